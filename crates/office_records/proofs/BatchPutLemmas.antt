@@ -1,4 +1,4 @@
--- A batch that is put in.
+-- A batch added to the tables.
 use Rattle.std.proofs.Common.{◌≡◌, ◌≤◌, ℕ, eqb, List, Option, Some, Ok, arith}
 use Rattle.std.specs.Prelude.{IsPermutation, is_some}
 use Rattle.std.proofs.lemmas.List.Sorted.{IsPermutation-cons}
@@ -19,7 +19,7 @@ use Rattle.office_enrolment.specs.Keeping.{records_with_batch}
 use Rattle.office_enrolment.proofs.RowLemmas.{rows_after_batch}
 use Rattle.office_records.specs.BatchRows.{batch_put, enrol_rows}
 use Rattle.office_records.specs.Found.{AreDrafts}
-use Rattle.office_records.specs.Stands.{IsSound, NoneOverNight, StandsLoaded, parts_of}
+use Rattle.office_records.specs.Stands.{IsSound, StandsLoaded, parts_of}
 use Rattle.office_records.specs.TableRows.{stored_batch}
 use Rattle.office_records.proofs.SameTables.{few_once, few_read}
 
@@ -37,7 +37,7 @@ module _ (number : ℕ) (bytes : List ℕ) (changes : List Change) (r : Records)
   narrow small few =
       (omega (arith, small), omega (arith, few), omega (arith, few), omega (arith, few))
 
-  -- the tables stand for the office after the batch
+  -- the tables represent the office after the batch
   pub batch_stands : number ≤ 999999999 → lines_in done.0 ≤ 1048576 → StandsLoaded t r
       → StandsLoaded put (records_with_batch number bytes r done)
   batch_stands small few h = record {
@@ -54,14 +54,9 @@ module _ (number : ℕ) (bytes : List ℕ) (changes : List Change) (r : Records)
     };
   }
 
-  -- and are sound: what is published, and its shares, stays
-  pub batch_sound : NoneOverNight drafts → IsSound t (Some r)
-      → IsSound put (Some (records_with_batch number bytes r done))
-  batch_sound none h = record {
-    scored = again.scored;
-    none_over_night = none;
-    shared = h.shared;
-  }
+  -- the tables are sound: the publication and its shares don't change
+  pub batch_sound : IsSound t (Some r) → IsSound put (Some (records_with_batch number bytes r done))
+  batch_sound h = record { scored = again.scored; shared = h.shared }
 
 -- ---- drafts
 

@@ -16,7 +16,7 @@ use Rattle.office_records.specs.FoundBatches.{AreBatchRows, AreFoundBatches, IsB
 use Rattle.office_records.specs.Stands.{StandsForOffice, StandsBatches}
 use Rattle.office_records.specs.TableRows.{stored_batch}
 
--- a stored batch as the office keeps it
+-- a stored batch as the office's kept batch
 abbrev pub kept_batch : Batch → KeptBatch
 kept_batch b = record {
   no = b.no;
@@ -28,12 +28,12 @@ stored_again : (batches : List Batch) → map stored_batch (map kept_batch batch
 stored_again [] = refl
 stored_again (b ∷ bs) = ap (λ (l : List Batch). b ∷ l) (stored_again bs)
 
--- no row is one of no batch
+-- no rows means no batches
 pub no_batches : (batches : List Batch) → map counts_of batches ≡ [] → batches ≡ []
 no_batches [] none = refl
 no_batches (b ∷ bs) none = absurd cc
 
--- the row that stands where there is none
+-- the default row if there is none
 abbrev pub no_row : BatchCountsRow
 no_row = record { no = 0; added = 0; dropped = 0; unchanged = 0 }
 
@@ -53,7 +53,7 @@ module _ (found : List BatchCountsRow) (batches : List Batch) (are : AreBatchRow
         each_row;
   }
 
--- batches that were found may be kept
+-- the batches found may be kept
 pub batches_kept : (found : List BatchCountsRow) (batches : List Batch) → AreBatchRows found
     → AreFoundBatches found batches → AreKept (map kept_batch batches)
 batches_kept found batches are these = record {
@@ -106,7 +106,7 @@ batch_rows found batches kept rows stand are = record {
 
 -- ---- each batch by its number
 
--- what holds of the batches of each number that is there holds of all
+-- a fact about the batches of each number that is there holds for all
 picked_each : {X : Type 0} (P : X → Type 0) (q : X → Bool) (xs : List X)
     → AllByRecursion P (filter q xs) → AllByRecursion (λ x. q x ≡ true → P x) xs
 picked_each P q [] all = tt

@@ -47,7 +47,7 @@ pub record Begun (I : Session) (E : Enrolled) (found : List DraftRow) (places : 
   pub scored : All
       (λ row. (T : Placing) → draft row.no ≡ Some T → parts_of row ≡ track I E T) found
 
--- no rows are no drafts
+-- no rows means no drafts
 pub begun_none : (I : Session) (E : Enrolled) (places : List SlotRow)
     → Begun I E [] places (λ d. None)
 begun_none I E places = record {
@@ -108,7 +108,7 @@ module _ (I : Session) (E : Enrolled) (found : List DraftRow) (places : List Slo
   last_score true f U is = let one : T ≡ U = cc in parts ∙ ap (track I E) one
   last_score false f U is = absurd (grind (arith, nat_tests, f))
 
-  -- one more row, of a number that none of these has
+  -- one more row, with a number that none of these has
   pub begun_more : Begun I E (found ++ row ∷ []) places drafted
   begun_more = record {
     numbered = λ d. number d (eqb d row.no) refl;
@@ -140,7 +140,7 @@ begun_next I E found places i z lt old next placed =
           placed.1 placed.2),
     )
 
--- all of them, where each slot is of a draft that has a row
+-- all of them, if each slot is of a draft that has a row
 module _ (I : Session) (E : Enrolled) (found : List DraftRow) (places : List SlotRow)
     (draft : ℕ → Option Placing) (h : Begun I E found places draft)
     (each : list_all (has_row found) places ≡ true) where
@@ -181,7 +181,7 @@ module _ (I : Session) (E : Enrolled) (found : List DraftRow) (places : List Slo
         (λ row. (T : Placing) → draft row.no ≡ Some T → parts_of row ≡ track I E T) found h.scored;
   }
 
--- ---- what is known of drafts
+-- ---- facts about drafts
 
 module _ (I : Session) (E : Enrolled) (found : List DraftRow) (places : List SlotRow)
     (draft : ℕ → Option Placing) (h : AreDrafts I E found places draft) where
@@ -201,7 +201,7 @@ module _ (I : Session) (E : Enrolled) (found : List DraftRow) (places : List Slo
   drafted_at d one (Some T) f = (T, refl)
   drafted_at d one None f = absurd (omega (arith, one, count d None f))
 
-  -- and so is a slot
+  -- a draft with a slot has a row
   row_at : (d : ℕ) → 1 ≤ length (slots_at d places) → (o : Option Placing) → draft d ≡ o
       → list_any (is_of d) found ≡ true
   row_at d one (Some T) f = found_one (is_of d) found (omega (arith, count d (Some T) f))
@@ -222,7 +222,7 @@ module _ (I : Session) (E : Enrolled) (found : List DraftRow) (places : List Slo
     abbrev row : DraftRow
     row = get_or found i z
 
-    -- whatever stands past the end
+    -- the row's number, with any default past the end
     number_is : (d : DraftRow) → eqb (get_or found i d).no row.no ≡ true
     number_is d =
         let same : (get_or found i d).no ≡ row.no = ap no_of (get_or_default found i d z lt) in
@@ -248,7 +248,7 @@ module _ (I : Session) (E : Enrolled) (found : List DraftRow) (places : List Slo
               omega (arith, two, count row.no (Some placing.0) placing.1),
         )
 
-    -- and its draft has a timetable, whose penalty it stores
+    -- the row's draft has a timetable, and the row stores its penalty
     pub scored_row : (T : Placing) × AreSlots I row.no places T × (parts_of row ≡ track I E T)
     scored_row = (
       placing.0,

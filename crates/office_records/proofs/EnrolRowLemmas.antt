@@ -66,7 +66,7 @@ module _ (E : Enrolled) (is : AreEnrolments E) where
   as_many : length (rows_of E) ≡ pair_count E
   as_many = length-map (pairs_of E) enrol_row ∙ (are_pairs E is).count
 
-  -- no two are the same
+  -- no two rows are equal
   rows_apart : AllPairs (λ x y. x ≢ y) (rows_of E)
   rows_apart i j d before within same =
       let p : Pair = record { exam = d.exam; student = d.student } in
@@ -81,7 +81,7 @@ module _ (E : Enrolled) (is : AreEnrolments E) where
       = (are_pairs E is).ordered i j p before (omega arith) in
       elim order [ inl less ↦ omega arith | inr less ↦ omega (arith, less.1) ]
 
--- ---- rows that are taken
+-- ---- rows read one by one
 
 -- the enrolments of these rows, among n exams
 pub record AreTaken (n : ℕ) (done : List EnrolRow) (E : Enrolled) : Type 0 where
@@ -96,7 +96,7 @@ or_flip true false = refl
 or_flip false true = refl
 or_flip false false = refl
 
--- one row more
+-- one more row
 pub taken_more : (n : ℕ) (done : List EnrolRow) (E F : Enrolled) (row : EnrolRow)
     → AreTaken n done E → IsNewPair E row → Adds E F row.student row.exam → AreEnrolments F
     → AreTaken n (done ++ row ∷ []) F
@@ -148,7 +148,7 @@ module _ (I : Session) (rows : List EnrolRow) (F : Enrolled) (are : AreEnrolRows
       (IsPermutation-sym rows (rows_of F) are.rows)
       (IsDistinct-from_AllPairs tells (rows_of F) (rows_apart F are.enrolled.set)))
 
-  -- none is among those before it
+  -- no row equals one before it
   comes_once : (i : ℕ) (d : EnrolRow) → i < length rows → Contains (take i rows) (get_or rows i d)
       → ⊥
   comes_once i d within found =

@@ -1,4 +1,4 @@
--- What was found of a publication is the only publication that its rows have.
+-- The publication found is the only one with these rows.
 use Rattle.std.proofs.Common.{◌≡◌, Bool, true, false, List, [], length, map, nat_eq, Option, Some, None, Result, Ok, Err, sym, ◌∙◌, ap, subst, true≢false}
 use Rattle.std.specs.Prelude.{◌↔◌, IfErr, IsPermutation, IsTrue, OnErr, Vec}
 use Rattle.std.specs.declared.alloc.Global.{Global}
@@ -26,7 +26,7 @@ use Rattle.office_records.proofs.PublicationLemmas.{has_places_and_seats}
 abbrev Found : Type 0
 Found = Option (Placing × Vec publish.SeatRow Global)
 
--- an empty list, and one that is none
+-- an empty list, and one that isn't
 pub not_empty : {X : Type 0} (xs : List X) (told : Bool) → told ≡ nat_eq (length xs) 0
     → told ≡ false → xs ≡ [] → ⊥
 not_empty xs told is untrue none =
@@ -76,7 +76,7 @@ module _ (I : Session) (mark : Bool) (places : List PlacedRow) (seats : List Sea
       rows = are.stands.placed;
     }
 
-    -- the seats are those of no rows
+    -- no seats have these rows
     pub no_seats : ((own : List publish.SeatRow) → RowsInOrder own → AreNumbered own
         → IsPermutation seats (map stored_seat own) → ⊥) → NoneHas
     no_seats none None are is = marked_none are
@@ -111,7 +111,7 @@ module _ (I : Session) (mark : Bool) (places : List PlacedRow) (seats : List Sea
 
 module _ (I : Session) (mark : Bool) (places : List PlacedRow) (seats : List SeatRow)
     (students : List StudentShareRow) (parts : List PartShareRow) where
-  -- neither a publication nor none has these rows and shares
+  -- no publication, present or missing, has these rows and shares
   abbrev pub IsNone : Type 0
   IsNone =
       (published : Option Publication)
@@ -123,7 +123,7 @@ module _ (I : Session) (mark : Bool) (places : List PlacedRow) (seats : List Sea
         none (subst (λ o. AreShared I o students parts) (sym (alone published are.rows are.is))
         are.shared)
 
--- where nothing is published, there is no share
+-- if nothing is published, there is no share
 pub no_shares : (I : Session) (students : List StudentShareRow) (parts : List PartShareRow)
     → AreShared I None students parts → (students ≡ []) × (parts ≡ [])
 no_shares I students parts are = (no_rows students are.of_students, no_rows parts are.of_parts)

@@ -1,10 +1,10 @@
--- Rows of one key taken out.
+-- Rows of one key removed.
 use Rattle.std.proofs.Common.{◌≡◌, ℕ, Bool, true, false, cond, not, eqb, List, [], ◌∷◌, filter, refl, sym, ◌∙◌, ap, arith}
 use Rattle.std.specs.List.{AllByRecursion}
 use Rattle.std.proofs.lemmas.Bool.Decides.{nat_tests}
 
 module _ {X : Type 0} (key : X → ℕ) (d : ℕ) where
-  -- none of the key is left
+  -- no row of the key is left
   pub none_of : (n : ℕ) → n ≡ d → (xs : List X)
       → filter (λ x. eqb (key x) n) (filter (λ x. not (eqb (key x) d)) xs) ≡ []
   none_of n e [] = refl
@@ -22,7 +22,7 @@ module _ {X : Type 0} (key : X → ℕ) (d : ℕ) where
           (ap (eqb (key x)) e ∙ f)
           ∙ more
 
-  -- all of another are left
+  -- all rows of another key are left
   pub all_of_other : (n : ℕ) → eqb n d ≡ false → (xs : List X)
       → filter (λ x. eqb (key x) n) (filter (λ x. not (eqb (key x) d)) xs)
       ≡ filter (λ x. eqb (key x) n) xs
@@ -45,7 +45,7 @@ module _ {X : Type 0} (key : X → ℕ) (d : ℕ) where
           (filter (λ x. eqb (key x) n) xs)) (differs (key x) f))
       go false f more = ap (λ l. cond (eqb (key x) n) (x ∷ l) l) more
 
-  -- what holds of each row of another key holds of each that is left
+  -- a fact about each row of another key holds for each row that is left
   pub each_left : (P Q : X → Type 0) → ((x : X) → P x → eqb (key x) d ≡ false → Q x)
       → (xs : List X) → AllByRecursion P xs
       → AllByRecursion Q (filter (λ x. not (eqb (key x) d)) xs)

@@ -1,4 +1,4 @@
--- A database stands for one session, with one set of enrolments.
+-- A database represents one session, with one set of enrolments.
 use mathlib.Core.Bool.{true≢false}
 use Rattle.std.proofs.Common.{◌≡◌, ℕ, zero, suc, ◌≤◌, pos, Bool, true, false, List, [], ◌∷◌, map, length, Some, None, Ok, Result, refl, sym, ◌∙◌, ap, arith, subst, All}
 use Rattle.std.specs.Prelude.{IsPermutation, is_some}
@@ -81,7 +81,7 @@ no_students zero e = refl
 no_students (suc n) zero = refl
 no_students (suc n) (suc e) = no_students n e
 
--- no pairs are enrolments
+-- the empty set of pairs satisfies the invariant
 no_enrolments : (n : ℕ) → 1 ≤ n → n ≤ 2000 → AreEnrolments (no_pairs n)
 no_enrolments n low high = record {
   exams = let long : length (no_pairs n) ≡ n = length-replicate n [] in
@@ -179,7 +179,7 @@ module _ (version : Version) (db : Database) (p q : Tables) (held : StandsIn ver
       (subst (λ I. AreEnrolled I r.enrolments) sessions first.enrolled) second.enrolled rows in
       ap (λ I. Some (I, r.enrolments)) sessions ∙ ap (λ E. Some (s.session, E)) sets
 
--- a database stands for one session with one set of enrolments
+-- a database represents one session with one set of enrolments
 pub same_memory_in : (version : Version) (db : Database) (o p : OfficeState)
     → IsKeptIn version db o → IsKeptIn version db p → memory_of o ≡ memory_of p
 same_memory_in version db None None a b = refl

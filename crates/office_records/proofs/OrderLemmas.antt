@@ -1,4 +1,4 @@
--- Rows that rise strictly have no other order in which they rise.
+-- Strictly rising rows have no other rising order.
 use Rattle.std.proofs.Common.{◌≡◌, ℕ, ◌+◌, ◌<◌, ◌≤◌, ◌⊎◌, inl, inr, List, [], ◌∷◌, ◌++◌, map, Less, Equal, Ordering, nat_cmp, refl, sym, ◌∙◌, ap, arith}
 use Rattle.std.specs.List.{AllByRecursion}
 use Rattle.std.specs.List.Sorted.{IsSortedByKey}
@@ -26,7 +26,7 @@ less_is : (m n : ℕ) → m < n → nat_cmp m n ≡ Less
 less_is m n h = grind (arith, nat_tests)
 
 module _ {X : Type 0} (key : X → ℕ) where
-  -- the order of rising rows is the only one in which they rise
+  -- the order of rising rows is the only rising one
   pub one_order : (found rising sorted : List X) → IsAscending (λ x y. key x < key y) rising
       → IsPermutation found rising → IsPermutation found sorted → IsSortedByKey key nat_cmp sorted
       → sorted ≡ rising
@@ -87,7 +87,7 @@ part_key row = (row.kind, row.no)
 abbrev PartBefore : PartShareRow → PartShareRow → Type 0
 PartBefore x y = PairBefore (part_key x) (part_key y)
 
--- of this kind, from a number on
+-- rows of this kind, from a number on
 abbrev AreFrom : ℕ → ℕ → List PartShareRow → Type 0
 AreFrom kind n rows = AllByRecursion (λ row. (row.kind ≡ kind) × (n ≤ row.no)) rows
 

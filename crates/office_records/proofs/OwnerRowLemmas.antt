@@ -10,13 +10,13 @@ use Rattle.office_records.specs.Found.{AreOwners}
 use Rattle.office_records.specs.NextRow.{IsFirstOwner}
 use Rattle.office_records.specs.TableRows.{owners_at, some_dept}
 
--- the departments that these rows name, of so many exams
+-- the departments that these rows name, for this many exams
 pub record AreNamed (n : ℕ) (done : List OwnerRow) (noted : List ℕ) : Type 0 where
   pub exams : length noted ≡ n
   pub rows : (e : ℕ) → map (λ o. o.dept) (owners_at e done) ≡ some_dept (get_or noted e 0)
   pub departments : (e : ℕ) → get_or noted e 0 ≤ 999
 
--- an exam's departments among the rows before, this row and those behind
+-- an exam's departments in the rows before, in this row and in those after
 split : (e : ℕ) (before : List OwnerRow) (row : OwnerRow) (after : List OwnerRow)
     → map (λ o. o.dept) (owners_at e (before ++ row ∷ after))
     ≡ map (λ o. o.dept) (owners_at e before) ++ map (λ o. o.dept) (owners_at e (row ∷ after))
@@ -39,7 +39,7 @@ owners_named I rows departments named = record {
     exists e some false is =
         absurd (some (get_or_past departments e 0 (ltb-false e (length departments) is)))
 
--- a list of one department at most is no longer than that
+-- a department in a list of at most one is the only one in it
 one_dept : (d x : ℕ) (b : Bool) (xs ys : List ℕ) → xs ++ x ∷ ys ≡ cond b [] (d ∷ [])
     → (xs ≡ []) × (x ≡ d) × (b ≡ false)
 one_dept d x true xs ys is =
@@ -55,7 +55,7 @@ none_is d is = go (eqb d 0) refl is
     go true is none = eqb-true d 0 is
     go false is none = absurd (let long = ap length none in omega arith)
 
--- where rows have owners, each is a first one after those before it
+-- if rows have owners, each is a first one after those before it
 pub owner_first : (I : Session) (before : List OwnerRow) (row : OwnerRow) (after : List OwnerRow)
     (departments : List ℕ) (owner_of : ℕ → ℕ) → AreNamed (length I.exams) before departments
     → AreOwners I (before ++ row ∷ after) owner_of → IsFirstOwner departments row

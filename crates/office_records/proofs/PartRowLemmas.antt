@@ -23,7 +23,7 @@ pub length-plain : (kind n : ℕ) (shares : List ℕ)
 length-plain kind n [] = refl
 length-plain kind n (share ∷ shares) = ap (λ m. suc m) (length-plain kind (n + 1) shares)
 
--- one share more
+-- one more share
 pub plain_push : (kind n : ℕ) (shares : List ℕ) (share : ℕ)
     → plain_rows kind n (shares ++ share ∷ [])
     ≡ plain_rows kind n shares ++ plain_row kind (n + length shares) share ∷ []

@@ -1,4 +1,4 @@
--- How many of a list pass a test: none, one, two or all.
+-- The number of elements of a list that pass a test: none, one, two or all.
 use Rattle.std.proofs.Common.{◌≡◌, ℕ, ◌<◌, ◌≤◌, zero, suc, Bool, true, false, cond, List, [], ◌∷◌}
 use Rattle.std.proofs.Common.{filter, length, get_or, refl, ◌∙◌, ap, arith}
 use Rattle.std.proofs.lemmas.List.Folds.{list_any_at, list_all_at}
@@ -6,7 +6,7 @@ use Rattle.std.specs.List.{list_all, list_any}
 use Rattle.std.specs.Prelude.{All, ◌&&◌, ◌||◌}
 
 module _ {X : Type 0} (p : X → Bool) where
-  -- none does
+  -- no element passes
   pub none_pass : (xs : List X) → All (λ x. p x ≡ false) xs → filter p xs ≡ []
   none_pass [] h = refl
   none_pass (x ∷ xs) h =
@@ -24,7 +24,7 @@ module _ {X : Type 0} (p : X → Bool) where
       go true h more = omega arith
       go false h more = more h
 
-  -- and then there is one
+  -- some element passes
   pub found_one : (xs : List X) → 1 ≤ length (filter p xs) → list_any p xs ≡ true
   found_one [] h = absurd (omega (arith, h))
   found_one (x ∷ xs) h = go (p x) h (found_one xs)
@@ -47,7 +47,7 @@ module _ {X : Type 0} (p : X → Bool) where
       go true f = refl
       go false f = absurd (let no = list_all_at p xs k d lt f in cc)
 
-  -- and then there is none that doesn't
+  -- no element fails
   pub all_pass : (xs : List X) → All (λ x. p x ≡ true) xs → list_all p xs ≡ true
   all_pass [] h = refl
   all_pass (x ∷ xs) h =

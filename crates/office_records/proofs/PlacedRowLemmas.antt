@@ -87,7 +87,7 @@ module _ (e : ℕ) (T : Placing) (within : e < length T) where
       → placed_from 0 (take (e + 1) T) ≡ placed_from 0 (take e T) ++ placed_row e at ∷ []
   placed_more at is = next (Some at) is
 
-  -- it has none
+  -- the next exam has no place
   pub placed_same : get_or T e None ≡ None
       → placed_from 0 (take (e + 1) T) ≡ placed_from 0 (take e T)
   placed_same is = next None is ∙ append-nil (placed_from 0 (take e T))

@@ -1,4 +1,4 @@
--- Seats of a timetable: in order, at their exams' places, and nobody else's.
+-- Seats of a timetable: in order, at their exams' places, and no two equal.
 use Rattle.std.proofs.Common.{◌≡◌, ℕ, suc, ◌+◌, ◌<◌, inl, inr, Bool, true, false, not, ◌&&◌, eqb, List, [], ◌∷◌, length, take, get_or, All, Ordering, Less, Equal, Greater, is_lt, nat_cmp, refl, sym, ◌∙◌, ap, ap₂, subst, arith, add-one, true≢false}
 use Rattle.std.specs.Cmp.{IsTotalOrder}
 use Rattle.std.specs.List.{IsAllAdjacentAnswer, IsDistinct}
@@ -21,7 +21,7 @@ use Rattle.exam_publish.proofs.ChangedLemmas.{before_from_test}
 use Rattle.exam_publish.proofs.ListLemmas.{index_from_chain}
 use Rattle.office_records.specs.FoundPublications.{is_same_seat}
 
--- each next one is related, so each is to all later ones
+-- if each element is related to the next, it is to all later ones
 chain_from_next : {X : Type 0} (R : X → X → Type 0) → ((x y z : X) → R x y → R y z → R x z)
     → (xs : List X)
     → ((k : ℕ) (d : X) → k + 1 < length xs → R (get_or xs k d) (get_or xs (k + 1) d))
@@ -66,7 +66,7 @@ in_order_is rows false some = (
       (order k (k + 1) d (omega arith) some.1)))),
 )
 
--- ---- nobody else's
+-- ---- no two equal seats
 
 -- by period, then room, then seat
 abbrev pub chair : SeatRow → (ℕ × ℕ) × ℕ
@@ -116,7 +116,7 @@ same_equal x y same =
     = ap₂ (λ p s. (p, s)) (ap₂ (λ p r. (p, r)) parts.0 parts.1) parts.2 in
     ap (λ c. chair_cmp c (chair y)) chairs ∙ tied_itself total y
 
--- not the same seat, and not out of order
+-- rows with different seats that are not out of order are in order
 less_from : (x y : SeatRow) → is_lt (row_cmp y x) ≡ false → is_same_seat x y ≡ false
     → row_cmp x y ≡ Less
 less_from x y low apart = go (row_cmp x y) refl

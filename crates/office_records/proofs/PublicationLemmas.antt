@@ -1,4 +1,4 @@
--- What a publication has, and the enrolments that its rows are.
+-- The parts of a publication, and the enrolments that its rows represent.
 use Rattle.std.proofs.Common.{◌≡◌, ◌≤◌, List, length, map, None, ◌≢◌, refl, sym, ◌∙◌, ap, ap₂, subst, arith}
 use Rattle.std.specs.Prelude.{IsPermutation}
 use Rattle.std.proofs.lemmas.List.Elements.{All-from_recursion, recursion_from_All}
@@ -44,7 +44,7 @@ module _ (I : Session) (rows : List SeatRow) (T : Placing) (are : ArePublishedRo
       All-from_recursion (λ (row : SeatRow). row.student ≤ 999999999) rows
       (rows_numbered enrolled rows set (sym same_pairs))
 
-  -- rows with numbers are enrolments, where there are enrolments of the session's exams
+  -- rows with numbers represent enrolments, if there are enrolments of the session's exams
   pub are_enrolled : (E : Enrolled) → AreEnrolled I E → AreNumbered rows → AreEnrolled I enrolled
   are_enrolled E known numbered =
       enrolled_of_exams I enrolled set
@@ -79,7 +79,7 @@ module _ (I : Session) (rows : List SeatRow) (T : Placing) (are : ArePublishedRo
         (IsPermutation-trans _ _ _ (IsPermutation-sym _ _ found.rows)
         (enrol_rows_are known pairs is).rows)
 
-    -- what breaks no rule with them is a publication
+    -- rows that break no rule are a publication
     pub is_publication : AreSeated I rows → AreNumbered rows → publish_refusal I E T ≡ None
         → IsPublication I (publication T rows)
     is_publication seated numbered permitted =
@@ -91,7 +91,7 @@ module _ (I : Session) (rows : List SeatRow) (T : Placing) (are : ArePublishedRo
               ∙ (neither (first_unplaced T) (least_breach I E T) permitted).1;
         }
 
-    -- and a publication breaks none
+    -- a publication breaks no rule
     not_refused : IsPublication I (publication T rows) → publish_refusal I E T ≡ None
     not_refused known =
         ap (λ F. publish_refusal I F T) (same_as_rows known.enrolled)
@@ -106,7 +106,7 @@ module _ (I : Session) (rows : List SeatRow) (T : Placing) (are : ArePublishedRo
         none-some (Broken b) (sym (not_refused known) ∙ refused)
     never_refused NoMemory other refused known = other refl
 
--- what is asked of a publication but for the rules
+-- the conditions of a publication without those on the rules
 pub has_places_and_seats : (I : Session) (p : Publication) → IsPublication I p
     → HasPlacesAndSeats I p
 has_places_and_seats I p is = record {

@@ -1,4 +1,4 @@
--- The tables of an office have numbers of 32 bits, so none is passed over as foreign.
+-- The numbers in the tables of an office fit 32 bits, so no row is skipped as foreign.
 use Rattle.std.proofs.Common.{◌≡◌, ℕ, suc, ◌+◌, ◌<◌, ◌≤◌, Bool, true, false, List, [], ◌∷◌, map}
 use Rattle.std.proofs.Common.{filter, length, Some, None, Option, refl, sym, arith, subst, eqb}
 use Rattle.std.proofs.Common.{cond, get_or}
@@ -71,7 +71,7 @@ all_of_key {X} key k (x ∷ xs) = go (eqb (key x) k) refl (all_of_key key k xs)
     go true e more = (grind (arith, nat_tests, e), more)
     go false e more = more
 
--- what holds of the rows of each key holds of all rows
+-- a fact about the rows of each key holds for all rows
 each_key : {X : Type 0} (key : X → ℕ) (P : X → Type 0) (xs : List X)
     → ((k : ℕ) → AllByRecursion P (filter (λ x. eqb (key x) k) xs)) → AllByRecursion P xs
 each_key key P [] each = tt
@@ -157,7 +157,7 @@ module _ (r : Records) (is : AreRecords r) where
       (λ s. narrow_enrol k s (omega arith)) ss all.0))
       (pairs_fit (k + 1) E (omega arith) all.1)
 
--- what holds of numbers holds of them in order, each once
+-- a fact about numbers holds for them in order, each once
 each_ascending : (P : ℕ → Type 0) (ss : List ℕ) → AllByRecursion P ss
     → AllByRecursion P (ascending ss)
 each_ascending P [] a = tt
@@ -286,7 +286,7 @@ module _ (I : Session) (known : IsInstance I) where
         (all-map (λ s. s ≤ 999999999) (λ (row : publish.SeatRow). row.student) p.rows
         (each_numbered I p is)))))
 
-  -- what is published fits, if something is
+  -- the publication fits, if there is one
   module _ (published : Option Publication)
       (is : (p : Publication) → published ≡ Some p → IsPublication I p) where
     placed_fit : (o : Option Publication) → published ≡ o
@@ -355,7 +355,7 @@ are_readable t (Some r) stands sound is = record {
   batch = stands.batches.fit;
 }
 
--- a database that stands for an office, in any version, is not foreign
+-- a database that represents an office, in any version, is not foreign
 pub not_foreign_in : (version : Version) (db : Database) (o : OfficeState) → IsKeptIn version db o
     → IsForeign db → ⊥
 not_foreign_in version db o kept foreign =

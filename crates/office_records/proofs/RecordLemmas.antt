@@ -1,4 +1,4 @@
--- The rows of each table make an office's records, and an office's records the rows of each table.
+-- From the rows of each table to an office's records, and back.
 use Rattle.std.proofs.Common.{◌≡◌, ℕ, List, [], ◌∷◌, map, Some, None, Option, refl, sym, ◌∙◌, ap, arith, subst}
 use Rattle.std.specs.Prelude.{is_some}
 use Rattle.std.proofs.lemmas.List.Sorted.{IsPermutation-sym, IsPermutation-trans}
@@ -18,7 +18,7 @@ use Rattle.office_records.specs.Found.{AreOwners, ArePublication, IsSessionRow, 
 use Rattle.office_model.specs.Office.{OfficeState, Publication, Records, AreKept, AreRecords, IsOffice, IsPublication}
 use Rattle.office_records.specs.FoundPublications.{ArePublished}
 use Rattle.office_records.specs.Memory.{memory_of}
-use Rattle.office_records.specs.Stands.{IsSound, StandsForOffice, StandsLoaded, NoneOverNight}
+use Rattle.office_records.specs.Stands.{IsSound, StandsForOffice, StandsLoaded}
 use Rattle.office_records.specs.TableRows.{meta_row}
 use Rattle.office_records.proofs.BatchRowLemmas.{batch_rows, batches_kept, batches_stand}
 use Rattle.office_records.proofs.BatchRowLemmas.{kept_batch, no_batches}
@@ -32,7 +32,7 @@ one_set I rows E F e f =
     same_enrolments I E F e.enrolled f.enrolled
     (IsPermutation-trans _ _ _ (IsPermutation-sym _ _ e.rows) f.rows)
 
--- where no batch is kept
+-- no batches may be kept
 pub no_batch_kept : AreKept []
 no_batch_kept = record {
   few = omega arith;
@@ -46,7 +46,7 @@ some_is e = cc
 head_is : {X : Type 0} {x y : X} {xs ys : List X} → x ∷ xs ≡ y ∷ ys → x ≡ y
 head_is e = cc
 
--- what is published is a publication, if there is one
+-- the publication is one, if there is one
 is_published : (I : Session) (published : Option Publication) → ArePublished I published
     → (p : Publication) → published ≡ Some p → IsPublication I p
 is_published I None is p same = absurd (none-some p same)
@@ -99,11 +99,10 @@ module _ (found : Found) (batches : List Batch) where
       → AreEnrolRows I found.enrols.items E
       → (draft : ℕ → Option Placing) × AreDrafts I E found.drafts.items found.slots.items draft
       → (published : Option Publication) × IsPublished I published
-      → AreBatchRows found.batches.items → NoneOverNight found.drafts.items
-      → AreFoundBatches found.batches.items batches
+      → AreBatchRows found.batches.items → AreFoundBatches found.batches.items batches
       → (office : OfficeState) × StandsForOffice t office × IsSound t office × IsOffice office
       × (memory_of office ≡ Some (I, E))
-  office_of I E session owners enrols drafts published kept none these = (
+  office_of I E session owners enrols drafts published kept these = (
     Some (record {
       session = I;
       owner_of = owners.0;
@@ -121,11 +120,7 @@ module _ (found : Found) (batches : List Batch) where
       published = published.1.rows.stands;
       batches = batches_stand found.batches.items batches kept these.rows;
     },
-    record {
-      scored = drafts.1.scored;
-      none_over_night = none;
-      shared = published.1.shared;
-    },
+    record { scored = drafts.1.scored; shared = published.1.shared },
     record {
       session = session.session;
       enrolled = enrols.enrolled;
@@ -146,9 +141,6 @@ module _ (found : Found) (batches : List Batch) where
     pub kept_rows : map counts_of batches ≡ found.batches.items → AreBatchRows found.batches.items
     kept_rows rows =
         batch_rows found.batches.items batches r.batches rows stands.batches is.batches
-
-    pub none_over_night : NoneOverNight found.drafts.items
-    none_over_night = sound.none_over_night
 
     pub session_row : IsSessionRow (meta_from found.meta) r.session
     session_row = record {

@@ -74,7 +74,7 @@ module _ {X : Type 0} (key : X → ℕ) where
       (same k ∙ out.same k))))
       (IsPermutation-sym _ _ out.moved)
 
-  -- ---- rows that are kept by their keys
+  -- ---- rows selected by their keys
 
   abbrev pub kept : (ℕ → Bool) → List X → List X
   kept keep xs = filter (λ x. keep (key x)) xs
@@ -105,7 +105,7 @@ module _ {X : Type 0} (key : X → ℕ) where
       outside true = refl
       outside false = refl
 
-  -- lists with the same rows of each key that is kept
+  -- lists with the same rows of each selected key
   pub kept_alike : (keep : ℕ → Bool) (xs ys : List X)
       → ((k : ℕ) → keep k ≡ true → of_key k xs ≡ of_key k ys)
       → IsPermutation (kept keep xs) (kept keep ys)

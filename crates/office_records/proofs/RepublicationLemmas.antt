@@ -1,5 +1,5 @@
--- A republication that rewrites the seats and the shares of the candidates who changed, and no
--- others, leaves the right seats and the right shares.
+-- A republication that rewrites only the seats and the shares of the candidates who changed stores
+-- the right seats and the right shares.
 use Rattle.std.proofs.Common.{◌≡◌, ◌<◌, ℕ, Bool, true, false, cond, not, ◌&&◌, ◌||◌, eqb, List, [], ◌∷◌, ◌++◌, map, filter, Option, Some, None, refl, sym, ◌∙◌, ap, ap₂, subst, eqb-true}
 use Rattle.std.specs.Prelude.{IsPermutation}
 use Rattle.std.proofs.lemmas.Bool.{and_parts}
@@ -23,7 +23,7 @@ use Rattle.office_records.specs.SeatsStored.{seat_rows_of, seat_rows_without, st
 use Rattle.office_records.specs.SharesStored.{share_rows_of, share_rows_without, student_share_row, student_share_rows, student_shares_put}
 use Rattle.office_records.proofs.RegroupLemmas.{kept_alike}
 
--- ---- who changed
+-- ---- the candidates who changed
 
 -- whether there is a row
 abbrev some_row : List SeatRow → Bool
@@ -90,7 +90,7 @@ module _ (old new : List SeatRow) where
       ∙ ap (λ b. is_changed old new s && b) (is_seated (old ++ new) s)
       ∙ changed_has_row old new s
 
-  -- who didn't change has seats as before
+  -- a candidate who didn't change has the same seats as before
   still_seated : (s : ℕ) (b : Bool) → is_changed old new s ≡ b
       → (not b && has_row old s) ≡ (not b && has_row new s)
   still_seated s true is = refl
@@ -120,7 +120,7 @@ module _ (old new : List SeatRow) where
 
   -- ---- their seats
 
-  -- who didn't change has the rows as before
+  -- a candidate who didn't change has the same rows as before
   still_rows : (s : ℕ) → not (has_changed s) ≡ true → rows_of s old ≡ rows_of s new
   still_rows s still =
       equal_rows (rows_of s old) (rows_of s new)
@@ -230,7 +230,7 @@ rows_now_are : (I : Session) (published : Option Publication)
 rows_now_are I None = refl
 rows_now_are I (Some p) = refl
 
--- new seat rows of the candidates who changed, in place of theirs: the rows of all
+-- the old rows of the candidates who changed, replaced by their new rows: the rows of all
 pub seats_put : (old : Option Publication) (new : Publication) (stored : List tables.SeatRow)
     → IsPermutation stored (map stored_seat (rows_now old))
     → IsPermutation

@@ -1,4 +1,4 @@
--- What rows that nothing has say of an answer.
+-- The meaning of a result for rows that no office has.
 use Rattle.std.proofs.Common.{◌≡◌, Result, Ok, Err, sym, ◌∙◌}
 use Rattle.std.specs.Prelude.{IfErr}
 use Rattle.std.specs.Result.{IsErrAnd}
@@ -10,7 +10,7 @@ pub nothing_has : {T X : Type 0} (r : Result T RecordFault) (P : X → Type 0)
 nothing_has (Ok value) P none = tt
 nothing_has (Err fault) P none = λ is. none
 
--- a fault that is passed on says what it said before
+-- a fault that is passed on keeps its meaning
 pub passed_on : {T : Type 0} (r : Result T RecordFault) (fault : RecordFault) (P : Type 0)
     → IsErrAnd r (λ e. e ≡ fault) → (fault ≡ BadRows → P) → IfErr r (λ e. e ≡ BadRows → P)
 passed_on (Ok value) fault P same said = tt

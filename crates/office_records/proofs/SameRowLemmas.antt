@@ -1,4 +1,4 @@
--- What `==` says of two rows of shares.
+-- The meaning of `==` for two rows of shares.
 use Rattle.std.proofs.Common.{◌≡◌, ℕ, Bool, true, false, eqb, ◌&&◌, Decides, refl, ap₂, subst}
 use Rattle.std.proofs.lemmas.Bool.{eq-eqb, eqb-true}
 use Rattle.office_tables.specs.declared.share_part.PartShareRow.{PartShareRow}

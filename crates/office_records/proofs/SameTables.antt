@@ -1,4 +1,4 @@
--- Tables that one database stands for stand for the same offices.
+-- Tables represented by one database represent the same offices.
 use Rattle.std.proofs.Common.{◌≡◌, ℕ, ◌≤◌, Bool, true, false, List, [], ◌∷◌, map, length, Some}
 use Rattle.std.proofs.Common.{None, refl, ap, arith, subst, eqb, cond}
 use Rattle.std.specs.Prelude.{IsPermutation, is_some}
@@ -45,7 +45,7 @@ same_few (x ∷ []) (y ∷ []) few p = ap (λ w. w ∷ []) (same_one x y p)
 same_few (x ∷ []) (y ∷ z ∷ ys) few p =
     absurd (let long = length_permutation _ _ p in omega (arith, long))
 
--- what is read of the rows, where it is at most one thing
+-- the value of the rows, if there is at most one
 pub few_read : {X Y : Type 0} (f : X → Y) (xs ys : List X) (zs : List Y) → IsPermutation xs ys
     → map f xs ≡ zs → length zs ≤ 1 → map f ys ≡ zs
 few_read f xs ys zs p is few =
@@ -63,7 +63,7 @@ pub few_once : (b : Bool) (n : ℕ) → length (once b n) ≤ 1
 few_once true n = omega arith
 few_once false n = omega arith
 
--- a table that holds no row
+-- a table without rows
 none_held : {X : Type 0} (show : Row → Row) (row : X → Row) (xs ys : List X) (stored : List Row)
     → Holds show (map row xs) stored → Holds show (map row ys) stored → xs ≡ [] → ys ≡ []
 none_held show row xs ys stored p q none =
@@ -182,7 +182,7 @@ module _ (version : Version) (db : Database) (t u : Tables) (p : StandsIn versio
     };
   }
 
-  -- they stand for the same offices
+  -- both represent the same offices
   pub same_stands_in : (o : OfficeState) → StandsForOffice t o → StandsForOffice u o
   same_stands_in None h = empty h
   same_stands_in (Some r) h = loaded r h
@@ -192,8 +192,6 @@ module _ (version : Version) (db : Database) (t u : Tables) (p : StandsIn versio
   same_sound_in None h = tt
   same_sound_in (Some r) h = record {
     scored = all-permutation (IsScoredRow r) _ _ drafts h.scored;
-    none_over_night = all-permutation (λ (row : DraftRow). row.night ≡ 0) _ _ drafts
-        h.none_over_night;
     shared = record {
       of_students = IsPermutation-trans _ _ _ (IsPermutation-sym _ _ student_shares)
           h.shared.of_students;

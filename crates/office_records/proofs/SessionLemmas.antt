@@ -13,7 +13,7 @@ pub row_read : (m : Meta) (I : Session) → IsSessionRow m I
 row_read m I is =
     ap instance_in is.text ∙ read_back I is.session
 
--- a text that spells nothing is in no session's row
+-- a text without a reading is in no session's row
 pub no_row : (m : Meta) (I : Session) (fault : FileFault) → instance_in m.instance ≡ Err fault
     → IsSessionRow m I → ⊥
 no_row m I fault faulty is = let read = row_read m I is in absurd cc
@@ -21,7 +21,7 @@ no_row m I fault faulty is = let read = row_read m I is in absurd cc
 is_ok : {A F : Type 0} {x y : A} → (◌≡◌ {A = Result A F} (Ok x) (Ok y)) → x ≡ y
 is_ok e = cc
 
--- what is read of a session's row is that session
+-- the session read from a session's row is that session
 pub row_of : (m : Meta) (I J : Session) (E : Enrolled) → instance_in m.instance ≡ Ok (I, E)
     → IsSessionRow m J → I ≡ J
 row_of m I J E spelled is =

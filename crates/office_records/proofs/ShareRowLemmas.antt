@@ -20,7 +20,10 @@ abbrev Share : Type 0
 Share = ℕ × PersonalPenalty
 
 abbrev share_back : StudentShareRow → Share
-share_back row = (row.student, record { row = row.in_row; day = row.in_day; spread = row.spread })
+share_back row = (
+  row.student,
+  record { row = row.in_row; day = row.in_day; spread = row.spread; night = row.night },
+)
 
 back : (shares : List Share) → map share_back (map student_share_row shares) ≡ shares
 back [] = refl
@@ -46,7 +49,7 @@ share_at rows shares all same i d within =
           ∙ ap (λ l. get_or l i d) same,
     )
 
--- a row that is of no share within the limits
+-- a row that is no share within the limits
 pub no_share_at : (rows : List StudentShareRow) (shares : List Share) → All IsShare shares
     → map student_share_row shares ≡ rows → (i : ℕ) (d : StudentShareRow) → i < length rows
     → ((share : Share) → IsShare share → student_share_row share ≡ get_or rows i d → ⊥) → ⊥
@@ -83,7 +86,7 @@ rise : (xs : List ℕ) → IsAscending xs → (i j : ℕ) → i ≤ j → j < le
     → get_or xs i 0 ≤ get_or xs j 0
 rise xs up i j le lt = grind (arith, up i j, λ (same : i ≡ j). ap (λ k. get_or xs k 0) same)
 
--- a search tells whether a student is there
+-- a search finds a student exactly if they are there
 pub has_searched : (xs : List ℕ) (x : ℕ) (r : Result ℕ ℕ) → IsAscending xs
     → IsBinarySearchResult (λ y. nat_cmp y x) xs r → is_ok r ≡ has_number xs x
 has_searched xs x (Ok at) up is =

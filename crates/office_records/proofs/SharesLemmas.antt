@@ -83,7 +83,7 @@ are_personal I p known has =
     (recursion_from_All (λ (share : ℕ × PersonalPenalty). personal_total share.1 < 2 ^ 62)
     (student_shares I p.rows) (small I p known has).students))
 
--- ---- rows that are those of no publication
+-- ---- rows of no publication
 
 -- no publication has these rows
 abbrev pub AreOfNone : Session → List StudentShareRow → List PartShareRow → Type 0
@@ -134,7 +134,7 @@ shares_are found sorted parts rows exams periods shares moved order read = recor
       (sym (joined exams periods rows _ _ _ read.of_exams read.of_periods read.of_rooms)) order;
 }
 
--- each exam, period and room has one
+-- each exam, period and room has one share
 pub each_has : (I : Session) (sorted : List StudentShareRow) (rows : List PartShareRow)
     (shares : Sharing) → length rows ≡ length I.exams + length I.periods + length I.rooms
     → AreRead sorted rows (length I.exams) (length I.periods) shares → HasShareOfEach I shares

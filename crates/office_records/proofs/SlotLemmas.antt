@@ -29,7 +29,7 @@ slots-append d k (Some at ∷ T) U =
     ap (λ l. slot_row d k at ∷ l) (slots-append d (k + 1) T U
     ∙ ap (λ n. slots_from d (k + 1) T ++ slots_from d n U) (omega arith))
 
--- the rows before an exam, its own, and those behind it
+-- the rows before an exam, its own, and those after it
 slots_parted : (d e : ℕ) (T : Placing) (o : Option Place) → e < length T
     → slots_from d 0 (take e T ++ o ∷ drop (suc e) T)
     ≡ slots_from d 0 (take e T) ++ slots_from d e (o ∷ drop (suc e) T)
@@ -45,7 +45,7 @@ slots_split d e T o within is =
     ∙ ap (λ x. take e T ++ x ∷ drop (suc e) T) is)
     ∙ slots_parted d e T o within
 
--- a free exam gets a place: one row more
+-- a free exam gets a place: one more row
 pub slots_set : (d e : ℕ) (at : Place) (T : Placing) → e < length T → get_or T e None ≡ None
     → IsPermutation (slots_from d 0 (set T e (Some at))) (slot_row d e at ∷ slots_from d 0 T)
 slots_set d e at T within free =
@@ -58,7 +58,7 @@ slots_set d e at T within free =
     (sym (slots_split d e T None within free))
     (IsPermutation-middle left (slot_row d e at) right))
 
--- what holds of each placed exam's row holds of the rows
+-- a fact about each placed exam's row holds for the rows
 pub rows_each : (P : SlotRow → Type 0) (d k : ℕ) (T : Placing)
     → ((e : ℕ) (at : Place) → get_or T e None ≡ Some at → P (slot_row d (k + e) at))
     → AllByRecursion P (slots_from d k T)
@@ -75,7 +75,7 @@ rows_each P d k (Some x ∷ T) h = (
 some_is : {X : Type 0} (x y : X) → Some x ≡ Some y → x ≡ y
 some_is x y e = cc
 
--- and the other way round
+-- a fact about the rows holds for each placed exam's row
 pub each_row : (P : SlotRow → Type 0) (d k e : ℕ) (at : Place) (T : Placing)
     → AllByRecursion P (slots_from d k T) → get_or T e None ≡ Some at → P (slot_row d (k + e) at)
 each_row P d k e at [] all is = absurd cc
@@ -99,11 +99,11 @@ all_at : {X : Type 0} (P : X → Type 0) (xs : List X) (x : X) (ys : List X)
 all_at P [] x ys all = all.0
 all_at P (y ∷ xs) x ys all = all_at P xs x ys all.1
 
--- where a row puts its exam
+-- the place of a row's exam
 abbrev pub place_in : SlotRow → Place
 place_in row = record { period = row.period; room = row.room }
 
--- each row says where its exam stands
+-- each row has its exam's place
 pub rows_say : (d : ℕ) (T : Placing)
     → AllByRecursion (λ row. get_or T row.exam None ≡ Some (place_in row)) (slots_from d 0 T)
 rows_say d T =
@@ -111,9 +111,9 @@ rows_say d T =
     (λ e at is. ap (λ n. get_or T n None)
     (let zero_first : 0 + e ≡ e = omega arith in zero_first) ∙ is)
 
--- ---- one timetable has the rows
+-- ---- the rows determine the timetable
 
--- what stands in the one stands in the other
+-- an exam placed in the one is placed in the other
 stands_too : (I : Session) (d : ℕ) (found : List SlotRow) (T U : Placing) → AreSlots I d found T
     → AreSlots I d found U → (e : ℕ) (at : Place) → get_or T e None ≡ Some at
     → get_or U e None ≡ Some at
@@ -137,7 +137,7 @@ same_timetable I d found T U t u =
     ext_get_or None T U (t.exams ∙ sym u.exams)
     (λ e within. same_at _ _ (stands_too I d found T U t u e) (stands_too I d found U T u t e))
 
--- ---- how many rows an exam has
+-- ---- the number of rows of an exam
 
 -- 1 for a row of the exam
 abbrev pub is_of : ℕ → SlotRow → ℕ
@@ -172,7 +172,7 @@ at_most_one d k e (Some at ∷ T) = go (eqb k e) refl (at_most_one d (k + 1) e T
     go false is more =
         let own = ap (λ b. cond {A = ℕ} b 1 0) is in omega (arith, all, own, more)
 
--- one, where it stands somewhere
+-- at least one row, if the exam is placed
 pub at_least_one : (d e : ℕ) (at : Place) (T : Placing) → e < length T → get_or T e None ≡ Some at
     → 1 ≤ sum_by (is_of e) (slots_from d 0 T)
 at_least_one d e at T within is =
@@ -259,7 +259,7 @@ module _ (I : Session) (d : ℕ) (found : List SlotRow) (row : SlotRow) (T : Pla
             (r ∷ slots_from d 0 T)) row_is
             (slots_set d row.exam (place_in row) T within put.free.nowhere))))
 
-    -- a row of which no timetable can be
+    -- a row that no timetable has
     pub no_slot : (IsFree I row T → ⊥) → (rest : List SlotRow) (U : Placing)
         → AreSlots I d (found ++ row ∷ rest) U → ⊥
     no_slot not_free rest U all =

@@ -1,4 +1,4 @@
--- What an accepted batch makes of the rows of an office.
+-- The effect of an accepted batch on the rows of an office.
 use Rattle.std.specs.Prelude.{◌≡◌, ◌&&◌, ◌==◌, List, ◌∷◌, refl}
 use Rattle.exam_model.specs.Enrolments.{Enrolled}
 use Rattle.exam_model.specs.Instance.{Session}
@@ -28,9 +28,8 @@ pub record IsRescored (I : Session) (E : Enrolled) (places : List SlotRow) (row 
   pub timetable : Placing
   pub slots : AreSlots I row.no places timetable
   pub parts : parts_of row ≡ track I E timetable
-  pub night : row.night ≡ 0
 
--- the tables after these lines, with these rows of drafts and one batch more
+-- the tables after these lines, with these rows of drafts and one more batch
 abbrev pub batch_put : List Change → List DraftRow → Batch → Tables → Tables
 batch_put lines drafts batch t = record t {
   enrol = after_rows enrol_rows lines t.enrol;

@@ -1,4 +1,4 @@
--- Why rows are refused, and what that is called by the office.
+-- Why rows are refused, and the office's fault for it.
 use Rattle.office_files.specs.declared.fault.FaultKind.{FaultKind}
 use Rattle.office_files.specs.declared.fault.FaultKind.TheVariants as kind
 use Rattle.office_model.specs.declared.fault.StoreFault.{StoreFault}
@@ -6,12 +6,12 @@ use Rattle.office_model.specs.declared.fault.StoreFault.TheVariants.{Store, BadS
 use Rattle.office_records.specs.declared.fault.RecordFault.{RecordFault}
 use Rattle.office_records.specs.declared.fault.RecordFault.TheVariants.{NoMemory, BadRows}
 
--- out of memory is no word on the rows
+-- out of memory is no fault of the rows
 abbrev pub store_fault : RecordFault → StoreFault
 store_fault NoMemory = Store
 store_fault BadRows = BadSchema
 
--- a stored text that has a fault is no session's; out of memory is no fault of the text
+-- a stored text with a fault is no session's; out of memory is no fault of the text
 abbrev pub text_fault : FaultKind → RecordFault
 text_fault kind.NoMemory = NoMemory
 text_fault fault = BadRows

@@ -26,7 +26,7 @@ use Rattle.office_records.specs.SharesStored.{AreShared}
 use Rattle.office_records.specs.Stands.{parts_of}
 use Rattle.office_records.specs.TableRows.{session_text, enrol_row, slots_from, slot_rows, once, some_dept, owners_at, drafts_at, slots_at}
 
--- the row of this session, whether something is published of it or not
+-- the row of this session, whether it has a publication or not
 pub record IsSessionRow (found : Meta) (I : Session) : Type 0 where
   pub session : IsInstance I
   pub text : found.instance ≡ session_text I
@@ -58,7 +58,7 @@ pub record AreDrafts (I : Session) (E : Enrolled) (found : List DraftRow) (place
   pub scored : AllByRecursion
       (λ row. (T : Placing) → draft row.no ≡ Some T → parts_of row ≡ track I E T) found
 
--- these rows, with their mark, are what is published of this session, and its shares
+-- these rows, with their mark, are the publication of this session, and its shares
 pub record ArePublication (I : Session) (mark : Bool) (places : List PlacedRow)
     (seats : List SeatRow) (students : List StudentShareRow) (parts : List PartShareRow)
     (published : Option Publication) : Type 0 where
@@ -66,14 +66,14 @@ pub record ArePublication (I : Session) (mark : Bool) (places : List PlacedRow)
   pub is : ArePublished I published
   pub shared : AreShared I published students parts
 
--- no row is one of a publication or its shares
+-- no row is part of a publication or its shares
 pub record HasNoPublication (found : Found) : Type 0 where
   pub placements : found.placements.items ≡ []
   pub seats : found.seats.items ≡ []
   pub student_shares : found.student_shares.items ≡ []
   pub part_shares : found.part_shares.items ≡ []
 
--- what is found before a load
+-- the rows found before a load
 pub record IsUnloaded (found : Found) : Type 0 where
   pub batches : found.batches.items ≡ []
   pub tables : tables_of found [] ≡ empty_tables

@@ -1,11 +1,11 @@
--- When rows of batches that were found, without their bytes, are those of kept batches.
+-- When the rows of batches found, without their bytes, are those of kept batches.
 use Rattle.std.specs.Prelude.{◌≡◌, ◌≢◌, ◌≤◌, List, map, length, All, AllPairs}
 use Rattle.exam_terms.specs.declared.limits.TheConstants.{MAX_BATCH, MAX_BATCHES, TEXT_BYTES}
 use Rattle.office_tables.specs.Batch.{counts_of, FitsCounts}
 use Rattle.office_tables.specs.Tables.{Batch}
 use Rattle.office_tables.specs.declared.batch.BatchCountsRow.{BatchCountsRow}
 
--- the row of a batch whose number is one that it may have
+-- the row of a batch with a valid number
 pub record IsBatchRow (row : BatchCountsRow) : Type 0 where
   pub number : row.no ≤ MAX_BATCH
   pub fits : FitsCounts row
@@ -15,11 +15,11 @@ pub record AreBatchRows (rows : List BatchCountsRow) : Type 0 where
   pub few : length rows ≤ MAX_BATCHES
   pub each : All IsBatchRow rows
 
--- a batch with no more bytes than a text may have
+-- a batch within the limit of bytes of a text
 abbrev pub IsShort : Batch → Type 0
 IsShort b = length b.bytes ≤ TEXT_BYTES
 
--- these batches have the rows that were found, no two have one number, and none is too long
+-- these batches have the rows found, no two have the same number, and none is too long
 pub record AreFoundBatches (found : List BatchCountsRow) (batches : List Batch) : Type 0 where
   pub rows : map counts_of batches ≡ found
   pub apart : AllPairs (λ b c. b.no ≢ c.no) batches

@@ -19,22 +19,22 @@ use Rattle.office_records.specs.Publications.{placed_from}
 abbrev pub publication : Placing → List publish.SeatRow → Publication
 publication T rows = record { timetable = T; rows = rows }
 
--- what was found, as a publication
+-- the rows found as a publication
 abbrev pub publication_from : Option (Placing × Vec publish.SeatRow Global) → Option Publication
 publication_from found = option_map (λ p. publication p.0 p.1.items) found
 
--- each exam has a place, each row is at its exam's place and has a seat of its own in the room;
--- whether a rule is broken is not asked
+-- each exam has a place, each row is at its exam's place and has its own seat in the room; the
+-- rules are not judged
 pub record HasPlacesAndSeats (I : Session) (p : Publication) : Type 0 where
   pub rows : ArePublishedRows I p.rows p.timetable
   pub seated : AreSeated I p.rows
   pub numbered : AreNumbered p.rows
 
--- there is none, or it has them
+-- there is no publication, or it has places and seats
 abbrev pub AreFound : Session → Option Publication → Type 0
 AreFound I published = IfSome published (HasPlacesAndSeats I)
 
--- there is none, or it is one
+-- there is no publication, or it is valid
 abbrev pub ArePublished : Session → Option Publication → Type 0
 ArePublished I published = IfSome published (IsPublication I)
 
@@ -50,7 +50,7 @@ pub record ArePlaces (I : Session) (found : List PlacedRow) (T : Placing) : Type
   pub places : All (PlaceExists I) T
   pub rows : IsPermutation found (placed_from 0 T)
 
--- the row is where its exam stands, and has a seat of the room
+-- the row is at its exam's place, and has a seat of the room
 pub record IsSeatedRow (I : Session) (T : Placing) (row : publish.SeatRow) : Type 0 where
   pub at_exam : IsAtExam T row
   pub seat : HasSeat I row

@@ -1,4 +1,4 @@
--- What is kept in memory of an office.
+-- An office's part in memory.
 use Rattle.std.specs.Prelude.{◌≡◌, length, Option, Some, None, option_map}
 use Rattle.exam_model.specs.Enrolments.{Enrolled}
 use Rattle.exam_model.specs.Instance.{Session}
@@ -8,7 +8,7 @@ use Rattle.office_model.specs.Office.{OfficeState}
 abbrev pub Memory : Type 0
 Memory = Option (Session × Enrolled)
 
--- what the program keeps at hand of an office
+-- the part of an office that the program keeps in memory
 abbrev pub memory_of : OfficeState → Memory
 memory_of office = option_map (λ r. (r.session, r.enrolments)) office
 

@@ -27,7 +27,7 @@ abbrev pub part_rows : Sharing → List PartShareRow
 part_rows shares =
     plain_rows 0 0 shares.exams ++ (plain_rows 1 0 shares.periods ++ room_rows 0 shares.rooms)
 
--- the rows that a publication has of exams, periods and rooms; none where nothing is published
+-- the rows of the shares of exams, periods and rooms of a publication; none if nothing is published
 abbrev pub part_share_rows : Session → Option Publication → List PartShareRow
 part_share_rows I None = []
 part_share_rows I (Some p) = part_rows (shares_of I p.rows p.timetable)
@@ -38,7 +38,7 @@ part_kind_number Exam = 0
 part_kind_number Period = 1
 part_kind_number Room = 2
 
--- no more exams, periods and rooms than a session has
+-- at most as many exams, periods and rooms as a session may have
 pub record HasFewParts (shares : Sharing) : Type 0 where
   pub exams : length shares.exams ≤ MAX_EXAMS
   pub periods : length shares.periods ≤ MAX_PERIODS

@@ -33,13 +33,13 @@ stored_seat row = record {
   seat = row.seat;
 }
 
--- these rows are the places and the seats of what is published
+-- these rows are the places and the seats of the publication
 pub record StandsPublished (places : List PlacedRow) (seats : List SeatRow)
     (published : Option Publication) : Type 0 where
   pub placed : IsPermutation places (placed_rows published)
   pub seat : IsPermutation seats (map stored_seat (rows_now published))
 
--- with a mark that says whether there is a publication
+-- the same, with a mark that says whether there is a publication
 pub record ArePublicationRows (mark : Bool) (places : List PlacedRow) (seats : List SeatRow)
     (published : Option Publication) : Type 0 where
   pub marked : mark ≡ is_some published

@@ -12,14 +12,14 @@ use Rattle.office_records.specs.PartShares.{part_rows, part_share_rows}
 
 -- ---- the rows of shares
 
--- a candidate's share; nothing is over night
+-- a candidate's share
 abbrev pub student_share_row : ℕ × PersonalPenalty → StudentShareRow
 student_share_row share = record {
   student = share.0;
   in_row = share.1.row;
   in_day = share.1.day;
   spread = share.1.spread;
-  night = 0;
+  night = share.1.night;
 }
 
 -- a number that a student can have, and a total below the limit
@@ -40,7 +40,7 @@ pub record AreSharesOf (students : List StudentShareRow) (parts : List PartShare
   pub of_students : IsPermutation students (map student_share_row shares.students)
   pub of_parts : IsPermutation parts (part_rows shares)
 
--- these rows are the shares of what is published, and none where nothing is
+-- these rows are the shares of the publication; none if nothing is published
 pub record AreShared (I : Session) (published : Option Publication)
     (students : List StudentShareRow) (parts : List PartShareRow) : Type 0 where
   pub of_students : IsPermutation students (student_share_rows I published)

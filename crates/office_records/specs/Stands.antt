@@ -1,4 +1,4 @@
--- When tables stand for an office, and are sound.
+-- When tables represent an office, and are sound.
 use Rattle.std.specs.Prelude.{◌≡◌, ℕ, List, [], ◌∷◌, map, Some, None, is_some, IsPermutation}
 use Rattle.std.specs.List.{AllByRecursion}
 use Rattle.sqlite.specs.Effect.{Database}
@@ -24,7 +24,7 @@ pub record StandsBatches (rows : List Batch) (kept : List KeptBatch) : Type 0 wh
   pub same : IsPermutation rows (map stored_batch kept)
   pub fit : AllByRecursion FitsBatch rows
 
--- each table holds just the office's part; penalties and shares aren't looked at
+-- each table has exactly the office's part; penalties and shares aren't judged
 pub record StandsLoaded (t : Tables) (r : Records) : Type 0 where
   pub meta : t.meta ≡ meta_row (is_some r.published) r.session ∷ []
   pub owner : (e : ℕ) → map (λ o. o.dept) (owners_at e t.owner) ≡ some_dept (r.owner_of e)
@@ -34,23 +34,20 @@ pub record StandsLoaded (t : Tables) (r : Records) : Type 0 where
   pub published : StandsPublished t.placed t.seat r.published
   pub batches : StandsBatches t.batch r.batches
 
--- the tables stand for the office: before a load they are empty
+-- the tables represent the office: before a load they are empty
 abbrev pub StandsForOffice : Tables → OfficeState → Type 0
 StandsForOffice t None = t ≡ empty_tables
 StandsForOffice t (Some r) = StandsLoaded t r
 
 -- ---- soundness
 
--- no draft costs anything over night
-abbrev pub NoneOverNight : List DraftRow → Type 0
-NoneOverNight = AllByRecursion (λ row. row.night ≡ 0)
-
--- the other seven parts of the penalty that a draft's row has
+-- the eight parts of the penalty in a draft's row
 abbrev pub parts_of : DraftRow → Penalty
 parts_of row = record {
   row = row.in_row;
   day = row.in_day;
   spread = row.spread;
+  night = row.night;
   mixed = row.mixed;
   front = row.front;
   period = row.period;
@@ -65,17 +62,16 @@ IsScoredRow r row =
 -- each draft's row has its penalty, and the rows of shares are those of the publication
 pub record AreSound (t : Tables) (r : Records) : Type 0 where
   pub scored : AllByRecursion (IsScoredRow r) t.draft
-  pub none_over_night : NoneOverNight t.draft
   pub shared : AreShared r.session r.published t.share_student t.share_part
 
--- where nothing is loaded there is nothing to be sound
+-- the same; if nothing is loaded, the tables are sound
 abbrev pub IsSound : Tables → OfficeState → Type 0
 IsSound t None = Unit {0}
 IsSound t (Some r) = AreSound t r
 
 -- ---- a database
 
--- the database's tables stand for this office in this version, and are sound
+-- the database's tables represent this office in this version, and are sound
 pub record IsKeptIn (version : Version) (db : Database) (o : OfficeState) : Type 0 where
   pub held : Tables
   pub tables : tables.StandsIn version db held

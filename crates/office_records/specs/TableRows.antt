@@ -35,7 +35,7 @@ slots_from d e [] = []
 slots_from d e (None ∷ T) = slots_from d (e + 1) T
 slots_from d e (Some at ∷ T) = slot_row d e at ∷ slots_from d (e + 1) T
 
--- the rows of all places of a draft, by exam; none where there is no such draft
+-- the rows of all places of a draft, by exam; none if there is no such draft
 abbrev pub slot_rows : ℕ → Option Placing → List SlotRow
 slot_rows d None = []
 slot_rows d (Some T) = slots_from d 0 T

@@ -1,4 +1,4 @@
-// Rows of the batches that were accepted, without their bytes.
+// Rows of the accepted batches, without their bytes.
 ghost use Rattle.std.specs.Prelude.{◌≡◌, ◌↔◌, All, IfErr, IsTrue, OnErr, OnOk};
 ghost use Rattle.office_records.specs.FoundBatches.{AreBatchRows, IsBatchRow};
 
@@ -6,8 +6,8 @@ use crate::fault::RecordFault;
 use exam_terms::limits::{MAX_BATCH, MAX_BATCHES};
 use office_tables::BatchCountsRow;
 
-// Whether these rows are of batches that an office may keep, whatever their bytes. `BadRows`:
-// there are too many, or a number is beyond the limit.
+// Returns `Ok` if an office may keep batches with these rows, for some bytes. `BadRows`: there are
+// too many, or a number is beyond the limit.
 pub(crate) fn check_batches(rows: &[BatchCountsRow]) -> Result<(), RecordFault>
     ensures are { OnOk result (AreBatchRows rows.now) }
     ensures none { OnErr result (AreBatchRows rows.now → ⊥) }
@@ -21,7 +21,7 @@ pub(crate) fn check_batches(rows: &[BatchCountsRow]) -> Result<(), RecordFault>
     }
 }
 
-// Whether each row has a number that a batch may have.
+// Returns whether each row has a valid number of a batch.
 fn are_batches(rows: &[BatchCountsRow]) -> bool
     ensures { IsTrue result ↔ All IsBatchRow rows.now }
 {
@@ -33,7 +33,7 @@ fn are_batches(rows: &[BatchCountsRow]) -> bool
     true
 }
 
-// Whether a row has a number that a batch may have.
+// Returns whether a row has a valid number of a batch.
 fn is_batch(row: BatchCountsRow) -> bool
     ensures { IsTrue result ↔ IsBatchRow row }
 {

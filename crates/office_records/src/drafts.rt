@@ -1,13 +1,13 @@
 // Rows of drafts.
 ghost use Rattle.std.specs.Prelude.{◌≡◌, ◌≢◌, ◌≤◌, ◌↔◌, ◌==◌, ℕ, length};
-ghost use Rattle.std.specs.Prelude.{All, IfErr, IsTrue, OnErr, OnOk, Option};
+ghost use Rattle.std.specs.Prelude.{All, IfErr, IsTrue, OnOk, Option};
 ghost use Rattle.std.specs.List.{list_all, list_any};
 ghost use Rattle.exam_terms.specs.declared.limits.TheConstants.{MAX_DRAFTS};
 ghost use Rattle.exam_model.specs.Timetable.{Placing};
 ghost use Rattle.exam_score.specs.Track.{track};
 ghost use Rattle.office_tables.specs.Draft.{AreAmounts};
 ghost use Rattle.office_records.specs.Found.{AreDrafts, AreSlots};
-ghost use Rattle.office_records.specs.Stands.{parts_of, NoneOverNight};
+ghost use Rattle.office_records.specs.Stands.{parts_of};
 
 use crate::fault::RecordFault;
 use crate::timetable::timetable_of;
@@ -17,8 +17,8 @@ use exam_terms::limits::MAX_DRAFTS;
 use office_tables::{DraftRow, SlotRow};
 use std::alloc::Global;
 
-// Whether these rows are drafts with their places, and their penalties are right. `BadRows`: they
-// aren't.
+// Returns `Ok` if these rows are drafts with their places, and their penalties are right; else
+// `BadRows`.
 pub(crate) fn check_drafts(
     alloc: Global,
     instance: &Instance,
@@ -45,7 +45,7 @@ pub(crate) fn check_drafts(
     }
 }
 
-// Whether a draft after these may have this number.
+// Returns whether a draft after these may have this number.
 fn is_next(no: u32, earlier: &[DraftRow]) -> bool
     ensures { IsTrue result
         ↔ ((1 ≤ no) × (no ≤ MAX_DRAFTS) × All (λ row. row.no ≢ no) earlier.now) }
@@ -54,7 +54,7 @@ fn is_next(no: u32, earlier: &[DraftRow]) -> bool
     exists && earlier.iter().all(|row| row.no != no)
 }
 
-// Whether each slot is of a draft that has a row.
+// Returns whether each slot is of a draft that has a row.
 fn are_of_drafts(slots: &[SlotRow], rows: &[DraftRow]) -> bool
     ensures { result
         ≡ list_all (λ slot. list_any (λ row. row.no == slot.draft) rows.now) slots.now }
@@ -62,14 +62,14 @@ fn are_of_drafts(slots: &[SlotRow], rows: &[DraftRow]) -> bool
     slots.iter().all(|slot| has_row(slot.draft, rows))
 }
 
-// Whether a draft has a row.
+// Returns whether a draft has a row.
 fn has_row(draft: u32, rows: &[DraftRow]) -> bool
     ensures { result ≡ list_any (λ row. row.no == draft) rows.now }
 {
     rows.iter().any(|row| row.no == draft)
 }
 
-// Whether a draft's slots are a timetable, and its row has that one's penalty.
+// Returns `Ok` if a draft's slots are a timetable, and its row has that timetable's penalty.
 fn check_draft(
     alloc: Global,
     instance: &Instance,
@@ -93,42 +93,24 @@ fn check_draft(
     }
 }
 
-// Whether a draft's row stores these parts.
+// Returns whether a draft's row stores these parts.
 fn are_parts(row: &DraftRow, parts: &Parts) -> bool
     ensures { IsTrue result ↔ (parts_of row.now ≡ parts.now) }
 {
     row.in_row == parts.row()
         && row.in_day == parts.day()
         && row.spread == parts.spread()
+        && row.night == parts.night()
         && row.mixed == parts.mixed()
         && row.front == parts.front()
         && row.period == parts.period()
         && row.room == parts.room()
 }
 
-// Whether no draft costs anything over night. `BadRows`: one does.
-pub(crate) fn check_nights(rows: &[DraftRow]) -> Result<(), RecordFault>
-    ensures are { OnOk result (NoneOverNight rows.now) }
-    ensures none { OnErr result (NoneOverNight rows.now → ⊥) }
-{
-    if have_no_night(rows) {
-        Ok(())
-    } else {
-        Err(RecordFault::BadRows)
-    }
-}
-
-fn have_no_night(rows: &[DraftRow]) -> bool
-    ensures { result ≡ list_all (λ row. row.night == 0) rows.now }
-{
-    rows.iter().all(|row| row.night == 0)
-}
-
-/// The row that stores a draft's penalty, with nothing over night.
+/// Returns the row that stores a draft's penalty.
 pub fn draft_row(number: u32, parts: Parts) -> DraftRow
     ensures number { result.no ≡ number }
     ensures parts { parts_of result ≡ parts }
-    ensures night { result.night ≡ 0 }
     ensures amounts { AreAmounts result }
 {
     DraftRow {
@@ -140,6 +122,6 @@ pub fn draft_row(number: u32, parts: Parts) -> DraftRow
         front: parts.front(),
         period: parts.period(),
         room: parts.room(),
-        night: 0,
+        night: parts.night(),
     }
 }

@@ -9,7 +9,7 @@ use exam_model::{Enrolments, ExamNo, Instance, ModelFault, StudentNo};
 use office_tables::EnrolRow;
 use std::alloc::Global;
 
-// The enrolments of a session's exams that have these rows. `BadRows`: none have.
+// Returns the enrolments of a session's exams with these rows. `BadRows`: there are none.
 pub(crate) fn enrolments_of(
     alloc: Global,
     instance: &Instance,

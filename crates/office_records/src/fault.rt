@@ -1,12 +1,12 @@
-// Why rows are not taken for records.
+// Why rows are no records.
 use office_files::{FaultKind, FileFault};
 use office_model::StoreFault;
 use std::alloc::AllocError;
 
-/// Why rows are not taken for records.
+/// Why rows are no records.
 #[derive(Clone, Copy, Debug, PartialEq, Eq)]
 pub enum RecordFault {
-    /// Memory was refused.
+    /// Out of memory.
     NoMemory,
     /// No records have these rows.
     BadRows,

@@ -1,4 +1,4 @@
-//! The records of an office, and the rows of its tables that stand for them.
+//! The records of an office, and the rows of its tables that represent them.
 #![tactic(auto)]
 
 mod batches;

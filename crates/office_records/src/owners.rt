@@ -8,7 +8,7 @@ use exam_model::{DeptNo, Instance};
 use office_tables::OwnerRow;
 use std::alloc::Global;
 
-// Whether these rows name owners of a session's exams. `BadRows`: they don't.
+// Returns `Ok` if these rows name owners of a session's exams; else `BadRows`.
 pub(crate) fn check_owners(
     alloc: Global,
     instance: &Instance,
@@ -25,7 +25,7 @@ pub(crate) fn check_owners(
     Ok(())
 }
 
-// Notes the department that owns an exam; 0 stands for none.
+// Records the department that owns an exam; 0 means no department.
 fn note_owner(departments: &mut [u32], row: &OwnerRow) -> Result<(), RecordFault>
     ensures first { OnOk result (IsFirstOwner departments.old row.now) }
     ensures noted { OnOk result

@@ -12,7 +12,7 @@ use exam_publish::{RoomShare, Shares};
 use office_tables::PartShareRow;
 use std::alloc::{AllocError, Global};
 
-/// Whose share it is.
+/// The kind of thing that has the share.
 #[derive(Clone, Copy)]
 pub(crate) enum PartKind {
     Exam,
@@ -21,7 +21,7 @@ pub(crate) enum PartKind {
 }
 
 impl PartKind {
-    // How the tables write it.
+    // Returns its number in the tables.
     fn number(self) -> u32
         ensures { result ≡ part_kind_number self }
     {
@@ -33,7 +33,7 @@ impl PartKind {
     }
 }
 
-/// The rows of the shares of exams, then of periods, then of rooms, by their numbers.
+/// Returns the rows of the shares of exams, then of periods, then of rooms, by their numbers.
 pub fn part_share_rows(alloc: Global, shares: &Shares) -> Result<Vec<PartShareRow>, AllocError>
     requires { HasFewParts shares.now }
     ensures rows { IfOk result (λ rows. rows.items ≡ part_rows shares.now) }
@@ -43,7 +43,7 @@ pub fn part_share_rows(alloc: Global, shares: &Shares) -> Result<Vec<PartShareRo
     Ok(rows)
 }
 
-// The rows of the shares of exams, then of periods, then of rooms.
+// Returns the rows of the shares of exams, then of periods, then of rooms.
 fn all_rows(alloc: Global, shares: &Shares) -> Result<Vec<PartShareRow>, AllocError>
     requires { HasFewParts shares.now }
     ensures { IfOk result (λ rows. rows.items ≡ part_rows shares.now) }
@@ -92,7 +92,7 @@ fn push_rooms(rows: &mut Vec<PartShareRow>, shares: &[RoomShare]) -> Result<(), 
     Ok(())
 }
 
-// The rows in the order of their kinds, and of their numbers in each.
+// Returns the rows in the order of their kinds, and of their numbers in each.
 pub(crate) fn parts_in_order(
     alloc: Global,
     rows: &[PartShareRow],
@@ -106,7 +106,7 @@ pub(crate) fn parts_in_order(
     Ok(sorted)
 }
 
-// The shares that rows of a kind are, by their numbers. `BadRows`: they are none.
+// Returns the shares of rows of a kind, by their numbers. `BadRows`: the rows are no such shares.
 pub(crate) fn plain_shares(
     alloc: Global,
     rows: &[PartShareRow],
@@ -127,7 +127,7 @@ pub(crate) fn plain_shares(
     Ok(shares)
 }
 
-// The shares of rooms that rows are, by their numbers. `BadRows`: they are none.
+// Returns the shares of rows of rooms, by their numbers. `BadRows`: the rows are no such shares.
 pub(crate) fn room_shares(
     alloc: Global,
     rows: &[PartShareRow],
@@ -150,7 +150,7 @@ pub(crate) fn room_shares(
     Ok(shares)
 }
 
-// Whether a row is the share of this exam or period.
+// Returns whether a row is the share of this exam or period.
 fn is_plain(row: PartShareRow, kind: PartKind, no: usize) -> bool
     ensures { IsTrue result
         ↔ ((row.kind ≡ part_kind_number kind) × (row.no ≡ no) × (row.mixed ≡ 0)) }
@@ -158,7 +158,7 @@ fn is_plain(row: PartShareRow, kind: PartKind, no: usize) -> bool
     row.kind == kind.number() && row.no as usize == no && row.mixed == 0
 }
 
-// Whether a row is the share of this room.
+// Returns whether a row is the share of this room.
 fn is_of_room(row: PartShareRow, no: usize) -> bool
     ensures { IsTrue result ↔ ((row.kind ≡ 2) × (row.no ≡ no)) }
 {

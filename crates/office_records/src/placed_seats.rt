@@ -10,7 +10,7 @@ use exam_publish::{SeatRow, is_before, tell_numbers};
 use exam_terms::limits::MAX_PAIRS;
 use std::alloc::{AllocError, Global};
 
-// Whether each exam has a place, and each row is at its exam's place, with a seat of its own in
+// Returns whether each exam has a place, and each row is at its exam's place, with its own seat in
 // the room.
 pub(crate) fn have_places_and_seats(
     alloc: Global,
@@ -29,7 +29,7 @@ pub(crate) fn have_places_and_seats(
     Ok(complete && few && own && are_in_order(rows) && are_seated(instance, timetable, rows))
 }
 
-// Whether no two rows are of one seat in one period.
+// Returns whether no two rows have the same seat in the same period.
 fn have_own_seats(alloc: Global, rows: &[SeatRow]) -> Result<bool, AllocError>
     ensures { IfOk result (λ own. IsTrue own ↔ AllPairs HaveOwnSeats rows.now) }
 {
@@ -38,21 +38,21 @@ fn have_own_seats(alloc: Global, rows: &[SeatRow]) -> Result<bool, AllocError>
     Ok(sorted.is_sorted_by(|row, next| !is_same_seat(*row, *next)))
 }
 
-// Whether two rows are of one seat in one period.
+// Returns whether two rows have the same seat in the same period.
 fn is_same_seat(row: SeatRow, other: SeatRow) -> bool
     ensures { result ≡ is_same_seat row other }
 {
     row.period == other.period && row.room == other.room && row.seat == other.seat
 }
 
-// Whether each row comes before the next, by exam and then by student.
+// Returns whether each row comes before the next, by exam and then by student.
 fn are_in_order(rows: &[SeatRow]) -> bool
     ensures { IsTrue result ↔ RowsInOrder rows.now }
 {
     rows.is_sorted_by(|row, next| is_before(row, next))
 }
 
-// Whether each row is at its exam's place, with a seat of the room.
+// Returns whether each row is at its exam's place, with a seat of the room.
 fn are_seated(instance: &Instance, timetable: &Timetable, rows: &[SeatRow]) -> bool
     requires { Suits instance.now timetable.now }
     ensures { IsTrue result ↔ All (IsSeatedRow instance.now timetable.now) rows.now }
@@ -65,7 +65,7 @@ fn are_seated(instance: &Instance, timetable: &Timetable, rows: &[SeatRow]) -> b
     true
 }
 
-// Whether a row is at its exam's place, with a seat of the room.
+// Returns whether a row is at its exam's place, with a seat of the room.
 fn is_seated(instance: &Instance, timetable: &Timetable, row: SeatRow) -> bool
     requires { Suits instance.now timetable.now }
     ensures { IsTrue result ↔ IsSeatedRow instance.now timetable.now row }

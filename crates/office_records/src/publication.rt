@@ -1,4 +1,4 @@
-// Rows of the places of a publication, and the publication that rows make.
+// Rows of the places of a publication, and the publication that rows represent.
 ghost use Rattle.std.specs.Prelude.{◌≡◌, [], map, IfErr, IfOk, None, OnErr, OnOk, Option};
 ghost use Rattle.exam_model.specs.Timetable.{Placing};
 ghost use Rattle.exam_publish.specs.Rows.{ArePublishedRows};
@@ -18,8 +18,9 @@ use exam_publish::{PublishFault, permit, tell_numbers};
 use office_tables::{EnrolRow, PlacedRow, SeatRow, SlotRow};
 use std::alloc::{AllocError, Global};
 
-/// The publication of a session that these rows and their mark make, or none where there is no
-/// row. Whether it breaks a rule is left to [`check_publication`]. `BadRows`: they make none.
+/// Returns the publication of a session that these rows and their mark represent; `None` if there
+/// are no rows. [`check_publication`] judges whether it breaks a rule. `BadRows`: they represent
+/// none.
 pub fn publication_of(
     alloc: Global,
     instance: &Instance,
@@ -52,7 +53,7 @@ pub fn publication_of(
     }
 }
 
-// Nothing is published where there are no rows.
+// Returns `None`, the publication of no rows; else `BadRows`.
 fn no_publication(
     places: &[PlacedRow],
     seats: &[SeatRow],
@@ -68,7 +69,7 @@ fn no_publication(
     }
 }
 
-/// The timetable whose places these are. `BadRows`: there is none.
+/// Returns the timetable with these places. `BadRows`: there is none.
 pub fn timetable_at(
     alloc: Global,
     instance: &Instance,
@@ -83,14 +84,14 @@ pub fn timetable_at(
     Ok(timetable)
 }
 
-// The places as those of draft 0.
+// Returns the places as those of draft 0.
 fn slots_of(alloc: Global, places: &[PlacedRow]) -> Result<Vec<SlotRow>, AllocError>
     ensures { IfOk result (λ slots. slots.items ≡ map placed_slot places.now) }
 {
     places.iter().map(|row| placed_slot(*row)).collect(alloc)
 }
 
-// A place as one of draft 0.
+// Returns a place as one of draft 0.
 fn placed_slot(row: PlacedRow) -> SlotRow
     ensures { result ≡ placed_slot row }
 {
@@ -102,8 +103,8 @@ fn placed_slot(row: PlacedRow) -> SlotRow
     }
 }
 
-/// Whether a timetable and its seats are a publication: no hard rule is broken with the enrolments
-/// that the rows are. `BadRows`: one is.
+/// Returns `Ok` if a timetable and its seats are a publication: no hard rule is broken with the
+/// enrolments that the rows represent; else `BadRows`.
 pub fn check_publication(
     alloc: Global,
     instance: &Instance,
@@ -127,14 +128,14 @@ pub fn check_publication(
     }
 }
 
-// The pairs that seats are.
+// Returns the pairs of seats.
 fn enrol_rows(alloc: Global, rows: &[publish::SeatRow]) -> Result<Vec<EnrolRow>, AllocError>
     ensures { IfOk result (λ pairs. pairs.items ≡ map seat_pair rows.now) }
 {
     rows.iter().map(|row| seat_pair(*row)).collect(alloc)
 }
 
-// The pair that a seat is.
+// Returns the pair of a seat.
 fn seat_pair(row: publish::SeatRow) -> EnrolRow
     ensures { result ≡ seat_pair row }
 {
@@ -144,7 +145,7 @@ fn seat_pair(row: publish::SeatRow) -> EnrolRow
     }
 }
 
-/// The rows of the places of a timetable, by their exams.
+/// Returns the rows of the places of a timetable, by their exams.
 pub fn placement_rows(alloc: Global, timetable: &Timetable) -> Result<Vec<PlacedRow>, AllocError>
     ensures { IfOk result (λ rows. rows.items ≡ placed_from 0 timetable.now) }
 {

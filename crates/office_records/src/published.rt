@@ -1,4 +1,4 @@
-// Rows of what is published, with its shares.
+// Rows of a publication and of its shares.
 ghost use Rattle.std.specs.Prelude.{◌≡◌, IfErr, None, OnOk, Option};
 ghost use Rattle.exam_model.specs.Instance.{Session};
 ghost use Rattle.office_model.specs.Office.{Publication};
@@ -12,8 +12,7 @@ use exam_model::Instance;
 use office_tables::{Found, PartShareRow, StudentShareRow};
 use std::alloc::Global;
 
-// Whether the rows of a publication and its shares are what is published of a session. `BadRows`:
-// they aren't.
+// Returns `Ok` if the rows of a publication and its shares are those of a session; else `BadRows`.
 pub(crate) fn check_published(
     alloc: Global,
     instance: &Instance,
@@ -41,7 +40,7 @@ pub(crate) fn check_published(
     }
 }
 
-// Whether there is no share, as where nothing is published.
+// Returns `Ok` if there are no shares, as required if nothing is published.
 fn check_no_shares(students: &[StudentShareRow], parts: &[PartShareRow]) -> Result<(), RecordFault>
     ensures are { OnOk result ((I : Session) → AreShared I None students.now parts.now) }
     ensures none { IfErr result (λ e. (I : Session) → AreShared I None students.now parts.now → ⊥) }

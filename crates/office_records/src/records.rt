@@ -1,4 +1,4 @@
-// The records that rows stand for.
+// The records that rows represent.
 ghost use Rattle.std.specs.Prelude.{◌≡◌, ◌↔◌, IfErr, IfOk, IsTrue, List, map};
 ghost use Rattle.office_tables.specs.Adopting.{tables_of};
 ghost use Rattle.office_tables.specs.Batch.{counts_of};
@@ -10,7 +10,7 @@ ghost use Rattle.office_records.specs.Memory.{AreTogether, memory_of};
 ghost use Rattle.office_records.specs.Stands.{IsSound, StandsForOffice};
 
 use crate::batches::check_batches;
-use crate::drafts::{check_drafts, check_nights};
+use crate::drafts::check_drafts;
 use crate::enrolments::enrolments_of;
 use crate::fault::RecordFault;
 use crate::owners::check_owners;
@@ -20,9 +20,9 @@ use exam_model::{Enrolments, Instance};
 use office_tables::Found;
 use std::alloc::Global;
 
-/// What an office keeps in memory of the rows that stand for it, in either version of the file, and
-/// whose batches are no longer than texts may be. `BadRows`: they stand for no office, however long
-/// the batches are.
+/// Returns the part kept in memory of the office that the rows represent, in either version of the
+/// file, if its batches are within the limit of a text's bytes. `BadRows`: they represent no
+/// office, for any lengths of the batches.
 pub fn kept_of(alloc: Global, found: &Found) -> Result<Option<(Instance, Enrolments)>, RecordFault>
     ensures are { IfOk result (λ kept. (batches : List Batch)
         → AreFoundBatches found.now.batches.items batches
@@ -44,11 +44,10 @@ pub fn kept_of(alloc: Global, found: &Found) -> Result<Option<(Instance, Enrolme
     check_drafts(alloc, &instance, &enrolments, &found.drafts, &found.slots)?;
     check_published(alloc, &instance, found)?;
     check_batches(&found.batches)?;
-    check_nights(&found.drafts)?;
     Ok(Some((instance, enrolments)))
 }
 
-// Whether the tables are those before a load.
+// Returns whether the tables are those before a load.
 fn is_unloaded(found: &Found) -> bool
     ensures { IsTrue result ↔ IsUnloaded found.now }
 {
@@ -62,7 +61,7 @@ fn is_unloaded(found: &Found) -> bool
         && found.batches.is_empty()
 }
 
-// Whether there is no row of a publication or its shares.
+// Returns whether there is no row of a publication or its shares.
 fn has_no_publication(found: &Found) -> bool
     ensures { IsTrue result ↔ HasNoPublication found.now }
 {

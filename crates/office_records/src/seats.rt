@@ -1,4 +1,4 @@
-// Seat rows as the tables have them.
+// Seat rows in the form of the tables.
 ghost use Rattle.std.specs.Prelude.{◌≡◌, ◌<◌, List, map, IfErr, IfNone, IfOk, IfSome, IsPermutation};
 ghost use Rattle.exam_terms.specs.declared.limits.TheConstants.{MAX_STUDENT};
 ghost use Rattle.exam_model.specs.Enrolments.{IsAscending};
@@ -14,7 +14,7 @@ use exam_publish as publish;
 use office_tables::SeatRow;
 use std::alloc::{AllocError, Global};
 
-/// The rows to be stored of the seats of these candidates alone, in the order of the seats.
+/// Returns the rows to be stored for the seats of only these candidates, in the order of the seats.
 pub fn changed_seat_rows(
     alloc: Global,
     rows: &[publish::SeatRow],
@@ -33,7 +33,7 @@ pub fn changed_seat_rows(
     Ok(stored)
 }
 
-// A seat as the tables have it.
+// Returns a seat in the form of the tables.
 fn stored_seat(row: publish::SeatRow) -> SeatRow
     ensures { result ≡ stored_seat row }
 {
@@ -46,8 +46,8 @@ fn stored_seat(row: publish::SeatRow) -> SeatRow
     }
 }
 
-// The seats in the order of their exams, and of their students in each. `BadRows`: a student's
-// number is beyond the limit.
+// Returns the seats in the order of their exams, and of their students in each. `BadRows`: a
+// student's number is beyond the limit.
 pub(crate) fn seats_in_order(
     alloc: Global,
     rows: &[SeatRow],
@@ -63,7 +63,7 @@ pub(crate) fn seats_in_order(
     Ok(seats)
 }
 
-// The rows in the order of their exams, and of their students in each.
+// Returns the rows in the order of their exams, and of their students in each.
 fn by_exam(alloc: Global, rows: &[SeatRow]) -> Result<Vec<SeatRow>, AllocError>
     ensures same { IfOk result (λ sorted. IsPermutation rows.now sorted.items) }
     ensures only { IfOk result (λ sorted. (own : List published.SeatRow) → RowsInOrder own
@@ -74,7 +74,7 @@ fn by_exam(alloc: Global, rows: &[SeatRow]) -> Result<Vec<SeatRow>, AllocError>
     Ok(sorted)
 }
 
-/// The seats that stored rows are, in their order. `BadRows`: a student's number is beyond the
+/// Returns the seats of stored rows, in their order. `BadRows`: a student's number is beyond the
 /// limit.
 pub fn own_seats(alloc: Global, rows: &[SeatRow]) -> Result<Vec<publish::SeatRow>, RecordFault>
     ensures are { IfOk result (λ seats. map stored_seat seats.items ≡ rows.now) }
@@ -93,7 +93,7 @@ pub fn own_seats(alloc: Global, rows: &[SeatRow]) -> Result<Vec<publish::SeatRow
     Ok(seats)
 }
 
-// The seat that a stored row is, unless its student has no such number.
+// Returns the seat of a stored row, unless its student's number is beyond the limit.
 fn own_seat(row: SeatRow) -> Option<publish::SeatRow>
     ensures some { IfSome result (λ seat. stored_seat seat ≡ row) }
     ensures none { IfNone result (MAX_STUDENT < row.student) }

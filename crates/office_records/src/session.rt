@@ -11,7 +11,7 @@ use office_files::{read_instance, write_instance};
 use office_tables::MetaRow;
 use std::alloc::Global;
 
-/// The text that is kept of a session: its canonical text, which names no student.
+/// Returns the stored text of a session: its canonical text, which names no student.
 pub fn text_of(alloc: Global, instance: &Instance) -> Result<Vec<u8>, RecordFault>
     ensures text { IfOk result (λ text. text.items ≡ session_text instance.now) }
     ensures memory { IfErr result (λ e. e ≡ RecordFault.NoMemory) }
@@ -27,8 +27,8 @@ pub fn text_of(alloc: Global, instance: &Instance) -> Result<Vec<u8>, RecordFaul
     }
 }
 
-// The session whose row this is, whether something is published of it or not. `BadRows`: it is
-// the row of none.
+// Returns the session of this row, whether it has a publication or not. `BadRows`: it is the row of
+// none.
 pub(crate) fn session_of(alloc: Global, row: &MetaRow) -> Result<Instance, RecordFault>
     ensures is { IfOk result (IsSessionRow (meta_from row.now)) }
     ensures none { IfErr result (λ e. e ≡ RecordFault.BadRows

@@ -1,4 +1,4 @@
-// The shares of a publication that rows are.
+// The shares of a publication that rows represent.
 ghost use Rattle.std.specs.Prelude.{◌≡◌, ◌↔◌, IfErr, IfOk, IsTrue, OnOk, Some};
 ghost use Rattle.exam_publish.specs.Rows.{ArePublishedRows};
 ghost use Rattle.exam_publish.specs.Shares.{shares_of};
@@ -15,7 +15,7 @@ use exam_publish::{SeatRow, Shares, shares};
 use office_tables::{PartShareRow, StudentShareRow};
 use std::alloc::Global;
 
-/// Whether these rows are the shares of a publication. `BadRows`: they aren't.
+/// Returns `Ok` if these rows are the shares of a publication; else `BadRows`.
 pub fn check_shares(
     alloc: Global,
     instance: &Instance,
@@ -44,7 +44,7 @@ pub fn check_shares(
     }
 }
 
-// Whether these are the same rows one by one.
+// Returns whether these are the same rows one by one.
 fn are_same(
     students: &[StudentShareRow],
     own_students: &[StudentShareRow],
@@ -57,7 +57,7 @@ fn are_same(
     students == own_students && parts == own_parts
 }
 
-/// The shares of a session's publication that these rows are. `BadRows`: they are those of none.
+/// Returns the shares of a session's publication with these rows. `BadRows`: there are none.
 pub fn shares_of(
     alloc: Global,
     instance: &Instance,

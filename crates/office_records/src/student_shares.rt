@@ -12,7 +12,7 @@ use exam_score::PersonalParts;
 use office_tables::StudentShareRow;
 use std::alloc::{AllocError, Global};
 
-/// The rows of all candidates' shares, in their order.
+/// Returns the rows of all candidates' shares, in their order.
 pub fn student_share_rows(
     alloc: Global,
     shares: &Shares,
@@ -28,7 +28,7 @@ pub fn student_share_rows(
     Ok(rows)
 }
 
-/// The rows of the shares of these candidates alone, in the order of the shares: a candidate
+/// Returns the rows of the shares of only these candidates, in the order of the shares: a candidate
 /// without a seat has none.
 pub fn changed_share_rows(
     alloc: Global,
@@ -49,7 +49,7 @@ pub fn changed_share_rows(
     Ok(rows)
 }
 
-// A candidate's share as the tables have it.
+// Returns a candidate's share in the form of the tables.
 fn share_row(share: (StudentNo, PersonalParts)) -> StudentShareRow
     ensures row { result ≡ student_share_row share }
     ensures amounts { AreStudentAmounts result }
@@ -60,11 +60,11 @@ fn share_row(share: (StudentNo, PersonalParts)) -> StudentShareRow
         in_row: share.1.row(),
         in_day: share.1.day(),
         spread: share.1.spread(),
-        night: 0,
+        night: share.1.night(),
     }
 }
 
-// Whether a student is one of these.
+// Returns whether a student is one of these.
 pub(crate) fn is_among(students: &[StudentNo], student: StudentNo) -> bool
     requires { IsAscending students.now }
     ensures { result ≡ has_number students.now student }
@@ -72,7 +72,7 @@ pub(crate) fn is_among(students: &[StudentNo], student: StudentNo) -> bool
     students.binary_search(&student).is_ok()
 }
 
-// The rows in the order of their candidates.
+// Returns the rows in the order of their candidates.
 pub(crate) fn students_in_order(
     alloc: Global,
     rows: &[StudentShareRow],
@@ -88,8 +88,7 @@ pub(crate) fn students_in_order(
     Ok(sorted)
 }
 
-// The shares that rows are, in their order. `BadRows`: a number or an amount is beyond its limit,
-// or one is over night.
+// Returns the shares of rows, in their order. `BadRows`: a number or an amount is beyond its limit.
 pub(crate) fn personal_shares(
     alloc: Global,
     rows: &[StudentShareRow],
@@ -109,16 +108,13 @@ pub(crate) fn personal_shares(
     Ok(shares)
 }
 
-// The share that a row is, unless a number or an amount is beyond its limit or one is over night.
+// Returns the share of a row, unless a number or an amount is beyond its limit.
 fn personal_share(row: StudentShareRow) -> Option<(StudentNo, PersonalParts)>
     ensures some { IfSome result (λ share. student_share_row share ≡ row) }
     ensures none { IfNone result ((share : ℕ × PersonalPenalty) → IsShare share
         → student_share_row share ≡ row → ⊥) }
 {
-    if row.night != 0 {
-        return None;
-    }
     let student = StudentNo::new(row.student)?;
-    let parts = PersonalParts::new(row.in_row, row.in_day, row.spread)?;
+    let parts = PersonalParts::new(row.in_row, row.in_day, row.spread, row.night)?;
     Some((student, parts))
 }

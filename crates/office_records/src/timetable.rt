@@ -9,8 +9,8 @@ use exam_model::{ExamNo, Instance, PeriodNo, Place, RoomNo, Timetable};
 use office_tables::SlotRow;
 use std::alloc::Global;
 
-/// The timetable of a draft whose places these are, among those of others. `BadRows`: there is
-/// none.
+/// Returns the timetable of a draft with these places, which are among those of others. `BadRows`:
+/// there is none.
 pub fn timetable_of(
     alloc: Global,
     instance: &Instance,
@@ -30,7 +30,7 @@ pub fn timetable_of(
     Ok(timetable)
 }
 
-// Places an exam that stands nowhere yet.
+// Places an exam that is not placed yet.
 fn put_slot(timetable: &mut Timetable, instance: &Instance, row: SlotRow) -> Result<(), RecordFault>
     requires exams { length timetable.old ≡ length instance.now.exams }
     ensures put { OnOk result (IsPut instance.now row timetable.old timetable.new) }

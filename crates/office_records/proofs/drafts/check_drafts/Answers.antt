@@ -24,7 +24,7 @@ returns-in_err-check_draft-clause-none c =
     c.args.rows.now c.args.slots.now draft are c.rows.at _ c.rows-test.true in
     c.in_err-check_draft.ensures.none bad known.0 known.1 known.2)
 
--- one row more
+-- one more row
 pub rows-preserved : goal.rows-preserved
 rows-preserved c =
     begun_next c.args.instance.now c.args.enrolments.now c.args.rows.now c.args.slots.now

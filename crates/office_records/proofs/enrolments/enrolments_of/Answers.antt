@@ -16,7 +16,7 @@ returns-in_err-enrol-clause-none c =
     (row_new I rows E are c.loop-row.row-index _ c.loop-row.enrolments c.loop-row-test.true
     c.loop-row.invariant))
 
--- one row more
+-- one more row
 pub loop-row-preserved : goal.loop-row-preserved
 loop-row-preserved c =
     let I = c.args.instance.now in
@@ -29,7 +29,7 @@ loop-row-preserved c =
     (get_or rows i none) c.loop-row.invariant c.in_ok-enrol.ensures.new c.in_ok-enrol.ensures.adds
     c.in_ok-enrol.ensures.kept)
 
--- all rows are taken
+-- all rows are read
 pub returns-clause-are : goal.returns-clause-are
 returns-clause-are c =
     let I = c.args.instance.now in

@@ -9,7 +9,7 @@ use Rattle.office_records.specs.declared.fault.RecordFault.TheVariants.{BadRows}
 use Rattle.office_records.proofs.FoundLemmas.{HasAlone, no_such_shares}
 use Rattle.office_records.proofs.published.check_published.Goals as goal
 
--- what holds of two lists holds of lists that equal them
+-- a fact about two lists holds for equal lists
 of_same : {X Y : Type 0} (P : List X → List Y → Type 0) {xs us : List X} {ys vs : List Y}
     → xs ≡ us → ys ≡ vs → P xs ys → P us vs
 of_same P {us = us} {ys = ys} same other p =

@@ -10,10 +10,10 @@ use Rattle.office_tables.specs.declared.found.Found.{Found}
 use Rattle.office_records.specs.Found.{AreDrafts, AreEnrolRows, AreOwners, IsUnloaded}
 use Rattle.office_records.specs.FoundBatches.{AreBatchRows}
 use Rattle.office_model.specs.Office.{OfficeState, Records, AreRecords, IsOffice}
-use Rattle.office_records.specs.Stands.{IsSound, NoneOverNight, StandsForOffice, StandsLoaded}
+use Rattle.office_records.specs.Stands.{IsSound, StandsForOffice, StandsLoaded}
 use Rattle.office_records.specs.declared.fault.RecordFault.{RecordFault}
 use Rattle.office_records.specs.declared.fault.RecordFault.TheVariants.{BadRows}
-use Rattle.office_records.proofs.RecordLemmas.{draft_rows, enrol_rows, kept_rows, none_over_night, office_of}
+use Rattle.office_records.proofs.RecordLemmas.{draft_rows, enrol_rows, kept_rows, office_of}
 use Rattle.office_records.proofs.RecordLemmas.{owner_rows, published_rows}
 use Rattle.office_records.proofs.RecordLemmas.{unloaded as unloaded_found}
 use Rattle.office_records.proofs.records.kept_of.Goals as goal
@@ -24,7 +24,7 @@ StandsForNone found =
     → StandsForOffice (tables_of found batches) office → IsSound (tables_of found batches) office
     → IsOffice office → ⊥
 
--- it is no office with a session, and not the one without
+-- the rows are neither an office with a session nor one without
 refused : {X : Type 0} (found : Found) (unloaded : Bool) (fault : RecordFault)
     (r : Result X RecordFault)
     → (IsTrue unloaded ↔ IsUnloaded found) → unloaded ≡ false → IsErrAnd r (λ e. e ≡ fault)
@@ -107,17 +107,6 @@ returns-in_err-check_batches-clause-none c =
     (subst AreBatchRows (sym c.deref-5.ensures.value)
     (kept_rows found batches r stands sound is same)))
 
-pub returns-in_err-check_nights-clause-none : goal.returns-in_err-check_nights-clause-none
-returns-in_err-check_nights-clause-none c =
-    let found = c.args.found.now in
-    let none : NoneOverNight c.deref-6.result.now → ⊥ = c.in_err-check_nights.ensures.none in
-    refused found c.is_unloaded.result c.in_err-check_nights.field-0.0
-    c.from_residual-in_err-check_nights.result c.is_unloaded.ensures c.if-is_unloaded.false
-    c.from_residual-in_err-check_nights.ensures.1
-    (λ bad batches same r stands sound is. none
-    (subst NoneOverNight (sym c.deref-6.ensures.value)
-    (none_over_night found batches r stands sound is)))
-
 pub returns-clause-are : goal.returns-clause-are
 returns-clause-are c batches these =
     let found = c.args.found.now in
@@ -132,8 +121,7 @@ returns-clause-are c batches these =
     (subst (λ rows. (draft : ℕ → Option Placing) × AreDrafts I E rows c.deref-4.result.now draft)
     c.deref-3.ensures.value c.in_ok-check_drafts.ensures.are))
     c.in_ok-check_published.ensures.are
-    (subst AreBatchRows c.deref-5.ensures.value c.in_ok-check_batches.ensures.are)
-    (subst NoneOverNight c.deref-6.ensures.value c.in_ok-check_nights.ensures.are) these
+    (subst AreBatchRows c.deref-5.ensures.value c.in_ok-check_batches.ensures.are) these
 
 pub returns-clause-together : goal.returns-clause-together
 returns-clause-together c = c.in_ok-enrolments.ensures.are.enrolled.exams

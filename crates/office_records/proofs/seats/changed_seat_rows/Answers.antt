@@ -9,7 +9,7 @@ use Rattle.office_records.specs.SeatsStored.{seat_rows_of}
 use Rattle.office_records.proofs.seats.changed_seat_rows.Goals as goal
 use Rattle.office_records.proofs.seats.changed_seat_rows.Goals.{then-is_among+in_ok-push, else-is_among}
 
--- a row more
+-- one more row
 more : (who : List ℕ) (rows : List publish.SeatRow) (i : ℕ) (row : publish.SeatRow)
     → i < length rows → row ≡ get_or rows i row
     → seat_rows_of who (map stored_seat (take (i + 1) rows))

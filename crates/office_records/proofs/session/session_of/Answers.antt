@@ -1,9 +1,9 @@
 use Rattle.std.proofs.Common.{◌≡◌, ◌≢◌, ℕ, Bool, true, false, not, ◌&&◌, List, [], ◌∷◌, Result, Ok}
-use Rattle.std.proofs.Common.{Err, refl, sym, ◌∙◌, ap, subst, nat_eq}
+use Rattle.std.proofs.Common.{Err, refl, sym, ◌∙◌, ap, ap₂, subst, nat_eq}
 use Rattle.std.specs.Prelude.{IfErr}
 use Rattle.std.specs.Cmp.Lexicographic.{pointwise}
 use Rattle.std.specs.Result.{IsErrAnd}
-use Rattle.std.proofs.lemmas.Bool.{eq-eqb}
+use Rattle.std.proofs.lemmas.Bool.{and_parts, eq-eqb, eqb-true}
 use Rattle.exam_model.specs.Instance.{Session}
 use Rattle.office_files.specs.declared.fault.FaultKind.TheVariants.{NoMemory}
 use Rattle.office_files.specs.declared.fault.FileFault.{FileFault}
@@ -61,3 +61,34 @@ returns-then-ne-clause-none c bad I is =
     let row : session_text J ≡ m.instance = ap session_text same ∙ sym is.text in
     not_other c.as_slice.result.now c.as_slice-2.result.now c.ne.result c.ne.ensures c.if-ne.true
     (c.as_slice.ensures.value ∙ c.in_ok-text.ensures.text ∙ row ∙ sym c.as_slice-2.ensures.value)
+
+clash : true ≡ false → ⊥
+clash e = absurd cc
+
+one_list : (xs ys : List ℕ) → pointwise nat_eq xs ys ≡ true → xs ≡ ys
+one_list [] [] equal = refl
+one_list [] (y ∷ ys) equal = absurd (clash (sym equal))
+one_list (x ∷ xs) [] equal = absurd (clash (sym equal))
+one_list (x ∷ xs) (y ∷ ys) equal =
+    let parts = and_parts _ _ equal in
+    ap₂ (λ z zs. z ∷ zs) (eqb-true x y parts.0) (one_list xs ys parts.1)
+
+no_other : (xs ys : List ℕ) (other : Bool) → other ≡ not (pointwise nat_eq xs ys)
+    → other ≡ false → xs ≡ ys
+no_other xs ys other tested is = one_list xs ys (equal (pointwise nat_eq xs ys) (sym is ∙ tested))
+  where
+    equal : (b : Bool) → false ≡ not b → b ≡ true
+    equal true e = refl
+    equal false e = absurd (clash (sym e))
+
+-- the text that was read is the session's own
+pub returns-clause-is : goal.returns-clause-is
+returns-clause-is c =
+    let same : c.as_slice.result.now ≡ c.as_slice-2.result.now
+    = no_other c.as_slice.result.now c.as_slice-2.result.now c.ne.result c.ne.ensures c.if-ne.false
+    in
+    record {
+      session = c.in_ok-text.ensures.instance;
+      text = sym c.as_slice-2.ensures.value ∙ sym same ∙ c.as_slice.ensures.value
+          ∙ c.in_ok-text.ensures.text;
+    }

@@ -5,7 +5,7 @@ use Rattle.office_records.proofs.SlotLemmas.{no_slots, next_other, next_put, nex
 use Rattle.office_records.proofs.timetable.timetable_of.Goals as goal
 use Rattle.office_records.proofs.timetable.timetable_of.Goals.{then-row-draft+in_ok-put_slot, else-row-draft}
 
--- what holds of each error holds of the one there is
+-- a fact about each error holds for this one
 each_err : {X E : Type 0} (r : Result X E) (P : E → Type 0) → ((e : E) → P e) → IfErr r P
 each_err (Ok x) P h = tt
 each_err (Err e) P h = h e
