@@ -26,11 +26,13 @@ use Rattle.office_model.specs.Office.{OfficeState, IsOffice}
 use Rattle.office_model.specs.declared.fault.StoreFault.{StoreFault}
 use Rattle.office_model.specs.declared.fault.StoreFault.TheVariants.{Store}
 use Rattle.office_records.specs.FoundBatches.{AreFoundBatches, IsShort}
+use Rattle.office_records.specs.Memory.{Memory, memory_of}
 use Rattle.office_records.specs.Stands.{IsKept, IsKeptIn, IsSound, StandsForOffice}
 use Rattle.office_records.proofs.BatchRowLemmas.{stored_short}
+use Rattle.office_records.proofs.MemoryLemmas.{same_memory_in}
 use Rattle.office_records.proofs.SameTables.{same_sound_in, same_stands_in}
 use Rattle.office_store.specs.Leaving.{MayMigrate, found_in}
-use Rattle.office_store.specs.Opening.{HoldsOffice, IsFoundOffice, IsTakenOver}
+use Rattle.office_store.specs.Opening.{HoldsOffice, IsFoundOffice, IsTakenOver, WeighsNoNight}
 use Rattle.office_store.specs.declared.memory.OfficeMemory.{OfficeMemory}
 use Rattle.office_tables.specs.Alterations.{Undone}
 use Rattle.office_store.specs.Running.{IsAwake}
@@ -172,6 +174,28 @@ module _ (db : Database) (found : Found) (batches : List Batch)
     pub none_long : All IsShort batches
     none_long = stored_short (tables_of found batches) o same_office kept.office
 
+    -- no night has a weight in it if the tables are of version 1
+    weighs : WeighsNoNight found.version (memory_of o)
+    weighs = subst (λ version. WeighsNoNight version (memory_of o))
+        (one_version db there.0 found.version there.1.tables.schema held.schema) there.2
+
+    -- nor in what is kept in memory of the tables that were found
+    pub none_weighed : (memory : Memory) → (AreFoundBatches found.batches.items batches
+        → (office : OfficeState) × StandsForOffice (tables_of found batches) office
+        × IsSound (tables_of found batches) office × IsOffice office
+        × (memory_of office ≡ memory))
+        → WeighsNoNight found.version memory
+    none_weighed memory office_of =
+        let is = office_of (found_batches none_long) in
+        let same = same_memory_in found.version db o is.0 kept (record {
+          held = tables_of found batches;
+          tables = held;
+          stands = is.1;
+          sound = is.2;
+          office = is.3;
+        }) in
+        subst (WeighsNoNight found.version) (same ∙ is.4) weighs
+
     pub none_refused : ((office : OfficeState) → StandsForOffice (tables_of found batches) office
         → IsSound (tables_of found batches) office → IsOffice office → ⊥) → ⊥
     none_refused none =
@@ -210,7 +234,7 @@ pub taken_over : (old new : Database) (found : Found) (memory : OfficeMemory)
     → IsTakenOver old new
 taken_over old new found memory is stands = record {
   office = is.office;
-  stood = (found.version, is.kept);
+  stood = (found.version, is.kept, is.weighs);
   stands = λ there holds.
       kept_after old found is.batches is.counted is.tables there holds new stands;
 }

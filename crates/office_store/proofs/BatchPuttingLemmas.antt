@@ -5,7 +5,6 @@ use Rattle.std.specs.Prelude.{◌==◌, ◌&&◌, IfSome, nat_lt}
 use Rattle.std.proofs.lemmas.Bool.Decides.{nat_tests}
 use Rattle.std.proofs.lemmas.List.{append-nil}
 use Rattle.std.proofs.lemmas.List.Sorted.{IsPermutation-reverse}
-use Rattle.sqlite_trees.proofs.ListLemmas.{all-permutation}
 use Rattle.exam_terms.specs.Refusing.{◌>>=◌, unless}
 use Rattle.exam_model.specs.Enrolments.{AreEnrolments, Enrolled}
 use Rattle.exam_model.specs.Instance.{Session}
@@ -172,7 +171,6 @@ left_drafts r t changes done is stands sound judged [] anew lines scored = recor
   are = subst (λ (E : Enrolled). AreDrafts r.session E t.draft t.slot r.draft)
       (sym (idle_batch changes r.enrolments done is.enrolled.set judged (sym lines)))
       (drafts_stored t r stands is sound);
-  none_over_night = sound.none_over_night;
 }
 left_drafts r t changes done is stands sound judged (it ∷ its) anew lines scored =
     let again = scored (λ none. cc none) in
@@ -180,8 +178,6 @@ left_drafts r t changes done is stands sound judged (it ∷ its) anew lines scor
       slots = again.slots;
       are = drafts_moved r.session done.1 anew (reverse anew) again.slots r.draft
           (IsPermutation-reverse anew) again.are;
-      none_over_night = all-permutation (λ (x : DraftRow). x.night ≡ 0) _ _
-          (IsPermutation-reverse anew) again.none_over_night;
     }
 
 -- ---- what the command gives
@@ -271,7 +267,7 @@ module _ (number : ℕ) (bytes : List ℕ) (changes : List Change)
             sound = subst (λ (l : List Change). IsSound (batch_put l left row here.held)
                 (Some (keeping.records_with_batch number bytes r (done r)))) (sym made.lines)
                 (batch_sound number bytes changes r (done r) here.office made.after here.held
-                left again.slots again.are again.none_over_night here.sound);
+                left again.slots again.are here.sound);
             office = leaves (Some r)
                 (Some (keeping.records_with_batch number bytes r (done r))) new.counts
                 here.office gives;

@@ -134,14 +134,13 @@ begins_in o I E of d bytes begun slots rows same begins =
 pub begun_kept : (a b : Database) (r : Records) (d : ℕ) (bytes : List ℕ) (begun : Draft)
     (row : DraftRow) (slots : List SlotRow)
     (begins : Begins d bytes r.session r.enrolments begun slots) → row.no ≡ d
-    → parts_of row ≡ begun.parts → row.night ≡ 0 → true ≡ is_draft_number d
-    → is_some (r.draft d) ≡ false → IsKept a (Some r)
-    → ((t : Tables) → Stands a t → Stands b (draft_put row slots t))
+    → parts_of row ≡ begun.parts → true ≡ is_draft_number d → is_some (r.draft d) ≡ false
+    → IsKept a (Some r) → ((t : Tables) → Stands a t → Stands b (draft_put row slots t))
     → IsKept b (Some (record r { draft = set_at d (Some begun.timetable) r.draft }))
-begun_kept a b r d bytes begun row slots begins number parts none numbered free kept makes =
+begun_kept a b r d bytes begun row slots begins number parts numbered free kept makes =
     let within = in_range d numbered in
     made_kept a b r d begun.timetable row slots number begins.rows (parts ∙ begins.scored)
-    none (nothing (r.draft d) free) within.0 within.1 begins.fits kept makes
+    (nothing (r.draft d) free) within.0 within.1 begins.fits kept makes
 
 pub begun_made : (r : Records) (d : ℕ) (bytes : List ℕ) (begun : Draft) (slots : List SlotRow)
     (begins : Begins d bytes r.session r.enrolments begun slots) → true ≡ is_draft_number d
@@ -233,14 +232,13 @@ module _ (d : ℕ) (a : Database) (m : OfficeMemory) where
           begun_office : (o : OfficeState) (of : IsKeptOf o I E)
               → Begins d text of.records.session of.records.enrolments begun (put_rows placed)
           begun_office o of =
-              begins_in o I E of d text begun (put_rows slots) (put_rows placed) (ap put_rows same)
-              begins
+              begins_in o I E of d text begun (put_rows slots) (put_rows placed) (ap put_rows same) begins
 
           pub made_moves : (b : Database) (row : DraftRow) → row.no ≡ d → parts_of row ≡ begun.parts
-              → row.night ≡ 0 → ((t : Tables) → Stands a t → Stands b
+              → ((t : Tables) → Stands a t → Stands b
               (after_all (λ (it : InsertSlot). with_slot it.row) placed (with_draft row t)))
               → Moves (draft_made d text) total a b m
-          made_moves b row number parts none comes o kept is =
+          made_moves b row number parts comes o kept is =
               let makes : (t : Tables) → Stands a t → Stands b (draft_put row (put_rows placed) t)
               = λ t h. subst (Stands b) (slots_put placed (with_draft row t)) (comes t h) in
               let of = kept_of o I E (is.session ∙ at_hand) in
@@ -251,7 +249,7 @@ module _ (d : ℕ) (a : Database) (m : OfficeMemory) where
                     numbered free
                     total is_total,
                 begun_kept a b of.records d text begun row (put_rows placed) (begun_office o of)
-                    number parts none
+                    number parts
                     numbered free (subst (IsKept a) of.is kept) makes,
               )
 

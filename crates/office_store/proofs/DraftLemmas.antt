@@ -6,7 +6,7 @@ use Rattle.std.proofs.lemmas.Bool.Decides.{nat_tests}
 use Rattle.std.proofs.lemmas.List.{append-nil, take_more, length-take}
 use Rattle.std.proofs.lemmas.List.Elements.{filter-append}
 use Rattle.std.proofs.lemmas.List.Sorted.{IsPermutation-refl, IsPermutation-sym, IsPermutation-trans, IsPermutation-append, IsPermutation-map, IsPermutation-reverse, length_permutation}
-use Rattle.sqlite_trees.proofs.ListLemmas.{IsPermutation-filter, all-filter}
+use Rattle.sqlite_trees.proofs.ListLemmas.{IsPermutation-filter}
 use Rattle.sqlite.specs.Effect.{Database}
 use Rattle.exam_model.specs.Fits.{Fits}
 use Rattle.exam_model.specs.Timetable.{Placing}
@@ -139,16 +139,15 @@ module _ (t : Tables) (r : Records) (d : ℕ) (T : Placing) (row : DraftRow) (sl
   none_there : drafts_at d t.draft ≡ []
   none_there = map_none (λ (x : DraftRow). x.no) _ (h.draft d ∙ ap (λ o. once (is_some o) d) free)
 
-  made_sound : parts_of row ≡ track r.session r.enrolments T → row.night ≡ 0 → IsSound t (Some r)
+  made_sound : parts_of row ≡ track r.session r.enrolments T → IsSound t (Some r)
       → IsSound (draft_put row slots t) (Some (record r { draft = set_at d (Some T) r.draft }))
-  made_sound scored none sound = record {
+  made_sound scored sound = record {
     scored = (
       own,
       none_pass (λ (x : DraftRow). eqb x.no d) (IsScoredRow r)
           (IsScoredRow (record r { draft = set_at d (Some T) r.draft })) other t.draft none_there
           sound.scored,
     );
-    none_over_night = (none, sound.none_over_night);
     shared = sound.shared;
   }
     where
@@ -165,16 +164,15 @@ module _ (t : Tables) (r : Records) (d : ℕ) (T : Placing) (row : DraftRow) (sl
 
 pub made_kept : (a b : Database) (r : Records) (d : ℕ) (T : Placing) (row : DraftRow)
     (slots : List SlotRow) → row.no ≡ d → slots ≡ slots_from d 0 T
-    → parts_of row ≡ track r.session r.enrolments T → row.night ≡ 0
+    → parts_of row ≡ track r.session r.enrolments T
     → r.draft d ≡ None → 1 ≤ d → d ≤ 8 → Fits r.session r.enrolments T → IsKept a (Some r)
     → ((t : Tables) → Stands a t → Stands b (draft_put row slots t))
     → IsKept b (Some (record r { draft = set_at d (Some T) r.draft }))
-made_kept a b r d T row slots number_is are scored none free low high fits kept makes = record {
+made_kept a b r d T row slots number_is are scored free low high fits kept makes = record {
   held = draft_put row slots kept.held;
   tables = makes kept.held kept.tables;
   stands = made_stands kept.held r d T row slots number_is are kept.stands free;
-  sound = made_sound kept.held r d T row slots number_is are kept.stands free scored none
-      kept.sound;
+  sound = made_sound kept.held r d T row slots number_is are kept.stands free scored kept.sound;
   office = made_records r d T low high fits kept.office;
 }
 
@@ -218,8 +216,6 @@ left_sound : (t : Tables) (r : Records) (d : ℕ) → IsSound t (Some r)
 left_sound t r d sound = record {
   scored = each_left (λ (x : DraftRow). x.no) d (IsScoredRow r)
       (IsScoredRow (record r { draft = set_at d None r.draft })) other t.draft sound.scored;
-  none_over_night = all-filter (λ (x : DraftRow). x.night ≡ 0) (λ (x : DraftRow). not (eqb x.no d))
-      t.draft sound.none_over_night;
   shared = sound.shared;
 }
   where

@@ -142,19 +142,15 @@ module _ (r : Records) (I : Session) (E : Enrolled)
   -- an edit of these records is one of what is at hand
   pub edit_at_hand : (d : ℕ) (change : Edit) (judged : Judged) → IsJudged d change r judged
       → judged.exams.items ≡ edited_exams change
-      → IsEditedAt I E judged.draft.now.timetable (edited_exams change) judged.new
-      → IsEditOf I E judged
+      → IsEditedAt I E judged.draft.now.timetable (edited_exams change) judged.new → IsEditOf I E judged
   edit_at_hand d change judged is exams kept = record {
     fits = kept.fits;
-    others = subst (λ l. DiffersAtMost l judged.draft.now.timetable judged.new) (sym exams)
-        kept.others;
-    scored = is.scored ∙ ap (λ (p : Session × Enrolled). track p.0 p.1 judged.draft.now.timetable)
-        both;
+    others = subst (λ l. DiffersAtMost l judged.draft.now.timetable judged.new) (sym exams) kept.others;
+    scored = is.scored ∙ ap (λ (p : Session × Enrolled). track p.0 p.1 judged.draft.now.timetable) both;
   }
 
   pub edit_comes : (d : ℕ) (change : Edit) (judged : Judged) (parts : Penalty)
-      → IsJudged d change r judged → IsEditedAt I E judged.draft.now.timetable (edited_exams change)
-      judged.new
+      → IsJudged d change r judged → IsEditedAt I E judged.draft.now.timetable (edited_exams change) judged.new
       → parts ≡ track I E judged.new
       → IsEdited d change (Some r) (record { timetable = judged.new; parts = parts })
   edit_comes d change judged parts is kept scored = record {
@@ -185,10 +181,7 @@ pub record IsStored (b : Database) (o : OfficeState) (d : ℕ) (change : Edit) (
 edited_gives : (o : OfficeState) (d : ℕ) (change : Edit) (new : Draft) (total : ℕ)
     (of : IsEdited d change o new) → total ≡ total_of new.parts
     → draft_edited d change o
-    ≡ Ok (
-      total,
-      Some (record of.records { draft = set_at d (Some new.timetable) of.records.draft }),
-    )
+    ≡ Ok (total, Some (record of.records { draft = set_at d (Some new.timetable) of.records.draft }))
 edited_gives o d change new total of is_total =
     ap (draft_edited d change) of.is
     ∙ edit_gives d change of.records of.old new.timetable of.draft of.edits
@@ -198,22 +191,21 @@ edited_gives o d change new total of is_total =
 
 pub edit_stored : (a b : Database) (o : OfficeState) (d : ℕ) (change : Edit)
     (new : Draft) (row : DraftRow) (total : ℕ) (exams : List ℕ)
-    (of : IsEdited d change o new) → row.no ≡ d → parts_of row ≡ new.parts → row.night ≡ 0
+    (of : IsEdited d change o new) → row.no ≡ d → parts_of row ≡ new.parts
     → total ≡ total_of new.parts → exams ≡ edited_exams change → IsKept a o
     → ((t : Tables) → Stands a t → Stands b (edit_put row new.timetable exams t))
     → IsStored b o d change total
-edit_stored a b o d change new row total exams of number parts none is_total are kept
-    makes = record {
-      office = Some (record of.records { draft = set_at d (Some new.timetable) of.records.draft });
-      gives = edited_gives o d change new total of is_total;
-      kept = subst (λ n. IsKept b
-          (Some (record of.records { draft = set_at n (Some new.timetable) of.records.draft }))) number
-          (edit_kept a b of.records of.old new.timetable row change
-          (ap of.records.draft number ∙ of.draft)
-          of.edits (parts ∙ of.scored) none of.fits (subst (IsKept a) of.is kept)
-          (subst (λ l. (t : Tables) → Stands a t → Stands b (edit_put row new.timetable l t)) are
-          makes));
-    }
+edit_stored a b o d change new row total exams of number parts is_total are kept makes = record {
+  office = Some (record of.records { draft = set_at d (Some new.timetable) of.records.draft });
+  gives = edited_gives o d change new total of is_total;
+  kept = subst (λ n. IsKept b
+      (Some (record of.records { draft = set_at n (Some new.timetable) of.records.draft }))) number
+      (edit_kept a b of.records of.old new.timetable row change
+      (ap of.records.draft number ∙ of.draft)
+      of.edits (parts ∙ of.scored) of.fits (subst (IsKept a) of.is kept)
+      (subst (λ l. (t : Tables) → Stands a t → Stands b (edit_put row new.timetable l t)) are
+      makes));
+}
 
 -- ---- the calls that edit
 
@@ -221,13 +213,12 @@ edit_stored a b o d change new row total exams of number parts none is_total are
 pub edit_moves : (a b : Database) (m : OfficeMemory) (d : ℕ) (change : Edit) (new : Draft)
     (row : DraftRow) (total : ℕ) (places : List (Both DeleteSlot (Option InsertSlot)))
     → ((o : OfficeState) → IsKept a o → IsMemoryOf o m → IsEdited d change o new)
-    → row.no ≡ d → parts_of row ≡ new.parts → row.night ≡ 0 → total ≡ total_of new.parts
+    → row.no ≡ d → parts_of row ≡ new.parts → total ≡ total_of new.parts
     → places ≡ map (new_place d new.timetable) (edited_exams change)
     → ((t : Tables) → Stands a t
     → Stands b (after_all move_made places (with_draft row (without_draft d t))))
     → Moves (draft_edited d change) total a b m
-edit_moves a b m d change new row total places edits number parts none is_total put comes o kept
-    is =
+edit_moves a b m d change new row total places edits number parts is_total put comes o kept is =
     let exams = edited_exams change in
     let makes : (t : Tables) → Stands a t → Stands b (edit_put row new.timetable exams t)
     = λ t h. subst
@@ -237,8 +228,8 @@ edit_moves a b m d change new row total places edits number parts none is_total 
     subst (Stands b)
     (ap (λ l. after_all move_made l u) put ∙ all_moved d new.timetable exams u) (comes t h)) in
     let stored =
-    edit_stored a b o d change new row total exams (edits o kept is) number parts none is_total refl
-    kept makes in
+    edit_stored a b o d change new row total exams (edits o kept is) number parts is_total refl kept
+    makes in
     (stored.office, stored.gives, stored.kept)
 
 pub edit_remembers : (a : Database) (m n : OfficeMemory) (d : ℕ) (change : Edit) (new : Draft)

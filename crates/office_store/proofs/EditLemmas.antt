@@ -4,7 +4,6 @@ use Rattle.std.specs.Prelude.{IsPermutation, IsSome, is_some}
 use Rattle.std.specs.List.{AllByRecursion}
 use Rattle.std.proofs.lemmas.Bool.Decides.{nat_tests}
 use Rattle.std.proofs.lemmas.List.{get_or-set_other}
-use Rattle.sqlite_trees.proofs.ListLemmas.{all-filter}
 use Rattle.sqlite.specs.Effect.{Database}
 use Rattle.exam_model.specs.Enrolments.{Enrolled}
 use Rattle.exam_model.specs.Fits.{Fits}
@@ -158,20 +157,14 @@ module _ (t : Tables) (r : Records) (T new : Placing) (row : DraftRow) (exams : 
           batches = h.batches;
         })
 
-  edit_sound : parts_of row ≡ track r.session r.enrolments new → row.night ≡ 0
-      → IsSound t (Some r)
+  edit_sound : parts_of row ≡ track r.session r.enrolments new → IsSound t (Some r)
       → IsSound (edit_put row new exams t) (Some after)
-  edit_sound scored none sound =
+  edit_sound scored sound =
       subst (λ u. IsSound u (Some after)) (sym only) (record {
         scored = (
           own,
           each_left (λ (x : DraftRow). x.no) row.no
               (IsScoredRow r) (IsScoredRow after) other t.draft sound.scored,
-        );
-        none_over_night = (
-          none,
-          all-filter (λ (x : DraftRow). x.night ≡ 0)
-              (λ (x : DraftRow). not (eqb x.no row.no)) t.draft sound.none_over_night,
         );
         shared = sound.shared;
       })
@@ -190,12 +183,11 @@ module _ (t : Tables) (r : Records) (T new : Placing) (row : DraftRow) (exams : 
 -- the database stands for the office with the edited draft
 pub edit_kept : (a b : Database) (r : Records) (T new : Placing) (row : DraftRow) (change : Edit)
     → r.draft row.no ≡ Some T → edited r.session r.enrolments T change ≡ Ok new
-    → parts_of row ≡ track r.session r.enrolments new → row.night ≡ 0
-    → Fits r.session r.enrolments new
+    → parts_of row ≡ track r.session r.enrolments new → Fits r.session r.enrolments new
     → IsKept a (Some r)
     → ((t : Tables) → Stands a t → Stands b (edit_put row new (edited_exams change) t))
     → IsKept b (Some (record r { draft = set_at row.no (Some new) r.draft }))
-edit_kept a b r T new row change there made scored none fits kept makes =
+edit_kept a b r T new row change there made scored fits kept makes =
     let before = kept.office.drafts row.no T there in
     let long : length T ≡ length new = before.timetable ∙ sym fits.timetable in
     let all : Touches (edited_exams change) T new (length T)
@@ -207,6 +199,6 @@ edit_kept a b r T new row change there made scored none fits kept makes =
       tables = makes kept.held kept.tables;
       stands = edit_stands kept.held r T new row (edited_exams change) kept.stands there long all;
       sound = edit_sound kept.held r T new row (edited_exams change) kept.stands there scored
-          none kept.sound;
+          kept.sound;
       office = made_records r row.no new number.0 number.1 fits kept.office;
     }

@@ -16,7 +16,7 @@ use Rattle.office_tables.specs.declared.draft.InsertDraft.{InsertDraft}
 use Rattle.office_tables.specs.declared.slot.SlotRow.{SlotRow}
 use Rattle.office_model.specs.Office.{AreRecords, Records}
 use Rattle.office_records.specs.Found.{AreDrafts}
-use Rattle.office_records.specs.Stands.{NoneOverNight, IsKept, parts_of}
+use Rattle.office_records.specs.Stands.{IsKept, parts_of}
 use Rattle.office_records.specs.TableRows.{drafts_at, once}
 use Rattle.office_store.specs.Memory.{AreDraftRows, draft_at, scored_by}
 use Rattle.office_store.specs.declared.memory.Draft.{Draft}
@@ -123,14 +123,12 @@ pub record AreFirstRows (drafts : List (Option Draft)) (n : ℕ) (rows : List Dr
       → map (λ (row : DraftRow). row.no) (drafts_at d rows) ≡ once (is_some (draft_at drafts d)) d
   pub beyond : (d : ℕ) → n ≤ d → drafts_at d rows ≡ []
   pub scored : AllByRecursion (IsPricedBy drafts) rows
-  pub none_over_night : NoneOverNight rows
 
 pub no_rows : (drafts : List (Option Draft)) → AreFirstRows drafts 0 []
 no_rows drafts = record {
   below = λ d low. absurd (omega (arith, low));
   beyond = λ d _. refl;
   scored = tt;
-  none_over_night = tt;
 }
 
 -- a number without a draft
@@ -140,7 +138,6 @@ none_more drafts n rows are none = record {
   below = λ d low. go d (eqb d n) refl low;
   beyond = λ d high. are.beyond d (omega (arith, high));
   scored = are.scored;
-  none_over_night = are.none_over_night;
 }
   where
     go : (d : ℕ) (b : Bool) → eqb d n ≡ b → d < n + 1
@@ -155,16 +152,13 @@ none_more drafts n rows are none = record {
 -- a draft's row
 pub row_more : (drafts : List (Option Draft)) (n : ℕ) (rows : List DraftRow) (draft : Draft)
     (row : DraftRow) → AreFirstRows drafts n rows → draft_at drafts n ≡ Some draft → row.no ≡ n
-    → parts_of row ≡ draft.parts → row.night ≡ 0
-    → AreFirstRows drafts (n + 1) (rows ++ row ∷ [])
-row_more drafts n rows draft row are some number parts none = record {
+    → parts_of row ≡ draft.parts → AreFirstRows drafts (n + 1) (rows ++ row ∷ [])
+row_more drafts n rows draft row are some number parts = record {
   below = λ d low. go d (eqb d n) refl low;
   beyond = λ d high. at_end d ∙ ap (λ l. l ++ cond (eqb row.no d) (row ∷ []) []) (are.beyond d
       (omega (arith, high)))
       ∙ not_here d (grind (arith, nat_tests, high, number));
   scored = all-append (IsPricedBy drafts) rows (row ∷ []) are.scored (priced, tt);
-  none_over_night = all-append (λ (r : DraftRow). r.night ≡ 0) rows (row ∷ []) are.none_over_night
-      (none, tt);
 }
   where
     at_end : (d : ℕ) → drafts_at d (rows ++ row ∷ [])
@@ -206,7 +200,6 @@ pub all_rows : (drafts : List (Option Draft)) (n : ℕ) (rows : List DraftRow)
 all_rows drafts n rows are none = record {
   numbers = λ d. go d (ltb d n) refl;
   scored = are.scored;
-  none_over_night = are.none_over_night;
 }
   where
     go : (d : ℕ) (b : Bool) → ltb d n ≡ b
@@ -228,7 +221,7 @@ module _ (drafts : List (Option Draft)) (n : ℕ) (old new : List InsertDraft)
 
   pub more_rows : (x : Option Draft) → draft_at drafts n ≡ x → (x ≡ None → new ≡ old)
       → ((y : Draft) → x ≡ Some y → (row : DraftRow) × (new ≡ old ++ (record { row = row } ∷ []))
-      × (row.no ≡ n) × (parts_of row ≡ y.parts) × (row.night ≡ 0) × AreAmounts row)
+      × (row.no ≡ n) × (parts_of row ≡ y.parts) × AreAmounts row)
       → AreMore
   more_rows None at same adds =
       let is = same refl in
@@ -246,8 +239,8 @@ module _ (drafts : List (Option Draft)) (n : ℕ) (old new : List InsertDraft)
             (sym added.1)
             (subst (AreFirstRows drafts (n + 1)) (sym rows)
             (row_more drafts n (map (λ (it : InsertDraft). it.row) old) y added.0 are at added.2
-            added.3 added.4));
+            added.3));
         amounts = subst (AllByRecursion (λ (it : InsertDraft). AreAmounts it.row)) (sym added.1)
             (all-append (λ (it : InsertDraft). AreAmounts it.row) old (one ∷ []) small
-            (added.5, tt));
+            (added.4, tt));
       }

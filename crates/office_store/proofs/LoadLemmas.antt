@@ -99,7 +99,6 @@ module _ (I : Session) (E : Enrolled) (text : List ℕ) (rows : List EnrolRow)
     stands = session_stands;
     sound = record {
       scored = tt;
-      none_over_night = tt;
       shared = record { of_students = IsPermutation-refl []; of_parts = IsPermutation-refl [] };
     };
     office = fresh_records I E is are;

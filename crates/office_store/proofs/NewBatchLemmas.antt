@@ -131,7 +131,6 @@ rows_anew db r m F made rows kept is exams scored are = record {
         (λ row priced T there. priced (scored_by r.session F T) (at row.no T there))
         rows are.scored;
   };
-  none_over_night = are.none_over_night;
 }
   where
     made_at : (d : ℕ) → draft_at made d ≡ option_map (scored_by r.session F) (r.draft d)

@@ -36,7 +36,7 @@ before_load db there bare (inr held) =
 
 -- the tables of version 2 are those of one of the two
 pub kept_holds : (db : Database) (there : OfficeState) → IsKept db there → HoldsOffice db there
-kept_holds db there kept = (Two, kept)
+kept_holds db there kept = (Two, kept, tt)
 
 -- with tables, they represent it
 pub holds : (db : Database) (there : OfficeState) → (db.schema ≡ no_schema → ⊥)

@@ -109,10 +109,8 @@ owner_sound : (t : Tables) (r : Records) (e d : ℕ) (b : Bool) → IsSound t (S
     → IsSound (cond b (without_owner e t)
     (with_owner (record { exam = e; dept = d }) (without_owner e t)))
     (Some (record r { owner_of = set_at e d r.owner_of }))
-owner_sound t r e d true h =
-    record { scored = h.scored; none_over_night = h.none_over_night; shared = h.shared }
-owner_sound t r e d false h =
-    record { scored = h.scored; none_over_night = h.none_over_night; shared = h.shared }
+owner_sound t r e d true h = record { scored = h.scored; shared = h.shared }
+owner_sound t r e d false h = record { scored = h.scored; shared = h.shared }
 
 -- the database stands for the office with that owner
 pub owner_kept : (a b : Database) (r : Records) (e d : ℕ) → IsKept a (Some r)

@@ -275,7 +275,6 @@ module _ (r : Records) (T : Placing) (is : AreRecords r) (fits : Fits r.session 
         → IsSound (publication_put new t) (Some (record r { published = Some new_one }))
     published_sound h = record {
       scored = h.scored;
-      none_over_night = h.none_over_night;
       shared = record {
         of_students = share_in h.shared.of_students;
         of_parts = put_in _ (part_share_rows r.session (Some new_one))

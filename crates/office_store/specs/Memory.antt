@@ -11,7 +11,7 @@ use Rattle.office_tables.specs.declared.slot.SlotRow.{SlotRow}
 use Rattle.office_model.specs.Office.{OfficeState, Records}
 use Rattle.office_records.specs.Found.{AreDrafts}
 use Rattle.office_records.specs.Memory.{AreTogether, memory_of}
-use Rattle.office_records.specs.Stands.{NoneOverNight, parts_of}
+use Rattle.office_records.specs.Stands.{parts_of}
 use Rattle.office_records.specs.TableRows.{drafts_at, once}
 use Rattle.office_store.specs.declared.memory.Draft.{Draft}
 use Rattle.office_store.specs.declared.memory.OfficeMemory.{OfficeMemory}
@@ -87,7 +87,6 @@ pub record AreDraftRows (drafts : List (Option Draft)) (rows : List DraftRow) : 
       ≡ once (is_some (draft_at drafts d)) d
   pub scored : AllByRecursion (λ row. (draft : Draft) → draft_at drafts row.no ≡ Some draft
       → parts_of row ≡ draft.parts) rows
-  pub none_over_night : NoneOverNight rows
 
 -- the draft of a number, if these are the rows of drafts
 abbrev pub IsDraftOf : Session → ℕ → List DraftRow → List SlotRow → Option Draft → Type 0

@@ -19,7 +19,6 @@ use Rattle.office_model.specs.declared.fault.StoreFault.{StoreFault}
 use Rattle.office_model.specs.declared.fault.StoreFault.TheVariants.{BatchDiffers}
 use Rattle.office_records.specs.BatchRows.{batch_put}
 use Rattle.office_records.specs.Found.{AreDrafts}
-use Rattle.office_records.specs.Stands.{NoneOverNight}
 use Rattle.office_records.specs.TableRows.{enrol_row, stored_batch}
 use Rattle.office_store.specs.Running.{IsFault}
 use Rattle.office_store.specs.declared.new_batch.NewBatch.{NewBatch}
@@ -35,11 +34,10 @@ line_put change t =
 abbrev pub put_line : Change → PutLine
 put_line change = record { change = change }
 
--- these rows are an office's drafts with other enrolments, and nothing is over night
+-- these rows are an office's drafts with other enrolments
 pub record AreAnew (r : Records) (E : Enrolled) (drafts : List DraftRow) : Type 0 where
   pub slots : List SlotRow
   pub are : AreDrafts r.session E drafts slots r.draft
-  pub none_over_night : NoneOverNight drafts
 
 -- what these lines make of an office's enrolments, with the lines that act and, where there are any,
 -- the rows of all drafts with the enrolments after them; there is room for one batch more

@@ -1,5 +1,5 @@
 -- The office that a database represents when it is opened.
-use Rattle.std.specs.Prelude.{◌≡◌, ◌⊎◌, List, None, map}
+use Rattle.std.specs.Prelude.{◌≡◌, ◌⊎◌, List, None, Some, map}
 use Rattle.sqlite.specs.Effect.{Database}
 use Rattle.office_tables.specs.Adopting.{tables_of}
 use Rattle.office_tables.specs.Batch.{counts_of}
@@ -8,14 +8,23 @@ use Rattle.office_tables.specs.Standing.{StandsIn}
 use Rattle.office_tables.specs.Tables.{Batch}
 use Rattle.office_tables.specs.declared.found.Found.{Found}
 use Rattle.office_tables.specs.declared.version.Version.{Version}
+use Rattle.office_tables.specs.declared.version.Version.TheVariants.{One, Two}
 use Rattle.office_model.specs.Office.{OfficeState}
+use Rattle.office_records.specs.Memory.{Memory, memory_of}
 use Rattle.office_records.specs.Stands.{IsKept, IsKeptIn}
 use Rattle.office_store.specs.Memory.{IsMemoryOf}
 use Rattle.office_store.specs.declared.memory.OfficeMemory.{OfficeMemory}
 
+-- in version 1 there is no weight on what is over night
+abbrev pub WeighsNoNight : Version → Memory → Type 0
+WeighsNoNight One (Some (I, E)) = I.weights.night ≡ 0
+WeighsNoNight One None = Unit {0}
+WeighsNoNight Two memory = Unit {0}
+
 -- the database represents this office in one of the two versions, and is sound
 abbrev pub HoldsOffice : Database → OfficeState → Type 0
-HoldsOffice db office = (version : Version) × IsKeptIn version db office
+HoldsOffice db office =
+    (version : Version) × IsKeptIn version db office × WeighsNoNight version (memory_of office)
 
 -- the database represents this office; one with no table represents the office before its load
 abbrev pub IsOfficeOf : Database → OfficeState → Type 0
@@ -29,6 +38,7 @@ pub record IsFoundOffice (db : Database) (found : Found) (memory : OfficeMemory)
   pub tables : StandsIn found.version db (tables_of found batches)
   pub office : OfficeState
   pub kept : IsKeptIn found.version db office
+  pub weighs : WeighsNoNight found.version (memory_of office)
   pub in_memory : IsMemoryOf office memory
 
 -- a database represented an office, and the other represents it in version 2

@@ -29,11 +29,16 @@ place_in_row row = (row.exam, record { period = row.period; room = row.room })
 
 -- what a row says of a share
 abbrev pub share_in_row : StudentShareRow → PersonalPenalty
-share_in_row row = record { row = row.in_row; day = row.in_day; spread = row.spread }
+share_in_row row = record {
+  row = row.in_row;
+  day = row.in_day;
+  spread = row.spread;
+  night = row.night;
+}
 
 -- nothing, where she has no row of a share
 abbrev pub no_share : PersonalPenalty
-no_share = record { row = 0; day = 0; spread = 0 }
+no_share = record { row = 0; day = 0; spread = 0; night = 0 }
 
 -- her enrolments and the published places of these exams, and her seats
 pub record AreHerRows (office : OfficeState) (c : ℕ) (enrols : List EnrolRow)

@@ -12,7 +12,7 @@ ghost use Rattle.office_model.specs.Office.{OfficeState};
 ghost use Rattle.office_store.specs.Faults.{IsOfDatabase};
 ghost use Rattle.office_store.specs.Leaving.{Leaves, MayMigrate, connection_of, found_in};
 ghost use Rattle.office_store.specs.Memory.{IsTogether};
-ghost use Rattle.office_store.specs.Opening.{HoldsOffice, IsFoundOffice, IsTakenOver};
+ghost use Rattle.office_store.specs.Opening.{HoldsOffice, IsFoundOffice, IsTakenOver, WeighsNoNight};
 ghost use Rattle.office_store.specs.Running.{IsAwake};
 
 use crate::fault::Failed;
@@ -21,6 +21,7 @@ use crate::kept_bytes::check_bytes;
 use crate::memory::OfficeMemory;
 use crate::office::Office;
 use crate::transactions::migrate_tables;
+use exam_model::{Enrolments, Instance};
 use office_model::StoreFault;
 use office_records::kept_of;
 use office_tables::{Found, Version, adopt_tables};
@@ -101,6 +102,7 @@ fn kept_in<S: Alter>(
         Err(_) => return Err(StoreFault::Store),
     };
     let kept = kept_of(alloc, &found)?;
+    check_weight(found.version, &kept)?;
     check_bytes(alloc, conn, &found.batches)?;
     let drafts = drafts_found(alloc, &kept, &found)?;
     let memory = OfficeMemory {
@@ -109,6 +111,20 @@ fn kept_in<S: Alter>(
         drafts,
     };
     Ok((found, memory))
+}
+
+// Whether no weight is on what is over night, if the tables are of version 1. `BadSchema`: one is.
+fn check_weight(version: Version, kept: &Option<(Instance, Enrolments)>) -> Result<(), StoreFault>
+    ensures are { OnOk result (WeighsNoNight version kept.now) }
+    ensures none { OnErr result (WeighsNoNight version kept.now → ⊥) }
+    ensures fault { IfErr result (λ e. e ≡ StoreFault.BadSchema) }
+{
+    match (version, kept) {
+        (Version::One, Some((instance, _))) if instance.weights().night > 0 => {
+            Err(StoreFault::BadSchema)
+        }
+        _ => Ok(()),
+    }
 }
 
 // Makes version 2 of the tables that were found, if they are of version 1.

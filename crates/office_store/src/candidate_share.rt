@@ -27,8 +27,8 @@ fn share_in(rows: &[StudentShareRow]) -> Option<PersonalParts>
         → personal_total (share_in_row row) < 2 ^ 62 → result ≡ Some (share_in_row row) }
 {
     match rows {
-        [] => PersonalParts::new(0, 0, 0),
-        [row] => PersonalParts::new(row.in_row, row.in_day, row.spread),
+        [] => PersonalParts::new(0, 0, 0, 0),
+        [row] => PersonalParts::new(row.in_row, row.in_day, row.spread, row.night),
         _ => None,
     }
 }

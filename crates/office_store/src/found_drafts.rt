@@ -98,6 +98,6 @@ fn parts_in(row: &DraftRow) -> Option<Parts>
     ensures none { IfNone result (2 ^ 62 ≤ total_of (parts_of row.now)) }
 {
     Parts::new(
-        row.in_row, row.in_day, row.spread, row.mixed, row.front, row.period, row.room,
+        row.in_row, row.in_day, row.spread, row.night, row.mixed, row.front, row.period, row.room,
     )
 }

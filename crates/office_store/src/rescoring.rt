@@ -73,7 +73,7 @@ fn add_row(
     ensures none { draft.now ≡ None → OnOk result (rows.new.items ≡ rows.old.items) }
     ensures some { (x : Draft) → draft.now ≡ Some x → OnOk result ((row : DraftRow)
         × (rows.new.items ≡ rows.old.items ++ (record { row = row } ∷ [])) × (row.no ≡ number)
-        × (parts_of row ≡ x.parts) × (row.night ≡ 0) × AreAmounts row) }
+        × (parts_of row ≡ x.parts) × AreAmounts row) }
 {
     let Some(draft) = draft else {
         return Ok(());

@@ -10,11 +10,12 @@ use Rattle.office_records.specs.declared.fault.RecordFault.TheVariants.{NoMemory
 use Rattle.office_records.proofs.ReadableLemmas.{not_foreign_in}
 use Rattle.office_records.specs.Faults.{store_fault}
 use Rattle.office_store.specs.Faults.{IsOfDatabase}
+use Rattle.office_store.specs.Opening.{WeighsNoNight}
 use Rattle.office_model.specs.declared.fault.StoreFault.{StoreFault}
 use Rattle.office_model.specs.declared.fault.StoreFault.TheVariants.{BadSchema}
 use Rattle.office_store.proofs.AdoptLemmas.{both_same, found_batches, held_still, keeps_still}
 use Rattle.office_store.proofs.AdoptLemmas.{open_still}
-use Rattle.office_store.proofs.AdoptLemmas.{none_long, none_refused}
+use Rattle.office_store.proofs.AdoptLemmas.{none_long, none_refused, none_weighed}
 use Rattle.office_store.proofs.FoundDraftLemmas.{told}
 use Rattle.office_store.proofs.LeavingLemmas.{survives_on}
 use Rattle.office_store.proofs.AllDraftLemmas.{drafts_stand, found_drafts, found_together}
@@ -39,6 +40,19 @@ returns-in_err-kept-clause-none g c clean =
     c.from_residual.ensures.1
     (λ bad o there. none_refused db found adopted.0 adopted.1 adopted.2 o there
     (c.in_err-kept.ensures.none bad adopted.0 adopted.1))
+
+-- nor is a weight on what is over night, in version 1
+pub returns-in_err-check_weight-clause-none : goal.returns-in_err-check_weight-clause-none
+returns-in_err-check_weight-clause-none g c clean =
+    let db = (state g.S.Store c.args.conn.now).now in
+    let found = c.in-Ok-Some.found in
+    let some : c.in-Ok-Some.field-0 ≡ Some found = search rules in
+    let adopted = subst (IsAdopted db) some (c.in-Ok-Some.ensures.found clean) in
+    let is : c.from_residual-in_err-check_weight.result ≡ Err c.in_err-check_weight.field-0.0
+    = search rules in
+    rw is (λ bad o there. c.in_err-check_weight.ensures.none
+    (none_weighed db found adopted.0 adopted.1 adopted.2 o there c.in_ok-kept.kept
+    (c.in_ok-kept.ensures.are adopted.0)))
 
 -- a batch that is too long is no office's
 pub returns-in_err-check_bytes-clause-none : goal.returns-in_err-check_bytes-clause-none
@@ -149,6 +163,7 @@ returns-clause-kept g c clean =
         sound = are.2;
         office = are.3;
       };
+      weighs = subst (WeighsNoNight found.version) (sym are.4) c.in_ok-check_weight.ensures.are;
       in_memory = record {
         session = are.4;
         batches = sym (counted t are.0 are.1) ∙ sym (length-map adopted.0 counts_of)

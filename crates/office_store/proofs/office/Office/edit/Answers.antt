@@ -157,8 +157,7 @@ returns-clause-runs g c =
     edit_moves (state g.S.Store inside).now (state g.S.Store after).now c.self.inside.memory d
     c.args.edit draft row c.total.result places
     (λ o here is. c.in_ok-new.ensures.edits (c.put.ensures.clean k) awake o here is)
-    c.draft_row.ensures.number c.draft_row.ensures.parts
-    c.draft_row.ensures.night c.total.ensures.total
+    c.draft_row.ensures.number c.draft_row.ensures.parts c.total.ensures.total
     (c.deref.ensures.value ∙ c.in_ok-new.ensures.places)
     (made_on g.S.Store inside mid (state g.S.Store after).now c.in_ok-new.ensures.same
     (c.put.ensures.clean k) awake.0 make (c.in_ok-put.ensures.done k).makes))
@@ -187,8 +186,7 @@ invariant_of-self-2 g c =
           edit_moves (state g.S.Store inside).now (state g.S.Store after).now
           c.self.inside.memory d c.args.edit draft row c.total.result places
           (λ o here is. c.in_ok-new.ensures.edits (c.put.ensures.clean k) awake o here is)
-          c.draft_row.ensures.number c.draft_row.ensures.parts
-          c.draft_row.ensures.night c.total.ensures.total
+          c.draft_row.ensures.number c.draft_row.ensures.parts c.total.ensures.total
           (c.deref.ensures.value ∙ c.in_ok-new.ensures.places)
           (made_on g.S.Store inside mid (state g.S.Store after).now c.in_ok-new.ensures.same
           (c.put.ensures.clean k) awake.0 make (c.in_ok-put.ensures.done k).makes))
@@ -241,8 +239,7 @@ returns-in_err-put-clause-leaves g c = record {
       edit_moves (state g.S.Store inside).now _ c.self.inside.memory d c.args.edit draft row
       (total_of draft.parts) places
       (λ o here is. c.in_ok-new.ensures.edits (c.put.ensures.clean k) awake o here is)
-      c.draft_row.ensures.number c.draft_row.ensures.parts
-      c.draft_row.ensures.night refl (c.deref.ensures.value
+      c.draft_row.ensures.number c.draft_row.ensures.parts refl (c.deref.ensures.value
       ∙ c.in_ok-new.ensures.places) changed)
       c.from_residual-in_err-put.result (is_failed _ c.from_residual-in_err-put.ensures.1);
 }
@@ -272,8 +269,7 @@ returns-clause-leaves g c = record {
       edit_moves (state g.S.Store inside).now _ c.self.inside.memory d c.args.edit draft row
       (total_of draft.parts) places
       (λ o here is. c.in_ok-new.ensures.edits (c.put.ensures.clean k) awake o here is)
-      c.draft_row.ensures.number c.draft_row.ensures.parts
-      c.draft_row.ensures.night refl (c.deref.ensures.value
+      c.draft_row.ensures.number c.draft_row.ensures.parts refl (c.deref.ensures.value
       ∙ c.in_ok-new.ensures.places) changed)
       (Ok c.total.result) tt;
 }

@@ -60,7 +60,7 @@ invariant_of-self-2 g c = (
       c.if-not-is_draft_number.ensures c.if-has_draft.ensures c.in_ok-begun.begun
       c.in_ok-begun.slots.items c.deref.result.now c.deref.ensures.value c.in_ok-begun.ensures.ok
       c.total.result c.total.ensures.total _ c.draft_row.result c.draft_row.ensures.number
-      c.draft_row.ensures.parts c.draft_row.ensures.night (c.in_ok-put.ensures.done k).makes)
+      c.draft_row.ensures.parts (c.in_ok-put.ensures.done k).makes)
       (λ k. made_remembers c.args.number _ c.self.inside.memory c.args.text.now c.in-Some.instance
       c.in-Some.enrolments c.in-Some.is
       c.if-not-is_draft_number.ensures c.if-has_draft.ensures c.in_ok-begun.begun
@@ -84,7 +84,7 @@ returns-clause-runs g c =
     c.if-not-is_draft_number.ensures c.if-has_draft.ensures c.in_ok-begun.begun
     c.in_ok-begun.slots.items c.deref.result.now c.deref.ensures.value c.in_ok-begun.ensures.ok
     c.total.result c.total.ensures.total _ c.draft_row.result c.draft_row.ensures.number
-    c.draft_row.ensures.parts c.draft_row.ensures.night (c.in_ok-put.ensures.done k).makes)
+    c.draft_row.ensures.parts (c.in_ok-put.ensures.done k).makes)
 
 pub returns-in_err-look-clause-leaves : goal.returns-in_err-look-clause-leaves
 returns-in_err-look-clause-leaves g c = record {
@@ -134,7 +134,7 @@ returns-in_err-put-clause-leaves g c = record {
       c.if-not-is_draft_number.ensures c.if-has_draft.ensures c.in_ok-begun.begun
       c.in_ok-begun.slots.items c.deref.result.now c.deref.ensures.value c.in_ok-begun.ensures.ok
       (total_of c.in_ok-begun.begun.parts) refl _ c.draft_row.result c.draft_row.ensures.number
-      c.draft_row.ensures.parts c.draft_row.ensures.night changed)
+      c.draft_row.ensures.parts changed)
       c.from_residual-in_err-put.result (is_failed _ c.from_residual-in_err-put.ensures.1);
 }
 
@@ -150,6 +150,6 @@ returns-clause-leaves g c = record {
       c.if-not-is_draft_number.ensures c.if-has_draft.ensures c.in_ok-begun.begun
       c.in_ok-begun.slots.items c.deref.result.now c.deref.ensures.value c.in_ok-begun.ensures.ok
       (total_of c.in_ok-begun.begun.parts) refl _ c.draft_row.result c.draft_row.ensures.number
-      c.draft_row.ensures.parts c.draft_row.ensures.night changed)
+      c.draft_row.ensures.parts changed)
       (Ok c.total.result) tt;
 }
