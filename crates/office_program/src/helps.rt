@@ -33,7 +33,7 @@ pub(crate) const CHECK_ALL: &str = "\
 Example:
   examoffice check-all term.exam one.sol two.sol
 
-A line for each solution: its breaches, its penalty, the seven parts in the
+A line for each solution: its breaches, its penalty, the eight parts in the
 order in which check prints them, and its path. With --json the same numbers
 have names. A solution with a fault has a line on standard error instead.
 
