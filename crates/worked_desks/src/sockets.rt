@@ -1,4 +1,4 @@
-// A published office, which a candidate asks over a socket of this machine.
+// A published office, and a candidate who requests it over a socket of this machine.
 use crate::connections::{carry_out, new_desk};
 use office_http::{End, Served, serve};
 use std::io::{Read, Write};

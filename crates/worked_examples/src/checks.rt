@@ -13,7 +13,7 @@ const SMALL_EXAM: &str = "[Exams:4]\n120, 1, 2\n90, 2, 3\n120, 3\n60, 1\n\
 
 const SMALL_SOLUTION: &str = "0, 0\n1, 0\n3, 1\n2, 0\n";
 
-// Is interrupted so many times, and then gives its bytes, or fails if it has none.
+// Is interrupted this many times, and then returns its bytes, or fails if it has none.
 #[derive(Drop)]
 struct Device<'a> {
     interrupted: u32,
@@ -46,11 +46,11 @@ impl Write for Device<'_> {
 // How many reads a reader has.
 const READS: u32 = 5_000_000;
 
-// The last reads give a text and show its end; a text whose end no read shows is not read.
+// The last reads return a text and its end; a text without an end within the reads is not read.
 #[test]
 fn a_failed_device_is_named(rt: HostRuntime) {
     let (exam, solution) = (Some(SMALL_EXAM.as_bytes()), Some(SMALL_SOLUTION.as_bytes()));
-    // the interruptions and the bytes of the instance and of the solution, and the answer
+    // the interruptions and the bytes of the instance and of the solution, and the result
     let cases = [
         (0, None, u32::MAX, None, Err(CheckFault::ReadInstance)),
         (u32::MAX, None, 0, None, Err(CheckFault::ReadInstance)),
@@ -97,7 +97,7 @@ fn an_interrupted_read_is_tried_again(rt: HostRuntime) -> Result<(), Fail> {
         let found = solution_text(rt.alloc(), &mut once());
         assert_same(&rt, found.as_ref().map(Vec::as_slice), Ok(text), "solution");
     }
-    // of 4,194,305 bytes each read gives 16,384 and the last one 1
+    // of 4,194,305 bytes each read returns 16,384 and the last one 1
     let long = vec![in rt.alloc(); b' '; 4_194_305]?;
     let too_long = InputFault::File(FileFault {
         line: 0,

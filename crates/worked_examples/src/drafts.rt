@@ -13,7 +13,8 @@ fn broken(rule: BreachRule, exam: u32, other: u32) -> EditFault {
     })
 }
 
-// Exam 2 costs its room; so does exam 0 in the place of exam 2, and in the same room alone.
+// Exam 2 costs its room; so does exam 0 in the place of exam 2, and in the same room in another
+// period.
 #[test]
 fn a_draft_is_edited(rt: HostRuntime) -> Result<(), Fail> {
     let alloc = rt.alloc();

@@ -1,4 +1,4 @@
-// Who sits which exam.
+// Students and their exams.
 use crate::given::{assert_same, student};
 use exam_model::{Enrolments, ExamNo, ModelFault};
 use std::alloc::Global;

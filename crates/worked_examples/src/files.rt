@@ -1,4 +1,4 @@
-// Files that are read and written, and the fields of a text.
+// Files read and written, and the fields of a text.
 use crate::given::{ONE_ROOM, assert_same, placed};
 use exam_terms::{are_digits, trim_end, trim_start, trimmed};
 use office_files::{
@@ -8,7 +8,7 @@ use office_files::{
 use std::alloc::{AllocError, Global};
 use std::test::Fail;
 
-// The small instance, as it is written.
+// The small instance, as written.
 const SMALL: &str = "[Exams:4]\r\n120, 1, 2\r\n90, 2, 3\r\n120, 3\r\n60, 1\r\n\
     [Periods:4]\r\n15:04:2005, 09:30:00, 120, 0\r\n15:04:2005, 14:00:00, 120, 0\r\n\
     15:04:2005, 17:00:00, 90, 10\r\n18:04:2005, 09:30:00, 120, 5\r\n[Rooms:2]\r\n3, 0\r\n\
@@ -30,6 +30,69 @@ fn crlf_and_canonical_text(rt: HostRuntime) -> Result<(), Fail> {
     Ok(())
 }
 
+// The small instance with more lines at its end.
+fn longer(alloc: Global, more: &str) -> Result<String, AllocError> {
+    let mut text = String::new(alloc);
+    text.push_str(SMALL)?;
+    text.push_str(more)?;
+    Ok(text)
+}
+
+// Returns a text with more lines of weights, read and written.
+fn rewritten(alloc: Global, text: &str) -> Result<Vec<u8>, FileFault> {
+    let (instance, enrolments) = read_instance(alloc, text.as_bytes())?;
+    write_instance(alloc, &instance, &enrolments)
+}
+
+#[test]
+fn a_sixth_weighting_is_of_nights(rt: HostRuntime) -> Result<(), Fail> {
+    // more lines of weights, and the lines written for them
+    let cases = [
+        ("OVERNIGHT,6\r\n", "OVERNIGHT,6\r\n"),
+        ("overnight , 6", "OVERNIGHT,6\r\n"),
+        ("OVERNIGHT,100000\n", "OVERNIGHT,100000\r\n"),
+        ("OVERNIGHT,0\n", ""),
+        ("", ""),
+    ];
+    for (lines, wanted) in cases {
+        let found = rewritten(rt.alloc(), longer(rt.alloc(), lines)?.as_str());
+        let wanted = longer(rt.alloc(), wanted)?;
+        assert_same(
+            &rt,
+            found.as_ref().map(Vec::as_slice),
+            Ok(wanted.as_bytes()),
+            lines,
+        );
+    }
+    // as the first of the weightings
+    let first = SMALL.replace(rt.alloc(), "TWOINAROW", "OVERNIGHT,6\nTWOINAROW")?;
+    let found = rewritten(rt.alloc(), first.as_str());
+    let wanted = longer(rt.alloc(), "OVERNIGHT,6\r\n")?;
+    assert_same(
+        &rt,
+        found.as_ref().map(Vec::as_slice),
+        Ok(wanted.as_bytes()),
+        "first",
+    );
+    Ok(())
+}
+
+#[test]
+fn a_faulty_weighting_of_nights_is_refused(rt: HostRuntime) -> Result<(), Fail> {
+    let cases = [
+        ("OVERNIGHT,6\r\nOVERNIGHT,6\r\n", 24, FaultKind::Repeated),
+        ("OVERNIGHT,100001\r\n", 23, FaultKind::OutOfRange),
+        ("OVERNIGHT\r\n", 23, FaultKind::BadNumber),
+        ("OVERNIGHT,6,7\r\n", 23, FaultKind::StrayText),
+        ("OVERNIGHTS,6\r\n", 23, FaultKind::BadWord),
+    ];
+    for (lines, line, what) in cases {
+        let found = rewritten(rt.alloc(), longer(rt.alloc(), lines)?.as_str()).err();
+        assert_same(&rt, found, Some(FileFault { line, what }), lines);
+    }
+    Ok(())
+}
+
 #[test]
 fn a_partial_timetable_is_not_written(rt: HostRuntime) -> Result<(), Fail> {
     let partial = placed(rt.alloc(), &[ONE_ROOM[0], None, ONE_ROOM[2], ONE_ROOM[3]])?;
@@ -42,7 +105,7 @@ fn a_partial_timetable_is_not_written(rt: HostRuntime) -> Result<(), Fail> {
     Ok(())
 }
 
-// The fields with their lines, as `LINE:FIELD;`.
+// Returns the fields with their lines, as `LINE:FIELD;`.
 fn shown(alloc: Global, source: &[u8]) -> Result<Vec<u8>, AllocError> {
     let mut shown: Vec<u8> = Vec::new(alloc);
     if source.len() > 4_194_304 {
@@ -77,7 +140,7 @@ fn fields_without_blanks(rt: HostRuntime) -> Result<(), Fail> {
 
 #[test]
 fn only_out_of_memory_is_of_no_line(rt: HostRuntime) {
-    // what is wrong on line 3, and the line of the fault
+    // the fault on line 3, and its line
     for (what, line) in [(FaultKind::BadWord, 3), (FaultKind::NoMemory, 0)] {
         let wanted = FileFault { line, what };
         assert_same(&rt, FileFault::at(3, what), wanted, what);
@@ -86,7 +149,7 @@ fn only_out_of_memory_is_of_no_line(rt: HostRuntime) {
 
 #[test]
 fn blanks_are_spaces_and_tabs(rt: HostRuntime) {
-    // a text, and what is left of it without the blanks at its start, at its end, at both
+    // a text, and the rest without the blanks at its start, at its end, at both
     let cases = [
         (
             b" \ta b\t ".as_slice(),
@@ -108,7 +171,7 @@ fn blanks_are_spaces_and_tabs(rt: HostRuntime) {
 
 #[test]
 fn a_number_is_digits_within_a_limit(rt: HostRuntime) {
-    // a text, whether it has digits alone, and the number of at most 1,440 that it says
+    // a text, whether it has only digits, and its number if that is at most 1,440
     let cases = [
         (b"0".as_slice(), true, Ok(0)),
         (b"0001440", true, Ok(1_440)),

@@ -1,4 +1,4 @@
-// What the examples share: numbers, and a small session with its students and timetables.
+// The common parts of the examples: numbers, and a small session with its students and timetables.
 ghost use Rattle.std.specs.Prelude.{◌↔◌, IsTrue};
 ghost use Rattle.exam_model.specs.Fits.{Fits, PlaceExists};
 
@@ -12,7 +12,7 @@ use std::fmt::Debug;
 use std::process::Abort;
 use std::test::Fail;
 
-/// Ends the test where the two differ, and says in which case.
+/// Ends the test if the two differ, and says in which case.
 pub(crate) fn assert_same<T: PartialEq + Debug + Drop, C: Debug + Drop>(
     rt: &impl Abort,
     found: T,
@@ -22,7 +22,7 @@ pub(crate) fn assert_same<T: PartialEq + Debug + Drop, C: Debug + Drop>(
     assert_eq!(rt; found, wanted, "{case:?}");
 }
 
-/// Where four exams stand, by period and room.
+/// The places of four exams, by period and room.
 pub(crate) type Places = [Option<(u32, u32)>; 4];
 
 /// Each student and exam of the small session.
@@ -42,6 +42,7 @@ pub(crate) const WEIGHTS: Weights = Weights {
     front_exams: 1,
     front_periods: 2,
     front: 4,
+    night: 0,
 };
 
 pub(crate) fn student(number: u32) -> Result<StudentNo, &'static str> {
@@ -74,35 +75,53 @@ pub(crate) fn place(period: u32, room: u32) -> Place {
     }
 }
 
-/// The small session and its enrolments: four exams, of which exam 1 comes after exam 0; three
-/// periods of one day and one of another; two rooms; and further rules.
+/// Returns the small session and its enrolments: four exams, of which exam 1 comes after exam 0;
+/// three periods of one day and one of another; two rooms; and further rules.
 pub(crate) fn small(
     alloc: Global,
     more: &[PeriodRule],
     alone: &[RoomRule],
 ) -> Result<(Instance, Enrolments), Fail> {
+    let instance = small_on(alloc, FRIDAY, WEIGHTS, more, alone)?;
+    Ok((instance, enrolled(alloc, &PAIRS)?))
+}
+
+/// The day of three periods of the small session.
+pub(crate) const FRIDAY: Date = Date {
+    year: 2005,
+    month: 4,
+    day: 15,
+};
+
+/// Returns the small session with its third period on this date, and with these weights and rules.
+pub(crate) fn small_on(
+    alloc: Global,
+    third: Date,
+    weights: Weights,
+    more: &[PeriodRule],
+    alone: &[RoomRule],
+) -> Result<Instance, Fail> {
     let exams = [
         Exam { minutes: 120 },
         Exam { minutes: 90 },
         Exam { minutes: 120 },
         Exam { minutes: 60 },
     ];
-    let (friday, monday) = (date(2005, 4, 15), date(2005, 4, 18));
     let periods = [
-        period(friday, 9, 120, 0),
-        period(friday, 14, 120, 0),
-        period(friday, 17, 90, 10),
-        period(monday, 9, 120, 5),
+        period(FRIDAY, 9, 120, 0),
+        period(FRIDAY, 14, 120, 0),
+        period(third, 17, 90, 10),
+        period(date(2005, 4, 18), 9, 120, 5),
     ];
     let rooms = [room(3, 0), room(2, 7)];
     let mut rules = Vec::new(alloc);
     rules.push(PeriodRule::After(ExamNo::new(1), ExamNo::new(0)))?;
     rules.extend_from_slice(more)?;
-    let instance = Instance::new(alloc, &exams, &periods, &rooms, &rules, alone, WEIGHTS)?;
-    Ok((instance, enrolled(alloc, &PAIRS)?))
+    let instance = Instance::new(alloc, &exams, &periods, &rooms, &rules, alone, weights)?;
+    Ok(instance)
 }
 
-/// These students and exams, of four exams.
+/// Returns these students and exams, of four exams.
 pub(crate) fn enrolled(alloc: Global, pairs: &[(u32, u32)]) -> Result<Enrolments, Fail> {
     let mut enrolments = Enrolments::new(alloc, 4)?;
     for (number, exam) in pairs {
@@ -111,7 +130,7 @@ pub(crate) fn enrolled(alloc: Global, pairs: &[(u32, u32)]) -> Result<Enrolments
     Ok(enrolments)
 }
 
-/// Four exams at these places.
+/// Returns a timetable of four exams at these places.
 pub(crate) fn placed(alloc: Global, places: &Places) -> Result<Timetable, AllocError> {
     let mut timetable = Timetable::new(alloc, 4)?;
     for (exam, at) in places.iter().enumerate() {
@@ -125,12 +144,13 @@ pub(crate) fn placed(alloc: Global, places: &Places) -> Result<Timetable, AllocE
     Ok(timetable)
 }
 
-/// Row, day, spread, mixed, front, period and room.
-pub(crate) fn numbers(parts: &Parts) -> [u64; 7] {
+/// Returns row, day, spread, night, mixed, front, period and room.
+pub(crate) fn numbers(parts: &Parts) -> [u64; 8] {
     [
         parts.row(),
         parts.day(),
         parts.spread(),
+        parts.night(),
         parts.mixed(),
         parts.front(),
         parts.period(),
@@ -149,7 +169,7 @@ fn place_exists(instance: &Instance, place: Option<Place>) -> bool
     }
 }
 
-/// Whether these go together, as every reader of files sees to.
+/// Returns whether the parts fit each other, as every reader of files guarantees.
 pub(crate) fn fits(instance: &Instance, enrolments: &Enrolments, timetable: &Timetable) -> bool
     ensures { IsTrue result → Fits instance.now enrolments.now timetable.now }
 {

@@ -1,4 +1,4 @@
-//! Worked examples of the libraries, by subject: what no clause says, with values from outside.
+//! Worked examples of the libraries, by subject, with values from outside that no contract states.
 #![tactic(auto)]
 
 #[cfg(test)]

@@ -64,7 +64,7 @@ fn periods() -> [Period; 3] {
     ]
 }
 
-// The instance of these lists, judged; then without a judgement, after this one.
+// Returns two instances of these lists: one after a judgement, and one without.
 fn judged_and_taken(
     alloc: Global,
     exams: Vec<Exam>,

@@ -23,7 +23,7 @@ fn a_partial_timetable_is_not_published(rt: HostRuntime) -> Result<(), Fail> {
     Ok(())
 }
 
-// The rows of a timetable that may be published, if these rows were there before.
+// Returns the rows of a timetable that may be published, given these old rows.
 fn published(
     alloc: Global,
     instance: &Instance,
@@ -43,7 +43,7 @@ fn published(
     Ok(seats(alloc, instance, enrolments, timetable, old)?)
 }
 
-// Rows of exam, student, period, room and seat.
+// Returns rows of exam, student, period, room and seat.
 fn rows(alloc: Global, numbers: &[(u32, u32, u32, u32, u32)]) -> Result<Vec<SeatRow>, Fail> {
     let mut rows = Vec::new(alloc);
     for (exam, number, period, room, seat) in numbers {
@@ -58,7 +58,8 @@ fn rows(alloc: Global, numbers: &[(u32, u32, u32, u32, u32)]) -> Result<Vec<Seat
     Ok(rows)
 }
 
-// The rows of two publications, exams 2 and 3 in one room in the second; and whose rows differ.
+// Returns the rows of two publications, with exams 2 and 3 in one room in the second, and the
+// students whose rows differ.
 fn published_twice(alloc: Global) -> Result<(Vec<SeatRow>, Vec<SeatRow>, Vec<StudentNo>), Fail> {
     let (instance, enrolments) = small(alloc, &[], &[])?;
     let (apart, together) = (placed(alloc, &APART)?, placed(alloc, &ONE_ROOM)?);
@@ -115,11 +116,11 @@ per room    used     cap  exams
 ";
     assert_same(&rt, text.as_str(), wanted, "rooms");
     let shares = shares(alloc, &instance, &rows, &timetable)?;
-    // a student, and the row, day and spread of their penalty
-    let wanted = [(1, [0, 5, 1]), (2, [7, 0, 1]), (3, [0, 0, 1])];
+    // a student, and the row, day, spread and night of their penalty
+    let wanted = [(1, [0, 5, 1, 0]), (2, [7, 0, 1, 0]), (3, [0, 0, 1, 0])];
     assert_same(&rt, shares.students().len(), wanted.len(), "students");
     for ((number, parts), (student, share)) in wanted.iter().zip(shares.students()) {
-        let found = [share.row(), share.day(), share.spread()];
+        let found = [share.row(), share.day(), share.spread(), share.night()];
         assert_same(&rt, (student.get(), found), (*number, *parts), *number);
     }
     assert_same(&rt, shares.exams(), [0, 0, 0, 0].as_slice(), "exams");
@@ -127,6 +128,6 @@ per room    used     cap  exams
     let rooms = [0, 7].map(|penalty| RoomShare { penalty, mixed: 0 });
     assert_same(&rt, shares.rooms(), rooms.as_slice(), "rooms");
     let parts = shares.parts().ok_or("a penalty of 2^62")?;
-    assert_same(&rt, numbers(&parts), [7, 5, 3, 0, 0, 15, 7], "parts");
+    assert_same(&rt, numbers(&parts), [7, 5, 3, 0, 0, 0, 15, 7], "parts");
     Ok(())
 }

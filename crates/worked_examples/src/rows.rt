@@ -1,11 +1,11 @@
-// Rows and students in order, and shares that are given as lists.
+// Rows and students in order, and shares made from lists.
 use crate::given::{assert_same, numbers, student};
 use exam_model::{ExamNo, PeriodNo, RoomNo};
 use exam_publish::{SeatRow, Shares, in_order, is_before, tell_numbers};
 use std::alloc::{AllocError, Global};
 use std::test::Fail;
 
-// A row of an exam and a student; the seat, the period and the room have one number.
+// Returns a row of an exam and a student; the seat, the period and the room have one number.
 fn row((exam, number): (u32, u32), seat: u32) -> Result<SeatRow, Fail> {
     Ok(SeatRow {
         student: student(number)?,
@@ -48,7 +48,7 @@ fn students_in_order_stand_once(rt: HostRuntime) -> Result<(), Fail> {
     Ok(())
 }
 
-// Shares of one exam and one period.
+// Returns shares of one exam and one period.
 fn shares_of(alloc: Global, front: u64, period: u64) -> Result<Shares, AllocError> {
     let exams = Vec::from_slice(alloc, &[front])?;
     let periods = Vec::from_slice(alloc, &[period])?;
@@ -59,8 +59,8 @@ fn shares_of(alloc: Global, front: u64, period: u64) -> Result<Shares, AllocErro
 fn shares_make_a_penalty_below_two_to_the_62(rt: HostRuntime) -> Result<(), Fail> {
     let most = (1u64 << 62) - 1;
     let cases = [
-        (4, 15, Some([0, 0, 0, 0, 4, 15, 0])),
-        (most, 0, Some([0, 0, 0, 0, most, 0, 0])),
+        (4, 15, Some([0, 0, 0, 0, 0, 4, 15, 0])),
+        (most, 0, Some([0, 0, 0, 0, 0, most, 0, 0])),
         (most, 1, None),
         (u64::MAX, 0, None),
     ];

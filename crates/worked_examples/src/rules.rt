@@ -1,4 +1,4 @@
-// Which exams of the small session break which rule.
+// The exams of the small session that break each rule.
 ghost use Rattle.std.specs.Prelude.{◌<◌, IsTrue, All, ◌↔◌, length};
 
 use crate::given::{Places, assert_same, fits, placed, small};
@@ -44,7 +44,7 @@ fn exist(exams: &[ExamNo], instance: &Instance) -> bool
     exams.iter().all(|exam| exam.get() < instance.exams())
 }
 
-// The first breach of a timetable that names one of these exams.
+// Returns the first breach of a timetable that names one of these exams.
 fn first_of(
     alloc: Global,
     (instance, enrolments): &(Instance, Enrolments),

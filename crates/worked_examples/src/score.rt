@@ -1,11 +1,12 @@
-// What timetables cost.
+// The penalties of timetables.
 use crate::given::{
-    APART, ONE_ROOM, PAIRS, assert_same, enrolled, fits, numbers, place, placed, small, student,
+    APART, ONE_ROOM, PAIRS, WEIGHTS, assert_same, date, enrolled, fits, numbers, period, place,
+    placed, room, small, small_on, student,
 };
-use exam_model::{ExamNo, Instance, PairCost, PeriodNo, Place};
+use exam_model::{Date, Exam, ExamNo, Instance, PairCost, PeriodNo, Place, Weights};
 use exam_score::{
-    DayCost, EditFold, Parts, PersonalParts, RowCost, SpreadCost, difference, front_share,
-    personal, regrouping, score, sizes_of, stays_of,
+    DayCost, EditFold, NightCost, Parts, PersonalParts, RowCost, SpreadCost, difference,
+    front_share, personal, regrouping, score, sizes_of, stays_of,
 };
 use office_reports::penalty_report;
 use std::alloc::Global;
@@ -31,12 +32,12 @@ fn swap(rt: HostRuntime) -> Result<(), Fail> {
     assert_same(&rt, before.total(), 37, "before");
     let edited = [one, two];
     let parts = difference(alloc, &instance, &enrolments, &old, &new, &edited, before)?;
-    assert_same(&rt, numbers(&parts), [0, 5, 3, 0, 0, 15, 7], "parts");
+    assert_same(&rt, numbers(&parts), [0, 5, 3, 0, 0, 0, 15, 7], "parts");
     assert_same(&rt, parts.total(), 30, "after");
     Ok(())
 }
 
-// The small session's pairs, but that student 1 sits only exam 3.
+// The small session's pairs, except that student 1 sits only exam 3.
 const ONE_EXAM: [(u32, u32); 5] = [(2, 0), (2, 1), (3, 1), (3, 2), (1, 3)];
 
 // The solution costs the students row 7 and spread 2, because student 1 has no two exams. In one
@@ -54,13 +55,13 @@ fn edit_by_pairs(rt: HostRuntime) -> Result<(), Fail> {
     let edited = [three];
     let mut fold = EditFold::new(alloc, &instance, &old, &new, &edited)?;
     fold.row(one, three)?;
-    let before = Parts::new(7, 0, 2, 0, 0, 15, 7).ok_or("a penalty of 2^62")?;
+    let before = Parts::new(7, 0, 2, 0, 0, 0, 15, 7).ok_or("a penalty of 2^62")?;
     let parts = fold.finish(&sizes, before).ok_or("a penalty of 2^62")?;
-    assert_same(&rt, numbers(&parts), [7, 0, 2, 10, 0, 10, 14], "parts");
+    assert_same(&rt, numbers(&parts), [7, 0, 2, 0, 10, 0, 10, 14], "parts");
     Ok(())
 }
 
-// What an exam of so many students makes of the front load at a place.
+// Returns the share of an exam in the front load at a place, with this many students.
 fn front_at(instance: &Instance, sizes: &[u32], exam: u32, at: Option<Place>) -> Result<u64, Fail> {
     if sizes.len() > 2_000 || exam as usize >= sizes.len() {
         return Err("no such exam")?;
@@ -68,7 +69,8 @@ fn front_at(instance: &Instance, sizes: &[u32], exam: u32, at: Option<Place>) ->
     Ok(front_share(instance, sizes, ExamNo::new(exam), at))
 }
 
-// Of two exams of one size the smaller number is the largest, and the last periods are 2 and 3.
+// Of two exams with equal sizes the smaller number is the largest, and the last periods are 2 and
+// 3.
 #[test]
 fn front_load_by_exams(rt: HostRuntime) -> Result<(), Fail> {
     let (instance, _) = small(rt.alloc(), &[], &[])?;
@@ -107,8 +109,8 @@ fn stays_of_placed_exams(rt: HostRuntime) -> Result<(), Fail> {
     Ok(())
 }
 
-// Row, day and spread of a candidate's exams, and their total.
-fn personal_of(alloc: Global, instance: &Instance, numbers: &[u32]) -> Result<[u64; 4], Fail> {
+// Returns row, day, spread and night of a candidate's exams, and their total.
+fn personal_of(alloc: Global, instance: &Instance, numbers: &[u32]) -> Result<[u64; 5], Fail> {
     let mut periods = Vec::new(alloc);
     for number in numbers {
         periods.push(PeriodNo::new(*number))?;
@@ -117,10 +119,16 @@ fn personal_of(alloc: Global, instance: &Instance, numbers: &[u32]) -> Result<[u
         return Err("too many periods")?;
     }
     let parts = personal(instance, &periods);
-    Ok([parts.row(), parts.day(), parts.spread(), parts.total()])
+    Ok([
+        parts.row(),
+        parts.day(),
+        parts.spread(),
+        parts.night(),
+        parts.total(),
+    ])
 }
 
-// A cost through its bound.
+// Returns a cost through its bound.
 fn cost_at<C: PairCost>(cost: &C, one: u32, other: u32) -> u64 {
     cost.cost(PeriodNo::new(one), PeriodNo::new(other))
 }
@@ -128,19 +136,19 @@ fn cost_at<C: PairCost>(cost: &C, one: u32, other: u32) -> u64 {
 #[test]
 fn personal_penalties(rt: HostRuntime) -> Result<(), Fail> {
     let (instance, _) = small(rt.alloc(), &[], &[])?;
-    // the periods of a candidate's exams, and row, day, spread and total
-    let cases: [(&[u32], [u64; 4]); 5] = [
-        (&[0, 2], [0, 5, 1, 6]),
-        (&[0, 1], [7, 0, 1, 8]),
-        (&[1, 3], [0, 0, 1, 1]),
-        (&[2, 2, 1, 9], [14, 0, 2, 16]),
-        (&[], [0, 0, 0, 0]),
+    // the periods of a candidate's exams, and row, day, spread, night and total
+    let cases: [(&[u32], [u64; 5]); 5] = [
+        (&[0, 2], [0, 5, 1, 0, 6]),
+        (&[0, 1], [7, 0, 1, 0, 8]),
+        (&[1, 3], [0, 0, 1, 0, 1]),
+        (&[2, 2, 1, 9], [14, 0, 2, 0, 16]),
+        (&[], [0, 0, 0, 0, 0]),
     ];
     for (numbers, wanted) in cases {
         let found = personal_of(rt.alloc(), &instance, numbers)?;
         assert_same(&rt, found, wanted, numbers);
     }
-    // two periods, and what they cost for row, day and spread
+    // two periods, and their costs for row, day and spread
     let cases = [
         (0, 1, [7, 0, 1]),
         (2, 0, [0, 5, 1]),
@@ -158,22 +166,86 @@ fn personal_penalties(rt: HostRuntime) -> Result<(), Fail> {
     Ok(())
 }
 
+// The weights of the small session, and 6 for a night.
+const WITH_NIGHTS: Weights = Weights {
+    night: 6,
+    ..WEIGHTS
+};
+
+// Returns an instance with two periods on these dates.
+fn dated(alloc: Global, first: Date, second: Date) -> Result<Instance, Fail> {
+    let exams = [Exam { minutes: 60 }];
+    let periods = [period(first, 9, 120, 0), period(second, 9, 120, 0)];
+    let rooms = [room(3, 0)];
+    Ok(Instance::new(alloc, &exams, &periods, &rooms, &[], &[], WITH_NIGHTS)?)
+}
+
+#[test]
+fn nights_go_by_dates(rt: HostRuntime) -> Result<(), Fail> {
+    // the dates of two adjacent periods, and their cost over night
+    let cases = [
+        (date(2004, 12, 31), date(2005, 1, 1), 6),
+        (date(2005, 1, 1), date(2004, 12, 31), 6),
+        (date(2005, 2, 28), date(2005, 3, 1), 6),
+        (date(2004, 2, 28), date(2004, 3, 1), 0),
+        (date(2004, 2, 28), date(2004, 2, 29), 6),
+        (date(2004, 2, 29), date(2004, 3, 1), 6),
+        (date(2005, 4, 15), date(2005, 4, 15), 0),
+        (date(2005, 4, 15), date(2005, 5, 16), 0),
+        (date(2005, 4, 15), date(2005, 4, 17), 0),
+    ];
+    for (first, second, wanted) in cases {
+        let instance = dated(rt.alloc(), first, second)?;
+        let cost = NightCost(&instance);
+        let found = [(0, 1), (1, 0), (1, 1), (1, 2)].map(|(p, q)| cost_at(&cost, p, q));
+        assert_same(&rt, found, [wanted, wanted, 0, 0], (first, second));
+    }
+    Ok(())
+}
+
+// The third period is on Saturday. Exam 2 is a night after exam 1 there, for student 3. In the
+// fourth period it isn't, because the two periods aren't adjacent.
+#[test]
+fn over_night(rt: HostRuntime) -> Result<(), Fail> {
+    let alloc = rt.alloc();
+    let instance = small_on(alloc, date(2005, 4, 16), WITH_NIGHTS, &[], &[])?;
+    let enrolments = enrolled(alloc, &PAIRS)?;
+    let old = placed(alloc, &APART)?;
+    if instance.exams() != 4 || !fits(&instance, &enrolments, &old) {
+        return Err("a place that doesn't exist")?;
+    }
+    let two = ExamNo::new(2);
+    let mut new = old.copy(alloc)?;
+    new.set(two, place(2, 1));
+    if !fits(&instance, &enrolments, &new) {
+        return Err("a place that doesn't exist")?;
+    }
+    let before = score(alloc, &instance, &enrolments, &old)?;
+    assert_same(&rt, numbers(&before), [7, 0, 3, 0, 0, 0, 15, 7], "before");
+    let after = score(alloc, &instance, &enrolments, &new)?;
+    assert_same(&rt, numbers(&after), [7, 0, 3, 6, 0, 0, 20, 7], "after");
+    let edited = [two];
+    let parts = difference(alloc, &instance, &enrolments, &old, &new, &edited, before)?;
+    assert_same(&rt, numbers(&parts), numbers(&after), "difference");
+    Ok(())
+}
+
 #[test]
 fn parts_end_below_two_to_the_62(rt: HostRuntime) {
     let most = (1u64 << 62) - 1;
     for (row, room, wanted) in [(most, 0, true), (most, 1, false), (u64::MAX, 1, false)] {
-        let personal = PersonalParts::new(row, room, 0).is_some();
-        let whole = Parts::new(row, 0, 0, 0, 0, 0, room).is_some();
+        let personal = PersonalParts::new(row, room, 0, 0).is_some();
+        let whole = Parts::new(row, 0, 0, 0, 0, 0, 0, room).is_some();
         assert_same(&rt, (personal, whole), (wanted, wanted), (row, room));
     }
 }
 
 #[test]
 fn a_report_has_a_line_for_each_part(rt: HostRuntime) -> Result<(), Fail> {
-    let parts = Parts::new(1, 2, 3, 4, 5, 6, 7).ok_or("a penalty of 2^62")?;
+    let parts = Parts::new(1, 2, 3, 4, 5, 6, 7, 8).ok_or("a penalty of 2^62")?;
     let text = penalty_report(rt.alloc(), parts)?;
-    let wanted = "two in a row 1\ntwo in a day 2\nperiod spread 3\nmixed durations 4\n\
-        front load 5\nperiod penalty 6\nroom penalty 7\ntotal 28\n";
+    let wanted = "two in a row 1\ntwo in a day 2\nperiod spread 3\nover night 4\n\
+        mixed durations 5\nfront load 6\nperiod penalty 7\nroom penalty 8\ntotal 36\n";
     assert_same(&rt, text.as_str(), wanted, "report");
     Ok(())
 }

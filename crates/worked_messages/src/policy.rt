@@ -89,7 +89,7 @@ fn judges(rt: &impl Abort, caller: &Caller, cases: &[Case]) {
     }
 }
 
-// Department 3 owns exam 0, nobody owns exam 1, and exam 9 doesn't exist.
+// Department 3 owns exam 0, exam 1 has no owner, and exam 9 doesn't exist.
 #[test]
 fn departments_edit_their_exams(rt: HostRuntime) -> Result<(), Fail> {
     let cases = [

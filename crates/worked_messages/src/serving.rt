@@ -52,7 +52,7 @@ fn a_connection_is_served_within_its_turns(rt: HostRuntime) {
     }
 }
 
-// A device that is always interrupted, and takes nothing.
+// A device that is always interrupted, and accepts no bytes.
 #[derive(Drop)]
 struct Stuck;
 

@@ -111,7 +111,7 @@ fn put_publication(tx: &mut Transaction<'_, MemStore>) -> Result<(), Error> {
     InsertPartShare { row: part(0, 4) }.apply(tx)
 }
 
-// A database with the tables and these rows.
+// Returns a database with the tables and these rows.
 fn filled(alloc: Global) -> Result<Connection<MemStore>, Fail> {
     let mut conn = Connection::open_in_memory(alloc)?;
     if !is_bare(&conn) || !conn.is_autocommit() {
@@ -161,7 +161,7 @@ fn pair(exam: u32) -> EnrolRow {
     EnrolRow { student: 9, exam }
 }
 
-// Of each kind the rows of one statement, and one row more.
+// Adds, of each kind, as many rows as one statement writes, and one more.
 fn put_many(alloc: Global, conn: &mut Connection<MemStore>) -> Result<(), Fail> {
     if !conn.is_autocommit() {
         return Err("a transaction is open")?;

@@ -8,7 +8,7 @@ use Rattle.worked_messages.specs.declared.tally.Tally.{Tally}
 use Rattle.worked_messages.specs.Tallies.{Tallies}
 use Rattle.worked_messages.proofs.tally.serve_tally.Goals as goal
 
--- no answer counts down
+-- answers never lower the count
 told_grows : (items : List Item) (old : Tally) (output : List ℕ) (new : Tally)
     → Told Tallies items old output new → old.answered ≤ 4294967295 → old.answered ≤ new.answered
 told_grows items old output new t fits =
