@@ -6,6 +6,7 @@ instances, on some of which the slow oracle is asked too. The first two files on
 differ are kept and named.
 """
 import argparse
+import datetime
 import pathlib
 import random
 import shutil
@@ -17,10 +18,12 @@ from known import FAULTS, REPORTS
 
 PIECES = ["\r", "\n", "\r\n", ",", " ", "\t", "[", "]", ":", "0", "00", "-", "1441", "100001", "4",
           "99999999999999999999", "x", "after", "Exclusion", "EXAM_COINCIDENCE", "room_exclusive",
-          "[Exams:4]", "[Rooms : 2 ]", "TWOINAROW,3", "FRONTLOAD,2,2,2,", "29:02:2005",
-          "29:02:2004", ",,", ", ", "1, 2", "[InstitutionalWeightings]", "24:00:00", "9:5:0",
+          "[Exams:4]", "[Rooms : 2 ]", "TWOINAROW,3", "FRONTLOAD,2,2,2,", "OVERNIGHT,3", "overnight",
+          "29:02:2005", "29:02:2004", ",,", ", ", "1, 2", "[InstitutionalWeightings]", "24:00:00", "9:5:0",
           "\x00", "\xe9"]
 LONGEST = 5_000
+# The periods of an instance are on four days from one of these.
+FIRST_DAYS = [datetime.date(*day) for day in ((2005, 1, 1), (2004, 12, 30), (2004, 2, 27), (2005, 2, 27))]
 
 
 def damaged_lines(rng, text):
@@ -54,14 +57,14 @@ def damaged(rng, text):
 def made(rng):
     """A small well-formed instance and a solution of it."""
     exams, periods, rooms = rng.randrange(1, 60), rng.randrange(1, 12), rng.randrange(1, 4)
-    students = rng.randrange(1, 40)
+    students, first = rng.randrange(1, 40), rng.choice(FIRST_DAYS)
     lines = [f"[Exams:{exams}]"]
     for _ in range(exams):
         names = [rng.randrange(students) for _ in range(rng.randrange(0, students + 5))]
         lines.append(", ".join(map(str, [rng.choice([60, 90, 120]), *names])))
     lines.append(f"[Periods:{periods}]")
-    lines += [f"{rng.randrange(1, 5)}:01:2005, 9:0:0, {rng.choice([90, 120])}, {rng.choice([0, 7])}"
-              for _ in range(periods)]
+    days = [first + datetime.timedelta(rng.randrange(4)) for _ in range(periods)]
+    lines += [f"{day:%d:%m:%Y}, 9:0:0, {rng.choice([90, 120])}, {rng.choice([0, 7])}" for day in days]
     lines.append(f"[Rooms:{rooms}]")
     lines += [f"{rng.randrange(200)}, {rng.choice([0, 5])}" for _ in range(rooms)]
     lines.append("[PeriodHardConstraints]")
@@ -72,7 +75,8 @@ def made(rng):
     lines += ["[InstitutionalWeightings]", f"TWOINAROW,{rng.randrange(9)}",
               f"TWOINADAY,{rng.randrange(9)}", f"PERIODSPREAD,{rng.randrange(14)}",
               f"NONMIXEDDURATIONS,{rng.randrange(9)}",
-              f"FRONTLOAD,{rng.randrange(70)},{rng.randrange(14)},{rng.randrange(9)}"]
+              f"FRONTLOAD,{rng.randrange(70)},{rng.randrange(14)},{rng.randrange(9)}",
+              *[f"OVERNIGHT,{rng.randrange(9)}" for _ in range(rng.randrange(2))]]
     solution = [f"{rng.randrange(periods)}, {rng.randrange(rooms)}" for _ in range(exams)]
     return "\n".join(lines) + "\n", "\n".join(solution) + "\n"
 

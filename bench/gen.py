@@ -14,8 +14,8 @@ from collections import namedtuple
 
 Shape = namedtuple("Shape", "exams students periods rooms pairs period_rules room_rules weights")
 
-# weights: two in a row, two in a day, period spread, mixed durations, and of the front load the
-# exams, the periods and the weight
+# weights: two in a row, two in a day, period spread, mixed durations, of the front load the exams, the
+# periods and the weight, and over night, if it has one
 SHAPES = {
     "set1": Shape(607, 7_891, 54, 7, 32_380, 12, 0, (7, 5, 5, 10, (100, 30, 5))),
     "set2": Shape(870, 12_743, 40, 49, 37_379, 12, 2, (15, 5, 1, 25, (250, 30, 5))),
@@ -28,6 +28,8 @@ SHAPES = {
     # At the limits that a checker states, with wide student numbers, and with few busy students.
     "limits": Shape(2_000, 60_000, 200, 200, 200_000, 5_000, 1_000, (7, 5, 20, 10, (250, 30, 5))),
     "dense": Shape(2_000, 200, 200, 200, 200_000, 5_000, 1_000, (7, 5, 20, 10, (250, 30, 5))),
+    # At the limits, with the weighting that the competition doesn't have.
+    "nights": Shape(2_000, 60_000, 200, 200, 200_000, 5_000, 1_000, (7, 5, 20, 10, (250, 30, 5), 8)),
     # Few large exams whose students are listed in falling order: slow where each is inserted at
     # its place.
     "backwards": Shape(4, 100_000, 200, 200, 200_000, 2, 0, (7, 5, 20, 10, (2, 30, 5))),
@@ -150,7 +152,7 @@ def make(folder, name):
     period_rows = periods(rng, shape)
     room_rows = rooms(rng, shape, max(map(len, taken)))
     placed = place(rng, shape, minutes, taken, period_rows, room_rows)
-    row, day, spread, mixed, front = shape.weights
+    row, day, spread, mixed, front, *nights = shape.weights
     lines = [f"[Exams:{shape.exams}]"]
     step = -1 if name == "backwards" else 1
     lines += [", ".join(map(str, [m, *students[::step]])) for m, students in zip(minutes, taken)]
@@ -161,7 +163,7 @@ def make(folder, name):
     lines += ["[RoomHardConstraints]"] + [f"{exam}, ROOM_EXCLUSIVE" for exam in alone]
     lines += ["[InstitutionalWeightings]", f"TWOINAROW,{row}", f"TWOINADAY,{day}",
               f"PERIODSPREAD,{spread}", f"NONMIXEDDURATIONS,{mixed}",
-              "FRONTLOAD," + ",".join(map(str, front))]
+              "FRONTLOAD," + ",".join(map(str, front)), *(f"OVERNIGHT,{night}" for night in nights)]
     write(folder, f"{name}.exam", lines)
     write(folder, f"{name}.sol", [f"{p}, {r}" for p, r in placed])
     write(folder, f"{name}.bad", [f"{rng.randrange(shape.periods)}, {rng.randrange(shape.rooms)}"

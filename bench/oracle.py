@@ -5,11 +5,12 @@ It reads well-formed files alone, adds up, for each two exams, what each student
 them, and keeps no index: a third opinion beside the two fast checkers.
 """
 import sys
+from datetime import date
 from itertools import combinations
 
 RULES = ["Duration", "Clash", "Capacity", "After", "Coincidence", "Exclusion", "RoomExclusive"]
-PARTS = ["two in a row", "two in a day", "period spread", "mixed durations", "front load",
-         "period penalty", "room penalty"]
+PARTS = ["two in a row", "two in a day", "period spread", "over night", "mixed durations",
+         "front load", "period penalty", "room penalty"]
 
 
 def read(path):
@@ -26,18 +27,19 @@ def read(path):
 
 def judge(sections, placed):
     exams = [(int(f[0]), frozenset(map(int, f[1:]))) for f in sections["exams"]]
-    periods = [(tuple(map(int, f[0].split(":"))), int(f[2]), int(f[3]))
+    periods = [(date(*map(int, f[0].split(":")[::-1])), int(f[2]), int(f[3]))
                for f in sections["periods"]]
     rooms = [(int(f[0]), int(f[1])) for f in sections["rooms"]]
     weights = {f[0].upper(): list(map(int, f[1:])) for f in sections["institutionalweightings"]}
-    row, day, reach, mixed = (weights.get(w, [0])[0] for w in
-                              ["TWOINAROW", "TWOINADAY", "PERIODSPREAD", "NONMIXEDDURATIONS"])
+    row, day, reach, night, mixed = (weights.get(w, [0])[0] for w in
+                                     ["TWOINAROW", "TWOINADAY", "PERIODSPREAD", "OVERNIGHT",
+                                      "NONMIXEDDURATIONS"])
     front_exams, front_periods, front = weights.get("FRONTLOAD", [0, 0, 0])
     at = {}
     for exam, place in enumerate(placed):
         at.setdefault(place, []).append(exam)
 
-    parts, breaches = [0] * 7, set()
+    parts, breaches = [0] * 8, set()
     for e, (minutes, _) in enumerate(exams):
         if minutes > periods[placed[e][0]][1]:
             breaches.add((0, e, e))
@@ -50,10 +52,12 @@ def judge(sections, placed):
         parts[0] += shared * row * (same and gap == 1)
         parts[1] += shared * day * (same and gap >= 2)
         parts[2] += shared * (1 <= gap <= reach)
+        days = abs((periods[p][0] - periods[q][0]).days)
+        parts[3] += shared * night * (gap == 1 and days == 1)
     for (_, room), group in at.items():
         if sum(len(exams[e][1]) for e in group) > rooms[room][0]:
             breaches |= {(2, e, e) for e in group}
-        parts[3] += (len({exams[e][0] for e in group}) - 1) * mixed
+        parts[4] += (len({exams[e][0] for e in group}) - 1) * mixed
     for a, word, b in sections["periodhardconstraints"]:
         a, b = int(a), int(b)
         p, q = placed[a][0], placed[b][0]
@@ -68,9 +72,9 @@ def judge(sections, placed):
         a = int(fields[0])
         breaches |= {(6, a, f) for f in at[placed[a]] if f != a}
     largest = sorted(range(len(exams)), key=lambda e: (-len(exams[e][1]), e))[:front_exams]
-    parts[4] = sum(front for e in largest if placed[e][0] + front_periods >= len(periods))
-    parts[5] = sum(periods[p][2] for p, _ in placed)
-    parts[6] = sum(rooms[r][1] for _, r in placed)
+    parts[5] = sum(front for e in largest if placed[e][0] + front_periods >= len(periods))
+    parts[6] = sum(periods[p][2] for p, _ in placed)
+    parts[7] = sum(rooms[r][1] for _, r in placed)
     return sorted(breaches), parts
 
 
