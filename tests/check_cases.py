@@ -9,8 +9,9 @@ SMALL = (TOP / "examples" / "small.exam").read_text()
 SMALLEST = (TOP / "examples" / "smallest.exam").read_text()
 PLACED = (TOP / "examples" / "small.sol").read_text()
 TOGETHER = "0, 0\n1, 0\n3, 1\n3, 1\n"
-PARTS = ["two in a row", "two in a day", "period spread", "mixed durations", "front load",
-         "period penalty", "room penalty"]
+EARLY = "3, 0\n1, 0\n3, 1\n2, 0\n"
+PARTS = ["two in a row", "two in a day", "period spread", "over night", "mixed durations",
+         "front load", "period penalty", "room penalty"]
 EXCLUSIONS = "3, EXCLUSION, 2\n2, EXCLUSION, 2\n"
 ALONE = "2, ROOM_EXCLUSIVE\n"
 COINCIDENCE = "1, EXAM_COINCIDENCE, 0\n"
@@ -33,45 +34,74 @@ def up_to(text, length=0):
     return SMALL[:SMALL.index(text) + length]
 
 
-# name: instance, solution, breaches, the seven penalties
+def on_dates(third, fourth):
+    """The small instance with its last two periods on these dates, and with 6 for a night."""
+    lines = SMALL.splitlines()
+    lines[8:10] = f"{third}, 17:00:00, 90, 10", f"{fourth}, 09:30:00, 120, 5"
+    return "\n".join([*lines, "OVERNIGHT,6", ""])
+
+
+# The last period is on the day after the others.
+NIGHTS = on_dates("15:04:2005", "16:04:2005")
+
+# Dates of the last two periods, and what over night costs if one student sits an exam in each.
+DATES = (("31:12:2004", "01:01:2005", 6), ("01:01:2005", "31:12:2004", 6),
+         ("28:02:2005", "01:03:2005", 6), ("28:02:2004", "01:03:2004", 0),
+         ("28:02:2004", "29:02:2004", 6), ("29:02:2004", "01:03:2004", 6),
+         ("28:02:1900", "01:03:1900", 6), ("28:02:2000", "01:03:2000", 0),
+         ("30:04:2005", "01:05:2005", 6), ("15:04:2005", "16:05:2005", 0),
+         ("31:12:9999", "01:01:0001", 0))
+
+# name: instance, solution, breaches, the eight penalties
 REPORTS = {
-    "placed well": (SMALL, PLACED, [], [7, 5, 3, 0, 0, 15, 7]),
-    "two in one room": (SMALL, TOGETHER, [], [7, 0, 3, 10, 0, 10, 14]),
+    "placed well": (SMALL, PLACED, [], [7, 5, 3, 0, 0, 0, 15, 7]),
+    "two in one room": (SMALL, TOGETHER, [], [7, 0, 3, 0, 10, 0, 10, 14]),
     "CR LF, and an exam with no student":
         (SMALL.replace("60, 1\n", "60\n").replace("\n", "\r\n") + "\r\n\r\n", PLACED, [],
-         [7, 0, 2, 0, 0, 15, 7]),
-    "too early": (SMALL, "3, 0\n1, 0\n3, 1\n2, 0\n", ["After 1 0"], [0, 0, 3, 0, 4, 20, 7]),
-    "smallest": (SMALLEST, "0,0", [], [0] * 7),
+         [7, 0, 2, 0, 0, 0, 15, 7]),
+    "too early": (SMALL, EARLY, ["After 1 0"], [0, 0, 3, 0, 0, 4, 20, 7]),
+    "smallest": (SMALLEST, "0,0", [], [0] * 8),
     "clash": (SMALL, "0, 0\n0, 0\n3, 1\n2, 0\n",
-              ["Clash 0 1", "Capacity 0 0", "Capacity 1 1", "After 1 0"], [0, 5, 2, 10, 0, 15, 7]),
+              ["Clash 0 1", "Capacity 0 0", "Capacity 1 1", "After 1 0"], [0, 5, 2, 0, 10, 0, 15, 7]),
     "not alone": (with_rules(EXCLUSIONS, ALONE), TOGETHER,
-                  ["Exclusion 2 3", "RoomExclusive 2 3"], [7, 0, 3, 10, 0, 10, 14]),
+                  ["Exclusion 2 3", "RoomExclusive 2 3"], [7, 0, 3, 0, 10, 0, 10, 14]),
     "not alone, by lines that come twice":
         (with_rules(EXCLUSIONS * 2, ALONE * 2), TOGETHER,
-         ["Exclusion 2 3", "RoomExclusive 2 3"], [7, 0, 3, 10, 0, 10, 14]),
+         ["Exclusion 2 3", "RoomExclusive 2 3"], [7, 0, 3, 0, 10, 0, 10, 14]),
     "all exams at the front":
-        (with_line(22, "FRONTLOAD,100000,100000,4"), PLACED, [], [7, 5, 3, 0, 16, 15, 7]),
+        (with_line(22, "FRONTLOAD,100000,100000,4"), PLACED, [], [7, 5, 3, 0, 0, 16, 15, 7]),
     "three exams at the front":
-        (with_line(22, "FRONTLOAD,3,2,4"), PLACED, [], [7, 5, 3, 0, 4, 15, 7]),
+        (with_line(22, "FRONTLOAD,3,2,4"), PLACED, [], [7, 5, 3, 0, 0, 4, 15, 7]),
     "four exams at the front":
-        (with_line(22, "FRONTLOAD,4,2,4"), PLACED, [], [7, 5, 3, 0, 8, 15, 7]),
+        (with_line(22, "FRONTLOAD,4,2,4"), PLACED, [], [7, 5, 3, 0, 0, 8, 15, 7]),
     "no exams at the front":
-        (with_line(22, "FRONTLOAD,0,100000,4"), PLACED, [], [7, 5, 3, 0, 0, 15, 7]),
+        (with_line(22, "FRONTLOAD,0,100000,4"), PLACED, [], [7, 5, 3, 0, 0, 0, 15, 7]),
     "no periods at the end":
-        (with_line(22, "FRONTLOAD,100000,0,4"), PLACED, [], [7, 5, 3, 0, 0, 15, 7]),
+        (with_line(22, "FRONTLOAD,100000,0,4"), PLACED, [], [7, 5, 3, 0, 0, 0, 15, 7]),
     "a shorter spread": (SMALL.replace("PERIODSPREAD,3", "PERIODSPREAD,2"), TOGETHER, [],
-                         [7, 0, 2, 10, 0, 10, 14]),
-    "the largest room": (with_line(12, "100000, 0"), PLACED, [], [7, 5, 3, 0, 0, 15, 7]),
+                         [7, 0, 2, 0, 10, 0, 10, 14]),
+    "the largest room": (with_line(12, "100000, 0"), PLACED, [], [7, 5, 3, 0, 0, 0, 15, 7]),
     "the greatest student number":
-        (with_line(2, "120, 999999999, 2"), PLACED, [], [7, 0, 2, 0, 0, 15, 7]),
+        (with_line(2, "120, 999999999, 2"), PLACED, [], [7, 0, 2, 0, 0, 0, 15, 7]),
     "cut behind the last header, so that all weights are 0":
-        (up_to("TWOINAROW"), PLACED, [], [0, 0, 0, 0, 0, 15, 7]),
-    "without the last line end": (SMALL[:-1], PLACED, [], [7, 5, 3, 0, 0, 15, 7]),
+        (up_to("TWOINAROW"), PLACED, [], [0, 0, 0, 0, 0, 0, 15, 7]),
+    "without the last line end": (SMALL[:-1], PLACED, [], [7, 5, 3, 0, 0, 0, 15, 7]),
     "a coincidence of exams that share a student":
-        (with_rules(COINCIDENCE), PLACED, [], [7, 5, 3, 0, 0, 15, 7]),
+        (with_rules(COINCIDENCE), PLACED, [], [7, 5, 3, 0, 0, 0, 15, 7]),
     "a coincidence of exams that share none":
         (with_rules(COINCIDENCE).replace("90, 2, 3", "90, 3"), PLACED, ["Coincidence 0 1"],
-         [0, 5, 2, 0, 0, 15, 7]),
+         [0, 5, 2, 0, 0, 0, 15, 7]),
+    "over night": (NIGHTS, EARLY, ["After 1 0"], [0, 0, 3, 6, 0, 4, 20, 7]),
+    "over the weekend": (SMALL + "OVERNIGHT,6\n", EARLY, ["After 1 0"], [0, 0, 3, 0, 0, 4, 20, 7]),
+    "the weight of nights in small letters, as the first one":
+        (NIGHTS.replace("OVERNIGHT,6\n", "").replace("TWOINAROW", "overnight , 6\nTWOINAROW"),
+         EARLY, ["After 1 0"], [0, 0, 3, 6, 0, 4, 20, 7]),
+    "a weight of nights of 0":
+        (NIGHTS.replace("OVERNIGHT,6", "OVERNIGHT,0"), EARLY, ["After 1 0"],
+         [0, 0, 3, 0, 0, 4, 20, 7]),
+    **{f"periods on {third} and {fourth}":
+       (on_dates(third, fourth), EARLY, ["After 1 0"], [0, 0, 3, night, 0, 4, 20, 7])
+       for third, fourth, night in DATES},
 }
 
 HUNDRED_PAIRS = "1, " + ", ".join(map(str, range(100)))
@@ -102,6 +132,14 @@ FAULTS = {
     "no such rule": (with_line(15, "1, BEFORE, 0"), PLACED, "instance line 15: fault 7"),
     "a rule on no exam": (with_line(15, "1, AFTER, 4"), PLACED, "instance line 15: fault 8"),
     "a weighting twice": (with_line(20, "TWOINAROW,5"), PLACED, "instance line 20: fault 9"),
+    "the weight of nights twice": (SMALL + "OVERNIGHT,6\n" * 2, PLACED,
+                                   "instance line 24: fault 9"),
+    "a weight of nights too large": (SMALL + "OVERNIGHT,100001\n", PLACED,
+                                     "instance line 23: fault 8"),
+    "a weight of nights with no number": (SMALL + "OVERNIGHT\n", PLACED,
+                                          "instance line 23: fault 4"),
+    "a weight of nights with two numbers": (SMALL + "OVERNIGHT,6,7\n", PLACED,
+                                            "instance line 23: fault 10"),
     "a seventh header": (with_line(22, "[FRONTLOAD]"), PLACED, "instance line 22: fault 10"),
     "a student number": (SMALL.replace("120, 1, 2", "120, 1, 1000000000"), PLACED,
                          "instance line 2: fault 8"),

@@ -79,7 +79,7 @@ def candidates_page(run, chromium, front):
                                         "mailto:exams@university.example"),
                       (reader.text("#contact"), reader.run("return document.querySelector("
                                                            "'#contact a').href")))
-            run.judge("their points", ["0", "5", "1", "6"], reader.texts("#cost-parts tbody td"))
+            run.judge("their points", ["0", "5", "1", "0", "6"], reader.texts("#cost-parts tbody td"))
             run.judge("another's exam", False, "MATH102" in reader.text("body"))
             forged = reader.run("return fetch('/me', {headers: {'X-Caller': 'cand:2'}})"
                                 ".then(reply => reply.text())")
@@ -176,14 +176,14 @@ def registrys_page(run, chromium, front):
         run.judge("what they break",
                   ["What candidates see", "Breaks no rule", "Breaks rules: 1 violation"],
                   reader.texts("#cards .verdict"))
-        for place, points in ((2, [7, 5, 3, 0, 0, 15, 7]), (3, [0, 0, 3, 0, 4, 20, 7])):
+        for place, points in ((2, [7, 5, 3, 0, 0, 0, 15, 7]), (3, [0, 0, 3, 0, 0, 4, 20, 7])):
             rows = f"#cards article:nth-child({place}) .bars tr"
             run.judge(f"the parts of draft {place - 1}", [str(number) for number in points],
                       reader.texts(f"{rows} td:last-child"))
             widths = reader.run("return [...document.querySelectorAll(arguments[0])].map("
                                 "bar => bar.firstChild.offsetWidth / bar.offsetWidth)",
                                 f"{rows} .bar")
-            run.judge(f"the bars of draft {place - 1}", [True] * 7,
+            run.judge(f"the bars of draft {place - 1}", [True] * 8,
                       [abs(width - number / 20) < 0.02 for width, number in zip(widths, points)])
         reader.click("#cards article:nth-child(3) button")
         is_read(reader)

@@ -1,9 +1,9 @@
 """Further cases of the office over sockets, which run_serve.py asks and no sweep does: streams that are
 no plain requests, edits and owners, and the texts of batches."""
 from serve_cases import (
-    COINCIDING, EMPTY, FROM_SOLUTION, SMALL, SMALLEST, VIOLATIONS, asked_by, at, bad_file, batch,
-    broken, case, clear, drafted, enrolled, error, forbidden, me, message, move, place, publish,
-    published, reply, swap, text)
+    COINCIDING, EMPTY, FROM_SOLUTION, NIGHTLY, NIGHTS, PENALTY, SHOWN, SMALL, SMALLEST, VIOLATIONS,
+    asked_by, at, bad_file, batch, broken, case, clear, cost, drafted, enrolled, error, forbidden, me,
+    message, move, place, publish, published, reply, report, swap, text)
 
 ASKED = asked_by(99), me(99, 0)
 REQUEST, LENGTH = error(400, "request"), error(413, "length")
@@ -150,6 +150,31 @@ EDITS = [
          (message("GET", "/publication/rooms"),
           text("per room    used     cap  exams\n  0    0       0       0  0\n")),
          (message("GET", "/publication/seats"), text("student,exam,period,room,seat\n"))),
+    # Without candidate 3 in exam 1 the spread is 1 and the night 6 less. Exam 2 in period 0 costs
+    # that candidate 5 for the day instead of the night, and nothing for the period instead of 5.
+    case("nights of a draft and of a publication", None,
+         (message("PUT", "/instance", NIGHTS), LOADED),
+         (message("GET", "/instance"), text(NIGHTS.replace(b"\n", b"\r\n"))),
+         (message("PUT", "/drafts/1", NIGHTLY), drafted(201, 43)),
+         (PENALTY, text(report(7, 5, 3, 0, 0, 15, 7, 43, night=6))),
+         (publish(), published(3, 43)),
+         (SHOWN[1], text(report(7, 5, 3, 0, 0, 15, 7, 43, night=6))),
+         (asked_by(2, "/penalty"), cost(0, 5, 1)),
+         (asked_by(3, "/penalty"), cost(0, 0, 1, 6)),
+         (batch(1, "3,1,drop"), enrolled(1, 0, 1, 0)),
+         (PENALTY, text(report(7, 5, 2, 0, 0, 15, 7, 36))),
+         (asked_by(3, "/penalty"), cost(0, 0, 1, 6)),
+         (batch(2, "3,1,add"), enrolled(2, 1, 0, 0)),
+         (PENALTY, text(report(7, 5, 3, 0, 0, 15, 7, 43, night=6))),
+         (move(2, 0, 1), drafted(200, 37)),
+         (PENALTY, text(report(7, 10, 3, 0, 0, 10, 7, 37))),
+         (publish(), published(1, 37)),
+         (SHOWN[1], text(report(7, 10, 3, 0, 0, 10, 7, 37))),
+         (asked_by(3, "/penalty"), cost(0, 5, 1)),
+         (move(2, 3, 1), drafted(200, 43)),
+         (publish(), published(1, 43)),
+         (SHOWN[1], text(report(7, 5, 3, 0, 0, 15, 7, 43, night=6))),
+         (asked_by(3, "/penalty"), cost(0, 0, 1, 6))),
     case("owners come and go", None,
          (owner(0, 3), error(409, "not-loaded")),
          (place(0, 0, 0, "dept:3"), forbidden("P3")),

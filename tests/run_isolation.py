@@ -39,7 +39,8 @@ def shared_at_random(rng):
     exams = rng.sample(range(8), rng.randint(2, 6))
     places = zip(rng.sample(range(len(PERIODS)), len(exams)), rng.choices(range(3), k=len(exams)))
     hers = set(exams[:rng.randint(1, len(exams))])
-    weights = [rng.randint(0, 9) for _ in range(2)] + [rng.randint(0, 7), rng.randint(0, 20)]
+    weights = [rng.randint(0, 9) for _ in range(2)] + [rng.randint(0, 7), rng.randint(0, 20),
+                                                       rng.choice([0, rng.randint(1, 9)])]
     return Shared(rng.choice([0, 5, 40, 999_999_999]), hers, dict(zip(exams, places)), weights,
                   [rng.choice([0, 0, rng.randint(1, 50)]) for _ in PERIODS])
 
@@ -64,7 +65,7 @@ def office_at_random(rng, shared):
 
 def instance(rng, shared, exams, places, rooms):
     """The text: its rules are some that the places keep."""
-    row, day, spread, mixed = shared.weights
+    row, day, spread, mixed, night = shared.weights
     first, second = rng.sample(range(len(exams)), 2)
     alone = [exam for exam in exams if list(places.values()).count(places[exam]) == 1]
     lines = [f"[Exams:{len(exams)}]"]
@@ -78,7 +79,8 @@ def instance(rng, shared, exams, places, rooms):
     lines += [f"{first}, AFTER, {second}"] if places[first][0] > places[second][0] else []
     lines += ["[RoomHardConstraints]", *(f"{exam}, ROOM_EXCLUSIVE" for exam in alone[:2])]
     lines += ["[InstitutionalWeightings]", f"TWOINAROW,{row}", f"TWOINADAY,{day}",
-              f"PERIODSPREAD,{spread}", f"NONMIXEDDURATIONS,{mixed}", "FRONTLOAD,2,3,5", ""]
+              f"PERIODSPREAD,{spread}", f"NONMIXEDDURATIONS,{mixed}", "FRONTLOAD,2,3,5"]
+    lines += [f"OVERNIGHT,{night}", ""] if night else [""]
     return "\n".join(lines).encode()
 
 
@@ -108,15 +110,17 @@ def seats(office, candidate):
 
 
 def personal(shared):
-    """Her cost in a row, in a day and by spread: summed over all pairs of her published exams."""
-    row, day, spread, _ = shared.weights
-    periods, sums = sorted(shared.places[exam][0] for exam in shared.exams), [0, 0, 0]
+    """Her cost in a row, in a day, by spread and over night: summed over all pairs of her published
+    exams. The two days are consecutive."""
+    row, day, spread, _, night = shared.weights
+    periods, sums = sorted(shared.places[exam][0] for exam in shared.exams), [0, 0, 0, 0]
     for index, first in enumerate(periods):
         for second in periods[index + 1:]:
             gap, same = second - first, PERIODS[first][0] == PERIODS[second][0]
             sums[0] += row * (same and gap == 1)
             sums[1] += day * (same and gap >= 2)
             sums[2] += 1 <= gap <= spread
+            sums[3] += night * (not same and gap == 1)
     return sums
 
 
@@ -282,6 +286,7 @@ class Run(run_serve.Run):
         """The stored shares against the penalty of the exported timetable."""
         sums = self.command("sqlite3", client.database,
                             "SELECT (SELECT total(in_row + in_day + spread) FROM share_student)"
+                            " + (SELECT total(night) FROM night_share)"
                             " + (SELECT total(penalty + mixed) FROM share_part)")
         rows = self.command("sqlite3", client.database, "SELECT exam, student FROM seat").split()
         text, seated = client.made.text.decode().split("\n"), {}

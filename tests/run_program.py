@@ -30,12 +30,13 @@ VERSION = (TOP / "VERSION").read_text(encoding="utf-8").strip()
 OLDER = b"examoffice: the release is older than the sources; --build builds these\n"
 INSTANCE_LIMIT, SOLUTION_LIMIT = 4_194_304, 1_048_576
 SECONDS = 60
-PENALTIES = ["two in a row", "two in a day", "period spread", "mixed durations", "front load",
-             "period penalty", "room penalty"]
-GOOD = [7, 5, 3, 0, 0, 15, 7]
-TOGETHER = [7, 0, 3, 10, 0, 10, 14]
-EARLY = [0, 0, 3, 0, 4, 20, 7]
-CROWDED = [0, 5, 2, 10, 0, 15, 7]
+PENALTIES = ["two in a row", "two in a day", "period spread", "over night", "mixed durations",
+             "front load", "period penalty", "room penalty"]
+GOOD = [7, 5, 3, 0, 0, 0, 15, 7]
+TOGETHER = [7, 0, 3, 0, 10, 0, 10, 14]
+EARLY = [0, 0, 3, 0, 0, 4, 20, 7]
+CROWDED = [0, 5, 2, 0, 10, 0, 15, 7]
+NIGHTLY = [0, 0, 3, 6, 0, 4, 20, 7]
 # Solutions of the small instance: how many breaches each has, and its penalties.
 JUDGED = {"small.sol": (0, GOOD), "together.sol": (0, TOGETHER), "crlf.sol": (0, GOOD),
           "./a folder/the solution": (0, GOOD), "early.sol": (1, EARLY),
@@ -104,11 +105,15 @@ def files():
     made = {file.name: file.read_bytes() for file in EXAMPLES.iterdir() if file.is_file()}
     exam, solution = made["small.exam"], made["small.sol"]
     apart, alone = b"3, EXCLUSION, 2\n2, EXCLUSION, 2\n", b"2, ROOM_EXCLUSIVE\n"
+    night = b"OVERNIGHT,6\n"
     return {
         **made,
         "together.sol": with_line(solution, 4, b"3, 1"),
         "early.sol": with_line(solution, 1, b"3, 0"),
         "crowded.sol": with_line(solution, 2, b"0, 0"),
+        "nights.exam": with_line(exam, 10, b"16:04:2005, 09:30:00, 120, 5") + night,
+        "weekend.exam": exam + night,
+        "twice.exam": exam + night * 2,
         "alone.exam": with_rules(exam, apart, alone),
         "alone_twice.exam": with_rules(exam, apart * 2, alone * 2),
         "blank.exam": with_line(exam, 5, b"60").replace(b"\n", b"\r\n") + b"\r\n\r\n",
@@ -152,7 +157,7 @@ def check_all(name, solutions, status, faults=b""):
     plain = [(path, *JUDGED[path]) for path in solutions if path in JUDGED]
     lines = [" ".join(map(str, [breaches, sum(parts), *parts, path]))
              for path, breaches, parts in plain]
-    names = ["row", "day", "spread", "mixed", "front", "period", "room"]
+    names = ["row", "day", "spread", "night", "mixed", "front", "period", "room"]
     objects = [json.dumps({**dict(zip(names, parts, strict=True)), "breaches": breaches,
                            "path": path, "total": sum(parts)}, sort_keys=True,
                           separators=(",", ":")) for path, breaches, parts in plain]
@@ -222,10 +227,13 @@ CASES = [
           "Exclusion 2 3", "RoomExclusive 2 3"),
     check("an exam not alone, by lines that come twice", "alone_twice.exam", "together.sol",
           TOGETHER, "Exclusion 2 3", "RoomExclusive 2 3"),
-    check("the smallest instance", "smallest.exam", "smallest.sol", [0] * 7),
+    check("over night", "nights.exam", "early.sol", NIGHTLY, "After 1 0"),
+    check("over a weekend", "weekend.exam", "early.sol", EARLY, "After 1 0"),
+    fault("the weight of nights twice", "twice.exam", "early.sol", b"instance line 24: fault 9"),
+    check("the smallest instance", "smallest.exam", "smallest.sol", [0] * 8),
     check("lines that end with CR LF", "crlf.exam", "crlf.sol", GOOD),
     check("CR LF, blank lines and an exam with no student", "blank.exam", "small.sol",
-          [7, 0, 2, 0, 0, 15, 7]),
+          [7, 0, 2, 0, 0, 0, 15, 7]),
     check("paths with spaces", "a folder/the exam", "./a folder/the solution", GOOD),
     check("paths from the root", str(EXAMPLES / "small.exam"), str(EXAMPLES / "small.sol"), GOOD),
     check("an instance of the greatest length", "at_limit.exam", "small.sol", GOOD),
@@ -262,6 +270,11 @@ CASES = [
                b"a folder: examoffice: cannot read a folder\n"),
     *check_all("no solution that can be judged", ["odd.sol"], 1,
                b"odd.sol: examoffice: solution line 2: fault 4\n"),
+    Case("a solution over night", ("check-all", "nights.exam", "early.sol"), 3,
+         b"1 40 0 0 3 6 0 4 20 7 early.sol\n"),
+    Case("a solution over night, as JSON", ("check-all", "--json", "nights.exam", "early.sol"), 3,
+         b'{"breaches":1,"day":0,"front":4,"mixed":0,"night":6,"path":"early.sol","period":20,'
+         b'"room":7,"row":0,"spread":3,"total":40}\n'),
     Case("solutions of a faulty session", ("check-all", "five.exam", "small.sol", "none.sol"), 1,
          b"", b"examoffice: instance line 1: fault 3\n"),
     Case("solutions of a session that isn't there", ("check-all", "none.exam", "small.sol"), 1,

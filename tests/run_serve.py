@@ -30,9 +30,9 @@ from cases import Cases
 from further_cases import ASKED, FURTHER, shown
 from serve_cases import (
     CASES, EMPTY, EXAMPLES, FIRST_MOVED, FROM_SOLUTION, INSTANCE, MANY, MOVED_ROOMS, MOVED_SEATS,
-    MOVED_TEXT, PENALTY, PENDING, PUBLISHED, SECOND_PAGE, SHOWN, SMALL, SOLUTION, STORED, THIRD,
-    UNPLACED, asked_by, at, batch, batch_text, clear, drafted, enrolled, error, forbidden, me,
-    message, move, pending, place, publish, published, reply, report, swap, text)
+    MOVED_TEXT, NIGHTLY, NIGHTS, PENALTY, PENDING, PUBLISHED, SECOND_PAGE, SHOWN, SMALL, SOLUTION,
+    STORED, THIRD, UNPLACED, asked_by, at, batch, batch_text, clear, cost, drafted, enrolled, error,
+    forbidden, me, message, move, pending, place, publish, published, reply, report, swap, text)
 
 # Beyond this nothing is waited for. Long, because other tests run beside.
 SECONDS = 180
@@ -164,8 +164,8 @@ def worked_examples(run):
 
 def stored_by_hand(run):
     """The rows that a publication stores are those worked out by hand."""
-    for name, solution, penalty, select, expected in STORED:
-        database = run.database(SMALL)
+    for name, start, solution, penalty, select, expected in STORED:
+        database = run.database(start)
         office = Office(run.program, database, connections=1)
         said = [(message("PUT", "/drafts/1", solution), drafted(201, penalty)),
                 (publish(), published(3, penalty))]
@@ -240,6 +240,25 @@ def adopt_after_republication(run):
                           check=False)
     run.judge("adopt_after_republication, other tables", no_office,
               (done.returncode, done.stdout, done.stderr))
+
+
+def nights_are_kept(run):
+    """The nights of a draft and of a publication are there when the file is served again. A file in
+    which one was altered is no office's."""
+    costs = report(7, 5, 3, 0, 0, 15, 7, 43, night=6)
+    shown_again = [(PENALTY, text(costs)), (SHOWN[1], text(costs)),
+                   (asked_by(2, "/penalty"), cost(0, 5, 1)), (asked_by(3, "/penalty"), cost(0, 0, 1, 6))]
+    database = served_again(
+        run, "nights that are kept",
+        [(message("PUT", "/drafts/1", NIGHTLY), drafted(201, 43)), (publish(), published(3, 43)),
+         *shown_again], [*shown_again, (publish(), published(0, 43)), *shown_again], NIGHTS)
+    for change in ("UPDATE night_draft SET night = 0", "UPDATE night_share SET night = 5 WHERE student = 3",
+                   "UPDATE night_share SET night = 3 WHERE student > 1"):
+        altered = run.folder / "altered.db"
+        shutil.copy(database, altered)
+        subprocess.run(["sqlite3", str(altered), change], check=True, timeout=SECONDS)
+        run.judge(f"nights that are kept, {change}", (1, b"", b"examoffice: store fault 9\n"),
+                  exported(run, altered))
 
 
 def draft_survives_adopt(run):
@@ -763,8 +782,8 @@ def kills(run, count):
 def tests_of(is_plain):
     """The tests that run side by side. Those that wait begin first, because they take longest."""
     waiting = [default_patience, patient_client, slow_clients]
-    own = [stored_by_hand, adopt_after_republication, draft_survives_adopt, last_message,
-           long_message, longest_body, cut_messages, hostile_messages, batches_are_kept,
+    own = [stored_by_hand, adopt_after_republication, nights_are_kept, draft_survives_adopt,
+           last_message, long_message, longest_body, cut_messages, hostile_messages, batches_are_kept,
            publication_is_told]
     others = [worked_examples, stock_curl, many_connections, failing_reader_and_writer,
               port_is_taken, locked_database, closed_streams, longest_batch, most_batches,

@@ -147,6 +147,8 @@ def variants(run):
         ("rooms", "name,building,capacity,penalty\n", "Floor, Name ,capacity,BUILDING,penalty\n\n"),
         ("rooms", "Great Hall,Main building,3,0", "1, Great  Hall,3, Main building ,".replace("  ", " ")),
         ("rooms", "Room 2.14,Physics building,2,7", "2,Room 2.14,2,Physics building,7"))))
+    _, _, files = run.made(run.edited(("rules", "FRONTLOAD,1,2,4", "overnight,6\nFRONTLOAD,1,2,4")))
+    run.judge("a weight of nights", small["session.exam"] + b"OVERNIGHT,6\n", files["session.exam"])
     for name, (old, new), numbers in (("no digits", ("s1", "ada"), [("ada", 0), ("s2", 1), ("s3", 2)]),
                                       ("the same digits", ("s1", "t2"), [("s2", 0), ("s3", 1), ("t2", 2)]),
                                       ("ten digits", ("s1", "s1234567890"),

@@ -38,8 +38,13 @@ DRAFTED = ("INSERT INTO owner VALUES (2, 999)",
 FOUND, REFUSED = ((1, b"", b"examoffice: store fault %d\n" % fault) for fault in (1, 9))
 BATCHES = ("WITH RECURSIVE n(no) AS (VALUES (0) UNION ALL SELECT no + 1 FROM n LIMIT %d)"
            " INSERT INTO batch SELECT no, x'', 0, 0, 0 FROM n")
+# The stored session with a weight of nights at its end, which costs nothing: no two of its dates are
+# one day apart.
+NIGHTS = "UPDATE meta SET instance = CAST(instance || 'OVERNIGHT,%d' || x'0D0A' AS BLOB)"
 # What a statement makes of that office.
 CHANGES = {
+    NIGHTS % 6: FOUND,
+    NIGHTS % 0: REFUSED,
     "UPDATE owner SET dept = 4": FOUND,
     "UPDATE owner SET dept = 1000": REFUSED,
     "UPDATE owner SET exam = 4": REFUSED,
@@ -107,7 +112,8 @@ OF_NEITHER = (
     "CREATE TABLE night_draft (no INTEGER NOT NULL PRIMARY KEY, night INTEGER NOT NULL) STRICT",
     "UPDATE meta SET version = 2",
     "UPDATE meta SET version = 3",
-    "UPDATE meta SET instance = CAST(instance || 'OVERNIGHT,6' || x'0D0A' AS BLOB)",
+    NIGHTS % 6,
+    NIGHTS % 0,
     "DROP TABLE batch",
 )
 # What a statement makes of that office.

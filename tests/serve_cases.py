@@ -118,14 +118,15 @@ def me(candidate, penalty, *exams):
                  % (candidate, ",".join(exams), penalty))
 
 
-def cost(row, day, spread):
-    return reply(200, '{"day":%d,"penalty":%d,"row":%d,"spread":%d}'
-                 % (day, row + day + spread, row, spread))
+def cost(row, day, spread, night=0):
+    return reply(200, '{"day":%d,"night":%d,"penalty":%d,"row":%d,"spread":%d}'
+                 % (day, night, row + day + spread + night, row, spread))
 
 
-def report(*parts):
-    names = ("two in a row", "two in a day", "period spread", "mixed durations", "front load",
-             "period penalty", "room penalty", "total")
+def report(row, day, spread, *others, night=0):
+    names = ("two in a row", "two in a day", "period spread", "over night", "mixed durations",
+             "front load", "period penalty", "room penalty", "total")
+    parts = (row, day, spread, night, *others)
     return "".join(f"{name} {part}\n" for name, part in zip(names, parts, strict=True))
 
 
@@ -202,26 +203,36 @@ FRONTLOAD,1,2,4
 OTHER_SOLUTION = b"0, 0\n1, 0\n0, 1\n3, 1\n0, 2\n"
 # The small session where exams 0 and 1 go into one period if they have no common candidate.
 COINCIDING = SMALL.replace(b"1, AFTER, 0\n", b"1, AFTER, 0\n0, EXAM_COINCIDENCE, 1\n")
+# The small session with period 3 on the day after the others, and with 6 for a night; a solution in
+# which candidate 3 has exams 1 and 2 in periods 2 and 3.
+NIGHTS = SMALL.replace(b"18:04:2005", b"16:04:2005") + b"OVERNIGHT,6\n"
+NIGHTLY = b"0, 0\n2, 0\n3, 1\n1, 0\n"
 # The session as the small one was loaded.
 INSTANCE = message("GET", "/instance"), text(SMALL.replace(b"\n", b"\r\n"))
 # The publication, its penalty, its rooms and its seats.
 SHOWN = [message("GET", f"/publication{page}") for page in ("", "/penalty", "/rooms", "/seats")]
 
 
-# What publishing stores: the name of the case, the solution, its penalty, what sqlite3 selects.
+# What publishing stores: the name of the case, session and solution, its penalty, what sqlite3 selects.
 SEATS = "SELECT exam, student, period, room, seat FROM seat ORDER BY exam, student"
-SHARES = ("SELECT student, in_row, in_day, spread FROM share_student ORDER BY student; "
+SHARES = ("SELECT * FROM share_student NATURAL JOIN night_share ORDER BY student; "
           "SELECT kind, no, penalty, mixed FROM share_part ORDER BY kind, no")
+PARTS = ("SELECT * FROM draft NATURAL JOIN night_draft; SELECT sum(in_row), sum(in_day), sum(spread), "
+         "sum(night) FROM share_student NATURAL JOIN night_share")
 STORED = (
-    ("worked_seats", SOLUTION, 37, SEATS,
+    ("worked_seats", SMALL, SOLUTION, 37, SEATS,
      b"0|1|0|0|1 0|2|0|0|2 1|2|1|0|1 1|3|1|0|2 2|3|3|1|1 3|1|2|0|1 "),
-    ("worked_shares", SOLUTION, 37, SHARES,
-     b"1|0|5|1 2|7|0|1 3|0|0|1 0|0|0|0 0|1|0|0 0|2|0|0 0|3|0|0 1|0|0|0 1|1|0|0 1|2|10|0 1|3|5|0 "
-     b"2|0|0|0 2|1|7|0 "),
-    ("two_exams_in_one_room", MOVED_TEXT.encode(), 44, SEATS,
+    ("worked_shares", SMALL, SOLUTION, 37, SHARES,
+     b"1|0|5|1|0 2|7|0|1|0 3|0|0|1|0 0|0|0|0 0|1|0|0 0|2|0|0 0|3|0|0 1|0|0|0 1|1|0|0 1|2|10|0 "
+     b"1|3|5|0 2|0|0|0 2|1|7|0 "),
+    ("two_exams_in_one_room", SMALL, MOVED_TEXT.encode(), 44, SEATS,
      b"0|1|0|0|1 0|2|0|0|2 1|2|1|0|1 1|3|1|0|2 2|3|3|1|1 3|1|3|1|2 "),
-    ("seats that nobody had before", OUT_TEXT.encode(), 36, SEATS,
-     b"0|1|0|0|1 0|2|0|0|2 1|2|1|0|1 1|3|1|0|2 2|3|0|1|1 3|1|3|1|1 "))
+    ("seats that nobody had before", SMALL, OUT_TEXT.encode(), 36, SEATS,
+     b"0|1|0|0|1 0|2|0|0|2 1|2|1|0|1 1|3|1|0|2 2|3|0|1|1 3|1|3|1|1 "),
+    ("shares of a night", NIGHTS, NIGHTLY, 43, SHARES,
+     b"1|7|0|1|0 2|0|5|1|0 3|0|0|1|6 0|0|0|0 0|1|0|0 0|2|0|0 0|3|0|0 1|0|0|0 1|1|0|0 1|2|10|0 "
+     b"1|3|5|0 2|0|0|0 2|1|7|0 "),
+    ("parts with a night", NIGHTS, NIGHTLY, 43, PARTS, b"1|7|5|3|0|0|15|7|6 7|5|3|6 "))
 
 
 # What candidate 2 asks in either office: exam 2 exists in both, exam 4 in the other alone.
