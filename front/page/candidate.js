@@ -22,6 +22,7 @@ const PARTS = [
   ['day', 'Two exams on one day', 'with at least one period between them'],
   ['spread', 'Exams close together',
     'within a number of periods that the registry chose, overnight too'],
+  ['night', 'Exams over night', 'the last of one day and the first of the next'],
 ];
 
 const HEADS = ['Time', 'Exam', 'Room', 'Seat', 'Status'];
