@@ -1,16 +1,17 @@
--- The number of larger exams, by the list of sizes.
-use Rattle.std.proofs.Common.{◌≡◌, ℕ, zero, suc, ◌+◌, ◌-◌, ◌<◌, ◌≤◌, take_all, Bool, cond, List, length, take, drop, count_by, refl, sym, ◌∙◌, ap, ap₂, arith, add-one, [], ◌∷◌, ◌++◌, subst}
+-- How many exams are larger, by the list of their sizes.
+use Rattle.std.proofs.Common.{◌≡◌, ℕ, zero, suc, ◌+◌, ◌-◌, ◌<◌, ◌≤◌, take_all, Bool, true, false, cond, List, length, take, drop, count_by, refl, sym, ◌∙◌, ap, ap₂, arith, add-one, [], ◌∷◌, ◌++◌, subst}
 use Rattle.std.specs.Prelude.{slice_index, nat_lt, nat_le, ◌==◌, ◌&&◌, ◌||◌, if◌then◌else◌}
+use Rattle.std.proofs.lemmas.Bool.{false≢true}
 use Rattle.std.proofs.lemmas.Bool.Decides.{nat_tests}
 use Rattle.std.proofs.lemmas.Grind.{common_steps}
 use Rattle.std.proofs.lemmas.List.{length_push}
-use Rattle.std.proofs.lemmas.List.Sums.{sum_by_more, sum_by-take-drop}
+use Rattle.std.proofs.lemmas.List.Sums.{count_by_more_no, count_by_more_yes, sum_by_more, sum_by-take-drop, sum_by-le-sum_by}
 use Rattle.exam_model.specs.Enrolments.{Enrolled, size_of}
 use Rattle.exam_model.specs.Instance.{Session}
 use Rattle.exam_model.specs.Sums.{count_below}
 use Rattle.exam_model.specs.Timetable.{Placing, place_of}
 use Rattle.exam_model.proofs.SumLemmas.{sum_below-within, sum_below_more}
-use Rattle.exam_score.specs.Front.{AreSizes, is_larger_by, front_by}
+use Rattle.exam_score.specs.Front.{AreSizes, IsBar, is_larger_by, front_by}
 use Rattle.exam_score.specs.FrontLoad.{is_larger, is_late, exam_front}
 
 -- a count over the first elements, by their indexes
@@ -66,7 +67,69 @@ larger_count sizes e h =
     let rest = sum_by-take-drop (λ x. cond (nat_lt a x) 1 0) sizes e in
     omega arith
 
--- the front load by the sizes is that by the enrolments
+-- ---- a bar
+
+cond_le : (b d : Bool) → (b ≡ true → d ≡ true) → ◌≤◌ (cond b 1 0) (cond d 1 0)
+cond_le false d h = omega arith
+cond_le true true h = omega arith
+cond_le true false h = absurd (false≢true (h refl))
+
+count_le : (p q : ℕ → Bool) (xs : List ℕ) → ((x : ℕ) → p x ≡ true → q x ≡ true)
+    → count_by p xs ≤ count_by q xs
+count_le p q xs h =
+    sum_by-le-sum_by (λ x. cond (p x) 1 0) (λ x. cond (q x) 1 0) xs (λ x. cond_le (p x) (q x) (h x))
+
+lt_by_le : (t a x : ℕ) → t < a → nat_le a x ≡ true → nat_lt t x ≡ true
+lt_by_le t a x less le = grind (arith, nat_tests)
+
+lt_by_lt : (t a x : ℕ) → t < a → nat_lt a x ≡ true → nat_lt t x ≡ true
+lt_by_lt t a x less lt = grind (arith, nat_tests)
+
+le_by_le : (t a x : ℕ) → a < t → nat_le t x ≡ true → nat_le a x ≡ true
+le_by_le t a x less le = grind (arith, nat_tests)
+
+lt_by_bar : (t a x : ℕ) → a < t → nat_le t x ≡ true → nat_lt a x ≡ true
+lt_by_bar t a x less le = grind (arith, nat_tests)
+
+is_lt : (a b : ℕ) → a < b → nat_lt a b ≡ true
+is_lt a b less = grind (arith, nat_tests)
+
+is_no_lt : (a b : ℕ) → b ≤ a → nat_lt a b ≡ false
+is_no_lt a b le = grind (arith, nat_tests)
+
+-- an exam above the bar is among the largest
+pub above_bar : (sizes : List ℕ) (most t e : ℕ) → IsBar sizes most t → e < length sizes
+    → t < slice_index sizes e
+    → nat_lt (count_below (length sizes) (λ f. is_larger_by sizes f e)) most ≡ true
+above_bar sizes most t e bar within less =
+    let a = slice_index sizes e in
+    let count = larger_count sizes e within in
+    let first = count_le (λ x. nat_le a x) (λ x. nat_lt t x) (take e sizes)
+    (λ x h. lt_by_le t a x less h) in
+    let others = count_le (λ x. nat_lt a x) (λ x. nat_lt t x) (drop (e + 1) sizes)
+    (λ x h. lt_by_lt t a x less h) in
+    let all = sum_by-take-drop (λ x. cond (nat_lt a x) 1 0) sizes e in
+    let all_more = sum_by-take-drop (λ x. cond (nat_lt a x) 1 0) sizes (e + 1) in
+    let parts = sum_by-take-drop (λ x. cond (nat_lt t x) 1 0) sizes (e + 1) in
+    let own = count_by_more_no (λ x. nat_lt a x) sizes e 0 within (is_no_lt a a (omega arith)) in
+    let one = count_by_more_yes (λ x. nat_lt t x) sizes e 0 within (is_lt t a less) in
+    is_lt _ most (omega (arith, bar.above))
+
+-- one below it is not
+pub below_bar : (sizes : List ℕ) (most t e : ℕ) → IsBar sizes most t → e < length sizes
+    → slice_index sizes e < t
+    → nat_lt (count_below (length sizes) (λ f. is_larger_by sizes f e)) most ≡ false
+below_bar sizes most t e bar within less =
+    let a = slice_index sizes e in
+    let count = larger_count sizes e within in
+    let first = count_le (λ x. nat_le t x) (λ x. nat_le a x) (take e sizes)
+    (λ x h. le_by_le t a x less h) in
+    let others = count_le (λ x. nat_le t x) (λ x. nat_lt a x) (drop e sizes)
+    (λ x h. lt_by_bar t a x less h) in
+    let parts = sum_by-take-drop (λ x. cond (nat_le t x) 1 0) sizes e in
+    is_no_lt _ most (omega (arith, bar.reached))
+
+-- by the sizes or by the enrolments
 pub front_by_sizes : (I : Session) (E : Enrolled) (T : Placing) (sizes : List ℕ) (e : ℕ)
     → AreSizes E sizes → length E ≡ length I.exams → e < length E
     → front_by I sizes (place_of T e) e ≡ exam_front I E T e

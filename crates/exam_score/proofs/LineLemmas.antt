@@ -1,5 +1,5 @@
 -- The table of costs, line by line, and periods beyond it.
-use Rattle.std.proofs.Common.{◌≡◌, ℕ, zero, suc, ◌<◌, ◌≤◌, List, [], ◌∷◌, ◌++◌, length, Some, None, refl, sym, ◌∙◌, ap, arith, inl, inr, le-ltb, length-append, subst}
+use Rattle.std.proofs.Common.{◌≡◌, ℕ, zero, suc, ◌<◌, ◌≤◌, List, [], ◌∷◌, ◌++◌, length, Some, refl, sym, ◌∙◌, ap, arith, inl, inr, le-ltb, length-append, subst}
 use Rattle.std.specs.Prelude.{slice_get, nat_lt, nat_le, ◌&&◌, ◌==◌, if◌then◌else◌}
 use Rattle.std.proofs.lemmas.Bool.{cases_lt}
 use Rattle.std.proofs.lemmas.Option.{slice_get_past, slice_get_within}
@@ -9,7 +9,7 @@ use Rattle.exam_model.specs.declared.parts.Period.{Period}
 use Rattle.exam_model.specs.declared.parts.Weights.{Weights}
 use Rattle.exam_score.specs.Cost.{row_cost, day_cost, spread_cost}
 use Rattle.exam_score.specs.CostOrder.{row_cost-swap, day_cost-swap, spread_cost-swap}
-use Rattle.exam_score.specs.Lines.{costs_of, IsLine}
+use Rattle.exam_score.specs.Lines.{costs_of}
 use Rattle.exam_score.specs.declared.lines.PairCosts.{PairCosts}
 use Rattle.exam_score.specs.declared.lines.Line.{Line}
 
@@ -77,22 +77,7 @@ no_spread periods weights p q h =
     && (nat_le 1 (gap q p) && nat_le (gap q p) weights.spread) then 1 else 0)
     (le-ltb q (length periods) h)
 
--- a period beyond the line costs nothing
-pub beyond_costs : (I : Session) (p q : ℕ) (line : List PairCosts) → IsLine I p line
-    → slice_get line q ≡ None → costs_of I p q ≡ record { row = 0; day = 0; spread = 0 }
-beyond_costs I p q line is none =
-    λ i. record { row = no_row I.periods I.weights p q past i; day = no_day I.periods I.weights p q past i; spread = no_spread I.periods I.weights p q past i }
-  where
-    past : length I.periods ≤ q
-    past = elim (cases_lt q (length line)) as (λ _. length I.periods ≤ q) [
-      | inl within ↦ absurd (clash (costs_of I p q) (sym none ∙ is.each q within))
-      | inr above ↦ omega (arith, is.count)
-    ]
-      where
-        clash : (x : PairCosts) → None ≡ Some x → ⊥
-        clash x e = cc
-
--- nor does any period with it
+-- no period costs anything with one beyond them
 pub row_beyond : (I : Session) (p q : ℕ) → length I.periods ≤ p
     → row_cost I.periods I.weights q p ≡ 0
 row_beyond I p q past = row_cost-swap I.periods I.weights q p ∙ no_row I.periods I.weights q p past

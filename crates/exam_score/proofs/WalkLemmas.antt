@@ -7,7 +7,7 @@ use Rattle.std.proofs.lemmas.List.Sums.{sum_by-take-drop, sum_by_more, sum_by-ta
 use Rattle.std.proofs.lemmas.Nat.{mul-le}
 use Rattle.exam_model.proofs.SumLemmas.{sum_by-none, sum_by-same, sum_by-zeros, sum_by-times, sum_pairs-more, sum_pairs-le}
 use Rattle.exam_score.specs.Tallies.{tally_sum, tally_beside, tally_pair, tally_cost, row_count}
-use Rattle.exam_score.specs.TallyLinks.{slot_of_student, IsLast, AreLinkedIn}
+use Rattle.exam_score.specs.TallyLinks.{slot_of_student, IsLast, IsOnWay, IsOwnPlace, AreLinkedIn}
 use Rattle.exam_score.specs.Walk.{row_pair, cost_with}
 use Rattle.exam_score.specs.declared.rows.Row.{Row}
 use Rattle.exam_score.specs.declared.tallies.Tally.{Tally}
@@ -104,6 +104,65 @@ pub link_below : (m : ℕ) (xs : List Tally) (x : Tally) (n : ℕ) → AreLinked
 link_below m xs x n linked some le here =
     let w = (link_of m xs x (n - 1) linked (omega arith) here).within in omega arith
 
+-- from a tally on, the way goes on
+pub on_way : (m : ℕ) (xs : List Tally) (x : Tally) (n s : ℕ) → AreLinkedIn xs m → 0 < n
+    → n ≤ length xs → ((d : Tally) → get_or xs (n - 1) d ≡ x) → x.student ≡ s
+    → IsOnWay xs x.before s
+on_way m xs x n s linked some le here own =
+    let link = link_of m xs x (n - 1) linked (omega arith) here in
+    record {
+      slots = m;
+      links = linked;
+      within = omega (arith, link.within);
+      slot = λ d before. link.here d before ∙ ap (λ t. slot_of_student m t) own;
+    }
+
+-- a tally of another student on the way, and on to the one before it
+pub way_on : (xs : List Tally) (x : Tally) (n s : ℕ) → IsOnWay xs n s → 0 < n
+    → ((d : Tally) → get_or xs (n - 1) d ≡ x) → IsOnWay xs x.before s
+way_on xs x n s way some here =
+    let slot : slot_of_student way.slots x.student ≡ slot_of_student way.slots s =
+    ap (λ z. slot_of_student way.slots z.student) (sym (here x)) ∙ way.slot x some in
+    record {
+      slots = way.slots;
+      links = way.links;
+      within = omega (arith, link_below way.slots xs x n way.links some way.within here, way.within);
+      slot = slot_on way.slots xs x n (slot_of_student way.slots s) way.links some way.within here
+          slot;
+    }
+
+pub way_below : (xs : List Tally) (x : Tally) (n s : ℕ) → IsOnWay xs n s → 0 < n
+    → ((d : Tally) → get_or xs (n - 1) d ≡ x) → x.before < n
+way_below xs x n s way some here = link_below way.slots xs x n way.links some way.within here
+
+pub passed : (cost : ℕ → ℕ → ℕ) (xs : List Tally) (y x : Tally) (n s : ℕ) → IsOnWay xs n s → 0 < n
+    → ((d : Tally) → get_or xs (n - 1) d ≡ x) → x.student ≢ s → y.student ≡ s
+    → sum_by (tally_beside cost y) (take n xs) ≡ sum_by (tally_beside cost y) (take x.before xs)
+passed cost xs y x n s way some here other own =
+    let slot : slot_of_student way.slots x.student ≡ slot_of_student way.slots y.student =
+    ap (λ z. slot_of_student way.slots z.student) (sym (here x)) ∙ way.slot x some
+    ∙ ap (λ t. slot_of_student way.slots t) (sym own) in
+    let step = walk_on way.slots cost xs y x n way.links some way.within here slot in
+    let none = other_student cost y x (λ same. other (sym same ∙ own)) in
+    omega arith
+
+-- a tally of the student, and on to the one before it
+pub own_on : (m : ℕ) (cost : ℕ → ℕ → ℕ) (xs : List Tally) (y x : Tally) (n : ℕ) → AreLinkedIn xs m
+    → 0 < n → n ≤ length xs → ((d : Tally) → get_or xs (n - 1) d ≡ x) → x.student ≡ y.student
+    → sum_by (tally_beside cost y) (take n xs)
+    ≡ tally_beside cost y x + sum_by (tally_beside cost y) (take x.before xs)
+own_on m cost xs y x n linked some le here own =
+    walk_on m cost xs y x n linked some le here (ap (λ s. slot_of_student m s) own)
+
+-- an earlier tally is of no later period
+pub not_later : (m : ℕ) (xs : List Tally) (y : Tally) (n k : ℕ) → AreLinkedIn xs m → n < k
+    → k < length xs → ((d : Tally) → get_or xs k d ≡ y) → (d : Tally)
+    → (get_or xs n d).period ≤ y.period
+not_later m xs y n k linked before within here d =
+    let up = linked.ascending n k d before within in
+    let own : (get_or xs k d).period ≡ y.period = ap (λ z. z.period) (here d) in
+    omega arith
+
 -- ---- the end
 
 -- at a tally whose period is below the first that costs anything
@@ -131,7 +190,36 @@ walk_ends m cost xs y n first linked le free below =
         ap (tally_beside cost y) (get_or-take n xs j d within)
         ∙ free_period cost y (get_or xs j d) (free (get_or xs j d).period less)
 
--- a period that costs nothing with any period
+-- ---- the student's own tallies
+
+starts_alike : (m : ℕ) (cost : ℕ → ℕ → ℕ) (xs : List Tally) (z y : Tally) (k : ℕ) → AreLinkedIn xs m
+    → k < length xs → ((d : Tally) → get_or xs k d ≡ z) → y.student ≡ z.student
+    → sum_by (tally_beside cost y) (take z.before xs) ≡ sum_by (tally_beside cost y) (take k xs)
+starts_alike m cost xs z y k linked within here own =
+    sym (skipped m cost xs y z.before k
+    (subst (λ s. IsLast xs m (slot_of_student m s) z.before k) (sym own)
+    (link_of m xs z k linked within here)) (omega arith))
+
+-- the place that was found from the tally before one is that before this one too
+pub own_from : (m : ℕ) (xs : List Tally) (z : Tally) (k first n : ℕ) → AreLinkedIn xs m
+    → k < length xs → ((d : Tally) → get_or xs k d ≡ z)
+    → IsOwnPlace xs z.before z.student first n → IsOwnPlace xs k z.student first n
+own_from m xs z k first n linked within here found = record {
+  within = let link = link_of m xs z k linked within here in
+      omega (arith, link.within, found.within);
+  own = found.own;
+  sums = λ cost y own free. sym (starts_alike m cost xs z y k linked within here own)
+      ∙ found.sums cost y own free;
+}
+
+-- without such a place nothing costs anything
+pub own_none : (cost : ℕ → ℕ → ℕ) (xs : List Tally) (y : Tally) (k first n : ℕ)
+    → IsOwnPlace xs k y.student first n → n ≡ 0 → ((q : ℕ) → q < first → cost q y.period ≡ 0)
+    → 0 ≡ sum_by (tally_beside cost y) (take k xs)
+own_none cost xs y k first n found zero free =
+    sym (found.sums cost y refl free ∙ ap (λ i. sum_by (tally_beside cost y) (take i xs)) zero)
+
+-- a period that costs nothing with any
 pub beyond_tallies : (cost : ℕ → ℕ → ℕ) (xs : List Tally) (y : Tally)
     → ((q : ℕ) → cost q y.period ≡ 0) → sum_by (tally_beside cost y) xs ≡ 0
 beyond_tallies cost xs y none =
@@ -191,6 +279,20 @@ small_more xs k total more y within here was small =
     ap (tally_sum (λ r. 1)) (sym here) in
     let product = mul-le more y.exams 20000000000 y.exams small (omega arith) in
     omega arith
+
+-- one that costs nothing
+pub pairs_same : (cost : ℕ → ℕ → ℕ) (xs : List Tally) (k total : ℕ) (y : Tally) → k < length xs
+    → y ≡ get_or xs k y
+    → total ≡ tally_cost cost (take k xs) → 0 ≡ sum_by (tally_beside cost y) (take k xs)
+    → total ≡ tally_cost cost (take (k + 1) xs)
+pairs_same cost xs k total y within here was is =
+    omega (arith, pairs_more cost xs k total 0 y within here was is)
+
+pub small_same : (xs : List Tally) (k total : ℕ) (y : Tally) → k < length xs → y ≡ get_or xs k y
+    → total ≤ row_count (take k xs) * 20000000000
+    → total ≤ row_count (take (k + 1) xs) * 20000000000
+small_same xs k total y within here was =
+    omega (arith, small_more xs k total 0 y within here was (omega arith))
 
 pub small_within : (xs : List Tally) (k total : ℕ) → row_count xs ≤ 200000
     → total ≤ row_count (take k xs) * 20000000000 → total ≤ 4000000000000000

@@ -1,5 +1,5 @@
 -- The sizes of exams as a list.
-use Rattle.std.specs.Prelude.{◌≡◌, ℕ, ◌<◌, Bool, ◌&&◌, ◌||◌, ◌==◌, nat_lt, if◌then◌else◌, List, Option, length, slice_index}
+use Rattle.std.specs.Prelude.{◌≡◌, ℕ, ◌<◌, ◌≤◌, Bool, ◌&&◌, ◌||◌, ◌==◌, nat_lt, nat_le, count_by, if◌then◌else◌, List, Option, length, slice_index}
 use Rattle.exam_model.specs.Enrolments.{Enrolled, size_of}
 use Rattle.exam_model.specs.Instance.{Session}
 use Rattle.exam_model.specs.Sums.{count_below}
@@ -17,7 +17,12 @@ is_larger_by sizes f e =
     nat_lt (slice_index sizes e) (slice_index sizes f)
     || ((slice_index sizes f == slice_index sizes e) && nat_lt f e)
 
--- the share of an exam in the front load, by the sizes
+-- at most so many exams have more than t students, and at least so many have t or more
+pub record IsBar (sizes : List ℕ) (most t : ℕ) : Type 0 where
+  pub above : count_by (λ x. nat_lt t x) sizes ≤ most
+  pub reached : most ≤ count_by (λ x. nat_le t x) sizes
+
+-- what an exam makes of the front load, by the sizes
 abbrev pub front_by : Session → List ℕ → Option Place → ℕ → ℕ
 front_by I sizes at e =
     if nat_lt (count_below (length sizes) (λ f. is_larger_by sizes f e)) I.weights.front_exams

@@ -1,5 +1,5 @@
--- The costs of all pairs of periods as a table: a line for each period.
-use Rattle.std.specs.Prelude.{◌≡◌, ◌≢◌, ℕ, ◌<◌, ◌≤◌, List, length, Some, slice_get}
+-- The costs of pairs of periods as a table: a line for each period, up to itself.
+use Rattle.std.specs.Prelude.{◌≡◌, ◌≢◌, ℕ, ◌+◌, ◌<◌, ◌≤◌, List, length, Some, slice_get}
 use Rattle.exam_model.specs.Instance.{Session}
 use Rattle.exam_score.specs.Cost.{row_cost, day_cost, spread_cost}
 use Rattle.exam_score.specs.declared.lines.PairCosts.{PairCosts}
@@ -13,20 +13,20 @@ costs_of I p q = record {
   spread = spread_cost I.periods I.weights q p;
 }
 
--- the costs of a period with each period
+-- the costs of a period with each period up to itself
 pub record IsLine (I : Session) (p : ℕ) (line : List PairCosts) : Type 0 where
-  pub count : length line ≡ length I.periods
+  pub count : length line ≡ p + 1
   pub each : (q : ℕ) → q < length line → slice_get line q ≡ Some (costs_of I p q)
 
 -- no period below n costs anything with period p
 pub record IsFree (I : Session) (p n : ℕ) : Type 0 where
   pub each : (q : ℕ) → q < n → costs_of I p q ≡ record { row = 0; day = 0; spread = 0 }
 
--- period n is the first that costs anything with period p; the number of periods if none does
+-- of the periods up to p, period n is the first that costs anything with p; n is p + 1 if none does
 pub record IsFirstCost (I : Session) (p n : ℕ) : Type 0 where
   pub free : IsFree I p n
-  pub within : n ≤ length I.periods
-  pub costs : n < length I.periods → costs_of I p n ≢ record { row = 0; day = 0; spread = 0 }
+  pub within : n ≤ p + 1
+  pub costs : n ≤ p → costs_of I p n ≢ record { row = 0; day = 0; spread = 0 }
 
 -- a line for each period, and the first period that costs anything with it
 pub record IsTable (I : Session) (lines : List Line) : Type 0 where

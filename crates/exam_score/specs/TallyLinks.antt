@@ -1,6 +1,7 @@
 -- The links of students' tallies: each leads to the one before it in its slot.
-use Rattle.std.specs.Prelude.{◌≡◌, ◌≢◌, ℕ, ◌+◌, ◌-◌, ◌*◌, ◌%◌, ◌^◌, ◌<◌, ◌≤◌, List, length, slice_index, slice_index_or, AllPairs}
+use Rattle.std.specs.Prelude.{◌≡◌, ◌≢◌, ℕ, ◌+◌, ◌-◌, ◌*◌, ◌%◌, ◌^◌, ◌<◌, ◌≤◌, List, length, take, slice_index, slice_index_or, sum_by, AllPairs}
 use Rattle.exam_terms.specs.declared.limits.TheConstants.{MAX_PAIRS}
+use Rattle.exam_score.specs.Tallies.{tally_beside}
 use Rattle.exam_score.specs.declared.tallies.Tally.{Tally}
 
 -- the slot of a student's tallies, out of this many
@@ -46,7 +47,26 @@ pub record IsReached (tallies : List Tally) (n : ℕ) (x : Tally) : Type 0 where
   pub some : 0 < n
   pub here : (d : Tally) → slice_index_or tallies (n - 1) d ≡ x
 
--- the tally with index n - 1 is of student s and period p, and can count one more
+-- the tallies are linked, and the one just before place n, if any, is of the slot of student s
+pub record IsOnWay (tallies : List Tally) (n s : ℕ) : Type 0 where
+  pub slots : ℕ
+  pub links : AreLinkedIn tallies slots
+  pub within : n ≤ length tallies
+  pub slot : (d : Tally) → 0 < n
+      → slot_of_student slots (slice_index_or tallies (n - 1) d).student
+      ≡ slot_of_student slots s
+
+-- the tally just before place n is of student s, or n is 0; those from n up to a place cost nothing
+-- with a tally of that student if periods below the first cost nothing with it
+pub record IsOwnPlace (tallies : List Tally) (place s first n : ℕ) : Type 0 where
+  pub within : n ≤ place
+  pub own : (d : Tally) → 0 < n → (slice_index_or tallies (n - 1) d).student ≡ s
+  pub sums : (cost : ℕ → ℕ → ℕ) (y : Tally) → y.student ≡ s
+      → ((q : ℕ) → q < first → cost q y.period ≡ 0)
+      → sum_by (tally_beside cost y) (take place tallies)
+      ≡ sum_by (tally_beside cost y) (take n tallies)
+
+-- the tally just before place n is of student s and period p, and can count one more
 pub record Extends (tallies : List Tally) (n s p : ℕ) : Type 0 where
   pub some : 0 < n
   pub student : (d : Tally) → (slice_index_or tallies (n - 1) d).student ≡ s

@@ -1,10 +1,10 @@
 // Front load: the largest exams are to come early.
-ghost use Rattle.std.specs.Prelude.{◌≡◌, ◌≤◌, ◌<◌, ◌*◌, length, count_by, nat_lt, nat_le, IfOk, Option};
+ghost use Rattle.std.specs.Prelude.{◌≡◌, ◌≤◌, ◌<◌, ◌*◌, length, count_by, nat_lt, nat_le, IfOk, IfSome, Option};
 ghost use Rattle.exam_terms.specs.declared.limits.TheConstants.{MAX_AMOUNT, MAX_EXAMS};
 ghost use Rattle.exam_model.specs.Fits.{Suits};
 ghost use Rattle.exam_model.specs.Sums.{count_below};
 ghost use Rattle.exam_model.specs.Enrolments.{size_of};
-ghost use Rattle.exam_score.specs.Front.{AreSizes, is_larger_by, front_by};
+ghost use Rattle.exam_score.specs.Front.{AreSizes, IsBar, is_larger_by, front_by};
 ghost use Rattle.exam_score.specs.FrontLoad.{front_part, is_late};
 
 use exam_model::{Enrolments, ExamNo, Instance, Place, Timetable};
@@ -24,10 +24,11 @@ pub(crate) fn front_load(
     ensures small { IfOk result (λ n. n ≤ MAX_EXAMS * MAX_AMOUNT) }
 {
     let sizes = sizes_of(alloc, enrolments)?;
+    let bar = bar_of(alloc, &sizes, instance.weights().front_exams)?;
     let mut total = 0;
     for exam in 0..enrolments.exams() {
         let exam = ExamNo::new(exam);
-        total += front_share(instance, &sizes, exam, timetable.get(exam));
+        total += share_by(instance, &sizes, bar, exam, timetable.get(exam));
     }
     Ok(total)
 }
@@ -40,8 +41,25 @@ pub fn front_share(instance: &Instance, sizes: &[u32], exam: ExamNo, place: Opti
     ensures share { result ≡ front_by instance.now sizes.now place exam }
     ensures small { result ≤ MAX_AMOUNT }
 {
+    share_by(instance, sizes, None, exam, place)
+}
+
+// Returns the same by a bar, which saves counting the larger exams if it is known.
+fn share_by(
+    instance: &Instance,
+    sizes: &[u32],
+    bar: Option<u32>,
+    exam: ExamNo,
+    place: Option<Place>,
+) -> u64
+    requires few { length sizes.now ≤ MAX_EXAMS }
+    requires exists { exam < length sizes.now }
+    requires bar { IfSome bar (IsBar sizes.now instance.now.weights.front_exams) }
+    ensures share { result ≡ front_by instance.now sizes.now place exam }
+    ensures small { result ≤ MAX_AMOUNT }
+{
     let weights = instance.weights();
-    if is_late(instance, place) && is_largest(sizes, exam.get(), weights.front_exams) {
+    if is_late(instance, place) && is_largest_by(sizes, bar, exam.get(), weights.front_exams) {
         u64::from(weights.front)
     } else {
         0
@@ -61,8 +79,59 @@ fn is_late(instance: &Instance, place: Option<Place>) -> bool
     }
 }
 
-// Returns whether fewer than `most` exams come before this one, by more students, and then by
-// smaller number.
+// Returns the size of the last of the n largest exams: larger ones are among these, smaller ones
+// aren't.
+fn bar_of(alloc: Global, sizes: &[u32], most: u32) -> Result<Option<u32>, AllocError>
+    requires few { length sizes.now ≤ MAX_EXAMS }
+    ensures { IfOk result (λ bar. IfSome bar (IsBar sizes.now most)) }
+{
+    let mut sorted = sizes.to_vec(alloc)?;
+    sorted.sort_unstable();
+    let at = sorted.len().saturating_sub(most as usize);
+    match sorted.get(at) {
+        Some(bar) => Ok(if_bar(sizes, *bar, most)),
+        None => Ok(None),
+    }
+}
+
+// Returns the size if it is such a bar.
+fn if_bar(sizes: &[u32], size: u32, most: u32) -> Option<u32>
+    requires few { length sizes.now ≤ MAX_EXAMS }
+    ensures { IfSome result (IsBar sizes.now most) }
+{
+    let above = count_larger(sizes, size);
+    let reached = count_not_smaller(sizes, size);
+    if above <= most && most <= reached {
+        Some(size)
+    } else {
+        None
+    }
+}
+
+// Returns whether fewer than n exams come before this one. They are counted only if no bar is known
+// or the exam is of its size.
+fn is_largest_by(sizes: &[u32], bar: Option<u32>, exam: u32, most: u32) -> bool
+    requires few { length sizes.now ≤ MAX_EXAMS }
+    requires exists { exam < length sizes.now }
+    requires bar { IfSome bar (IsBar sizes.now most) }
+    ensures { result
+        ≡ nat_lt (count_below (length sizes.now) (λ f. is_larger_by sizes.now f exam)) most }
+{
+    let Some(bar) = bar else {
+        return is_largest(sizes, exam, most);
+    };
+    let size = sizes[exam as usize];
+    if bar < size {
+        return true;
+    }
+    if size < bar {
+        return false;
+    }
+    is_largest(sizes, exam, most)
+}
+
+// Returns whether fewer than n exams come before this one: the greater first, and then the smaller
+// number.
 fn is_largest(sizes: &[u32], exam: u32, most: u32) -> bool
     requires few { length sizes.now ≤ MAX_EXAMS }
     requires exists { exam < length sizes.now }

@@ -1,5 +1,5 @@
-// The costs of all pairs of periods, each looked up once.
-ghost use Rattle.std.specs.Prelude.{◌≡◌, ◌<◌, ℕ, ◌↔◌, IsTrue, length, IfOk};
+// The costs of pairs of periods, each looked up once.
+ghost use Rattle.std.specs.Prelude.{◌≡◌, ◌<◌, ◌≤◌, ℕ, ◌↔◌, IsTrue, length, IfOk};
 ghost use Rattle.exam_score.specs.Lines.{costs_of, IsFirstCost, IsLine, IsTable};
 
 use crate::pair_costs::{DayCost, RowCost, SpreadCost};
@@ -14,7 +14,7 @@ pub(crate) struct PairCosts {
     pub spread: u32,
 }
 
-// The costs of a period with each period, and the first of these that costs anything.
+// The costs of a period with each period up to itself, and the first of these that costs anything.
 #[derive(Drop)]
 pub(crate) struct Line {
     pub costs: Vec<PairCosts>,
@@ -35,16 +35,19 @@ pub(crate) fn table_of(alloc: Global, instance: &Instance) -> Result<Vec<Line>, 
     Ok(lines)
 }
 
-// Returns the costs of a period with each period.
+// Returns the costs of a period with each period up to itself.
 fn line_of(
     alloc: Global,
     instance: &Instance,
     period: PeriodNo,
 ) -> Result<Vec<PairCosts>, AllocError>
+    requires exists { period < length instance.now.periods }
     ensures { IfOk result (λ line. IsLine instance.now period line.items) }
 {
-    let mut line = Vec::with_capacity(alloc, instance.periods() as usize)?;
-    for other in 0..instance.periods() {
+    let _periods = instance.periods(); // read for its limit
+    let count = period.get() + 1;
+    let mut line = Vec::with_capacity(alloc, count as usize)?;
+    for other in 0..count {
         line.push(costs_between(instance, period, PeriodNo::new(other)))?;
     }
     Ok(line)
@@ -60,19 +63,22 @@ fn costs_between(instance: &Instance, period: PeriodNo, other: PeriodNo) -> Pair
     }
 }
 
-// Returns the first period that costs anything with a period, by its line; if there is none, the
-// number of periods.
+// Returns the first period up to this one that costs anything with it, by its line; if there is
+// none, the period after it.
 fn first_cost(instance: &Instance, line: &[PairCosts], period: PeriodNo) -> u32
-    requires { IsLine instance.now period line.now }
+    requires exists { period < length instance.now.periods }
+    requires line { IsLine instance.now period line.now }
     ensures { IsFirstCost instance.now period result }
 {
-    for other in 0..instance.periods() {
+    let _periods = instance.periods(); // read for its limit
+    let count = period.get() + 1;
+    for other in 0..count {
         let costs = costs_in(instance, line, period, PeriodNo::new(other));
         if !is_free(costs) {
             return other;
         }
     }
-    instance.periods()
+    count
 }
 
 fn is_free(costs: PairCosts) -> bool
@@ -81,23 +87,16 @@ fn is_free(costs: PairCosts) -> bool
     costs.row == 0 && costs.day == 0 && costs.spread == 0
 }
 
-// Returns the costs of a period with another one, by its line.
-#[tactic(auto, using(crate::proofs::LineLemmas::beyond_costs))]
+// Returns the costs of a period with one that isn't later, by its line.
 pub(crate) fn costs_in(
     instance: &Instance,
     line: &[PairCosts],
     period: PeriodNo,
     other: PeriodNo,
 ) -> PairCosts
-    requires { IsLine instance.now period line.now }
+    requires line { IsLine instance.now period line.now }
+    requires earlier { other ≤ period }
     ensures { result ≡ costs_of instance.now period other }
 {
-    match line.get(other.get() as usize) {
-        Some(costs) => *costs,
-        None => PairCosts {
-            row: 0,
-            day: 0,
-            spread: 0,
-        },
-    }
+    line[other.get() as usize]
 }

@@ -1,5 +1,5 @@
 // The number of exams of each student in each period.
-ghost use Rattle.std.specs.Prelude.{◌≡◌, ℕ, ◌+◌, ◌-◌, ◌*◌, ◌≤◌, ◌<◌, ◌↔◌, IsTrue, length, slice_index, slice_index_or, slice_set, sum_by, All, AllPairs, IfOk, OnOk};
+ghost use Rattle.std.specs.Prelude.{◌≡◌, ℕ, ◌+◌, ◌-◌, ◌*◌, ◌≤◌, ◌<◌, ◌↔◌, ◌⊎◌, IsTrue, length, slice_index, slice_index_or, slice_set, sum_by, All, AllPairs, IfOk, OnOk};
 ghost use Rattle.exam_terms.specs.declared.limits.TheConstants.{MAX_PAIRS};
 ghost use Rattle.exam_model.specs.Enrolments.{size_of};
 ghost use Rattle.exam_score.specs.Rows.{row_at};
@@ -101,7 +101,9 @@ fn file_all(
     let mut last = no_tallies(alloc, slots as usize)?;
     let sizes = no_tallies(alloc, slots as usize)?;
     let mut crowd = Crowd { sizes, steps: 0 };
+    let mut start = 0;
     for sitting in sittings {
+        start = start_of(&tallies, sitting.period, start);
         let students = enrolments.students(sitting.exam);
         count_students(
             &mut tallies,
@@ -109,6 +111,7 @@ fn file_all(
             &mut crowd,
             students,
             sitting.period,
+            start,
             slots,
         )?;
     }
@@ -125,13 +128,25 @@ fn no_tallies(alloc: Global, slots: usize) -> Result<Vec<u32>, AllocError>
     vec![in alloc; 0; slots]
 }
 
-// Counts an exam for each of its students.
+// Where the tallies of a period start: at the old start if the last tally is of this period, else at
+// the end.
+fn start_of(tallies: &[Tally], period: PeriodNo, start: usize) -> usize
+    ensures { (result ≡ start) ⊎ (result ≡ length tallies.now) }
+{
+    match tallies.last() {
+        Some(tally) if tally.period == period => start,
+        _ => tallies.len(),
+    }
+}
+
+// Counts an exam for each of its students. The tallies of its period start at a place.
 fn count_students(
     tallies: &mut Vec<Tally>,
     last: &mut Vec<u32>,
     crowd: &mut Crowd,
     students: &[StudentNo],
     period: PeriodNo,
+    start: usize,
     slots: u32,
 ) -> Result<(), AllocError>
     requires some { 0 < slots }
@@ -150,7 +165,7 @@ fn count_students(
         (Grows tallies.old.items tallies.new.items period (length students.now)) }
 {
     for student in students {
-        count_one(tallies, last, crowd, *student, period, slots)?;
+        count_one(tallies, last, crowd, *student, period, start, slots)?;
     }
     Ok(())
 }
@@ -162,6 +177,7 @@ fn count_one(
     crowd: &mut Crowd,
     student: StudentNo,
     period: PeriodNo,
+    start: usize,
     slots: u32,
 ) -> Result<(), AllocError>
     requires some { 0 < slots }
@@ -179,7 +195,7 @@ fn count_one(
 {
     let slot = slot_of_student(student, slots);
     let before = last[slot];
-    if extends(tallies, before, student, period) {
+    if extends(tallies, before, start, student, period) {
         let at = before as usize - 1;
         let tally = tallies[at];
         let exams = tally.exams + 1;
@@ -220,12 +236,20 @@ fn slot_of_student(student: StudentNo, slots: u32) -> usize
     (student.get() % slots) as usize
 }
 
-// Returns whether the tally before this index is of that student and period, and not full.
-fn extends(tallies: &[Tally], before: u32, student: StudentNo, period: PeriodNo) -> bool
+// Returns whether the tally before this place is of that student and period, and not full. Only
+// tallies from the start on are looked at.
+fn extends(
+    tallies: &[Tally],
+    before: u32,
+    start: usize,
+    student: StudentNo,
+    period: PeriodNo,
+) -> bool
     requires within { before ≤ length tallies.now }
-    ensures { IsTrue result ↔ Extends tallies.now before student period }
+    ensures { IsTrue result
+        ↔ ((start < before) × Extends tallies.now before student period) }
 {
-    if before == 0 {
+    if before as usize <= start {
         return false;
     }
     let tally = tallies[before as usize - 1];

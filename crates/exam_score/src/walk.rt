@@ -1,15 +1,16 @@
 // Row, day and spread: each tally with the earlier ones of its student.
 ghost use Rattle.std.specs.Prelude.{◌≡◌, ℕ, ◌-◌, ◌≤◌, ◌<◌, length, take, slice_index_or, sum_by, IfSome, IfNone};
 ghost use Rattle.exam_terms.specs.declared.limits.TheConstants.{MAX_PAIRS};
+ghost use Rattle.exam_model.specs.Instance.{Session};
 ghost use Rattle.exam_score.specs.Cost.{row_cost, day_cost, spread_cost};
 ghost use Rattle.exam_score.specs.Lines.{IsLine, IsTable, IsFirstCost};
 ghost use Rattle.exam_score.specs.Tallies.{tally_beside, tally_cost, row_count};
-ghost use Rattle.exam_score.specs.TallyLinks.{AreLinked, IsReached};
+ghost use Rattle.exam_score.specs.TallyLinks.{AreLinked, IsOnWay, IsOwnPlace, IsReached};
 ghost use Rattle.exam_score.specs.declared.tallies.Tally.{Tally};
 
 use crate::lines::{Line, PairCosts, costs_in};
 use crate::tallies::Tally;
-use exam_model::Instance;
+use exam_model::{Instance, StudentNo};
 
 // The costs of pairs of exams.
 #[derive(Clone, Copy)]
@@ -40,7 +41,10 @@ pub(crate) fn sums_of_pairs(instance: &Instance, lines: &[Line], tallies: &[Tall
     let _kept = instance.periods(); // read for the limits of its weights
     let mut sums = NOTHING;
     for (at, tally) in tallies.iter().enumerate() {
-        let more = beside(instance, lines, tallies, at, tally);
+        let Some((line, place)) = line_beside(lines, tallies, at, tally) else {
+            continue; // as for most tallies
+        };
+        let more = along(instance, line, tallies, place, tally);
         let exams = u64::from(tally.exams);
         sums.row += more.row * exams;
         sums.day += more.day * exams;
@@ -49,69 +53,94 @@ pub(crate) fn sums_of_pairs(instance: &Instance, lines: &[Line], tallies: &[Tall
     sums
 }
 
-// Returns the cost of one exam of the tally at an index with the earlier tallies.
-fn beside(
-    instance: &Instance,
-    lines: &[Line],
+// Returns the line of the period of the tally at a place, and the place after the latest tally of
+// its student that costs anything with it. `None`: there is no such tally.
+fn line_beside<'a>(
+    lines: &'a [Line],
     tallies: &[Tally],
     at: usize,
     tally: &Tally,
-) -> PairSums
+) -> Option<(&'a Line, u32)>
     requires within { at < length tallies.now }
     requires here { (d : Tally) → slice_index_or tallies.now at d ≡ tally.now }
-    requires table { IsTable instance.now lines.now }
     requires linked { AreLinked tallies.now }
-    requires few { row_count tallies.now ≤ MAX_PAIRS }
-    ensures row { result.row
-        ≡ sum_by (tally_beside (row_cost instance.now.periods instance.now.weights) tally.now)
-        (take at tallies.now) }
-    ensures day { result.day
-        ≡ sum_by (tally_beside (day_cost instance.now.periods instance.now.weights) tally.now)
-        (take at tallies.now) }
-    ensures spread { result.spread
-        ≡ sum_by (tally_beside (spread_cost instance.now.periods instance.now.weights) tally.now)
-        (take at tallies.now) }
+    ensures line { (I : Session) → IsTable I lines.now
+        → IfSome result (λ found. IsLine I tally.now.period found.0.now.costs.items) }
+    ensures first { (I : Session) → IsTable I lines.now
+        → IfSome result (λ found. IsFirstCost I tally.now.period found.0.now.first) }
+    ensures place { IfSome result (λ found.
+        IsOwnPlace tallies.now at tally.now.student found.0.now.first found.1) }
+    ensures row { (I : Session) → IsTable I lines.now → IfNone result (0
+        ≡ sum_by (tally_beside (row_cost I.periods I.weights) tally.now) (take at tallies.now)) }
+    ensures day { (I : Session) → IsTable I lines.now → IfNone result (0
+        ≡ sum_by (tally_beside (day_cost I.periods I.weights) tally.now) (take at tallies.now)) }
+    ensures spread { (I : Session) → IsTable I lines.now → IfNone result (0
+        ≡ sum_by (tally_beside (spread_cost I.periods I.weights) tally.now)
+        (take at tallies.now)) }
 {
-    match lines.get(tally.period.get() as usize) {
-        Some(line) => along(instance, line, tallies, at, tally),
-        None => NOTHING,
+    let Some(line) = lines.get(tally.period.get() as usize) else {
+        return None;
+    };
+    let place = own_place(tallies, tally.before, line.first, tally.student);
+    if place == 0 {
+        return None;
     }
+    Some((line, place))
 }
 
-// Returns the same by the line of its period.
-fn along(instance: &Instance, line: &Line, tallies: &[Tally], at: usize, tally: &Tally) -> PairSums
-    requires within { at < length tallies.now }
-    requires here { (d : Tally) → slice_index_or tallies.now at d ≡ tally.now }
+// Returns the cost of one exam of a tally with those before a place, by the line of its period.
+fn along(instance: &Instance, line: &Line, tallies: &[Tally], place: u32, tally: &Tally) -> PairSums
+    requires within { place ≤ length tallies.now }
+    requires own { (d : Tally) → 0 < place
+        → (slice_index_or tallies.now (place - 1) d).student ≡ tally.now.student }
+    requires not_later { (k : ℕ) (d : Tally) → k < place
+        → (slice_index_or tallies.now k d).period ≤ tally.now.period }
     requires line { IsLine instance.now tally.now.period line.now.costs.items }
     requires first { IsFirstCost instance.now tally.now.period line.now.first }
     requires linked { AreLinked tallies.now }
     requires few { row_count tallies.now ≤ MAX_PAIRS }
     ensures row { result.row
         ≡ sum_by (tally_beside (row_cost instance.now.periods instance.now.weights) tally.now)
-        (take at tallies.now) }
+        (take place tallies.now) }
     ensures day { result.day
         ≡ sum_by (tally_beside (day_cost instance.now.periods instance.now.weights) tally.now)
-        (take at tallies.now) }
+        (take place tallies.now) }
     ensures spread { result.spread
         ≡ sum_by (tally_beside (spread_cost instance.now.periods instance.now.weights) tally.now)
-        (take at tallies.now) }
+        (take place tallies.now) }
 {
     let _kept = instance.periods(); // read for the limits of its weights
-    let first = line.first;
     let mut sums = NOTHING;
-    let mut next = tally.before;
-    while let Some(other) = reached(tallies, next, first) {
+    let mut next = place;
+    while next != 0 {
+        let other = tallies[next as usize - 1];
         let more = between(instance, &line.costs, tally, &other);
         sums.row += more.row;
         sums.day += more.day;
         sums.spread += more.spread;
-        next = other.before;
+        next = own_place(tallies, other.before, line.first, tally.student);
     }
     sums
 }
 
-// Returns the tally just before this index. `None` once its period is too early to cost anything;
-// all tallies before it are earlier still.
+// Returns the place after the latest tally of a student before this place; 0: there is none, or it
+// is too early to cost anything.
+fn own_place(tallies: &[Tally], place: u32, first: u32, student: StudentNo) -> u32
+    requires way { IsOnWay tallies.now place student }
+    ensures { IsOwnPlace tallies.now place student first result }
+{
+    let mut next = place;
+    while let Some(other) = reached(tallies, next, first) {
+        if other.student == student {
+            return next;
+        }
+        next = other.before;
+    }
+    0
+}
+
+// Returns the tally just before this place. `None`: its period is too early to cost anything, as
+// are those of all before it.
 pub(crate) fn reached(tallies: &[Tally], next: u32, first: u32) -> Option<Tally>
     requires within { next ≤ length tallies.now }
     ensures some { IfSome result (IsReached tallies.now next) }
@@ -129,9 +158,11 @@ pub(crate) fn reached(tallies: &[Tally], next: u32, first: u32) -> Option<Tally>
     Some(tally)
 }
 
-// Returns the cost of one exam of a tally with those of another one.
+// Returns the cost of one exam of a tally with those of another one of its student.
 fn between(instance: &Instance, line: &[PairCosts], tally: &Tally, other: &Tally) -> PairSums
     requires line { IsLine instance.now tally.now.period line.now }
+    requires own { other.now.student ≡ tally.now.student }
+    requires earlier { other.now.period ≤ tally.now.period }
     ensures row { result.row
         ≡ tally_beside (row_cost instance.now.periods instance.now.weights) tally.now other.now }
     ensures day { result.day
@@ -139,9 +170,6 @@ fn between(instance: &Instance, line: &[PairCosts], tally: &Tally, other: &Tally
     ensures spread { result.spread
         ≡ tally_beside (spread_cost instance.now.periods instance.now.weights) tally.now other.now }
 {
-    if tally.student != other.student {
-        return NOTHING;
-    }
     let costs = costs_in(instance, line, tally.period, other.period);
     let exams = u64::from(other.exams);
     let row = exams * u64::from(costs.row);

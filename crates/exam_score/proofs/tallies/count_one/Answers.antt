@@ -14,7 +14,7 @@ returns-then-extends-clause-counted c =
     let x = c.index-tally.result.now in
     let last : Extends xs n c.args.student c.args.period =
     subst (λ ys. Extends ys n c.args.student c.args.period) c.deref.ensures.value
-    (c.extends.ensures.0 c.if-extends.true) in
+    (c.extends.ensures.0 c.if-extends.true).1 in
     let within : n - 1 < length xs =
     place_within c.args.slots xs c.args.last.now.items c.slot_of_student-slot.result n
     c.args.student c.args.period c.requires.filed c.slot_of_student-slot.ensures.exists
@@ -33,7 +33,7 @@ returns-then-extends-clause-filed c =
     let x = c.index-tally.result.now in
     let last : Extends xs n c.args.student c.args.period =
     subst (λ ys. Extends ys n c.args.student c.args.period) c.deref.ensures.value
-    (c.extends.ensures.0 c.if-extends.true) in
+    (c.extends.ensures.0 c.if-extends.true).1 in
     let within : n - 1 < length xs =
     place_within c.args.slots xs c.args.last.now.items c.slot_of_student-slot.result n
     c.args.student c.args.period c.requires.filed c.slot_of_student-slot.ensures.exists

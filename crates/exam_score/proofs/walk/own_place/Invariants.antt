@@ -1,0 +1,18 @@
+use Rattle.std.proofs.Common.{◌≡◌, ◌≤◌, ℕ, take, sum_by}
+use Rattle.exam_score.specs.Tallies.{tally_beside}
+use Rattle.exam_score.specs.TallyLinks.{IsOnWay}
+use Rattle.exam_score.specs.declared.tallies.Tally.{Tally}
+use Rattle.exam_score.proofs.walk.own_place.Given as goal
+
+-- the tallies that were passed are of other students
+abbrev pub invariant-loop-other : goal.invariant-loop-other
+invariant-loop-other l = record {
+  within : l.next ≤ l.place;
+  way : IsOnWay l.tallies l.next l.student;
+  sums : (cost : ℕ → ℕ → ℕ) (y : Tally) → y.student ≡ l.student
+      → sum_by (tally_beside cost y) (take l.place l.tallies)
+      ≡ sum_by (tally_beside cost y) (take l.next l.tallies);
+}
+
+abbrev pub decreases-loop-other : goal.decreases-loop-other
+decreases-loop-other l = l.next
