@@ -35,14 +35,13 @@ pub(crate) fn first_digits(line: &[u8]) -> Option<(u32, &[u8])>
     if end == 0 {
         return None;
     }
-    let left = &line[end..];
-    let Some((next, behind)) = left.split_first() else {
-        return Some((value, left));
-    };
-    if *next != b',' {
+    if end == line.len() {
+        return Some((value, &line[end..]));
+    }
+    if line[end] != b',' {
         return None;
     }
-    Some((value, behind))
+    Some((value, &line[end + 1..]))
 }
 
 // Returns the value of the digits at the front of a line, and how many they are. It reads at most
