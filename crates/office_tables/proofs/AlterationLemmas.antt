@@ -5,7 +5,7 @@ use Rattle.std.proofs.lemmas.List.{reverse-append}
 use Rattle.office_tables.specs.Alterations.{after_all}
 use Rattle.office_tables.specs.Draft.{with_draft}
 use Rattle.office_tables.specs.Enrol.{with_enrol, with_enrols}
-use Rattle.office_tables.specs.Placed.{with_placement}
+use Rattle.office_tables.specs.Placed.{with_placement, without_placement}
 use Rattle.office_tables.specs.Seat.{with_seat, without_student_seats}
 use Rattle.office_tables.specs.SharePart.{with_part_share}
 use Rattle.office_tables.specs.ShareStudent.{with_student_share, without_student_share}
@@ -13,6 +13,7 @@ use Rattle.office_tables.specs.Slot.{with_slot, with_slots}
 use Rattle.office_tables.specs.Tables.{Tables}
 use Rattle.office_tables.specs.declared.draft.InsertDraft.{InsertDraft}
 use Rattle.office_tables.specs.declared.enrol.InsertEnrol.{InsertEnrol}
+use Rattle.office_tables.specs.declared.placed.DeletePlacement.{DeletePlacement}
 use Rattle.office_tables.specs.declared.placed.InsertPlacement.{InsertPlacement}
 use Rattle.office_tables.specs.declared.seat.DeleteStudentSeats.{DeleteStudentSeats}
 use Rattle.office_tables.specs.declared.seat.InsertSeat.{InsertSeat}
@@ -110,6 +111,16 @@ twice {X} p q (x ∷ xs) = go (p x) (twice p q xs)
 all_left : {X : Type 0} (xs : List X) → filter (λ _. true) xs ≡ xs
 all_left [] = refl
 all_left (x ∷ xs) = ap (λ l. x ∷ l) (all_left xs)
+
+-- the placements of these exams are gone
+pub placements_gone : (its : List DeletePlacement) (t : Tables)
+    → after_all (λ it. without_placement it.exam) its t
+    ≡ record t { placed = filter (λ r. not (list_any (λ it. r.exam == it.exam) its)) t.placed }
+placements_gone [] t = ap (λ l. record t { placed = l }) (sym (all_left t.placed))
+placements_gone (it ∷ rest) t =
+    placements_gone rest (without_placement it.exam t)
+    ∙ ap (λ l. record t { placed = l })
+    (twice (λ r. r.exam == it.exam) (λ r. list_any (λ x. r.exam == x.exam) rest) t.placed)
 
 -- the seats of these students are gone
 pub student_seats_gone : (its : List DeleteStudentSeats) (t : Tables)

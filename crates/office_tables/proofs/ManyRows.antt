@@ -1,11 +1,13 @@
 -- What a statement that inserts many rows makes of its table, whatever the table.
 use Rattle.std.proofs.Common.{◌≡◌, ◌+◌, ◌*◌, ◌/◌, ◌<◌, ◌≢◌, ℕ, zero, suc, List, [], ◌∷◌, ◌++◌, map, length, take, drop, reverse, flat_map, slice_index_or, slice_get, Some, Bool, true, false, ◌&&◌, Ok, refl, sym, ap, ap₂, subst, ◌∙◌, arith, append_assoc, length-append, suc-mul, zero-mul, drop-drop, take-append-drop}
 use Rattle.std.specs.Fn.{Called, Mut}
-use Rattle.std.specs.Array.{IsMapOf}
+use Rattle.std.specs.Array.{IsMapOf, list_steps}
+use Rattle.std.specs.Iterator.{CallableAtEachTurn, Yields}
 use Rattle.std.proofs.lemmas.Bool.{and_parts}
-use Rattle.std.specs.List.{AllByRecursion}
+use Rattle.std.specs.List.{All, AllByRecursion}
 use Rattle.std.specs.Simd.{first_chunks}
 use Rattle.std.proofs.lemmas.List.{drop_at, map-append, take_at}
+use Rattle.std.proofs.lemmas.List.Elements.{All-cons, All-drop, All-head, All-nil, All-rest, All-same, All-take}
 use Rattle.sqlite_rules.specs.Action.{works}
 use Rattle.sqlite_rules.specs.Cast.{cast_row}
 use Rattle.sqlite_rules.specs.Edit.{numbered, put_all, with_rowid, edit_of, are_fresh, Applies}
@@ -229,7 +231,28 @@ flat_params {A} {B} g row_of columns f xs ys n one long is =
         ∙ ap₂ (λ a b. a ++ b) (at 0 x y (omega arith))
         (go xs ys (omega (arith, same)) (λ i d e lt. at (suc i) d e (omega (arith, lt))))
 
+-- a function that takes each row of an array may be called at each in turn
+pub takes_each : {X F : Type 0} (R : F → X → F → Type 0) (P : X → Type 0) (xs : List X) (f : F)
+    → All P xs → CallableAtEachTurn list_steps R (λ _ x. P x) xs f
+takes_each {X} R P xs f each = record {
+  at = λ ys t q x u came turns next. go ys xs t x u each came next;
+}
+  where
+    go : (ys xs t : List X) (x : X) (u : List X) → All P xs → Yields list_steps xs ys t
+        → list_steps t (Some x) u → P x
+    go [] xs t x u each came next = All-head P x u (All-same P (x ∷ u) xs (sym (came ∙ next)) each)
+    go (y ∷ ys) xs t x u each came next =
+        go ys came.0 t x u (All-rest P y came.0 xs came.1 each) came.2 next
+
 -- ---- by chunks
+
+-- what holds of all rows holds of those of each chunk
+pub all_in_chunks : {A : Type 0} (P : A → Type 0) (n k : ℕ) (xs : List A) → All P xs
+    → All (All P) (first_chunks n k xs)
+all_in_chunks P n zero xs each = All-nil (All P)
+all_in_chunks P n (suc k) xs each =
+    All-cons (All P) (take n xs) (first_chunks n k (drop n xs)) (All-take P n xs each)
+    (all_in_chunks P n k (drop n xs) (All-drop P n xs each))
 
 after_append : {A : Type 0} (f : A → Tables → Tables) (xs ys : List A) (t : Tables)
     → after_all f ys (after_all f xs t) ≡ after_all f (xs ++ ys) t

@@ -114,6 +114,43 @@ placements_added old new its long count t stands h =
     subst (Stands new.now) (sym (placements_put its t))
     (placed_changed old.now new.now t stands done.0 (reverse rows ++ t.placed) done.1 done.2)
 
+-- ---- DELETE FROM placed WHERE exam = ?1
+
+abbrev pub delete_exam_text : List ℕ
+delete_exam_text = codes "DELETE FROM placed WHERE exam = ?1"
+
+delete_exam_is : command_of (understood office_schema delete_exam_text)
+    ≡ Delete 5 (record { lets = []; body = one_table 7 (equals 0 0 ∷ []) rowids [] })
+unfolding understood everything
+delete_exam_is = refl
+
+delete_exam_plain : IsPlain (understood office_schema delete_exam_text)
+unfolding understood everything
+delete_exam_plain = (refl, refl)
+
+pub placement_deleted : (old new : State) (exam : ℕ) (count : ℕ) (t : Tables) → Stands old.now t
+    → Executes delete_exam_text (Int (pos exam) ∷ []) old new (Ok count)
+    → Stands new.now (record t { placed = filter (λ r. not (r.exam == exam)) t.placed })
+placement_deleted old new exam count t stands h =
+    let params = Int (pos exam) ∷ [] in
+    let done = deletes delete_exam_text params old new count office_schema stands.schema
+    delete_exam_plain 5 placed_table refl _ delete_exam_is (λ taken news. refl) h in
+    let is = done.3 in
+    let stored = old.now.trees 7 in
+    let test = passes params (equals 0 0 ∷ []) in
+    let answer = answered 7 (equals 0 0 ∷ []) _ [] old.now.trees params done.0 done.2 in
+    let rows : new.now.trees 7 ≡ filter (λ r. not (test r)) stored =
+    is.rows ∙ left_of test stored done.0 stands.placed.rowids answer in
+    let same = shown_filter keyed placed_columns (λ r. not (test r)) (λ row. not (test row))
+    (λ r. not (r.exam == exam))
+    (λ r. refl) (λ x. ap not (equal_numbers x.exam exam)) stored t.placed stands.placed.same in
+    placed_changed old.now new.now t stands done.1
+    (filter (λ r. not (r.exam == exam)) t.placed) is.tables
+    (rw rows (record {
+      rowids = rowids_filter (λ r. not (test r)) stored stands.placed.rowids;
+      same = same;
+    }))
+
 -- ---- DELETE FROM placed
 
 abbrev pub delete_placement_text : List ℕ

@@ -1,5 +1,6 @@
 -- What each statement on the tables of shares means, and what it makes of the tables.
-use Rattle.std.proofs.Common.{◌≡◌, ℕ, pos, List, [], ◌∷◌, map, filter, not, ◌==◌, codes, true, Ok, arith, refl, ◌∙◌}
+use Rattle.std.proofs.Common.{◌≡◌, ℕ, pos, List, [], ◌∷◌, ◌++◌, map, filter, not, ◌==◌, codes, flat_map, length, reverse, true, Ok, arith, refl, sym, subst, ◌∙◌}
+use Rattle.std.proofs.lemmas.List.{length-map}
 use Rattle.sqlite_trees.specs.Tree.{put_row}
 use Rattle.sqlite_value.specs.declared.value.Value.TheVariants.{Null, Int}
 use Rattle.sqlite_value.specs.Order.{Row}
@@ -13,16 +14,20 @@ use Rattle.sqlite.specs.Term.{Term, lit, col}
 use Rattle.sqlite.proofs.Callers.{IsPlain, command_of}
 use Rattle.sqlite_tied.specs.Compute.{everything}
 use Rattle.office_tables.specs.declared.share_student.StudentShareRow.{StudentShareRow}
+use Rattle.office_tables.specs.Alterations.{after_all}
+use Rattle.office_tables.specs.declared.share_part.InsertPartShare.{InsertPartShare}
 use Rattle.office_tables.specs.declared.share_part.PartShareRow.{PartShareRow}
 use Rattle.office_schema.specs.Schema.{office_schema, share_student_table, share_part_table, night_share_table}
 use Rattle.office_tables.specs.Tables.{Tables}
 use Rattle.office_tables.specs.Standing.{Stands}
 use Rattle.office_tables.specs.Stored.{Holds, keyed, keyless}
 use Rattle.office_tables.specs.ShareStudent.{share_student_columns, night_share_columns}
-use Rattle.office_tables.specs.SharePart.{share_part_columns}
+use Rattle.office_tables.specs.SharePart.{share_part_columns, with_part_share}
+use Rattle.office_tables.proofs.AlterationLemmas.{part_shares_put}
 use Rattle.office_tables.proofs.Casts.{cast_int, cast_null}
 use Rattle.office_tables.proofs.Frames.{OneChanged, Others, holds_none, student_shares_changed, share_part_changed, still}
 use Rattle.office_tables.proofs.KeyedLemmas.{keyed_deleted, night_added, night_terms}
+use Rattle.office_tables.proofs.ManyRows.{repeated, numberless, terms_from, added_numberless}
 use Rattle.office_tables.proofs.Statements.{inserts, deletes}
 use Rattle.office_tables.proofs.TableLemmas.{holds_more}
 use Rattle.office_tables.proofs.Queries.{answered, left_of, none_left, equal_numbers, one_table, equals, rowids}
@@ -199,6 +204,45 @@ part_share_added old new row count t stands h =
     (rw rows (holds_more keyless (map share_part_columns t.share_part) stored new_row
     (share_part_columns row) refl refl fresh
     stands.share_part))
+
+-- ---- INSERT INTO share_part, sixteen rows
+
+abbrev pub insert_part_shares_text : List ℕ
+insert_part_shares_text = codes
+    "INSERT INTO share_part (kind, no, penalty, mixed) VALUES (?, ?, ?, ?)"
+    ++ repeated 15 (codes ", (?, ?, ?, ?)")
+
+insert_part_shares_is : command_of (understood office_schema insert_part_shares_text)
+    ≡ Insert 8 (Values (terms_from (numberless 4) 4 0 16) 5)
+unfolding understood everything
+insert_part_shares_is = refl
+
+insert_part_shares_plain : IsPlain (understood office_schema insert_part_shares_text)
+unfolding understood everything
+insert_part_shares_plain = (refl, refl)
+
+pub part_shares_added : (old new : State) (its : List InsertPartShare) → length its ≡ 16
+    → (count : ℕ) (t : Tables) → Stands old.now t
+    → Executes insert_part_shares_text (flat_map share_part_columns (map (λ it. it.row) its)) old new
+    (Ok count)
+    → Stands new.now (after_all (λ it. with_part_share it.row) its t)
+part_shares_added old new its long count t stands h =
+    let rows : List PartShareRow = map (λ it. it.row) its in
+    let done = added_numberless share_part_columns 4 (λ row. refl) insert_part_shares_text 16 8
+    share_part_table refl insert_part_shares_plain
+    insert_part_shares_is refl (λ taken news. refl)
+    (λ row. rw (
+      cast_null,
+      cast_int row.kind,
+      cast_int row.no,
+      cast_int row.penalty,
+      cast_int row.mixed,
+    ) refl)
+    old new rows t.share_part (length-map its (λ it. it.row) ∙ long) count stands.schema
+    stands.share_part h in
+    subst (Stands new.now) (sym (part_shares_put its t))
+    (share_part_changed old.now new.now t stands done.0 (reverse rows ++ t.share_part) done.1
+    done.2)
 
 -- ---- DELETE FROM share_part
 

@@ -1,6 +1,6 @@
 -- The table placed: its columns, what statements make of it, which rows fit, those of one student,
 -- and their order.
-use Rattle.std.specs.Prelude.{◌<◌, ◌==◌, ℕ, pos, List, [], ◌∷◌, filter, flat_map}
+use Rattle.std.specs.Prelude.{◌<◌, ◌==◌, ℕ, pos, List, [], ◌∷◌, filter, flat_map, not}
 use Rattle.sqlite_value.specs.declared.value.Value.TheVariants.{Int}
 use Rattle.sqlite_value.specs.Order.{Row}
 use Rattle.sqlite_trees.specs.Tree.{IsAscending}
@@ -15,6 +15,10 @@ placed_columns r = Int (pos r.exam) ∷ Int (pos r.period) ∷ Int (pos r.room) 
 -- with one more published place
 abbrev pub with_placement : PlacedRow → Tables → Tables
 with_placement row t = record t { placed = row ∷ t.placed }
+
+-- without the published place of this exam
+abbrev pub without_placement : ℕ → Tables → Tables
+without_placement exam t = record t { placed = filter (λ r. not (r.exam == exam)) t.placed }
 
 -- without any published place
 abbrev pub no_placements : Tables → Tables

@@ -38,10 +38,13 @@ pub use meta::{DeleteMeta, InsertMeta, MetaRow};
 pub use migrating::migrate;
 pub use owner::{DeleteOwner, InsertOwner, OwnerRow, owners_of};
 pub use placed::{
-    DeletePlacements, InsertPlacement, InsertPlacements, PlacedRow, placements, placements_of,
+    DeletePlacement, DeletePlacements, InsertPlacement, InsertPlacements, PlacedRow, placements,
+    placements_of,
 };
 pub use seat::{DeleteStudentSeats, InsertSeat, InsertSeats, SeatRow, seats, seats_of};
-pub use share_part::{DeletePartShares, InsertPartShare, PartShareRow, part_shares};
+pub use share_part::{
+    DeletePartShares, InsertPartShare, InsertPartShares, PartShareRow, part_shares,
+};
 pub use share_student::{
     DeleteStudentShare, InsertStudentShare, StudentShareRow, student_shares, student_shares_of,
 };

@@ -4,7 +4,7 @@ ghost use Rattle.sqlite.specs.Held.{state};
 ghost use Rattle.sqlite.specs.State.{Survives};
 ghost use Rattle.sqlite.specs.Values.{bound};
 ghost use Rattle.office_tables.specs.declared.version.Version.{Version};
-ghost use Rattle.office_tables.specs.Placed.{no_placements, placed_columns, placed_of, with_placement, FitsPlacement, PlacementsRise};
+ghost use Rattle.office_tables.specs.Placed.{no_placements, placed_columns, placed_of, with_placement, without_placement, FitsPlacement, PlacementsRise};
 ghost use Rattle.office_tables.specs.Finders.{Finds, IsFound, Leaves, Looks};
 ghost use Rattle.office_tables.specs.Schema.{schema_5, schema_6, IsBlank};
 ghost use Rattle.office_tables.specs.Selections.{IsInOrder};
@@ -135,6 +135,22 @@ impl Alteration for InsertPlacements<'_> {
             second: Each { alterations: rest },
         };
         all.apply(tx)
+    }
+}
+
+/// Takes an exam's placement out.
+#[derive(Clone, Copy)]
+pub struct DeletePlacement {
+    pub exam: u32,
+}
+
+impl Alteration for DeletePlacement {
+    ghost alteration = { λ it t. without_placement it.exam t };
+
+    ghost fits = { λ _. Unit {0} };
+
+    fn apply<S: Alter>(&self, tx: &mut Transaction<'_, S>) -> Result<(), Error> {
+        run(tx, "DELETE FROM placed WHERE exam = ?1", params![self.exam])
     }
 }
 

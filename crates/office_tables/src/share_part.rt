@@ -12,11 +12,11 @@ ghost use Rattle.office_tables.specs.Steps.{Grows, Within};
 ghost use Rattle.office_tables.specs.Readers.{AnswersOpen, LeavesAll, LeavesCommitted, OpensNone, Reads};
 ghost use Rattle.office_tables.specs.Stored.{keyless};
 
-use crate::altering::Alteration;
+use crate::altering::{Alteration, Both, Each};
 use crate::amounts::signed;
 use crate::listing::read_table;
 use crate::records::Record;
-use crate::running::run;
+use crate::running::{number, run};
 use crate::streaming::stream;
 use sqlite::types::ValueRef;
 use sqlite::{Alter, Connection, Error, Row, Transaction};
@@ -80,22 +80,69 @@ impl Alteration for InsertPartShare {
         run(
             tx,
             "INSERT INTO share_part (kind, no, penalty, mixed) VALUES (?1, ?2, ?3, ?4)",
-            &part_columns(self.row),
+            &columns(*self),
         )
     }
 }
 
-// The columns of such a share.
-fn part_columns(row: PartShareRow) -> [ValueRef<'static>; 4]
-    requires amounts { ArePartAmounts row }
-    ensures { bound result ≡ share_part_columns row }
+/// Adds sixteen such shares by one statement.
+impl Alteration for [InsertPartShare; 16] {
+    ghost use Rattle.std.specs.Prelude.{All};
+    ghost use Rattle.office_tables.specs.Alterations.{after_all};
+
+    ghost alteration = { λ its t. after_all (λ it. with_part_share it.row) its t };
+
+    ghost fits = { λ its. All (λ it. ArePartAmounts it.row) its };
+
+    fn apply<S: Alter>(&self, tx: &mut Transaction<'_, S>) -> Result<(), Error> {
+        run(
+            tx,
+            "INSERT INTO share_part (kind, no, penalty, mixed) VALUES \
+             (?, ?, ?, ?), (?, ?, ?, ?), (?, ?, ?, ?), (?, ?, ?, ?), \
+             (?, ?, ?, ?), (?, ?, ?, ?), (?, ?, ?, ?), (?, ?, ?, ?), \
+             (?, ?, ?, ?), (?, ?, ?, ?), (?, ?, ?, ?), (?, ?, ?, ?), \
+             (?, ?, ?, ?), (?, ?, ?, ?), (?, ?, ?, ?), (?, ?, ?, ?)",
+            self.map(columns).as_flattened(),
+        )
+    }
+}
+
+fn columns(it: InsertPartShare) -> [ValueRef<'static>; 4]
+    requires { ArePartAmounts it.row }
+    ensures { bound result ≡ share_part_columns it.row }
 {
     [
-        ValueRef::Int(i64::from(row.kind)),
-        ValueRef::Int(i64::from(row.no)),
-        ValueRef::Int(signed(row.penalty)),
-        ValueRef::Int(signed(row.mixed)),
+        number(it.row.kind),
+        number(it.row.no),
+        ValueRef::Int(signed(it.row.penalty)),
+        ValueRef::Int(signed(it.row.mixed)),
     ]
+}
+
+/// Adds such shares, one after another: sixteen by a statement, and what is left one by one.
+#[derive(Clone, Copy)]
+pub struct InsertPartShares<'a> {
+    pub rows: &'a [InsertPartShare],
+}
+
+impl Alteration for InsertPartShares<'_> {
+    ghost use Rattle.std.specs.Prelude.{All};
+    ghost use Rattle.office_tables.specs.Alterations.{after_all};
+
+    ghost alteration = { λ it t. after_all (λ it. with_part_share it.row) it.rows.now t };
+
+    ghost fits = { λ it. All (λ it. ArePartAmounts it.row) it.rows.now };
+
+    fn apply<S: Alter>(&self, tx: &mut Transaction<'_, S>) -> Result<(), Error> {
+        let (chunks, rest) = self.rows.as_chunks::<16>();
+        let all = Both {
+            first: Each {
+                alterations: chunks,
+            },
+            second: Each { alterations: rest },
+        };
+        all.apply(tx)
+    }
 }
 
 /// Takes all shares of exams, periods and rooms out.

@@ -8,4 +8,4 @@ returns-clause-makes g c clean inside =
     let old = state g.S.Store c.args.tx.now.conn.now in
     let new = state g.S.Store c.run.new.tx.conn.now in
     changes_by _ _ _ old new c.run.result (part_share_added old new c.args.self.now.row)
-    (rw (c.part_columns.ensures) at (c.run.ensures.ran clean inside))
+    (rw (c.columns.ensures) at (c.run.ensures.ran clean inside))
