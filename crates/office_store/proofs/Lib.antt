@@ -11,6 +11,7 @@ pub mod LoadLemmas
 pub mod DraftLemmas
 pub mod ReadLemmas
 pub mod CallLemmas
+pub mod ChangedPlacementLemmas
 pub mod SlotLemmas
 pub mod EditLemmas
 pub mod EditCallLemmas

@@ -1,7 +1,7 @@
 -- What is put in where a draft is published.
-use Rattle.std.proofs.Common.{◌≡◌, ◌≢◌, ℕ, zero, suc, ◌+◌, ◌-◌, ◌<◌, ◌≤◌, List, length, Option}
+use Rattle.std.proofs.Common.{◌≡◌, ◌≢◌, ℕ, zero, suc, ◌+◌, ◌-◌, ◌<◌, ◌≤◌, List, length}
 use Rattle.std.proofs.Common.{Some, None, Result, Ok, Err, refl, sym, ◌∙◌, ap, subst, arith}
-use Rattle.std.specs.Prelude.{IfErr, IfOk, slice_get, slice_index}
+use Rattle.std.specs.Prelude.{IfErr, IfOk, IsPermutation, slice_get, slice_index}
 use Rattle.std.proofs.lemmas.Option.{get_or_from_slice_get, slice_get_within}
 use Rattle.std.proofs.lemmas.List.FromFn.{length-map-range_with_len}
 use Rattle.exam_model.specs.Enrolments.{Enrolled, IsAscending}
@@ -18,14 +18,15 @@ use Rattle.exam_publish.specs.declared.seat_row.SeatRow.{SeatRow}
 use Rattle.exam_score.specs.Penalty.{total_of}
 use Rattle.exam_score.specs.Track.{track}
 use Rattle.exam_score.specs.FrontLoad.{exam_front}
-use Rattle.office_model.specs.DraftCommands.{draft_shown}
 use Rattle.office_model.specs.Office.{Records}
 use Rattle.office_model.specs.Publishing.{draft_published, rows_now}
 use Rattle.office_model.specs.declared.fault.Refusal.TheVariants as refusal
 use Rattle.office_model.specs.declared.fault.StoreFault.{StoreFault}
-use Rattle.office_model.specs.declared.fault.StoreFault.TheVariants.{BadSchema, Refused, Store}
+use Rattle.office_model.specs.declared.fault.StoreFault.TheVariants.{Refused, Store}
 use Rattle.office_records.specs.Memory.{memory_of}
+use Rattle.office_records.specs.Publications.{placed_rows}
 use Rattle.office_records.specs.PartShares.{HasFewParts}
+use Rattle.office_tables.specs.declared.placed.PlacedRow.{PlacedRow}
 use Rattle.office_store.specs.NewPublications.{ArePutIn, Publishes}
 use Rattle.office_store.specs.Running.{IsFault}
 use Rattle.office_store.specs.declared.new_publication.NewPublication.{NewPublication}
@@ -116,24 +117,27 @@ module _ (d : ℕ) (r : Records) (I : Session) (E : Enrolled) (T : Placing)
 
   -- ---- what is put in
 
-  pub publishes : (old rows : List SeatRow) (penalty : ℕ)
+  pub publishes : (before : List PlacedRow) (old rows : List SeatRow) (penalty : ℕ)
       (result : Result NewPublication StoreFault) → publish_refusal I E T ≡ None
+      → IsPermutation before (placed_rows r.published)
       → old ≡ rows_now r.published → rows ≡ seat_rows (pairs_of E) T old
-      → penalty ≡ total_of (track I E T) → IfOk result (ArePutIn I T old rows penalty)
+      → penalty ≡ total_of (track I E T) → IfOk result (ArePutIn I T before old rows penalty)
       → IfErr result (λ e. e ≡ Store) → Publishes d r result
-  publishes old rows penalty (Ok new) permitted was are costs put err = record {
+  publishes before old rows penalty (Ok new) permitted were was are costs put err = record {
     timetable = T;
     draft = there;
     permitted = subst (λ (p : Session × Enrolled). publish_refusal p.0 p.1 T ≡ None) (sym both)
         permitted;
-    put = subst (λ (p : Session × Enrolled). ArePutIn p.0 T (rows_now r.published)
+    before = before;
+    were = were;
+    put = subst (λ (p : Session × Enrolled). ArePutIn p.0 T before (rows_now r.published)
         (seat_rows (pairs_of p.1) T (rows_now r.published)) (total_of (track p.0 p.1 T)) new)
         (sym both)
-        (subst (λ n. ArePutIn I T (rows_now r.published)
+        (subst (λ n. ArePutIn I T before (rows_now r.published)
         (seat_rows (pairs_of E) T (rows_now r.published)) n new) costs
-        (subst (λ l. ArePutIn I T (rows_now r.published) l penalty new)
+        (subst (λ l. ArePutIn I T before (rows_now r.published) l penalty new)
         (are ∙ ap (seat_rows (pairs_of E) T) was)
-        (subst (λ l. ArePutIn I T l rows penalty new) was put)));
+        (subst (λ l. ArePutIn I T before l rows penalty new) was put)));
   }
-  publishes old rows penalty (Err e) permitted was are costs put err =
+  publishes before old rows penalty (Err e) permitted were was are costs put err =
       subst (IsFault (draft_published d (Some r))) (sym err) tt

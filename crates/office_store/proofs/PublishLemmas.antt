@@ -2,11 +2,14 @@
 use Rattle.std.proofs.Common.{◌≡◌, ℕ, true, not, eqb, List, [], ◌∷◌, ◌++◌}
 use Rattle.std.proofs.Common.{map, filter, reverse, Option, Some, None, Result, Ok, Err, refl}
 use Rattle.std.proofs.Common.{sym, ◌∙◌, ap, ap₂, subst, arith}
-use Rattle.std.specs.Prelude.{◌||◌, IsPermutation}
+use Rattle.std.specs.Prelude.{◌||◌, IsPermutation, Vec, is_some, option_map}
+use Rattle.std.specs.declared.alloc.Global.{Global}
 use Rattle.std.specs.List.{list_any}
 use Rattle.std.proofs.lemmas.Bool.Decides.{nat_tests}
 use Rattle.std.proofs.lemmas.List.{append-nil}
+use Rattle.std.proofs.lemmas.Simd.{map-map}
 use Rattle.std.proofs.lemmas.List.Sorted.{IsPermutation-append, IsPermutation-refl}
+use Rattle.std.proofs.lemmas.List.Sorted.{length_permutation}
 use Rattle.std.proofs.lemmas.List.Sorted.{IsPermutation-reverse, IsPermutation-sym, IsPermutation-trans}
 use Rattle.sqlite.specs.Effect.{Database}
 use Rattle.sqlite.specs.Held.{Held, state}
@@ -19,17 +22,18 @@ use Rattle.exam_model.specs.Timetable.{Placing}
 use Rattle.exam_publish.specs.Changed.{changed_students}
 use Rattle.exam_publish.specs.Permit.{publish_refusal}
 use Rattle.office_tables.specs.Alterations.{after_all}
-use Rattle.office_tables.specs.Meta.{no_meta, with_meta}
 use Rattle.office_tables.specs.SharePart.{no_part_shares, with_part_share}
-use Rattle.office_tables.specs.Placed.{no_placements, with_placement}
+use Rattle.office_tables.specs.Placed.{with_placement, without_placement}
 use Rattle.office_tables.specs.Seat.{with_seat, without_student_seats}
 use Rattle.office_tables.specs.ShareStudent.{with_student_share, without_student_share}
-use Rattle.office_tables.specs.Tables.{Tables}
+use Rattle.office_tables.specs.Tables.{Meta, Tables}
 use Rattle.office_tables.specs.Standing.{Stands}
-use Rattle.office_tables.proofs.AlterationLemmas.{part_shares_put, placements_put, seats_put}
+use Rattle.office_tables.proofs.AlterationLemmas.{part_shares_put, placements_gone, placements_put, seats_put}
 use Rattle.office_tables.proofs.AlterationLemmas.{student_seats_gone, student_shares_gone}
 use Rattle.office_tables.proofs.AlterationLemmas.{student_shares_put}
+use Rattle.office_tables.specs.declared.placed.DeletePlacement.{DeletePlacement}
 use Rattle.office_tables.specs.declared.placed.InsertPlacement.{InsertPlacement}
+use Rattle.office_tables.specs.declared.placed.PlacedRow.{PlacedRow}
 use Rattle.office_tables.specs.declared.seat.DeleteStudentSeats.{DeleteStudentSeats}
 use Rattle.office_tables.specs.declared.seat.InsertSeat.{InsertSeat}
 use Rattle.office_tables.specs.declared.share_student.DeleteStudentShare.{DeleteStudentShare}
@@ -42,23 +46,29 @@ use Rattle.office_model.specs.declared.fault.StoreFault.{StoreFault}
 use Rattle.office_model.specs.declared.fault.StoreFault.TheVariants.{NoDraft, NotLoaded}
 use Rattle.office_model.proofs.RecordLemmas.{published_records}
 use Rattle.office_records.specs.Memory.{memory_of}
-use Rattle.office_records.specs.Publications.{placed_from, stored_seat}
+use Rattle.office_records.specs.Publications.{placed_from, placed_rows, stored_seat}
 use Rattle.office_records.specs.SeatsStored.{seat_rows_of, seat_rows_without}
 use Rattle.office_records.specs.SharesStored.{share_rows_of, share_rows_without}
 use Rattle.office_records.specs.PartShares.{part_share_rows}
 use Rattle.office_records.specs.SharesStored.{student_share_rows}
 use Rattle.office_records.specs.Stands.{IsKept, IsSound, StandsLoaded}
+use Rattle.office_records.specs.TableRows.{meta_row, session_text}
 use Rattle.office_records.proofs.RepublicationLemmas as republication
-use Rattle.office_store.specs.PublicationChanges.{places_put, publication_put, shares_put}
-use Rattle.office_store.specs.NewPublications.{ArePutIn, IsPutIn, Publishes, PutsIn}
+use Rattle.office_store.specs.ChangedPlacements.{changed_rows, exams_of, placements_without}
+use Rattle.office_store.specs.PublicationChanges.{mark_put, meta_after, places_put}
+use Rattle.office_store.specs.PublicationChanges.{publication_put, shares_put}
+use Rattle.office_store.specs.NewPublications.{ArePutIn, IsPutIn, Publishes}
+use Rattle.office_store.specs.NewPublications.{PutsIn, mark_text}
+use Rattle.office_store.specs.RowPuts.{place_gone, placement_put}
 use Rattle.office_store.specs.Memory.{IsMemoryOf, scored_draft}
 use Rattle.office_store.specs.Running.{IsAwake, IsStill}
 use Rattle.office_store.specs.declared.memory.OfficeMemory.{OfficeMemory}
 use Rattle.office_store.specs.declared.new_publication.NewPublication.{NewPublication}
+use Rattle.office_store.proofs.ChangedPlacementLemmas.{AreOwnExams, own_exams, stored_put}
 use Rattle.office_store.proofs.CommandLemmas.{Moves, Remembers}
 use Rattle.office_store.proofs.RememberingLemmas.{all_stays, next_is}
 use Rattle.office_store.proofs.NewBatchLemmas.{taken_back}
-use Rattle.office_store.proofs.RunLemmas.{at_hand, nothing_kept}
+use Rattle.office_store.proofs.RunLemmas.{nothing_kept}
 
 -- ---- what the parts of the transaction make of the tables, one after the other
 
@@ -71,6 +81,19 @@ among student s (it ∷ its) =
   where
     turned : (a b : ℕ) → eqb a b ≡ eqb b a
     turned a b = grind (arith, nat_tests)
+
+pub places_gone_after : (its : List DeletePlacement) (t : Tables)
+    → after_all (λ (it : DeletePlacement). without_placement it.exam) its t
+    ≡ record t {
+      placed = placements_without (map (λ (it : DeletePlacement). it.exam) its) t.placed;
+    }
+places_gone_after its t =
+    placements_gone its t
+    ∙ (λ i. record t {
+      placed = filter
+          (λ row. not (among (λ (it : DeletePlacement). it.exam) row.exam its i))
+          t.placed;
+    })
 
 pub seats_gone_after : (its : List DeleteStudentSeats) (t : Tables)
     → after_all (λ (it : DeleteStudentSeats). without_student_seats it.student) its t
@@ -98,25 +121,29 @@ shares_gone_after its t =
           t.share_student;
     })
 
--- the session's row, the places and the seats
-module _ (text : List ℕ) (ps : List InsertPlacement) (gone : List DeleteStudentSeats)
-    (ss : List InsertSeat) where
-  abbrev pub meta_made : Tables → Tables
-  meta_made t = with_meta true text (no_meta t)
-
+-- the placements
+module _ (gone : List DeletePlacement) (ps : List InsertPlacement) where
   abbrev pub placements_made : Tables → Tables
   placements_made t =
-      after_all (λ (it : InsertPlacement). with_placement it.row) ps (no_placements t)
+      after_all (λ (it : InsertPlacement). with_placement it.row) ps
+      (after_all (λ (it : DeletePlacement). without_placement it.exam) gone t)
 
+  placements_are : (t : Tables) → placements_made t
+      ≡ record t {
+        placed = reverse (map (λ (it : InsertPlacement). it.row) ps)
+            ++ placements_without (map (λ (it : DeletePlacement). it.exam) gone) t.placed;
+      }
+  placements_are t =
+      ap (after_all (λ (it : InsertPlacement). with_placement it.row) ps)
+      (places_gone_after gone t)
+      ∙ placements_put ps _
+
+-- the seats
+module _ (gone : List DeleteStudentSeats) (ss : List InsertSeat) where
   abbrev pub seats_made : Tables → Tables
   seats_made t =
       after_all (λ (it : InsertSeat). with_seat it.row) ss
       (after_all (λ (it : DeleteStudentSeats). without_student_seats it.student) gone t)
-
-  placements_are : (t : Tables) → placements_made t
-      ≡ record t { placed = reverse (map (λ (it : InsertPlacement). it.row) ps) }
-  placements_are t =
-      placements_put ps (no_placements t) ∙ ap (λ l. record t { placed = l }) (append-nil _)
 
   seats_are : (t : Tables) → seats_made t
       ≡ record t {
@@ -126,21 +153,6 @@ module _ (text : List ℕ) (ps : List InsertPlacement) (gone : List DeleteStuden
   seats_are t =
       ap (after_all (λ (it : InsertSeat). with_seat it.row) ss) (seats_gone_after gone t)
       ∙ seats_put ss _
-
-  abbrev places_said : Tables → Tables
-  places_said t = record t {
-    meta = record { published = true; instance = text } ∷ [];
-    placed = reverse (map (λ (it : InsertPlacement). it.row) ps);
-    seat = reverse (map (λ (it : InsertSeat). it.row) ss)
-        ++ seat_rows_without (map (λ (it : DeleteStudentSeats). it.student) gone) t.seat;
-  }
-
-  all_places : (t : Tables) → seats_made (placements_made (meta_made t)) ≡ places_said t
-  all_places t =
-      ap seats_made (placements_are (meta_made t))
-      ∙ seats_are (record (meta_made t) {
-        placed = reverse (map (λ (it : InsertPlacement). it.row) ps);
-      })
 
 -- the shares of candidates, and of exams, periods and rooms
 module _ (gone : List DeleteStudentShare) (students : List InsertStudentShare)
@@ -182,14 +194,21 @@ module _ (gone : List DeleteStudentShare) (students : List InsertStudentShare)
   all_shares t = ap parts_made (students_are t) ∙ parts_are (students_said t)
 
 -- what is made of lists that are these is made of a new publication
-pub places_made : (new : NewPublication) (text : List ℕ) (ps : List InsertPlacement)
-    (gone : List DeleteStudentSeats) (ss : List InsertSeat) → text ≡ new.text.items
-    → ps ≡ new.placements.items → gone ≡ new.seats_gone.items → ss ≡ new.seats.items
-    → (t : Tables)
-    → seats_made text ps gone ss (placements_made text ps gone ss (meta_made text ps gone ss t))
-    ≡ places_put new t
-places_made new text ps gone ss a b c d t =
-    all_places text ps gone ss t ∙ (λ i. places_said (a i) (b i) (c i) (d i) t)
+pub places_made : (new : NewPublication) (away : List DeletePlacement) (ps : List InsertPlacement)
+    (gone : List DeleteStudentSeats) (ss : List InsertSeat)
+    → away ≡ new.places_gone.items → ps ≡ new.placements.items
+    → gone ≡ new.seats_gone.items → ss ≡ new.seats.items → (t : Tables)
+    → seats_made gone ss (placements_made away ps (mark_put new.text t)) ≡ places_put new t
+places_made new away ps gone ss a b c d t =
+    ap (seats_made gone ss) (placements_are away ps (mark_put new.text t))
+    ∙ seats_are gone ss _
+    ∙ (λ i. record t {
+      meta = meta_after new.text t.meta;
+      placed = reverse (map (λ (it : InsertPlacement). it.row) (b i))
+          ++ placements_without (map (λ (it : DeletePlacement). it.exam) (a i)) t.placed;
+      seat = reverse (map (λ (it : InsertSeat). it.row) (d i))
+          ++ seat_rows_without (map (λ (it : DeleteStudentSeats). it.student) (c i)) t.seat;
+    })
 
 pub shares_made : (new : NewPublication) (gone : List DeleteStudentShare)
     (students : List InsertStudentShare) (parts : List InsertPartShare)
@@ -213,6 +232,48 @@ put_over left gone who rows xs same is =
     IsPermutation-append _ _ _ _ (put_in rows xs is)
     (subst (λ l. IsPermutation (left gone) (left l)) same (IsPermutation-refl (left gone)))
 
+-- no exam has two published placements
+own_of : (published : Option Publication) (before : List PlacedRow)
+    → IsPermutation before (placed_rows published) → AreOwnExams before
+own_of None before were = own_exams [] before were
+own_of (Some p) before were = own_exams p.timetable before were
+
+-- the placements afterwards are those of the timetable: some stay, some go and some come
+placed_in : (published : Option Publication) (rows before placed : List PlacedRow)
+    (gone : List DeletePlacement) (put : List InsertPlacement)
+    → gone ≡ map place_gone (changed_rows before rows)
+    → put ≡ map placement_put (changed_rows rows before)
+    → IsPermutation before (placed_rows published) → IsPermutation placed before
+    → IsPermutation (reverse (map (λ (it : InsertPlacement). it.row) put)
+    ++ placements_without (map (λ (it : DeletePlacement). it.exam) gone) placed) rows
+placed_in published rows before placed gone put away come were are =
+    IsPermutation-trans _ _ _
+    (put_over (λ l. placements_without l placed)
+    (map (λ (it : DeletePlacement). it.exam) gone) (exams_of (changed_rows before rows))
+    (map (λ (it : InsertPlacement). it.row) put) (changed_rows rows before)
+    (ap (map (λ (it : DeletePlacement). it.exam)) away
+    ∙ map-map (λ (it : DeletePlacement). it.exam) place_gone (changed_rows before rows))
+    (ap (map (λ (it : InsertPlacement). it.row)) come
+    ∙ taken_back placement_put (λ (it : InsertPlacement). it.row) (λ x. refl)
+    (changed_rows rows before)))
+    (stored_put rows before placed (own_of published before were) are)
+
+-- the row about the office says afterwards that something is published of the session, whether it
+-- is written or says so already
+meta_in : (I : Session) (published : Option Publication) (before : List PlacedRow)
+    (text : Option (Vec ℕ Global)) → IsPermutation before (placed_rows published)
+    → option_map (λ (text : Vec ℕ Global). text.items) text ≡ mark_text I before
+    → (meta : List Meta) → meta ≡ meta_row (is_some published) I ∷ []
+    → meta_after text meta ≡ meta_row true I ∷ []
+meta_in I published [] None were is meta stood = absurd cc
+meta_in I published [] (Some text) were is meta stood =
+    let same : text.items ≡ session_text I = cc in
+    ap (λ text. record { published = true; instance = text } ∷ []) same
+meta_in I published (row ∷ before) (Some text) were is meta stood = absurd cc
+meta_in I None (row ∷ before) None were is meta stood =
+    absurd (let long = length_permutation _ _ were in omega (arith, long))
+meta_in I (Some p) (row ∷ before) None were is meta stood = stood
+
 -- ---- the office
 
 module _ (r : Records) (T : Placing) (is : AreRecords r) (fits : Fits r.session r.enrolments T)
@@ -220,8 +281,10 @@ module _ (r : Records) (T : Placing) (is : AreRecords r) (fits : Fits r.session 
   abbrev new_one : Publication
   new_one = published_as r T
 
-  module _ (penalty : ℕ) (new : NewPublication) (put : ArePutIn r.session T (rows_now r.published)
-      new_one.rows penalty new) (t : Tables) where
+  module _ (before : List PlacedRow) (were : IsPermutation before (placed_rows r.published))
+      (penalty : ℕ) (new : NewPublication)
+      (put : ArePutIn r.session T before (rows_now r.published) new_one.rows penalty new)
+      (t : Tables) where
     abbrev who : List ℕ
     who = changed_students (rows_now r.published) new_one.rows
 
@@ -257,15 +320,15 @@ module _ (r : Records) (T : Placing) (is : AreRecords r) (fits : Fits r.session 
     published_stands : StandsLoaded t r
         → StandsLoaded (publication_put new t) (record r { published = Some new_one })
     published_stands h = record {
-      meta = ap (λ text. record { published = true; instance = text } ∷ []) put.text;
+      meta = meta_in r.session r.published before new.text were put.text t.meta h.meta;
       owner = h.owner;
       enrol = h.enrol;
       draft = h.draft;
       slot = h.slot;
       published = record {
-        placed = put_in _ (placed_from 0 T)
-            (ap (map (λ (it : InsertPlacement). it.row)) put.placements
-            ∙ taken_back _ (λ (it : InsertPlacement). it.row) (λ x. refl) (placed_from 0 T));
+        placed = placed_in r.published (placed_from 0 T) before t.placed new.places_gone.items
+            new.placements.items put.places_gone put.placements were
+            (IsPermutation-trans _ _ _ h.published.placed (IsPermutation-sym _ _ were));
         seat = seat_in h.published.seat;
       };
       batches = h.batches;
@@ -285,15 +348,16 @@ module _ (r : Records) (T : Placing) (is : AreRecords r) (fits : Fits r.session 
     }
 
   -- the database stands for the office with the publication
-  published_kept : (a b : Database) (penalty : ℕ) (new : NewPublication)
-      → ArePutIn r.session T (rows_now r.published) new_one.rows penalty new → IsKept a (Some r)
-      → ((t : Tables) → Stands a t → Stands b (publication_put new t))
+  published_kept : (a b : Database) (before : List PlacedRow)
+      → IsPermutation before (placed_rows r.published) → (penalty : ℕ) (new : NewPublication)
+      → ArePutIn r.session T before (rows_now r.published) new_one.rows penalty new
+      → IsKept a (Some r) → ((t : Tables) → Stands a t → Stands b (publication_put new t))
       → IsKept b (Some (record r { published = Some new_one }))
-  published_kept a b penalty new put kept makes = record {
+  published_kept a b before were penalty new put kept makes = record {
     held = publication_put new kept.held;
     tables = makes kept.held kept.tables;
-    stands = published_stands penalty new put kept.held kept.stands;
-    sound = published_sound penalty new put kept.held kept.sound;
+    stands = published_stands before were penalty new put kept.held kept.stands;
+    sound = published_sound before were penalty new put kept.held kept.sound;
     office = published_records r T is fits permitted;
   }
 
@@ -370,7 +434,7 @@ module _ {S : Type 0} (g : Ghosts S) (first mid inside : Held S) (view : inside 
             ∙ ap (λ n. Ok (n, Some (record r { published = Some (published_as r T) })))
             (sym put.put.counts),
         published_kept r T held.office fits put.permitted (state g inside).now
-            b _ new put.put held makes,
+            b put.before put.were _ new put.put held makes,
       )
 
   pub publication_remembers : (m : OfficeMemory) (new : NewPublication)

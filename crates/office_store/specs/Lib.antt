@@ -1,4 +1,5 @@
 pub mod PublicationChanges
+pub mod ChangedPlacements
 pub mod Changes
 pub mod Faults
 pub mod Transactions

@@ -1,35 +1,44 @@
 -- What is put in where a draft is published.
-use Rattle.std.specs.Prelude.{◌≡◌, ℕ, List, map, length, All, Some, None, Result, Ok, Err}
+use Rattle.std.specs.Prelude.{◌≡◌, ℕ, List, [], ◌∷◌, map, length, All, IsPermutation}
+use Rattle.std.specs.Prelude.{Option, Some, None, option_map, Result, Ok, Err}
 use Rattle.exam_model.specs.Instance.{Session}
 use Rattle.exam_model.specs.Timetable.{Placing}
 use Rattle.exam_publish.specs.Changed.{changed_students}
 use Rattle.exam_publish.specs.Permit.{publish_refusal}
 use Rattle.exam_publish.specs.Shares.{shares_of, student_shares}
 use Rattle.exam_publish.specs.declared.seat_row.SeatRow.{SeatRow}
-use Rattle.exam_score.specs.Penalty.{Penalty}
+use Rattle.office_tables.specs.declared.placed.PlacedRow.{PlacedRow}
 use Rattle.office_tables.specs.SharePart.{ArePartAmounts}
 use Rattle.office_tables.specs.ShareStudent.{AreStudentAmounts}
 use Rattle.office_model.specs.Office.{OfficeState, Records}
 use Rattle.office_model.specs.Publishing.{draft_published, published_as, rows_now}
 use Rattle.office_model.specs.DraftCommands.{penalty_now}
 use Rattle.office_model.specs.declared.fault.StoreFault.{StoreFault}
-use Rattle.office_records.specs.Publications.{placed_from, stored_seat}
+use Rattle.office_records.specs.Publications.{placed_from, placed_rows, stored_seat}
 use Rattle.office_records.specs.SeatsStored.{seat_rows_of}
 use Rattle.office_records.specs.SharesStored.{share_rows_of, student_share_row}
 use Rattle.office_records.specs.PartShares.{part_rows}
 use Rattle.office_records.specs.TableRows.{session_text}
+use Rattle.office_store.specs.ChangedPlacements.{changed_rows}
 use Rattle.office_store.specs.Running.{IsFault}
 use Rattle.office_store.specs.declared.new_publication.NewPublication.{NewPublication}
-use Rattle.office_store.specs.RowPuts.{placement_put, her_seats_gone, seat_put, share_gone, student_share_put, part_share_put}
+use Rattle.office_store.specs.RowPuts.{place_gone, placement_put, her_seats_gone, seat_put, share_gone, student_share_put, part_share_put}
 
 -- ---- a publication that is put in
 
--- the rows of this timetable in place of the old ones; of the candidates' seats and shares only
--- those whose seats differ, which go and come; and what is answered
-pub record ArePutIn (I : Session) (T : Placing) (old rows : List SeatRow) (penalty : ℕ)
-    (new : NewPublication) : Type 0 where
-  pub text : new.text.items ≡ session_text I
-  pub placements : new.placements.items ≡ map placement_put (placed_from 0 T)
+-- the text of the row about the office, if no placement was published before
+abbrev pub mark_text : Session → List PlacedRow → Option (List ℕ)
+mark_text I [] = Some (session_text I)
+mark_text I (row ∷ before) = None
+
+-- this timetable in place of the placements before, of which only those that differ go and come; of
+-- the candidates' seats and shares only those whose seats differ, which go and come; and what is
+-- answered
+pub record ArePutIn (I : Session) (T : Placing) (before : List PlacedRow) (old rows : List SeatRow)
+    (penalty : ℕ) (new : NewPublication) : Type 0 where
+  pub text : option_map (λ text. text.items) new.text ≡ mark_text I before
+  pub places_gone : new.places_gone.items ≡ map place_gone (changed_rows before (placed_from 0 T))
+  pub placements : new.placements.items ≡ map placement_put (changed_rows (placed_from 0 T) before)
   pub seats_gone : new.seats_gone.items ≡ map her_seats_gone (changed_students old rows)
   pub seats : new.seats.items
       ≡ map seat_put (seat_rows_of (changed_students old rows) (map stored_seat rows))
@@ -52,8 +61,10 @@ pub record IsPutInFor (d : ℕ) (r : Records) (new : NewPublication) : Type 0 wh
   pub timetable : Placing
   pub draft : r.draft d ≡ Some timetable
   pub permitted : publish_refusal r.session r.enrolments timetable ≡ None
-  pub put : ArePutIn r.session timetable (rows_now r.published) (published_as r timetable).rows
-      (penalty_now r timetable) new
+  pub before : List PlacedRow
+  pub were : IsPermutation before (placed_rows r.published)
+  pub put : ArePutIn r.session timetable before (rows_now r.published)
+      (published_as r timetable).rows (penalty_now r timetable) new
 
 -- that, or the command's own refusal
 abbrev pub Publishes : ℕ → Records → Result NewPublication StoreFault → Type 0

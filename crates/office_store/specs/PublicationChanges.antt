@@ -1,16 +1,28 @@
 -- What a publication that is put in makes of the tables.
-use Rattle.std.specs.Prelude.{◌++◌, map, reverse, true, [], ◌∷◌}
-use Rattle.office_tables.specs.Tables.{Tables}
+use Rattle.std.specs.Prelude.{◌++◌, ℕ, List, map, reverse, true, [], ◌∷◌, Option, None, Some, Vec}
+use Rattle.std.specs.declared.alloc.Global.{Global}
+use Rattle.office_tables.specs.Tables.{Meta, Tables}
 use Rattle.office_records.specs.SeatsStored.{seat_rows_without}
 use Rattle.office_records.specs.SharesStored.{share_rows_without}
+use Rattle.office_store.specs.ChangedPlacements.{placements_without}
 use Rattle.office_store.specs.declared.new_publication.NewPublication.{NewPublication}
 
--- something is published of the session: these places, and no others; of the candidates' seats some
--- go and some come
+-- the row about the office: something is published of the session with this text; or the row stays
+abbrev pub meta_after : Option (Vec ℕ Global) → List Meta → List Meta
+meta_after None meta = meta
+meta_after (Some text) meta = record { published = true; instance = text.items } ∷ []
+
+-- the row about the office is written, if there is a text for it
+abbrev pub mark_put : Option (Vec ℕ Global) → Tables → Tables
+mark_put text t = record t { meta = meta_after text t.meta }
+
+-- the row about the office is written, if there is a text for it; of the placements and of the
+-- candidates' seats some go and some come
 abbrev pub places_put : NewPublication → Tables → Tables
 places_put new t = record t {
-  meta = record { published = true; instance = new.text.items } ∷ [];
-  placed = reverse (map (λ it. it.row) new.placements.items);
+  meta = meta_after new.text t.meta;
+  placed = reverse (map (λ it. it.row) new.placements.items)
+      ++ placements_without (map (λ it. it.exam) new.places_gone.items) t.placed;
   seat = reverse (map (λ it. it.row) new.seats.items)
       ++ seat_rows_without (map (λ it. it.student) new.seats_gone.items) t.seat;
 }

@@ -1,5 +1,6 @@
 -- The rows of a publication as parts of a transaction.
 use Rattle.std.specs.Prelude.{ℕ}
+use Rattle.office_tables.specs.declared.placed.DeletePlacement.{DeletePlacement}
 use Rattle.office_tables.specs.declared.placed.InsertPlacement.{InsertPlacement}
 use Rattle.office_tables.specs.declared.share_part.PartShareRow.{PartShareRow}
 use Rattle.office_tables.specs.declared.placed.PlacedRow.{PlacedRow}
@@ -10,6 +11,10 @@ use Rattle.office_tables.specs.declared.seat.InsertSeat.{InsertSeat}
 use Rattle.office_tables.specs.declared.share_student.DeleteStudentShare.{DeleteStudentShare}
 use Rattle.office_tables.specs.declared.share_part.InsertPartShare.{InsertPartShare}
 use Rattle.office_tables.specs.declared.share_student.InsertStudentShare.{InsertStudentShare}
+
+-- the row of an exam's published place is taken out
+abbrev pub place_gone : PlacedRow → DeletePlacement
+place_gone row = record { exam = row.exam }
 
 -- the row of a published place is put in
 abbrev pub placement_put : PlacedRow → InsertPlacement

@@ -24,6 +24,7 @@ mod publishing;
 mod putting;
 mod reading;
 mod rescoring;
+mod rewritten_places;
 mod shutting;
 mod transactions;
 mod viewing;

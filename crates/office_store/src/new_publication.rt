@@ -9,10 +9,11 @@ ghost use Rattle.exam_publish.specs.Changed.{changed_students};
 ghost use Rattle.exam_publish.specs.Permit.{publish_refusal};
 ghost use Rattle.exam_publish.specs.Rows.{ArePublishedRows, RowsInOrder};
 ghost use Rattle.exam_publish.specs.Seats.{AreSeated};
+ghost use Rattle.exam_score.specs.Penalty.{total_of};
 ghost use Rattle.office_model.specs.Office.{AreRecords, OfficeState, Records};
 ghost use Rattle.office_model.specs.Publishing.{draft_published, rows_now};
 ghost use Rattle.office_records.specs.Memory.{memory_of};
-ghost use Rattle.office_records.specs.Publications.{StandsPublished, placed_from, stored_seat};
+ghost use Rattle.office_records.specs.Publications.{StandsPublished, stored_seat};
 ghost use Rattle.office_records.specs.SeatsStored.{seat_rows_of};
 ghost use Rattle.office_records.specs.SharesStored.{share_rows_of};
 ghost use Rattle.office_records.specs.PartShares.{HasFewParts, part_rows};
@@ -22,7 +23,7 @@ ghost use Rattle.office_store.specs.FoldReads.{HasRead, IsSame};
 ghost use Rattle.office_store.specs.Judging.{listed};
 ghost use Rattle.office_store.specs.Memory.{IsMemoryOf, IsTogether};
 ghost use Rattle.office_store.specs.NewPublications.{ArePutIn, AreSmallShares, PutsIn};
-ghost use Rattle.office_store.specs.RowPuts.{her_seats_gone, part_share_put, placement_put};
+ghost use Rattle.office_store.specs.RowPuts.{her_seats_gone, part_share_put};
 ghost use Rattle.office_store.specs.RowPuts.{seat_put, share_gone, student_share_put};
 ghost use Rattle.office_store.specs.Running.{IsAwake, IsFault, Tells};
 ghost use Rattle.office_tables.specs.SharePart.{ArePartAmounts};
@@ -31,15 +32,14 @@ ghost use Rattle.office_tables.specs.ShareStudent.{AreStudentAmounts};
 use crate::memory::{Draft, OfficeMemory};
 use crate::publications::published_of;
 use crate::published_rows::{PublishedRows, read_published};
-use exam_model::{Enrolments, Instance, StudentNo, Timetable};
+use crate::rewritten_places::{mark_text, placements_put, places_gone};
+use exam_model::{Enrolments, Instance, StudentNo};
 use exam_publish::{SeatRow, Shares, changed, permit, seats, shares};
 use office_model::{Published, StoreFault};
-use office_records::{
-    changed_seat_rows, changed_share_rows, part_share_rows, placement_rows, text_of,
-};
+use office_records::{changed_seat_rows, changed_share_rows, part_share_rows, placement_rows};
 use office_tables::{
-    DeleteStudentSeats, DeleteStudentShare, InsertPartShare, InsertPlacement, InsertSeat,
-    InsertStudentShare,
+    DeletePlacement, DeleteStudentSeats, DeleteStudentShare, InsertPartShare, InsertPlacement,
+    InsertSeat, InsertStudentShare, PlacedRow,
 };
 use sqlite::{Alter, Connection};
 use std::alloc::{AllocError, Global};
@@ -47,7 +47,10 @@ use std::alloc::{AllocError, Global};
 // All that a publication puts in, and what is answered.
 #[derive(Drop)]
 pub(crate) struct NewPublication {
-    pub(crate) text: Vec<u8>,
+    // The text of the row about the office, if the row doesn't say yet that something is published.
+    pub(crate) text: Option<Vec<u8>>,
+    // Placements that differ from those before: the old ones, and the new.
+    pub(crate) places_gone: Vec<DeletePlacement>,
     pub(crate) placements: Vec<InsertPlacement>,
     // Seats of candidates whose seat rows differ from those before: the old ones, and the new.
     pub(crate) seats_gone: Vec<DeleteStudentSeats>,
@@ -84,9 +87,8 @@ pub(crate) fn new_publication<S: Alter>(
     check_permit(alloc, instance, enrolments, draft)?;
     let published = read_published(alloc, conn)?;
     let old = old_seats(alloc, instance, &published)?;
-    let timetable = &draft.timetable;
-    let rows = seats(alloc, instance, enrolments, timetable, &old)?;
-    put_together(alloc, instance, timetable, draft.parts.total(), &old, &rows)
+    let rows = seats(alloc, instance, enrolments, &draft.timetable, &old)?;
+    put_together(alloc, instance, draft, &published.placements, &old, &rows)
 }
 
 // Whether a draft of the session in memory may be published.
@@ -126,25 +128,29 @@ fn old_seats(
     }
 }
 
-// The rows of a timetable with these seats in place of old ones.
+// The writes of a draft with these seats, in place of the placements before and of old seats.
 fn put_together(
     alloc: Global,
     instance: &Instance,
-    timetable: &Timetable,
-    penalty: u64,
+    draft: &Draft,
+    before: &[PlacedRow],
     old: &[SeatRow],
     rows: &[SeatRow],
 ) -> Result<NewPublication, StoreFault>
-    requires published { ArePublishedRows instance.now rows.now timetable.now }
+    requires published { ArePublishedRows instance.now rows.now draft.now.timetable }
     requires old_in_order { RowsInOrder old.now }
-    ensures put { IfOk result (ArePutIn instance.now timetable.now old.now rows.now penalty) }
+    ensures put { IfOk result (ArePutIn instance.now draft.now.timetable before.now old.now rows.now
+        (total_of draft.now.parts)) }
     ensures small { IfOk result AreSmallShares }
     ensures err { IfErr result (λ e. e ≡ StoreFault.Store) }
 {
+    let _limits = instance.exams(); // read for its limits
     let candidates = rewritten(alloc, old, rows)?;
-    let shares = shares(alloc, instance, rows, timetable)?;
-    let text = text_of(alloc, instance)?;
-    let placements = placements_put(alloc, timetable)?;
+    let shares = shares(alloc, instance, rows, &draft.timetable)?;
+    let text = mark_text(alloc, instance, before)?;
+    let places = placement_rows(alloc, &draft.timetable)?;
+    let places_gone = places_gone(alloc, &places, before)?;
+    let placements = placements_put(alloc, &places, before)?;
     let seats_gone = seats_gone(alloc, &candidates)?;
     let seats = seats_put(alloc, rows, &candidates)?;
     let shares_gone = shares_gone(alloc, &candidates)?;
@@ -152,10 +158,11 @@ fn put_together(
     let parts = part_shares_put(alloc, &shares)?;
     let counts = Published {
         changed: count_of(&candidates),
-        penalty,
+        penalty: draft.parts.total(),
     };
     Ok(NewPublication {
         text,
+        places_gone,
         placements,
         seats_gone,
         seats,
@@ -188,16 +195,6 @@ fn count_of(candidates: &[StudentNo]) -> u32
     };
     let _within = last.get(); // read for its limit
     candidates.len() as u32
-}
-
-fn placements_put(alloc: Global, timetable: &Timetable) -> Result<Vec<InsertPlacement>, AllocError>
-    ensures { IfOk result
-        (λ put. put.items ≡ map placement_put (placed_from 0 timetable.now)) }
-{
-    let rows = placement_rows(alloc, timetable)?;
-    rows.iter()
-        .map(|row| InsertPlacement { row: *row })
-        .collect(alloc)
 }
 
 fn seats_gone(

@@ -4,13 +4,14 @@ ghost use Rattle.sqlite.specs.Held.{state};
 ghost use Rattle.sqlite.specs.State.{HasCleanDisk, Survives};
 ghost use Rattle.office_tables.specs.Alterations.{Changed, HoldsChanged, Undone};
 ghost use Rattle.office_tables.specs.Steps.{Changes, Within};
-ghost use Rattle.office_store.specs.PublicationChanges.{places_put, publication_put, shares_put};
+ghost use Rattle.office_store.specs.PublicationChanges.{mark_put, places_put};
+ghost use Rattle.office_store.specs.PublicationChanges.{publication_put, shares_put};
 ghost use Rattle.office_store.specs.NewPublications.{AreSmallShares};
 
 use crate::fault::Failed;
 use crate::new_publication::NewPublication;
 use office_tables::{
-    Alteration, Both, DeleteMeta, DeletePartShares, DeletePlacements, Each, InsertMeta,
+    Alteration, Both, DeleteMeta, DeletePartShares, Each, InsertMeta, InsertPartShares,
     InsertPlacements, InsertSeats, transact,
 };
 use sqlite::{Alter, Connection, Error, Transaction};
@@ -46,22 +47,17 @@ impl Alteration for NewPublication {
     }
 }
 
-// Says that the session is published, and writes all places and the seats of candidates that go and
-// come: first all that go, so that each seat is free for whoever gets it.
+// Writes the row about the office, if it changes, and the placements and the seats of candidates
+// that go and come: first all seats that go, so that each is free for its next candidate.
 fn put_places<S: Alter>(tx: &mut Transaction<'_, S>, new: &NewPublication) -> Result<(), Error>
     ensures same_reference { tx.new.conn.ghost_name ≡ tx.old.conn.ghost_name }
     ensures makes { Changes S.Store (places_put new.now) tx.old.conn.now tx.new.conn.now result }
     ensures within { Within (state S.Store tx.old.conn.now) (state S.Store tx.new.conn.now) }
 {
-    let meta = Both {
-        first: DeleteMeta,
-        second: InsertMeta {
-            published: true,
-            instance: &new.text,
-        },
-    };
     let placements = Both {
-        first: DeletePlacements,
+        first: Each {
+            alterations: &new.places_gone,
+        },
         second: InsertPlacements {
             rows: &new.placements,
         },
@@ -72,9 +68,28 @@ fn put_places<S: Alter>(tx: &mut Transaction<'_, S>, new: &NewPublication) -> Re
         },
         second: InsertSeats { rows: &new.seats },
     };
-    meta.apply(tx)?;
+    put_mark(tx, &new.text)?;
     placements.apply(tx)?;
     seats.apply(tx)
+}
+
+// Writes the row about the office, if there is a text for it: something is published.
+fn put_mark<S: Alter>(tx: &mut Transaction<'_, S>, text: &Option<Vec<u8>>) -> Result<(), Error>
+    ensures same_reference { tx.new.conn.ghost_name ≡ tx.old.conn.ghost_name }
+    ensures makes { Changes S.Store (mark_put text.now) tx.old.conn.now tx.new.conn.now result }
+    ensures within { Within (state S.Store tx.old.conn.now) (state S.Store tx.new.conn.now) }
+{
+    let Some(text) = text else {
+        return Ok(());
+    };
+    let meta = Both {
+        first: DeleteMeta,
+        second: InsertMeta {
+            published: true,
+            instance: text,
+        },
+    };
+    meta.apply(tx)
 }
 
 // Writes the shares of candidates that go and come, and all other shares.
@@ -94,9 +109,7 @@ fn put_shares<S: Alter>(tx: &mut Transaction<'_, S>, new: &NewPublication) -> Re
     };
     let parts = Both {
         first: DeletePartShares,
-        second: Each {
-            alterations: &new.parts,
-        },
+        second: InsertPartShares { rows: &new.parts },
     };
     students.apply(tx)?;
     parts.apply(tx)

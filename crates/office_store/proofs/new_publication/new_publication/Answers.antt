@@ -1,10 +1,11 @@
 use Rattle.std.proofs.Common.{rules, ◌≡◌, Err, Ok, Result, Some, ap, subst, sym, ◌∙◌}
-use Rattle.std.specs.Prelude.{OnOk}
+use Rattle.std.specs.Prelude.{IsPermutation, OnOk}
 use Rattle.exam_model.specs.Pairs.{pairs_of}
 use Rattle.exam_publish.specs.Seats.{seat_rows}
 use Rattle.exam_score.specs.Penalty.{total_of}
 use Rattle.exam_score.specs.Track.{track}
 use Rattle.office_model.specs.declared.fault.StoreFault.TheVariants.{NoDraft}
+use Rattle.office_records.specs.Publications.{placed_rows}
 use Rattle.office_records.specs.Stands.{IsKept}
 use Rattle.office_store.specs.FoldReads.{IsSame}
 use Rattle.office_store.specs.NewPublications.{PutsIn}
@@ -74,11 +75,14 @@ returns-clause-publishes g c clean awake o kept is =
     let was = c.in_ok-old.ensures.are r there.office (same_session r I E here)
     (c.in_ok-published.ensures.rows clean (Some r) there) in
     publishes d r I E T here draft.timetable c.deref-2.result.now c.deref-3.result.now
-    c.total.result c.put_together.result c.in_ok-check_permit.ensures.permitted
-    (c.deref-2.ensures.value ∙ was)
-    (c.deref-3.ensures.value ∙ c.in_ok-rows.ensures.rows
-    ∙ ap (seat_rows (pairs_of E) T) (c.deref.ensures.value ∙ sym c.deref-2.ensures.value))
-    (c.total.ensures.total ∙ ap total_of (draft.scored
+    c.deref-4.result.now (total_of c.in-Some-draft.draft.now.parts) c.put_together.result
+    c.in_ok-check_permit.ensures.permitted
+    (subst (λ l. IsPermutation l (placed_rows r.published)) (sym c.deref-2.ensures.value)
+    (c.in_ok-published.ensures.rows clean (Some r) there).placed)
+    (c.deref-3.ensures.value ∙ was)
+    (c.deref-4.ensures.value ∙ c.in_ok-rows.ensures.rows
+    ∙ ap (seat_rows (pairs_of E) T) (c.deref.ensures.value ∙ sym c.deref-3.ensures.value))
+    (ap total_of (draft.scored
     ∙ ap (λ (p : Session × Enrolled). track p.0 p.1 T) (both r I E here)))
     c.put_together.ensures.put c.put_together.ensures.err)
 

@@ -5,7 +5,8 @@ use Rattle.office_records.specs.Publications.{stored_seat}
 use Rattle.office_records.specs.SeatsStored.{seat_rows_of}
 use Rattle.office_records.specs.SharesStored.{share_rows_of, student_share_row}
 use Rattle.office_records.specs.PartShares.{HasFewParts, part_rows}
-use Rattle.office_store.specs.RowPuts.{her_seats_gone, part_share_put, seat_put}
+use Rattle.office_store.specs.ChangedPlacements.{changed_rows}
+use Rattle.office_store.specs.RowPuts.{her_seats_gone, part_share_put, place_gone, placement_put, seat_put}
 use Rattle.office_store.specs.RowPuts.{share_gone, student_share_put}
 use Rattle.office_store.proofs.NewPublicationLemmas.{few_parts}
 use Rattle.office_store.proofs.new_publication.put_together.Goals as goal
@@ -13,35 +14,43 @@ use Rattle.office_store.proofs.new_publication.put_together.Goals as goal
 pub part_shares_put-requires : goal.part_shares_put-requires
 part_shares_put-requires c = record {
   few = subst HasFewParts (sym c.in_ok-shares.ensures.shares)
-      (few_parts c.args.instance.now c.args.rows.now c.args.timetable.now
-      c.in_ok-text.ensures.instance);
+      (few_parts c.args.instance.now c.args.rows.now c.args.draft.now.timetable
+      c.exams-limits.ensures.kept);
   small = c.in_ok-shares.ensures.small;
 }
 
+pub student_shares_put-requires : goal.student_shares_put-requires
+student_shares_put-requires c =
+    subst IsAscending (sym c.deref-6.ensures.value) c.in_ok-candidates.ensures.ascending
+
 pub count_of-requires : goal.count_of-requires
 count_of-requires c =
-    subst IsAscending (sym c.deref-5.ensures.value) c.in_ok-candidates.ensures.ascending
+    subst IsAscending (sym c.deref-7.ensures.value) c.in_ok-candidates.ensures.ascending
 
 pub returns-clause-put : goal.returns-clause-put
 returns-clause-put c =
     let listed = c.in_ok-candidates.ensures.listed in
     let shares = c.in_ok-shares.ensures.shares in record {
       text = c.in_ok-text.ensures.text;
-      placements = c.in_ok-placements.ensures;
+      places_gone = c.in_ok-places_gone.ensures
+          ∙ ap (λ rows. map place_gone (changed_rows c.args.before.now rows)) (c.deref.ensures.value ∙ c.in_ok-places.ensures);
+      placements = c.in_ok-placements.ensures
+          ∙ ap (λ rows. map placement_put (changed_rows rows c.args.before.now)) (c.deref-2.ensures.value ∙ c.in_ok-places.ensures);
       seats_gone = c.in_ok-seats_gone.ensures
-          ∙ ap (map her_seats_gone) (c.deref.ensures.value ∙ listed);
+          ∙ ap (map her_seats_gone) (c.deref-3.ensures.value ∙ listed);
       seats = c.in_ok-seats.ensures
           ∙ ap (λ (changed : List ℕ). map seat_put
           (seat_rows_of changed (map stored_seat c.args.rows.now)))
-          (c.deref-2.ensures.value ∙ listed);
+          (c.deref-4.ensures.value ∙ listed);
       shares_gone = c.in_ok-shares_gone.ensures
-          ∙ ap (map share_gone) (c.deref-3.ensures.value ∙ listed);
+          ∙ ap (map share_gone) (c.deref-5.ensures.value ∙ listed);
       students = c.in_ok-students.ensures.put
           ∙ ap₂ (λ (changed : List ℕ) (all : Sharing). map student_share_put
           (share_rows_of changed (map student_share_row all.students)))
-          (c.deref-4.ensures.value ∙ listed) shares;
+          (c.deref-6.ensures.value ∙ listed) shares;
       parts = c.in_ok-parts.ensures.put
           ∙ ap (λ (all : Sharing). map part_share_put (part_rows all)) shares;
-      counts = ap (λ n. record { changed = n; penalty = c.args.penalty })
-          (c.count_of.ensures ∙ ap length (c.deref-5.ensures.value ∙ listed));
+      counts = ap₂ (λ n penalty. record { changed = n; penalty = penalty })
+          (c.count_of.ensures ∙ ap length (c.deref-7.ensures.value ∙ listed))
+          c.total.ensures.total;
     }
