@@ -1,9 +1,10 @@
 #!/usr/bin/env python3
-"""openapi.py: docs/openapi.yaml says what the routes and docs/FORMATS.md say, no more and no less.
+"""openapi.py: docs/openapi.yaml says what the source and docs/FORMATS.md say, no more and no less.
 
-Paths, methods, callers, statuses and errors are compared, each example with its schema, and the schemas
-are judged; a difference is printed, and the last line counts the comparisons. For other tests `Described` judges an
-exchange by that file: whether it has the request, and the reply's status, type and body.
+Paths, methods and callers are compared with the routes and the policy in the source, statuses and errors with
+docs/FORMATS.md, each example with its schema, and the schemas are judged; a difference is printed, and the last line
+counts the comparisons. For other tests `Described` judges an exchange by that file: whether it has the request, and
+the reply's status, type and body.
 
 Debian's python3-yaml and python3-jsonschema read it. Without them a line says that it is left out,
 and `Described` finds no fault.
@@ -27,15 +28,13 @@ except ImportError:
 
 TOP = pathlib.Path(__file__).resolve().parent.parent
 REQUESTS = TOP / "crates" / "office_requests" / "src"
+POLICY = TOP / "crates" / "office_policy" / "src"
 VERBS = ("get", "put", "post", "delete")
 # What only the front replies: statuses, and errors by their status.
 OF_THE_FRONT = {"401", "429"}
-# What FORMATS.md calls those who may ask, and the `x-callers` of the page's methods.
-CALLERS = {"candidates": {"candidate"}, "the office": {"office"},
-           "the office, departments": {"office", "department"},
-           "the office, the exam's owner": {"office", "owner"},
-           "the office, the owner of both": {"office", "owner"}}
-DEPARTMENTS_GET = "the office; departments may GET"
+# The `x-callers` that each kind of command has.
+CALLERS = {"Personal": {"candidate"}, "Official": {"office"}, "Reading": {"office", "department"},
+           "Editing": {"office", "owner"}}
 
 
 def missing():
@@ -130,16 +129,34 @@ class Described:
                 yield name
 
 
-# ---- What the routes and the page say
+# ---- What the source and the page say
+
+def pages():
+    """Each page of the table of routes with its path."""
+    text = (REQUESTS / "routes.rt").read_text()
+    return {page: path for path, page in re.findall(r'\("([^"]+)", Page::(\w+)\)', text)}
+
 
 def routes():
     """Of the table of routes: each path with its methods."""
-    named = dict(re.findall(r'\("([^"]+)", Page::(\w+)\)', (REQUESTS / "routes.rt").read_text()))
     text = (REQUESTS / "methods.rt").read_text().split("match page {")[1]
     rows = re.findall(r'((?:Page::\w+(?: \| )?)+|_) => "([A-Z, ]+)"', text)
-    methods = {page: allow for pages, allow in rows for page in re.findall(r"Page::(\w+)", pages)}
+    methods = {page: allow for names, allow in rows for page in re.findall(r"Page::(\w+)", names)}
     rest = dict(rows)["_"]
-    return {path: set(methods.get(page, rest).split(", ")) for path, page in named.items()}
+    return {path: set(methods.get(page, rest).split(", ")) for page, path in pages().items()}
+
+
+def callers():
+    """Of the source: the callers that the policy permits each method of each path."""
+    policy = (POLICY / "policy.rt").read_text().split("fn kind(")[1].split("\n    }\n")[0]
+    rows = re.findall(r"((?:Command::\w+(?:\([^)]*\))?(?: \| )?)+|_) => (?:\{\s*)?Kind::(\w+)", policy)
+    kinds = {command: kind for names, kind in rows for command in re.findall(r"Command::(\w+)", names)}
+    rest, found, path_of = dict(rows)["_"], {}, pages()
+    for function in (REQUESTS / "commands.rt").read_text().split("\nfn ")[1:]:
+        page = re.search(r"Refusal::Method\(Page::(\w+)\)", function)
+        for verb, command in re.findall(r"Verb::(\w+) =>.*?Command::(\w+)", function, re.S) if page else ():
+            found[path_of[page[1]], verb.lower()] = CALLERS[kinds.get(command, rest)]
+    return found
 
 
 def table_rows(page):
@@ -149,22 +166,14 @@ def table_rows(page):
 
 
 def formats():
-    """Of FORMATS.md: who may ask for each path, and each refusal as its status and error."""
+    """Of FORMATS.md: each refusal as its status and error, and the statuses of success."""
     page = (TOP / "docs" / "FORMATS.md").read_text()
     page = page.split("\n## Messages\n")[1].split("\n## The tables\n")[0]
-    may, refusals, answers = {}, set(), set()
-    for cells in table_rows(page):
-        paths = re.findall(r"`(/[^`]*)`", cells[0])
-        if len(cells) >= 3 and paths:
-            may.update((path, (set(cells[1].split(", ")), cells[2].strip())) for path in paths)
-        elif len(cells) == 3 and re.match(r"\d{3}$", cells[1]) and '"error"' in cells[2]:
-            errors = re.findall(r'(?:"error":"|`)([\w-]+)["`]', cells[2])
-            refusals |= {(cells[1], error) for error in errors}
-        elif len(cells) == 3 and re.match(r"\d{3}", cells[1]):
-            answers |= set(re.findall(r"\d{3}", cells[1]))
-    refusals |= {(status, error) for status, error in
-                 re.findall(r'the reply is (\d{3})\s+`\{"error":"([\w-]+)"\}`', page)}
-    return may, refusals, answers
+    refusals = {(cells[1], error) for cells in table_rows(page)
+                if len(cells) == 3 and re.match(r"\d{3}$", cells[1]) and '"error"' in cells[2]
+                for error in re.findall(r'(?:"error":"|`)([\w-]+)["`]', cells[2])}
+    refusals |= set(re.findall(r'the reply is (\d{3})\s+`\{"error":"([\w-]+)"\}`', page))
+    return refusals, set(re.findall(r"\bstatus (20\d)\b", page))
 
 
 def named_errors(described, response):
@@ -194,15 +203,13 @@ def differences(described):
     methods = {path: {verb.upper() for verb in page if verb in VERBS}
                for path, page in paths.items()}
     yield "paths and methods of the routes", routes(), methods
-    may, refusals, answers = formats()
-    yield "paths and methods of FORMATS.md", {path: row[0] for path, row in may.items()}, methods
+    refusals, answers = formats()
     operations = {(path, verb): page[verb] for path, page in paths.items() for verb in VERBS
                   if verb in page}
+    permitted = callers()
+    yield "methods with callers", set(permitted), set(operations)
     for (path, verb), operation in operations.items():
-        who = may.get(path, (set(), ""))[1]
-        who = ("the office, departments" if verb == "get" else "the office") \
-            if who == DEPARTMENTS_GET else who
-        yield f"callers of {verb} {path}", CALLERS.get(who), set(operation["x-callers"])
+        yield f"callers of {verb} {path}", permitted.get((path, verb)), set(operation["x-callers"])
     listed = [*(operation["responses"] for operation in operations.values()),
               *(page["x-other-methods"] for page in paths.values())]
     statuses = {status for responses in listed for status in responses}

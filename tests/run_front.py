@@ -503,8 +503,9 @@ def caches(run, name, front, **signed):
 
 
 def words_of_pages(run):
-    """The pages have words for each rule and each error, and for no fault that docs/FORMATS.md lacks."""
+    """The pages have words for each rule and each error, and for no fault that docs/generated/FAULTS.md lacks."""
     formats = (TOP / "docs" / "FORMATS.md").read_text()
+    numbered = (TOP / "docs" / "generated" / "FAULTS.md").read_text().split("\n## ")[1]
     script = (TOP / "front" / "page" / "office.js").read_text()
 
     def keys(name):
@@ -514,8 +515,8 @@ def words_of_pages(run):
     rules = re.search(r"^RULE is one of (.*?)\.", formats, re.M | re.S).group(1)
     run.judge("rules in words", set(re.findall(r"`(\w+)`", rules)), keys("RULES"))
     run.judge("faults in words", set(), keys("FAULTS") - set(
-        re.findall(r"^\| (\d+) [A-Z]\w+ \|", formats, re.M)))
-    run.judge("errors in words", {error for _, error in openapi.formats()[1]} | {"often"},
+        re.findall(r"^\| (\d+) [A-Z]\w+ \|", numbered, re.M)))
+    run.judge("errors in words", {error for _, error in openapi.formats()[0]} | {"often"},
               keys("REFUSALS") | {"forbidden", "broken", "unplaced", "file"})
 
 

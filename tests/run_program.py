@@ -2,7 +2,7 @@
 """run_program.py PROGRAM: the whole program from outside, called from a folder of its own.
 
 Each case compares standard output, standard error and the exit status byte for byte; some have a
-terminal as standard error. What docs/FORMATS.md says of the numbers of faults is asked too: its
+terminal as standard error. What docs/generated/FAULTS.md says of the numbers of faults is asked too: its
 words of the help, its lines of the small instance. A failing case is printed with what was
 expected and what came, and the last line counts the cases.
 """
@@ -23,8 +23,8 @@ TOP = pathlib.Path(__file__).resolve().parent.parent
 EXAMPLES = TOP / "examples"
 # A row of the page's table of faults: the number, the words of the help, and such a line.
 FAULT_ROW = re.compile(r"(?m)^\| (\d+) \w+ \| (.*?) \| (?:line (\d+): `(.*)` )?\|$")
-FORMATS = (TOP / "docs" / "FORMATS.md").read_text(encoding="utf-8")
-FAULTS = FAULT_ROW.findall(FORMATS)
+PAGE = (TOP / "docs" / "generated" / "FAULTS.md").read_text(encoding="utf-8")
+FAULTS = FAULT_ROW.findall(PAGE.split("\n## ")[1])
 VERSION = (TOP / "VERSION").read_text(encoding="utf-8").strip()
 # What the launcher says of a release that wasn't built from these sources.
 OLDER = b"examoffice: the release is older than the sources; --build builds these\n"
@@ -186,7 +186,7 @@ def with_cause(case, line):
 
 def numbered_words(heading):
     """The numbers and the words of a page's table of faults, by its heading."""
-    table = FORMATS.split(f"| {heading} | In words |")[1].split("\n\n")[0]
+    table = PAGE.split(f"\n## {heading}\n")[1].split("\n## ")[0]
     return re.findall(r"(?m)^\| (\d+) \w+ \| (.*) \|$", table)
 
 
@@ -213,8 +213,8 @@ def usage(name, *words):
 
 KINDS = {
     "file": [(number, words) for number, words, _, _ in FAULTS],
-    "store": numbered_words("Fault of the store"),
-    "connection": numbered_words("Fault of a connection"),
+    "store": numbered_words("Faults of the store"),
+    "connection": numbered_words("Faults of a connection"),
 }
 
 CASES = [

@@ -1,13 +1,14 @@
 #!/usr/bin/env python3
 """run_sqlite3.py PROGRAM: the databases of the program beside the stock command sqlite3.
 
-What was loaded is read by sqlite3, and held against docs/FORMATS.md and the small example; what
+What was loaded is read by sqlite3, and compared with docs/generated/TABLES.md and the small example; what
 sqlite3 wrote as drafted and published is found and exported; what a program before this one left
 becomes version 2 of the same office; a database that sqlite3 made, or changed so that it represents
-no office, is refused, and its dump by sqlite3 is then as it was. A failing case is printed with what was expected and what
-came, and the last line counts the cases.
+no office, is refused, and its dump by sqlite3 is then as it was. A failing case is printed with what
+was expected and what came, and the last line counts the cases.
 """
 import pathlib
+import re
 import subprocess
 import sys
 import tempfile
@@ -18,7 +19,7 @@ from serve_cases import SHOWN, report
 from serve_cases import text as reply_with
 
 TOP = pathlib.Path(__file__).resolve().parent.parent
-FORMATS, SMALL = TOP / "docs" / "FORMATS.md", TOP / "examples" / "small.exam"
+TABLES, SMALL = TOP / "docs" / "generated" / "TABLES.md", TOP / "examples" / "small.exam"
 SECONDS = 60
 LOADED = b"loaded exams 4 pairs 6 periods 4 rooms 2\n"
 # The canonical text of the small example, with no student.
@@ -103,7 +104,7 @@ NO_PUBLICATION = (1, b"", b"examoffice: no publication\n")
 BEFORE = {"everything": EXPORTED, "loaded": NO_PUBLICATION,
           "published_twice": (0, b"0, 0\r\n1, 0\r\n3, 1\r\n3, 1\r\n", b"")}
 PENALTY_OF_SECOND = report(7, 0, 3, 10, 0, 10, 14, 44)
-# What makes version 2 of their tables, after the statements of docs/FORMATS.md for the two new ones.
+# What makes version 2 of their tables, after the statements of docs/generated/TABLES.md for the two new ones.
 FILLED = ("INSERT INTO night_draft SELECT no, 0 FROM draft",
           "INSERT INTO night_share SELECT student, 0 FROM share_student",
           "UPDATE meta SET version = 2")
@@ -187,9 +188,8 @@ def statements(text):
 
 
 def documented():
-    """The statements on the page, where they are indented."""
-    page = FORMATS.read_text().split("\n## The tables\n")[1].split("\n## ")[0]
-    return statements("\n".join(line for line in page.split("\n") if line.startswith("    ")))
+    """The statements on the page, in its blocks."""
+    return statements("".join(re.findall(r"^```sql\n(.*?)^```$", TABLES.read_text(), re.M | re.S)))
 
 
 def cases(program, folder):
