@@ -5,7 +5,7 @@ use Rattle.std.specs.Prelude.{◌==◌, slice_get, ℤ, ◌-ℤ◌, unsigned_abs
 use Rattle.std.proofs.lemmas.Int.{ints}
 use Rattle.exam_calendar.specs.Dates.{are_a_day_apart, day_number, is_same_date}
 use Rattle.exam_calendar.specs.declared.date.Date.{Date}
-use Rattle.exam_model.specs.Distances.{have_next_dates, next_day, same_day, share_date}
+use Rattle.exam_model.specs.Distances.{have_next_dates, next_day, is_same_day, share_date}
 use Rattle.exam_model.specs.declared.parts.Period.{Period}
 
 equal-as : (a b : ℕ) (same : Bool) → (a == b) ≡ same → (b == a) ≡ same
@@ -25,8 +25,9 @@ share_date-swap None (Some q) = refl
 share_date-swap (Some p) None = refl
 share_date-swap (Some p) (Some q) = is_same_date-swap p.date q.date
 
-pub same_day-swap : (periods : List Period) (p q : ℕ) → same_day periods p q ≡ same_day periods q p
-same_day-swap periods p q = share_date-swap (slice_get periods p) (slice_get periods q)
+pub is_same_day-swap : (periods : List Period) (p q : ℕ) → is_same_day periods p q
+    ≡ is_same_day periods q p
+is_same_day-swap periods p q = share_date-swap (slice_get periods p) (slice_get periods q)
 
 days-swap : (m n : ℤ) → unsigned_abs (m -ℤ n) ≡ unsigned_abs (n -ℤ m)
 days-swap m n = omega (arith, ints)

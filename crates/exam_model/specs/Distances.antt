@@ -14,8 +14,8 @@ share_date (Some p) None = false
 share_date (Some p) (Some q) = is_same_date p.date q.date
 
 -- whether two periods exist and have the same date
-abbrev pub same_day : List Period → ℕ → ℕ → Bool
-same_day periods p q = share_date (slice_get periods p) (slice_get periods q)
+abbrev pub is_same_day : List Period → ℕ → ℕ → Bool
+is_same_day periods p q = share_date (slice_get periods p) (slice_get periods q)
 
 -- whether the dates of two periods are one day apart, in either order
 abbrev pub have_next_dates : Option Period → Option Period → Bool

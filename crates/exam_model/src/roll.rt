@@ -51,7 +51,7 @@ impl Roll {
         ensures numbers { AreNumbers students.now }
         ensures err { OnErr result (self.new ≡ self.old) }
     {
-        tell_numbers(students);
+        numbers_identify(students);
         self.students.extend_from_slice(students)
     }
 
@@ -101,7 +101,7 @@ impl Roll {
 }
 
 // Reads the numbers for their limit, and does nothing.
-fn tell_numbers(students: &[StudentNo])
+fn numbers_identify(students: &[StudentNo])
     ensures { AreNumbers students.now }
 {
     for student in students {

@@ -193,7 +193,7 @@ adds_up I rows T known are numbered =
     let by_periods =
     sum_by-add (λ (share : ℕ × PersonalPenalty). share.1.row + share.1.day)
     (λ share. share.1.spread) (student_shares I rows) in
-    let same_day =
+    let is_same_day =
     sum_by-add (λ (share : ℕ × PersonalPenalty). share.1.row) (λ share. share.1.day)
     (student_shares I rows) in
     let in_rooms =

@@ -36,7 +36,7 @@ pub fn shares(
     ensures small { IfOk result AreSmall }
 {
     let _kept = instance.periods(); // read for its limits
-    tell_numbers(rows);
+    numbers_identify(rows);
     let students = student_shares(alloc, instance, rows, timetable)?;
     let exams = exam_shares(alloc, instance, rows, timetable)?;
     let periods = period_shares(alloc, instance, timetable)?;
@@ -45,7 +45,7 @@ pub fn shares(
 }
 
 /// Reads the students' numbers for their limit, and does nothing.
-pub fn tell_numbers(rows: &[SeatRow])
+pub fn numbers_identify(rows: &[SeatRow])
     ensures { AreNumbered rows.now }
 {
     'rows: for row in rows {

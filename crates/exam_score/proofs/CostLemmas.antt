@@ -7,7 +7,7 @@ use Rattle.exam_calendar.specs.Dates.{is_civil}
 use Rattle.exam_model.specs.Instance.{Session, IsInstance}
 use Rattle.exam_model.specs.Limits.{PeriodInLimits}
 use Rattle.exam_model.specs.declared.parts.Period.{Period}
-use Rattle.exam_model.specs.Distances.{gap, next_day, same_day}
+use Rattle.exam_model.specs.Distances.{gap, next_day, is_same_day}
 use Rattle.exam_score.specs.Cost.{row_cost, day_cost, night_cost}
 
 picked : (b : Bool) (w : ℕ) → w ≤ 100000 → (if b then w else 0) ≤ 100000
@@ -17,12 +17,12 @@ picked false w h = omega arith
 pub row_cost-small : (I : Session) → IsInstance I → (p q : ℕ)
     → row_cost I.periods I.weights p q ≤ 100000
 row_cost-small I known p q =
-    picked (same_day I.periods p q && (gap p q == 1)) I.weights.row known.limits.weights.0
+    picked (is_same_day I.periods p q && (gap p q == 1)) I.weights.row known.limits.weights.0
 
 pub day_cost-small : (I : Session) → IsInstance I → (p q : ℕ)
     → day_cost I.periods I.weights p q ≤ 100000
 day_cost-small I known p q =
-    picked (same_day I.periods p q && nat_le 2 (gap p q)) I.weights.day known.limits.weights.1
+    picked (is_same_day I.periods p q && nat_le 2 (gap p q)) I.weights.day known.limits.weights.1
 
 pub night_cost-small : (I : Session) → IsInstance I → (p q : ℕ)
     → night_cost I.periods I.weights p q ≤ 100000

@@ -3,8 +3,8 @@
 use Rattle.std.specs.Prelude.{◌≡◌, ℕ, ◌≤◌, Bool, true, false, ◌&&◌, ◌==◌, nat_lt, nat_le, List, length, if◌then◌else◌}
 use Rattle.std.proofs.Common.{refl, ap, ◌∙◌, arith}
 use Rattle.std.proofs.lemmas.Bool.Decides.{nat_tests}
-use Rattle.exam_model.specs.Distances.{gap, next_day, same_day}
-use Rattle.exam_model.proofs.DayLemmas.{next_day-swap, same_day-swap}
+use Rattle.exam_model.specs.Distances.{gap, next_day, is_same_day}
+use Rattle.exam_model.proofs.DayLemmas.{next_day-swap, is_same_day-swap}
 use Rattle.exam_model.specs.declared.parts.Period.{Period}
 use Rattle.exam_model.specs.declared.parts.Weights.{Weights}
 use Rattle.exam_score.specs.Cost.{row_cost, day_cost, spread_cost, night_cost}
@@ -33,13 +33,13 @@ pick-none false n = refl
 pub row_cost-swap : (periods : List Period) (weights : Weights) (p q : ℕ)
     → row_cost periods weights p q ≡ row_cost periods weights q p
 row_cost-swap periods weights p q =
-    λ i. if same_day-swap periods p q i && (gap-swap p q i == 1) then weights.row else 0
+    λ i. if is_same_day-swap periods p q i && (gap-swap p q i == 1) then weights.row else 0
 
 -- two in a day
 pub day_cost-swap : (periods : List Period) (weights : Weights) (p q : ℕ)
     → day_cost periods weights p q ≡ day_cost periods weights q p
 day_cost-swap periods weights p q =
-    λ i. if same_day-swap periods p q i && nat_le 2 (gap-swap p q i) then weights.day else 0
+    λ i. if is_same_day-swap periods p q i && nat_le 2 (gap-swap p q i) then weights.day else 0
 
 -- within the spread
 pub spread_cost-swap : (periods : List Period) (weights : Weights) (p q : ℕ)
@@ -58,15 +58,15 @@ night_cost-swap periods weights p q =
 pub row_cost-none : (periods : List Period) (weights : Weights) (p : ℕ)
     → row_cost periods weights p p ≡ 0
 row_cost-none periods weights p =
-    ap (λ g. if same_day periods p p && (g == 1) then weights.row else 0) (gap-none p)
-    ∙ pick-none (same_day periods p p) weights.row
+    ap (λ g. if is_same_day periods p p && (g == 1) then weights.row else 0) (gap-none p)
+    ∙ pick-none (is_same_day periods p p) weights.row
 
 -- two in a day
 pub day_cost-none : (periods : List Period) (weights : Weights) (p : ℕ)
     → day_cost periods weights p p ≡ 0
 day_cost-none periods weights p =
-    ap (λ g. if same_day periods p p && nat_le 2 g then weights.day else 0) (gap-none p)
-    ∙ pick-none (same_day periods p p) weights.day
+    ap (λ g. if is_same_day periods p p && nat_le 2 g then weights.day else 0) (gap-none p)
+    ∙ pick-none (is_same_day periods p p) weights.day
 
 -- within the spread
 pub spread_cost-none : (periods : List Period) (weights : Weights) (p : ℕ)

@@ -1,6 +1,6 @@
 // The costs of two exams of one student: ITC 2007, soft constraints, and our own over night.
 ghost use Rattle.std.specs.Prelude.{◌≡◌, ℕ};
-ghost use Rattle.exam_model.specs.Distances.{next_day, same_day};
+ghost use Rattle.exam_model.specs.Distances.{next_day, is_same_day};
 ghost use Rattle.exam_score.specs.Cost.{row_cost, day_cost, spread_cost, night_cost};
 ghost use Rattle.exam_score.specs.CostLaws.{row_laws, day_laws, spread_laws, night_laws};
 ghost use Rattle.exam_score.specs.TraitCosts.{row_cost_of, day_cost_of, spread_cost_of, night_cost_of};
@@ -107,7 +107,7 @@ impl PairCost for NightCost<'_> {
 
 // Returns whether two periods have the same date; false if one of them doesn't exist.
 fn are_of_one_day(instance: &Instance, one: PeriodNo, other: PeriodNo) -> bool
-    ensures { result ≡ same_day instance.now.periods one other }
+    ensures { result ≡ is_same_day instance.now.periods one other }
 {
     let periods = instance.periods();
     if one.get() >= periods || other.get() >= periods {

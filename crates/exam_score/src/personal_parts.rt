@@ -121,7 +121,7 @@ impl PersonalParts {
         ensures total { result ≡ personal_total self.now }
         ensures within { result < 2 ^ 62 }
     {
-        let same_day = self.row + self.day;
-        same_day + self.spread + self.night
+        let is_same_day = self.row + self.day;
+        is_same_day + self.spread + self.night
     }
 }

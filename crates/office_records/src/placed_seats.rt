@@ -6,7 +6,7 @@ ghost use Rattle.exam_publish.specs.Seats.{HaveOwnSeats};
 ghost use Rattle.office_records.specs.FoundPublications.{HasPlacesAndSeats, IsSeatedRow, is_same_seat, publication};
 
 use exam_model::{Instance, Timetable};
-use exam_publish::{SeatRow, is_before, tell_numbers};
+use exam_publish::{SeatRow, is_before, numbers_identify};
 use exam_terms::limits::MAX_PAIRS;
 use std::alloc::{AllocError, Global};
 
@@ -22,7 +22,7 @@ pub(crate) fn have_places_and_seats(
     ensures { IfOk result (λ have. IsTrue have
         ↔ HasPlacesAndSeats instance.now (publication timetable.now rows.now)) }
 {
-    tell_numbers(rows);
+    numbers_identify(rows);
     let complete = timetable.complete().is_none();
     let few = rows.len() <= MAX_PAIRS as usize;
     let own = have_own_seats(alloc, rows)?;

@@ -14,7 +14,7 @@ use crate::seats::seats_in_order;
 use crate::timetable::timetable_of;
 use exam_model::{ExamNo, Instance, Timetable};
 use exam_publish as publish;
-use exam_publish::{PublishFault, permit, tell_numbers};
+use exam_publish::{PublishFault, numbers_identify, permit};
 use office_tables::{EnrolRow, PlacedRow, SeatRow, SlotRow};
 use std::alloc::{AllocError, Global};
 
@@ -117,7 +117,7 @@ pub fn check_publication(
     ensures none { IfErr result (λ e. e ≡ RecordFault.BadRows
         → IsPublication instance.now (publication timetable.now rows.now) → ⊥) }
 {
-    tell_numbers(rows);
+    numbers_identify(rows);
     let pairs = enrol_rows(alloc, rows)?;
     let enrolments = enrolments_of(alloc, instance, &pairs)?;
     match permit(alloc, instance, &enrolments, timetable) {

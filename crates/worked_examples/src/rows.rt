@@ -1,7 +1,7 @@
 // Rows and students in order, and shares made from lists.
 use crate::given::{assert_same, numbers, student};
 use exam_model::{ExamNo, PeriodNo, RoomNo};
-use exam_publish::{SeatRow, Shares, in_order, is_before, tell_numbers};
+use exam_publish::{SeatRow, Shares, in_order, is_before, numbers_identify};
 use std::alloc::{AllocError, Global};
 use std::test::Fail;
 
@@ -28,7 +28,7 @@ fn rows_go_by_exam_and_then_by_student(rt: HostRuntime) -> Result<(), Fail> {
     ];
     for (one, other, wanted) in cases {
         let pair = [row(one, 2)?, row(other, 1)?];
-        tell_numbers(&pair);
+        numbers_identify(&pair);
         assert_same(&rt, is_before(&pair[0], &pair[1]), wanted, (one, other));
     }
     Ok(())

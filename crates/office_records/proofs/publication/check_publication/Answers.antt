@@ -19,7 +19,7 @@ returns-in-Ok-clause-is c =
     is_publication c.args.instance.now c.args.rows.now c.args.timetable.now c.requires.rows
     c.deref.result.now (c.deref.ensures.value ∙ c.in_ok-pairs.ensures)
     c.in_ok-enrolments.enrolments c.in_ok-enrolments.ensures.are c.requires.seated
-    c.tell_numbers.ensures c.in-Ok.ensures.ok
+    c.numbers_identify.ensures c.in-Ok.ensures.ok
 
 pub returns-clause-none : goal.returns-clause-none
 returns-clause-none c _ =

@@ -1,6 +1,6 @@
 use Rattle.std.proofs.Common.{arith}
 use Rattle.exam_model.proofs.RollLemmas.{are_numbers}
-use Rattle.exam_model.proofs.roll.tell_numbers.Goals as goal
+use Rattle.exam_model.proofs.roll.numbers_identify.Goals as goal
 
 pub returns : goal.returns
 returns c =

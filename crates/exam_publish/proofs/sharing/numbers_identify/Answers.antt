@@ -1,7 +1,7 @@
 use Rattle.std.proofs.Common.{◌≡◌, ◌≤◌, get_or, inl, inr, sym, ap, ◌∙◌, subst, arith}
 use Rattle.std.proofs.lemmas.Bool.{cases_lt}
 use Rattle.std.proofs.lemmas.List.{get_or_default}
-use Rattle.exam_publish.proofs.sharing.tell_numbers.Goals as goal
+use Rattle.exam_publish.proofs.sharing.numbers_identify.Goals as goal
 
 pub rows-preserved : goal.rows-preserved
 rows-preserved c k d lt within = elim (cases_lt k c.rows.row-index) [
