@@ -8,7 +8,7 @@ use Rattle.exam_model.specs.Pairs.{Pair, pairs_of, ComesBefore}
 use Rattle.exam_model.specs.Timetable.{Placing, place_of}
 use Rattle.exam_model.proofs.PairLemmas.{are_pairs}
 use Rattle.exam_model.proofs.SumLemmas.{chain_from_index}
-use Rattle.exam_rules.specs.Places.{where_placed, is_one_place}
+use Rattle.exam_rules.specs.Places.{place_satisfies, is_one_place}
 use Rattle.exam_publish.specs.declared.seat_row.SeatRow.{SeatRow}
 use Rattle.exam_publish.specs.Numbered.{sits_at, row_with, numbered_rows}
 use Rattle.exam_publish.specs.Rows.{row_place}
@@ -34,10 +34,10 @@ next at n = record { beyond = omega arith; free = refl; between = λ k low high.
 counted : (T : Placing) (q : Place) (seen : List Pair) (p : Pair) (o : Option Place)
     → place_of T p.exam ≡ o
     → count_by (sits_at T q) (seen ++ p ∷ [])
-    ≡ count_by (sits_at T q) seen + cond (where_placed (is_one_place q) o) 1 0
+    ≡ count_by (sits_at T q) seen + cond (place_satisfies (is_one_place q) o) 1 0
 counted T q seen p o is =
     sum_by_push (λ z. cond (sits_at T q z) 1 0) seen p
-    ∙ ap (λ z. count_by (sits_at T q) seen + cond (where_placed (is_one_place q) z) 1 0) is
+    ∙ ap (λ z. count_by (sits_at T q) seen + cond (place_satisfies (is_one_place q) z) 1 0) is
 
 one_more : (T : Placing) (seen : List Pair) (p : Pair) (at : Place)
     (standing : List SeatRow) (row : SeatRow)

@@ -22,7 +22,7 @@ use Rattle.exam_rules.specs.declared.breach.Breach.{Breach}
 use Rattle.exam_rules.specs.declared.breach.BreachRule.TheVariants.{Capacity}
 use Rattle.exam_rules.specs.Breaches.{breaches_of}
 use Rattle.exam_rules.specs.HardRules.{is_overfull, is_too_small}
-use Rattle.exam_rules.specs.Places.{where_placed, is_one_place, load_at}
+use Rattle.exam_rules.specs.Places.{place_satisfies, is_one_place, load_at}
 use Rattle.exam_rules.proofs.BreachLemmas.{breaches_have}
 use Rattle.exam_publish.specs.declared.entrants.Entrant.{Entrant}
 use Rattle.exam_publish.specs.declared.seat_row.SeatRow.{SeatRow}
@@ -449,7 +449,7 @@ loaded : (E : Enrolled) (T : Placing) (at : Place) → ArePairsOf E (pairs_of E)
 loaded E T at are =
     let n = length E in
     let pairs = pairs_of E in
-    let t : ℕ → Bool = λ e. where_placed (is_one_place at) (place_of T e) in
+    let t : ℕ → Bool = λ e. place_satisfies (is_one_place at) (place_of T e) in
     sym (
     sum_below-same _ _
     (λ e. ap (λ k. cond (t e) k 0) (sym (are.sizes e))
@@ -535,14 +535,14 @@ counted_pairs T old at (p ∷ ps) = go (place_of T p.exam) refl (counted_pairs T
     go None is more =
         let b = sum_by-cons (λ q. cond (sits_at T at q) 1 0) p ps in
         let none : ◌≡◌ {A = ℕ} (cond (sits_at T at p) 1 0) 0 =
-        ap (λ o. cond (where_placed (is_one_place at) o) 1 0) is in
+        ap (λ o. cond (place_satisfies (is_one_place at) o) 1 0) is in
         omega arith
     go (Some q) is more =
         let a = sum_by-cons (λ (y : Entrant). cond (is_one_place at y.place) 1 0) (entrant old p q)
         (entrants ps T old) in
         let b = sum_by-cons (λ q. cond (sits_at T at q) 1 0) p ps in
         let same : ◌≡◌ {A = ℕ} (cond (sits_at T at p) 1 0) (cond (is_one_place at q) 1 0) =
-        ap (λ o. cond (where_placed (is_one_place at) o) 1 0) is in
+        ap (λ o. cond (place_satisfies (is_one_place at) o) 1 0) is in
         omega arith
 
 -- ---- all of it
@@ -594,7 +594,7 @@ are_seats I E T old fits known permitted was =
     (λ p lt at here n low high.
     let place = subst (PlaceExists I) here (fits.places p.exam None lt) in
     let fine : is_too_small (slice_get I.rooms at.room) (load_at E T at) ≡ false
-    = sym (ap (where_placed (λ q. is_too_small (slice_get I.rooms q.room) (load_at E T q))) here)
+    = sym (ap (place_satisfies (λ q. is_too_small (slice_get I.rooms q.room) (load_at E T q))) here)
     ∙ roomy I E T p.exam fits.timetable clean in
     within_room I.rooms at.room n (load_at E T at) place.1 fine low high) pairs exist) in
     record {

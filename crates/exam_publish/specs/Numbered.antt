@@ -3,13 +3,13 @@ use Rattle.std.specs.Prelude.{ℕ, ◌+◌, Bool, ◌&&◌, List, Option, count_
 use Rattle.exam_terms.specs.declared.place.Place.{Place}
 use Rattle.exam_model.specs.Pairs.{Pair}
 use Rattle.exam_model.specs.Timetable.{Placing, place_of}
-use Rattle.exam_rules.specs.Places.{where_placed, is_one_place}
+use Rattle.exam_rules.specs.Places.{place_satisfies, is_one_place}
 use Rattle.exam_publish.specs.declared.seat_row.SeatRow.{SeatRow}
 use Rattle.exam_publish.specs.Rows.{comes_before}
 
 -- whether a pair's exam is in this room and period
 abbrev pub sits_at : Placing → Place → Pair → Bool
-sits_at T at q = where_placed (is_one_place at) (place_of T q.exam)
+sits_at T at q = place_satisfies (is_one_place at) (place_of T q.exam)
 
 -- one more than the number of earlier pairs in this room and period
 abbrev pub seat_number : List Pair → Placing → Place → Pair → ℕ

@@ -6,7 +6,7 @@ use Rattle.exam_model.specs.Instance.{Session}
 use Rattle.exam_model.specs.Timetable.{Placing}
 use Rattle.exam_model.specs.declared.parts.Period.{Period}
 use Rattle.exam_model.specs.declared.parts.Weights.{Weights}
-use Rattle.exam_rules.specs.Places.{where_placed}
+use Rattle.exam_rules.specs.Places.{place_satisfies}
 use Rattle.exam_score.specs.Penalty.{PersonalPenalty}
 use Rattle.exam_score.specs.Personal.{personal_of}
 use Rattle.exam_score.specs.Track.{period_penalty, room_penalty}
@@ -33,11 +33,11 @@ exam_shares I rows T =
 
 -- whether a place is in this period
 abbrev pub is_in_period : ℕ → Option Place → Bool
-is_in_period p at = where_placed (λ at. at.period == p) at
+is_in_period p at = place_satisfies (λ at. at.period == p) at
 
 -- whether a place is in this room
 abbrev pub is_in_room : ℕ → Option Place → Bool
-is_in_room r at = where_placed (λ at. at.room == r) at
+is_in_room r at = place_satisfies (λ at. at.room == r) at
 
 -- a period's penalty, once for each exam that is in it
 abbrev pub period_share : Session → Placing → ℕ → ℕ

@@ -8,9 +8,9 @@ use Rattle.std.proofs.lemmas.List.{get_or_read}
 use Rattle.exam_model.specs.Instance.{Session}
 use Rattle.exam_model.specs.Timetable.{Placing, place_of}
 use Rattle.exam_terms.specs.declared.place.Place.{Place}
-use Rattle.exam_rules.specs.Places.{PlaceExists, where_placed, where_both, is_one_place, in_one_period, in_one_place}
+use Rattle.exam_rules.specs.Places.{PlaceExists, place_satisfies, both_satisfy, is_one_place, in_one_period, in_one_place}
 use Rattle.exam_model.specs.Enrolments.{has_number}
-use Rattle.exam_rules.specs.Groups.{stands_in, AreGroups}
+use Rattle.exam_rules.specs.Groups.{is_placed_in, AreGroups}
 use Rattle.exam_rules.proofs.MemberLemmas.{and_false, same_tests}
 use Rattle.exam_rules.proofs.NamingLemmas.{and_swap}
 use Rattle.exam_rules.proofs.PlaceLemmas.{placed_exists, its_place_exists}
@@ -18,10 +18,10 @@ use Rattle.exam_rules.proofs.PlaceLemmas.{placed_exists, its_place_exists}
 -- a complete group has exactly the exams that are in its period
 pub in_group : {T : Placing} {periods n : ℕ} {groups : List (List ℕ)}
     → AreGroups T periods n groups → length T ≡ n
-    → (p f : ℕ) → p < periods → has_number (get_or groups p []) f ≡ stands_in T p f
+    → (p f : ℕ) → p < periods → has_number (get_or groups p []) f ≡ is_placed_in T p f
 in_group {T} {periods} {n} {groups} are same p f within =
     are.members p f within
-    ∙ exists (stands_in T p f) (λ h. placed_exists T (λ q. p == q.period) f h)
+    ∙ exists (is_placed_in T p f) (λ h. placed_exists T (λ q. p == q.period) f h)
   where
     exists : (b : Bool) → (b ≡ true → f < length T) → (nat_lt f n && b) ≡ b
     exists true h =
@@ -37,7 +37,8 @@ group_exists {T} {periods} {n} {groups} are p within k d lt =
     let group : List ℕ = get_or groups p [] in
     let x : ℕ = get_or group k d in
     let there = list_any_at (λ y. y == x) group k d lt (eq-eqb x x refl) in
-    ltb-true x n (and_parts (nat_lt x n) (stands_in T p x) (sym (are.members p x within) ∙ there)).0
+    ltb-true x n (and_parts (nat_lt x n) (is_placed_in T p x)
+    (sym (are.members p x within) ∙ there)).0
 
 -- the pairs with an exam's group, as the rule on rooms names them
 pub one_place_group : {T : Placing} {periods n : ℕ} {groups : List (List ℕ)}
@@ -52,8 +53,8 @@ one_place_group {T} {periods} {n} {groups} are same k q placed within e f =
     ∙ at (k == e) refl
   where
     -- the same room and period means the same period
-    place_period : (o : Option Place) → where_both is_one_place (Some q) o
-        ≡ (where_placed (λ x. q.period == x.period) o && where_both is_one_place (Some q) o)
+    place_period : (o : Option Place) → both_satisfy is_one_place (Some q) o
+        ≡ (place_satisfies (λ x. q.period == x.period) o && both_satisfy is_one_place (Some q) o)
     place_period None = refl
     place_period (Some x) = doubled (q.period == x.period) (q.room == x.room)
       where
@@ -61,21 +62,22 @@ one_place_group {T} {periods} {n} {groups} are same k q placed within e f =
         doubled true b = refl
         doubled false b = refl
 
-    here : in_one_place T k f ≡ (stands_in T q.period f && in_one_place T k f)
+    here : in_one_place T k f ≡ (is_placed_in T q.period f && in_one_place T k f)
     here =
-        ap (λ o. where_both is_one_place o (place_of T f)) placed
+        ap (λ o. both_satisfy is_one_place o (place_of T f)) placed
         ∙ place_period (place_of T f)
-        ∙ sym (ap (λ o. stands_in T q.period f && where_both is_one_place o (place_of T f)) placed)
+        ∙ sym (ap (λ o. is_placed_in T q.period f && both_satisfy is_one_place o
+        (place_of T f)) placed)
 
     at : (b : Bool) → (k == e) ≡ b
-        → (stands_in T q.period f && (b && (not (e == f) && in_one_place T e f)))
+        → (is_placed_in T q.period f && (b && (not (e == f) && in_one_place T e f)))
         ≡ (b && (not (e == f) && in_one_place T e f))
     at true is =
-        and_swap (stands_in T q.period f) (not (e == f)) (in_one_place T e f)
+        and_swap (is_placed_in T q.period f) (not (e == f)) (in_one_place T e f)
         ∙ ap (λ b. not (e == f) && b)
-        (sym (subst (λ m. in_one_place T m f ≡ (stands_in T q.period f && in_one_place T m f))
+        (sym (subst (λ m. in_one_place T m f ≡ (is_placed_in T q.period f && in_one_place T m f))
         (eqb-true k e is) here))
-    at false is = and_false (stands_in T q.period f)
+    at false is = and_false (is_placed_in T q.period f)
 
 -- an exam without a place is in no room with another
 pub no_place : (T : Placing) (k : ℕ) → place_of T k ≡ None → (e f : ℕ)
@@ -85,14 +87,14 @@ no_place T k unplaced e f = at (k == e) refl
     at : (b : Bool) → (k == e) ≡ b → false ≡ (b && (not (e == f) && in_one_place T e f))
     at true is =
         sym (ap (λ m. not (e == f) && in_one_place T m f) (sym (eqb-true k e is))
-        ∙ ap (λ o. not (e == f) && where_both is_one_place o (place_of T f)) unplaced
+        ∙ ap (λ o. not (e == f) && both_satisfy is_one_place o (place_of T f)) unplaced
         ∙ and_false (not (e == f)))
     at false is = refl
 
 -- exams that are in period k are in one period
-one_period : (k : ℕ) (p q : Option Place) → where_placed (λ x. k == x.period) p ≡ true
-    → where_placed (λ x. k == x.period) q ≡ true
-    → where_both (λ x y. x.period == y.period) p q ≡ true
+one_period : (k : ℕ) (p q : Option Place) → place_satisfies (λ x. k == x.period) p ≡ true
+    → place_satisfies (λ x. k == x.period) q ≡ true
+    → both_satisfy (λ x y. x.period == y.period) p q ≡ true
 one_period k None q h g = h
 one_period k (Some p) None h g = g
 one_period k (Some p) (Some q) h g =
@@ -122,7 +124,7 @@ in_one_group {T} {periods} {n} {groups} I are same count exist e f =
         one_period any.0 (place_of T e) (place_of T f) first second
 
     complete : (o : Option Place) → place_of T e ≡ o
-        → where_both (λ p q. p.period == q.period) o (place_of T f) ≡ true
+        → both_satisfy (λ p q. p.period == q.period) o (place_of T f) ≡ true
         → list_any (λ g. has_number g e && has_number g f) groups ≡ true
     complete None is h = absurd (true≢false (sym h))
     complete (Some p) is h =
@@ -130,7 +132,7 @@ in_one_group {T} {periods} {n} {groups} I are same count exist e f =
         let within : p.period < periods = omega (arith, there.0) in
         let long : p.period < length groups = omega (arith, are.count) in
         let first = in_group are same p.period e within
-        ∙ ap (where_placed (λ q. p.period == q.period)) is ∙ eq-eqb p.period p.period refl in
+        ∙ ap (place_satisfies (λ q. p.period == q.period)) is ∙ eq-eqb p.period p.period refl in
         let second = in_group are same p.period f within ∙ h in
         list_any_at (λ g. has_number g e && has_number g f) groups p.period [] long
         (and_from (has_number (get_or groups p.period []) e)

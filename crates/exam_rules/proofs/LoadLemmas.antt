@@ -7,20 +7,20 @@ use Rattle.exam_model.specs.Enrolments.{Enrolled, size_of}
 use Rattle.exam_model.specs.Fits.{slot_of}
 use Rattle.exam_model.specs.Timetable.{Placing, place_of}
 use Rattle.exam_terms.specs.declared.place.Place.{Place}
-use Rattle.exam_rules.specs.Places.{where_placed, is_one_place, load_below}
+use Rattle.exam_rules.specs.Places.{place_satisfies, is_one_place, load_below}
 use Rattle.exam_rules.specs.Loads.{AreLoads}
 use Rattle.exam_model.proofs.PlaceLemmas.{slot_within}
 
 -- an exam that is not placed at p
 other_place : (E : Enrolled) (T : Placing) (p : Place) (i : ℕ)
-    → where_placed (is_one_place p) (place_of T i) ≡ false
+    → place_satisfies (is_one_place p) (place_of T i) ≡ false
     → load_below E T p (i + 1) ≡ load_below E T p i
 other_place E T p i elsewhere =
     rw add-one (ap (λ b. load_below E T p i + cond b (size_of E i) 0) elsewhere ∙ omega arith)
 
 -- an exam that is placed at p
 this_place : (E : Enrolled) (T : Placing) (p : Place) (i : ℕ)
-    → where_placed (is_one_place p) (place_of T i) ≡ true
+    → place_satisfies (is_one_place p) (place_of T i) ≡ true
     → load_below E T p (i + 1) ≡ load_below E T p i + size_of E i
 this_place E T p i here = rw add-one (ap (λ b. load_below E T p i + cond b (size_of E i) 0) here)
 
@@ -54,7 +54,7 @@ loads_more {E} {T} {periods} {rooms} {i} {loads} {q} {load} so_far placed hq hr 
         ∙ is
         ∙ ap (λ k. get_or loads k 0 + size_of E i) (sym same)
         ∙ ap (λ n. n + size_of E i) (so_far.each p pp pr)
-        ∙ sym (this_place E T p i (ap (where_placed (is_one_place p)) placed ∙ one))
+        ∙ sym (this_place E T p i (ap (place_satisfies (is_one_place p)) placed ∙ one))
     each p pp pr (inr other) =
         let apart : is_one_place p q ≡ false = false_from_ne_true (is_one_place p q) (λ one.
         let parts = and_parts (p.period == q.period) (p.room == q.room) one in
@@ -63,7 +63,7 @@ loads_more {E} {T} {periods} {rooms} {i} {loads} {q} {load} so_far placed hq hr 
         in
         get_or-set_other loads (slot_of rooms q) (slot_of rooms p) load 0 other
         ∙ so_far.each p pp pr
-        ∙ sym (other_place E T p i (ap (where_placed (is_one_place p)) placed ∙ apart))
+        ∙ sym (other_place E T p i (ap (place_satisfies (is_one_place p)) placed ∙ apart))
 
     small : (k : ℕ) → (k ≡ slot_of rooms q) ⊎ (k ≡ slot_of rooms q → ⊥)
         → get_or (slice_set loads (slot_of rooms q) load) k 0 ≤ (i + 1) * 2 ^ 32

@@ -11,25 +11,25 @@ use Rattle.exam_terms.specs.declared.place.Place.{Place}
 use Rattle.exam_rules.specs.declared.breach.BreachRule.{BreachRule}
 use Rattle.exam_rules.specs.declared.breach.BreachRule.TheVariants.{Duration, Clash, Capacity, After, Coincidence, Exclusion, RoomExclusive}
 use Rattle.exam_rules.specs.Lines.{is_after, is_coincidence, is_exclusion, is_exclusive}
-use Rattle.exam_rules.specs.Places.{PlaceExists, where_placed, where_both, both_placed, in_one_period, in_two_periods, is_not_after, in_one_place, share_student}
+use Rattle.exam_rules.specs.Places.{PlaceExists, place_satisfies, both_satisfy, both_placed, in_one_period, in_two_periods, is_not_after, in_one_place, share_student}
 use Rattle.exam_rules.specs.HardRules.{breaks, outlasts, is_overfull}
 
 -- an exam whose place passes a test exists
 pub placed_exists : (T : Placing) (test : Place → Bool) (e : ℕ)
-    → where_placed test (place_of T e) ≡ true
+    → place_satisfies test (place_of T e) ≡ true
     → e < length T
 placed_exists T test e h = elim (cases_lt e (length T)) as (λ _. e < length T) [
   | inl within ↦ within
-  | inr past ↦ absurd (true≢false (sym h ∙ ap (where_placed test) (get_or_past T e None past)))
+  | inr past ↦ absurd (true≢false (sym h ∙ ap (place_satisfies test) (get_or_past T e None past)))
 ]
 
-first_placed : (test : Place → Place → Bool) (p q : Option Place) → where_both test p q ≡ true
-    → where_placed (λ x. true) p ≡ true
+first_placed : (test : Place → Place → Bool) (p q : Option Place) → both_satisfy test p q ≡ true
+    → place_satisfies (λ x. true) p ≡ true
 first_placed test None q h = h
 first_placed test (Some p) q h = refl
 
-second_placed : (test : Place → Place → Bool) (p q : Option Place) → where_both test p q ≡ true
-    → where_placed (λ x. true) q ≡ true
+second_placed : (test : Place → Place → Bool) (p q : Option Place) → both_satisfy test p q ≡ true
+    → place_satisfies (λ x. true) q ≡ true
 second_placed test None q h = absurd (true≢false (sym h))
 second_placed test (Some p) None h = h
 second_placed test (Some p) (Some q) h = refl
@@ -94,4 +94,4 @@ pub its_place_exists : (I : Session) (T : Placing) (e : ℕ) (p : Place) → All
     → place_of T e ≡ Some p → PlaceExists I (Some p)
 its_place_exists I T e p all here =
     place_exists I T e p all
-    (placed_exists T (λ x. true) e (ap (where_placed (λ x. true)) here)) here
+    (placed_exists T (λ x. true) e (ap (place_satisfies (λ x. true)) here)) here

@@ -10,7 +10,7 @@ use Rattle.exam_model.specs.declared.parts.Room.{Room}
 use Rattle.exam_rules.specs.declared.breach.BreachRule.{BreachRule}
 use Rattle.exam_rules.specs.declared.breach.BreachRule.TheVariants.{Duration, Clash, Capacity, After, Coincidence, Exclusion, RoomExclusive}
 use Rattle.exam_rules.specs.Lines.{is_after, is_coincidence, is_exclusion, is_exclusive}
-use Rattle.exam_rules.specs.Places.{where_placed, in_one_period, in_two_periods, is_not_after, in_one_place, share_student, load_at}
+use Rattle.exam_rules.specs.Places.{place_satisfies, in_one_period, in_two_periods, is_not_after, in_one_place, share_student, load_at}
 
 -- whether an exam lasts longer than a period
 abbrev pub is_longer : Option Exam → Option Period → Bool
@@ -21,7 +21,7 @@ is_longer (Some exam) (Some period) = nat_lt period.length exam.minutes
 -- whether the exam lasts longer than its period
 abbrev pub outlasts : Session → Placing → ℕ → Bool
 outlasts I T e =
-    where_placed (λ p. is_longer (slice_get I.exams e) (slice_get I.periods p.period))
+    place_satisfies (λ p. is_longer (slice_get I.exams e) (slice_get I.periods p.period))
     (place_of T e)
 
 -- whether the room's capacity is below this number of students
@@ -32,7 +32,7 @@ is_too_small (Some room) students = nat_lt room.capacity students
 -- whether the exam's room is too small for all exams there in its period
 abbrev pub is_overfull : Session → Enrolled → Placing → ℕ → Bool
 is_overfull I E T e =
-    where_placed (λ p. is_too_small (slice_get I.rooms p.room) (load_at E T p)) (place_of T e)
+    place_satisfies (λ p. is_too_small (slice_get I.rooms p.room) (load_at E T p)) (place_of T e)
 
 -- whether the exams e and f break a rule; an exam without a place breaks no rule, and a line that
 -- names one exam twice is never broken

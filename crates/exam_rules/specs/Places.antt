@@ -7,18 +7,18 @@ use Rattle.exam_terms.specs.declared.place.Place.{Place}
 pub use Rattle.exam_model.specs.Fits.{Fits, PlaceExists}
 
 -- a test of a place; false if there is no place
-abbrev pub where_placed : (Place → Bool) → Option Place → Bool
-where_placed test None = false
-where_placed test (Some p) = test p
+abbrev pub place_satisfies : (Place → Bool) → Option Place → Bool
+place_satisfies test None = false
+place_satisfies test (Some p) = test p
 
 -- a test of two places; false if one is missing
-abbrev pub where_both : (Place → Place → Bool) → Option Place → Option Place → Bool
-where_both test None q = false
-where_both test (Some p) q = where_placed (test p) q
+abbrev pub both_satisfy : (Place → Place → Bool) → Option Place → Option Place → Bool
+both_satisfy test None q = false
+both_satisfy test (Some p) q = place_satisfies (test p) q
 
 -- whether two exams are placed, and their places pass a test
 abbrev pub both_placed : Placing → (Place → Place → Bool) → ℕ → ℕ → Bool
-both_placed T test e f = where_both test (place_of T e) (place_of T f)
+both_placed T test e f = both_satisfy test (place_of T e) (place_of T f)
 
 -- whether two exams are in one period
 abbrev pub in_one_period : Placing → ℕ → ℕ → Bool
@@ -47,7 +47,7 @@ share_student E e f = nat_lt 0 (shared E e f)
 -- how many students sit in a room and period, over the exams below n that are there
 abbrev pub load_below : Enrolled → Placing → Place → ℕ → ℕ
 load_below E T p n =
-    sum_below n (λ e. if where_placed (is_one_place p) (place_of T e) then size_of E e else 0)
+    sum_below n (λ e. if place_satisfies (is_one_place p) (place_of T e) then size_of E e else 0)
 
 -- how many students sit in a room and period, over all exams
 abbrev pub load_at : Enrolled → Placing → Place → ℕ

@@ -3,7 +3,7 @@ ghost use Rattle.std.specs.Prelude.{◌≡◌, ◌<◌, ◌≤◌, ◌*◌, ◌^
 ghost use Rattle.exam_model.specs.Enrolments.{size_of};
 ghost use Rattle.exam_model.specs.Fits.{slot_of};
 ghost use Rattle.exam_model.specs.Timetable.{place_of};
-ghost use Rattle.exam_rules.specs.Places.{Fits, where_placed, is_one_place, load_at};
+ghost use Rattle.exam_rules.specs.Places.{Fits, place_satisfies, is_one_place, load_at};
 ghost use Rattle.exam_rules.specs.Loads.{AreLoads};
 ghost use Rattle.exam_rules.specs.HardRules.{is_too_small};
 
@@ -64,7 +64,8 @@ pub(crate) fn load_at(enrolments: &Enrolments, timetable: &Timetable, place: &Pl
 fn size_at(enrolments: &Enrolments, timetable: &Timetable, exam: ExamNo, place: &Place) -> u64
     requires exists { exam < length timetable.now }
     requires fits { length timetable.now ≡ length enrolments.now }
-    ensures size { result ≡ (if where_placed (is_one_place place.now) (place_of timetable.now exam)
+    ensures size { result ≡ (if place_satisfies (is_one_place place.now)
+        (place_of timetable.now exam)
         then size_of enrolments.now exam else 0) }
     ensures small { result < 2 ^ 32 }
 {

@@ -13,7 +13,7 @@ use Rattle.exam_model.specs.Timetable.{Placing, place_of}
 use Rattle.exam_model.proofs.PlaceLemmas.{slot_within}
 use Rattle.exam_publish.specs.Rows.{row_place}
 use Rattle.exam_publish.specs.declared.seat_row.SeatRow.{SeatRow}
-use Rattle.exam_rules.specs.Places.{is_one_place, where_placed}
+use Rattle.exam_rules.specs.Places.{is_one_place, place_satisfies}
 use Rattle.office_reports.specs.Rooms.{capacity_of, exams_in, line_with, period_lines, place, place_line, seats_in}
 use Rattle.office_reports.specs.Slots.{IsTable, entry_line, entry_lines, exams_below}
 use Rattle.office_reports.proofs.RoomLemmas.{failed_more, passed_more, same_lines}
@@ -83,10 +83,10 @@ pub exam_put : {I : Session} (T : Placing) (i : ℕ) {table : List (List ℕ)} {
 exam_put {I} T i {table} {q} {new} was placed exists is =
     table_put I [] (exams_below T i) (exams_below T (i + 1)) (λ xs. xs ++ i ∷ []) table q new
     was exists.0 exists.1 is
-    (λ p one. passed_more (λ e. where_placed (is_one_place p) (place_of T e)) i
-    (ap (where_placed (is_one_place p)) placed ∙ one))
-    (λ p apart. failed_more (λ e. where_placed (is_one_place p) (place_of T e)) i
-    (ap (where_placed (is_one_place p)) placed ∙ apart))
+    (λ p one. passed_more (λ e. place_satisfies (is_one_place p) (place_of T e)) i
+    (ap (place_satisfies (is_one_place p)) placed ∙ one))
+    (λ p apart. failed_more (λ e. place_satisfies (is_one_place p) (place_of T e)) i
+    (ap (place_satisfies (is_one_place p)) placed ∙ apart))
 
 -- one more exam, whose place doesn't exist in the session
 pub exam_outside : {I : Session} (T : Placing) (i : ℕ) {table : List (List ℕ)} {q : Place}
@@ -95,8 +95,8 @@ pub exam_outside : {I : Session} (T : Placing) (i : ℕ) {table : List (List ℕ
 exam_outside {I} T i {table} {q} was placed isnt = record {
   count = was.count;
   each = λ p pp pr. was.each p pp pr
-      ∙ sym (failed_more (λ e. where_placed (is_one_place p) (place_of T e)) i
-      (ap (where_placed (is_one_place p)) placed ∙ outside I p q isnt pp pr));
+      ∙ sym (failed_more (λ e. place_satisfies (is_one_place p) (place_of T e)) i
+      (ap (place_satisfies (is_one_place p)) placed ∙ outside I p q isnt pp pr));
 }
 
 -- one more exam, which is not placed
@@ -106,8 +106,8 @@ pub exam_unplaced : {I : Session} (T : Placing) (i : ℕ) {table : List (List �
 exam_unplaced {I} T i {table} was unplaced = record {
   count = was.count;
   each = λ p pp pr. was.each p pp pr
-      ∙ sym (failed_more (λ e. where_placed (is_one_place p) (place_of T e)) i
-      (ap (where_placed (is_one_place p)) unplaced));
+      ∙ sym (failed_more (λ e. place_satisfies (is_one_place p) (place_of T e)) i
+      (ap (place_satisfies (is_one_place p)) unplaced));
 }
 
 -- whether the row r at index i is in a place

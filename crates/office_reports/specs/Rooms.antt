@@ -7,7 +7,7 @@ use Rattle.exam_model.specs.Timetable.{Placing, place_of}
 use Rattle.exam_model.specs.declared.parts.Room.{Room}
 use Rattle.exam_publish.specs.Rows.{row_place}
 use Rattle.exam_publish.specs.declared.seat_row.SeatRow.{SeatRow}
-use Rattle.exam_rules.specs.Places.{is_one_place, where_placed}
+use Rattle.exam_rules.specs.Places.{is_one_place, place_satisfies}
 
 -- a number at the right of a column of this width; a longer one takes the room it needs
 abbrev pub right : ℕ → ℕ → List ℕ
@@ -24,7 +24,7 @@ place p r = record { period = p; room = r }
 -- the exams that are in a place, ascending
 abbrev pub exams_in : Placing → Place → List ℕ
 exams_in T at =
-    filter (λ e. where_placed (is_one_place at) (place_of T e)) (range_with_len 0 (length T))
+    filter (λ e. place_satisfies (is_one_place at) (place_of T e)) (range_with_len 0 (length T))
 
 -- how many of the seats are in a place
 abbrev pub seats_in : List SeatRow → Place → ℕ

@@ -5,13 +5,13 @@ use Rattle.exam_terms.specs.declared.place.Place.{Place}
 use Rattle.exam_model.specs.Fits.{slot_of}
 use Rattle.exam_model.specs.Instance.{Session}
 use Rattle.exam_model.specs.Timetable.{Placing, place_of}
-use Rattle.exam_rules.specs.Places.{is_one_place, where_placed}
+use Rattle.exam_rules.specs.Places.{is_one_place, place_satisfies}
 use Rattle.office_reports.specs.Rooms.{capacity_of, line_with, place}
 
 -- the exams below i that are in a place, ascending
 abbrev pub exams_below : Placing → ℕ → Place → List ℕ
 exams_below T i at =
-    filter (λ e. where_placed (is_one_place at) (place_of T e)) (range_with_len 0 i)
+    filter (λ e. place_satisfies (is_one_place at) (place_of T e)) (range_with_len 0 i)
 
 -- the table has the value of each room and period, by period and then by room
 pub record IsTable {X : Type 0} (I : Session) (none : X) (value : Place → X)

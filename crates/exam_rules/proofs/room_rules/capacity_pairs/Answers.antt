@@ -2,7 +2,7 @@ use Rattle.std.proofs.Common.{◌≡◌, ℕ, ◌&&◌, ◌==◌, length, get_or
 use Rattle.std.specs.Prelude.{slice_get}
 use Rattle.exam_model.specs.Fits.{slot_of}
 use Rattle.exam_rules.specs.declared.breach.BreachRule.TheVariants.{Capacity}
-use Rattle.exam_rules.specs.Places.{where_placed, load_at, load_below}
+use Rattle.exam_rules.specs.Places.{place_satisfies, load_at, load_below}
 use Rattle.exam_rules.specs.HardRules.{breaks, is_too_small, is_overfull}
 use Rattle.exam_rules.proofs.FindingLemmas.{below_more, below_all, twice}
 use Rattle.exam_rules.proofs.PlaceLemmas.{its_place_exists, breaking_exist}
@@ -25,7 +25,8 @@ exams-preserved c =
     let over : c.is_too_small-overfull.result ≡ is_overfull I E T k =
     c.is_too_small-overfull.ensures
     ∙ ap (is_too_small (slice_get I.rooms q.room)) load
-    ∙ sym (ap (where_placed (λ p. is_too_small (slice_get I.rooms p.room) (load_at E T p))) there)
+    ∙ sym (ap (place_satisfies (λ p. is_too_small (slice_get I.rooms p.room)
+    (load_at E T p))) there)
     in
     below_more c.exams.invariant c.in_ok-push_some.ensures
     (λ e f. c.pair_if.ensures e f
