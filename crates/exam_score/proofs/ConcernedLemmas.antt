@@ -24,7 +24,7 @@ use Rattle.exam_score.specs.Penalty.{Penalty}
 use Rattle.exam_score.specs.Track.{track}
 use Rattle.std.specs.Prelude.{IsSome, unwrap_or}
 use Rattle.exam_score.specs.declared.concerned.Sitter.{Sitter}
-use Rattle.exam_score.specs.Folds.{CanFollow, ComesEarlier, Folded, IsFoldOf, StandsFor}
+use Rattle.exam_score.specs.Folds.{CanFollow, ComesEarlier, Folded, IsFoldOf, RepresentsPairs}
 use Rattle.exam_score.proofs.FoldLemmas.{index_from_chain, map_push}
 
 -- ---- none twice
@@ -201,7 +201,7 @@ each_last P [] ys h = h
 each_last P (x ∷ xs) ys h = each_last P xs ys h.1
 
 pub next_follows : (fold : Folded) (xs : List Sitter) (i : ℕ) (d : Sitter) → i < length xs
-    → AllPairs IsSooner xs → StandsFor fold (map pair_of (take i xs))
+    → AllPairs IsSooner xs → RepresentsPairs fold (map pair_of (take i xs))
     → CanFollow fold (pair_of (get_or xs i d))
 next_follows fold xs i d lt order h =
     let pair : Pair = pair_of (get_or xs i d) in
@@ -211,16 +211,16 @@ next_follows fold xs i d lt order h =
     (each_of_mapped (λ p. ComesEarlier p pair) (take i xs) (each_earlier xs i d lt order))))
 
 pub fold_few : (fold : Folded) (xs : List Sitter) (i : ℕ) → i < length xs → length xs ≤ 200000
-    → StandsFor fold (map pair_of (take i xs)) → fold.count < 200000
+    → RepresentsPairs fold (map pair_of (take i xs)) → fold.count < 200000
 fold_few fold xs i lt few h =
     omega (arith, h.count, length-map (take i xs) pair_of, length-take i xs, lt, few)
 
 -- one more pair is folded
 pub stands_next : (fold : Folded) (xs : List Sitter) (i : ℕ) (d : Sitter) → i < length xs
-    → StandsFor fold (map pair_of (take i xs) ++ pair_of (get_or xs i d) ∷ [])
-    → StandsFor fold (map pair_of (take (i + 1) xs))
+    → RepresentsPairs fold (map pair_of (take i xs) ++ pair_of (get_or xs i d) ∷ [])
+    → RepresentsPairs fold (map pair_of (take (i + 1) xs))
 stands_next fold xs i d lt h =
-    subst (StandsFor fold)
+    subst (RepresentsPairs fold)
     (sym (ap (map pair_of) (take_more xs i d lt)
     ∙ map_push pair_of (take i xs) (get_or xs i d)))
     h

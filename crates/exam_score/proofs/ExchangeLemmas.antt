@@ -18,8 +18,8 @@ use Rattle.exam_score.specs.Changes.{DiffersAtMost}
 use Rattle.exam_score.specs.Cost.{row_cost, day_cost, spread_cost, night_cost}
 use Rattle.exam_score.specs.CostOrder.{row_cost-swap, day_cost-swap, spread_cost-swap, night_cost-swap, row_cost-none, day_cost-none, spread_cost-none, night_cost-none}
 use Rattle.exam_score.specs.Exchanges.{CannotExchange, IsExchanged, IsOfEdit, coming, going, pairs_concerned, sits_among}
-use Rattle.exam_score.specs.Touched.{is_touched, mixed_where, room_mixed_where, sum_among}
-use Rattle.exam_score.specs.Folds.{Folded, StandsFor}
+use Rattle.exam_score.specs.Touched.{is_touched, mixed_cost_if, room_mixed_cost_if, sum_over_exams}
+use Rattle.exam_score.specs.Folds.{Folded, RepresentsPairs}
 use Rattle.exam_score.specs.EditedCosts.{edited_cost, personal_sum, students_cost}
 use Rattle.exam_score.specs.Front.{AreSizes, front_by}
 use Rattle.exam_score.specs.Penalty.{Penalty, PersonalPenalty, plus, total_of}
@@ -301,10 +301,10 @@ untouched I edited old new p r same none =
     stays e false among = ap (is_at p r) (same e among)
 
 mixed_exchanged : (I : Session) (edited : List ℕ) (old new : Placing) → DiffersAtMost edited old new
-    → mixed_part I new + mixed_where I old (is_touched edited old new)
-    ≡ mixed_part I old + mixed_where I new (is_touched edited old new)
+    → mixed_part I new + mixed_cost_if I old (is_touched edited old new)
+    ≡ mixed_part I old + mixed_cost_if I new (is_touched edited old new)
 mixed_exchanged I edited old new same =
-    sym (sum_below-add (room_mixed I new) (room_mixed_where I old (is_touched edited old new))
+    sym (sum_below-add (room_mixed I new) (room_mixed_cost_if I old (is_touched edited old new))
     (length I.rooms))
     ∙ sum_below-same _ _
     (λ r. sums_exchanged (λ p. (durations I old p r - 1) * I.weights.mixed)
@@ -312,13 +312,13 @@ mixed_exchanged I edited old new same =
     (λ p none. ap (λ n. (n - 1) * I.weights.mixed) (untouched I edited old new p r same none))
     (length I.periods))
     (length I.rooms)
-    ∙ sum_below-add (room_mixed I old) (room_mixed_where I new (is_touched edited old new))
+    ∙ sum_below-add (room_mixed I old) (room_mixed_cost_if I new (is_touched edited old new))
     (length I.rooms)
 
 front_among : (I : Session) (E : Enrolled) (T : Placing) (edited sizes : List ℕ) → AreSizes E sizes
     → length E ≡ length I.exams
-    → sum_among I edited (λ e. front_by I sizes (place_of T e) e)
-    ≡ sum_among I edited (exam_front I E T)
+    → sum_over_exams I edited (λ e. front_by I sizes (place_of T e) e)
+    ≡ sum_over_exams I edited (exam_front I E T)
 front_among I E T edited sizes are exams =
     sum_below-within _ _ (length I.exams)
     (λ e lt. ap (λ n. cond (has_number edited e) n 0)
@@ -326,8 +326,8 @@ front_among I E T edited sizes are exams =
 
 front_exchanged : (I : Session) (E : Enrolled) (old new : Placing) (edited sizes : List ℕ)
     → AreSizes E sizes → length E ≡ length I.exams → DiffersAtMost edited old new
-    → front_part I E new + sum_among I edited (λ e. front_by I sizes (place_of old e) e)
-    ≡ front_part I E old + sum_among I edited (λ e. front_by I sizes (place_of new e) e)
+    → front_part I E new + sum_over_exams I edited (λ e. front_by I sizes (place_of old e) e)
+    ≡ front_part I E old + sum_over_exams I edited (λ e. front_by I sizes (place_of new e) e)
 front_exchanged I E old new edited sizes are exams same =
     ap (λ n. front_part I E new + n) (front_among I E old edited sizes are exams)
     ∙ sums_exchanged (exam_front I E old) (exam_front I E new) (has_number edited)
@@ -350,7 +350,7 @@ sums_of_all I T edited sum closed current pairs is parts others =
 
 pub track_exchanged : (fold : Folded) (E : Enrolled) (pairs : List Pair)
     (sizes : List ℕ) (old : Penalty)
-    → StandsFor fold pairs → IsOfEdit fold E pairs sizes old
+    → RepresentsPairs fold pairs → IsOfEdit fold E pairs sizes old
     → IsExchanged old (going fold sizes) (coming fold sizes) (track fold.instance E fold.later)
 track_exchanged fold E pairs sizes old h is =
     let I = fold.instance in
@@ -430,7 +430,7 @@ pub exchange_scores : (fold : Folded) (E : Enrolled) (pairs : List Pair) (sizes 
     → IsInstance fold.instance
     → IfSome r (IsExchanged old (going fold sizes) (coming fold sizes))
     → IfNone r (CannotExchange old (going fold sizes) (coming fold sizes))
-    → StandsFor fold pairs → IsOfEdit fold E pairs sizes old
+    → RepresentsPairs fold pairs → IsOfEdit fold E pairs sizes old
     → r ≡ Some (track fold.instance E fold.later)
 exchange_scores fold E pairs sizes old r known made none h is =
     exchange_is old (going fold sizes) (coming fold sizes)

@@ -9,7 +9,7 @@ use Rattle.exam_model.specs.Sums.{sum_pairs}
 use Rattle.exam_model.specs.Timetable.{Placing}
 use Rattle.exam_model.proofs.SumLemmas.{IsChain, chain_from_index, sum_by-none, each_weaker}
 use Rattle.exam_score.specs.Cost.{row_cost, day_cost, spread_cost, night_cost}
-use Rattle.exam_score.specs.Folds.{Folded, StandsFor, CanFollow, ComesEarlier, pairs_sat}
+use Rattle.exam_score.specs.Folds.{Folded, RepresentsPairs, CanFollow, ComesEarlier, pairs_sat}
 use Rattle.exam_score.specs.EditedCosts.{edited_cost, exams_cost, personal_at, personal_sum, students_cost}
 use Rattle.exam_score.specs.Penalty.{PersonalPenalty, plus}
 use Rattle.exam_score.proofs.RegroupingLemmas.{later_cost}
@@ -177,9 +177,9 @@ in_order_push closed current pairs pair parts order below follows =
 
 -- one more pair of the open student
 pub stands_on : (fold : Folded) (pairs : List Pair) (s e : ℕ) (exams : List ℕ)
-    → StandsFor fold pairs → fold.current ≡ pairs_sat (Some s) exams
+    → RepresentsPairs fold pairs → fold.current ≡ pairs_sat (Some s) exams
     → (fold.current ≡ [] → fold.count ≡ 0) → CanFollow fold (record { exam = e; student = s })
-    → StandsFor
+    → RepresentsPairs
     (record fold { count = fold.count + 1; current = pairs_sat (Some s) (exams ++ e ∷ []) })
     (pairs ++ record { exam = e; student = s } ∷ [])
 stands_on fold pairs s e exams h own started follows =
@@ -215,12 +215,12 @@ stands_on fold pairs s e exams h own started follows =
 
 -- the first pair of the next student
 pub stands_turn : (fold : Folded) (pairs : List Pair) (s e : ℕ) (student : Option ℕ)
-    (exams : List ℕ) (b a : PersonalPenalty) → StandsFor fold pairs
+    (exams : List ℕ) (b a : PersonalPenalty) → RepresentsPairs fold pairs
     → fold.current ≡ pairs_sat student exams → (student ≡ Some s → ⊥)
     → (fold.current ≡ [] → fold.count ≡ 0) → CanFollow fold (record { exam = e; student = s })
     → b ≡ personal_sum fold.instance fold.earlier fold.edited fold.current
     → a ≡ personal_sum fold.instance fold.later fold.edited fold.current
-    → StandsFor (record fold {
+    → RepresentsPairs (record fold {
       count = fold.count + 1;
       before = plus fold.before b;
       after = plus fold.after a;
@@ -267,9 +267,9 @@ stands_turn fold pairs s e student exams b a h own other started follows b_is a_
 pub none_open : (count : ℕ) (student : Option ℕ) (exams : List ℕ)
     → (student ≡ None → (count ≡ 0) × (exams ≡ [])) → (exams ≡ [] → count ≡ 0)
     → pairs_sat student exams ≡ [] → count ≡ 0
-none_open count None exams started goes_on is = (started refl).0
-none_open count (Some s) [] started goes_on is = goes_on refl
-none_open count (Some s) (e ∷ es) started goes_on is =
+none_open count None exams started continues_front is = (started refl).0
+none_open count (Some s) [] started continues_front is = continues_front refl
+none_open count (Some s) (e ∷ es) started continues_front is =
     absurd (not_empty (record { exam = e; student = s }) (pairs_sat (Some s) es) is)
   where
     not_empty : (p : Pair) (ps : List Pair) → ◌≡◌ {A = List Pair} (p ∷ ps) [] → ⊥

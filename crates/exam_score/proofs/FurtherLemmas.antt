@@ -5,7 +5,7 @@ use Rattle.exam_model.specs.Instance.{Session}
 use Rattle.exam_model.specs.Sums.{sum_below}
 use Rattle.exam_model.specs.Timetable.{Placing, place_of}
 use Rattle.exam_model.proofs.SumLemmas.{sum_below-same, sum_below-add, sum_below-at, sum_below-zeros}
-use Rattle.exam_score.specs.Touched.{further_mixed, is_touched, mixed_where, room_mixed_where}
+use Rattle.exam_score.specs.Touched.{further_mixed, is_touched, mixed_cost_if, room_mixed_cost_if}
 use Rattle.exam_score.specs.MixedDurations.{durations, is_at}
 
 -- the share of a period and room in the mixed part
@@ -19,12 +19,12 @@ or_at f o p r = f p r || is_at p r o
 -- ---- sums over rooms and periods
 
 mixed_same : (I : Session) (T : Placing) (f g : ℕ → ℕ → Bool) → ((p r : ℕ) → f p r ≡ g p r)
-    → mixed_where I T f ≡ mixed_where I T g
+    → mixed_cost_if I T f ≡ mixed_cost_if I T g
 mixed_same I T f g same =
     sum_below-same _ _ (λ r. sum_below-same _ _ (λ p. ap (λ b. cond b (mixed I T p r) 0) (same p r))
     (length I.periods)) (length I.rooms)
 
-pub mixed_none : (I : Session) (T : Placing) → mixed_where I T (λ p r. false) ≡ 0
+pub mixed_none : (I : Session) (T : Placing) → mixed_cost_if I T (λ p r. false) ≡ 0
 mixed_none I T =
     sum_below-same _ _ (λ r. sum_below-zeros (length I.periods)) (length I.rooms)
     ∙ sum_below-zeros (length I.rooms)
@@ -59,18 +59,18 @@ in_order false has_period passes n = refl
 
 -- the sum grows by the place's share, if the place exists and did not pass
 one_place : (I : Session) (T : Placing) (f : ℕ → ℕ → Bool) (o : Option Place)
-    → mixed_where I T (or_at f o) ≡ mixed_where I T f + further_mixed I T f o
+    → mixed_cost_if I T (or_at f o) ≡ mixed_cost_if I T f + further_mixed I T f o
 one_place I T f None =
-    mixed_same I T (or_at f None) f (λ p r. or_false (f p r)) ∙ sym (add-zero (mixed_where I T f))
+    mixed_same I T (or_at f None) f (λ p r. or_false (f p r)) ∙ sym (add-zero (mixed_cost_if I T f))
   where
     or_false : (b : Bool) → (b || false) ≡ b
     or_false true = refl
     or_false false = refl
 one_place I T f (Some at) =
     sum_below-same _ _ by_room (length I.rooms)
-    ∙ sum_below-add (room_mixed_where I T f) (λ r. cond (eqb at.room r) (of_period r) 0)
+    ∙ sum_below-add (room_mixed_cost_if I T f) (λ r. cond (eqb at.room r) (of_period r) 0)
     (length I.rooms)
-    ∙ ap (λ n. mixed_where I T f + n)
+    ∙ ap (λ n. mixed_cost_if I T f + n)
     (sum_below-at of_period at.room (length I.rooms)
     ∙ in_order (ltb at.room (length I.rooms)) (ltb at.period (length I.periods))
     (f at.period at.room)
@@ -82,14 +82,14 @@ one_place I T f (Some at) =
     of_period : ℕ → ℕ
     of_period r = cond (ltb at.period (length I.periods)) (term r at.period) 0
 
-    by_room : (r : ℕ) → room_mixed_where I T (or_at f (Some at)) r
-        ≡ room_mixed_where I T f r + cond (eqb at.room r) (of_period r) 0
+    by_room : (r : ℕ) → room_mixed_cost_if I T (or_at f (Some at)) r
+        ≡ room_mixed_cost_if I T f r + cond (eqb at.room r) (of_period r) 0
     by_room r =
         sum_below-same _ _ (λ p. one_term (f p r) (eqb at.period p) (eqb at.room r) (mixed I T p r))
         (length I.periods)
         ∙ sum_below-add _ (λ p. cond (eqb at.room r) (cond (eqb at.period p) (term r p) 0) 0)
         (length I.periods)
-        ∙ ap (λ n. room_mixed_where I T f r + n)
+        ∙ ap (λ n. room_mixed_cost_if I T f r + n)
         (sum_if (eqb at.room r) (λ p. cond (eqb at.period p) (term r p) 0) (length I.periods)
         ∙ ap (λ n. cond (eqb at.room r) n 0) (sum_below-at (term r) at.period (length I.periods)))
 
@@ -127,10 +127,10 @@ turned false false false = refl
 
 -- the earlier place, followed by the later one
 both_places : (I : Session) (T : Placing) (e : ℕ) (edited : List ℕ) (old new : Placing)
-    → mixed_where I T (is_touched edited old new)
+    → mixed_cost_if I T (is_touched edited old new)
     + (further_mixed I T (is_touched edited old new) (place_of old e)
     + further_mixed I T (or_at (is_touched edited old new) (place_of old e)) (place_of new e))
-    ≡ mixed_where I T (is_touched (e ∷ edited) old new)
+    ≡ mixed_cost_if I T (is_touched (e ∷ edited) old new)
 both_places I T e edited old new =
     let f = is_touched edited old new in
     let first = one_place I T f (place_of old e) in
@@ -143,9 +143,9 @@ both_places I T e edited old new =
 -- the exam has no later place
 pub earlier_place : (I : Session) (T : Placing) (e : ℕ) (edited : List ℕ) (old new : Placing)
     → place_of new e ≡ None
-    → mixed_where I T (is_touched edited old new)
+    → mixed_cost_if I T (is_touched edited old new)
     + further_mixed I T (is_touched edited old new) (place_of old e)
-    ≡ mixed_where I T (is_touched (e ∷ edited) old new)
+    ≡ mixed_cost_if I T (is_touched (e ∷ edited) old new)
 earlier_place I T e edited old new none =
     let f = is_touched edited old new in
     let both = both_places I T e edited old new in
@@ -157,10 +157,10 @@ earlier_place I T e edited old new none =
 pub later_place : (I : Session) (T : Placing) (e : ℕ) (edited : List ℕ) (old new : Placing)
     (at : Place) (b : Bool)
     → place_of new e ≡ Some at → b ≡ is_at at.period at.room (place_of old e)
-    → mixed_where I T (is_touched edited old new)
+    → mixed_cost_if I T (is_touched edited old new)
     + (further_mixed I T (is_touched edited old new) (place_of old e)
     + cond b 0 (further_mixed I T (is_touched edited old new) (Some at)))
-    ≡ mixed_where I T (is_touched (e ∷ edited) old new)
+    ≡ mixed_cost_if I T (is_touched (e ∷ edited) old new)
 later_place I T e edited old new at b is here =
     let f = is_touched edited old new in
     let both = both_places I T e edited old new in

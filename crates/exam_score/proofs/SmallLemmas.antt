@@ -16,7 +16,7 @@ use Rattle.exam_terms.specs.declared.place.Place.{Place}
 use Rattle.exam_model.proofs.SumLemmas.{sum_below-le}
 use Rattle.exam_score.specs.Cost.{row_cost, day_cost, spread_cost, night_cost}
 use Rattle.exam_score.specs.CostOrder.{spread_cost-small}
-use Rattle.exam_score.specs.Touched.{mixed_where, room_mixed_where}
+use Rattle.exam_score.specs.Touched.{mixed_cost_if, room_mixed_cost_if}
 use Rattle.exam_score.specs.Penalty.{total_of}
 use Rattle.exam_score.specs.Track.{period_penalty, room_penalty, exam_period, exam_room, track}
 use Rattle.exam_score.specs.FrontLoad.{is_largest, is_late, exam_front}
@@ -70,19 +70,19 @@ durations_small I T p r =
 
 -- the mixed part of the periods and rooms that pass
 pub mixed_where_small : (I : Session) (T : Placing) (touched : ℕ → ℕ → Bool) → IsInstance I
-    → mixed_where I T touched ≤ 5764000000000
+    → mixed_cost_if I T touched ≤ 5764000000000
 mixed_where_small I T touched known =
     let one : (p r : ℕ) → (durations I T p r - 1) * I.weights.mixed ≤ 144100000
     = λ p r. mul-le-mul (let h = durations_small I T p r in
     let k : durations I T p r - 1 ≤ 1441 = omega arith in k) known.limits.weights.3 in
     let periods : length I.periods ≤ 200 = known.limits.counts.1.1 in
     let rooms : length I.rooms ≤ 200 = known.limits.counts.2.1 in
-    let by_period : (r : ℕ) → room_mixed_where I T touched r ≤ 28820000000
+    let by_period : (r : ℕ) → room_mixed_cost_if I T touched r ≤ 28820000000
     = λ r. (let all = sum_below-le
     (λ p. cond (touched p r) ((durations I T p r - 1) * I.weights.mixed) 0) 144100000
     (length I.periods) (λ p lt. or_none (touched p r) _ (one p r)) in
     omega arith) in
-    let all = sum_below-le (room_mixed_where I T touched) 28820000000 (length I.rooms)
+    let all = sum_below-le (room_mixed_cost_if I T touched) 28820000000 (length I.rooms)
     (λ r lt. by_period r) in
     omega arith
   where

@@ -6,7 +6,7 @@ use Rattle.std.proofs.lemmas.List.Elements.{recursion_from_All}
 use Rattle.std.proofs.lemmas.List.Sums.{sum_by-take-drop, sum_by_more, sum_by-take-le, sum_by-le-sum_by, get_or-le-sum_by}
 use Rattle.std.proofs.lemmas.Nat.{mul-le}
 use Rattle.exam_model.proofs.SumLemmas.{sum_by-none, sum_by-same, sum_by-zeros, sum_by-times, sum_pairs-more, sum_pairs-le}
-use Rattle.exam_score.specs.Tallies.{tally_sum, tally_beside, tally_pair, tally_cost, row_count}
+use Rattle.exam_score.specs.Tallies.{tally_sum, cost_with_tally, tally_pair, tally_cost, row_count}
 use Rattle.exam_score.specs.TallyLinks.{slot_of_student, IsLast, IsOnWay, IsOwnPlace, AreLinkedIn}
 use Rattle.exam_score.specs.Walk.{row_pair, cost_with}
 use Rattle.exam_score.specs.declared.rows.Row.{Row}
@@ -19,7 +19,8 @@ none_or true = refl
 none_or false = refl
 
 -- a tally of another student
-other_student : (cost : ℕ → ℕ → ℕ) (y x : Tally) → y.student ≢ x.student → tally_beside cost y x ≡ 0
+other_student : (cost : ℕ → ℕ → ℕ) (y x : Tally) → y.student ≢ x.student → cost_with_tally cost y x
+    ≡ 0
 other_student cost y x differ =
     ap (λ n. x.exams * n)
     (cond-false (eqb y.student x.student) (cost x.period y.period) 0
@@ -28,16 +29,16 @@ other_student cost y x differ =
 
 -- a tally of a period that costs nothing
 pub free_period : (cost : ℕ → ℕ → ℕ) (y x : Tally) → cost x.period y.period ≡ 0
-    → tally_beside cost y x ≡ 0
+    → cost_with_tally cost y x ≡ 0
 free_period cost y x none = ap (λ n. x.exams * cond (eqb y.student x.student) n 0) none
     ∙ ap (λ n. x.exams * n) (none_or (eqb y.student x.student)) ∙ mul-zero x.exams
 
 -- the tallies between one and the next of its slot are of other students
 skipped : (m : ℕ) (cost : ℕ → ℕ → ℕ) (xs : List Tally) (y : Tally) (n k : ℕ)
     → IsLast xs m (slot_of_student m y.student) n k → k ≤ length xs
-    → sum_by (tally_beside cost y) (take k xs) ≡ sum_by (tally_beside cost y) (take n xs)
+    → sum_by (cost_with_tally cost y) (take k xs) ≡ sum_by (cost_with_tally cost y) (take n xs)
 skipped m cost xs y n k last le =
-    let f : Tally → ℕ = tally_beside cost y in
+    let f : Tally → ℕ = cost_with_tally cost y in
     let split = sum_by-take-drop f (take k xs) n in
     let first : sum_by f (take n (take k xs)) ≡ sum_by f (take n xs) =
     ap (sum_by f) (take-take n k xs last.within) in
@@ -46,13 +47,13 @@ skipped m cost xs y n k last le =
     (recursion_from_All (λ x. f x ≡ 0) (drop n (take k xs)) others) in
     omega arith
   where
-    others : All (λ x. tally_beside cost y x ≡ 0) (drop n (take k xs))
+    others : All (λ x. cost_with_tally cost y x ≡ 0) (drop n (take k xs))
     others j d lt =
         let within : n + j < k = omega (arith, length-drop n (take k xs), length-take k xs) in
         let here : get_or (drop n (take k xs)) j d ≡ get_or xs (n + j) d =
         get_or-drop n (take k xs) j d ∙ get_or-take k xs (n + j) d within in
         let apart = last.none (n + j) d (omega arith) within in
-        ap (tally_beside cost y) here
+        ap (cost_with_tally cost y) here
         ∙ other_student cost y (get_or xs (n + j) d)
         (λ same. apart (ap (λ s. slot_of_student m s) (sym same)))
 
@@ -70,7 +71,8 @@ link_of m xs y k linked within here =
 -- before the first step
 pub walk_starts : (m : ℕ) (cost : ℕ → ℕ → ℕ) (xs : List Tally) (y : Tally) (k : ℕ)
     → AreLinkedIn xs m → k < length xs → ((d : Tally) → get_or xs k d ≡ y)
-    → sum_by (tally_beside cost y) (take y.before xs) ≡ sum_by (tally_beside cost y) (take k xs)
+    → sum_by (cost_with_tally cost y) (take y.before xs)
+    ≡ sum_by (cost_with_tally cost y) (take k xs)
 walk_starts m cost xs y k linked within here =
     sym (skipped m cost xs y y.before k (link_of m xs y k linked within here) (omega arith))
 
@@ -78,10 +80,10 @@ walk_starts m cost xs y k linked within here =
 pub walk_on : (m : ℕ) (cost : ℕ → ℕ → ℕ) (xs : List Tally) (y x : Tally) (n : ℕ) → AreLinkedIn xs m
     → 0 < n → n ≤ length xs → ((d : Tally) → get_or xs (n - 1) d ≡ x)
     → slot_of_student m x.student ≡ slot_of_student m y.student
-    → sum_by (tally_beside cost y) (take n xs)
-    ≡ tally_beside cost y x + sum_by (tally_beside cost y) (take x.before xs)
+    → sum_by (cost_with_tally cost y) (take n xs)
+    ≡ cost_with_tally cost y x + sum_by (cost_with_tally cost y) (take x.before xs)
 walk_on m cost xs y x n linked some le here slot =
-    let f : Tally → ℕ = tally_beside cost y in
+    let f : Tally → ℕ = cost_with_tally cost y in
     let last = subst (λ s. IsLast xs m s x.before (n - 1)) slot
     (link_of m xs x (n - 1) linked (omega arith) here) in
     let rest = skipped m cost xs y x.before (n - 1) last (omega arith) in
@@ -137,7 +139,8 @@ way_below xs x n s way some here = link_below way.slots xs x n way.links some wa
 
 pub passed : (cost : ℕ → ℕ → ℕ) (xs : List Tally) (y x : Tally) (n s : ℕ) → IsOnWay xs n s → 0 < n
     → ((d : Tally) → get_or xs (n - 1) d ≡ x) → x.student ≢ s → y.student ≡ s
-    → sum_by (tally_beside cost y) (take n xs) ≡ sum_by (tally_beside cost y) (take x.before xs)
+    → sum_by (cost_with_tally cost y) (take n xs)
+    ≡ sum_by (cost_with_tally cost y) (take x.before xs)
 passed cost xs y x n s way some here other own =
     let slot : slot_of_student way.slots x.student ≡ slot_of_student way.slots y.student =
     ap (λ z. slot_of_student way.slots z.student) (sym (here x)) ∙ way.slot x some
@@ -149,8 +152,8 @@ passed cost xs y x n s way some here other own =
 -- a tally of the student, and on to the one before it
 pub own_on : (m : ℕ) (cost : ℕ → ℕ → ℕ) (xs : List Tally) (y x : Tally) (n : ℕ) → AreLinkedIn xs m
     → 0 < n → n ≤ length xs → ((d : Tally) → get_or xs (n - 1) d ≡ x) → x.student ≡ y.student
-    → sum_by (tally_beside cost y) (take n xs)
-    ≡ tally_beside cost y x + sum_by (tally_beside cost y) (take x.before xs)
+    → sum_by (cost_with_tally cost y) (take n xs)
+    ≡ cost_with_tally cost y x + sum_by (cost_with_tally cost y) (take x.before xs)
 own_on m cost xs y x n linked some le here own =
     walk_on m cost xs y x n linked some le here (ap (λ s. slot_of_student m s) own)
 
@@ -170,12 +173,12 @@ pub walk_ends : (m : ℕ) (cost : ℕ → ℕ → ℕ) (xs : List Tally) (y : Ta
     → AreLinkedIn xs m → n ≤ length xs
     → ((q : ℕ) → q < first → cost q y.period ≡ 0)
     → ((d : Tally) → 0 < n → (get_or xs (n - 1) d).period < first)
-    → sum_by (tally_beside cost y) (take n xs) ≡ 0
+    → sum_by (cost_with_tally cost y) (take n xs) ≡ 0
 walk_ends m cost xs y n first linked le free below =
-    sum_by-none (tally_beside cost y) (take n xs)
-    (recursion_from_All (λ x. tally_beside cost y x ≡ 0) (take n xs) each)
+    sum_by-none (cost_with_tally cost y) (take n xs)
+    (recursion_from_All (λ x. cost_with_tally cost y x ≡ 0) (take n xs) each)
   where
-    each : All (λ x. tally_beside cost y x ≡ 0) (take n xs)
+    each : All (λ x. cost_with_tally cost y x ≡ 0) (take n xs)
     each j d lt =
         let within : j < n = omega (arith, length-take n xs) in
         let last = below d (omega arith) in
@@ -187,14 +190,15 @@ walk_ends m cost xs y n first linked le free below =
           | inr other ↦
               (let up = linked.ascending j (n - 1) d (omega arith) (omega arith) in omega arith)
         ] in
-        ap (tally_beside cost y) (get_or-take n xs j d within)
+        ap (cost_with_tally cost y) (get_or-take n xs j d within)
         ∙ free_period cost y (get_or xs j d) (free (get_or xs j d).period less)
 
 -- ---- the student's own tallies
 
 starts_alike : (m : ℕ) (cost : ℕ → ℕ → ℕ) (xs : List Tally) (z y : Tally) (k : ℕ) → AreLinkedIn xs m
     → k < length xs → ((d : Tally) → get_or xs k d ≡ z) → y.student ≡ z.student
-    → sum_by (tally_beside cost y) (take z.before xs) ≡ sum_by (tally_beside cost y) (take k xs)
+    → sum_by (cost_with_tally cost y) (take z.before xs)
+    ≡ sum_by (cost_with_tally cost y) (take k xs)
 starts_alike m cost xs z y k linked within here own =
     sym (skipped m cost xs y z.before k
     (subst (λ s. IsLast xs m (slot_of_student m s) z.before k) (sym own)
@@ -215,13 +219,13 @@ own_from m xs z k first n linked within here found = record {
 -- without such a place nothing costs anything
 pub own_none : (cost : ℕ → ℕ → ℕ) (xs : List Tally) (y : Tally) (k first n : ℕ)
     → IsOwnPlace xs k y.student first n → n ≡ 0 → ((q : ℕ) → q < first → cost q y.period ≡ 0)
-    → 0 ≡ sum_by (tally_beside cost y) (take k xs)
+    → 0 ≡ sum_by (cost_with_tally cost y) (take k xs)
 own_none cost xs y k first n found zero free =
-    sym (found.sums cost y refl free ∙ ap (λ i. sum_by (tally_beside cost y) (take i xs)) zero)
+    sym (found.sums cost y refl free ∙ ap (λ i. sum_by (cost_with_tally cost y) (take i xs)) zero)
 
 -- a period that costs nothing with any
 pub beyond_tallies : (cost : ℕ → ℕ → ℕ) (xs : List Tally) (y : Tally)
-    → ((q : ℕ) → cost q y.period ≡ 0) → sum_by (tally_beside cost y) xs ≡ 0
+    → ((q : ℕ) → cost q y.period ≡ 0) → sum_by (cost_with_tally cost y) xs ≡ 0
 beyond_tallies cost xs y none =
     sum_by-same _ _ (λ x. free_period cost y x (none x.period)) xs ∙ sum_by-zeros xs
 
@@ -233,14 +237,15 @@ picked-small false n m h = omega arith
 
 pub beside_small : (cost : ℕ → ℕ → ℕ) (xs : List Tally) (y : Tally) (k : ℕ)
     → ((p q : ℕ) → cost p q ≤ 100000) → row_count xs ≤ 200000
-    → sum_by (tally_beside cost y) (take k xs) ≤ 20000000000
+    → sum_by (cost_with_tally cost y) (take k xs) ≤ 20000000000
 beside_small cost xs y k small few =
-    let part = sum_by-take-le (tally_beside cost y) xs k in
-    let each = sum_by-le-sum_by (tally_beside cost y) (λ x. tally_sum (λ r. 1) x * 100000) xs one in
+    let part = sum_by-take-le (cost_with_tally cost y) xs k in
+    let each = sum_by-le-sum_by (cost_with_tally cost y)
+    (λ x. tally_sum (λ r. 1) x * 100000) xs one in
     let whole = sum_by-times (tally_sum (λ r. 1)) 100000 xs in
     omega arith
   where
-    one : (x : Tally) → tally_beside cost y x ≤ tally_sum (λ r. 1) x * 100000
+    one : (x : Tally) → cost_with_tally cost y x ≤ tally_sum (λ r. 1) x * 100000
     one x =
         let h = mul-le x.exams (cond (eqb y.student x.student) (cost x.period y.period) 0) x.exams
         100000 (omega arith)
@@ -257,15 +262,15 @@ exams_few xs k d within few = let h = get_or-le-sum_by (tally_sum (λ r. 1)) xs 
 
 pub pairs_more : (cost : ℕ → ℕ → ℕ) (xs : List Tally) (k total more : ℕ) (y : Tally) → k < length xs
     → y ≡ get_or xs k y
-    → total ≡ tally_cost cost (take k xs) → more ≡ sum_by (tally_beside cost y) (take k xs)
+    → total ≡ tally_cost cost (take k xs) → more ≡ sum_by (cost_with_tally cost y) (take k xs)
     → total + more * y.exams ≡ tally_cost cost (take (k + 1) xs)
 pairs_more cost xs k total more y within here was is =
     let step = sum_pairs-more (tally_pair cost) xs k y within in
     let at : sum_by (λ x. tally_pair cost x (get_or xs k y)) (take k xs)
     ≡ sum_by (λ x. tally_pair cost x y) (take k xs) =
     ap (λ z. sum_by (λ x. tally_pair cost x z) (take k xs)) (sym here) in
-    let times = sum_by-times (tally_beside cost y) y.exams (take k xs) in
-    let own : more * y.exams ≡ sum_by (tally_beside cost y) (take k xs) * y.exams =
+    let times = sum_by-times (cost_with_tally cost y) y.exams (take k xs) in
+    let own : more * y.exams ≡ sum_by (cost_with_tally cost y) (take k xs) * y.exams =
     ap (λ n. n * y.exams) is in
     omega arith
 
@@ -283,7 +288,7 @@ small_more xs k total more y within here was small =
 -- one that costs nothing
 pub pairs_same : (cost : ℕ → ℕ → ℕ) (xs : List Tally) (k total : ℕ) (y : Tally) → k < length xs
     → y ≡ get_or xs k y
-    → total ≡ tally_cost cost (take k xs) → 0 ≡ sum_by (tally_beside cost y) (take k xs)
+    → total ≡ tally_cost cost (take k xs) → 0 ≡ sum_by (cost_with_tally cost y) (take k xs)
     → total ≡ tally_cost cost (take (k + 1) xs)
 pairs_same cost xs k total y within here was is =
     omega (arith, pairs_more cost xs k total 0 y within here was is)

@@ -12,7 +12,7 @@ use Rattle.exam_score.specs.EditedCosts.{personal_sum}
 use Rattle.exam_score.specs.Front.{AreSizes, front_by}
 use Rattle.exam_score.specs.Penalty.{Penalty, PersonalPenalty, plus, total_of}
 use Rattle.exam_score.specs.Track.{exam_period, exam_room, track}
-use Rattle.exam_score.specs.Touched.{is_touched, mixed_where, sum_among}
+use Rattle.exam_score.specs.Touched.{is_touched, mixed_cost_if, sum_over_exams}
 
 -- ---- the exchange
 
@@ -25,10 +25,10 @@ edit_share I T edited touched sizes students = record {
   day = students.day;
   spread = students.spread;
   night = students.night;
-  mixed = mixed_where I T touched;
-  front = sum_among I edited (λ e. front_by I sizes (place_of T e) e);
-  period = sum_among I edited (λ e. exam_period I (place_of T e));
-  room = sum_among I edited (λ e. exam_room I (place_of T e));
+  mixed = mixed_cost_if I T touched;
+  front = sum_over_exams I edited (λ e. front_by I sizes (place_of T e) e);
+  period = sum_over_exams I edited (λ e. exam_period I (place_of T e));
+  room = sum_over_exams I edited (λ e. exam_room I (place_of T e));
 }
 
 -- the old amounts

@@ -36,7 +36,7 @@ pub record IsFoldOf (fold : Folded) (I : Session) (old new : Placing)
   pub exams : fold.edited ≡ edited
 
 -- the list of pairs represented by a fold's count, its sums and its open pairs
-pub record StandsFor (fold : Folded) (pairs : List Pair) : Type 0 where
+pub record RepresentsPairs (fold : Folded) (pairs : List Pair) : Type 0 where
   pub closed : List Pair
   pub parts : pairs ≡ closed ++ fold.current
   pub in_order : AllPairs ComesEarlier pairs
@@ -78,4 +78,4 @@ pub record IsBounded (count : ℕ) (before after : PersonalPenalty) (student : O
   pub room_before : LeavesRoom before (length exams) count
   pub room_after : LeavesRoom after (length exams) count
   pub started : student ≡ None → (count ≡ 0) × (exams ≡ [])
-  pub goes_on : exams ≡ [] → count ≡ 0
+  pub continues_front : exams ≡ [] → count ≡ 0

@@ -31,12 +31,12 @@ abbrev pub row_count : List Tally → ℕ
 row_count tallies = sum_by (tally_sum (λ r. 1)) tallies
 
 -- the cost of one exam of tally y with those of x; 0 if they are of different students
-abbrev pub tally_beside : (ℕ → ℕ → ℕ) → Tally → Tally → ℕ
-tally_beside cost y x = tally_sum (λ r. row_pair cost r (row_at y.period y.student)) x
+abbrev pub cost_with_tally : (ℕ → ℕ → ℕ) → Tally → Tally → ℕ
+cost_with_tally cost y x = tally_sum (λ r. row_pair cost r (row_at y.period y.student)) x
 
 -- the cost of the exams of two tallies
 abbrev pub tally_pair : (ℕ → ℕ → ℕ) → Tally → Tally → ℕ
-tally_pair cost x y = tally_beside cost y x * y.exams
+tally_pair cost x y = cost_with_tally cost y x * y.exams
 
 -- the sum over all pairs of tallies
 abbrev pub tally_cost : (ℕ → ℕ → ℕ) → List Tally → ℕ

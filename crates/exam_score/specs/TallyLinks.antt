@@ -1,7 +1,7 @@
 -- The links of students' tallies: each leads to the one before it in its slot.
 use Rattle.std.specs.Prelude.{◌≡◌, ◌≢◌, ℕ, ◌+◌, ◌-◌, ◌*◌, ◌%◌, ◌^◌, ◌<◌, ◌≤◌, List, length, take, slice_index, slice_index_or, sum_by, AllPairs}
 use Rattle.exam_terms.specs.declared.limits.TheConstants.{MAX_PAIRS}
-use Rattle.exam_score.specs.Tallies.{tally_beside}
+use Rattle.exam_score.specs.Tallies.{cost_with_tally}
 use Rattle.exam_score.specs.declared.tallies.Tally.{Tally}
 
 -- the slot of a student's tallies, out of this many
@@ -63,8 +63,8 @@ pub record IsOwnPlace (tallies : List Tally) (place s first n : ℕ) : Type 0 wh
   pub own : (d : Tally) → 0 < n → (slice_index_or tallies (n - 1) d).student ≡ s
   pub sums : (cost : ℕ → ℕ → ℕ) (y : Tally) → y.student ≡ s
       → ((q : ℕ) → q < first → cost q y.period ≡ 0)
-      → sum_by (tally_beside cost y) (take place tallies)
-      ≡ sum_by (tally_beside cost y) (take n tallies)
+      → sum_by (cost_with_tally cost y) (take place tallies)
+      ≡ sum_by (cost_with_tally cost y) (take n tallies)
 
 -- the tally just before place n is of student s and period p, and can count one more
 pub record Extends (tallies : List Tally) (n s p : ℕ) : Type 0 where

@@ -14,14 +14,14 @@ is_touched edited old new p r =
     list_any (λ e. is_at p r (place_of old e) || is_at p r (place_of new e)) edited
 
 -- the mixed part of one room in the periods that pass
-abbrev pub room_mixed_where : Session → Placing → (ℕ → ℕ → Bool) → ℕ → ℕ
-room_mixed_where I T touched r =
+abbrev pub room_mixed_cost_if : Session → Placing → (ℕ → ℕ → Bool) → ℕ → ℕ
+room_mixed_cost_if I T touched r =
     sum_below (length I.periods) (λ p.
     if touched p r then (durations I T p r - 1) * I.weights.mixed else 0)
 
 -- the mixed part of the periods and rooms that pass
-abbrev pub mixed_where : Session → Placing → (ℕ → ℕ → Bool) → ℕ
-mixed_where I T touched = sum_below (length I.rooms) (room_mixed_where I T touched)
+abbrev pub mixed_cost_if : Session → Placing → (ℕ → ℕ → Bool) → ℕ
+mixed_cost_if I T touched = sum_below (length I.rooms) (room_mixed_cost_if I T touched)
 
 -- the share of one more place in the mixed part of the periods and rooms that pass: 0 if its period
 -- or room doesn't exist, or if it passes already
@@ -33,5 +33,5 @@ further_mixed I T touched (Some at) =
     then (durations I T at.period at.room - 1) * I.weights.mixed else 0
 
 -- g summed over the exams in a list, each of them once
-abbrev pub sum_among : Session → List ℕ → (ℕ → ℕ) → ℕ
-sum_among I exams g = sum_below (length I.exams) (λ e. if has_number exams e then g e else 0)
+abbrev pub sum_over_exams : Session → List ℕ → (ℕ → ℕ) → ℕ
+sum_over_exams I exams g = sum_below (length I.exams) (λ e. if has_number exams e then g e else 0)

@@ -32,14 +32,14 @@ fn cost_of_pairs<C: PairCost>(cost: &C, periods: &[PeriodNo]) -> u64
     let mut total = 0;
     let mut rest = periods;
     while let Some((period, others)) = rest.split_first() {
-        total += cost_beside(cost, *period, others);
+        total += cost_with_exam(cost, *period, others);
         rest = others;
     }
     total
 }
 
 // Returns the cost of one exam with the others.
-fn cost_beside<C: PairCost>(cost: &C, period: PeriodNo, others: &[PeriodNo]) -> u64
+fn cost_with_exam<C: PairCost>(cost: &C, period: PeriodNo, others: &[PeriodNo]) -> u64
     requires { length others.now ≤ MAX_EXAMS }
     ensures sum { result ≡ sum_by (C.cost_of cost.now period) others.now }
     ensures small { result ≤ length others.now * MAX_AMOUNT }

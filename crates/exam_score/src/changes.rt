@@ -4,7 +4,7 @@ ghost use Rattle.exam_terms.specs.declared.limits.TheConstants.{MAX_PAIRS};
 ghost use Rattle.exam_model.specs.Fits.{Fits};
 ghost use Rattle.exam_score.specs.Changes.{DiffersAtMost};
 ghost use Rattle.exam_score.specs.Concerned.{IsSooner, pair_of};
-ghost use Rattle.exam_score.specs.Folds.{IsFoldOf, StandsFor};
+ghost use Rattle.exam_score.specs.Folds.{IsFoldOf, RepresentsPairs};
 ghost use Rattle.exam_score.specs.Track.{track};
 
 use crate::concerned::{Sitter, sitters_of};
@@ -51,7 +51,7 @@ fn folded<'a>(
 ) -> Result<EditFold<'a>, AllocError>
     requires few { length sitters.now ≤ MAX_PAIRS }
     requires in_order { AllPairs IsSooner sitters.now }
-    ensures stands { IfOk result (λ fold. StandsFor fold (map pair_of sitters.now)) }
+    ensures stands { IfOk result (λ fold. RepresentsPairs fold (map pair_of sitters.now)) }
     ensures of { IfOk result (λ fold. IsFoldOf fold instance.now old.now new.now edited.now) }
 {
     let mut fold = EditFold::new(alloc, instance, old, new, edited)?;

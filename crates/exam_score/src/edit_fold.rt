@@ -5,7 +5,7 @@ ghost use Rattle.exam_model.specs.Enrolments.{Enrolled};
 ghost use Rattle.exam_model.specs.Pairs.{Pair};
 ghost use Rattle.exam_score.specs.Exchanges.{CannotExchange, IsExchanged, IsOfEdit, coming, edit_share, going};
 ghost use Rattle.exam_score.specs.Touched.{is_touched};
-ghost use Rattle.exam_score.specs.Folds.{CanFollow, StandsFor};
+ghost use Rattle.exam_score.specs.Folds.{CanFollow, RepresentsPairs};
 ghost use Rattle.exam_score.specs.Penalty.{personal_total};
 ghost use Rattle.exam_score.specs.Track.{track};
 
@@ -76,7 +76,7 @@ impl<'a> EditFold<'a> {
           current = [];
         }) }
         // It represents no pairs.
-        ensures stands { IfOk result (λ fold. StandsFor fold []) }
+        ensures stands { IfOk result (λ fold. RepresentsPairs fold []) }
     {
         let exams = Vec::with_capacity(alloc, instance.exams() as usize)?;
         Ok(EditFold {
@@ -98,8 +98,8 @@ impl<'a> EditFold<'a> {
         requires few { self.old.count < MAX_PAIRS }
         requires follows { CanFollow self.old (record { exam = exam; student = student }) }
         // The fold represents the pairs that it represented, with this one appended.
-        ensures ok { (pairs : List Pair) → StandsFor self.old pairs
-            → OnOk result (StandsFor self.new
+        ensures ok { (pairs : List Pair) → RepresentsPairs self.old pairs
+            → OnOk result (RepresentsPairs self.new
             (pairs ++ record { exam = exam; student = student } ∷ [])) }
         ensures same { (self.new.instance ≡ self.old.instance)
             × (self.new.earlier ≡ self.old.earlier) × (self.new.later ≡ self.old.later)
@@ -130,7 +130,7 @@ impl<'a> EditFold<'a> {
         requires sizes { length sizes.now ≡ length self.instance.exams }
         // If the fold took exactly the pairs of the students who sit an edited exam, this is the
         // penalty of the new timetable.
-        ensures scored { (E : Enrolled) (pairs : List Pair) → StandsFor self.entry pairs
+        ensures scored { (E : Enrolled) (pairs : List Pair) → RepresentsPairs self.entry pairs
             → IsOfEdit self.entry E pairs sizes.now old_parts
             → result ≡ Some (track self.entry.instance E self.entry.later) }
         // Each part is the old one, with the old amounts replaced by the new ones.

@@ -3,7 +3,7 @@ ghost use Rattle.std.specs.Prelude.{◌≡◌, ◌≤◌, ◌*◌, length};
 ghost use Rattle.exam_terms.specs.declared.limits.TheConstants.{MAX_AMOUNT, MAX_EXAMS};
 ghost use Rattle.exam_model.specs.Timetable.{place_of};
 ghost use Rattle.exam_model.specs.Enrolments.{has_number};
-ghost use Rattle.exam_score.specs.Touched.{sum_among};
+ghost use Rattle.exam_score.specs.Touched.{sum_over_exams};
 ghost use Rattle.exam_score.specs.Front.{front_by};
 ghost use Rattle.exam_score.specs.Track.{exam_period, exam_room};
 
@@ -19,9 +19,9 @@ pub(crate) fn edited_places(
     timetable: &Timetable,
     edited: &[ExamNo],
 ) -> PlaceSums
-    ensures periods { result.periods ≡ sum_among instance.now edited.now
+    ensures periods { result.periods ≡ sum_over_exams instance.now edited.now
         (λ e. exam_period instance.now (place_of timetable.now e)) }
-    ensures rooms { result.rooms ≡ sum_among instance.now edited.now
+    ensures rooms { result.rooms ≡ sum_over_exams instance.now edited.now
         (λ e. exam_room instance.now (place_of timetable.now e)) }
     ensures small_periods { result.periods ≤ MAX_EXAMS * MAX_AMOUNT }
     ensures small_rooms { result.rooms ≤ MAX_EXAMS * MAX_AMOUNT }
@@ -49,7 +49,7 @@ pub(crate) fn edited_front(
     edited: &[ExamNo],
 ) -> u64
     requires sizes { length sizes.now ≡ length instance.now.exams }
-    ensures front { result ≡ sum_among instance.now edited.now
+    ensures front { result ≡ sum_over_exams instance.now edited.now
         (λ e. front_by instance.now sizes.now (place_of timetable.now e) e) }
     ensures small { result ≤ MAX_EXAMS * MAX_AMOUNT }
 {

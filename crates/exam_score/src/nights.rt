@@ -2,7 +2,7 @@
 ghost use Rattle.std.specs.Prelude.{◌≡◌, ◌≤◌, ◌<◌, length, take, slice_index_or, sum_by};
 ghost use Rattle.exam_terms.specs.declared.limits.TheConstants.{MAX_PAIRS};
 ghost use Rattle.exam_score.specs.Cost.{night_cost};
-ghost use Rattle.exam_score.specs.Tallies.{tally_beside, tally_cost, row_count};
+ghost use Rattle.exam_score.specs.Tallies.{cost_with_tally, tally_cost, row_count};
 ghost use Rattle.exam_score.specs.TallyLinks.{AreLinked};
 ghost use Rattle.exam_score.specs.declared.tallies.Tally.{Tally};
 
@@ -25,7 +25,7 @@ pub(crate) fn nights_of_pairs(instance: &Instance, tallies: &[Tally]) -> u64
     }
     let mut total = 0;
     for (at, tally) in tallies.iter().enumerate() {
-        let more = nights_beside(instance, tallies, at, tally);
+        let more = nights_with_exam(instance, tallies, at, tally);
         let exams = u64::from(tally.exams);
         total += more * exams;
     }
@@ -33,13 +33,13 @@ pub(crate) fn nights_of_pairs(instance: &Instance, tallies: &[Tally]) -> u64
 }
 
 // Returns the cost of one exam of the tally at an index with the earlier tallies.
-fn nights_beside(instance: &Instance, tallies: &[Tally], at: usize, tally: &Tally) -> u64
+fn nights_with_exam(instance: &Instance, tallies: &[Tally], at: usize, tally: &Tally) -> u64
     requires within { at < length tallies.now }
     requires here { (d : Tally) → slice_index_or tallies.now at d ≡ tally.now }
     requires linked { AreLinked tallies.now }
     requires few { row_count tallies.now ≤ MAX_PAIRS }
     ensures { result ≡ sum_by
-        (tally_beside (night_cost instance.now.periods instance.now.weights) tally.now)
+        (cost_with_tally (night_cost instance.now.periods instance.now.weights) tally.now)
         (take at tallies.now) }
 {
     let _kept = instance.periods(); // read for the limits of its weights
@@ -56,7 +56,7 @@ fn nights_beside(instance: &Instance, tallies: &[Tally], at: usize, tally: &Tall
 
 // Returns the cost of one exam of a tally with those of another one.
 fn night_between(instance: &Instance, tally: &Tally, other: &Tally) -> u64
-    ensures { result ≡ tally_beside (night_cost instance.now.periods instance.now.weights)
+    ensures { result ≡ cost_with_tally (night_cost instance.now.periods instance.now.weights)
         tally.now other.now }
 {
     if tally.student != other.student {

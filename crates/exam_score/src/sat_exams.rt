@@ -46,14 +46,14 @@ fn cost_of_exams<C: PairCost>(
     let mut total = 0;
     for exam in exams {
         if is_among(edited, *exam) {
-            total += cost_beside(cost, timetable, edited, *exam, exams);
+            total += cost_with_exam(cost, timetable, edited, *exam, exams);
         }
     }
     total
 }
 
 // Returns the cost of an edited exam with all of these.
-fn cost_beside<C: PairCost>(
+fn cost_with_exam<C: PairCost>(
     cost: &C,
     timetable: &Timetable,
     edited: &[ExamNo],

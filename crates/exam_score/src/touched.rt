@@ -2,7 +2,7 @@
 ghost use Rattle.std.specs.Prelude.{◌≡◌, ◌≤◌, ◌+◌, ◌-◌, ◌*◌, ◌&&◌, false, true, if◌then◌else◌, nat_lt, ◌∷◌, length, slice_index_or, slice_set};
 ghost use Rattle.exam_terms.specs.declared.limits.TheConstants.{MAX_AMOUNT, MAX_EXAMS, MAX_MINUTES, MAX_PERIODS, MAX_ROOMS};
 ghost use Rattle.exam_model.specs.Timetable.{place_of};
-ghost use Rattle.exam_score.specs.Touched.{further_mixed, is_touched, mixed_where};
+ghost use Rattle.exam_score.specs.Touched.{further_mixed, is_touched, mixed_cost_if};
 ghost use Rattle.exam_score.specs.MixedDurations.{durations, is_at};
 
 use crate::sat_exams::place_in;
@@ -23,7 +23,7 @@ pub(crate) struct Touched<'a> {
 // Returns the weight for each duration but one of each room and period with an edited exam, before
 // the edit or after it.
 pub(crate) fn touched_mixed(instance: &Instance, timetable: &Timetable, touched: &Touched) -> u64
-    ensures part { result ≡ mixed_where instance.now timetable.now
+    ensures part { result ≡ mixed_cost_if instance.now timetable.now
         (is_touched touched.now.edited.now touched.now.earlier.now touched.now.later.now) }
     ensures small { result ≤ MAX_ROOMS * (MAX_PERIODS * (MAX_EXAMS * MAX_AMOUNT)) }
 {
@@ -40,9 +40,9 @@ pub(crate) fn touched_mixed(instance: &Instance, timetable: &Timetable, touched:
 
 // Returns the share of the places of one more edited exam, except those that the others touch.
 fn exam_mixed(instance: &Instance, timetable: &Timetable, others: &Touched, exam: ExamNo) -> u64
-    ensures further { mixed_where instance.now timetable.now
+    ensures further { mixed_cost_if instance.now timetable.now
         (is_touched others.now.edited.now others.now.earlier.now others.now.later.now) + result
-        ≡ mixed_where instance.now timetable.now
+        ≡ mixed_cost_if instance.now timetable.now
         (is_touched (exam ∷ others.now.edited.now) others.now.earlier.now others.now.later.now) }
     ensures small { result ≤ 2 * (MAX_EXAMS * MAX_AMOUNT) }
 {

@@ -4,7 +4,7 @@ ghost use Rattle.exam_terms.specs.declared.limits.TheConstants.{MAX_PAIRS};
 ghost use Rattle.exam_model.specs.Instance.{Session};
 ghost use Rattle.exam_score.specs.Cost.{row_cost, day_cost, spread_cost};
 ghost use Rattle.exam_score.specs.Lines.{IsLine, IsTable, IsFirstCost};
-ghost use Rattle.exam_score.specs.Tallies.{tally_beside, tally_cost, row_count};
+ghost use Rattle.exam_score.specs.Tallies.{cost_with_tally, tally_cost, row_count};
 ghost use Rattle.exam_score.specs.TallyLinks.{AreLinked, IsOnWay, IsOwnPlace, IsReached};
 ghost use Rattle.exam_score.specs.declared.tallies.Tally.{Tally};
 
@@ -44,7 +44,7 @@ pub(crate) fn sums_of_pairs(instance: &Instance, lines: &[Line], tallies: &[Tall
         let Some((line, place)) = line_beside(lines, tallies, at, tally) else {
             continue; // as for most tallies
         };
-        let more = along(instance, line, tallies, place, tally);
+        let more = cost_along_line(instance, line, tallies, place, tally);
         let exams = u64::from(tally.exams);
         sums.row += more.row * exams;
         sums.day += more.day * exams;
@@ -71,11 +71,11 @@ fn line_beside<'a>(
     ensures place { IfSome result (λ found.
         IsOwnPlace tallies.now at tally.now.student found.0.now.first found.1) }
     ensures row { (I : Session) → IsTable I lines.now → IfNone result (0
-        ≡ sum_by (tally_beside (row_cost I.periods I.weights) tally.now) (take at tallies.now)) }
+        ≡ sum_by (cost_with_tally (row_cost I.periods I.weights) tally.now) (take at tallies.now)) }
     ensures day { (I : Session) → IsTable I lines.now → IfNone result (0
-        ≡ sum_by (tally_beside (day_cost I.periods I.weights) tally.now) (take at tallies.now)) }
+        ≡ sum_by (cost_with_tally (day_cost I.periods I.weights) tally.now) (take at tallies.now)) }
     ensures spread { (I : Session) → IsTable I lines.now → IfNone result (0
-        ≡ sum_by (tally_beside (spread_cost I.periods I.weights) tally.now)
+        ≡ sum_by (cost_with_tally (spread_cost I.periods I.weights) tally.now)
         (take at tallies.now)) }
 {
     let Some(line) = lines.get(tally.period.get() as usize) else {
@@ -89,7 +89,13 @@ fn line_beside<'a>(
 }
 
 // Returns the cost of one exam of a tally with those before a place, by the line of its period.
-fn along(instance: &Instance, line: &Line, tallies: &[Tally], place: u32, tally: &Tally) -> PairSums
+fn cost_along_line(
+    instance: &Instance,
+    line: &Line,
+    tallies: &[Tally],
+    place: u32,
+    tally: &Tally,
+) -> PairSums
     requires within { place ≤ length tallies.now }
     requires own { (d : Tally) → 0 < place
         → (slice_index_or tallies.now (place - 1) d).student ≡ tally.now.student }
@@ -100,13 +106,13 @@ fn along(instance: &Instance, line: &Line, tallies: &[Tally], place: u32, tally:
     requires linked { AreLinked tallies.now }
     requires few { row_count tallies.now ≤ MAX_PAIRS }
     ensures row { result.row
-        ≡ sum_by (tally_beside (row_cost instance.now.periods instance.now.weights) tally.now)
+        ≡ sum_by (cost_with_tally (row_cost instance.now.periods instance.now.weights) tally.now)
         (take place tallies.now) }
     ensures day { result.day
-        ≡ sum_by (tally_beside (day_cost instance.now.periods instance.now.weights) tally.now)
+        ≡ sum_by (cost_with_tally (day_cost instance.now.periods instance.now.weights) tally.now)
         (take place tallies.now) }
     ensures spread { result.spread
-        ≡ sum_by (tally_beside (spread_cost instance.now.periods instance.now.weights) tally.now)
+        ≡ sum_by (cost_with_tally (spread_cost instance.now.periods instance.now.weights) tally.now)
         (take place tallies.now) }
 {
     let _kept = instance.periods(); // read for the limits of its weights
@@ -164,11 +170,12 @@ fn between(instance: &Instance, line: &[PairCosts], tally: &Tally, other: &Tally
     requires own { other.now.student ≡ tally.now.student }
     requires earlier { other.now.period ≤ tally.now.period }
     ensures row { result.row
-        ≡ tally_beside (row_cost instance.now.periods instance.now.weights) tally.now other.now }
+        ≡ cost_with_tally (row_cost instance.now.periods instance.now.weights) tally.now other.now }
     ensures day { result.day
-        ≡ tally_beside (day_cost instance.now.periods instance.now.weights) tally.now other.now }
+        ≡ cost_with_tally (day_cost instance.now.periods instance.now.weights) tally.now other.now }
     ensures spread { result.spread
-        ≡ tally_beside (spread_cost instance.now.periods instance.now.weights) tally.now other.now }
+        ≡ cost_with_tally (spread_cost instance.now.periods instance.now.weights) tally.now
+        other.now }
 {
     let costs = costs_in(instance, line, tally.period, other.period);
     let exams = u64::from(other.exams);

@@ -13,7 +13,7 @@ use Rattle.exam_model.proofs.PairLemmas.{are_pairs}
 use Rattle.exam_model.proofs.SumLemmas.{IsChain, each_weaker}
 use Rattle.exam_publish.proofs.ListLemmas.{chain_from_ascending, has_ascending}
 use Rattle.exam_score.specs.Exchanges.{pairs_concerned, sits_among}
-use Rattle.exam_score.specs.Folds.{CanFollow, ComesEarlier, Folded, StandsFor, pairs_sat}
+use Rattle.exam_score.specs.Folds.{CanFollow, ComesEarlier, Folded, RepresentsPairs, pairs_sat}
 use Rattle.exam_score.proofs.FoldLemmas.{map_push}
 use Rattle.office_store.specs.Folding.{pairs_of_students, students_of_exams}
 
@@ -157,7 +157,7 @@ each_earlier exams i d lt up =
 -- the pairs so far, and those of the open student so far: an exam more can follow
 pub can_follow : (fold : Folded) (pairs : List Pair) (s : ℕ) (exams : List ℕ) (i d : ℕ)
     → i < length exams → IsAscending exams → All (λ p. p.student < s) pairs
-    → StandsFor fold (pairs ++ pairs_sat (Some s) (take i exams))
+    → RepresentsPairs fold (pairs ++ pairs_sat (Some s) (take i exams))
     → CanFollow fold (record { exam = get_or exams i d; student = s })
 can_follow fold pairs s exams i d lt up below h =
     let pair : Pair = record { exam = get_or exams i d; student = s } in
@@ -174,7 +174,7 @@ can_follow fold pairs s exams i d lt up below h =
 
 pub has_room : (fold : Folded) (pairs : List Pair) (s : ℕ) (exams : List ℕ) (i : ℕ)
     → i < length exams → length pairs + length exams ≤ 200000
-    → StandsFor fold (pairs ++ pairs_sat (Some s) (take i exams)) → fold.count < 200000
+    → RepresentsPairs fold (pairs ++ pairs_sat (Some s) (take i exams)) → fold.count < 200000
 has_room fold pairs s exams i lt few h =
     let mapped : length (pairs_sat (Some s) (take i exams)) ≡ length (take i exams)
     = length-map (take i exams) (λ (e : ℕ). pair_sat s e) in
@@ -194,11 +194,11 @@ has_room fold pairs s exams i lt few h =
 -- one more is taken in
 pub one_more : (fold : Folded) (pairs : List Pair) (s : ℕ) (exams : List ℕ) (i d : ℕ)
     → i < length exams
-    → StandsFor fold ((pairs ++ pairs_sat (Some s) (take i exams))
+    → RepresentsPairs fold ((pairs ++ pairs_sat (Some s) (take i exams))
     ++ record { exam = get_or exams i d; student = s } ∷ [])
-    → StandsFor fold (pairs ++ pairs_sat (Some s) (take (i + 1) exams))
+    → RepresentsPairs fold (pairs ++ pairs_sat (Some s) (take (i + 1) exams))
 one_more fold pairs s exams i d lt h =
-    subst (StandsFor fold)
+    subst (RepresentsPairs fold)
     (append_assoc pairs (pairs_sat (Some s) (take i exams)) _
     ∙ ap (λ l. pairs ++ l)
     (sym (ap (pairs_sat (Some s)) (take_more exams i d lt)

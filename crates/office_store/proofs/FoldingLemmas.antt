@@ -19,7 +19,7 @@ use Rattle.exam_model.specs.Pairs.{Pair}
 use Rattle.exam_model.proofs.SumLemmas.{IsChain, each_weaker}
 use Rattle.exam_publish.proofs.ListLemmas.{ascending_from_chain, ascends, chain_from_ascending, index_from_chain}
 use Rattle.exam_score.specs.Exchanges.{IsOfEdit, pairs_concerned}
-use Rattle.exam_score.specs.Folds.{Folded, IsFoldOf, StandsFor, pairs_sat}
+use Rattle.exam_score.specs.Folds.{Folded, IsFoldOf, RepresentsPairs, pairs_sat}
 use Rattle.exam_score.specs.Front.{AreSizes}
 use Rattle.exam_score.specs.Penalty.{Penalty}
 use Rattle.exam_score.specs.Track.{track}
@@ -167,7 +167,7 @@ module _ {S : Type 0} (store : Ghosts S) where
 -- ---- students one after the other
 
 module _ {S : Type 0} (store : Ghosts S) (all : List ℕ) where
-  pub first_taken : (a : Held S) (fold : Folded) → StandsFor fold []
+  pub first_taken : (a : Held S) (fold : Folded) → RepresentsPairs fold []
       → HasTaken store a a fold 0 all all
   first_taken a fold stands = record {
     pairs = [];
@@ -197,8 +197,8 @@ module _ {S : Type 0} (store : Ghosts S) (all : List ℕ) where
   more_taken : (a b c : Held S) (fold next : Folded) (count more : ℕ) (rest : List ℕ) (s : ℕ)
       (others exams : List ℕ) (taken : HasTaken store a b fold count all rest)
       → rest ≡ s ∷ others → IsAscending rest → more ≡ count + length exams → more ≤ 200000
-      → ((pairs : List Pair) → StandsFor fold pairs
-      → StandsFor next (pairs ++ pairs_sat (Some s) exams))
+      → ((pairs : List Pair) → RepresentsPairs fold pairs
+      → RepresentsPairs next (pairs ++ pairs_sat (Some s) exams))
       → ((E : Enrolled) → HadEnrolments store a c E → HadEnrolments store a b E)
       → ((E : Enrolled) → HadEnrolments store a c E → exams ≡ exams_sat E s)
       → HasTaken store a c next more all others
@@ -257,8 +257,8 @@ module _ {S : Type 0} (store : Ghosts S) (all : List ℕ) where
       (others read counted folded : List ℕ) → HasTaken store a b fold count all rest
       → rest ≡ s ∷ others → IsAscending rest → counted ≡ read → folded ≡ read
       → more ≡ count + length counted → more ≤ 200000
-      → ((pairs : List Pair) → StandsFor fold pairs
-      → StandsFor next (pairs ++ pairs_sat (Some s) folded))
+      → ((pairs : List Pair) → RepresentsPairs fold pairs
+      → RepresentsPairs next (pairs ++ pairs_sat (Some s) folded))
       → ((E : Enrolled) → HadEnrolments store a c E → HadEnrolments store a b E)
       → ((E : Enrolled) → HadEnrolments store a c E → read ≡ exams_sat E s)
       → HasTaken store a c next more all others
@@ -450,7 +450,7 @@ pub told_after : {S : Type 0} (store : Ghosts S) (a b : Held S) (fold : Folded) 
     (E : Enrolled) (judged : Judged) (edited sizes : List ℕ) (r : Option Penalty)
     (pairs : List Pair) → HadEnrolments store a b E → IsEditOf I E judged
     → IsFoldOf fold I judged.draft.now.timetable judged.new edited → edited ≡ judged.exams.items
-    → AreSizes E sizes → StandsFor fold pairs
+    → AreSizes E sizes → RepresentsPairs fold pairs
     → pairs ≡ pairs_of_students E (students_of_exams E judged.exams.items)
     → (IsOfEdit fold E pairs sizes judged.draft.now.parts → r ≡ Some (track fold.instance E
     fold.later))

@@ -10,7 +10,7 @@ use Rattle.exam_model.specs.Instance.{Session}
 use Rattle.exam_model.specs.Pairs.{Pair}
 use Rattle.exam_publish.specs.Changed.{ascending}
 use Rattle.exam_score.specs.Changes.{DiffersAtMost}
-use Rattle.exam_score.specs.Folds.{Folded, StandsFor, pairs_sat}
+use Rattle.exam_score.specs.Folds.{Folded, RepresentsPairs, pairs_sat}
 use Rattle.exam_score.specs.Track.{track}
 use Rattle.office_store.specs.declared.editing.Judged.{Judged}
 use Rattle.office_store.specs.FoldReads.{HadEnrolments}
@@ -30,7 +30,7 @@ pairs_of_students E all = flat_map (λ s. pairs_sat (Some s) (exams_sat E s)) al
 -- it took so many pairs, all of them of smaller students, and has room for so many more
 pub record CanTake (fold : Folded) (student more : ℕ) : Type 0 where
   pub pairs : List Pair
-  pub stands : StandsFor fold pairs
+  pub stands : RepresentsPairs fold pairs
   pub few : length pairs + more ≤ MAX_PAIRS
   pub below : All (λ p. p.student < student) pairs
 
@@ -38,7 +38,7 @@ pub record CanTake (fold : Folded) (student more : ℕ) : Type 0 where
 pub record HasTaken {S : Type 0} (store : Ghosts S) (old new : Held S) (fold : Folded) (count : ℕ)
     (all rest : List ℕ) : Type 0 where
   pub pairs : List Pair
-  pub stands : StandsFor fold pairs
+  pub stands : RepresentsPairs fold pairs
   pub counted : count ≡ length pairs
   pub few : count ≤ MAX_PAIRS
   pub below : All (λ s. All (λ p. p.student < s) pairs) rest

@@ -4,7 +4,7 @@ ghost use Rattle.exam_terms.specs.declared.limits.TheConstants.{MAX_PAIRS};
 ghost use Rattle.exam_model.specs.Changes.{exams_sat};
 ghost use Rattle.exam_model.specs.Enrolments.{Enrolled, IsAscending};
 ghost use Rattle.exam_model.specs.Pairs.{Pair};
-ghost use Rattle.exam_score.specs.Folds.{IsFoldOf, StandsFor, pairs_sat};
+ghost use Rattle.exam_score.specs.Folds.{IsFoldOf, RepresentsPairs, pairs_sat};
 ghost use Rattle.exam_score.specs.Track.{track};
 ghost use Rattle.office_store.specs.FoldReads.{HadEnrolments, HasRead, IsSame};
 ghost use Rattle.office_store.specs.Folding.{CanTake, IsEditOf};
@@ -76,9 +76,9 @@ fn fold_students<'a, S: Alter>(
     empty: EditFold<'a>,
     students: &[StudentNo],
 ) -> Result<EditFold<'a>, StoreFault>
-    requires empty { StandsFor empty [] }
+    requires empty { RepresentsPairs empty [] }
     requires ascending { IsAscending students.now }
-    ensures stands { IfOk result (λ new. (pairs : List Pair) × StandsFor new pairs
+    ensures stands { IfOk result (λ new. (pairs : List Pair) × RepresentsPairs new pairs
         × ((E : Enrolled) → HadEnrolments S.Store conn.old conn.new E
         → pairs ≡ pairs_of_students E students.now)) }
     ensures of { IfOk result (λ new. IsFoldOf new empty.entry.instance empty.entry.earlier
@@ -117,8 +117,8 @@ fn count_more(count: usize, exams: &[ExamNo]) -> Result<usize, StoreFault>
 fn fold_exams(fold: &mut EditFold, student: StudentNo, exams: &[ExamNo]) -> Result<(), AllocError>
     requires room { CanTake fold.old student (length exams.now) }
     requires ascending { IsAscending exams.now }
-    ensures stands { (pairs : List Pair) → StandsFor fold.old pairs → OnOk result
-        (StandsFor fold.new (pairs ++ pairs_sat (Some student) exams.now)) }
+    ensures stands { (pairs : List Pair) → RepresentsPairs fold.old pairs → OnOk result
+        (RepresentsPairs fold.new (pairs ++ pairs_sat (Some student) exams.now)) }
     ensures of { IsFoldOf fold.new fold.old.instance fold.old.earlier fold.old.later
         fold.old.edited }
 {

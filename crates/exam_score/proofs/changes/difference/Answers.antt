@@ -1,7 +1,7 @@
 use Rattle.std.proofs.Common.{◌≡◌, ◌∙◌, ℕ, List, Some, length, map, sym, ap, subst, arith}
 use Rattle.exam_model.specs.Instance.{Session}
 use Rattle.exam_score.specs.Concerned.{pair_of}
-use Rattle.exam_score.specs.Folds.{StandsFor}
+use Rattle.exam_score.specs.Folds.{RepresentsPairs}
 use Rattle.exam_score.specs.Front.{AreSizes}
 use Rattle.exam_score.specs.Track.{track}
 use Rattle.exam_score.specs.declared.concerned.Sitter.{Sitter}
@@ -36,7 +36,7 @@ scored c =
     track_is fold c.args.instance.now c.args.enrolments.now c.args.old.now c.args.new.now
     c.args.edited.now c.finish-parts.result c.in_ok-fold.ensures.of
     (c.finish-parts.ensures.scored c.args.enrolments.now pairs
-    (subst (λ (xs : List Sitter). StandsFor fold (map pair_of xs)) c.deref.ensures.value
+    (subst (λ (xs : List Sitter). RepresentsPairs fold (map pair_of xs)) c.deref.ensures.value
     c.in_ok-fold.ensures.stands)
     (edit_is fold c.args.instance.now c.args.enrolments.now c.args.old.now c.args.new.now
     c.args.edited.now pairs c.deref-2.result.now c.args.old_parts c.in_ok-fold.ensures.of
@@ -54,7 +54,7 @@ scored_last c =
     track_is fold c.args.instance.now c.args.enrolments.now c.args.old.now c.args.new.now
     c.args.edited.now c.finish-parts.result c.in_ok-fold.ensures.of
     (c.finish-parts.ensures.scored c.args.enrolments.now pairs
-    (subst (λ (xs : List Sitter). StandsFor fold (map pair_of xs)) c.deref.ensures.value
+    (subst (λ (xs : List Sitter). RepresentsPairs fold (map pair_of xs)) c.deref.ensures.value
     c.in_ok-fold.ensures.stands)
     (edit_is fold c.args.instance.now c.args.enrolments.now c.args.old.now c.args.new.now
     c.args.edited.now pairs c.deref-2.result.now c.args.old_parts c.in_ok-fold.ensures.of

@@ -1,6 +1,6 @@
 use Rattle.std.proofs.Common.{◌∙◌, [], ◌∷◌, ◌++◌, map, take, take_all, sym, ap, subst}
 use Rattle.exam_score.specs.Concerned.{pair_of}
-use Rattle.exam_score.specs.Folds.{CanFollow, Folded, StandsFor}
+use Rattle.exam_score.specs.Folds.{CanFollow, Folded, RepresentsPairs}
 use Rattle.exam_score.proofs.ConcernedLemmas.{fold_few, next_follows, stands_next}
 use Rattle.exam_score.proofs.changes.folded.Goals as goal
 
@@ -35,7 +35,7 @@ loop-sitter-preserved c =
     let x = c.sitter-item.result in
     record {
       stands = stands_next c.row.new.self xs i x c.loop-sitter-test.true
-          (subst (λ y. StandsFor c.row.new.self (map pair_of (take i xs) ++ pair_of y ∷ []))
+          (subst (λ y. RepresentsPairs c.row.new.self (map pair_of (take i xs) ++ pair_of y ∷ []))
           c.sitter-item.is
           (c.in_ok-row.ensures.ok (map pair_of (take i xs)) c.loop-sitter.invariant.stands));
       is = record {
@@ -48,7 +48,7 @@ loop-sitter-preserved c =
 
 pub returns : goal.returns
 returns c = record {
-  stands = subst (λ ss. StandsFor c.loop-sitter.fold (map pair_of ss))
+  stands = subst (λ ss. RepresentsPairs c.loop-sitter.fold (map pair_of ss))
       (take_all c.loop-sitter.sitter-index c.args.sitters.now c.loop-sitter-test.false)
       c.loop-sitter.invariant.stands;
   of = c.loop-sitter.invariant.is;

@@ -1,6 +1,6 @@
 use Rattle.std.proofs.Common.{◌≡◌, ◌∙◌, ◌+◌, None, true, false, add-zero, ap, ap₂, sym}
 use Rattle.exam_model.specs.Timetable.{place_of}
-use Rattle.exam_score.specs.Touched.{further_mixed, is_touched, mixed_where}
+use Rattle.exam_score.specs.Touched.{further_mixed, is_touched, mixed_cost_if}
 use Rattle.exam_score.proofs.FurtherLemmas.{earlier_place, later_place}
 use Rattle.exam_score.proofs.touched.exam_mixed.Goals as goal
 
@@ -12,7 +12,7 @@ returns-in_default-clause-further c =
     let touched = is_touched others.edited.now others.earlier.now others.later.now in
     let none : place_of others.later.now c.args.exam ≡ None =
     sym c.place_in.ensures ∙ c.in_default.is in
-    ap (λ n. mixed_where I T touched + n)
+    ap (λ n. mixed_cost_if I T touched + n)
     (c.place_mixed-first.ensures.further
     ∙ ap (further_mixed I T touched) c.place_in-earlier.ensures)
     ∙ earlier_place I T c.args.exam others.edited.now others.earlier.now others.later.now none
@@ -23,7 +23,7 @@ returns-then-stands_at-clause-further c =
     let T = c.args.timetable.now in
     let others = c.args.others.now in
     let touched = is_touched others.edited.now others.earlier.now others.later.now in
-    ap (λ n. mixed_where I T touched + n)
+    ap (λ n. mixed_cost_if I T touched + n)
     (c.place_mixed-first.ensures.further ∙ ap (further_mixed I T touched) c.place_in-earlier.ensures
     ∙ sym (add-zero _))
     ∙ later_place I T c.args.exam others.edited.now others.earlier.now others.later.now
@@ -36,7 +36,7 @@ returns-clause-further c =
     let T = c.args.timetable.now in
     let others = c.args.others.now in
     let touched = is_touched others.edited.now others.earlier.now others.later.now in
-    ap₂ (λ m n. mixed_where I T touched + (m + n))
+    ap₂ (λ m n. mixed_cost_if I T touched + (m + n))
     (c.place_mixed-first.ensures.further
     ∙ ap (further_mixed I T touched) c.place_in-earlier.ensures)
     c.place_mixed.ensures.further

@@ -1,5 +1,5 @@
 use Rattle.std.proofs.Common.{◌≡◌, ◌≤◌, ℕ, take, sum_by}
-use Rattle.exam_score.specs.Tallies.{tally_beside}
+use Rattle.exam_score.specs.Tallies.{cost_with_tally}
 use Rattle.exam_score.specs.TallyLinks.{IsOnWay}
 use Rattle.exam_score.specs.declared.tallies.Tally.{Tally}
 use Rattle.exam_score.proofs.walk.own_place.Given as goal
@@ -10,8 +10,8 @@ invariant-loop-other l = record {
   within : l.next ≤ l.place;
   way : IsOnWay l.tallies l.next l.student;
   sums : (cost : ℕ → ℕ → ℕ) (y : Tally) → y.student ≡ l.student
-      → sum_by (tally_beside cost y) (take l.place l.tallies)
-      ≡ sum_by (tally_beside cost y) (take l.next l.tallies);
+      → sum_by (cost_with_tally cost y) (take l.place l.tallies)
+      ≡ sum_by (cost_with_tally cost y) (take l.next l.tallies);
 }
 
 abbrev pub decreases-loop-other : goal.decreases-loop-other

@@ -8,8 +8,8 @@ use Rattle.exam_score.proofs.CostLemmas.{row_cost-small, day_cost-small}
 use Rattle.exam_score.proofs.WalkLemmas.{not_later, beside_small, pairs_more, pairs_same, small_more, small_same, small_within}
 use Rattle.exam_score.proofs.walk.sums_of_pairs.Goals as goal
 
-pub along-more-requires : goal.along-more-requires
-along-more-requires c =
+pub cost_along_line-more-requires : goal.cost_along_line-more-requires
+cost_along_line-more-requires c =
     let xs = c.args.tallies.now in
     let y = c.index-tallies-at.result in
     let at = c.loop-at.at in
@@ -60,67 +60,73 @@ loop-at-preserved c =
     let y = c.index-tallies-at.result in
     let at = c.loop-at.at in
     record {
-      row = ap (λ n. c.loop-at.sums.row + c.along-more.result.row * n) c.from-exams.ensures
+      row = ap (λ n. c.loop-at.sums.row + c.cost_along_line-more.result.row * n)
+          c.from-exams.ensures
           ∙ pairs_more (row_cost I.periods I.weights) xs at c.loop-at.sums.row
-          c.along-more.result.row y c.loop-at-test.true c.index-tallies-at.is
+          c.cost_along_line-more.result.row y c.loop-at-test.true c.index-tallies-at.is
           c.loop-at.invariant.row
-          (c.along-more.ensures.row
+          (c.cost_along_line-more.ensures.row
           ∙ sym (c.in-Some.ensures.place.sums (row_cost I.periods I.weights) y refl
           (λ q lt. ap (λ z. z.row) (first.free.each q lt))));
-      day = ap (λ n. c.loop-at.sums.day + c.along-more.result.day * n) c.from-exams.ensures
+      day = ap (λ n. c.loop-at.sums.day + c.cost_along_line-more.result.day * n)
+          c.from-exams.ensures
           ∙ pairs_more (day_cost I.periods I.weights) xs at c.loop-at.sums.day
-          c.along-more.result.day y c.loop-at-test.true c.index-tallies-at.is
+          c.cost_along_line-more.result.day y c.loop-at-test.true c.index-tallies-at.is
           c.loop-at.invariant.day
-          (c.along-more.ensures.day
+          (c.cost_along_line-more.ensures.day
           ∙ sym (c.in-Some.ensures.place.sums (day_cost I.periods I.weights) y refl
           (λ q lt. ap (λ z. z.day) (first.free.each q lt))));
-      spread = ap (λ n. c.loop-at.sums.spread + c.along-more.result.spread * n)
+      spread = ap (λ n. c.loop-at.sums.spread + c.cost_along_line-more.result.spread * n)
           c.from-exams.ensures
           ∙ pairs_more (spread_cost I.periods I.weights) xs at c.loop-at.sums.spread
-          c.along-more.result.spread y c.loop-at-test.true c.index-tallies-at.is
+          c.cost_along_line-more.result.spread y c.loop-at-test.true c.index-tallies-at.is
           c.loop-at.invariant.spread
-          (c.along-more.ensures.spread
+          (c.cost_along_line-more.ensures.spread
           ∙ sym (c.in-Some.ensures.place.sums (spread_cost I.periods I.weights) y refl
           (λ q lt. ap (λ z. z.spread) (first.free.each q lt))));
       small_row =
-          let small : c.along-more.result.row ≤ 20000000000 =
-          rw c.along-more.ensures.row
+          let small : c.cost_along_line-more.result.row ≤ 20000000000 =
+          rw c.cost_along_line-more.ensures.row
           (beside_small (row_cost I.periods I.weights) xs
           y c.in-Some.place (row_cost-small I c.periods-kept.ensures.kept) c.requires.few) in
-          let most : c.loop-at.sums.row + c.along-more.result.row * y.exams ≤ row_count
+          let most : c.loop-at.sums.row + c.cost_along_line-more.result.row * y.exams ≤ row_count
           (take (at + 1) xs) * 20000000000
-          = small_more xs at c.loop-at.sums.row c.along-more.result.row y c.loop-at-test.true
+          = small_more xs at c.loop-at.sums.row c.cost_along_line-more.result.row y
+          c.loop-at-test.true
           c.index-tallies-at.is c.loop-at.invariant.small_row small in
-          let same : c.along-more.result.row * c.from-exams.result
-          ≡ c.along-more.result.row * y.exams =
-          ap (λ n. c.along-more.result.row * n) c.from-exams.ensures in
+          let same : c.cost_along_line-more.result.row * c.from-exams.result
+          ≡ c.cost_along_line-more.result.row * y.exams =
+          ap (λ n. c.cost_along_line-more.result.row * n) c.from-exams.ensures in
           omega arith;
       small_day =
-          let small : c.along-more.result.day ≤ 20000000000 =
-          rw c.along-more.ensures.day
+          let small : c.cost_along_line-more.result.day ≤ 20000000000 =
+          rw c.cost_along_line-more.ensures.day
           (beside_small (day_cost I.periods I.weights) xs
           y c.in-Some.place (day_cost-small I c.periods-kept.ensures.kept) c.requires.few) in
-          let most : c.loop-at.sums.day + c.along-more.result.day * y.exams ≤ row_count
+          let most : c.loop-at.sums.day + c.cost_along_line-more.result.day * y.exams ≤ row_count
           (take (at + 1) xs) * 20000000000
-          = small_more xs at c.loop-at.sums.day c.along-more.result.day y c.loop-at-test.true
+          = small_more xs at c.loop-at.sums.day c.cost_along_line-more.result.day y
+          c.loop-at-test.true
           c.index-tallies-at.is c.loop-at.invariant.small_day small in
-          let same : c.along-more.result.day * c.from-exams.result
-          ≡ c.along-more.result.day * y.exams =
-          ap (λ n. c.along-more.result.day * n) c.from-exams.ensures in
+          let same : c.cost_along_line-more.result.day * c.from-exams.result
+          ≡ c.cost_along_line-more.result.day * y.exams =
+          ap (λ n. c.cost_along_line-more.result.day * n) c.from-exams.ensures in
           omega arith;
       small_spread =
-          let small : c.along-more.result.spread ≤ 20000000000 =
-          rw c.along-more.ensures.spread
+          let small : c.cost_along_line-more.result.spread ≤ 20000000000 =
+          rw c.cost_along_line-more.ensures.spread
           (beside_small (spread_cost I.periods I.weights) xs
           y c.in-Some.place (λ p q. omega (arith, spread_cost-small I.periods I.weights p q))
           c.requires.few) in
-          let most : c.loop-at.sums.spread + c.along-more.result.spread * y.exams ≤ row_count
+          let most : c.loop-at.sums.spread + c.cost_along_line-more.result.spread * y.exams
+          ≤ row_count
           (take (at + 1) xs) * 20000000000
-          = small_more xs at c.loop-at.sums.spread c.along-more.result.spread y c.loop-at-test.true
+          = small_more xs at c.loop-at.sums.spread c.cost_along_line-more.result.spread y
+          c.loop-at-test.true
           c.index-tallies-at.is c.loop-at.invariant.small_spread small in
-          let same : c.along-more.result.spread * c.from-exams.result
-          ≡ c.along-more.result.spread * y.exams =
-          ap (λ n. c.along-more.result.spread * n) c.from-exams.ensures in
+          let same : c.cost_along_line-more.result.spread * c.from-exams.result
+          ≡ c.cost_along_line-more.result.spread * y.exams =
+          ap (λ n. c.cost_along_line-more.result.spread * n) c.from-exams.ensures in
           omega arith;
     }
 
@@ -130,19 +136,20 @@ overflow_add-sums c =
     let xs = c.args.tallies.now in
     let y = c.index-tallies-at.result in
     let at = c.loop-at.at in
-    let small : c.along-more.result.row ≤ 20000000000 =
-    rw c.along-more.ensures.row
+    let small : c.cost_along_line-more.result.row ≤ 20000000000 =
+    rw c.cost_along_line-more.ensures.row
     (beside_small (row_cost I.periods I.weights) xs
     y c.in-Some.place (row_cost-small I c.periods-kept.ensures.kept) c.requires.few) in
-    let most : c.loop-at.sums.row + c.along-more.result.row * y.exams ≤ row_count
+    let most : c.loop-at.sums.row + c.cost_along_line-more.result.row * y.exams ≤ row_count
     (take (at + 1) xs) * 20000000000
-    = small_more xs at c.loop-at.sums.row c.along-more.result.row y c.loop-at-test.true
+    = small_more xs at c.loop-at.sums.row c.cost_along_line-more.result.row y c.loop-at-test.true
     c.index-tallies-at.is c.loop-at.invariant.small_row small in
-    let same : c.along-more.result.row * c.from-exams.result ≡ c.along-more.result.row * y.exams =
-    ap (λ n. c.along-more.result.row * n) c.from-exams.ensures in
+    let same : c.cost_along_line-more.result.row * c.from-exams.result
+    ≡ c.cost_along_line-more.result.row * y.exams =
+    ap (λ n. c.cost_along_line-more.result.row * n) c.from-exams.ensures in
     let within =
     small_within xs (at + 1)
-    (c.loop-at.sums.row + c.along-more.result.row * y.exams) c.requires.few most in
+    (c.loop-at.sums.row + c.cost_along_line-more.result.row * y.exams) c.requires.few most in
     omega arith
 
 pub overflow_add-sums-in-loop-at : goal.overflow_add-sums-in-loop-at
@@ -151,19 +158,20 @@ overflow_add-sums-in-loop-at c =
     let xs = c.args.tallies.now in
     let y = c.index-tallies-at.result in
     let at = c.loop-at.at in
-    let small : c.along-more.result.day ≤ 20000000000 =
-    rw c.along-more.ensures.day
+    let small : c.cost_along_line-more.result.day ≤ 20000000000 =
+    rw c.cost_along_line-more.ensures.day
     (beside_small (day_cost I.periods I.weights) xs
     y c.in-Some.place (day_cost-small I c.periods-kept.ensures.kept) c.requires.few) in
-    let most : c.loop-at.sums.day + c.along-more.result.day * y.exams ≤ row_count
+    let most : c.loop-at.sums.day + c.cost_along_line-more.result.day * y.exams ≤ row_count
     (take (at + 1) xs) * 20000000000
-    = small_more xs at c.loop-at.sums.day c.along-more.result.day y c.loop-at-test.true
+    = small_more xs at c.loop-at.sums.day c.cost_along_line-more.result.day y c.loop-at-test.true
     c.index-tallies-at.is c.loop-at.invariant.small_day small in
-    let same : c.along-more.result.day * c.from-exams.result ≡ c.along-more.result.day * y.exams =
-    ap (λ n. c.along-more.result.day * n) c.from-exams.ensures in
+    let same : c.cost_along_line-more.result.day * c.from-exams.result
+    ≡ c.cost_along_line-more.result.day * y.exams =
+    ap (λ n. c.cost_along_line-more.result.day * n) c.from-exams.ensures in
     let within =
     small_within xs (at + 1)
-    (c.loop-at.sums.day + c.along-more.result.day * y.exams) c.requires.few most in
+    (c.loop-at.sums.day + c.cost_along_line-more.result.day * y.exams) c.requires.few most in
     omega arith
 
 pub overflow_add-sums-in-loop-at-2 : goal.overflow_add-sums-in-loop-at-2
@@ -172,20 +180,21 @@ overflow_add-sums-in-loop-at-2 c =
     let xs = c.args.tallies.now in
     let y = c.index-tallies-at.result in
     let at = c.loop-at.at in
-    let small : c.along-more.result.spread ≤ 20000000000 =
-    rw c.along-more.ensures.spread
+    let small : c.cost_along_line-more.result.spread ≤ 20000000000 =
+    rw c.cost_along_line-more.ensures.spread
     (beside_small (spread_cost I.periods I.weights) xs
     y c.in-Some.place (λ p q. omega (arith, spread_cost-small I.periods I.weights p q)) c.requires.few) in
-    let most : c.loop-at.sums.spread + c.along-more.result.spread * y.exams ≤ row_count
+    let most : c.loop-at.sums.spread + c.cost_along_line-more.result.spread * y.exams ≤ row_count
     (take (at + 1) xs) * 20000000000
-    = small_more xs at c.loop-at.sums.spread c.along-more.result.spread y c.loop-at-test.true
+    = small_more xs at c.loop-at.sums.spread c.cost_along_line-more.result.spread y
+    c.loop-at-test.true
     c.index-tallies-at.is c.loop-at.invariant.small_spread small in
-    let same : c.along-more.result.spread * c.from-exams.result
-    ≡ c.along-more.result.spread * y.exams =
-    ap (λ n. c.along-more.result.spread * n) c.from-exams.ensures in
+    let same : c.cost_along_line-more.result.spread * c.from-exams.result
+    ≡ c.cost_along_line-more.result.spread * y.exams =
+    ap (λ n. c.cost_along_line-more.result.spread * n) c.from-exams.ensures in
     let within =
     small_within xs (at + 1)
-    (c.loop-at.sums.spread + c.along-more.result.spread * y.exams) c.requires.few most in
+    (c.loop-at.sums.spread + c.cost_along_line-more.result.spread * y.exams) c.requires.few most in
     omega arith
 
 pub overflow_mul-sums : goal.overflow_mul-sums
@@ -194,19 +203,20 @@ overflow_mul-sums c =
     let xs = c.args.tallies.now in
     let y = c.index-tallies-at.result in
     let at = c.loop-at.at in
-    let small : c.along-more.result.row ≤ 20000000000 =
-    rw c.along-more.ensures.row
+    let small : c.cost_along_line-more.result.row ≤ 20000000000 =
+    rw c.cost_along_line-more.ensures.row
     (beside_small (row_cost I.periods I.weights) xs
     y c.in-Some.place (row_cost-small I c.periods-kept.ensures.kept) c.requires.few) in
-    let most : c.loop-at.sums.row + c.along-more.result.row * y.exams ≤ row_count
+    let most : c.loop-at.sums.row + c.cost_along_line-more.result.row * y.exams ≤ row_count
     (take (at + 1) xs) * 20000000000
-    = small_more xs at c.loop-at.sums.row c.along-more.result.row y c.loop-at-test.true
+    = small_more xs at c.loop-at.sums.row c.cost_along_line-more.result.row y c.loop-at-test.true
     c.index-tallies-at.is c.loop-at.invariant.small_row small in
-    let same : c.along-more.result.row * c.from-exams.result ≡ c.along-more.result.row * y.exams =
-    ap (λ n. c.along-more.result.row * n) c.from-exams.ensures in
+    let same : c.cost_along_line-more.result.row * c.from-exams.result
+    ≡ c.cost_along_line-more.result.row * y.exams =
+    ap (λ n. c.cost_along_line-more.result.row * n) c.from-exams.ensures in
     let within =
     small_within xs (at + 1)
-    (c.loop-at.sums.row + c.along-more.result.row * y.exams) c.requires.few most in
+    (c.loop-at.sums.row + c.cost_along_line-more.result.row * y.exams) c.requires.few most in
     omega arith
 
 pub overflow_mul-sums-in-loop-at : goal.overflow_mul-sums-in-loop-at
@@ -215,19 +225,20 @@ overflow_mul-sums-in-loop-at c =
     let xs = c.args.tallies.now in
     let y = c.index-tallies-at.result in
     let at = c.loop-at.at in
-    let small : c.along-more.result.day ≤ 20000000000 =
-    rw c.along-more.ensures.day
+    let small : c.cost_along_line-more.result.day ≤ 20000000000 =
+    rw c.cost_along_line-more.ensures.day
     (beside_small (day_cost I.periods I.weights) xs
     y c.in-Some.place (day_cost-small I c.periods-kept.ensures.kept) c.requires.few) in
-    let most : c.loop-at.sums.day + c.along-more.result.day * y.exams ≤ row_count
+    let most : c.loop-at.sums.day + c.cost_along_line-more.result.day * y.exams ≤ row_count
     (take (at + 1) xs) * 20000000000
-    = small_more xs at c.loop-at.sums.day c.along-more.result.day y c.loop-at-test.true
+    = small_more xs at c.loop-at.sums.day c.cost_along_line-more.result.day y c.loop-at-test.true
     c.index-tallies-at.is c.loop-at.invariant.small_day small in
-    let same : c.along-more.result.day * c.from-exams.result ≡ c.along-more.result.day * y.exams =
-    ap (λ n. c.along-more.result.day * n) c.from-exams.ensures in
+    let same : c.cost_along_line-more.result.day * c.from-exams.result
+    ≡ c.cost_along_line-more.result.day * y.exams =
+    ap (λ n. c.cost_along_line-more.result.day * n) c.from-exams.ensures in
     let within =
     small_within xs (at + 1)
-    (c.loop-at.sums.day + c.along-more.result.day * y.exams) c.requires.few most in
+    (c.loop-at.sums.day + c.cost_along_line-more.result.day * y.exams) c.requires.few most in
     omega arith
 
 pub overflow_mul-sums-in-loop-at-2 : goal.overflow_mul-sums-in-loop-at-2
@@ -236,18 +247,19 @@ overflow_mul-sums-in-loop-at-2 c =
     let xs = c.args.tallies.now in
     let y = c.index-tallies-at.result in
     let at = c.loop-at.at in
-    let small : c.along-more.result.spread ≤ 20000000000 =
-    rw c.along-more.ensures.spread
+    let small : c.cost_along_line-more.result.spread ≤ 20000000000 =
+    rw c.cost_along_line-more.ensures.spread
     (beside_small (spread_cost I.periods I.weights) xs
     y c.in-Some.place (λ p q. omega (arith, spread_cost-small I.periods I.weights p q)) c.requires.few) in
-    let most : c.loop-at.sums.spread + c.along-more.result.spread * y.exams ≤ row_count
+    let most : c.loop-at.sums.spread + c.cost_along_line-more.result.spread * y.exams ≤ row_count
     (take (at + 1) xs) * 20000000000
-    = small_more xs at c.loop-at.sums.spread c.along-more.result.spread y c.loop-at-test.true
+    = small_more xs at c.loop-at.sums.spread c.cost_along_line-more.result.spread y
+    c.loop-at-test.true
     c.index-tallies-at.is c.loop-at.invariant.small_spread small in
-    let same : c.along-more.result.spread * c.from-exams.result
-    ≡ c.along-more.result.spread * y.exams =
-    ap (λ n. c.along-more.result.spread * n) c.from-exams.ensures in
+    let same : c.cost_along_line-more.result.spread * c.from-exams.result
+    ≡ c.cost_along_line-more.result.spread * y.exams =
+    ap (λ n. c.cost_along_line-more.result.spread * n) c.from-exams.ensures in
     let within =
     small_within xs (at + 1)
-    (c.loop-at.sums.spread + c.along-more.result.spread * y.exams) c.requires.few most in
+    (c.loop-at.sums.spread + c.cost_along_line-more.result.spread * y.exams) c.requires.few most in
     omega arith

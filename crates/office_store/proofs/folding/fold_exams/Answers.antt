@@ -1,11 +1,11 @@
 use Rattle.std.proofs.Common.{◌∙◌, [], ◌∷◌, ◌++◌, Some, append-nil, refl, subst, sym, take, take_all}
-use Rattle.exam_score.specs.Folds.{CanFollow, StandsFor, pairs_sat}
+use Rattle.exam_score.specs.Folds.{CanFollow, RepresentsPairs, pairs_sat}
 use Rattle.office_store.proofs.ConcernedLemmas.{can_follow, has_room, one_more}
 use Rattle.office_store.proofs.folding.fold_exams.Goals as goal
 
 pub loop-exam-init : goal.loop-exam-init
 loop-exam-init c = record {
-  stands = λ pairs h. subst (StandsFor c.args.fold.now) (sym (append-nil pairs)) h;
+  stands = λ pairs h. subst (RepresentsPairs c.args.fold.now) (sym (append-nil pairs)) h;
   of = record { session = refl; before = refl; after = refl; exams = refl };
 }
 
@@ -32,7 +32,7 @@ loop-exam-preserved c =
     record {
       stands = λ pairs h. one_more c.row.new.self pairs s exams i c.exam-item.result
           c.loop-exam-test.true
-          (subst (λ e. StandsFor c.row.new.self ((pairs ++ pairs_sat (Some s) (take i exams))
+          (subst (λ e. RepresentsPairs c.row.new.self ((pairs ++ pairs_sat (Some s) (take i exams))
           ++ record { exam = e; student = s } ∷ [])) c.exam-item.is
           (c.in_ok-row.ensures.ok _ (c.loop-exam.invariant.stands pairs h)));
       of = record {
@@ -45,6 +45,6 @@ loop-exam-preserved c =
 
 pub returns-clause-stands : goal.returns-clause-stands
 returns-clause-stands c pairs h =
-    subst (λ es. StandsFor c.loop-exam.fold (pairs ++ pairs_sat (Some c.args.student) es))
+    subst (λ es. RepresentsPairs c.loop-exam.fold (pairs ++ pairs_sat (Some c.args.student) es))
     (take_all c.loop-exam.exam-index c.args.exams.now c.loop-exam-test.false)
     (c.loop-exam.invariant.stands pairs h)

@@ -1,7 +1,7 @@
 use Rattle.std.proofs.Common.{◌≡◌, ◌∙◌, ◌+◌, [], ◌∷◌, ◌++◌, Some, sym, ap, subst, true≢false}
 use Rattle.exam_model.specs.Pairs.{Pair}
 use Rattle.exam_score.specs.Penalty.{PersonalPenalty, plus}
-use Rattle.exam_score.specs.Folds.{CanFollow, Folded, StandsFor, pairs_sat}
+use Rattle.exam_score.specs.Folds.{CanFollow, Folded, RepresentsPairs, pairs_sat}
 use Rattle.exam_score.specs.EditedCosts.{personal_at, personal_sum}
 use Rattle.exam_score.proofs.FoldLemmas.{none_open, stands_on, stands_turn, sum_of_student}
 use Rattle.exam_score.proofs.edit_fold.EditFold.row.Goals as goal
@@ -16,12 +16,13 @@ returns-then-is_open-clause-ok c = λ pairs h.
     let items : c.push.new.self.items ≡ f.exams.items ++ c.args.exam ∷ [] =
     c.in_ok-push.ensures.items in
     let more = stands_on fold pairs c.args.student c.args.exam f.exams.items
-    (subst (λ v. StandsFor v pairs) (sym value) h)
+    (subst (λ v. RepresentsPairs v pairs) (sym value) h)
     (ap (λ o. pairs_sat o f.exams.items) own)
-    (none_open f.count f.student f.exams.items c.self.invariant.started c.self.invariant.goes_on)
+    (none_open f.count f.student f.exams.items c.self.invariant.started
+    c.self.invariant.continues_front)
     (subst (λ v. CanFollow v (record { exam = c.args.exam; student = c.args.student }))
     (sym value) c.requires.follows) in
-    subst (λ ps. StandsFor (record fold { count = f.count + 1; current = ps })
+    subst (λ ps. RepresentsPairs (record fold { count = f.count + 1; current = ps })
     (pairs ++ record { exam = c.args.exam; student = c.args.student } ∷ []))
     (ap (λ o. pairs_sat o (f.exams.items ++ c.args.exam ∷ [])) (sym own)
     ∙ ap (λ es. pairs_sat f.student es) (sym items)) more
@@ -51,23 +52,25 @@ returns-clause-ok c = λ pairs h.
     λ is. true≢false (sym (c.is_open.ensures.1 is) ∙ c.if-is_open.false) in
     let more = stands_turn fold pairs c.args.student c.args.exam f.student f.exams.items
     c.personal_at-before.result c.personal_at-after.result
-    (subst (λ v. StandsFor v pairs) (sym value) h) (λ _. pairs_sat f.student f.exams.items) other
-    (none_open f.count f.student f.exams.items c.self.invariant.started c.self.invariant.goes_on)
+    (subst (λ v. RepresentsPairs v pairs) (sym value) h)
+    (λ _. pairs_sat f.student f.exams.items) other
+    (none_open f.count f.student f.exams.items c.self.invariant.started
+    c.self.invariant.continues_front)
     (subst (λ v. CanFollow v (record { exam = c.args.exam; student = c.args.student }))
     (sym value) c.requires.follows) before after in
     let pair : Pair = record { exam = c.args.exam; student = c.args.student } in
     subst (λ (p : PersonalPenalty).
-    StandsFor (record
+    RepresentsPairs (record
     fold { count = f.count + 1; before = c.plus-self-inside.result; after = p; current = pairs_sat (Some c.args.student) c.push-2.new.self.items })
     (pairs ++ pair ∷ []))
     (sym c.plus-self-inside-2.ensures)
     (subst (λ (p : PersonalPenalty).
-    StandsFor (record
+    RepresentsPairs (record
     fold { count = f.count + 1; before = p; after = plus fold.after c.personal_at-after.result; current = pairs_sat (Some c.args.student) c.push-2.new.self.items })
     (pairs ++ pair ∷ []))
     (sym c.plus-self-inside.ensures)
     (subst (λ es.
-    StandsFor (record
+    RepresentsPairs (record
     fold { count = f.count + 1; before = plus fold.before c.personal_at-before.result; after = plus fold.after c.personal_at-after.result; current = pairs_sat (Some c.args.student) es })
     (pairs ++ pair ∷ []))
     (sym items) more))

@@ -4,7 +4,7 @@ use Rattle.exam_score.specs.TallyLinks.{slot_of_student}
 use Rattle.exam_score.proofs.CostLemmas.{night_cost-small}
 use Rattle.exam_score.proofs.NightLemmas.{night_apart}
 use Rattle.exam_score.proofs.WalkLemmas.{link_of, link_below, slot_on, walk_starts, walk_on, walk_ends, beside_small}
-use Rattle.exam_score.proofs.nights.nights_beside.Goals as goal
+use Rattle.exam_score.proofs.nights.nights_with_exam.Goals as goal
 
 pub loop-other-init : goal.loop-other-init
 loop-other-init c =

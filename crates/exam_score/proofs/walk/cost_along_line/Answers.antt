@@ -5,7 +5,7 @@ use Rattle.exam_score.specs.CostOrder.{spread_cost-small}
 use Rattle.exam_score.specs.declared.tallies.Tally.{Tally}
 use Rattle.exam_score.proofs.CostLemmas.{row_cost-small, day_cost-small}
 use Rattle.exam_score.proofs.WalkLemmas.{link_below, on_way, own_on, beside_small}
-use Rattle.exam_score.proofs.walk.along.Goals as goal
+use Rattle.exam_score.proofs.walk.cost_along_line.Goals as goal
 
 pub overflow_add-sums : goal.overflow_add-sums
 overflow_add-sums c =

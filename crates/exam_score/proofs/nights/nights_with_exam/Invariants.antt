@@ -1,9 +1,9 @@
 use Rattle.std.proofs.Common.{◌≡◌, ◌≤◌, ◌<◌, ◌+◌, ◌-◌, sum_by, take, get_or}
 use Rattle.exam_score.specs.Cost.{night_cost}
-use Rattle.exam_score.specs.Tallies.{tally_beside}
+use Rattle.exam_score.specs.Tallies.{cost_with_tally}
 use Rattle.exam_score.specs.TallyLinks.{slot_of_student, AreLinked}
 use Rattle.exam_score.specs.declared.tallies.Tally.{Tally}
-use Rattle.exam_score.proofs.nights.nights_beside.Given as goal
+use Rattle.exam_score.proofs.nights.nights_with_exam.Given as goal
 
 -- the sum and the rest of the slot add up to the whole
 abbrev pub invariant-loop-other : goal.invariant-loop-other
@@ -14,9 +14,9 @@ invariant-loop-other l = record {
       → slot_of_student linked.slots (get_or l.tallies (l.next - 1) d).student
       ≡ slot_of_student linked.slots l.tally.student;
   night : l.total + sum_by
-      (tally_beside (night_cost l.instance.periods l.instance.weights) l.tally)
+      (cost_with_tally (night_cost l.instance.periods l.instance.weights) l.tally)
       (take l.next l.tallies)
-      ≡ sum_by (tally_beside (night_cost l.instance.periods l.instance.weights) l.tally)
+      ≡ sum_by (cost_with_tally (night_cost l.instance.periods l.instance.weights) l.tally)
       (take l.at l.tallies);
 }
 
