@@ -28,7 +28,7 @@ use Rattle.exam_publish.specs.AddUp.{AddUpTo}
 use Rattle.exam_publish.specs.Changed.{rows_of, students_of}
 use Rattle.exam_publish.specs.Rows.{AreNumbered, ArePublishedRows, RowBefore, IsAtExam, enrolled_in}
 use Rattle.exam_publish.specs.Shares.{share_of, student_shares, exam_shares, period_share, period_shares, is_in_period, is_in_room, room_share, room_shares, shares_of}
-use Rattle.exam_publish.proofs.RowLemmas.{pairs_in, are_enrolments, are_students, her_periods}
+use Rattle.exam_publish.proofs.RowLemmas.{pairs_in, are_enrolments, are_students, candidate_periods}
 use Rattle.exam_publish.proofs.PlaceLemmas.{rows_exist}
 
 -- ---- sums over the numbers of a list
@@ -149,7 +149,7 @@ student_sum cost I rows T known are numbered =
     ∙ sum_by-same _ _
     (λ s. ap (candidate_cost cost)
     (ap (λ ps. periods_of ps (period_of T) s) pairs
-    ∙ her_periods T rows s (recursion_from_All (IsAtExam T) rows are.at_exams)))
+    ∙ candidate_periods T rows s (recursion_from_All (IsAtExam T) rows are.at_exams)))
     (students_of rows))
 
 -- ---- all of it

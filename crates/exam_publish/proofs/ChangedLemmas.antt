@@ -8,13 +8,13 @@ use Rattle.exam_model.specs.Pairs.{Pair, ComesBefore}
 use Rattle.exam_model.proofs.SumLemmas.{IsChain, chain_from_index, each_weaker}
 use Rattle.exam_model.proofs.SameSet.{same_list}
 use Rattle.exam_publish.specs.declared.seat_row.SeatRow.{SeatRow}
-use Rattle.exam_publish.specs.Rows.{comes_before, RowBefore, RowsInOrder, row_pair}
+use Rattle.exam_publish.specs.Rows.{is_pair_before, RowBefore, RowsInOrder, row_pair}
 use Rattle.exam_publish.specs.Changed.{rows_of, has_row, same_row, same_rows, is_changed, students_of, changed_students}
 use Rattle.exam_publish.proofs.ListLemmas.{each_filter, chain_filter, any_map, has_filter, has_ascending, chain_ascending, ascending_from_chain}
 
 -- ---- the order of rows
 
-pub before_from_test : (p q : Pair) → comes_before p q ≡ true → ComesBefore p q
+pub before_from_test : (p q : Pair) → is_pair_before p q ≡ true → ComesBefore p q
 before_from_test p q h = grind (arith, nat_tests, h)
 
 before_trans : (p q r : Pair) → ComesBefore p q → ComesBefore q r → ComesBefore p r
@@ -120,7 +120,7 @@ has_push found t s = list_any-append (λ x. eqb x s) found (t ∷ [])
 pub step_left : {old new left right : List SeatRow} {found more : List ℕ} (r q : SeatRow)
     (rs qs : List SeatRow)
     → IsCompared old new left right found
-    → left ≡ r ∷ rs → right ≡ q ∷ qs → comes_before (row_pair r) (row_pair q) ≡ true
+    → left ≡ r ∷ rs → right ≡ q ∷ qs → is_pair_before (row_pair r) (row_pair q) ≡ true
     → more ≡ found ++ r.student ∷ []
     → IsCompared old new rs right more
 step_left {old} {new} {left} {right} {found} {more} r q rs qs was l m lt is =
@@ -142,7 +142,7 @@ step_left {old} {new} {left} {right} {found} {more} r q rs qs was l m lt is =
 pub step_right : {old new left right : List SeatRow} {found more : List ℕ} (r q : SeatRow)
     (rs qs : List SeatRow)
     → IsCompared old new left right found
-    → left ≡ r ∷ rs → right ≡ q ∷ qs → comes_before (row_pair q) (row_pair r) ≡ true
+    → left ≡ r ∷ rs → right ≡ q ∷ qs → is_pair_before (row_pair q) (row_pair r) ≡ true
     → more ≡ found ++ q.student ∷ []
     → IsCompared old new left qs more
 step_right {old} {new} {left} {right} {found} {more} r q rs qs was l m lt is =

@@ -13,8 +13,8 @@ use Rattle.exam_publish.specs.declared.held.Held.{Held}
 use Rattle.exam_publish.specs.declared.seat_row.SeatRow.{SeatRow}
 use Rattle.exam_publish.specs.Rows.{row_place}
 use Rattle.exam_publish.specs.Seating.{AreHeld, IsNextFree, IsLast, AreLast}
-use Rattle.exam_publish.specs.Seats.{seats_at, least_free, new_row, rows_beside, rows_for}
-use Rattle.exam_publish.specs.Entrants.{kept_rows}
+use Rattle.exam_publish.specs.Seats.{seats_at, least_free, new_row, rows_after_entrants, rows_for}
+use Rattle.exam_publish.specs.Entrants.{old_rows}
 use Rattle.exam_publish.proofs.FreeLemmas.{IsNext, is_next, last_here, last_there, le_taken, length_seats}
 use Rattle.exam_publish.proofs.SeatLemmas.{same_place, length_filter_map}
 use Rattle.exam_publish.proofs.TallyLemmas.{zeros}
@@ -23,20 +23,20 @@ use Rattle.exam_publish.proofs.TallyLemmas.{zeros}
 pub record AreGiven (xs : List Entrant) (periods rooms i : ℕ) (last : List ℕ)
     (rows : List SeatRow) : Type 0 where
   pub standing : List SeatRow
-  pub few : length standing ≤ length (kept_rows xs) + i
-  pub seated : rows ++ rows_beside standing (drop i xs) ≡ rows_for xs
-  pub table : AreLast (kept_rows xs) standing periods rooms last
+  pub few : length standing ≤ length (old_rows xs) + i
+  pub seated : rows ++ rows_after_entrants standing (drop i xs) ≡ rows_for xs
+  pub table : AreLast (old_rows xs) standing periods rooms last
 
 pub none_given : (xs : List Entrant) (periods rooms n : ℕ) (last : List ℕ) (rows : List SeatRow)
     → last ≡ replicate n 0 → n ≡ periods * rooms → rows ≡ [] → AreGiven xs periods rooms 0 last rows
 none_given xs periods rooms n last rows is same none = record {
-  standing = kept_rows xs;
+  standing = old_rows xs;
   few = omega arith;
-  seated = ap (λ rs. rs ++ rows_beside (kept_rows xs) xs) none;
+  seated = ap (λ rs. rs ++ rows_after_entrants (old_rows xs) xs) none;
   table = record {
     count = ap length is ∙ length-replicate n 0 ∙ same;
     each = λ at p r.
-        subst (IsLast (kept_rows xs) (kept_rows xs) at)
+        subst (IsLast (old_rows xs) (old_rows xs) at)
         (sym (ap (λ ys. get_or ys (slot_of rooms at) 0) is ∙ zeros n (slot_of rooms at)))
         (record { all = λ k low le. absurd (omega arith); beyond = λ k lt. refl });
   };
@@ -54,11 +54,11 @@ pub kept_given : (xs : List Entrant) (periods rooms i : ℕ) (last : List ℕ)
 kept_given xs periods rooms i last rows more x row was lt is keeps added = record {
   standing = was.standing;
   few = let h = was.few in omega arith;
-  seated = ap (λ rs. rs ++ rows_beside was.standing (drop (i + 1) xs)) added
-      ∙ append_assoc rows (row ∷ []) (rows_beside was.standing (drop (i + 1) xs))
-      ∙ ap (λ rs. rows ++ rs) (sym (ap (rows_beside was.standing) (left xs i x lt is)
+  seated = ap (λ rs. rs ++ rows_after_entrants was.standing (drop (i + 1) xs)) added
+      ∙ append_assoc rows (row ∷ []) (rows_after_entrants was.standing (drop (i + 1) xs))
+      ∙ ap (λ rs. rows ++ rs) (sym (ap (rows_after_entrants was.standing) (left xs i x lt is)
       ∙ ap (λ o. unwrap_or o (new_row was.standing x)
-      ∷ rows_beside (cond (is_some o) was.standing (new_row was.standing x ∷ was.standing))
+      ∷ rows_after_entrants (cond (is_some o) was.standing (new_row was.standing x ∷ was.standing))
       (drop (i + 1) xs))
       keeps))
       ∙ was.seated;
@@ -97,7 +97,7 @@ with_seat x k =
 pub new_given : (xs : List Entrant) (held : List Held) (periods rooms i n b : ℕ) (last : List ℕ)
     (rows more : List SeatRow) (x : Entrant)
     → AreGiven xs periods rooms i last rows
-    → AreHeld (kept_rows xs) held → i < length xs → x ≡ get_or xs i x → x.kept ≡ None
+    → AreHeld (old_rows xs) held → i < length xs → x ≡ get_or xs i x → x.kept ≡ None
     → x.place.period < periods → x.place.room < rooms
     → n ≡ slice_index last (slot_of rooms x.place) → IsNextFree held x.place (n + 1) b
     → more ≡ rows
@@ -108,14 +108,15 @@ new_given xs held periods rooms i n b last rows more x was seats lt is keeps hp 
     record {
       standing = (new_row was.standing x) ∷ was.standing;
       few = let h = was.few in omega arith;
-      seated = ap (λ rs. rs ++ rows_beside ((new_row was.standing x) ∷ was.standing)
+      seated = ap (λ rs. rs ++ rows_after_entrants ((new_row was.standing x) ∷ was.standing)
           (drop (i + 1) xs))
           (added ∙ ap (λ k. rows ++ with_seat x k ∷ []) least)
           ∙ append_assoc rows ((new_row was.standing x) ∷ [])
-          (rows_beside ((new_row was.standing x) ∷ was.standing) (drop (i + 1) xs))
-          ∙ ap (λ rs. rows ++ rs) (sym (ap (rows_beside was.standing) (left xs i x lt is)
+          (rows_after_entrants ((new_row was.standing x) ∷ was.standing) (drop (i + 1) xs))
+          ∙ ap (λ rs. rows ++ rs) (sym (ap (rows_after_entrants was.standing) (left xs i x lt is)
           ∙ ap (λ o. unwrap_or o (new_row was.standing x)
-          ∷ rows_beside (cond (is_some o) was.standing ((new_row was.standing x) ∷ was.standing))
+          ∷ rows_after_entrants (cond (is_some o) was.standing
+          ((new_row was.standing x) ∷ was.standing))
           (drop (i + 1) xs))
           keeps))
           ∙ was.seated;
@@ -125,11 +126,11 @@ new_given xs held periods rooms i n b last rows more x was seats lt is keeps hp 
       };
     }
   where
-    there : IsLast (kept_rows xs) was.standing x.place n
-    there = subst (IsLast (kept_rows xs) was.standing x.place) (sym at_n)
+    there : IsLast (old_rows xs) was.standing x.place n
+    there = subst (IsLast (old_rows xs) was.standing x.place) (sym at_n)
         (was.table.each x.place hp hr)
 
-    behind : IsNext (kept_rows xs) x.place n b
+    behind : IsNext (old_rows xs) x.place n b
     behind = record {
       beyond = let h = next.least in omega arith;
       free = sym (seats.members x.place b) ∙ next.free;
@@ -137,23 +138,23 @@ new_given xs held periods rooms i n b last rows more x was seats lt is keeps hp 
     }
 
     least : b ≡ least_free (seats_at x.place was.standing)
-    least = is_next (kept_rows xs) was.standing x.place n b there behind
+    least = is_next (old_rows xs) was.standing x.place n b there behind
 
     within : slot_of rooms x.place < length last
     within = omega (arith, slot_within periods rooms x.place hp hr, was.table.count)
 
     each : (q : Place) → q.period < periods → q.room < rooms
         → (slot_of rooms q ≡ slot_of rooms x.place) ⊎ (slot_of rooms q ≡ slot_of rooms x.place → ⊥)
-        → IsLast (kept_rows xs) ((new_row was.standing x) ∷ was.standing) q
+        → IsLast (old_rows xs) ((new_row was.standing x) ∷ was.standing) q
         (get_or (slice_set last (slot_of rooms x.place) b) (slot_of rooms q) 0)
     each q qp qr (inl same) =
         let parts = same_from_place q.period q.room x.place.period x.place.room rooms qr hr same in
         let one : x.place ≡ q = (λ i. record { period = sym parts.0 i; room = sym parts.1 i }) in
-        subst (IsLast (kept_rows xs) ((new_row was.standing x) ∷ was.standing) q)
+        subst (IsLast (old_rows xs) ((new_row was.standing x) ∷ was.standing) q)
         (sym (ap (λ k. get_or (slice_set last (slot_of rooms x.place) b) k 0) same
         ∙ get_or-set_same last (slot_of rooms x.place) b 0 within))
-        (subst (λ z. IsLast (kept_rows xs) ((new_row was.standing x) ∷ was.standing) z b) one
-        (last_here (kept_rows xs) was.standing x.place n b (new_row was.standing x) there behind
+        (subst (λ z. IsLast (old_rows xs) ((new_row was.standing x) ∷ was.standing) z b) one
+        (last_here (old_rows xs) was.standing x.place n b (new_row was.standing x) there behind
         (same_place x.place) (sym least)))
     each q qp qr (inr other) =
         let apart : is_one_place q x.place ≡ false =
@@ -162,7 +163,7 @@ new_given xs held periods rooms i n b last rows more x was seats lt is keeps hp 
         other (ap₂ (λ a b. a * rooms + b) (eqb-true q.period x.place.period parts.0)
         (eqb-true q.room x.place.room parts.1)))
         in
-        subst (IsLast (kept_rows xs) ((new_row was.standing x) ∷ was.standing) q)
+        subst (IsLast (old_rows xs) ((new_row was.standing x) ∷ was.standing) q)
         (sym (get_or-set_other last (slot_of rooms x.place) (slot_of rooms q) b 0 other))
-        (last_there (kept_rows xs) was.standing q (get_or last (slot_of rooms q) 0)
+        (last_there (old_rows xs) was.standing q (get_or last (slot_of rooms q) 0)
         (new_row was.standing x) (was.table.each q qp qr) apart)

@@ -13,18 +13,18 @@ use Rattle.exam_publish.specs.declared.entrants.Entrant.{Entrant}
 use Rattle.exam_publish.specs.declared.held.Held.{Held}
 use Rattle.exam_publish.specs.declared.seat_row.SeatRow.{SeatRow}
 use Rattle.exam_publish.specs.Rows.{row_place}
-use Rattle.exam_publish.specs.Seating.{is_held, held_cmp, AreHeld, KeepsSmallSeat}
+use Rattle.exam_publish.specs.Seating.{is_held, compare_held, AreHeld, KeepsSmallSeat}
 use Rattle.exam_publish.specs.Seats.{seats_at}
-use Rattle.exam_publish.specs.Entrants.{kept_rows}
+use Rattle.exam_publish.specs.Entrants.{old_rows}
 use Rattle.exam_publish.proofs.FreeLemmas.{has_seats}
 
 abbrev pub row_seat : SeatRow → Held
 row_seat row = record { period = row.period; room = row.room; seat = row.seat }
 
 one_more : (xs : List Entrant) (i : ℕ) (x : Entrant) → i < length xs → x ≡ get_or xs i x
-    → kept_rows (take (i + 1) xs) ≡ kept_rows (take i xs) ++ cons_option x.kept []
+    → old_rows (take (i + 1) xs) ≡ old_rows (take i xs) ++ cons_option x.kept []
 one_more xs i x lt is =
-    ap kept_rows (take_more xs i x lt ∙ ap (λ y. take i xs ++ y ∷ []) (sym is))
+    ap old_rows (take_more xs i x lt ∙ ap (λ y. take i xs ++ y ∷ []) (sym is))
     ∙ filter_map-append (λ (y : Entrant). y.kept) (take i xs) (x ∷ [])
 
 map-push : (rows : List SeatRow) (row : SeatRow)
@@ -34,22 +34,22 @@ map-push (r ∷ rs) row = ap (λ hs. row_seat r ∷ hs) (map-push rs row)
 
 pub held_more : (xs : List Entrant) (i : ℕ) (x : Entrant) (row : SeatRow) (held more : List Held)
     → i < length xs → x ≡ get_or xs i x → x.kept ≡ Some row
-    → held ≡ map row_seat (kept_rows (take i xs)) → more ≡ held ++ row_seat row ∷ []
-    → more ≡ map row_seat (kept_rows (take (i + 1) xs))
+    → held ≡ map row_seat (old_rows (take i xs)) → more ≡ held ++ row_seat row ∷ []
+    → more ≡ map row_seat (old_rows (take (i + 1) xs))
 held_more xs i x row held more lt is keeps was added =
     added ∙ ap (λ hs. hs ++ row_seat row ∷ []) was
     ∙ sym (ap (map row_seat)
-    (one_more xs i x lt is ∙ ap (λ o. kept_rows (take i xs) ++ cons_option o []) keeps)
-    ∙ map-push (kept_rows (take i xs)) row)
+    (one_more xs i x lt is ∙ ap (λ o. old_rows (take i xs) ++ cons_option o []) keeps)
+    ∙ map-push (old_rows (take i xs)) row)
 
 pub held_same : (xs : List Entrant) (i : ℕ) (x : Entrant) (held : List Held) → i < length xs
     → x ≡ get_or xs i x → x.kept ≡ None
-    → held ≡ map row_seat (kept_rows (take i xs))
-    → held ≡ map row_seat (kept_rows (take (i + 1) xs))
+    → held ≡ map row_seat (old_rows (take i xs))
+    → held ≡ map row_seat (old_rows (take (i + 1) xs))
 held_same xs i x held lt is keeps was =
     was ∙ sym (ap (map row_seat)
-    (one_more xs i x lt is ∙ ap (λ o. kept_rows (take i xs) ++ cons_option o []) keeps
-    ∙ append-nil (kept_rows (take i xs))))
+    (one_more xs i x lt is ∙ ap (λ o. old_rows (take i xs) ++ cons_option o []) keeps
+    ∙ append-nil (old_rows (take i xs))))
 
 members : (at : Place) (n : ℕ) (rows : List SeatRow)
     → list_any (is_held at n) (map row_seat rows) ≡ has_number (seats_at at rows) n
@@ -60,26 +60,26 @@ members at n (r ∷ rs) = ap₂ (λ a b. a || b) one (members at n rs) ∙ sym (
     one = grind (arith, nat_tests)
 
 small : (xs : List Entrant) → AllByRecursion KeepsSmallSeat xs
-    → AllByRecursion (λ (h : Held). h.seat ≤ 100000) (map row_seat (kept_rows xs))
+    → AllByRecursion (λ (h : Held). h.seat ≤ 100000) (map row_seat (old_rows xs))
 small [] h = tt
 small (x ∷ xs) h = go x.kept h.0 (small xs h.1)
   where
     go : (o : Option SeatRow) → IfSome o (λ row. row.seat ≤ 100000)
-        → AllByRecursion (λ (h : Held). h.seat ≤ 100000) (map row_seat (kept_rows xs))
+        → AllByRecursion (λ (h : Held). h.seat ≤ 100000) (map row_seat (old_rows xs))
         → AllByRecursion (λ (h : Held). h.seat ≤ 100000)
-        (map row_seat (cons_option o (kept_rows xs)))
+        (map row_seat (cons_option o (old_rows xs)))
     go None k more = more
     go (Some row) k more = (k, more)
 
 pub are_held : (xs : List Entrant) (held sorted : List Held) → All KeepsSmallSeat xs
-    → held ≡ map row_seat (kept_rows xs) → IsPermutation held sorted → IsSorted held_cmp sorted
-    → AreHeld (kept_rows xs) sorted
+    → held ≡ map row_seat (old_rows xs) → IsPermutation held sorted → IsSorted compare_held sorted
+    → AreHeld (old_rows xs) sorted
 are_held xs held sorted keep is moved order = record {
   members = λ at n. sym (list_any-IsPermutation (is_held at n) held sorted moved)
-      ∙ ap (list_any (is_held at n)) is ∙ members at n (kept_rows xs);
+      ∙ ap (list_any (is_held at n)) is ∙ members at n (old_rows xs);
   sorted = order;
   small = All-permutation (λ (h : Held). h.seat ≤ 100000) held sorted moved
       (subst (All (λ (h : Held). h.seat ≤ 100000)) (sym is)
-      (All-from_recursion (λ (h : Held). h.seat ≤ 100000) (map row_seat (kept_rows xs))
+      (All-from_recursion (λ (h : Held). h.seat ≤ 100000) (map row_seat (old_rows xs))
       (small xs (recursion_from_All KeepsSmallSeat xs keep))));
 }

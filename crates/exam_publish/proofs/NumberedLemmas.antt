@@ -13,18 +13,18 @@ use Rattle.exam_publish.specs.declared.seat_row.SeatRow.{SeatRow}
 use Rattle.exam_publish.specs.Numbered.{sits_at, row_with, numbered_rows}
 use Rattle.exam_publish.specs.Rows.{row_place}
 use Rattle.exam_publish.specs.Seating.{IsLast}
-use Rattle.exam_publish.specs.Seats.{seats_at, least_free, new_row, rows_beside, seat_rows}
-use Rattle.exam_publish.specs.Entrants.{entrant, entrants, kept_rows}
+use Rattle.exam_publish.specs.Seats.{seats_at, least_free, new_row, rows_after_entrants, seat_rows}
+use Rattle.exam_publish.specs.Entrants.{entrant, entrants, old_rows}
 use Rattle.exam_publish.proofs.FreeLemmas.{IsNext, is_next, last_here, last_there}
 use Rattle.exam_publish.proofs.SeatLemmas.{one_place}
 use Rattle.exam_publish.proofs.SeatingLemmas.{rows_after, numbered}
 
-none_kept : (T : Placing) (ps : List Pair) → kept_rows (entrants ps T []) ≡ []
+none_kept : (T : Placing) (ps : List Pair) → old_rows (entrants ps T []) ≡ []
 none_kept T [] = refl
 none_kept T (p ∷ ps) = go (place_of T p.exam) (none_kept T ps)
   where
-    go : (o : Option Place) → kept_rows (entrants ps T []) ≡ []
-        → kept_rows (cons_option (option_map (entrant [] p) o) (entrants ps T [])) ≡ []
+    go : (o : Option Place) → old_rows (entrants ps T []) ≡ []
+        → old_rows (cons_option (option_map (entrant [] p) o) (entrants ps T [])) ≡ []
     go None more = more
     go (Some at) more = more
 
@@ -69,7 +69,7 @@ one_more T seen p at standing row is h there seat q = go (is_one_place q at) ref
 
 seats_numbered : (T : Placing) (seen ps : List Pair) (standing : List SeatRow)
     → ((at : Place) → IsLast [] standing at (count_by (sits_at T at) seen))
-    → rows_beside standing (entrants ps T []) ≡ rows_after T seen ps
+    → rows_after_entrants standing (entrants ps T []) ≡ rows_after T seen ps
 seats_numbered T seen [] standing h = refl
 seats_numbered T seen (p ∷ ps) standing h =
     go (place_of T p.exam) refl (λ s k. seats_numbered T (seen ++ p ∷ []) ps s k)
@@ -77,8 +77,9 @@ seats_numbered T seen (p ∷ ps) standing h =
     go : (o : Option Place) → place_of T p.exam ≡ o
         → ((s : List SeatRow)
         → ((at : Place) → IsLast [] s at (count_by (sits_at T at) (seen ++ p ∷ [])))
-        → rows_beside s (entrants ps T []) ≡ rows_after T (seen ++ p ∷ []) ps)
-        → rows_beside standing (cons_option (option_map (entrant [] p) o) (entrants ps T []))
+        → rows_after_entrants s (entrants ps T []) ≡ rows_after T (seen ++ p ∷ []) ps)
+        → rows_after_entrants standing (cons_option (option_map (entrant [] p) o)
+        (entrants ps T []))
         ≡ cons_option (option_map (λ at. row_with p at (count_by (sits_at T at) seen + 1)) o)
         (rows_after T (seen ++ p ∷ []) ps)
     go None is more =
@@ -99,7 +100,7 @@ pub numbered_first : (E : Enrolled) (T : Placing) → AreEnrolments E
 numbered_first E T known =
     let pairs = pairs_of E in
     let order = chain_from_index ComesBefore pairs (are_pairs E known).ordered in
-    ap (λ rows. rows_beside rows (entrants pairs T [])) (none_kept T pairs)
+    ap (λ rows. rows_after_entrants rows (entrants pairs T [])) (none_kept T pairs)
     ∙ seats_numbered T [] pairs []
     (λ at. record { all = λ k low le. absurd (omega arith); beyond = λ k lt. refl })
     ∙ sym (numbered T pairs [] pairs refl order)

@@ -238,10 +238,11 @@ are_students n rows pairs = record {
 
 -- ---- the periods of a student's rows
 
-pub her_periods : (T : Placing) (rows : List SeatRow) (s : ℕ) → AllByRecursion (IsAtExam T) rows
+pub candidate_periods : (T : Placing) (rows : List SeatRow) (s : ℕ)
+    → AllByRecursion (IsAtExam T) rows
     → periods_of (map row_pair rows) (period_of T) s ≡ map (λ row. row.period) (rows_of s rows)
-her_periods T [] s h = refl
-her_periods T (r ∷ rs) s h = go (eqb r.student s) (her_periods T rs s h.1)
+candidate_periods T [] s h = refl
+candidate_periods T (r ∷ rs) s h = go (eqb r.student s) (candidate_periods T rs s h.1)
   where
     at_period : period_of T r.exam ≡ Some r.period
     at_period = ap (option_map (λ at. at.period)) h.0

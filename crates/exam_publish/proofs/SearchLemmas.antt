@@ -16,7 +16,7 @@ use Rattle.exam_rules.specs.Places.{is_one_place}
 use Rattle.exam_publish.specs.declared.held.Held.{Held}
 use Rattle.exam_publish.specs.declared.seat_row.SeatRow.{SeatRow}
 use Rattle.exam_publish.specs.Rows.{row_place, RowBefore, RowsInOrder}
-use Rattle.exam_publish.specs.Seating.{held_cmp, is_held}
+use Rattle.exam_publish.specs.Seating.{compare_held, is_held}
 use Rattle.exam_publish.specs.Entrants.{is_row_at}
 
 -- a search finds an equal element exactly if there is one
@@ -41,22 +41,22 @@ any_same p q h xs = λ i. list_any (λ x. h x i) xs
 
 -- ---- seats in order
 
-held_total : IsTotalOrder held_cmp
+held_total : IsTotalOrder compare_held
 held_total =
     then_total (on_total (λ (x : Held). x.period) nat_cmp_total)
     (then_total (on_total (λ (x : Held). x.room) nat_cmp_total)
     (on_total (λ (x : Held). x.seat) nat_cmp_total))
 
-is_this : (x h : Held) → is_eq (held_cmp h x)
+is_this : (x h : Held) → is_eq (compare_held h x)
     ≡ is_held (record { period = x.period; room = x.room }) x.seat h
 is_this x h = grind (arith, nat_tests)
 
-pub held_found : (xs : List Held) (x : Held) (r : Result ℕ ℕ) → IsSorted held_cmp xs
-    → IsSearchInRange r (length xs) → IsBinarySearchResult (λ y. held_cmp y x) xs r
+pub held_found : (xs : List Held) (x : Held) (r : Result ℕ ℕ) → IsSorted compare_held xs
+    → IsSearchInRange r (length xs) → IsBinarySearchResult (λ y. compare_held y x) xs r
     → is_ok r ≡ list_any (is_held (record { period = x.period; room = x.room }) x.seat) xs
 held_found xs x r sorted bound is =
-    found held_cmp held_total (λ y. y) xs x x r sorted bound is
-    ∙ any_same (λ y. is_eq (held_cmp y x))
+    found compare_held held_total (λ y. y) xs x x r sorted bound is
+    ∙ any_same (λ y. is_eq (compare_held y x))
     (is_held (record { period = x.period; room = x.room }) x.seat) (is_this x) xs
 
 -- a held seat has a number of at most 100,000

@@ -30,8 +30,8 @@ use Rattle.exam_publish.specs.Numbered.{sits_at}
 use Rattle.exam_publish.specs.Permit.{publish_refusal, first_unplaced, least_breach}
 use Rattle.exam_publish.specs.Published.{AreSeats}
 use Rattle.exam_publish.specs.Rows.{row_pair, row_place, RowBefore, RowsInOrder, IsAtExam}
-use Rattle.exam_publish.specs.Seats.{IsSeatOf, HasSeat, HaveOwnSeats, AreSeated, seats_at, least_free, new_row, standing_with, rows_beside, seat_rows}
-use Rattle.exam_publish.specs.Entrants.{is_row_at, entrant, entrants, kept_rows}
+use Rattle.exam_publish.specs.Seats.{IsSeatOf, HasSeat, HaveOwnSeats, AreSeated, seats_at, least_free, new_row, rows_with_entrant, rows_after_entrants, seat_rows}
+use Rattle.exam_publish.specs.Entrants.{is_row_at, entrant, entrants, old_rows}
 use Rattle.exam_publish.proofs.FreeLemmas.{least_is, least_small, length_seats, has_seats, still_taken}
 use Rattle.exam_publish.proofs.ListLemmas.{index_from_chain}
 use Rattle.exam_publish.proofs.PermitLemmas.{neither, all_placed}
@@ -199,11 +199,12 @@ entrant_pairs T old (p ∷ ps) h = go (place_of T p.exam) h.0 (entrant_pairs T o
 
 pub rows_pairs : (T : Placing) (old standing : List SeatRow) (xs : List Entrant)
     → AllByRecursion (IsFair T old) xs
-    → map row_pair (rows_beside standing xs)
+    → map row_pair (rows_after_entrants standing xs)
     ≡ map (λ (x : Entrant). record { exam = x.exam; student = x.student }) xs
 rows_pairs T old standing [] h = refl
 rows_pairs T old standing (x ∷ xs) h =
-    ap₂ (λ p ps. p ∷ ps) (go x.kept h.0.pair) (rows_pairs T old (standing_with standing x) xs h.1)
+    ap₂ (λ p ps. p ∷ ps) (go x.kept h.0.pair)
+    (rows_pairs T old (rows_with_entrant standing x) xs h.1)
   where
     go : (o : Option SeatRow)
         → IfSome o (λ row. row_pair row ≡ record { exam = x.exam; student = x.student })
@@ -214,10 +215,10 @@ rows_pairs T old standing (x ∷ xs) h =
 
 rows_at_exams : (T : Placing) (old standing : List SeatRow) (xs : List Entrant)
     → AllByRecursion (IsFair T old) xs
-    → AllByRecursion (IsAtExam T) (rows_beside standing xs)
+    → AllByRecursion (IsAtExam T) (rows_after_entrants standing xs)
 rows_at_exams T old standing [] h = tt
 rows_at_exams T old standing (x ∷ xs) h =
-    (go x.kept h.0.pair h.0.place, rows_at_exams T old (standing_with standing x) xs h.1)
+    (go x.kept h.0.pair h.0.place, rows_at_exams T old (rows_with_entrant standing x) xs h.1)
   where
     go : (o : Option SeatRow)
         → IfSome o (λ row. row_pair row ≡ record { exam = x.exam; student = x.student })
@@ -247,11 +248,11 @@ IsRoomFor most standing xs =
     (at : Place) → length (seats_at at standing) + count_by (is_new_at at) xs ≤ most at
 
 rows_within : (I : Session) (most : Place → ℕ) (standing : List SeatRow) (xs : List Entrant)
-    → IsRoomFor most standing xs → Has I (kept_rows xs)
+    → IsRoomFor most standing xs → Has I (old_rows xs)
     → AllByRecursion
     (λ (x : Entrant). (n : ℕ) → 1 ≤ n → n ≤ most x.place
     → IsSeatOf (slice_get I.rooms x.place.room) n) xs
-    → Has I (rows_beside standing xs)
+    → Has I (rows_after_entrants standing xs)
 rows_within I most standing [] room kept fits = tt
 rows_within I most standing (x ∷ xs) room kept fits =
     step x.kept room kept (λ s r k. rows_within I most s xs r k fits.1)
@@ -262,10 +263,10 @@ rows_within I most standing (x ∷ xs) room kept fits =
     counted at o = sum_by-cons (λ y. cond (is_new_at at y) 1 0) (record x { kept = o }) xs
 
     step : (o : Option SeatRow) → IsRoomFor most standing (record x { kept = o } ∷ xs)
-        → Has I (kept_rows (record x { kept = o } ∷ xs))
-        → ((s : List SeatRow) → IsRoomFor most s xs → Has I (kept_rows xs)
-        → Has I (rows_beside s xs))
-        → Has I (rows_beside standing (record x { kept = o } ∷ xs))
+        → Has I (old_rows (record x { kept = o } ∷ xs))
+        → ((s : List SeatRow) → IsRoomFor most s xs → Has I (old_rows xs)
+        → Has I (rows_after_entrants s xs))
+        → Has I (rows_after_entrants standing (record x { kept = o } ∷ xs))
     step (Some row) room kept more =
         (kept.0, more standing (λ at. (let c = counted at (Some row) in let r = room at in omega arith)) kept.1)
     step None room kept more =
@@ -295,8 +296,8 @@ IsTaken standing r = has_number (seats_at (row_place r) standing) r.seat ≡ tru
 
 -- a present row shares its seat with no row of entrants who keep other seats
 apart : (r : SeatRow) (standing : List SeatRow) (xs : List Entrant) → IsTaken standing r
-    → AllByRecursion (HaveOwnSeats r) (kept_rows xs)
-    → AllByRecursion (HaveOwnSeats r) (rows_beside standing xs)
+    → AllByRecursion (HaveOwnSeats r) (old_rows xs)
+    → AllByRecursion (HaveOwnSeats r) (rows_after_entrants standing xs)
 apart r standing [] taken kept = tt
 apart r standing (x ∷ xs) taken kept = step x.kept kept (λ s t k. apart r s xs t k)
   where
@@ -307,10 +308,11 @@ apart r standing (x ∷ xs) taken kept = step x.kept kept (λ s t k. apart r s x
         true≢false (sym taken ∙ ap₂ (λ at n. has_number (seats_at at standing) n) same c ∙ free)
 
     step : (o : Option SeatRow)
-        → AllByRecursion (HaveOwnSeats r) (kept_rows (record x { kept = o } ∷ xs))
-        → ((s : List SeatRow) → IsTaken s r → AllByRecursion (HaveOwnSeats r) (kept_rows xs)
-        → AllByRecursion (HaveOwnSeats r) (rows_beside s xs))
-        → AllByRecursion (HaveOwnSeats r) (rows_beside standing (record x { kept = o } ∷ xs))
+        → AllByRecursion (HaveOwnSeats r) (old_rows (record x { kept = o } ∷ xs))
+        → ((s : List SeatRow) → IsTaken s r → AllByRecursion (HaveOwnSeats r) (old_rows xs)
+        → AllByRecursion (HaveOwnSeats r) (rows_after_entrants s xs))
+        → AllByRecursion (HaveOwnSeats r)
+        (rows_after_entrants standing (record x { kept = o } ∷ xs))
     step (Some row) kept more = (kept.0, more standing taken kept.1)
     step None kept more =
         (other, more (new_row standing x ∷ standing) (still_taken (row_place r) (new_row standing x) standing r.seat taken) kept)
@@ -323,9 +325,9 @@ taken_first r rs =
     (and_from (is_one_place (row_place r) (row_place r)) (eqb r.seat r.seat)
     (same_place (row_place r)) (eq-eqb r.seat r.seat refl))
 
-own_rows : (standing : List SeatRow) (xs : List Entrant) → IsChain HaveOwnSeats (kept_rows xs)
-    → AllByRecursion (IsTaken standing) (kept_rows xs)
-    → IsChain HaveOwnSeats (rows_beside standing xs)
+own_rows : (standing : List SeatRow) (xs : List Entrant) → IsChain HaveOwnSeats (old_rows xs)
+    → AllByRecursion (IsTaken standing) (old_rows xs)
+    → IsChain HaveOwnSeats (rows_after_entrants standing xs)
 own_rows standing [] chain taken = tt
 own_rows standing (x ∷ xs) chain taken = step x.kept chain taken (λ s c t. own_rows s xs c t)
   where
@@ -336,20 +338,21 @@ own_rows standing (x ∷ xs) chain taken = step x.kept chain taken (λ s c t. ow
         true≢false (sym there
         ∙ ap₂ (λ at n. has_number (seats_at at standing) n) same (sym c) ∙ free)
 
-    step : (o : Option SeatRow) → IsChain HaveOwnSeats (kept_rows (record x { kept = o } ∷ xs))
-        → AllByRecursion (IsTaken standing) (kept_rows (record x { kept = o } ∷ xs))
-        → ((s : List SeatRow) → IsChain HaveOwnSeats (kept_rows xs)
-        → AllByRecursion (IsTaken s) (kept_rows xs) → IsChain HaveOwnSeats (rows_beside s xs))
-        → IsChain HaveOwnSeats (rows_beside standing (record x { kept = o } ∷ xs))
+    step : (o : Option SeatRow) → IsChain HaveOwnSeats (old_rows (record x { kept = o } ∷ xs))
+        → AllByRecursion (IsTaken standing) (old_rows (record x { kept = o } ∷ xs))
+        → ((s : List SeatRow) → IsChain HaveOwnSeats (old_rows xs)
+        → AllByRecursion (IsTaken s) (old_rows xs)
+        → IsChain HaveOwnSeats (rows_after_entrants s xs))
+        → IsChain HaveOwnSeats (rows_after_entrants standing (record x { kept = o } ∷ xs))
     step (Some row) chain taken more =
         (apart row standing xs taken.0 chain.0, more standing chain.1 taken.1)
     step None chain taken more =
         let row : SeatRow = new_row standing x in (
           apart row (row ∷ standing) xs (taken_first row standing)
-              (each_weaker (IsTaken standing) (HaveOwnSeats row) free_of (kept_rows xs) taken),
+              (each_weaker (IsTaken standing) (HaveOwnSeats row) free_of (old_rows xs) taken),
           more (row ∷ standing) chain
               (each_weaker (IsTaken standing) (IsTaken (row ∷ standing))
-              (λ r t. still_taken (row_place r) row standing r.seat t) (kept_rows xs) taken),
+              (λ r t. still_taken (row_place r) row standing r.seat t) (old_rows xs) taken),
         )
 
 -- the seats of present rows are taken
@@ -386,7 +389,7 @@ kept_own : (T : Placing) (old : List SeatRow) → AllPairs HaveOwnSeats old → 
     → IsChain (λ (x y : Entrant). ComesBefore (record { exam = x.exam; student = x.student })
     (record { exam = y.exam; student = y.student }))
     xs
-    → IsChain HaveOwnSeats (kept_rows xs)
+    → IsChain HaveOwnSeats (old_rows xs)
 kept_own T old own xs fairs order =
     chain_filter_map HaveOwnSeats (λ (x : Entrant). x.kept) xs
     (chain_weaker
@@ -494,15 +497,15 @@ within_room (x ∷ xs) (suc r) n load l h low high = within_room xs r n load (om
 -- kept seats and seats still to come are at most as many as entrants
 counted_entrants : (T : Placing) (old : List SeatRow) (at : Place) (xs : List Entrant)
     → AllByRecursion (IsFair T old) xs
-    → length (seats_at at (kept_rows xs)) + count_by (is_new_at at) xs
+    → length (seats_at at (old_rows xs)) + count_by (is_new_at at) xs
     ≡ count_by (λ (x : Entrant). is_one_place at x.place) xs
 counted_entrants T old at [] h = refl
 counted_entrants T old at (x ∷ xs) h = step x.kept h.0.place (counted_entrants T old at xs h.1)
   where
     step : (o : Option SeatRow) → IfSome o (λ row. row_place row ≡ x.place)
-        → length (seats_at at (kept_rows xs)) + count_by (is_new_at at) xs
+        → length (seats_at at (old_rows xs)) + count_by (is_new_at at) xs
         ≡ count_by (λ (x : Entrant). is_one_place at x.place) xs
-        → length (seats_at at (kept_rows (record x { kept = o } ∷ xs)))
+        → length (seats_at at (old_rows (record x { kept = o } ∷ xs)))
         + count_by (is_new_at at) (record x { kept = o } ∷ xs)
         ≡ count_by (λ (x : Entrant). is_one_place at x.place) (record x { kept = o } ∷ xs)
     step None k more =
@@ -514,7 +517,7 @@ counted_entrants T old at (x ∷ xs) h = step x.kept h.0.place (counted_entrants
         let a = sum_by-cons (λ y. cond (is_new_at at y) 1 0) (record x { kept = Some row }) xs in
         let b = sum_by-cons (λ (y : Entrant). cond (is_one_place at y.place) 1 0)
         (record x { kept = Some row }) xs in
-        let l = length_seats at row (kept_rows xs) in
+        let l = length_seats at row (old_rows xs) in
         let same : ◌≡◌ {A = ℕ} (cond (is_one_place at (row_place row)) 1 0)
         (cond (is_one_place at x.place) 1 0) =
         ap (λ q. cond (is_one_place at q) 1 0) k in
@@ -565,7 +568,7 @@ are_seats I E T old fits known permitted was =
     = entrant_pairs T old pairs
     (each_weaker (λ (p : Pair). p.exam < length T) (λ p. IsSome (place_of T p.exam))
     (λ p lt. placed p.exam lt) pairs exist) in
-    let same : map row_pair rows ≡ pairs = rows_pairs T old (kept_rows xs) xs fairs ∙ own_pairs in
+    let same : map row_pair rows ≡ pairs = rows_pairs T old (old_rows xs) xs fairs ∙ own_pairs in
     let order : IsChain ComesBefore pairs = chain_from_index ComesBefore pairs are.ordered in
     let entrant_order =
     chain_unmap ComesBefore (λ (x : Entrant). record { exam = x.exam; student = x.student }) xs
@@ -573,10 +576,10 @@ are_seats I E T old fits known permitted was =
     let in_order : RowsInOrder rows =
     index_from_chain RowBefore rows
     (chain_unmap ComesBefore row_pair rows (subst (IsChain ComesBefore) (sym same) order)) in
-    let room : IsRoomFor (load_at E T) (kept_rows xs) xs
+    let room : IsRoomFor (load_at E T) (old_rows xs) xs
     = λ at. (let c = counted_entrants T old at xs fairs in let p = counted_pairs T old at pairs in
     let l = loaded E T at are in omega arith) in
-    let kept : Has I (kept_rows xs)
+    let kept : Has I (old_rows xs)
     = each_filter_map (HasSeat I) (λ (x : Entrant). x.kept) xs
     (each_weaker (IsFair T old) (λ (x : Entrant). IfSome x.kept (HasSeat I))
     (λ x h. some_weaker (Contains old) (HasSeat I)
@@ -602,10 +605,10 @@ are_seats I E T old fits known permitted was =
       seated = record {
         in_order = in_order;
         within = All-from_recursion (HasSeat I) rows
-            (rows_within I (load_at E T) (kept_rows xs) xs room kept seats);
+            (rows_within I (load_at E T) (old_rows xs) xs room kept seats);
         own = index_from_chain HaveOwnSeats rows
-            (own_rows (kept_rows xs) xs (kept_own T old was.own xs fairs entrant_order)
-            (taken_itself (kept_rows xs)));
+            (own_rows (old_rows xs) xs (kept_own T old was.own xs fairs entrant_order)
+            (taken_itself (old_rows xs)));
       };
       published = record {
         exams = fits.timetable;
@@ -614,6 +617,6 @@ are_seats I E T old fits known permitted was =
         few = omega (arith, ap length same, length-map rows row_pair, length_pairs 0 E, known.pairs);
         in_order = in_order;
         at_exams = All-from_recursion (IsAtExam T) rows
-            (rows_at_exams T old (kept_rows xs) xs fairs);
+            (rows_at_exams T old (old_rows xs) xs fairs);
       };
     }

@@ -11,7 +11,7 @@ use Rattle.exam_terms.specs.declared.place.Place.{Place}
 use Rattle.exam_model.proofs.SumLemmas.{IsChain, sum_by-agree, sum_by-none, each_weaker}
 use Rattle.exam_publish.specs.declared.seat_row.SeatRow.{SeatRow}
 use Rattle.exam_publish.specs.Numbered.{sits_at, seat_number, row_with, seat_row}
-use Rattle.exam_publish.specs.Rows.{comes_before}
+use Rattle.exam_publish.specs.Rows.{is_pair_before}
 
 -- ---- one more exam
 
@@ -55,15 +55,15 @@ rows_after T seen (p ∷ ps) =
     (place_of T p.exam))
     (rows_after T (seen ++ p ∷ []) ps)
 
-before_true : (p q : Pair) → ComesBefore p q → comes_before p q ≡ true
-before_true p q h = elim h as (λ _. comes_before p q ≡ true)
+before_true : (p q : Pair) → ComesBefore p q → is_pair_before p q ≡ true
+before_true p q h = elim h as (λ _. is_pair_before p q ≡ true)
     [ inl less ↦ grind (arith, nat_tests) | inr same ↦ grind (arith, nat_tests) ]
 
-before_false : (p q : Pair) → ComesBefore p q → comes_before q p ≡ false
-before_false p q h = elim h as (λ _. comes_before q p ≡ false)
+before_false : (p q : Pair) → ComesBefore p q → is_pair_before q p ≡ false
+before_false p q h = elim h as (λ _. is_pair_before q p ≡ false)
     [ inl less ↦ grind (arith, nat_tests) | inr same ↦ grind (arith, nat_tests) ]
 
-pub before_itself : (p : Pair) → comes_before p p ≡ false
+pub before_itself : (p : Pair) → is_pair_before p p ≡ false
 before_itself p = grind (arith, nat_tests)
 
 part_before : {X : Type 0} (R : X → X → Type 0) (xs : List X) (y : X) (ys : List X)
@@ -84,20 +84,20 @@ part_after R (x ∷ xs) y ys h = part_after R xs y ys h.1
 -- the pairs that come before y are those in front of it in the list
 counted_before : (t : Pair → Bool) (xs : List Pair) (y : Pair) (ys : List Pair)
     → IsChain ComesBefore (xs ++ y ∷ ys)
-    → count_by (λ q. comes_before q y && t q) (xs ++ y ∷ ys) ≡ count_by t xs
+    → count_by (λ q. is_pair_before q y && t q) (xs ++ y ∷ ys) ≡ count_by t xs
 counted_before t xs y ys h =
-    let split = sum_by-append (λ (q : Pair). cond (comes_before q y && t q) 1 0) xs (y ∷ ys) in
-    let front = sum_by-agree (λ (q : Pair). cond (comes_before q y && t q) 1 0)
+    let split = sum_by-append (λ (q : Pair). cond (is_pair_before q y && t q) 1 0) xs (y ∷ ys) in
+    let front = sum_by-agree (λ (q : Pair). cond (is_pair_before q y && t q) 1 0)
     (λ q. cond (t q) 1 0) xs
     (each_weaker (λ q. ComesBefore q y) _
     (λ q b. ap (λ c. cond (c && t q) 1 0) (before_true q y b)) xs
     (part_before ComesBefore xs y ys h)) in
-    let back = sum_by-none (λ (q : Pair). cond (comes_before q y && t q) 1 0) ys
+    let back = sum_by-none (λ (q : Pair). cond (is_pair_before q y && t q) 1 0) ys
     (each_weaker (ComesBefore y) _ (λ q b. ap (λ c. cond (c && t q) 1 0) (before_false y q b)) ys
     (part_after ComesBefore xs y ys h)) in
-    let own : ◌≡◌ {A = ℕ} (cond (comes_before y y && t y) 1 0) 0 =
+    let own : ◌≡◌ {A = ℕ} (cond (is_pair_before y y && t y) 1 0) 0 =
     ap (λ c. cond (c && t y) 1 0) (before_itself y) in
-    let rest = sum_by-cons (λ (q : Pair). cond (comes_before q y && t q) 1 0) y ys in
+    let rest = sum_by-cons (λ (q : Pair). cond (is_pair_before q y && t q) 1 0) y ys in
     omega arith
 
 -- a pair's seat is the next one after those of the pairs before it
@@ -106,7 +106,7 @@ pub numbered : (T : Placing) (all seen ps : List Pair) → all ≡ seen ++ ps �
 numbered T all seen [] split order = refl
 numbered T all seen (p ∷ ps) split order =
     let seat : (at : Place) → seat_number all T at p ≡ count_by (sits_at T at) seen + 1
-    = λ at. ap (λ n. n + 1) (ap (count_by (λ q. comes_before q p && sits_at T at q)) split
+    = λ at. ap (λ n. n + 1) (ap (count_by (λ q. is_pair_before q p && sits_at T at q)) split
     ∙ counted_before (sits_at T at) seen p ps (subst (IsChain ComesBefore) split order)) in
     ap₂ (λ o rows. cons_option o rows)
     (λ i. option_map (λ at. row_with p at (seat at i)) (place_of T p.exam))

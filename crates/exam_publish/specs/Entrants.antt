@@ -29,5 +29,5 @@ entrants pairs T old =
     filter_map (λ p. option_map (entrant old p) (place_of T p.exam)) pairs
 
 -- the rows that entrants keep
-abbrev pub kept_rows : List Entrant → List SeatRow
-kept_rows xs = filter_map (λ x. x.kept) xs
+abbrev pub old_rows : List Entrant → List SeatRow
+old_rows xs = filter_map (λ x. x.kept) xs

@@ -5,7 +5,7 @@ use Rattle.exam_model.specs.Pairs.{Pair}
 use Rattle.exam_model.specs.Timetable.{Placing, place_of}
 use Rattle.exam_rules.specs.Places.{place_satisfies, is_one_place}
 use Rattle.exam_publish.specs.declared.seat_row.SeatRow.{SeatRow}
-use Rattle.exam_publish.specs.Rows.{comes_before}
+use Rattle.exam_publish.specs.Rows.{is_pair_before}
 
 -- whether a pair's exam is in this room and period
 abbrev pub sits_at : Placing → Place → Pair → Bool
@@ -13,7 +13,7 @@ sits_at T at q = place_satisfies (is_one_place at) (place_of T q.exam)
 
 -- one more than the number of earlier pairs in this room and period
 abbrev pub seat_number : List Pair → Placing → Place → Pair → ℕ
-seat_number pairs T at p = count_by (λ q. comes_before q p && sits_at T at q) pairs + 1
+seat_number pairs T at p = count_by (λ q. is_pair_before q p && sits_at T at q) pairs + 1
 
 -- a pair's row with a seat
 abbrev pub row_with : Pair → Place → ℕ → SeatRow

@@ -27,8 +27,8 @@ abbrev pub enrolled_in : ℕ → List SeatRow → Enrolled
 enrolled_in exams rows = map (students_in rows) (range_with_len 0 exams)
 
 -- whether a pair has a smaller exam, or the same exam and a smaller student
-abbrev pub comes_before : Pair → Pair → Bool
-comes_before p q = nat_lt p.exam q.exam || ((p.exam == q.exam) && nat_lt p.student q.student)
+abbrev pub is_pair_before : Pair → Pair → Bool
+is_pair_before p q = nat_lt p.exam q.exam || ((p.exam == q.exam) && nat_lt p.student q.student)
 
 -- of a smaller exam, or of the same exam and a smaller student
 abbrev pub RowBefore : SeatRow → SeatRow → Type 0

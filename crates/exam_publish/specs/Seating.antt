@@ -28,8 +28,8 @@ abbrev pub is_held : Place → ℕ → Held → Bool
 is_held at n h = (h.period == at.period) && ((h.room == at.room) && (h.seat == n))
 
 -- by period, then room, then seat
-abbrev pub held_cmp : Held → Held → Ordering
-held_cmp x y =
+abbrev pub compare_held : Held → Held → Ordering
+compare_held x y =
     ordering_then (nat_cmp x.period y.period)
     (ordering_then (nat_cmp x.room y.room) (nat_cmp x.seat y.seat))
 
@@ -37,7 +37,7 @@ held_cmp x y =
 pub record AreHeld (kept : List SeatRow) (held : List Held) : Type 0 where
   pub members : (at : Place) (n : ℕ)
       → list_any (is_held at n) held ≡ has_number (seats_at at kept) n
-  pub sorted : IsSorted held_cmp held
+  pub sorted : IsSorted compare_held held
   pub small : All (λ h. h.seat ≤ MAX_AMOUNT) held
 
 -- the least seat from n on that is not held in a room and period

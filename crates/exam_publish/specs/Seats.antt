@@ -12,7 +12,7 @@ use Rattle.exam_rules.specs.Places.{is_one_place}
 use Rattle.exam_publish.specs.declared.entrants.Entrant.{Entrant}
 use Rattle.exam_publish.specs.declared.seat_row.SeatRow.{SeatRow}
 use Rattle.exam_publish.specs.Rows.{row_place, RowsInOrder}
-use Rattle.exam_publish.specs.Entrants.{entrants, kept_rows}
+use Rattle.exam_publish.specs.Entrants.{entrants, old_rows}
 
 -- ---- seats
 
@@ -62,18 +62,18 @@ abbrev pub entrant_row : List SeatRow → Entrant → SeatRow
 entrant_row standing x = unwrap_or x.kept (new_row standing x)
 
 -- a new row is added to those that are there; a kept one is there already
-abbrev pub standing_with : List SeatRow → Entrant → List SeatRow
-standing_with standing x = if is_some x.kept then standing else new_row standing x ∷ standing
+abbrev pub rows_with_entrant : List SeatRow → Entrant → List SeatRow
+rows_with_entrant standing x = if is_some x.kept then standing else new_row standing x ∷ standing
 
 -- the rows of entrants one after another, given the rows that are there
-abbrev pub rows_beside : List SeatRow → List Entrant → List SeatRow
-rows_beside standing [] = []
-rows_beside standing (x ∷ xs) =
-    entrant_row standing x ∷ rows_beside (standing_with standing x) xs
+abbrev pub rows_after_entrants : List SeatRow → List Entrant → List SeatRow
+rows_after_entrants standing [] = []
+rows_after_entrants standing (x ∷ xs) =
+    entrant_row standing x ∷ rows_after_entrants (rows_with_entrant standing x) xs
 
 -- the rows of all entrants: the kept ones are there before any new one is assigned
 abbrev pub rows_for : List Entrant → List SeatRow
-rows_for xs = rows_beside (kept_rows xs) xs
+rows_for xs = rows_after_entrants (old_rows xs) xs
 
 -- the rows of all pairs, in their order
 abbrev pub seat_rows : List Pair → Placing → List SeatRow → List SeatRow

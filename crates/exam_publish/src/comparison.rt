@@ -1,7 +1,7 @@
 // The candidates whose rows differ between two publications.
 ghost use Rattle.std.specs.Prelude.{◌≡◌, ℕ, ◌&&◌, ◌||◌, ◌==◌, IfOk, OnOk};
 ghost use Rattle.exam_model.specs.Enrolments.{IsAscending, has_number};
-ghost use Rattle.exam_publish.specs.Rows.{RowsInOrder, comes_before, row_pair};
+ghost use Rattle.exam_publish.specs.Rows.{RowsInOrder, is_pair_before, row_pair};
 ghost use Rattle.exam_publish.specs.Changed.{is_changed, changed_students, ascending, has_row};
 
 use crate::seat_row::SeatRow;
@@ -58,7 +58,7 @@ fn differing(alloc: Global, old: &[SeatRow], new: &[SeatRow]) -> Result<Vec<Stud
 
 /// Returns whether a row has a smaller exam, or the same exam and a smaller student.
 pub fn is_before(row: &SeatRow, other: &SeatRow) -> bool
-    ensures { result ≡ comes_before (row_pair row.now) (row_pair other.now) }
+    ensures { result ≡ is_pair_before (row_pair row.now) (row_pair other.now) }
 {
     row.exam < other.exam || row.exam == other.exam && row.student < other.student
 }

@@ -57,7 +57,7 @@ fn add_entrants(
 {
     'students: for student in students {
         let student = *student;
-        let kept = kept_row(old, exam, student, place);
+        let kept = old_row(old, exam, student, place);
         found.push(Entrant {
             student,
             exam,
@@ -69,7 +69,7 @@ fn add_entrants(
 }
 
 // Returns the old row of a student's exam, if it is at this place.
-fn kept_row(old: &[SeatRow], exam: ExamNo, student: StudentNo, place: &Place) -> Option<SeatRow>
+fn old_row(old: &[SeatRow], exam: ExamNo, student: StudentNo, place: &Place) -> Option<SeatRow>
     requires { RowsInOrder old.now }
     ensures { result
         ≡ find (is_row_at (record { exam = exam; student = student }) place.now) old.now }

@@ -3,8 +3,8 @@ ghost use Rattle.std.specs.Prelude.{◌≡◌, ◌≤◌, All, IfOk};
 ghost use Rattle.std.specs.List.{list_any};
 ghost use Rattle.std.specs.List.Sorted.{IsSorted};
 ghost use Rattle.exam_terms.specs.declared.limits.TheConstants.{MAX_AMOUNT};
-ghost use Rattle.exam_publish.specs.Entrants.{kept_rows};
-ghost use Rattle.exam_publish.specs.Seating.{AreHeld, IsNextFree, KeepsSmallSeat, held_cmp, is_held};
+ghost use Rattle.exam_publish.specs.Entrants.{old_rows};
+ghost use Rattle.exam_publish.specs.Seating.{AreHeld, IsNextFree, KeepsSmallSeat, compare_held, is_held};
 
 use crate::entrants::Entrant;
 use exam_model::{PeriodNo, Place, RoomNo};
@@ -21,7 +21,7 @@ pub(crate) struct Held {
 /// Returns the seats that entrants keep, in order.
 pub(crate) fn held_seats(alloc: Global, entrants: &[Entrant]) -> Result<Vec<Held>, AllocError>
     requires { All KeepsSmallSeat entrants.now }
-    ensures { IfOk result (λ held. AreHeld (kept_rows entrants.now) held.items) }
+    ensures { IfOk result (λ held. AreHeld (old_rows entrants.now) held.items) }
 {
     let mut held = Vec::new(alloc);
     'entrants: for entrant in entrants {
@@ -40,7 +40,7 @@ pub(crate) fn held_seats(alloc: Global, entrants: &[Entrant]) -> Result<Vec<Held
 
 /// Returns the least seat, from this one on, that no entrant keeps in a room and period.
 pub(crate) fn next_free(held: &[Held], place: &Place, from: u32) -> u32
-    requires sorted { IsSorted held_cmp held.now }
+    requires sorted { IsSorted compare_held held.now }
     requires small { All (λ h. h.seat ≤ MAX_AMOUNT) held.now }
     ensures { IsNextFree held.now place.now from result }
 {
@@ -53,7 +53,7 @@ pub(crate) fn next_free(held: &[Held], place: &Place, from: u32) -> u32
 
 // Returns whether an entrant keeps this seat.
 fn is_held(held: &[Held], place: &Place, seat: u32) -> bool
-    requires { IsSorted held_cmp held.now }
+    requires { IsSorted compare_held held.now }
     ensures { result ≡ list_any (is_held place.now seat) held.now }
 {
     let searched = Held {

@@ -7,7 +7,7 @@ ghost use Rattle.exam_model.specs.Pairs.{pairs_of};
 ghost use Rattle.exam_publish.specs.Permit.{publish_refusal};
 ghost use Rattle.exam_publish.specs.Rows.{ArePublishedRows, row_pair};
 ghost use Rattle.exam_publish.specs.Seats.{AreSeated, rows_for, seat_rows};
-ghost use Rattle.exam_publish.specs.Entrants.{kept_rows};
+ghost use Rattle.exam_publish.specs.Entrants.{old_rows};
 ghost use Rattle.exam_publish.specs.Seating.{AreHeld, EntrantExists};
 
 use crate::entrants::{Entrant, entrants_of};
@@ -52,7 +52,7 @@ fn seat_all(
 ) -> Result<Vec<SeatRow>, AllocError>
     requires exist { All (EntrantExists instance.now) entrants.now }
     requires few { length entrants.now ≤ MAX_PAIRS }
-    requires held { AreHeld (kept_rows entrants.now) held.now }
+    requires held { AreHeld (old_rows entrants.now) held.now }
     ensures { IfOk result (λ rows. rows.items ≡ rows_for entrants.now) }
 {
     let places = instance.periods() * instance.rooms();

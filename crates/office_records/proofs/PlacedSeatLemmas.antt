@@ -15,7 +15,7 @@ use Rattle.std.proofs.lemmas.Map.Keys.{IsDistinct-IsPermutation}
 use Rattle.sqlite_trees.proofs.ListLemmas.{all_weaker}
 use Rattle.exam_model.proofs.SumLemmas.{IsChain, chain_from_index}
 use Rattle.exam_publish.specs.declared.seat_row.SeatRow.{SeatRow}
-use Rattle.exam_publish.specs.Rows.{RowBefore, RowsInOrder, comes_before, row_pair}
+use Rattle.exam_publish.specs.Rows.{RowBefore, RowsInOrder, is_pair_before, row_pair}
 use Rattle.exam_publish.specs.Seats.{HaveOwnSeats}
 use Rattle.exam_publish.proofs.ChangedLemmas.{before_from_test}
 use Rattle.exam_publish.proofs.ListLemmas.{index_from_chain}
@@ -43,12 +43,12 @@ before_trans x y z (inr tie) (inl more) = inl (let same = tie.0 in omega (arith,
 before_trans x y z (inr tie) (inr more) =
     inr (tie.0 ∙ more.0, let a = tie.1 in let b = more.1 in omega (arith, a, b))
 
-test_from_before : (x y : SeatRow) → RowBefore x y → comes_before (row_pair x) (row_pair y) ≡ true
+test_from_before : (x y : SeatRow) → RowBefore x y → is_pair_before (row_pair x) (row_pair y) ≡ true
 test_from_before x y (inl less) = grind (arith, nat_tests, less)
 test_from_before x y (inr tie) = grind (arith, nat_tests, tie.0, tie.1)
 
 pub in_order_is : (rows : List SeatRow) (r : Bool)
-    → IsAllAdjacentAnswer (λ x y b. b ≡ comes_before (row_pair x) (row_pair y)) rows r
+    → IsAllAdjacentAnswer (λ x y b. b ≡ is_pair_before (row_pair x) (row_pair y)) rows r
     → IsTrue r ↔ RowsInOrder rows
 in_order_is rows true all = (
   λ _. index_from_chain RowBefore rows (chain_from_next RowBefore before_trans rows

@@ -1,6 +1,6 @@
 use Rattle.std.proofs.Common.{map, ap, ◌∙◌, arith}
 use Rattle.std.proofs.lemmas.List.{take_all}
-use Rattle.exam_publish.specs.Entrants.{kept_rows}
+use Rattle.exam_publish.specs.Entrants.{old_rows}
 use Rattle.exam_publish.proofs.HeldLemmas.{row_seat, held_more, held_same, are_held}
 use Rattle.exam_publish.proofs.held.held_seats.Goals as goal
 
@@ -21,7 +21,7 @@ pub returns : goal.returns
 returns c =
     are_held c.args.entrants.now c.entrants.held.items c.sort_unstable.new.self.items c.requires
     (c.entrants.invariant
-    ∙ ap (λ xs. map row_seat (kept_rows xs))
+    ∙ ap (λ xs. map row_seat (old_rows xs))
     (take_all c.entrants.entrant-index c.args.entrants.now
     (omega (arith, c.entrants-test.false))))
     c.sort_unstable.ensures.permutation c.sort_unstable.ensures.sorted

@@ -4,7 +4,7 @@ use Rattle.exam_publish.specs.declared.seat_row.SeatRow.{SeatRow}
 use Rattle.exam_publish.specs.declared.entrants.Entrant.{Entrant}
 use Rattle.exam_publish.specs.Rows.{ArePublishedRows, row_pair}
 use Rattle.exam_publish.specs.Seats.{AreSeated, rows_for, seat_rows}
-use Rattle.exam_publish.specs.Entrants.{entrants, kept_rows}
+use Rattle.exam_publish.specs.Entrants.{entrants, old_rows}
 use Rattle.exam_publish.specs.Seating.{AreHeld, EntrantExists, KeepsSmallSeat}
 use Rattle.exam_publish.proofs.EntrantLemmas.{entrants_few, entrants_exist, entrants_keep}
 use Rattle.exam_publish.proofs.SeatLemmas.{are_seats}
@@ -32,9 +32,9 @@ seat_all-requires c =
       exist = subst (All (EntrantExists I)) (sym second) (entrants_exist I E T old c.requires.fits);
       few = subst (λ (xs : List Entrant). length xs ≤ 200000) (sym second)
           (entrants_few E T old c.pairs.ensures.kept);
-      held = subst (λ (xs : List Entrant). AreHeld (kept_rows xs) c.deref-3.result.now)
+      held = subst (λ (xs : List Entrant). AreHeld (old_rows xs) c.deref-3.result.now)
           (first ∙ sym second)
-          (subst (AreHeld (kept_rows c.deref.result.now))
+          (subst (AreHeld (old_rows c.deref.result.now))
           (sym c.deref-3.ensures.value) c.in_ok-held.ensures);
     }
 

@@ -5,7 +5,7 @@ use Rattle.std.proofs.lemmas.List.Sorted.{answers_always}
 use Rattle.exam_model.specs.Pairs.{Pair}
 use Rattle.exam_publish.specs.declared.seat_row.SeatRow.{SeatRow}
 use Rattle.exam_publish.proofs.SearchLemmas.{row_found, no_row}
-use Rattle.exam_publish.proofs.entrants.kept_row.Goals as goal
+use Rattle.exam_publish.proofs.entrants.old_row.Goals as goal
 
 pub returns-in_default : goal.returns-in_default
 returns-in_default c =
