@@ -2,7 +2,7 @@
 ghost use Rattle.std.specs.Prelude.{◌≡◌, ◌≤◌, ◌+◌, ◌∷◌, [], length, IfErr};
 ghost use Rattle.exam_terms.specs.declared.limits.TheConstants.{TEXT_BYTES};
 ghost use Rattle.csv.specs.Records.{fields_of};
-ghost use Rattle.office_files.specs.Faults.{IsOfNoLine};
+ghost use Rattle.office_files.specs.Faults.{HasNoLine};
 ghost use Rattle.office_files.specs.Reading.{AnswersReading, at_line};
 ghost use Rattle.office_batches.specs.BatchText.{batch_in, behind, changes_from, records_in};
 
@@ -19,7 +19,7 @@ use std::alloc::Global;
 /// 1,048,576 bytes) and `NoMemory` have line 0.
 pub fn read_batch(alloc: Global, text: &[u8]) -> Result<Vec<Change>, FileFault>
     ensures exact { AnswersReading (λ read. read.items) result (batch_in text.now) }
-    ensures memory { IfErr result IsOfNoLine }
+    ensures memory { IfErr result HasNoLine }
 {
     if text.len() > TEXT_BYTES {
         return Err(FileFault::TOO_LONG);
@@ -32,7 +32,7 @@ fn changes_in(alloc: Global, text: &[u8]) -> Result<Vec<Change>, FileFault>
     requires { length text.now ≤ TEXT_BYTES }
     ensures exact { AnswersReading (λ read. read.items) result
         (changes_from 1 [] (records_in text.now)) }
-    ensures memory { IfErr result IsOfNoLine }
+    ensures memory { IfErr result HasNoLine }
 {
     let mut reader = ReaderBuilder::new()
         .has_headers(false)
@@ -56,7 +56,7 @@ fn changes_in(alloc: Global, text: &[u8]) -> Result<Vec<Change>, FileFault>
 fn add_record(changes: &mut Vec<Change>, row: &ByteRecord, line: u32) -> Result<(), FileFault>
     ensures exact { AnswersReading (λ _. changes.new.items) result
         (at_line line (behind line changes.old.items (fields_of row.now))) }
-    ensures memory { IfErr result IsOfNoLine }
+    ensures memory { IfErr result HasNoLine }
 {
     if line == 1 {
         if !is_header(row) {

@@ -7,7 +7,7 @@ ghost use Rattle.exam_model.specs.Fits.{Fits, PlaceExists};
 ghost use Rattle.office_files.specs.FirstFault.{first_fault, first_solution_fault};
 ghost use Rattle.office_files.specs.InstanceText.{InstanceText};
 ghost use Rattle.office_files.specs.SolutionText.{SolutionText};
-ghost use Rattle.office_files.specs.Inputs.{RefusesFile, TakesAtMost};
+ghost use Rattle.office_files.specs.Inputs.{RefusesFile, ReadsAtMost};
 ghost use Rattle.office_check.specs.Check.{IsJudgement, Reports};
 ghost use Rattle.office_check.specs.Refusing.{Refuses, of_instance, of_solution};
 ghost use Rattle.office_check.specs.Check.{IsSomeJudgement, WritesReport, exit_status, report};
@@ -71,9 +71,9 @@ pub fn check_run<R: Read, Q: Read, W: Write>(
         → Keeps (W.contents writer.old) (W.contents writer.new)) }
 
     // Each reader is read at most one byte past its limit.
-    ensures instance_taken { TakesAtMost (INSTANCE_BYTES + 1)
+    ensures instance_taken { ReadsAtMost (INSTANCE_BYTES + 1)
         (R.remaining instance_reader.old) (R.remaining instance_reader.new) }
-    ensures solution_taken { TakesAtMost (TEXT_BYTES + 1)
+    ensures solution_taken { ReadsAtMost (TEXT_BYTES + 1)
         (Q.remaining solution_reader.old) (Q.remaining solution_reader.new) }
 {
     let judged = judgement_of(alloc, instance_reader, solution_reader)?;
@@ -97,9 +97,9 @@ fn judgement_of<R: Read, Q: Read>(
     ensures within { IfOk result (λ judged. (judged.status ≡ 0) ⊎ (judged.status ≡ 3)) }
     ensures refused { IfErr result (λ fault. IfSome (R.remaining instance_reader.old) (λ instance.
         IfSome (Q.remaining solution_reader.old) (λ solution. Refuses instance solution fault))) }
-    ensures instance_taken { TakesAtMost (INSTANCE_BYTES + 1)
+    ensures instance_taken { ReadsAtMost (INSTANCE_BYTES + 1)
         (R.remaining instance_reader.old) (R.remaining instance_reader.new) }
-    ensures solution_taken { TakesAtMost (TEXT_BYTES + 1)
+    ensures solution_taken { ReadsAtMost (TEXT_BYTES + 1)
         (Q.remaining solution_reader.old) (Q.remaining solution_reader.new) }
 {
     let (instance, enrolments) = match instance_of(alloc, instance_reader) {
@@ -127,7 +127,7 @@ pub(crate) fn instance_of<R: Read>(
     ensures refused { IfErr result (λ fault. IfSome (R.remaining reader.old)
         (λ input. RefusesFile (first_fault input) fault)) }
     ensures fits { IfOk result (λ read. length read.1 ≡ length read.0.exams) }
-    ensures taken { TakesAtMost (INSTANCE_BYTES + 1)
+    ensures taken { ReadsAtMost (INSTANCE_BYTES + 1)
         (R.remaining reader.old) (R.remaining reader.new) }
 {
     let text = instance_text(alloc, reader)?;
@@ -158,7 +158,7 @@ pub(crate) fn solution_of<R: Read>(
         (λ input. RefusesFile (first_solution_fault instance.now input) fault)) }
     ensures fits { IfOk result (λ timetable. length timetable ≡ length instance.now.exams) }
     ensures exist { IfOk result (λ timetable. All (PlaceExists instance.now) timetable) }
-    ensures taken { TakesAtMost (TEXT_BYTES + 1) (R.remaining reader.old) (R.remaining reader.new) }
+    ensures taken { ReadsAtMost (TEXT_BYTES + 1) (R.remaining reader.old) (R.remaining reader.new) }
 {
     let text = solution_text(alloc, reader)?;
     Ok(read_solution(alloc, &text, instance)?)

@@ -7,7 +7,7 @@ ghost use Rattle.exam_terms.specs.declared.limits.TheConstants.{INSTANCE_BYTES, 
 ghost use Rattle.exam_model.specs.Fits.{Fits};
 ghost use Rattle.office_files.specs.FirstFault.{first_fault, first_solution_fault};
 ghost use Rattle.office_files.specs.InstanceText.{InstanceText};
-ghost use Rattle.office_files.specs.Inputs.{RefusesFile, TakesAtMost};
+ghost use Rattle.office_files.specs.Inputs.{RefusesFile, ReadsAtMost};
 ghost use Rattle.office_check.specs.Verdicts.{IsVerdict, IsVerdictOn, column, json_line, plain_line};
 ghost use Rattle.office_check.specs.Verdicts.{numbers_of, verdict_data, verdict_line};
 
@@ -66,7 +66,7 @@ impl Judge {
         ensures refused { IfErr result (λ fault. IfSome (R.remaining reader.old)
             (λ input. RefusesFile (first_fault input) fault)) }
         // The reader is read at most one byte past the limit.
-        ensures taken { TakesAtMost (INSTANCE_BYTES + 1)
+        ensures taken { ReadsAtMost (INSTANCE_BYTES + 1)
             (R.remaining reader.old) (R.remaining reader.new) }
     {
         let (instance, enrolments) = instance_of(alloc, reader)?;
@@ -85,7 +85,7 @@ impl Judge {
             (input : List ℕ) × IsVerdictOn self.now.0 self.now.1 input verdict) }
         ensures refused { IfErr result (λ fault. IfSome (R.remaining reader.old)
             (λ input. RefusesFile (first_solution_fault self.now.0 input) fault)) }
-        ensures taken { TakesAtMost (TEXT_BYTES + 1)
+        ensures taken { ReadsAtMost (TEXT_BYTES + 1)
             (R.remaining reader.old) (R.remaining reader.new) }
     {
         judge_by(alloc, &self.instance, &self.enrolments, reader)
@@ -106,7 +106,7 @@ fn judge_by<R: Read>(
         (input : List ℕ) × IsVerdictOn instance.now enrolments.now input verdict) }
     ensures refused { IfErr result (λ fault. IfSome (R.remaining reader.old)
         (λ input. RefusesFile (first_solution_fault instance.now input) fault)) }
-    ensures taken { TakesAtMost (TEXT_BYTES + 1) (R.remaining reader.old) (R.remaining reader.new) }
+    ensures taken { ReadsAtMost (TEXT_BYTES + 1) (R.remaining reader.old) (R.remaining reader.new) }
 {
     let timetable = solution_of(alloc, reader, instance)?;
     let verdict = verdict_on(alloc, instance, enrolments, &timetable)?;

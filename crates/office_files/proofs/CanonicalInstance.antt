@@ -554,11 +554,11 @@ instance_spelled I E is kept fits =
         room_rules = I.room_rules;
         weightings = ws;
       };
-      behind_exams = rows a1.0 a1.1 t2;
-      behind_periods = rows a2.0 a2.1 t3;
-      behind_rooms = rows a3.0 a3.1 t4;
-      behind_period_rules = rows a4.0 a4.1 t5;
-      behind_room_rules = rows a5.0 a5.1 t6;
+      rest_after_exams = rows a1.0 a1.1 t2;
+      rest_after_periods = rows a2.0 a2.1 t3;
+      rest_after_rooms = rows a3.0 a3.1 t4;
+      rest_after_period_rules = rows a4.0 a4.1 t5;
+      rest_after_room_rules = rows a5.0 a5.1 t6;
       exams = subst
           (λ (t : List ℕ). IsSection exams_heading exam_line (rows 1 0 t) es (rows a1.0 a1.1 t2))
           (sym whole) a1.2;

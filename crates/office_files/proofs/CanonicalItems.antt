@@ -25,7 +25,7 @@ use Rattle.office_files.specs.CanonicalLines.{weighting_text}
 use Rattle.office_files.specs.CanonicalText.{nights_of, weightings_of}
 use Rattle.office_files.specs.Dates.{date_of, time_of}
 use Rattle.office_files.specs.ExamStudents.{with_students, named_in, fault_in}
-use Rattle.office_files.specs.ExamLines.{ExamLine, exam_behind}
+use Rattle.office_files.specs.ExamLines.{ExamLine, exam_after_pairs}
 use Rattle.office_files.specs.Fields.{split_once}
 use Rattle.office_files.specs.Items.{period_in, room_in, period_rule_in, room_rule_in}
 use Rattle.office_files.specs.Numbers.{number}
@@ -245,7 +245,7 @@ in_order ss up =
 
 pub exam_back : (pairs : ℕ) (e : ExamLine) → e.minutes ≤ 1440
     → AllByRecursion (λ s. s ≤ 999999999) e.students → IsAscending e.students
-    → pairs + length e.students ≤ 200000 → exam_behind pairs (exam_fields e) ≡ Ok e
+    → pairs + length e.students ≤ 200000 → exam_after_pairs pairs (exam_fields e) ≡ Ok e
 exam_back pairs e le all up fits =
     let named = all_named e.students all in
     let inside = in_order e.students up in

@@ -13,7 +13,7 @@ use Rattle.office_files.specs.Fields.{fields_of, first, rest}
 use Rattle.office_files.specs.Lines.{Located}
 use Rattle.office_files.specs.Numbers.{number}
 use Rattle.office_files.specs.Reading.{items_of}
-use Rattle.office_files.specs.ExamLines.{ExamLine, exam_line, exam_behind, exam_of, pairs_on}
+use Rattle.office_files.specs.ExamLines.{ExamLine, exam_line, exam_after_pairs, exam_of, pairs_on}
 use Rattle.office_files.specs.ExamStudents.{students_in}
 use Rattle.office_files.specs.ExamLines.{EntersLine, IsEmptyExam}
 use Rattle.office_files.specs.ExamStudents.{with_students, named_in, fault_in}
@@ -26,7 +26,8 @@ use Rattle.office_files.proofs.ExamLinePairs.{pair_count-enrolled}
 -- a line with these minutes has the values of its students' fields
 behind_minutes : (pairs minutes : ℕ) (fields : List (List ℕ)) (r : Result (List ℕ) FaultKind) →
     number 1440 (first fields) ≡ Ok minutes → students_in pairs [] (rest fields) ≡ r →
-    exam_behind pairs fields ≡ (r >>= λ names. Ok (record { minutes = minutes; students = names }))
+    exam_after_pairs pairs fields ≡ (r >>= λ names. Ok
+    (record { minutes = minutes; students = names }))
 behind_minutes pairs minutes fields r is said = rw (is, said) refl
 
 -- the part of a line that was read: its minutes, and the students up to the first fault, ascending
@@ -58,7 +59,7 @@ module _ (E : Enrolled) (e : ℕ) (fields : List (List ℕ)) (minutes : ℕ) (si
     (is : IsReadOf fields minutes sitters fault) where
   -- if all students are added, only a field of the line can be faulty
   line_within : (new : Enrolled) → new ≡ set E e sitters → AreEnrolments new →
-      exam_behind (pair_count E) fields
+      exam_after_pairs (pair_count E) fields
       ≡ (judged fault sitters >>= λ xs. Ok (record { minutes = minutes; students = xs }))
   line_within new changed kept =
       let pairs : pair_count new ≡ pair_count E + length sitters =
@@ -84,12 +85,12 @@ module _ (E : Enrolled) (e : ℕ) (fields : List (List ℕ)) (minutes : ℕ) (si
 
   -- a line with a faulty field
   pub line_faulty : (new : Enrolled) (what : FaultKind) → fault ≡ Some what →
-      new ≡ set E e sitters → AreEnrolments new → exam_behind (pair_count E) fields ≡ Err what
+      new ≡ set E e sitters → AreEnrolments new → exam_after_pairs (pair_count E) fields ≡ Err what
   line_faulty new what bad changed kept = rw bad at (line_within new changed kept)
 
   -- a line with too many students
   pub line_past : 200000 < pair_count E + length sitters →
-      exam_behind (pair_count E) fields ≡ Err OutOfRange
+      exam_after_pairs (pair_count E) fields ≡ Err OutOfRange
   line_past past =
       let few = empty.kept.pairs in
       let size = ap length is.students_are in
@@ -152,8 +153,8 @@ module _ (all left : List Located) (count done : ℕ) (exams : List Exam) (E : E
       omega arith
 
   said_so : exam_line so_far.before (fields_of row.text)
-      ≡ exam_behind (pair_count E) (fields_of row.text)
-  said_so = ap (λ k. exam_behind k (fields_of row.text)) (sym pairs_are)
+      ≡ exam_after_pairs (pair_count E) (fields_of row.text)
+  said_so = ap (λ k. exam_after_pairs k (fields_of row.text)) (sym pairs_are)
 
   whole : items_of exam_line so_far.before (take (suc others) (row ∷ rows))
       ≡ items_of exam_line [] (take count all)
@@ -164,7 +165,7 @@ module _ (all left : List Located) (count done : ℕ) (exams : List Exam) (E : E
 
   -- a faulty line is the fault of all
   pub so_far_fault : (what : FaultKind) →
-      exam_behind (pair_count E) (fields_of row.text) ≡ Err what →
+      exam_after_pairs (pair_count E) (fields_of row.text) ≡ Err what →
       items_of exam_line [] (take count all) ≡ Err (record { line = row.line; what = what })
   so_far_fault what bad =
       sym whole ∙ items-fault so_far.before what row rows others (said_so ∙ bad)

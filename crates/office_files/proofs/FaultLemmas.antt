@@ -7,8 +7,8 @@ use Rattle.std.proofs.lemmas.Bool.{cases_Bool}
 use Rattle.std.proofs.lemmas.List.{append-nil, append_assoc, length-append}
 use Rattle.exam_terms.specs.Refusing.{◌>>=◌}
 use Rattle.office_files.specs.Fields.{fields_of}
-use Rattle.office_files.specs.Reading.{fault_of, fault_behind}
-use Rattle.office_files.specs.LineFaults.{Standing, behind, header_fault, item_fault, line_fault}
+use Rattle.office_files.specs.Reading.{fault_of, fault_after_lines}
+use Rattle.office_files.specs.LineFaults.{LinePosition, behind, header_fault, item_fault, line_fault}
 use Rattle.office_files.specs.FirstFault.{at_line_or, first_from}
 use Rattle.office_files.specs.Lines.{Located, is_header, section_size}
 use Rattle.office_files.specs.Reading.{at_line, items_of}
@@ -59,12 +59,12 @@ items_push read before all (l ∷ lines) line x e is =
     rw head.1 (items_push read (before ++ head.0 ∷ []) all lines line x head.2 is)
 
 -- the position of the line after these of a section
-abbrev pub here : ℕ → (ℕ → ℕ) → List Located → Standing
+abbrev pub here : ℕ → (ℕ → ℕ) → List Located → LinePosition
 here headers exams since =
     record { headers = headers + 1; since = since; exams = exams (length since) }
 
 -- the position of a header, or of the end
-abbrev pub at_header : ℕ → ℕ → Standing
+abbrev pub at_header : ℕ → ℕ → LinePosition
 at_header headers exams = record { headers = headers; since = []; exams = exams }
 
 -- the section after this many headers is judged by this heading and this reading, and there are
@@ -77,7 +77,7 @@ pub record Judges {A : Type 0} (heading : Heading)
       header_fault headers size line ≡ fault_of (header_in heading size line.text)
   pub line : (n : ℕ) (since : List Located) (line : Located) →
       item_fault (headers + 1) (record { exams = exams n; periods = 0; rooms = 0 }) since line
-      ≡ fault_behind read since line
+      ≡ fault_after_lines read since line
   pub more : (n : ℕ) →
       (if headers + 1 == 1 then exams n + 1 else exams n) ≡ exams (n + 1)
 

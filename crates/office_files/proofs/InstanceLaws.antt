@@ -68,15 +68,15 @@ weightings_in exams = section_in weightings_heading (weighting_line (counts_of e
 
 -- the later sections, one after the other, followed by nothing
 pub record AreLater (lines : List Located) (s : Spelled) : Type 0 where
-  pub behind_periods : List Located
-  pub behind_rooms : List Located
-  pub behind_period_rules : List Located
-  pub behind_room_rules : List Located
-  pub periods : ArePeriods s.exams lines s.periods behind_periods
-  pub rooms : AreRooms s.exams behind_periods s.rooms behind_rooms
-  pub period_rules : ArePeriodRules s.exams behind_rooms s.period_rules behind_period_rules
-  pub room_rules : AreRoomRules s.exams behind_period_rules s.room_rules behind_room_rules
-  pub weightings : AreWeightings s.exams behind_room_rules s.weightings []
+  pub rest_after_periods : List Located
+  pub rest_after_rooms : List Located
+  pub rest_after_period_rules : List Located
+  pub rest_after_room_rules : List Located
+  pub periods : ArePeriods s.exams lines s.periods rest_after_periods
+  pub rooms : AreRooms s.exams rest_after_periods s.rooms rest_after_rooms
+  pub period_rules : ArePeriodRules s.exams rest_after_rooms s.period_rules rest_after_period_rules
+  pub room_rules : AreRoomRules s.exams rest_after_period_rules s.room_rules rest_after_room_rules
+  pub weightings : AreWeightings s.exams rest_after_room_rules s.weightings []
 
 none_left : (lines : List Located) (u : Unit {0}) → no_more lines ≡ Ok u → lines ≡ []
 none_left [] u e = refl
@@ -97,10 +97,10 @@ later_are end exams lines said e =
     subst (λ (s : Spelled). (s.exams ≡ exams) × AreLater lines s) (ok_same _ _ said refl none.2) (
       refl,
       record {
-        behind_periods = periods.0.1;
-        behind_rooms = rooms.0.1;
-        behind_period_rules = on_periods.0.1;
-        behind_room_rules = on_rooms.0.1;
+        rest_after_periods = periods.0.1;
+        rest_after_rooms = rooms.0.1;
+        rest_after_period_rules = on_periods.0.1;
+        rest_after_room_rules = on_rooms.0.1;
         periods = section_is _ _ end lines periods.0.0 periods.0.1 periods.1;
         rooms = section_is _ _ end periods.0.1 rooms.0.0 rooms.0.1 rooms.1;
         period_rules = section_is _ _ end rooms.0.1 on_periods.0.0 on_periods.0.1 on_periods.1;
@@ -114,18 +114,20 @@ are_later : (end : ℕ) (lines : List Located) (said : Spelled) → AreLater lin
     later_sections end said.exams lines ≡ Ok said
 are_later end lines said s =
     let exams = said.exams in
-    ok_bind (periods_in exams end lines) _ (said.periods, s.behind_periods) said
-    (is_section _ _ end lines said.periods s.behind_periods s.periods)
-    (ok_bind (rooms_in exams end s.behind_periods) _ (said.rooms, s.behind_rooms) said
-    (is_section _ _ end s.behind_periods said.rooms s.behind_rooms s.rooms)
-    (ok_bind (period_rules_in exams end s.behind_rooms) _
-    (said.period_rules, s.behind_period_rules) said
-    (is_section _ _ end s.behind_rooms said.period_rules s.behind_period_rules s.period_rules)
-    (ok_bind (room_rules_in exams end s.behind_period_rules) _
-    (said.room_rules, s.behind_room_rules) said
-    (is_section _ _ end s.behind_period_rules said.room_rules s.behind_room_rules s.room_rules)
-    (ok_bind (weightings_in exams end s.behind_room_rules) _ (said.weightings, []) said
-    (is_section _ _ end s.behind_room_rules said.weightings [] s.weightings) refl))))
+    ok_bind (periods_in exams end lines) _ (said.periods, s.rest_after_periods) said
+    (is_section _ _ end lines said.periods s.rest_after_periods s.periods)
+    (ok_bind (rooms_in exams end s.rest_after_periods) _ (said.rooms, s.rest_after_rooms) said
+    (is_section _ _ end s.rest_after_periods said.rooms s.rest_after_rooms s.rooms)
+    (ok_bind (period_rules_in exams end s.rest_after_rooms) _
+    (said.period_rules, s.rest_after_period_rules) said
+    (is_section _ _ end s.rest_after_rooms said.period_rules s.rest_after_period_rules
+    s.period_rules)
+    (ok_bind (room_rules_in exams end s.rest_after_period_rules) _
+    (said.room_rules, s.rest_after_room_rules) said
+    (is_section _ _ end s.rest_after_period_rules said.room_rules s.rest_after_room_rules
+    s.room_rules)
+    (ok_bind (weightings_in exams end s.rest_after_room_rules) _ (said.weightings, []) said
+    (is_section _ _ end s.rest_after_room_rules said.weightings [] s.weightings) refl))))
 
 -- the text describes the result of its reading
 pub read_is_text : (b : List ℕ) (I : Session) (E : Enrolled) → instance_in b ≡ Ok (I, E) →
@@ -145,11 +147,11 @@ read_is_text b I E e =
     record {
       within = leb-true (length b) 4194304 passed;
       said = said.0;
-      behind_exams = exams.0.1;
-      behind_periods = behind.behind_periods;
-      behind_rooms = behind.behind_rooms;
-      behind_period_rules = behind.behind_period_rules;
-      behind_room_rules = behind.behind_room_rules;
+      rest_after_exams = exams.0.1;
+      rest_after_periods = behind.rest_after_periods;
+      rest_after_rooms = behind.rest_after_rooms;
+      rest_after_period_rules = behind.rest_after_period_rules;
+      rest_after_room_rules = behind.rest_after_room_rules;
       exams = rw later.0 first;
       periods = behind.periods;
       rooms = behind.rooms;
@@ -180,12 +182,12 @@ pub text_is_read : (b : List ℕ) (I : Session) (E : Enrolled) → InstanceText 
     instance_in b ≡ Ok (I, E)
 text_is_read b I E t =
     let end = line_count b + 1 in
-    let exams = is_section _ _ end (lines_of b) t.said.exams t.behind_exams t.exams in
-    let later = are_later end t.behind_exams t.said (record {
-      behind_periods = t.behind_periods;
-      behind_rooms = t.behind_rooms;
-      behind_period_rules = t.behind_period_rules;
-      behind_room_rules = t.behind_room_rules;
+    let exams = is_section _ _ end (lines_of b) t.said.exams t.rest_after_exams t.exams in
+    let later = are_later end t.rest_after_exams t.said (record {
+      rest_after_periods = t.rest_after_periods;
+      rest_after_rooms = t.rest_after_rooms;
+      rest_after_period_rules = t.rest_after_period_rules;
+      rest_after_room_rules = t.rest_after_room_rules;
       periods = t.periods;
       rooms = t.rooms;
       period_rules = t.period_rules;
@@ -193,7 +195,7 @@ text_is_read b I E t =
       weightings = t.weightings;
     }) in
     rw (t.session, t.enrolled)
-    (sections_are_read b t.said.exams t.behind_exams t.said t.within exams later)
+    (sections_are_read b t.said.exams t.rest_after_exams t.said t.within exams later)
 
 -- a text spells one session and one set of enrolments
 pub one_reading : (b : List ℕ) (I J : Session) (E F : Enrolled) →
@@ -277,6 +279,6 @@ later_is_instance said end lines behind exams e more =
     let later = later_are end exams behind said more in
     let first = section_is exams_heading exam_line end lines exams behind e in
     let s = later.1 in
-    sections_are_instance said lines behind s.behind_periods s.behind_rooms
-    s.behind_period_rules s.behind_room_rules []
+    sections_are_instance said lines behind s.rest_after_periods s.rest_after_rooms
+    s.rest_after_period_rules s.rest_after_room_rules []
     (rw later.0 first) s.periods s.rooms s.period_rules s.room_rules s.weightings

@@ -21,35 +21,38 @@ abbrev pub among : ℕ → Counts
 among n = record { exams = n; periods = 0; rooms = 0 }
 
 module _ (end n : ℕ) (exams : List ExamLine) (same : length exams ≡ n)
-    (lines behind_periods behind_rooms : List Located) (periods : List Period) (rooms : List Room)
+    (lines rest_after_periods rest_after_rooms : List Located) (periods : List Period)
+    (rooms : List Room)
     (are_periods : section_in periods_heading (period_line (among n)) end lines
-    ≡ Ok (periods, behind_periods))
-    (are_rooms : section_in rooms_heading (room_line (among n)) end behind_periods
-    ≡ Ok (rooms, behind_rooms))
-    (behind_period_rules : List Located) (period_rules : List PeriodRule)
+    ≡ Ok (periods, rest_after_periods))
+    (are_rooms : section_in rooms_heading (room_line (among n)) end rest_after_periods
+    ≡ Ok (rooms, rest_after_rooms))
+    (rest_after_period_rules : List Located) (period_rules : List PeriodRule)
     (are_period_rules : section_in period_rules_heading
-    (period_rule_line (among n)) end behind_rooms
-    ≡ Ok (period_rules, behind_period_rules)) where
+    (period_rule_line (among n)) end rest_after_rooms
+    ≡ Ok (period_rules, rest_after_period_rules)) where
   -- a fault in the rules on rooms
   pub faulty_room_rules : (fault : FileFault)
-      → section_in room_rules_heading (room_rule_line (among n)) end behind_period_rules ≡ Err fault
+      → section_in room_rules_heading (room_rule_line (among n)) end rest_after_period_rules
+      ≡ Err fault
       → later_sections end exams lines ≡ Err fault
   faulty_room_rules fault is = rw (same, are_periods, are_rooms, are_period_rules, is) refl
 
-  module _ (behind_room_rules : List Located) (room_rules : List RoomRule)
+  module _ (rest_after_room_rules : List Located) (room_rules : List RoomRule)
       (are_room_rules : section_in room_rules_heading
-      (room_rule_line (among n)) end behind_period_rules
-      ≡ Ok (room_rules, behind_room_rules)) where
+      (room_rule_line (among n)) end rest_after_period_rules
+      ≡ Ok (room_rules, rest_after_room_rules)) where
     -- a fault in the weightings
     pub faulty_weightings : (fault : FileFault)
-        → section_in weightings_heading (weighting_line (among n)) end behind_room_rules ≡ Err fault
+        → section_in weightings_heading (weighting_line (among n)) end rest_after_room_rules
+        ≡ Err fault
         → later_sections end exams lines ≡ Err fault
     faulty_weightings fault is =
         rw (same, are_periods, are_rooms, are_period_rules, are_room_rules, is) refl
 
     module _ (behind : List Located) (weightings : List Weighting)
         (are_weightings : section_in weightings_heading
-        (weighting_line (among n)) end behind_room_rules
+        (weighting_line (among n)) end rest_after_room_rules
         ≡ Ok (weightings, behind)) where
       -- a line after the last section
       pub faulty_end : (fault : FileFault) → no_more behind ≡ Err fault

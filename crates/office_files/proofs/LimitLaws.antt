@@ -157,8 +157,9 @@ module _ (lines : List Located) (items : List ExamLine)
 pub session_within : (b : List ℕ) (I : Session) (E : Enrolled) → InstanceText b I E → IsInstance I
 session_within b I E t =
     subst IsInstance (sym t.session)
-    (sections_are_instance t.said (lines_of b) t.behind_exams t.behind_periods t.behind_rooms
-    t.behind_period_rules t.behind_room_rules [] t.exams t.periods t.rooms t.period_rules
+    (sections_are_instance t.said (lines_of b) t.rest_after_exams t.rest_after_periods
+    t.rest_after_rooms
+    t.rest_after_period_rules t.rest_after_room_rules [] t.exams t.periods t.rooms t.period_rules
     t.room_rules t.weightings)
 
 pub enrolments_within : (b : List ℕ) (I : Session) (E : Enrolled) → InstanceText b I E
@@ -167,7 +168,7 @@ enrolments_within b I E t =
     subst AreEnrolments (sym t.enrolled)
     (listed_within t.exams.body t.said.exams t.exams.spelled
     (counted_section exams_heading exam_line 2000
-    (lines_of b) t.said.exams t.behind_exams refl t.exams))
+    (lines_of b) t.said.exams t.rest_after_exams refl t.exams))
 
 pub one_number : (b : List ℕ) (I : Session) (E : Enrolled) → InstanceText b I E
     → length E ≡ length I.exams

@@ -76,7 +76,8 @@ sits_as_named b I E s e line t lt at =
     let item = get_or items e d in
     let here : slice_get items e ≡ Some item = slice_get-get_or items e d within in
     let lines : slice_get body e ≡ Some line
-    = line_behind t.exams.header body t.behind_exams e line (omega (arith, t.exams.spelled.as_many))
+    = line_behind t.exams.header body t.rest_after_exams e line
+    (omega (arith, t.exams.spelled.as_many))
     (ap (λ xs. slice_get xs (e + 1)) (sym t.exams.cut) ∙ at) in
     let read = t.exams.spelled.each e line item lines here in
     let listed : slice_index_or E e [] ≡ item.students

@@ -7,16 +7,16 @@ use Rattle.exam_terms.specs.Texts.{trim_start, trim_end, trimmed}
 use Rattle.office_files.specs.Fields.{ended_parts}
 use Rattle.office_files.specs.Lines.{Piece, Located, placed, without_return, inner_start, located}
 use Rattle.office_files.specs.Lines.{lines_from, is_header}
-use Rattle.office_files.specs.Tokens.{tokens_in, tokens_of, LieInRow}
+use Rattle.office_files.specs.Tokens.{tokens_in, tokens_of, AreInRow}
 use Rattle.office_files.proofs.SliceLaws.{tokens_slice, trim_start-le, trim_end_front, return_front}
 
-lower : (low low' high : ℕ) (ss : List Located) → low ≤ low' → LieInRow low' ss high
-    → LieInRow low ss high
+lower : (low low' high : ℕ) (ss : List Located) → low ≤ low' → AreInRow low' ss high
+    → AreInRow low ss high
 lower low low' high [] le r = omega arith
 lower low low' high (s ∷ ss) le r = let begins = r.0 in (omega arith, r.1, r.2)
 
-joined : (low mid high : ℕ) (xs ys : List Located) → LieInRow low xs mid → LieInRow mid ys high →
-    LieInRow low (xs ++ ys) high
+joined : (low mid high : ℕ) (xs ys : List Located) → AreInRow low xs mid → AreInRow mid ys high →
+    AreInRow low (xs ++ ys) high
 joined low mid high [] ys a b = lower low mid high ys a b
 joined low mid high (x ∷ xs) ys a b = (a.0, a.1, joined x.end mid high xs ys a.2 b)
 
@@ -58,7 +58,7 @@ inner line p =
     }
 
 fields_run : (line start high : ℕ) (xs : List (List ℕ)) → start + extent xs ≤ high + 1 →
-    start ≤ high → LieInRow start (map (located line) (placed start xs)) high
+    start ≤ high → AreInRow start (map (located line) (placed start xs)) high
 unfolding extent
 fields_run line start high [] reach le = le
 fields_run line start high (x ∷ []) reach le =
@@ -74,18 +74,18 @@ fields_run line start high (x ∷ y ∷ ys) reach le =
 
 -- the tokens of a row lie within it
 row_runs : (row : Located) → row.end ≡ row.start + length row.text →
-    LieInRow row.start (tokens_in row) row.end
+    AreInRow row.start (tokens_in row) row.end
 row_runs row e =
     let fields = map (located row.line) (placed row.start (ended_parts 44 row.text)) in
     elim (is_header row.text) as (λ v.
-    LieInRow row.start (if v then row ∷ [] else fields) row.end) [
+    AreInRow row.start (if v then row ∷ [] else fields) row.end) [
       | true ↦ (omega arith, omega arith, omega arith)
       | false ↦ fields_run row.line row.start row.end (ended_parts 44 row.text)
           (omega (arith, extent-le 44 row.text)) (omega arith)
     ]
 
 rows_run : (line start high : ℕ) (xs : List (List ℕ)) → start + extent xs ≤ high →
-    LieInRow start (flat_map tokens_in (lines_from line (placed start xs))) high
+    AreInRow start (flat_map tokens_in (lines_from line (placed start xs))) high
 unfolding extent
 rows_run line start high [] reach = omega arith
 rows_run line start high (x ∷ xs) reach =
@@ -99,7 +99,7 @@ rows_run line start high (x ∷ xs) reach =
     omega (arith, i.ends, length-append (without_return x) f.0) in
     let others = lines_from (line + 1) (placed (start + length x + 1) xs) in
     elim (length (trimmed (without_return x)) == 0) as (λ v.
-    LieInRow start (flat_map tokens_in (if v then others else located line kept ∷ others)) high) [
+    AreInRow start (flat_map tokens_in (if v then others else located line kept ∷ others)) high) [
       | true ↦ lower start (start + length x + 1) high _ (omega arith) more
       | false ↦ joined start (inner_start kept + length (trimmed (without_return x))) high
           (tokens_in (located line kept)) _ (lower start (inner_start kept) _ _ i.begins row)
@@ -107,7 +107,7 @@ rows_run line start high (x ∷ xs) reach =
     ]
 
 -- the tokens of a text, in the order of their places
-pub tokens_run : (source : List ℕ) → LieInRow 0 (tokens_of source) (length source + 1)
+pub tokens_run : (source : List ℕ) → AreInRow 0 (tokens_of source) (length source + 1)
 tokens_run source =
     rows_run 1 0 (length source + 1) (ended_parts 10 source) (omega (arith, extent-le 10 source))
 

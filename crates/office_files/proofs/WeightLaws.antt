@@ -16,7 +16,7 @@ use Rattle.office_files.specs.InstanceText.{InstanceText}
 use Rattle.office_files.specs.Lines.{Located, is_header, lines_of}
 use Rattle.office_files.specs.Numbers.{number}
 use Rattle.office_files.specs.Reading.{at_line, items_of}
-use Rattle.office_files.specs.SaidWeights.{last_section, field_behind, begins_with, number_behind, Says, Weighs}
+use Rattle.office_files.specs.SaidWeights.{last_section, field_after, begins_with, number_after, Says, Weighs}
 use Rattle.office_files.specs.Headers.{Heading}
 use Rattle.office_files.specs.Sections.{AtHeader, IsSection}
 use Rattle.office_files.specs.Weightings.{weight_word, has_word, weighting_by, weighting_line}
@@ -39,7 +39,7 @@ use Rattle.office_files.proofs.WeightLemmas.{one_more}
 record IsWeight (w : WeightWord) (place : ℕ) (get : Weights → ℕ) : Type 0 where
   pub none : get no_weights ≡ 0
   pub hit : (fields : List (List ℕ)) (s : Weighting) (x : Weights) → weighting_by w fields ≡ Ok s
-      → number MAX_AMOUNT (field_behind place fields) ≡ Ok (get (with_weighting x s))
+      → number MAX_AMOUNT (field_after place fields) ≡ Ok (get (with_weighting x s))
   pub miss : (s : Weighting) (x : Weights) → has_word w s ≡ false
       → get (with_weighting x s) ≡ get x
 
@@ -56,9 +56,9 @@ module _ (w : WeightWord) (place : ℕ) (get : Weights → ℕ) (is : IsWeight w
   abbrev Lacks : Located → Type 0
   Lacks line = begins_with (text_of w) line ≡ false
 
-  abbrev Told : List Weighting → Located → Type 0
-  Told all line =
-      begins_with (text_of w) line ≡ true → number_behind (suc place) line ≡ Ok (weight all)
+  abbrev LineGives : List Weighting → Located → Type 0
+  LineGives all line =
+      begins_with (text_of w) line ≡ true → number_after (suc place) line ≡ Ok (weight all)
 
   abbrev Alone : Located → Located → Type 0
   Alone line other = begins_with (text_of w) line ≡ true → begins_with (text_of w) other ≡ false
@@ -118,7 +118,7 @@ module _ (w : WeightWord) (place : ℕ) (get : Weights → ℕ) (is : IsWeight w
       let same : before ≡ all = cc in
       record {
         once = λ i j d lt within. absurd (omega (arith, within));
-        said = All-nil (Told all);
+        said = All-nil (LineGives all);
         unsaid = λ none. ap weight (sym same) ∙ zero_yet;
       }
   says_behind before (line ∷ lines) all missing zero_yet read =
@@ -142,8 +142,8 @@ module _ (w : WeightWord) (place : ℕ) (get : Weights → ℕ) (is : IsWeight w
               once = AllPairs-cons Alone line lines
                   (All-weaker Lacks (Alone line) (λ l lacks _. lacks) lines more.0)
                   (λ i j d lt within _. more.0 j d within);
-              said = All-cons (Told all) line lines (λ _. here ∙ ap Ok (sym amount))
-                  (All-weaker Lacks (Told all) (λ l lacks begins. cc) lines more.0);
+              said = All-cons (LineGives all) line lines (λ _. here ∙ ap Ok (sym amount))
+                  (All-weaker Lacks (LineGives all) (λ l lacks begins. cc) lines more.0);
               unsaid = λ none. let lacks = All-head Lacks line lines none in cc;
             }
         | inr lacks ↦
@@ -156,7 +156,7 @@ module _ (w : WeightWord) (place : ℕ) (get : Weights → ℕ) (is : IsWeight w
             (passed before head.0 other ∙ zero_yet) head.2 in
             record {
               once = AllPairs-cons Alone line lines (λ k d within begins. cc) more.once;
-              said = All-cons (Told all) line lines (λ begins. cc) more.said;
+              said = All-cons (LineGives all) line lines (λ begins. cc) more.said;
               unsaid = λ none. more.unsaid (All-tail Lacks line lines none);
             }
       ]
@@ -329,19 +329,19 @@ weighs_as_said b I E t =
     let room_rules = t.said.room_rules in
     let weightings = t.said.weightings in
     let last : last_section (lines_of b) ≡ t.weightings.body
-    = section_skipped _ _ (lines_of b) exams t.behind_exams t.exams
-    (section_headed _ _ t.behind_exams periods t.behind_periods t.periods t.exams.up_to)
-    ∙ section_skipped _ _ t.behind_exams periods t.behind_periods t.periods
-    (section_headed _ _ t.behind_periods rooms t.behind_rooms t.rooms t.periods.up_to)
-    ∙ section_skipped _ _ t.behind_periods rooms t.behind_rooms t.rooms
-    (section_headed _ _ t.behind_rooms period_rules t.behind_period_rules t.period_rules
+    = section_skipped _ _ (lines_of b) exams t.rest_after_exams t.exams
+    (section_headed _ _ t.rest_after_exams periods t.rest_after_periods t.periods t.exams.up_to)
+    ∙ section_skipped _ _ t.rest_after_exams periods t.rest_after_periods t.periods
+    (section_headed _ _ t.rest_after_periods rooms t.rest_after_rooms t.rooms t.periods.up_to)
+    ∙ section_skipped _ _ t.rest_after_periods rooms t.rest_after_rooms t.rooms
+    (section_headed _ _ t.rest_after_rooms period_rules t.rest_after_period_rules t.period_rules
     t.rooms.up_to)
-    ∙ section_skipped _ _ t.behind_rooms period_rules t.behind_period_rules t.period_rules
-    (section_headed _ _ t.behind_period_rules room_rules t.behind_room_rules t.room_rules
+    ∙ section_skipped _ _ t.rest_after_rooms period_rules t.rest_after_period_rules t.period_rules
+    (section_headed _ _ t.rest_after_period_rules room_rules t.rest_after_room_rules t.room_rules
     t.period_rules.up_to)
-    ∙ section_skipped _ _ t.behind_period_rules room_rules t.behind_room_rules t.room_rules
-    (section_headed _ _ t.behind_room_rules weightings [] t.weightings t.room_rules.up_to)
-    ∙ section_last _ _ t.behind_room_rules weightings t.weightings t.room_rules.up_to in
+    ∙ section_skipped _ _ t.rest_after_period_rules room_rules t.rest_after_room_rules t.room_rules
+    (section_headed _ _ t.rest_after_room_rules weightings [] t.weightings t.room_rules.up_to)
+    ∙ section_last _ _ t.rest_after_room_rules weightings t.weightings t.room_rules.up_to in
     let weights : I.weights ≡ with_weightings no_weights weightings
     = ap (λ (J : Session). J.weights) t.session in
     let read = weighting_line (counts_of exams) in

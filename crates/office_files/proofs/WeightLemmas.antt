@@ -8,7 +8,7 @@ use Rattle.exam_terms.specs.Refusing.{◌>>=◌, unless}
 use Rattle.exam_model.specs.declared.parts.Weights.{Weights}
 use Rattle.office_files.specs.Fields.{first, rest, ended}
 use Rattle.office_files.specs.Numbers.{number}
-use Rattle.office_files.specs.SaidWeights.{field_behind}
+use Rattle.office_files.specs.SaidWeights.{field_after}
 use Rattle.office_files.specs.Weightings.{weight_word, has_word, amount_in, front_in, weighting_by}
 use Rattle.office_files.specs.Weightings.{weighting_line}
 use Rattle.office_files.specs.Weights.{with_weighting, with_weightings}
@@ -165,9 +165,9 @@ one_read make fields s is =
 
 -- the three numbers of the front load
 pub front_read : (fields : List (List ℕ)) (s : Weighting) → front_in fields ≡ Ok s
-    → (n : ℕ) × (k : ℕ) × (v : ℕ) × (number MAX_AMOUNT (field_behind 0 fields) ≡ Ok n)
-    × (number MAX_AMOUNT (field_behind 1 fields) ≡ Ok k)
-    × (number MAX_AMOUNT (field_behind 2 fields) ≡ Ok v) × (said.Front n k v ≡ s)
+    → (n : ℕ) × (k : ℕ) × (v : ℕ) × (number MAX_AMOUNT (field_after 0 fields) ≡ Ok n)
+    × (number MAX_AMOUNT (field_after 1 fields) ≡ Ok k)
+    × (number MAX_AMOUNT (field_after 2 fields) ≡ Ok v) × (said.Front n k v ≡ s)
 front_read fields s is =
     let exams = bind_ok (number MAX_AMOUNT (first fields)) _ s is in
     let periods = bind_ok (number MAX_AMOUNT (first (rest fields))) _ s exams.2 in

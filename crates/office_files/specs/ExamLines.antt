@@ -21,15 +21,15 @@ abbrev pub pairs_on : List ExamLine → ℕ
 pairs_on lines = sum_by (λ line. length line.students) lines
 
 -- a line of the section of exams, after this many pairs
-abbrev pub exam_behind : ℕ → List (List ℕ) → Result ExamLine FaultKind
-exam_behind pairs fields = do
+abbrev pub exam_after_pairs : ℕ → List (List ℕ) → Result ExamLine FaultKind
+exam_after_pairs pairs fields = do
   minutes ← number MAX_MINUTES (first fields)
   students ← students_in pairs [] (rest fields)
   Ok (record { minutes = minutes; students = students })
 
 -- a line of the section of exams
 abbrev pub exam_line : List ExamLine → List (List ℕ) → Result ExamLine FaultKind
-exam_line before fields = exam_behind (pairs_on before) fields
+exam_line before fields = exam_after_pairs (pairs_on before) fields
 
 -- the exam of a line
 abbrev pub exam_of : ExamLine → Exam
@@ -52,7 +52,7 @@ pub record IsEmptyExam (E : Enrolled) (exam : ℕ) : Type 0 where
 pub record EntersLine (old new : Enrolled) (exam : ℕ) (fields : List (List ℕ))
     (made : Exam) : Type 0 where
   pub said : ExamLine
-  pub read : exam_behind (pair_count old) fields ≡ Ok said
+  pub read : exam_after_pairs (pair_count old) fields ≡ Ok said
   pub is_exam : made ≡ exam_of said
   pub changed : new ≡ slice_set old exam said.students
   pub kept : AreEnrolments new

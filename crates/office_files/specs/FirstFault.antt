@@ -6,8 +6,8 @@ use Rattle.exam_model.specs.Instance.{Session}
 use Rattle.office_files.specs.ItemLines.{place_line}
 use Rattle.office_files.specs.Lines.{Located, section_size, lines_of, line_count}
 use Rattle.office_files.specs.SolutionText.{counts_in}
-use Rattle.office_files.specs.Reading.{fault_behind}
-use Rattle.office_files.specs.LineFaults.{Standing, at_start, behind, line_fault}
+use Rattle.office_files.specs.Reading.{fault_after_lines}
+use Rattle.office_files.specs.LineFaults.{LinePosition, at_start, behind, line_fault}
 use Rattle.office_files.specs.declared.counts.Counts.{Counts}
 use Rattle.office_files.specs.declared.fault.FaultKind.{FaultKind}
 use Rattle.office_files.specs.declared.fault.FaultKind.TheVariants.{TooLong, MissingSection}
@@ -20,7 +20,7 @@ at_line_or line (Some what) later = Some (record { line = line; what = what })
 at_line_or line None later = later
 
 -- the first fault of lines from their position on; the end of the file counts as one more line
-abbrev pub first_from : ℕ → Standing → List Located → Option FileFault
+abbrev pub first_from : ℕ → LinePosition → List Located → Option FileFault
 first_from end s [] =
     if nat_lt s.headers 6 then Some (record { line = end; what = MissingSection }) else None
 first_from end s (line ∷ lines) =
@@ -39,7 +39,7 @@ first_place_fault counts end before [] =
     if nat_lt (length before) counts.exams
     then Some (record { line = end; what = CountMismatch }) else None
 first_place_fault counts end before (line ∷ lines) =
-    at_line_or line.line (fault_behind (place_line counts) before line)
+    at_line_or line.line (fault_after_lines (place_line counts) before line)
     (first_place_fault counts end (before ++ line ∷ []) lines)
 
 -- the first fault of a solution file for a session, if it has one

@@ -9,23 +9,23 @@ use Rattle.office_files.specs.declared.inputs.InputFault.{InputFault}
 use Rattle.office_files.specs.declared.inputs.InputFault.TheVariants.{Read, File, NoMemory}
 
 -- at most this many of the known bytes are read from the front
-pub record TakesAtMost (most : ℕ) (old new : Option (List ℕ)) : Type 0 where
+pub record ReadsAtMost (most : ℕ) (old new : Option (List ℕ)) : Type 0 where
   pub bytes : List ℕ
   pub taken : Consumes old new bytes
   pub few : length bytes ≤ most
 
 -- out of memory while a file is read is no fault of the file
-abbrev pub ComesOf : FileFault → InputFault → Type 0
-ComesOf fault Read = ⊥
-ComesOf fault (File f) = (f ≡ fault) × (fault.what ≢ kind.NoMemory)
-ComesOf fault NoMemory = fault.what ≡ kind.NoMemory
+abbrev pub IsInputFaultOf : FileFault → InputFault → Type 0
+IsInputFaultOf fault Read = ⊥
+IsInputFaultOf fault (File f) = (f ≡ fault) × (fault.what ≢ kind.NoMemory)
+IsInputFaultOf fault NoMemory = fault.what ≡ kind.NoMemory
 
 -- the fault for a reader's text that is not read whole
-abbrev pub ComesOfReads : Unread → InputFault → Type 0
-ComesOfReads why.Failed fault = fault ≡ Read
-ComesOfReads why.Spent fault = fault ≡ Read
-ComesOfReads why.TooLong fault = fault ≡ File (record { line = 0; what = kind.TooLong })
-ComesOfReads why.NoMemory fault = fault ≡ NoMemory
+abbrev pub IsReadFaultOf : Unread → InputFault → Type 0
+IsReadFaultOf why.Failed fault = fault ≡ Read
+IsReadFaultOf why.Spent fault = fault ≡ Read
+IsReadFaultOf why.TooLong fault = fault ≡ File (record { line = 0; what = kind.TooLong })
+IsReadFaultOf why.NoMemory fault = fault ≡ NoMemory
 
 -- why a reader's text is not read whole: with this many reads left, of known bytes
 abbrev pub StaysUnread : ℕ → ℕ → Option (List ℕ) → Unread → Type 0

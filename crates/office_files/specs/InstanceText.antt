@@ -22,22 +22,22 @@ use Rattle.office_files.specs.declared.fault.FileFault.{FileFault}
 pub record InstanceText (b : List ℕ) (I : Session) (E : Enrolled) : Type 0 where
   pub within : length b ≤ INSTANCE_BYTES
   pub said : Spelled
-  pub behind_exams : List Located
-  pub behind_periods : List Located
-  pub behind_rooms : List Located
-  pub behind_period_rules : List Located
-  pub behind_room_rules : List Located
-  pub exams : IsSection exams_heading exam_line (lines_of b) said.exams behind_exams
+  pub rest_after_exams : List Located
+  pub rest_after_periods : List Located
+  pub rest_after_rooms : List Located
+  pub rest_after_period_rules : List Located
+  pub rest_after_room_rules : List Located
+  pub exams : IsSection exams_heading exam_line (lines_of b) said.exams rest_after_exams
   pub periods : IsSection periods_heading (period_line (counts_of said.exams))
-      behind_exams said.periods behind_periods
+      rest_after_exams said.periods rest_after_periods
   pub rooms : IsSection rooms_heading (room_line (counts_of said.exams))
-      behind_periods said.rooms behind_rooms
+      rest_after_periods said.rooms rest_after_rooms
   pub period_rules : IsSection period_rules_heading (period_rule_line (counts_of said.exams))
-      behind_rooms said.period_rules behind_period_rules
+      rest_after_rooms said.period_rules rest_after_period_rules
   pub room_rules : IsSection room_rules_heading (room_rule_line (counts_of said.exams))
-      behind_period_rules said.room_rules behind_room_rules
+      rest_after_period_rules said.room_rules rest_after_room_rules
   pub weightings : IsSection weightings_heading (weighting_line (counts_of said.exams))
-      behind_room_rules said.weightings []
+      rest_after_room_rules said.weightings []
   pub session : I ≡ session_of said
   pub enrolled : E ≡ enrolled_of said
 

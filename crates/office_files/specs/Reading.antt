@@ -53,6 +53,6 @@ fault_by read (Ok items) line = fault_of (read items (fields_of line.text))
 fault_by read (Err fault) line = None
 
 -- the fault of a line by the lines before it in its section
-abbrev pub fault_behind : {A : Type 0} → (List A → List (List ℕ) → Result A FaultKind)
+abbrev pub fault_after_lines : {A : Type 0} → (List A → List (List ℕ) → Result A FaultKind)
     → List Located → Located → Option FaultKind
-fault_behind read before line = fault_by read (items_of read [] before) line
+fault_after_lines read before line = fault_by read (items_of read [] before) line

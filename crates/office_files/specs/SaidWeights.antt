@@ -18,17 +18,17 @@ last_section (line ∷ lines) =
     else (if is_header line.text then lines else line ∷ lines)
 
 -- the field after this many others; empty if there are too few
-abbrev pub field_behind : ℕ → List (List ℕ) → List ℕ
-field_behind zero fields = first fields
-field_behind (suc n) fields = field_behind n (rest fields)
+abbrev pub field_after : ℕ → List (List ℕ) → List ℕ
+field_after zero fields = first fields
+field_after (suc n) fields = field_after n (rest fields)
 
 -- whether the first field of a line is this word, in large or small letters
 abbrev pub begins_with : List ℕ → Located → Bool
 begins_with word line = str_eq_ignore_ascii_case (first (fields_of line.text)) word
 
 -- the number in the field of a line after this many others
-abbrev pub number_behind : ℕ → Located → Result ℕ FaultKind
-number_behind before line = number MAX_AMOUNT (field_behind before (fields_of line.text))
+abbrev pub number_after : ℕ → Located → Result ℕ FaultKind
+number_after before line = number MAX_AMOUNT (field_after before (fields_of line.text))
 
 -- the number of a word in a section: at most one line begins with the word, and it has this number
 -- after that many fields; if no line begins with it, the number is 0
@@ -36,7 +36,7 @@ pub record Says (section : List Located) (word : List ℕ) (before amount : ℕ)
   pub once : AllPairs (λ line other. begins_with word line ≡ true
       → begins_with word other ≡ false) section
   pub said : All (λ line. begins_with word line ≡ true
-      → number_behind before line ≡ Ok amount) section
+      → number_after before line ≡ Ok amount) section
   pub unsaid : All (λ line. begins_with word line ≡ false) section → amount ≡ 0
 
 -- each weight is the number after its word in the section; the word of the front load is followed

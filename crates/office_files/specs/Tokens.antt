@@ -33,6 +33,6 @@ pub record IsSliceOf (source : List ℕ) (t : Located) : Type 0 where
   pub slice : t.text ≡ slice_range source t.start t.end
 
 -- the tokens are in order, one after another, between two indexes
-abbrev pub LieInRow : ℕ → List Located → ℕ → Type 0
-LieInRow low [] high = low ≤ high
-LieInRow low (t ∷ ts) high = (low ≤ t.start) × (t.start ≤ t.end) × LieInRow t.end ts high
+abbrev pub AreInRow : ℕ → List Located → ℕ → Type 0
+AreInRow low [] high = low ≤ high
+AreInRow low (t ∷ ts) high = (low ≤ t.start) × (t.start ≤ t.end) × AreInRow t.end ts high

@@ -13,7 +13,7 @@ const ZERO: u32 = 48;
 
 /// Returns the line without the space at its start, if there is one.
 #[inline]
-pub(crate) fn behind_space(line: &[u8]) -> &[u8]
+pub(crate) fn line_after_space(line: &[u8]) -> &[u8]
     ensures { result.now ≡ without_space line.now }
 {
     match line.split_first() {
@@ -28,7 +28,7 @@ pub(crate) fn behind_space(line: &[u8]) -> &[u8]
 pub(crate) fn first_digits(line: &[u8]) -> Option<(u32, &[u8])>
     ensures value { option_map (λ read. read.0) result
         ≡ few_digits (first (ended_parts 44 line.now)) }
-    ensures behind { IfSome result (λ read.
+    ensures rest { IfSome result (λ read.
         ended_parts 44 read.1.now ≡ rest (ended_parts 44 line.now)) }
 {
     let (value, end) = front_digits(line);

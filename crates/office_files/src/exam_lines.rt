@@ -3,11 +3,11 @@ ghost use Rattle.std.specs.Prelude.{◌≡◌, ◌≢◌, ◌≤◌, [], length,
 ghost use Rattle.std.specs.Prelude.{OnOk, IfOk, IfErr, Err};
 ghost use Rattle.exam_terms.specs.declared.limits.TheConstants.{MAX_EXAMS, MAX_STUDENT};
 ghost use Rattle.exam_model.specs.Enrolments.{IsAscending, pair_count};
-ghost use Rattle.office_files.specs.Faults.{IsOfNoLine};
+ghost use Rattle.office_files.specs.Faults.{HasNoLine};
 ghost use Rattle.office_files.specs.Fields.{fields_of, first, rest};
 ghost use Rattle.office_files.specs.Numbers.{number};
 ghost use Rattle.office_files.specs.Reading.{items_of};
-ghost use Rattle.office_files.specs.ExamLines.{exam_line, exam_behind, SaysExams};
+ghost use Rattle.office_files.specs.ExamLines.{exam_line, exam_after_pairs, SaysExams};
 ghost use Rattle.office_files.specs.ExamStudents.{with_students};
 ghost use Rattle.office_files.specs.ExamLines.{IsEmptyExam, EntersLine};
 ghost use Rattle.office_files.specs.ExamStudents.{named_in, fault_in};
@@ -38,7 +38,7 @@ pub(crate) fn exam_lines(
     ensures found { IfOk result (λ read. SaysExams (take count lines.old) read.0.items read.1) }
     ensures fault { IfErr result (λ fault. fault.what ≢ FaultKind.NoMemory
         → items_of exam_line [] (take count lines.old) ≡ Err fault) }
-    ensures memory { IfErr result IsOfNoLine }
+    ensures memory { IfErr result HasNoLine }
     ensures left { OnOk result (lines.new ≡ drop count lines.old) }
 {
     let Ok(mut enrolments) = Enrolments::new(alloc, count) else {
@@ -69,19 +69,19 @@ fn exam_line(
     ensures ok { IfOk result
         (EntersLine enrolments.old enrolments.new exam (fields_of line.now)) }
     ensures err { IfErr result (λ what. what ≢ FaultKind.NoMemory
-        → exam_behind (pair_count enrolments.old) (fields_of line.now) ≡ Err what) }
+        → exam_after_pairs (pair_count enrolments.old) (fields_of line.now) ≡ Err what) }
 {
     let mut fields = Fields::new(line);
     let minutes = fields.next_number(MAX_MINUTES)?;
-    let Ok(told) = gather(fields, named) else {
+    let Ok(gathered) = gather(fields, named) else {
         return Err(FaultKind::NoMemory);
     };
-    put_in_order(named, told.ascending);
+    sort_if_needed(named, gathered.ascending);
     match enrolments.enrol(named, exam) {
         Ok(()) => {}
         Err(fault) => return Err(kind_of(fault)),
     }
-    match told.fault {
+    match gathered.fault {
         None => Ok(Exam { minutes }),
         Some(what) => Err(what),
     }
@@ -90,8 +90,9 @@ fn exam_line(
 // Lists the students of the fields up to the first fault.
 fn gather(mut fields: Fields<'_>, named: &mut Vec<StudentNo>) -> Result<Gathered, AllocError>
     ensures names { OnOk result (named.new.items ≡ named_in fields.entry) }
-    ensures fault { IfOk result (λ told. told.fault ≡ fault_in fields.entry) }
-    ensures ascending { IfOk result (λ told. told.ascending ≡ true → IsAscending named.new.items) }
+    ensures fault { IfOk result (λ gathered. gathered.fault ≡ fault_in fields.entry) }
+    ensures ascending { IfOk result (λ gathered. gathered.ascending ≡ true
+        → IsAscending named.new.items) }
 {
     named.clear();
     let mut ascending = true;
@@ -124,7 +125,7 @@ fn next_student(fields: &mut Fields<'_>) -> Result<StudentNo, FaultKind>
 }
 
 // Brings the students into ascending order, each once; if they have it, nothing is moved.
-fn put_in_order(named: &mut Vec<StudentNo>, ascending: bool)
+fn sort_if_needed(named: &mut Vec<StudentNo>, ascending: bool)
     requires { ascending ≡ true → IsAscending named.old.items }
     ensures all { named.new.items ≡ with_students named.old.items [] }
     ensures ascending { IsAscending named.new.items }

@@ -45,7 +45,7 @@ pub struct FileFault {
 
 impl FileFault {
     ghost use Rattle.std.specs.Prelude.{◌≡◌, ◌≢◌};
-    ghost use Rattle.office_files.specs.Faults.{IsOfNoLine};
+    ghost use Rattle.office_files.specs.Faults.{HasNoLine};
 
     /// Out of memory.
     pub const NO_MEMORY: FileFault = FileFault {
@@ -63,7 +63,7 @@ impl FileFault {
     pub fn at(line: u32, what: FaultKind) -> FileFault
         ensures kind { result.what ≡ what }
         ensures place { what ≢ FaultKind.NoMemory → result ≡ record { line = line; what = what } }
-        ensures memory { IsOfNoLine result }
+        ensures memory { HasNoLine result }
     {
         match what {
             FaultKind::NoMemory => FileFault::NO_MEMORY,

@@ -3,7 +3,7 @@ ghost use Rattle.std.specs.Prelude.{◌≡◌, ◌<◌, ◌≤◌, ◌+◌, ◌�
 ghost use Rattle.office_files.specs.Fields.{ended_parts, fields_of, first, rest, ended};
 ghost use Rattle.office_files.specs.Numbers.{number};
 
-use crate::digits::{behind_space, first_digits};
+use crate::digits::{first_digits, line_after_space};
 use crate::fault::FaultKind;
 use crate::numbers::{number, within};
 use exam_terms::trimmed;
@@ -49,7 +49,7 @@ impl<'a> Fields<'a> {
         ensures number { result ≡ number limit (first self.old) }
         ensures left { self.new ≡ rest self.old }
     {
-        if let Some((value, behind)) = first_digits(behind_space(self.left)) {
+        if let Some((value, behind)) = first_digits(line_after_space(self.left)) {
             self.left = behind;
             return within(value, limit);
         }

@@ -1,7 +1,7 @@
 // The whole text of a reader, within a limit of bytes and a number of reads.
 ghost use Rattle.std.specs.Prelude.{◌≡◌, ◌<◌, ◌≤◌, ◌+◌, ◌++◌, ℕ, length, IfErr, IfOk, IfSome, OnOk};
 ghost use Rattle.exam_terms.specs.declared.limits.TheConstants.{INSTANCE_BYTES, TEXT_BYTES};
-ghost use Rattle.office_files.specs.Inputs.{RefusesText, StaysUnread, TakesAtMost};
+ghost use Rattle.office_files.specs.Inputs.{RefusesText, StaysUnread, ReadsAtMost};
 
 use crate::fault::{FaultKind, FileFault};
 use exam_terms::limits::{INSTANCE_BYTES, TEXT_BYTES};
@@ -31,9 +31,9 @@ impl From<AllocError> for InputFault {
 }
 
 impl From<FileFault> for InputFault {
-    ghost use Rattle.office_files.specs.Inputs.{ComesOf};
+    ghost use Rattle.office_files.specs.Inputs.{IsInputFaultOf};
 
-    ghost from_gives = { ComesOf };
+    ghost from_gives = { IsInputFaultOf };
 
     fn from(fault: FileFault) -> InputFault {
         match fault.what {
@@ -67,9 +67,9 @@ impl From<AllocError> for Unread {
 }
 
 impl From<Unread> for InputFault {
-    ghost use Rattle.office_files.specs.Inputs.{ComesOfReads};
+    ghost use Rattle.office_files.specs.Inputs.{IsReadFaultOf};
 
-    ghost from_gives = { ComesOfReads };
+    ghost from_gives = { IsReadFaultOf };
 
     fn from(why: Unread) -> InputFault {
         match why {
@@ -98,7 +98,7 @@ pub fn instance_text<R: Read>(alloc: Global, reader: &mut R) -> Result<Vec<u8>, 
     ensures refused { IfErr result (λ fault. IfSome (R.remaining reader.old)
         (λ input. RefusesText INSTANCE_BYTES input fault)) }
     // The reader is read at most one byte past the limit.
-    ensures taken { TakesAtMost (INSTANCE_BYTES + 1)
+    ensures taken { ReadsAtMost (INSTANCE_BYTES + 1)
         (R.remaining reader.old) (R.remaining reader.new) }
 {
     whole_text(alloc, reader, INSTANCE_BYTES)
@@ -114,7 +114,7 @@ pub fn solution_text<R: Read>(alloc: Global, reader: &mut R) -> Result<Vec<u8>, 
     ensures refused { IfErr result (λ fault. IfSome (R.remaining reader.old)
         (λ input. RefusesText TEXT_BYTES input fault)) }
     // The reader is read at most one byte past the limit.
-    ensures taken { TakesAtMost (TEXT_BYTES + 1) (R.remaining reader.old) (R.remaining reader.new) }
+    ensures taken { ReadsAtMost (TEXT_BYTES + 1) (R.remaining reader.old) (R.remaining reader.new) }
 {
     whole_text(alloc, reader, TEXT_BYTES)
 }
@@ -127,7 +127,7 @@ fn whole_text<R: Read>(alloc: Global, reader: &mut R, limit: usize) -> Result<Ve
     ensures short { IfOk result (λ text. length text.items ≤ limit) }
     ensures refused { IfErr result (λ fault. IfSome (R.remaining reader.old)
         (λ input. RefusesText limit input fault)) }
-    ensures taken { TakesAtMost (limit + 1) (R.remaining reader.old) (R.remaining reader.new) }
+    ensures taken { ReadsAtMost (limit + 1) (R.remaining reader.old) (R.remaining reader.new) }
 {
     let mut reads = READS;
     Ok(text_in(alloc, reader, limit, &mut reads)?)
@@ -146,7 +146,7 @@ fn text_in<R: Read>(
     ensures short { IfOk result (λ text. length text.items ≤ limit) }
     // The reader failed, no read is left, there are more bytes than the limit, or memory ran out.
     ensures refused { IfErr result (StaysUnread limit reads.new (R.remaining reader.old)) }
-    ensures taken { TakesAtMost (limit + 1) (R.remaining reader.old) (R.remaining reader.new) }
+    ensures taken { ReadsAtMost (limit + 1) (R.remaining reader.old) (R.remaining reader.new) }
 {
     let mut text: Vec<u8> = Vec::new(alloc);
     let mut piece = [0u8; 16_384];

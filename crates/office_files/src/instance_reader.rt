@@ -4,7 +4,7 @@ ghost use Rattle.exam_terms.specs.declared.limits.TheConstants.{INSTANCE_BYTES};
 ghost use Rattle.exam_model.specs.Enrolments.{Enrolled};
 ghost use Rattle.exam_model.specs.Instance.{Session, IsInstance};
 ghost use Rattle.office_files.specs.ExamLines.{ExamLine, exam_line, exam_of};
-ghost use Rattle.office_files.specs.Faults.{IsOfNoLine};
+ghost use Rattle.office_files.specs.Faults.{HasNoLine};
 ghost use Rattle.office_files.specs.FirstFault.{first_fault};
 ghost use Rattle.office_files.specs.Lines.{line_count};
 ghost use Rattle.office_files.specs.Reading.{AnswersReading};
@@ -53,7 +53,7 @@ pub fn read_instance(alloc: Global, source: &[u8]) -> Result<(Instance, Enrolmen
 
     // The result is that of the reading of the text from its start, faults included.
     ensures exact { AnswersReading (λ read. (read.0, read.1)) result (instance_in source.now) }
-    ensures memory { IfErr result IsOfNoLine }
+    ensures memory { IfErr result HasNoLine }
 {
     if source.len() > INSTANCE_BYTES {
         return Err(FileFault::TOO_LONG);
@@ -65,7 +65,7 @@ pub fn read_instance(alloc: Global, source: &[u8]) -> Result<(Instance, Enrolmen
 fn instance_in(alloc: Global, source: &[u8]) -> Result<(Instance, Enrolments), FileFault>
     requires within { length source.now ≤ INSTANCE_BYTES }
     ensures exact { AnswersReading (λ r. (r.0, r.1)) result (instance_in source.now) }
-    ensures memory { IfErr result IsOfNoLine }
+    ensures memory { IfErr result HasNoLine }
 {
     let mut sections = Sections::new(source);
     let (exams, enrolments) = exams_section(alloc, &mut sections)?;
@@ -87,7 +87,7 @@ fn exams_section(
         → section_in exams_heading exam_line (line_count sections.old.source.now + 1)
         sections.old.lines ≡ Err fault) }
     ensures same { sections.new.source.now ≡ sections.old.source.now }
-    ensures memory { IfErr result IsOfNoLine }
+    ensures memory { IfErr result HasNoLine }
 {
     let size = sections.open(b"Exams", Some(MAX_EXAMS))?;
     exam_lines(alloc, &mut sections.lines, size as u32)
@@ -110,7 +110,7 @@ fn later_sections(alloc: Global, sections: &mut Sections<'_>, exams: u32) -> Res
         → IfErr result (λ fault. fault.what ≢ FaultKind.NoMemory
         → later_sections (line_count sections.old.source.now + 1) exam_lines sections.old.lines
         ≡ Err fault) }
-    ensures memory { IfErr result IsOfNoLine }
+    ensures memory { IfErr result HasNoLine }
 {
     let counts = Counts {
         exams,

@@ -1,7 +1,7 @@
 // Reading the sections of an instance file, one after another.
 ghost use Rattle.std.specs.Prelude.{◌≡◌, ◌≢◌, ℕ, ◌+◌, ◌≤◌, List, [], ◌∷◌, length, take, drop, OnOk, IfOk, IfErr};
 ghost use Rattle.exam_terms.specs.declared.limits.TheConstants.{INSTANCE_BYTES};
-ghost use Rattle.office_files.specs.Faults.{IsOfNoLine};
+ghost use Rattle.office_files.specs.Faults.{HasNoLine};
 ghost use Rattle.office_files.specs.Lines.{Located, lines_of, line_count, section_size};
 ghost use Rattle.office_files.specs.Reading.{AnswersReading, items_of};
 ghost use Rattle.office_files.specs.Headers.{Heading};
@@ -24,7 +24,7 @@ pub(crate) fn all_items<T: LineItem + Drop>(
 ) -> Result<Vec<T>, FileFault>
     ensures exact { AnswersReading (λ v. v.items) result
         (items_of (T.reading counts) [] lines.entry) }
-    ensures memory { IfErr result IsOfNoLine }
+    ensures memory { IfErr result HasNoLine }
 {
     let mut items: Vec<T> = Vec::new(alloc);
     'lines: while let Some(line) = lines.next() {
@@ -44,7 +44,7 @@ fn add_item<T: LineItem + Drop>(
         ≡ items_of (T.reading counts) items.new.items lines) }
     ensures fault { IfErr result (λ fault. fault.what ≢ FaultKind.NoMemory → (lines : List Located)
         → items_of (T.reading counts) items.old.items (token_of line.entry ∷ lines) ≡ Err fault) }
-    ensures memory { IfErr result IsOfNoLine }
+    ensures memory { IfErr result HasNoLine }
 {
     match T::read(counts, items, line.text) {
         Ok(item) => Ok(items.push(item)?),
@@ -84,7 +84,7 @@ impl<'a> Sections<'a> {
             → opened (record { word = word.now; limit = limit })
             (line_count self.old.source.now + 1) self.old.lines ≡ Err fault) }
         ensures same { self.new.source.now ≡ self.old.source.now }
-        ensures memory { IfErr result IsOfNoLine }
+        ensures memory { IfErr result HasNoLine }
     {
         let Some(line) = self.lines.next() else {
             return Err(FileFault {
@@ -115,7 +115,7 @@ impl<'a> Sections<'a> {
             → section_in (record { word = word.now; limit = limit })
             (T.reading counts) (line_count self.old.source.now + 1) self.old.lines ≡ Err fault) }
         ensures same { self.new.source.now ≡ self.old.source.now }
-        ensures memory { IfErr result IsOfNoLine }
+        ensures memory { IfErr result HasNoLine }
     {
         let size = self.open(word, limit)?;
         items(alloc, &mut self.lines, size, counts)
@@ -124,7 +124,7 @@ impl<'a> Sections<'a> {
     /// Refuses a header after the last section.
     pub(crate) fn end(&mut self) -> Result<(), FileFault>
         ensures exact { result ≡ no_more self.old.lines }
-        ensures memory { IfErr result IsOfNoLine }
+        ensures memory { IfErr result HasNoLine }
     {
         match self.lines.next() {
             None => Ok(()),
@@ -147,7 +147,7 @@ fn items<T: LineItem + Drop>(
     ensures exact { AnswersReading (λ v. v.items) result
         (items_of (T.reading counts) [] (take count lines.old)) }
     ensures left { OnOk result (lines.new ≡ drop count lines.old) }
-    ensures memory { IfErr result IsOfNoLine }
+    ensures memory { IfErr result HasNoLine }
 {
     let mut items: Vec<T> = Vec::new(alloc);
     'lines: for _ in 0..count {

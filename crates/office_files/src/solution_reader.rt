@@ -3,7 +3,7 @@ ghost use Rattle.std.specs.Prelude.{◌≡◌, ◌≢◌, ◌+◌, ◌≤◌, Al
 ghost use Rattle.exam_terms.specs.declared.limits.TheConstants.{MAX_EXAMS, TEXT_BYTES};
 ghost use Rattle.exam_model.specs.Fits.{PlaceExists};
 ghost use Rattle.exam_model.specs.Timetable.{Placing};
-ghost use Rattle.office_files.specs.Faults.{IsOfNoLine};
+ghost use Rattle.office_files.specs.Faults.{HasNoLine};
 ghost use Rattle.office_files.specs.FirstFault.{first_solution_fault};
 ghost use Rattle.office_files.specs.Lines.{line_count};
 ghost use Rattle.office_files.specs.Reading.{AnswersReading};
@@ -44,7 +44,7 @@ pub fn read_solution(
 
     // The result is that of the reading of the text from its start, faults included.
     ensures exact { AnswersReading (λ read. read) result (solution_in instance.now source.now) }
-    ensures memory { IfErr result IsOfNoLine }
+    ensures memory { IfErr result HasNoLine }
 {
     if source.len() > TEXT_BYTES {
         return Err(FileFault::TOO_LONG);
@@ -57,7 +57,7 @@ fn solution_in(alloc: Global, source: &[u8], instance: &Instance) -> Result<Time
     requires within { length source.now ≤ TEXT_BYTES }
     ensures exact { AnswersReading (λ read. read) result (solution_in instance.now source.now) }
     ensures exist { IfOk result (λ read. All (PlaceExists instance.now) read) }
-    ensures memory { IfErr result IsOfNoLine }
+    ensures memory { IfErr result HasNoLine }
 {
     let counts = Counts {
         exams: instance.exams(),
@@ -74,7 +74,7 @@ fn timetable_in(alloc: Global, source: &[u8], counts: Counts) -> Result<Timetabl
     requires some { 1 ≤ counts.exams }
     requires most { counts.exams ≤ MAX_EXAMS }
     ensures exact { AnswersReading (λ read. read) result (timetable_in counts source.now) }
-    ensures memory { IfErr result IsOfNoLine }
+    ensures memory { IfErr result HasNoLine }
 {
     let places: Vec<Place> = all_items(alloc, Lines::new(source), counts)?;
     if places.len() != counts.exams as usize {

@@ -4,7 +4,7 @@ ghost use Rattle.exam_model.specs.Instance.{Session};
 ghost use Rattle.exam_model.specs.Timetable.{place_of};
 ghost use Rattle.office_files.specs.CanonicalSolution.{canonical_solution, SuitsTimetable};
 ghost use Rattle.office_files.specs.CanonicalSolution.{IsIncomplete};
-ghost use Rattle.office_files.specs.Faults.{IsOfNoLine};
+ghost use Rattle.office_files.specs.Faults.{HasNoLine};
 ghost use Rattle.office_files.specs.SolutionText.{solution_in, SolutionText};
 
 use crate::fault::{FaultKind, FileFault};
@@ -21,7 +21,7 @@ pub fn write_solution(alloc: Global, timetable: &Timetable) -> Result<Vec<u8>, F
         → IsSome (place_of timetable.now e)) }
     ensures incomplete { IfErr result (λ fault. fault.what ≢ FaultKind.NoMemory
         → IsIncomplete timetable.now fault) }
-    ensures memory { IfErr result IsOfNoLine }
+    ensures memory { IfErr result HasNoLine }
 
     // Memory is allocated only if each exam has a place.
     ensures placed { IfErr result (λ fault. fault.what ≡ FaultKind.NoMemory → (e : ℕ)

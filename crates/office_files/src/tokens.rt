@@ -4,7 +4,7 @@ ghost use Rattle.std.specs.Iterator.{YieldsFirstBy, item_count};
 ghost use Rattle.std.specs.List.{AllByRecursion};
 ghost use Rattle.exam_terms.specs.declared.limits.TheConstants.{INSTANCE_BYTES};
 ghost use Rattle.office_files.specs.Lines.{Located};
-ghost use Rattle.office_files.specs.Tokens.{token_of, tokens_of, tokens_left, IsSliceOf, LieInRow};
+ghost use Rattle.office_files.specs.Tokens.{token_of, tokens_of, tokens_left, IsSliceOf, AreInRow};
 
 use crate::fields::cut;
 use crate::lines::{Lines, Token, located};
@@ -39,7 +39,7 @@ impl<'a> Tokens<'a> {
         // Exactly the fields of every line that isn't blank, of which a header is one; each is its
         // slice of the text.
         ensures tokens { result ≡ tokens_of source.now }
-        ensures ordered { LieInRow 0 result (length source.now + 1) }
+        ensures ordered { AreInRow 0 result (length source.now + 1) }
         ensures slices { AllByRecursion (IsSliceOf source.now) result }
     {
         Tokens {

@@ -12,8 +12,8 @@ returns-then-end-line-clause-value c =
     nil_from_length _ (omega (arith, length-drop read.1 line, c.if-end-line.true)) in
     sym (at_end line read.0 read.1 c.front_digits-value.ensures none (omega arith)).0
 
-pub returns-then-end-line-clause-behind : goal.returns-then-end-line-clause-behind
-returns-then-end-line-clause-behind c =
+pub returns-then-end-line-clause-rest : goal.returns-then-end-line-clause-rest
+returns-then-end-line-clause-rest c =
     let line = c.args.line.now in
     let read = c.front_digits-value.result in
     let none : drop read.1 line ≡ [] =
@@ -42,8 +42,8 @@ returns-clause-value c =
     ∙ ap (λ b. b ∷ drop (read.1 + 1) line) c.if-line-end-ne44.false in
     sym (at_comma line read.0 read.1 c.front_digits-value.ensures _ next (omega arith)).0
 
-pub returns-clause-behind : goal.returns-clause-behind
-returns-clause-behind c =
+pub returns-clause-rest : goal.returns-clause-rest
+returns-clause-rest c =
     let line = c.args.line.now in
     let read = c.front_digits-value.result in
     let within : read.1 < length line =

@@ -11,12 +11,12 @@ returns-in-None-clause-ok c =
     let fields = fields_of c.args.line.now in
     let minutes = c.in_ok-minutes.minutes in
     let sitters = c.deref.result.now in
-    let fault = c.in-Ok.told.fault in
+    let fault = c.in-Ok.gathered.fault in
     let read =
     read_of fields c.new-fields.result c.next_number.new.self minutes c.gather.new.named.items
-    c.put_in_order.new.named.items sitters fault c.new-fields.ensures
+    c.sort_if_needed.new.named.items sitters fault c.new-fields.ensures
     c.in_ok-minutes.ensures.number c.in_ok-minutes.ensures.left c.in-Ok.ensures.names
-    c.in-Ok.ensures.fault c.put_in_order.ensures.all c.deref.ensures.value in
+    c.in-Ok.ensures.fault c.sort_if_needed.ensures.all c.deref.ensures.value in
     line_entered c.args.enrolments.now c.args.exam fields minutes sitters fault c.requires read
     c.enrol.new.self c.in-None.is c.in-Ok-enrol.ensures.ok c.in-Ok-enrol.ensures.kept
 
@@ -26,12 +26,12 @@ returns-in-Some-clause-err c _ =
     let fields = fields_of c.args.line.now in
     let minutes = c.in_ok-minutes.minutes in
     let sitters = c.deref.result.now in
-    let fault = c.in-Ok.told.fault in
+    let fault = c.in-Ok.gathered.fault in
     let read =
     read_of fields c.new-fields.result c.next_number.new.self minutes c.gather.new.named.items
-    c.put_in_order.new.named.items sitters fault c.new-fields.ensures
+    c.sort_if_needed.new.named.items sitters fault c.new-fields.ensures
     c.in_ok-minutes.ensures.number c.in_ok-minutes.ensures.left c.in-Ok.ensures.names
-    c.in-Ok.ensures.fault c.put_in_order.ensures.all c.deref.ensures.value in
+    c.in-Ok.ensures.fault c.sort_if_needed.ensures.all c.deref.ensures.value in
     line_faulty c.args.enrolments.now c.args.exam fields minutes sitters fault c.requires read
     c.enrol.new.self c.in-Some.what c.in-Some.is c.in-Ok-enrol.ensures.ok
     c.in-Ok-enrol.ensures.kept
@@ -42,12 +42,12 @@ returns-in-Err-clause-err c other =
     let fields = fields_of c.args.line.now in
     let minutes = c.in_ok-minutes.minutes in
     let sitters = c.deref.result.now in
-    let fault = c.in-Ok.told.fault in
+    let fault = c.in-Ok.gathered.fault in
     let read =
     read_of fields c.new-fields.result c.next_number.new.self minutes c.gather.new.named.items
-    c.put_in_order.new.named.items sitters fault c.new-fields.ensures
+    c.sort_if_needed.new.named.items sitters fault c.new-fields.ensures
     c.in_ok-minutes.ensures.number c.in_ok-minutes.ensures.left c.in-Ok.ensures.names
-    c.in-Ok.ensures.fault c.put_in_order.ensures.all c.deref.ensures.value in
+    c.in-Ok.ensures.fault c.sort_if_needed.ensures.all c.deref.ensures.value in
     let judged : c.in-Err.fault ≢ model.NoMemory = λ same. other (c.kind_of.ensures.memory same) in
     rw (c.kind_of.ensures.range judged)
     (line_past c.args.enrolments.now c.args.exam fields minutes sitters fault c.requires read

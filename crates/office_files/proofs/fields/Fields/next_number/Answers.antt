@@ -9,7 +9,7 @@ pub returns-in-Some-clause-number : goal.returns-in-Some-clause-number
 returns-in-Some-clause-number c =
     let line = c.self.inside.left.now in
     let said : few_digits (first (ended_parts 44 (without_space line))) ≡ Some c.in-Some.value =
-    ap (λ other. few_digits (first (ended_parts 44 other))) (sym c.behind_space.ensures)
+    ap (λ other. few_digits (first (ended_parts 44 other))) (sym c.line_after_space.ensures)
     ∙ sym c.in-Some.ensures.value in
     rw (← c.self.view_is)
     (c.within.ensures ∙ sym (number_first line c.in-Some.value said c.args.limit))
@@ -19,9 +19,9 @@ pub returns-in-Some-clause-left : goal.returns-in-Some-clause-left
 returns-in-Some-clause-left c =
     let line = c.self.inside.left.now in
     let said : few_digits (first (ended_parts 44 (without_space line))) ≡ Some c.in-Some.value =
-    ap (λ other. few_digits (first (ended_parts 44 other))) (sym c.behind_space.ensures)
+    ap (λ other. few_digits (first (ended_parts 44 other))) (sym c.line_after_space.ensures)
     ∙ sym c.in-Some.ensures.value in
     rw (← c.self.view_is)
     (rest_first line c.in-Some.value said c.in-Some.behind.now
-    (c.in-Some.ensures.behind
-    ∙ ap (λ other. rest (ended_parts 44 other)) c.behind_space.ensures))
+    (c.in-Some.ensures.rest
+    ∙ ap (λ other. rest (ended_parts 44 other)) c.line_after_space.ensures))

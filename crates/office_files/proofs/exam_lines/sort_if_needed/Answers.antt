@@ -1,6 +1,6 @@
 use Rattle.std.proofs.lemmas.List.Filters.{dedup_is}
 use Rattle.office_files.proofs.ExamLineLemmas.{students-ascending, students-sorted}
-use Rattle.office_files.proofs.exam_lines.put_in_order.Goals as goal
+use Rattle.office_files.proofs.exam_lines.sort_if_needed.Goals as goal
 
 -- sorted and freed of repeats
 pub returns-then-not-ascending-clause-all : goal.returns-then-not-ascending-clause-all
