@@ -2,7 +2,7 @@
 ghost use Rattle.std.specs.Prelude.{◌≤◌};
 ghost use Rattle.sqlite.specs.Held.{state};
 ghost use Rattle.sqlite.specs.State.{HasCleanDisk};
-ghost use Rattle.office_policy.specs.CommandBodies.{IfGiven};
+ghost use Rattle.office_policy.specs.CommandBodies.{IfBodyHasValue};
 ghost use Rattle.office_policy.specs.Commands.{batch, clear, drop_draft, load, move};
 ghost use Rattle.office_policy.specs.CommandBodies.{plain_text};
 ghost use Rattle.office_policy.specs.Commands.{new_draft, place, publish, set_owner, swap};
@@ -39,7 +39,7 @@ pub(crate) fn set_owner<S: Alter>(
     exam: ExamNo,
     body: Body<u32>,
 ) -> Result<Answer, Answer>
-    requires { IfGiven body (λ dept. dept ≤ MAX_DEPARTMENT) }
+    requires { IfBodyHasValue body (λ dept. dept ≤ MAX_DEPARTMENT) }
     ensures performs { Performs S.Store (set_owner exam body) office.old office.new result }
     ensures awake { AwakeUnlessRefused S.Store office.new result }
     ensures clean { HasCleanDisk (state S.Store office.new)

@@ -8,14 +8,14 @@ use Rattle.office_policy.specs.declared.callers.Caller.{Caller}
 use Rattle.office_policy.specs.declared.callers.Caller.TheVariants.{Office, Dept, Cand}
 
 -- the text after a word at the front of a text
-abbrev pub behind : List ℕ → List ℕ → Option (List ℕ)
-behind [] text = Some text
-behind (w ∷ word) [] = None
-behind (w ∷ word) (b ∷ text) = if w == b then behind word text else None
+abbrev pub text_after_word : List ℕ → List ℕ → Option (List ℕ)
+text_after_word [] text = Some text
+text_after_word (w ∷ word) [] = None
+text_after_word (w ∷ word) (b ∷ text) = if w == b then text_after_word word text else None
 
 -- the number after a word
 abbrev pub numbered : List ℕ → List ℕ → Option ℕ
-numbered word text = option_and_then number_of (behind word text)
+numbered word text = option_and_then number_of (text_after_word word text)
 
 -- departments go from 1 to the greatest
 abbrev pub as_dept : ℕ → Option Caller

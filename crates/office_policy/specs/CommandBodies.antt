@@ -13,14 +13,14 @@ plain_text Bad = Bad
 plain_text Long = Long
 
 -- the value of a body, if it has one, satisfies this
-abbrev pub IfGiven : {A : Type 0} → Body A → (A → Type 0) → Type 0
-IfGiven (Given x) P = P x
-IfGiven Bad P = Unit {0}
-IfGiven Long P = Unit {0}
+abbrev pub IfBodyHasValue : {A : Type 0} → Body A → (A → Type 0) → Type 0
+IfBodyHasValue (Given x) P = P x
+IfBodyHasValue Bad P = Unit {0}
+IfBodyHasValue Long P = Unit {0}
 
 -- the text of the command, if it has one, is this one in memory
 abbrev pub HoldsText : Bor (List ℕ) → Command → Type 0
-HoldsText text (command.Load body) = IfGiven body (λ held. held ≡ text)
-HoldsText text (command.NewDraft d body) = IfGiven body (λ held. held ≡ text)
-HoldsText text (command.Batch n body) = IfGiven body (λ held. held ≡ text)
+HoldsText text (command.Load body) = IfBodyHasValue body (λ held. held ≡ text)
+HoldsText text (command.NewDraft d body) = IfBodyHasValue body (λ held. held ≡ text)
+HoldsText text (command.Batch n body) = IfBodyHasValue body (λ held. held ≡ text)
 HoldsText text _ = Unit {0}

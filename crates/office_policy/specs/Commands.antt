@@ -2,7 +2,7 @@
 use Rattle.std.specs.Prelude.{ℕ, ◌≤◌, List}
 use Rattle.exam_terms.specs.declared.limits.TheConstants.{MAX_DEPARTMENT}
 use Rattle.exam_terms.specs.declared.place.Place.{Place}
-use Rattle.office_policy.specs.CommandBodies.{plain_text, IfGiven}
+use Rattle.office_policy.specs.CommandBodies.{plain_text, IfBodyHasValue}
 use Rattle.office_policy.specs.Numbers.{IsSmall, IsSmallPlace}
 use Rattle.office_policy.specs.declared.command.Body.{Body}
 use Rattle.office_policy.specs.declared.command.Command.{Command}
@@ -63,14 +63,14 @@ HasSmallNumbers (my_exam e) = IsSmall e
 HasSmallNumbers my_penalty = Unit {0}
 HasSmallNumbers (load text) = Unit {0}
 HasSmallNumbers instance = Unit {0}
-HasSmallNumbers (set_owner e dept) = IsSmall e × IfGiven dept (λ d. d ≤ MAX_DEPARTMENT)
+HasSmallNumbers (set_owner e dept) = IsSmall e × IfBodyHasValue dept (λ d. d ≤ MAX_DEPARTMENT)
 HasSmallNumbers (new_draft d text) = IsSmall d
 HasSmallNumbers (draft d) = IsSmall d
 HasSmallNumbers (draft_penalty d) = IsSmall d
 HasSmallNumbers (draft_violations d) = IsSmall d
 HasSmallNumbers (drop_draft d) = IsSmall d
-HasSmallNumbers (place d e at) = IsSmall d × IsSmall e × IfGiven at IsSmallPlace
-HasSmallNumbers (move d e to) = IsSmall d × IsSmall e × IfGiven to IsSmallPlace
+HasSmallNumbers (place d e at) = IsSmall d × IsSmall e × IfBodyHasValue at IsSmallPlace
+HasSmallNumbers (move d e to) = IsSmall d × IsSmall e × IfBodyHasValue to IsSmallPlace
 HasSmallNumbers (clear d e) = IsSmall d × IsSmall e
 HasSmallNumbers (swap d a b) = IsSmall d × IsSmall a × IsSmall b
 HasSmallNumbers (publish d) = IsSmall d

@@ -2,7 +2,7 @@
 ghost use Rattle.std.specs.Prelude.{◌≡◌, ◌≤◌, IfSome, option_copied};
 ghost use Rattle.exam_terms.specs.Texts.{trimmed};
 ghost use Rattle.exam_terms.specs.declared.limits.TheConstants.{MAX_NUMBER};
-ghost use Rattle.office_policy.specs.Callers.{behind, numbered, dept_in, candidate_in, caller_of};
+ghost use Rattle.office_policy.specs.Callers.{text_after_word, numbered, dept_in, candidate_in, caller_of};
 
 use crate::numbers::read_number;
 use exam_terms::{DeptNo, StudentNo, trimmed};
@@ -53,12 +53,12 @@ fn numbered(word: &[u8], name: &[u8]) -> Option<u32>
     ensures number { result ≡ numbered word.now name.now }
     ensures within { IfSome result (λ n. n ≤ MAX_NUMBER) }
 {
-    read_number(behind(word, name)?)
+    read_number(text_after_word(word, name)?)
 }
 
 // Returns the text after a word at the front.
-fn behind<'a>(word: &[u8], name: &'a [u8]) -> Option<&'a [u8]>
-    ensures { option_copied result ≡ behind word.now name.now }
+fn text_after_word<'a>(word: &[u8], name: &'a [u8]) -> Option<&'a [u8]>
+    ensures { option_copied result ≡ text_after_word word.now name.now }
 {
     name.strip_prefix(word)
 }

@@ -5,7 +5,7 @@ use Rattle.std.specs.Prelude.{nat_le, nat_lt, ◌==◌, length, IfSome, IfOk, if
 use Rattle.std.specs.Prelude.{option_map, option_and_then}
 use Rattle.std.proofs.lemmas.Bool.Decides.{nat_tests}
 use Rattle.exam_terms.specs.Refusing.{◌>>=◌, else_err}
-use Rattle.office_policy.specs.CommandBodies.{IfGiven}
+use Rattle.office_policy.specs.CommandBodies.{IfBodyHasValue}
 use Rattle.office_policy.specs.Numbers.{IsSmall, IsSmallPlace}
 use Rattle.office_policy.specs.Commands.{PlainCommand, me, my_exam, my_penalty, HasSmallNumbers}
 use Rattle.office_policy.specs.Commands.{set_owner, draft_penalty, draft_violations, place, move}
@@ -88,19 +88,20 @@ of_members_small P size says d small =
     go false = tt
 
 given_small : {A : Type 0} (P : A → Type 0) (o : Option A) → IfSome o P
-    → IfGiven (given_or_bad o) P
+    → IfBodyHasValue (given_or_bad o) P
 given_small P None small = tt
 given_small P (Some x) small = small
 
-unless_small : {A : Type 0} (P : A → Type 0) (bytes : List ℕ) (body : Body A) → IfGiven body P
-    → IfGiven (unless_long bytes body) P
+unless_small : {A : Type 0} (P : A → Type 0) (bytes : List ℕ) (body : Body A)
+    → IfBodyHasValue body P
+    → IfBodyHasValue (unless_long bytes body) P
 unless_small {A} P bytes body small = go (nat_lt 1048576 (length bytes))
   where
-    go : (b : Bool) → IfGiven (let long : Body A = Long in if b then long else body) P
+    go : (b : Bool) → IfBodyHasValue (let long : Body A = Long in if b then long else body) P
     go true = tt
     go false = small
 
-place_small : (bytes : List ℕ) → IfGiven (place_body bytes) IsSmallPlace
+place_small : (bytes : List ℕ) → IfBodyHasValue (place_body bytes) IsSmallPlace
 place_small bytes =
     unless_small IsSmallPlace bytes _
     (given_small IsSmallPlace _
@@ -111,7 +112,7 @@ place_small bytes =
     (λ p small. mapped IsSmall IsSmallPlace _ (number_at (codes "room") 999999999 d)
     (number_at_small (codes "room") 999999999 d) (λ r also. (small, also)))))))
 
-dept_small : (bytes : List ℕ) → IfGiven (dept_body bytes) (λ d. d ≤ 999)
+dept_small : (bytes : List ℕ) → IfBodyHasValue (dept_body bytes) (λ d. d ≤ 999)
 dept_small bytes =
     unless_small (λ n. n ≤ 999) bytes _
     (given_small (λ n. n ≤ 999) _

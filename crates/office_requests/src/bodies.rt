@@ -2,7 +2,7 @@
 ghost use Rattle.std.specs.Prelude.{◌≡◌, IfOk};
 ghost use Rattle.std.specs.Prelude.{option_map};
 ghost use Rattle.serde_json.specs.View.{view};
-ghost use Rattle.office_policy.specs.CommandBodies.{plain_text, IfGiven};
+ghost use Rattle.office_policy.specs.CommandBodies.{plain_text, IfBodyHasValue};
 ghost use Rattle.office_requests.specs.Bodies.{json_in, members_count, number_at, place_in, dept_in};
 ghost use Rattle.office_requests.specs.Bodies.{text_body, place_body, dept_body};
 
@@ -15,7 +15,7 @@ use std::alloc::{AllocError, Global};
 /// Returns a body that is taken unchanged.
 pub fn text_body(bytes: &[u8]) -> Body<&[u8]>
     ensures says { plain_text result ≡ text_body bytes.now }
-    ensures lent { IfGiven result (λ text. text ≡ bytes.entry) }
+    ensures lent { IfBodyHasValue result (λ text. text ≡ bytes.entry) }
 {
     if bytes.len() > TEXT_BYTES {
         return Body::Long;

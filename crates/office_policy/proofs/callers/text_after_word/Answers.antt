@@ -1,7 +1,7 @@
 use Rattle.std.proofs.lemmas.Bool.Decides.{Decides-eqb}
 use Rattle.std.proofs.lemmas.Slice.Eq.{strip_prefix_is}
 use Rattle.office_policy.proofs.NameLemmas.{stripped}
-use Rattle.office_policy.proofs.callers.behind.Goals as goal
+use Rattle.office_policy.proofs.callers.text_after_word.Goals as goal
 
 pub returns : goal.returns
 returns c =
