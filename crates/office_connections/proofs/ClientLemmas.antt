@@ -11,7 +11,7 @@ use Rattle.office_messages.specs.Reply.{PlainReply}
 use Rattle.office_messages.specs.Serve.{Serves, ServesFront}
 use Rattle.office_messages.specs.Stream.{PlainRequest}
 use Rattle.office_messages.specs.Visits.{ServesVisit, ServesVisits, Visit, faults_of, with_fault}
-use Rattle.office_messages.proofs.RunLemmas.{told_keeps}
+use Rattle.office_messages.proofs.RunLemmas.{trace_keeps}
 use Rattle.office_messages.proofs.VisitLemmas.{faults_more}
 use Rattle.office_connections.specs.Clients.{CameBetween, ComesNext, ServesClients, ServesWhileOpen}
 use Rattle.office_connections.specs.Lines.{TellsFaults, fault_lines}
@@ -81,9 +81,9 @@ module _ {S : Type 0} (Answers : S → PlainRequest → PlainReply → S → Typ
         → IfErr ended (λ fault. ServesFront Answers input before after old new fault)
         → Holds old → Holds new
     ended_keeps (Ok served) input before after old new x y =
-        told_keeps Answers Holds keeps x.items old x.output new x.told
+        trace_keeps Answers Holds keeps x.items old x.output new x.trace
     ended_keeps (Err fault) input before after old new x y =
-        told_keeps Answers Holds keeps y.items old y.output new y.told
+        trace_keeps Answers Holds keeps y.items old y.output new y.trace
 
     pub visits_keep : (vs : List Visit) (old new : S) → ServesVisits Answers vs old new
         → Holds old → Holds new

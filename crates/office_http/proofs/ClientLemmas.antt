@@ -69,18 +69,18 @@ told_to : (ended : Result Served ServeFault) (input before after : Option (List 
     (old new : OfficeState) (run : ServesTo ended input before after old new)
     → All TellsHerView (entries_to ended input before after old new run)
 told_to (Ok served) input before after old new run =
-    each_told run.items old new run.output run.told
-told_to (Err Read) input before after old new (items, output, begins, told, written) =
-    each_told items old new output told
+    each_told run.items old new run.output run.trace
+told_to (Err Read) input before after old new (items, output, begins, trace, written) =
+    each_told items old new output trace
 told_to (Err Write) input before after old new (items, output, begins, x) =
-    All-append TellsHerView (transcript x.whole old x.front x.mid x.told)
-    (transcript (x.last ∷ []) x.mid (x.sent ++ x.unsent) new x.told_last)
-    (each_told x.whole old x.mid x.front x.told)
-    (each_told (x.last ∷ []) x.mid new (x.sent ++ x.unsent) x.told_last)
-told_to (Err TooMany) input before after old new (items, output, begins, told, written) =
-    each_told items old new output told
-told_to (Err NoMemory) input before after old new (items, output, begins, told, written) =
-    each_told items old new output told
+    All-append TellsHerView (transcript x.whole old x.front x.mid x.trace)
+    (transcript (x.last ∷ []) x.mid (x.sent ++ x.unsent) new x.last_trace)
+    (each_told x.whole old x.mid x.front x.trace)
+    (each_told (x.last ∷ []) x.mid new (x.sent ++ x.unsent) x.last_trace)
+told_to (Err TooMany) input before after old new (items, output, begins, trace, written) =
+    each_told items old new output trace
+told_to (Err NoMemory) input before after old new (items, output, begins, trace, written) =
+    each_told items old new output trace
 
 pub all_told : (vs : List Visit) (old new : OfficeState) (run : ServesAll vs old new)
     → All TellsHerView (all_entries vs old new run)
@@ -103,19 +103,19 @@ end_to : (s : ℕ) (ended : Result Served ServeFault) (input before after : Opti
     → All (IsHersOrQuiet s) (entries_to ended input before after old new run)
     → view_of s new ≡ view_of s old
 end_to s (Ok served) input before after old new run q =
-    quiet_end s run.items old new run.output run.told q
-end_to s (Err Read) input before after old new (items, output, begins, told, written) q =
-    quiet_end s items old new output told q
+    quiet_end s run.items old new run.output run.trace q
+end_to s (Err Read) input before after old new (items, output, begins, trace, written) q =
+    quiet_end s items old new output trace q
 end_to s (Err Write) input before after old new (items, output, begins, x) q =
-    let first = transcript x.whole old x.front x.mid x.told in
-    let last = transcript (x.last ∷ []) x.mid (x.sent ++ x.unsent) new x.told_last in
-    quiet_end s (x.last ∷ []) x.mid new (x.sent ++ x.unsent) x.told_last
+    let first = transcript x.whole old x.front x.mid x.trace in
+    let last = transcript (x.last ∷ []) x.mid (x.sent ++ x.unsent) new x.last_trace in
+    quiet_end s (x.last ∷ []) x.mid new (x.sent ++ x.unsent) x.last_trace
     (All-right (IsHersOrQuiet s) first last q)
-    ∙ quiet_end s x.whole old x.mid x.front x.told (All-left (IsHersOrQuiet s) first last q)
-end_to s (Err TooMany) input before after old new (items, output, begins, told, written) q =
-    quiet_end s items old new output told q
-end_to s (Err NoMemory) input before after old new (items, output, begins, told, written) q =
-    quiet_end s items old new output told q
+    ∙ quiet_end s x.whole old x.mid x.front x.trace (All-left (IsHersOrQuiet s) first last q)
+end_to s (Err TooMany) input before after old new (items, output, begins, trace, written) q =
+    quiet_end s items old new output trace q
+end_to s (Err NoMemory) input before after old new (items, output, begins, trace, written) q =
+    quiet_end s items old new output trace q
 
 pub all_end : (s : ℕ) (vs : List Visit) (old new : OfficeState) (run : ServesAll vs old new)
     → All (IsHersOrQuiet s) (all_entries vs old new run) → view_of s new ≡ view_of s old
@@ -140,21 +140,21 @@ each_to : (s : ℕ) (ended : Result Served ServeFault) (input before after : Opt
     → All (IsHersOrQuiet s) (entries_to ended input before after old new run)
     → All (Sees s (view_of s old)) (entries_to ended input before after old new run)
 each_to s (Ok served) input before after old new run q =
-    quiet_each s run.items old new run.output run.told q
-each_to s (Err Read) input before after old new (items, output, begins, told, written) q =
-    quiet_each s items old new output told q
+    quiet_each s run.items old new run.output run.trace q
+each_to s (Err Read) input before after old new (items, output, begins, trace, written) q =
+    quiet_each s items old new output trace q
 each_to s (Err Write) input before after old new (items, output, begins, x) q =
-    let first = transcript x.whole old x.front x.mid x.told in
-    let last = transcript (x.last ∷ []) x.mid (x.sent ++ x.unsent) new x.told_last in
+    let first = transcript x.whole old x.front x.mid x.trace in
+    let last = transcript (x.last ∷ []) x.mid (x.sent ++ x.unsent) new x.last_trace in
     let here = All-left (IsHersOrQuiet s) first last q in
-    seen_on s old x.mid first last (quiet_end s x.whole old x.mid x.front x.told here)
-    (quiet_each s x.whole old x.mid x.front x.told here)
-    (quiet_each s (x.last ∷ []) x.mid new (x.sent ++ x.unsent) x.told_last
+    seen_on s old x.mid first last (quiet_end s x.whole old x.mid x.front x.trace here)
+    (quiet_each s x.whole old x.mid x.front x.trace here)
+    (quiet_each s (x.last ∷ []) x.mid new (x.sent ++ x.unsent) x.last_trace
     (All-right (IsHersOrQuiet s) first last q))
-each_to s (Err TooMany) input before after old new (items, output, begins, told, written) q =
-    quiet_each s items old new output told q
-each_to s (Err NoMemory) input before after old new (items, output, begins, told, written) q =
-    quiet_each s items old new output told q
+each_to s (Err TooMany) input before after old new (items, output, begins, trace, written) q =
+    quiet_each s items old new output trace q
+each_to s (Err NoMemory) input before after old new (items, output, begins, trace, written) q =
+    quiet_each s items old new output trace q
 
 pub all_each : (s : ℕ) (vs : List Visit) (old new : OfficeState) (run : ServesAll vs old new)
     → All (IsHersOrQuiet s) (all_entries vs old new run)

@@ -11,7 +11,7 @@ use Rattle.office_messages.specs.Form.{form_of}
 use Rattle.office_messages.specs.Reply.{PlainReply, reply_text}
 use Rattle.office_messages.specs.FixedReplies.{fault_reply, unavailable}
 use Rattle.office_messages.specs.Messages.{Item, asks, fails}
-use Rattle.office_messages.specs.Serve.{Serves, Told}
+use Rattle.office_messages.specs.Serve.{Serves, AnswersItems}
 use Rattle.office_messages.specs.Stream.{PlainRequest}
 use Rattle.office_messages.specs.declared.connection.ServeFault.{ServeFault}
 use Rattle.office_messages.specs.declared.connection.Served.{Served}
@@ -76,20 +76,20 @@ same_bytes s one other next last request reply answer same is h k =
     (tells other last request answer k s is)
 
 quiet_said : (s : ℕ) (said : Result PlainAsked Refusal) (old new : OfficeState) (reply : PlainReply)
-    → (told : RepliesTo said old reply new)
-    → IfSome (asked_in said old reply new told) (λ x. IsQuiet s old x.command x.answer)
+    → (trace : RepliesTo said old reply new)
+    → IfSome (asked_in said old reply new trace) (λ x. IsQuiet s old x.command x.answer)
     → view_of s new ≡ view_of s old
-quiet_said s (Ok asked) old new reply told q =
-    quiet_one s old new asked.caller asked.command told.0 told.1 q
-quiet_said s (Err refusal) old new reply told q = ap (view_of s) told.0
+quiet_said s (Ok asked) old new reply trace q =
+    quiet_one s old new asked.caller asked.command trace.0 trace.1 q
+quiet_said s (Err refusal) old new reply trace q = ap (view_of s) trace.0
 
 -- a message that is quiet for a candidate
 pub quiet_leaves : (s : ℕ) (old new : OfficeState) (request : PlainRequest) (reply : PlainReply)
-    → (told : Replies old request reply new) → IsQuietFor s (entry old request reply new told)
+    → (trace : Replies old request reply new) → IsQuietFor s (entry old request reply new trace)
     → view_of s new ≡ view_of s old
-quiet_leaves s old new request reply told q =
+quiet_leaves s old new request reply trace q =
     quiet_said s (reading request.method request.target request.caller request.body) old new reply
-    told q
+    trace q
 
 -- ---- whether a message is the candidate's
 
@@ -116,72 +116,73 @@ hers_or_not s (Some (Cand t)) = elim (cases_eq t s) [
 
 -- a message of the candidate's, or one quiet for them, leaves their view unchanged
 leaves : (s : ℕ) (old new : OfficeState) (request : PlainRequest) (reply : PlainReply)
-    → (told : Replies old request reply new) → IsHersOrQuiet s (entry old request reply new told)
+    → (trace : Replies old request reply new) → IsHersOrQuiet s (entry old request reply new trace)
     → view_of s new ≡ view_of s old
-leaves s old new request reply told q = elim (hers_or_not s (caller_in request.caller)) [
-  | inl is ↦ ap (view_of s) (stays s old new request reply told is)
-  | inr other ↦ quiet_leaves s old new request reply told (q other)
+leaves s old new request reply trace q = elim (hers_or_not s (caller_in request.caller)) [
+  | inl is ↦ ap (view_of s) (stays s old new request reply trace is)
+  | inr other ↦ quiet_leaves s old new request reply trace (q other)
 ]
 
 -- ---- runs
 
 pub each_told : (items : List Item) (old new : OfficeState) (output : List ℕ)
-    (told : Told Replies items old output new)
-    → All TellsHerView (transcript items old output new told)
-each_told [] old new output told = All-nil TellsHerView
-each_told (fails fault form ∷ items) old new output (rest, is, told) =
-    each_told items old new rest told
-each_told (asks request ∷ items) old new output (mid, reply, rest, step, is, told) =
-    All-cons TellsHerView (entry old request reply mid step) (transcript items mid rest new told)
-    (tells old mid request reply step) (each_told items mid new rest told)
+    (trace : AnswersItems Replies items old output new)
+    → All TellsHerView (transcript items old output new trace)
+each_told [] old new output trace = All-nil TellsHerView
+each_told (fails fault form ∷ items) old new output (rest, is, trace) =
+    each_told items old new rest trace
+each_told (asks request ∷ items) old new output (mid, reply, rest, step, is, trace) =
+    All-cons TellsHerView (entry old request reply mid step) (transcript items mid rest new trace)
+    (tells old mid request reply step) (each_told items mid new rest trace)
 
 pub quiet_end : (s : ℕ) (items : List Item) (old new : OfficeState) (output : List ℕ)
-    (told : Told Replies items old output new)
-    → All (IsHersOrQuiet s) (transcript items old output new told) → view_of s new ≡ view_of s old
-quiet_end s [] old new output told q = ap (view_of s) told.1
-quiet_end s (fails fault form ∷ items) old new output (rest, is, told) q =
-    quiet_end s items old new rest told q
-quiet_end s (asks request ∷ items) old new output (mid, reply, rest, step, is, told) q =
+    (trace : AnswersItems Replies items old output new)
+    → All (IsHersOrQuiet s) (transcript items old output new trace) → view_of s new ≡ view_of s old
+quiet_end s [] old new output trace q = ap (view_of s) trace.1
+quiet_end s (fails fault form ∷ items) old new output (rest, is, trace) q =
+    quiet_end s items old new rest trace q
+quiet_end s (asks request ∷ items) old new output (mid, reply, rest, step, is, trace) q =
     let first = entry old request reply mid step in
-    let later = transcript items mid rest new told in
-    quiet_end s items mid new rest told (All-tail (IsHersOrQuiet s) first later q)
+    let later = transcript items mid rest new trace in
+    quiet_end s items mid new rest trace (All-tail (IsHersOrQuiet s) first later q)
     ∙ leaves s old mid request reply step (All-head (IsHersOrQuiet s) first later q)
 
 abbrev pub Sees : ℕ → View → Entry → Type 0
 Sees s view e = view_of s e.office ≡ view
 
 pub quiet_each : (s : ℕ) (items : List Item) (old new : OfficeState) (output : List ℕ)
-    (told : Told Replies items old output new)
-    → All (IsHersOrQuiet s) (transcript items old output new told)
-    → All (Sees s (view_of s old)) (transcript items old output new told)
-quiet_each s [] old new output told q = All-nil (Sees s (view_of s old))
-quiet_each s (fails fault form ∷ items) old new output (rest, is, told) q =
-    quiet_each s items old new rest told q
-quiet_each s (asks request ∷ items) old new output (mid, reply, rest, step, is, told) q =
+    (trace : AnswersItems Replies items old output new)
+    → All (IsHersOrQuiet s) (transcript items old output new trace)
+    → All (Sees s (view_of s old)) (transcript items old output new trace)
+quiet_each s [] old new output trace q = All-nil (Sees s (view_of s old))
+quiet_each s (fails fault form ∷ items) old new output (rest, is, trace) q =
+    quiet_each s items old new rest trace q
+quiet_each s (asks request ∷ items) old new output (mid, reply, rest, step, is, trace) q =
     let first = entry old request reply mid step in
-    let later = transcript items mid rest new told in
+    let later = transcript items mid rest new trace in
     All-cons (Sees s (view_of s old)) first later refl
     (All-weaker (Sees s (view_of s mid)) (Sees s (view_of s old))
     (λ e h. h ∙ leaves s old mid request reply step (All-head (IsHersOrQuiet s) first later q))
     later
-    (quiet_each s items mid new rest told (All-tail (IsHersOrQuiet s) first later q)))
+    (quiet_each s items mid new rest trace (All-tail (IsHersOrQuiet s) first later q)))
 
 told_one : (s : ℕ) (view : View) (e : Entry) → TellsHerView e → Sees s view e → RepliesView s view e
-told_one s view e told same is =
-    subst (λ v. (e.reply ≡ her_reply s e.request v) ⊎ (e.reply ≡ unavailable)) same (told s is)
+told_one s view e trace same is =
+    subst (λ v. (e.reply ≡ her_reply s e.request v) ⊎ (e.reply ≡ unavailable)) same (trace s is)
 
 -- if each message finds this view, the candidate is replied its text
 pub both_all : (s : ℕ) (view : View) (es : List Entry) → All TellsHerView es → All (Sees s view) es
     → All (RepliesView s view) es
-both_all s view es told same = λ k d lt. told_one s view (get_or es k d) (told k d lt) (same k d lt)
+both_all s view es trace same = λ k d lt. told_one s view (get_or es k d) (trace k d lt)
+    (same k d lt)
 
 pub quiet_told : (s : ℕ) (items : List Item) (old new : OfficeState) (output : List ℕ)
-    (told : Told Replies items old output new)
-    → All (IsHersOrQuiet s) (transcript items old output new told)
-    → All (RepliesView s (view_of s old)) (transcript items old output new told)
-quiet_told s items old new output told q =
-    both_all s (view_of s old) (transcript items old output new told)
-    (each_told items old new output told) (quiet_each s items old new output told q)
+    (trace : AnswersItems Replies items old output new)
+    → All (IsHersOrQuiet s) (transcript items old output new trace)
+    → All (RepliesView s (view_of s old)) (transcript items old output new trace)
+quiet_told s items old new output trace q =
+    both_all s (view_of s old) (transcript items old output new trace)
+    (each_told items old new output trace) (quiet_each s items old new output trace q)
 
 -- ---- two connections
 
@@ -193,8 +194,8 @@ asks_same s view one other same =
 -- two messages of a candidate that ask for the same, in offices that agree on their view
 pair_alike : (s : ℕ) (x y : Entry) → TellsHerView x → TellsHerView y
     → view_of s x.office ≡ view_of s y.office → IsToldAlike s x y
-pair_alike s x y told said view is also same =
-    let replied = subst (λ v. RepliesView s v x) view (told s) in
+pair_alike s x y trace said view is also same =
+    let replied = subst (λ v. RepliesView s v x) view (trace s) in
     both_by (her_reply s y.request (view_of s y.office)) x.request y.request x.reply y.reply
     same.method
     (subst (λ r. (x.reply ≡ r) ⊎ (x.reply ≡ unavailable))
@@ -203,8 +204,8 @@ pair_alike s x y told said view is also same =
 
 pub all_by_view : (s : ℕ) (xs ys : List Entry) → All TellsHerView xs → All TellsHerView ys
     → AreToldByView s xs ys
-all_by_view s xs ys told said =
-    λ k d lt i e in'. pair_alike s (get_or xs k d) (get_or ys i e) (told k d lt) (said i e in')
+all_by_view s xs ys trace said =
+    λ k d lt i e in'. pair_alike s (get_or xs k d) (get_or ys i e) (trace k d lt) (said i e in')
 
 pub all_alike : (s : ℕ) (view : View) (xs ys : List Entry) → AreToldByView s xs ys
     → All (Sees s view) xs → All (Sees s view) ys → AreToldAlike s xs ys
@@ -212,8 +213,8 @@ all_alike s view xs ys alike one other =
     λ k d lt i e in'. alike k d lt i e in' (one k d lt ∙ sym (other i e in'))
 
 pub both_quiet : (s : ℕ) (items others : List Item) (one next other last : OfficeState)
-    (output text : List ℕ) (first : Told Replies items one output next)
-    (second : Told Replies others other text last) → view_of s one ≡ view_of s other
+    (output text : List ℕ) (first : AnswersItems Replies items one output next)
+    (second : AnswersItems Replies others other text last) → view_of s one ≡ view_of s other
     → All (IsHersOrQuiet s) (transcript items one output next first)
     → All (IsHersOrQuiet s) (transcript others other text last second)
     → AreToldAlike s (transcript items one output next first)
@@ -230,12 +231,12 @@ both_quiet s items others one next other last output text first second same q k 
 -- ---- connections with only a candidate's messages
 
 pub stays_all : (s : ℕ) (items : List Item) (old new : OfficeState) (output : List ℕ)
-    → Told Replies items old output new → AreFrom s items → new ≡ old
-stays_all s [] old new output told hers = told.1
-stays_all s (fails fault form ∷ items) old new output (rest, is, told) hers =
-    stays_all s items old new rest told hers
-stays_all s (asks request ∷ items) old new output (mid, reply, rest, step, is, told) hers =
-    stays_all s items mid new rest told hers.1 ∙ stays s old mid request reply step hers.0
+    → AnswersItems Replies items old output new → AreFrom s items → new ≡ old
+stays_all s [] old new output trace hers = trace.1
+stays_all s (fails fault form ∷ items) old new output (rest, is, trace) hers =
+    stays_all s items old new rest trace hers
+stays_all s (asks request ∷ items) old new output (mid, reply, rest, step, is, trace) hers =
+    stays_all s items mid new rest trace hers.1 ∙ stays s old mid request reply step hers.0
 
 not_unavailable : (reply said : PlainReply) → (reply ≡ said) ⊎ (reply ≡ unavailable)
     → reply ≢ unavailable → reply ≡ said
@@ -243,22 +244,22 @@ not_unavailable reply said (inl is) other = is
 not_unavailable reply said (inr none) other = absurd (other none)
 
 pub written : (s : ℕ) (items : List Item) (old new : OfficeState) (output : List ℕ)
-    (told : Told Replies items old output new) → AreFrom s items
-    → AreAvailable (transcript items old output new told)
+    (trace : AnswersItems Replies items old output new) → AreFrom s items
+    → AreAvailable (transcript items old output new trace)
     → output ≡ her_output s (view_of s old) items
-written s [] old new output told hers fine = told.0
-written s (fails fault form ∷ items) old new output (rest, is, told) hers fine =
+written s [] old new output trace hers fine = trace.0
+written s (fails fault form ∷ items) old new output (rest, is, trace) hers fine =
     is ∙ ap (λ bytes. reply_text form (fault_reply fault) ++ bytes)
-    (written s items old new rest told hers fine)
-written s (asks request ∷ items) old new output (mid, reply, rest, step, is, told) hers fine =
+    (written s items old new rest trace hers fine)
+written s (asks request ∷ items) old new output (mid, reply, rest, step, is, trace) hers fine =
     let first = entry old request reply mid step in
-    let later = transcript items mid rest new told in
+    let later = transcript items mid rest new trace in
     let here : reply ≡ her_reply s request (view_of s old) =
     not_unavailable reply (her_reply s request (view_of s old))
     (tells old mid request reply step s hers.0)
     (All-head (λ e. e.reply ≢ unavailable) first later fine) in
     let there : rest ≡ her_output s (view_of s old) items =
-    written s items mid new rest told hers.1
+    written s items mid new rest trace hers.1
     (All-tail (λ e. e.reply ≢ unavailable) first later fine)
     ∙ ap (λ office. her_output s (view_of s office) items)
     (stays s old mid request reply step hers.0) in
@@ -266,8 +267,8 @@ written s (asks request ∷ items) old new output (mid, reply, rest, step, is, t
 
 -- two of them with the same messages, to offices that agree on the view
 pub same_output : (s : ℕ) (items others : List Item) (one next other last : OfficeState)
-    (output text : List ℕ) (first : Told Replies items one output next)
-    (second : Told Replies others other text last) → view_of s one ≡ view_of s other
+    (output text : List ℕ) (first : AnswersItems Replies items one output next)
+    (second : AnswersItems Replies others other text last) → view_of s one ≡ view_of s other
     → items ≡ others → AreFrom s items → AreAvailable (transcript items one output next first)
     → AreAvailable (transcript others other text last second) → output ≡ text
 same_output s items others one next other last output text first second same is hers fine fit =
@@ -286,36 +287,36 @@ exchanges [] = []
 exchanges (e ∷ es) = with_asked e.asked (exchanges es)
 
 one_more : (s : ℕ) (said : Result PlainAsked Refusal) (old mid new : OfficeState)
-    (reply : PlainReply) (told : RepliesTo said old reply mid) (later : List Change)
+    (reply : PlainReply) (trace : RepliesTo said old reply mid) (later : List Change)
     (xs : List Exchange)
-    → IfSome (asked_in said old reply mid told) (λ x. KeepsPublication x.answer)
+    → IfSome (asked_in said old reply mid trace) (λ x. KeepsPublication x.answer)
     → RunWith s later mid xs new
-    → RunWith s (changes_by s old (asked_in said old reply mid told) ++ later) old
-    (with_asked (asked_in said old reply mid told) xs) new
-one_more s (Ok asked) old mid new reply told later xs keeps run =
-    (mid, later, told.1, keeps, refl, run)
-one_more s (Err refusal) old mid new reply told later xs keeps run =
-    subst (λ office. RunWith s later office xs new) told.0 run
+    → RunWith s (changes_by s old (asked_in said old reply mid trace) ++ later) old
+    (with_asked (asked_in said old reply mid trace) xs) new
+one_more s (Ok asked) old mid new reply trace later xs keeps run =
+    (mid, later, trace.1, keeps, refl, run)
+one_more s (Err refusal) old mid new reply trace later xs keeps run =
+    subst (λ office. RunWith s later office xs new) trace.0 run
 
 -- a run over messages is one over what they ask for
 runs : (s : ℕ) (items : List Item) (old new : OfficeState) (output : List ℕ)
-    (told : Told Replies items old output new)
-    → All LeavesPublication (transcript items old output new told)
-    → RunWith s (her_changes s (transcript items old output new told)) old
-    (exchanges (transcript items old output new told)) new
-runs s [] old new output told keeps = (refl, told.1)
-runs s (fails fault form ∷ items) old new output (rest, is, told) keeps =
-    runs s items old new rest told keeps
-runs s (asks request ∷ items) old new output (mid, reply, rest, step, is, told) keeps =
+    (trace : AnswersItems Replies items old output new)
+    → All LeavesPublication (transcript items old output new trace)
+    → RunWith s (her_changes s (transcript items old output new trace)) old
+    (exchanges (transcript items old output new trace)) new
+runs s [] old new output trace keeps = (refl, trace.1)
+runs s (fails fault form ∷ items) old new output (rest, is, trace) keeps =
+    runs s items old new rest trace keeps
+runs s (asks request ∷ items) old new output (mid, reply, rest, step, is, trace) keeps =
     let first = entry old request reply mid step in
-    let later = transcript items mid rest new told in
+    let later = transcript items mid rest new trace in
     one_more s (reading request.method request.target request.caller request.body) old mid new reply
     step (her_changes s later) (exchanges later) (All-head LeavesPublication first later keeps)
-    (runs s items mid new rest told (All-tail LeavesPublication first later keeps))
+    (runs s items mid new rest trace (All-tail LeavesPublication first later keeps))
 
 pub same_changes : (s : ℕ) (old one other : OfficeState) (items others : List Item)
-    (output text : List ℕ) (first : Told Replies items old output one)
-    (second : Told Replies others old text other)
+    (output text : List ℕ) (first : AnswersItems Replies items old output one)
+    (second : AnswersItems Replies others old text other)
     → All LeavesPublication (transcript items old output one first)
     → All LeavesPublication (transcript others old text other second)
     → her_changes s (transcript items old output one first)
@@ -330,7 +331,8 @@ same_changes s old one other items others output text first second keeps too sam
 
 pub same_changes_bytes : (s : ℕ) (old one other next last : OfficeState) (items others : List Item)
     (output text : List ℕ) (request : PlainRequest) (reply answer : PlainReply)
-    (first : Told Replies items old output one) (second : Told Replies others old text other)
+    (first : AnswersItems Replies items old output one)
+    (second : AnswersItems Replies others old text other)
     → All LeavesPublication (transcript items old output one first)
     → All LeavesPublication (transcript others old text other second)
     → her_changes s (transcript items old output one first)
@@ -353,8 +355,8 @@ by_view : {S : Type 0} (store : Ghosts S) (input before after : Option (List ℕ
 by_view store input before after old new (Err fault) h = tt
 by_view store input before after old new (Ok served) h = λ clean office now.
     let run = h clean office now in
-    let told = each_told (run.1).items office run.0 (run.1).output (run.1).told in
-    (run.0, (run.1, told), run.2)
+    let trace = each_told (run.1).items office run.0 (run.1).output (run.1).trace in
+    (run.0, (run.1, trace), run.2)
 
 pub serves_by_view : {S : Type 0} (store : Ghosts S) (input before after : Option (List ℕ))
     (old new : Held S) (result : Result Served ServeFault)

@@ -8,8 +8,8 @@ use Rattle.office_messages.specs.declared.connection.Served.{Served}
 use Rattle.office_messages.specs.declared.connection.ServeFault.{ServeFault}
 use Rattle.office_messages.specs.declared.connection.ServeFault.TheVariants.{Read, Write, TooMany, NoMemory}
 use Rattle.office_messages.specs.Messages.{Item, asks, fails, Begins}
-use Rattle.office_messages.specs.Serve.{BreaksOff, Told, Serves, ServesFront}
-use Rattle.office_messages.proofs.RunLemmas.{told_kept}
+use Rattle.office_messages.specs.Serve.{WriterFailed, AnswersItems, Serves, ServesFront}
+use Rattle.office_messages.proofs.RunLemmas.{trace_kept}
 use Rattle.office_model.specs.Office.{OfficeState}
 use Rattle.office_store.specs.Running.{Now}
 use Rattle.office_http.specs.Replying.{Answered, Replies}
@@ -25,16 +25,17 @@ not_write fault other e = true≢false (sym (ap is_write e) ∙ other)
 module _ {S : Type 0} (store : Ghosts S) where
   -- a disk that is clean after a run was clean before it
   told_clean : (items : List Item) (old : Held S) (output : List ℕ) (new : Held S)
-      → Told (Answered store) items old output new
+      → AnswersItems (Answered store) items old output new
       → HasCleanDisk (state store new) → HasCleanDisk (state store old)
   told_clean items old output new t =
-      told_kept (Answered store) (λ h. HasCleanDisk (state store h)) (λ o r reply n x. x.clean)
+      trace_kept (Answered store) (λ h. HasCleanDisk (state store h)) (λ o r reply n x. x.clean)
       items old output new t
 
   told_leads : (items : List Item) (old : Held S) (output : List ℕ) (new : Held S)
-      → Told (Answered store) items old output new → HasCleanDisk (state store new)
+      → AnswersItems (Answered store) items old output new → HasCleanDisk (state store new)
       → (office : OfficeState) → Now (state store old) office
-      → (next : OfficeState) × Told Replies items office output next × Now (state store new) next
+      → (next : OfficeState) × AnswersItems Replies items office output next
+      × Now (state store new) next
   told_leads [] old output new t clean office now =
       (office, (t.0, refl), subst (λ h. Now (state store h) office) (sym t.1) now)
   told_leads (fails fault form ∷ items) old output new (rest, is, t) clean office now =
@@ -52,13 +53,13 @@ module _ {S : Type 0} (store : Ghosts S) where
         (λ office next. Serves Replies input before after office next served) old new)
     serves_leads (Err fault) x = tt
     serves_leads (Ok served) x = λ clean office now.
-        let run = told_leads x.items old x.output new x.told clean office now in (
+        let run = told_leads x.items old x.output new x.trace clean office now in (
           run.0,
           record {
             items = x.items;
             output = x.output;
             messages = x.messages;
-            told = run.1;
+            trace = run.1;
             count = x.count;
             written = x.written;
           },
@@ -67,22 +68,22 @@ module _ {S : Type 0} (store : Ghosts S) where
 
     -- no write of a reply failed
     whole_front : (items : List Item) (output : List ℕ) → IfSome input (Begins items 0)
-        → Told (Answered store) items old output new → Appends before after output
+        → AnswersItems (Answered store) items old output new → Appends before after output
         → LeadsOffice store (λ office next. (its : List Item) × (out : List ℕ)
-        × IfSome input (Begins its 0) × Told Replies its office out next
+        × IfSome input (Begins its 0) × AnswersItems Replies its office out next
         × Appends before after out) old new
-    whole_front items output begins told written = λ clean office now.
-        let run = told_leads items old output new told clean office now in
+    whole_front items output begins trace written = λ clean office now.
+        let run = told_leads items old output new trace clean office now in
         (run.0, (items, output, begins, run.1, written), run.2)
 
     broken_front : (items : List Item) (output : List ℕ) → IfSome input (Begins items 0)
-        → BreaksOff (Answered store) input before after items output old new
+        → WriterFailed (Answered store) input before after items output old new
         → LeadsOffice store (AnswersFront input before after Write) old new
     broken_front items output begins x = λ clean office now.
-        let kept = told_clean (x.last ∷ []) x.mid (x.sent ++ x.unsent) new x.told_last clean in
-        let first = told_leads x.whole old x.front x.mid x.told kept office now in
+        let kept = told_clean (x.last ∷ []) x.mid (x.sent ++ x.unsent) new x.last_trace clean in
+        let first = told_leads x.whole old x.front x.mid x.trace kept office now in
         let last = told_leads (x.last ∷ []) x.mid
-        (x.sent ++ x.unsent) new x.told_last clean first.0 first.2 in (
+        (x.sent ++ x.unsent) new x.last_trace clean first.0 first.2 in (
           last.0,
           (
             items,
@@ -92,11 +93,11 @@ module _ {S : Type 0} (store : Ghosts S) where
               whole = x.whole;
               front = x.front;
               mid = first.0;
-              told = first.1;
+              trace = first.1;
               last = x.last;
               sent = x.sent;
               unsent = x.unsent;
-              told_last = last.1;
+              last_trace = last.1;
               next = x.next;
               written = x.written;
             },
@@ -108,12 +109,12 @@ module _ {S : Type 0} (store : Ghosts S) where
         → ServesFront (Answered store) input before after old new fault
         → LeadsOffice store (AnswersFront input before after fault) old new
     front_leads Read x =
-        whole_front x.items x.output x.begins x.told (x.written (not_write Read refl))
+        whole_front x.items x.output x.begins x.trace (x.written (not_write Read refl))
     front_leads Write x = broken_front x.items x.output x.begins (x.broken refl)
     front_leads TooMany x =
-        whole_front x.items x.output x.begins x.told (x.written (not_write TooMany refl))
+        whole_front x.items x.output x.begins x.trace (x.written (not_write TooMany refl))
     front_leads NoMemory x =
-        whole_front x.items x.output x.begins x.told (x.written (not_write NoMemory refl))
+        whole_front x.items x.output x.begins x.trace (x.written (not_write NoMemory refl))
 
     pub serves_front_leads : (result : Result Served ServeFault)
         → IfErr result (λ fault. ServesFront (Answered store) input before after old new fault)
@@ -126,5 +127,5 @@ module _ {S : Type 0} (store : Ghosts S) where
         → IfOk result (λ served. Serves (Answered store) input before after old new served)
         → IfErr result (λ fault. ServesFront (Answered store) input before after old new fault)
         → HasCleanDisk (state store new) → HasCleanDisk (state store old)
-    serves_clean (Ok served) x y = told_clean x.items old x.output new x.told
-    serves_clean (Err fault) x y = told_clean y.items old y.output new y.told
+    serves_clean (Ok served) x y = told_clean x.items old x.output new x.trace
+    serves_clean (Err fault) x y = told_clean y.items old y.output new y.trace

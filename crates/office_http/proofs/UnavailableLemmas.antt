@@ -54,11 +54,11 @@ changes old _ = tt
 -- the command that a message asks for, if it is not refused unread
 leaves_by : (said : Result PlainAsked Refusal) (old new : OfficeState) (reply : PlainReply)
     → RepliesTo said old reply new → code_of reply.status ≡ 503 → new ≡ old
-leaves_by (Err refusal) old new reply told is = told.0
-leaves_by (Ok asked) old new reply (answer, step, told) is = elim step [
+leaves_by (Err refusal) old new reply trace is = trace.0
+leaves_by (Ok asked) old new reply (answer, step, trace) is = elim step [
   | inl same ↦
       let code = ap (λ (o : Outcome). code_of (reply_to o.1).status) same in
-      let number = sym (ap (λ (r : PlainReply). code_of r.status) told ∙ code) ∙ is in
+      let number = sym (ap (λ (r : PlainReply). code_of r.status) trace ∙ code) ∙ is in
       ap (λ (o : Outcome). o.0) same
       ∙ step_law (λ new. new ≡ old) Is503 old refl asked.caller asked.command
       (changes old asked.command) (eq-eqb _ 503 number)
@@ -67,6 +67,7 @@ leaves_by (Ok asked) old new reply (answer, step, told) is = elim step [
 
 pub unavailable_leaves : (old new : OfficeState) (request : PlainRequest) (reply : PlainReply)
     → Replies old request reply new → code_of reply.status ≡ 503 → new ≡ old
-unavailable_leaves old new request reply told is =
-    leaves_by (reading request.method request.target request.caller request.body) old new reply told
+unavailable_leaves old new request reply trace is =
+    leaves_by (reading request.method request.target request.caller request.body) old new reply
+    trace
     is

@@ -26,15 +26,15 @@ ServesAll (v ∷ vs) old new =
 -- the messages of a connection that ended with this fault
 abbrev pub front_entries : (fault : ServeFault) (input before after : Option (List ℕ))
     (old new : OfficeState) → AnswersFront input before after fault old new → List Entry
-front_entries Read input before after old new (items, output, begins, told, written) =
-    transcript items old output new told
+front_entries Read input before after old new (items, output, begins, trace, written) =
+    transcript items old output new trace
 front_entries Write input before after old new (items, output, begins, x) =
-    transcript x.whole old x.front x.mid x.told
-    ++ transcript (x.last ∷ []) x.mid (x.sent ++ x.unsent) new x.told_last
-front_entries TooMany input before after old new (items, output, begins, told, written) =
-    transcript items old output new told
-front_entries NoMemory input before after old new (items, output, begins, told, written) =
-    transcript items old output new told
+    transcript x.whole old x.front x.mid x.trace
+    ++ transcript (x.last ∷ []) x.mid (x.sent ++ x.unsent) new x.last_trace
+front_entries TooMany input before after old new (items, output, begins, trace, written) =
+    transcript items old output new trace
+front_entries NoMemory input before after old new (items, output, begins, trace, written) =
+    transcript items old output new trace
 
 -- the messages of a connection, however it ended
 abbrev pub entries_to : (ended : Result Served ServeFault) (input before after : Option (List ℕ))

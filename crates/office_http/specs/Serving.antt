@@ -5,7 +5,7 @@ use Rattle.sqlite.specs.Held.{Held, state}
 use Rattle.sqlite.specs.State.{HasCleanDisk}
 use Rattle.sqlite.specs.Store.{Ghosts}
 use Rattle.office_messages.specs.Messages.{Item, Begins}
-use Rattle.office_messages.specs.Serve.{BreaksOff, Told}
+use Rattle.office_messages.specs.Serve.{WriterFailed, AnswersItems}
 use Rattle.office_messages.specs.declared.connection.ServeFault.{ServeFault}
 use Rattle.office_messages.specs.declared.connection.ServeFault.TheVariants.{Write}
 use Rattle.office_model.specs.Office.{OfficeState}
@@ -18,10 +18,10 @@ abbrev pub AnswersFront : Option (List ℕ) → Option (List ℕ) → Option (Li
     → OfficeState → OfficeState → Type 0
 AnswersFront input before after Write old new =
     (items : List Item) × (output : List ℕ) × IfSome input (Begins items 0)
-    × BreaksOff Replies input before after items output old new
+    × WriterFailed Replies input before after items output old new
 AnswersFront input before after fault old new =
     (items : List Item) × (output : List ℕ) × IfSome input (Begins items 0)
-    × Told Replies items old output new × Appends before after output
+    × AnswersItems Replies items old output new × Appends before after output
 
 -- assuming the disk returns what was written: for any office that the file represents before, it
 -- represents one afterwards that this office leads to

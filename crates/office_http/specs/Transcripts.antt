@@ -2,7 +2,7 @@
 use Rattle.std.specs.Prelude.{ℕ, List, [], ◌∷◌, All, Option, Some, None, Result, Ok, Err}
 use Rattle.office_messages.specs.Reply.{PlainReply}
 use Rattle.office_messages.specs.Messages.{Item, asks, fails}
-use Rattle.office_messages.specs.Serve.{Serves, Told}
+use Rattle.office_messages.specs.Serve.{Serves, AnswersItems}
 use Rattle.office_messages.specs.Stream.{PlainRequest}
 use Rattle.office_messages.specs.declared.connection.Served.{Served}
 use Rattle.office_requests.specs.Requests.{PlainAsked, reading}
@@ -22,36 +22,36 @@ pub record Entry : Type 0 where
 -- the command and its answer
 abbrev pub asked_in : (said : Result PlainAsked Refusal) (old : OfficeState) (reply : PlainReply)
     (new : OfficeState) → RepliesTo said old reply new → Option Exchange
-asked_in (Ok asked) old reply new told =
-    Some (record { caller = asked.caller; command = asked.command; answer = told.0 })
-asked_in (Err refusal) old reply new told = None
+asked_in (Ok asked) old reply new trace =
+    Some (record { caller = asked.caller; command = asked.command; answer = trace.0 })
+asked_in (Err refusal) old reply new trace = None
 
 -- the entry of one message that was replied to
 abbrev pub entry : (old : OfficeState) (request : PlainRequest) (reply : PlainReply)
     (new : OfficeState) → Replies old request reply new → Entry
-entry old request reply new told = record {
+entry old request reply new trace = record {
   office = old;
   request = request;
   asked = asked_in (reading request.method request.target request.caller request.body) old reply
-      new told;
+      new trace;
   reply = reply;
 }
 
 -- the messages of a run in their order, without those that are faulty in head or framing, which no
 -- office receives
 abbrev pub transcript : (items : List Item) (old : OfficeState) (output : List ℕ)
-    (new : OfficeState) → Told Replies items old output new → List Entry
-transcript [] old output new told = []
-transcript (fails fault form ∷ items) old output new (rest, is, told) =
-    transcript items old rest new told
-transcript (asks request ∷ items) old output new (mid, reply, rest, step, is, told) =
-    entry old request reply mid step ∷ transcript items mid rest new told
+    (new : OfficeState) → AnswersItems Replies items old output new → List Entry
+transcript [] old output new trace = []
+transcript (fails fault form ∷ items) old output new (rest, is, trace) =
+    transcript items old rest new trace
+transcript (asks request ∷ items) old output new (mid, reply, rest, step, is, trace) =
+    entry old request reply mid step ∷ transcript items mid rest new trace
 
 -- the messages of a connection
 abbrev pub entries : {input before after : Option (List ℕ)} {old new : OfficeState}
     {served : Served} → Serves Replies input before after old new served → List Entry
 entries {input} {before} {after} {old} {new} {served} run =
-    transcript run.items old run.output new run.told
+    transcript run.items old run.output new run.trace
 
 -- a message and its reply
 abbrev pub said_in : Entry → PlainRequest × PlainReply

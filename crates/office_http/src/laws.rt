@@ -2,7 +2,7 @@
 ghost use Rattle.std.specs.Prelude.{◌≡◌, ℕ, List, All, Option};
 ghost use Rattle.office_messages.specs.Reply.{PlainReply};
 ghost use Rattle.office_messages.specs.Messages.{Item};
-ghost use Rattle.office_messages.specs.Serve.{Serves, Told};
+ghost use Rattle.office_messages.specs.Serve.{Serves, AnswersItems};
 ghost use Rattle.office_messages.specs.Statuses.{code_of};
 ghost use Rattle.office_messages.specs.Stream.{PlainRequest};
 ghost use Rattle.office_messages.specs.Visits.{Visit};
@@ -28,7 +28,7 @@ pub fn unavailable_changes_nothing()
 /// A candidate's pages say nothing about others' enrolments, seats, exams or drafts. Whether a
 /// reply is a 503, and how long it takes, may depend on anything.
 pub fn told_by_view()
-    ensures told { (office next : OfficeState) (request : PlainRequest) (reply : PlainReply)
+    ensures view { (office next : OfficeState) (request : PlainRequest) (reply : PlainReply)
         → Replies office request reply next → TellsCandidate office request reply }
     ensures stays { (s : ℕ) (office next : OfficeState) (request : PlainRequest)
         (reply : PlainReply) → Replies office request reply next → IsFrom s request
@@ -51,7 +51,7 @@ pub fn same_view_same_bytes()
 /// candidate.
 pub fn quiet_message()
     ensures { (s : ℕ) (old new : OfficeState) (request : PlainRequest) (reply : PlainReply)
-        → (told : Replies old request reply new) → IsQuietFor s (entry old request reply new told)
+        → (trace : Replies old request reply new) → IsQuietFor s (entry old request reply new trace)
         → view_of s new ≡ view_of s old }
 {}
 
@@ -60,8 +60,8 @@ pub fn quiet_message()
 /// between.
 pub fn each_told_by_view()
     ensures { (items : List Item) (old new : OfficeState) (output : List ℕ)
-        → (told : Told Replies items old output new)
-        → All TellsHerView (transcript items old output new told) }
+        → (trace : AnswersItems Replies items old output new)
+        → All TellsHerView (transcript items old output new trace) }
 {}
 
 /// If all others' messages are quiet for a candidate, each message finds the candidate's view as it
@@ -69,17 +69,17 @@ pub fn each_told_by_view()
 /// text, or that the office is unavailable.
 pub fn quiet_messages()
     ensures end { (s : ℕ) (items : List Item) (old new : OfficeState) (output : List ℕ)
-        → (told : Told Replies items old output new)
-        → All (IsHersOrQuiet s) (transcript items old output new told)
+        → (trace : AnswersItems Replies items old output new)
+        → All (IsHersOrQuiet s) (transcript items old output new trace)
         → view_of s new ≡ view_of s old }
     ensures each { (s : ℕ) (items : List Item) (old new : OfficeState) (output : List ℕ)
-        → (told : Told Replies items old output new)
-        → All (IsHersOrQuiet s) (transcript items old output new told)
-        → All (λ e. view_of s e.office ≡ view_of s old) (transcript items old output new told) }
-    ensures told { (s : ℕ) (items : List Item) (old new : OfficeState) (output : List ℕ)
-        → (told : Told Replies items old output new)
-        → All (IsHersOrQuiet s) (transcript items old output new told)
-        → All (RepliesView s (view_of s old)) (transcript items old output new told) }
+        → (trace : AnswersItems Replies items old output new)
+        → All (IsHersOrQuiet s) (transcript items old output new trace)
+        → All (λ e. view_of s e.office ≡ view_of s old) (transcript items old output new trace) }
+    ensures view { (s : ℕ) (items : List Item) (old new : OfficeState) (output : List ℕ)
+        → (trace : AnswersItems Replies items old output new)
+        → All (IsHersOrQuiet s) (transcript items old output new trace)
+        → All (RepliesView s (view_of s old)) (transcript items old output new trace) }
 {}
 
 /// Two connections to two offices: if the offices that receive a candidate's two messages agree on
@@ -133,8 +133,8 @@ pub fn same_view_same_output()
 /// many pairs), so the law speaks of the changes that were made.
 pub fn same_changes_same_view()
     ensures view { (s : ℕ) (old one other : OfficeState) (items others : List Item)
-        (output text : List ℕ) → (first : Told Replies items old output one)
-        → (second : Told Replies others old text other)
+        (output text : List ℕ) → (first : AnswersItems Replies items old output one)
+        → (second : AnswersItems Replies others old text other)
         → All LeavesPublication (transcript items old output one first)
         → All LeavesPublication (transcript others old text other second)
         → her_changes s (transcript items old output one first)
@@ -142,8 +142,8 @@ pub fn same_changes_same_view()
         → view_of s one ≡ view_of s other }
     ensures same { (s : ℕ) (old one other next last : OfficeState) (items others : List Item)
         (output text : List ℕ) (request : PlainRequest) (reply answer : PlainReply)
-        → (first : Told Replies items old output one)
-        → (second : Told Replies others old text other)
+        → (first : AnswersItems Replies items old output one)
+        → (second : AnswersItems Replies others old text other)
         → All LeavesPublication (transcript items old output one first)
         → All LeavesPublication (transcript others old text other second)
         → her_changes s (transcript items old output one first)
@@ -173,7 +173,7 @@ pub fn quiet_clients()
         → (run : ServesAll visits old new)
         → All (IsHersOrQuiet s) (all_entries visits old new run)
         → All (λ e. view_of s e.office ≡ view_of s old) (all_entries visits old new run) }
-    ensures told { (s : ℕ) (visits : List Visit) (old new : OfficeState)
+    ensures view { (s : ℕ) (visits : List Visit) (old new : OfficeState)
         → (run : ServesAll visits old new)
         → All (IsHersOrQuiet s) (all_entries visits old new run)
         → All (RepliesView s (view_of s old)) (all_entries visits old new run) }

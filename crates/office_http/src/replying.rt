@@ -33,7 +33,7 @@ pub fn reply<S: Alter>(
     ensures answered { Answered S.Store desk.old (plain_request request.now) (plain_reply result)
         desk.new }
     // A candidate is replied the text of their view, and nothing else that is stored.
-    ensures told { HasCleanDisk (state S.Store desk.new) → (office : OfficeState)
+    ensures view { HasCleanDisk (state S.Store desk.new) → (office : OfficeState)
         → Now (state S.Store desk.old) office
         → TellsCandidate office (plain_request request.now) (plain_reply result) }
 {

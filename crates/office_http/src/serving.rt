@@ -51,7 +51,7 @@ pub fn serve<R: Read, W: Write, S: Alter>(
         (W.contents writer.new) office next served) desk.old desk.new) }
     // Each candidate in it is replied the text of their view in the office that received their
     // message, and nothing else that is stored.
-    ensures told { IfOk result (λ served. LeadsOffice S.Store
+    ensures view { IfOk result (λ served. LeadsOffice S.Store
         (λ office next. ServesByView (R.remaining reader.old) (W.contents writer.old)
         (W.contents writer.new) office next served) desk.old desk.new) }
     // The same holds for the first messages, up to the fault. If the writer failed, all replies but

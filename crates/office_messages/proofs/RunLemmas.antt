@@ -6,7 +6,7 @@ use Rattle.office_messages.specs.declared.connection.ServeFault.{ServeFault}
 use Rattle.office_messages.specs.Reply.{PlainReply}
 use Rattle.office_messages.specs.Stream.{PlainRequest}
 use Rattle.office_messages.specs.Messages.{Item, asks, fails}
-use Rattle.office_messages.specs.Serve.{Told, Serves, ServesFront, BreaksOff}
+use Rattle.office_messages.specs.Serve.{AnswersItems, Serves, ServesFront, WriterFailed}
 
 -- ---- along a map of states that carries each answer
 
@@ -14,13 +14,13 @@ module _ {S T : Type 0} (f : S → T) (Answers : S → PlainRequest → PlainRep
     (Others : T → PlainRequest → PlainReply → T → Type 0)
     (carried : (old : S) (r : PlainRequest) (reply : PlainReply) (new : S)
     → Answers old r reply new → Others (f old) r reply (f new)) where
-  pub told_along : (items : List Item) (old : S) (output : List ℕ) (new : S)
-      → Told Answers items old output new → Told Others items (f old) output (f new)
-  told_along [] old output new t = (t.0, ap f t.1)
-  told_along (fails fault form ∷ items) old output new (rest, is, t) =
-      (rest, is, told_along items old rest new t)
-  told_along (asks r ∷ items) old output new (mid, reply, rest, step, is, t) =
-      (f mid, reply, rest, carried old r reply mid step, is, told_along items mid rest new t)
+  pub trace_along : (items : List Item) (old : S) (output : List ℕ) (new : S)
+      → AnswersItems Answers items old output new → AnswersItems Others items (f old) output (f new)
+  trace_along [] old output new t = (t.0, ap f t.1)
+  trace_along (fails fault form ∷ items) old output new (rest, is, t) =
+      (rest, is, trace_along items old rest new t)
+  trace_along (asks r ∷ items) old output new (mid, reply, rest, step, is, t) =
+      (f mid, reply, rest, carried old r reply mid step, is, trace_along items mid rest new t)
 
   pub serves_along : (input before after : Option (List ℕ)) (old new : S) (served : Served)
       → Serves Answers input before after old new served
@@ -29,14 +29,14 @@ module _ {S T : Type 0} (f : S → T) (Answers : S → PlainRequest → PlainRep
     items = x.items;
     output = x.output;
     messages = x.messages;
-    told = told_along x.items old x.output new x.told;
+    trace = trace_along x.items old x.output new x.trace;
     count = x.count;
     written = x.written;
   }
 
   breaks_along : (input before after : Option (List ℕ)) (items : List Item) (output : List ℕ)
-      (old new : S) → BreaksOff Answers input before after items output old new
-      → BreaksOff Others input before after items output (f old) (f new)
+      (old new : S) → WriterFailed Answers input before after items output old new
+      → WriterFailed Others input before after items output (f old) (f new)
   breaks_along input before after items output old new x = record {
     whole = x.whole;
     front = x.front;
@@ -44,8 +44,8 @@ module _ {S T : Type 0} (f : S → T) (Answers : S → PlainRequest → PlainRep
     sent = x.sent;
     unsent = x.unsent;
     mid = f x.mid;
-    told = told_along x.whole old x.front x.mid x.told;
-    told_last = told_along (x.last ∷ []) x.mid (x.sent ++ x.unsent) new x.told_last;
+    trace = trace_along x.whole old x.front x.mid x.trace;
+    last_trace = trace_along (x.last ∷ []) x.mid (x.sent ++ x.unsent) new x.last_trace;
     next = x.next;
     written = x.written;
   }
@@ -57,7 +57,7 @@ module _ {S T : Type 0} (f : S → T) (Answers : S → PlainRequest → PlainRep
     items = x.items;
     output = x.output;
     begins = x.begins;
-    told = told_along x.items old x.output new x.told;
+    trace = trace_along x.items old x.output new x.trace;
     written = x.written;
     broken = λ is. breaks_along input before after x.items x.output old new (x.broken is);
   }
@@ -66,26 +66,26 @@ module _ {S T : Type 0} (f : S → T) (Answers : S → PlainRequest → PlainRep
 
 module _ {S : Type 0} (Answers : S → PlainRequest → PlainReply → S → Type 0) (Holds : S → Type 0)
   where
-    pub told_keeps : ((old : S) (r : PlainRequest) (reply : PlainReply) (new : S)
+    pub trace_keeps : ((old : S) (r : PlainRequest) (reply : PlainReply) (new : S)
         → Answers old r reply new → Holds old → Holds new)
         → (items : List Item) (old : S) (output : List ℕ) (new : S)
-        → Told Answers items old output new → Holds old → Holds new
-    told_keeps keeps [] old output new t h = subst Holds (sym t.1) h
-    told_keeps keeps (fails fault form ∷ items) old output new (rest, is, t) h =
-        told_keeps keeps items old rest new t h
-    told_keeps keeps (asks r ∷ items) old output new (mid, reply, rest, step, is, t) h =
-        told_keeps keeps items mid rest new t (keeps old r reply mid step h)
+        → AnswersItems Answers items old output new → Holds old → Holds new
+    trace_keeps keeps [] old output new t h = subst Holds (sym t.1) h
+    trace_keeps keeps (fails fault form ∷ items) old output new (rest, is, t) h =
+        trace_keeps keeps items old rest new t h
+    trace_keeps keeps (asks r ∷ items) old output new (mid, reply, rest, step, is, t) h =
+        trace_keeps keeps items mid rest new t (keeps old r reply mid step h)
 
     -- a fact after the run held before it
-    pub told_kept : ((old : S) (r : PlainRequest) (reply : PlainReply) (new : S)
+    pub trace_kept : ((old : S) (r : PlainRequest) (reply : PlainReply) (new : S)
         → Answers old r reply new → Holds new → Holds old)
         → (items : List Item) (old : S) (output : List ℕ) (new : S)
-        → Told Answers items old output new → Holds new → Holds old
-    told_kept kept [] old output new t h = subst Holds t.1 h
-    told_kept kept (fails fault form ∷ items) old output new (rest, is, t) h =
-        told_kept kept items old rest new t h
-    told_kept kept (asks r ∷ items) old output new (mid, reply, rest, step, is, t) h =
-        kept old r reply mid step (told_kept kept items mid rest new t h)
+        → AnswersItems Answers items old output new → Holds new → Holds old
+    trace_kept kept [] old output new t h = subst Holds t.1 h
+    trace_kept kept (fails fault form ∷ items) old output new (rest, is, t) h =
+        trace_kept kept items old rest new t h
+    trace_kept kept (asks r ∷ items) old output new (mid, reply, rest, step, is, t) h =
+        kept old r reply mid step (trace_kept kept items mid rest new t h)
 
 -- ---- a machine that lends another's state, under one name
 
@@ -96,9 +96,9 @@ module _ {F S : Type 0} (name : F → ℕ) (now : F → S)
   Lends old r reply new = (name new ≡ name old) × Answers (now old) r reply (now new)
 
   name_kept : (items : List Item) (old : F) (output : List ℕ) (new : F)
-      → Told Lends items old output new → name old ≡ name new
+      → AnswersItems Lends items old output new → name old ≡ name new
   name_kept items old output new t =
-      told_keeps Lends (λ m. name old ≡ name m) (λ o r reply n x h. h ∙ sym x.0) items old output
+      trace_keeps Lends (λ m. name old ≡ name m) (λ o r reply n x h. h ∙ sym x.0) items old output
       new t refl
 
   module _ (input before after : Option (List ℕ)) (old new : F) (last : S)
@@ -109,7 +109,7 @@ module _ {F S : Type 0} (name : F → ℕ) (now : F → S)
     lent_serves (Err fault) x = tt
     lent_serves (Ok served) x =
         subst (λ (s : S). Serves Answers input before after (now old) s served)
-        (sym (given (name_kept x.items old x.output new x.told)))
+        (sym (given (name_kept x.items old x.output new x.trace)))
         (serves_along now Lends Answers (λ o r reply n y. y.1) input before after old new served x)
 
     pub lent_serves_front : (result : Result Served ServeFault)
@@ -118,6 +118,6 @@ module _ {F S : Type 0} (name : F → ℕ) (now : F → S)
     lent_serves_front (Ok served) x = tt
     lent_serves_front (Err fault) x =
         subst (λ (s : S). ServesFront Answers input before after (now old) s fault)
-        (sym (given (name_kept x.items old x.output new x.told)))
+        (sym (given (name_kept x.items old x.output new x.trace)))
         (serves_front_along now Lends Answers (λ o r reply n y. y.1) input before after old new
         fault x)

@@ -23,7 +23,7 @@ use Rattle.office_messages.specs.Stream.{PlainRequest, RequestAt}
 use Rattle.office_messages.specs.StreamFaults.{FaultAt, Unfinished}
 use Rattle.office_messages.specs.HeadEnds.{HasEnd}
 use Rattle.office_messages.specs.Messages.{Item, asks, fails, Messages, Begins}
-use Rattle.office_messages.specs.Serve.{Told, Serves, ServesFront, SendsFront}
+use Rattle.office_messages.specs.Serve.{AnswersItems, Serves, ServesFront, SendsFront}
 use Rattle.office_messages.proofs.HeadEndLemmas.{no_end}
 use Rattle.office_messages.proofs.HeadLemmas.{head_at_more}
 use Rattle.office_messages.proofs.MoreLemmas.{request_more, fault_more}
@@ -80,8 +80,9 @@ module _ {S : Type 0} (Answers : S → PlainRequest → PlainReply → S → Typ
         → Messages later end n (buffer ++ more) → Messages (items ++ later) end 0 (taken ++ more)
     pub begins : (later : List Item) (more : List ℕ) → Begins later n (buffer ++ more)
         → Begins (items ++ later) 0 (taken ++ more)
-    pub told : (later : List Item) (out : List ℕ) (last : S) → Told Answers later new out last
-        → Told Answers (items ++ later) old (output ++ out) last
+    pub trace : (later : List Item) (out : List ℕ) (last : S)
+        → AnswersItems Answers later new out last
+        → AnswersItems Answers (items ++ later) old (output ++ out) last
 
   pub start : (input before : Option (List ℕ)) (old : S)
       → Progress input input before before old old 0 []
@@ -95,7 +96,7 @@ module _ {S : Type 0} (Answers : S → PlainRequest → PlainReply → S → Typ
     small = omega arith;
     messages = λ later end more m. m;
     begins = λ later more m. m;
-    told = λ later out last t. t;
+    trace = λ later out last t. t;
   }
 
   module _ (input now before after : Option (List ℕ)) (old new : S) (n : ℕ) (buffer : List ℕ)
@@ -121,7 +122,7 @@ module _ {S : Type 0} (Answers : S → PlainRequest → PlainReply → S → Typ
           begins = λ later more m.
               subst (Begins (p.items ++ later) 0) (sym (append_assoc p.taken bytes more))
               (p.begins later (bytes ++ more) (subst (Begins later n) (joined more) m));
-          told = p.told;
+          trace = p.trace;
         }
 
     -- a message was answered, and the connection stays open
@@ -148,13 +149,14 @@ module _ {S : Type 0} (Answers : S → PlainRequest → PlainReply → S → Typ
               subst P (sym (append_assoc p.items (asks r ∷ []) later))
               (p.begins (asks r ∷ later) more
               (lt, (rest ++ more, inr (request_more r false buffer rest more at, m))));
-          told = λ later out last t.
+          trace = λ later out last t.
               let P : List Item → Type 0 =
-              λ items. Told Answers items old ((p.output ++ text) ++ out) last in
-              let Q : List ℕ → Type 0 = λ o. Told Answers (p.items ++ asks r ∷ later) old o last in
+              λ items. AnswersItems Answers items old ((p.output ++ text) ++ out) last in
+              let Q : List ℕ → Type 0 = λ o. AnswersItems Answers
+              (p.items ++ asks r ∷ later) old o last in
               subst P (sym (append_assoc p.items (asks r ∷ []) later))
               (subst Q (sym (append_assoc p.output text out))
-              (p.told (asks r ∷ later) (text ++ out) last (next, reply, out, step, refl, t)));
+              (p.trace (asks r ∷ later) (text ++ out) last (next, reply, out, step, refl, t)));
         }
 
     -- a message was answered that closes the connection
@@ -172,10 +174,10 @@ module _ {S : Type 0} (Answers : S → PlainRequest → PlainReply → S → Typ
               input now p.taken p.consumed
               (λ more. p.messages (asks r ∷ []) served.end more
               (lt, (rest ++ more, inl (request_more r true buffer rest more at, refl, end))));
-          told = let Q : List ℕ → Type 0 =
-              λ o. Told Answers (p.items ++ asks r ∷ []) old (p.output ++ o) next in
+          trace = let Q : List ℕ → Type 0 =
+              λ o. AnswersItems Answers (p.items ++ asks r ∷ []) old (p.output ++ o) next in
               subst Q (append-nil text)
-              (p.told (asks r ∷ []) (text ++ []) next (next, reply, [], step, refl, (refl, refl)));
+              (p.trace (asks r ∷ []) (text ++ []) next (next, reply, [], step, refl, (refl, refl)));
           count = omega (arith, length-append p.items (asks r ∷ []), p.count, count);
           written = Appends-trans before after then p.output text p.written sent;
         }
@@ -195,10 +197,10 @@ module _ {S : Type 0} (Answers : S → PlainRequest → PlainReply → S → Typ
               (Messages (p.items ++ fails f form ∷ []) served.end 0) input now p.taken p.consumed
               (λ more. p.messages (fails f form ∷ []) served.end more
               (lt, fault_more f form buffer more at, refl, end));
-          told = let Q : List ℕ → Type 0 =
-              λ o. Told Answers (p.items ++ fails f form ∷ []) old (p.output ++ o) new in
+          trace = let Q : List ℕ → Type 0 =
+              λ o. AnswersItems Answers (p.items ++ fails f form ∷ []) old (p.output ++ o) new in
               subst Q (append-nil (text))
-              (p.told (fails f form ∷ []) (text ++ []) new ([], refl, (refl, refl)));
+              (p.trace (fails f form ∷ []) (text ++ []) new ([], refl, (refl, refl)));
           count = omega (arith, length-append p.items (fails f form ∷ []), p.count, count);
           written = Appends-trans before after then p.output (text) p.written sent;
         }
@@ -210,7 +212,7 @@ module _ {S : Type 0} (Answers : S → PlainRequest → PlainReply → S → Typ
       items = p.items ++ [];
       output = p.output ++ [];
       messages = m;
-      told = p.told [] [] new (refl, refl);
+      trace = p.trace [] [] new (refl, refl);
       count = omega (arith, length-append p.items [], p.count, count);
       written = subst (Appends before after) (sym (append-nil p.output)) p.written;
     }
@@ -264,7 +266,7 @@ module _ {S : Type 0} (Answers : S → PlainRequest → PlainReply → S → Typ
       output = p.output ++ [];
       begins = with_input (Begins (p.items ++ []) 0) input now p.taken p.consumed
           (λ more. p.begins [] more p.small);
-      told = p.told [] [] new (refl, refl);
+      trace = p.trace [] [] new (refl, refl);
       written = λ _. subst (Appends before after) (sym (append-nil p.output)) p.written;
       broken = λ is. absurd (other is);
     }
@@ -282,17 +284,18 @@ module _ {S : Type 0} (Answers : S → PlainRequest → PlainReply → S → Typ
           begins = with_input (Begins (p.items ++ asks r ∷ []) 0) input now p.taken p.consumed
               (λ more. p.begins (asks r ∷ []) more
               (lt, (rest ++ more, ends_or_not r last n buffer rest more lt at)));
-          told = p.told (asks r ∷ []) (text ++ []) next (next, reply, [], step, refl, (refl, refl));
+          trace = p.trace (asks r ∷ []) (text ++ []) next
+              (next, reply, [], step, refl, (refl, refl));
           written = λ different. absurd (different refl);
           broken = λ _. record {
             whole = p.items ++ [];
             front = p.output ++ [];
             mid = new;
-            told = p.told [] [] new (refl, refl);
+            trace = p.trace [] [] new (refl, refl);
             last = asks r;
             sent = part.sent;
             unsent = part.unsent;
-            told_last = (
+            last_trace = (
               next,
               reply,
               [],
@@ -319,17 +322,17 @@ module _ {S : Type 0} (Answers : S → PlainRequest → PlainReply → S → Typ
       output = p.output ++ [];
       begins = with_input (Begins (p.items ++ []) 0) input now p.taken p.consumed
           (λ more. p.begins [] more p.small);
-      told = p.told [] [] new (refl, refl);
+      trace = p.trace [] [] new (refl, refl);
       written = λ different. absurd (different refl);
       broken = λ _. record {
         whole = p.items ++ [];
         front = p.output ++ [];
         mid = new;
-        told = p.told [] [] new (refl, refl);
+        trace = p.trace [] [] new (refl, refl);
         last = fails f form;
         sent = part.sent;
         unsent = part.unsent;
-        told_last = ([], sym part.whole ∙ sym (append-nil text), (refl, refl));
+        last_trace = ([], sym part.whole ∙ sym (append-nil text), (refl, refl));
         next = inr (
           refl,
           refl,

@@ -7,7 +7,7 @@ use Rattle.office_messages.specs.Reply.{PlainReply}
 use Rattle.office_messages.specs.Serve.{Serves, ServesFront}
 use Rattle.office_messages.specs.Stream.{PlainRequest}
 use Rattle.office_messages.specs.Visits.{Visit, ServesVisit, ServesVisits, faults_of, with_fault}
-use Rattle.office_messages.proofs.RunLemmas.{Lends, serves_along, serves_front_along, told_keeps}
+use Rattle.office_messages.proofs.RunLemmas.{Lends, serves_along, serves_front_along, trace_keeps}
 
 with_fault-append : (ended : Result Served ServeFault) (fs gs : List ServeFault)
     → with_fault ended (fs ++ gs) ≡ with_fault ended fs ++ gs
@@ -67,11 +67,11 @@ module _ {F S : Type 0} (name : F → ℕ) (now : F → S)
       → IfErr ended (λ fault. ServesFront (Lends name now Answers) input before after old new fault)
       → name first ≡ name old → name first ≡ name new
   ended_keeps first (Ok served) input before after old new x y h =
-      told_keeps (Lends name now Answers) (λ m. name first ≡ name m)
-      (λ o r reply n z h. h ∙ sym z.0) x.items old x.output new x.told h
+      trace_keeps (Lends name now Answers) (λ m. name first ≡ name m)
+      (λ o r reply n z h. h ∙ sym z.0) x.items old x.output new x.trace h
   ended_keeps first (Err fault) input before after old new x y h =
-      told_keeps (Lends name now Answers) (λ m. name first ≡ name m)
-      (λ o r reply n z h. h ∙ sym z.0) y.items old y.output new y.told h
+      trace_keeps (Lends name now Answers) (λ m. name first ≡ name m)
+      (λ o r reply n z h. h ∙ sym z.0) y.items old y.output new y.trace h
 
   name_kept : (first : F) (vs : List Visit) (old new : F)
       → ServesVisits (Lends name now Answers) vs old new → name first ≡ name old

@@ -15,7 +15,7 @@ Knows bytes (Searching n) = (n ≤ length bytes) × (n < max_head) × ¬ (HasEnd
 Knows bytes (Reading x) = HeadAt bytes x
 
 -- the meaning of the result of looking at the bytes
-abbrev pub SaysOf : List ℕ → Beginning → Type 0
-SaysOf bytes (Whole x) = HeadAt bytes x × (x.body.end ≤ length bytes)
-SaysOf bytes (More stage) = Unfinished bytes × Knows bytes stage
-SaysOf bytes (Faulty bad) = FaultAt bad.fault bad.form bytes
+abbrev pub MeansBeginning : List ℕ → Beginning → Type 0
+MeansBeginning bytes (Whole x) = HeadAt bytes x × (x.body.end ≤ length bytes)
+MeansBeginning bytes (More stage) = Unfinished bytes × Knows bytes stage
+MeansBeginning bytes (Faulty bad) = FaultAt bad.fault bad.form bytes

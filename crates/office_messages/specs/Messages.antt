@@ -49,11 +49,11 @@ Begins (asks r ∷ items) n stream =
     ⊎ (RequestAt r false stream rest × Begins items (n + 1) rest)))
 
 -- after these requests, none of which ends the connection, the stream continues with rest
-abbrev pub GoesOnWith : List Item → List ℕ → List ℕ → Type 0
-GoesOnWith [] stream rest = rest ≡ stream
-GoesOnWith (fails f form ∷ items) stream rest = ⊥
-GoesOnWith (asks r ∷ items) stream rest =
-    (next : List ℕ) × RequestAt r false stream next × GoesOnWith items next rest
+abbrev pub ContinuesWith : List Item → List ℕ → List ℕ → Type 0
+ContinuesWith [] stream rest = rest ≡ stream
+ContinuesWith (fails f form ∷ items) stream rest = ⊥
+ContinuesWith (asks r ∷ items) stream rest =
+    (next : List ℕ) × RequestAt r false stream next × ContinuesWith items next rest
 
 -- the one choice: if the input ends within a head that no continuation with few enough fields
 -- completes, the head is refused, or the connection is cut
@@ -63,7 +63,7 @@ pub record Differs (stream : List ℕ) (items : List Item) (end : End) (others :
   pub ends : end ≡ Refused
   pub cut : last ≡ Cut
   pub rest : List ℕ
-  pub left : GoesOnWith others stream rest
+  pub left : ContinuesWith others stream rest
   pub some : 0 < length rest
   pub short : length rest < max_head
   pub endless : ¬ (HasEnd rest)

@@ -20,13 +20,14 @@ pub record SendsFront (before after : Option (List ℕ)) (text : List ℕ) : Typ
 
 module _ {S : Type 0} (Answers : S → PlainRequest → PlainReply → S → Type 0) where
   -- from old the machine may answer these, with that output, and go on to new
-  abbrev pub Told : List Item → S → List ℕ → S → Type 0
-  Told [] old output new = (output ≡ []) × (new ≡ old)
-  Told (fails f form ∷ items) old output new =
-      (rest : List ℕ) × (output ≡ reply_text form (fault_reply f) ++ rest) × Told items old rest new
-  Told (asks r ∷ items) old output new =
+  abbrev pub AnswersItems : List Item → S → List ℕ → S → Type 0
+  AnswersItems [] old output new = (output ≡ []) × (new ≡ old)
+  AnswersItems (fails f form ∷ items) old output new =
+      (rest : List ℕ) × (output ≡ reply_text form (fault_reply f) ++ rest)
+      × AnswersItems items old rest new
+  AnswersItems (asks r ∷ items) old output new =
       (mid : S) × (reply : PlainReply) × (rest : List ℕ) × Answers old r reply mid
-      × (output ≡ reply_text (form_of r.method) reply ++ rest) × Told items mid rest new
+      × (output ≡ reply_text (form_of r.method) reply ++ rest) × AnswersItems items mid rest new
 
   -- a connection was served to its end
   pub record Serves (input before after : Option (List ℕ)) (old new : S)
@@ -34,22 +35,22 @@ module _ {S : Type 0} (Answers : S → PlainRequest → PlainReply → S → Typ
     pub items : List Item
     pub output : List ℕ
     pub messages : IfSome input (Messages items served.end 0)
-    pub told : Told items old output new
+    pub trace : AnswersItems items old output new
     pub count : length items ≡ served.answered
     pub written : Appends before after output
 
   -- the writer failed: all replies but the last were written whole, and a front of the last, which
   -- is to the last of the items, or to the fault of head or framing after them
-  pub record BreaksOff (input before after : Option (List ℕ)) (items : List Item)
+  pub record WriterFailed (input before after : Option (List ℕ)) (items : List Item)
       (output : List ℕ) (old new : S) : Type 0 where
     pub whole : List Item
     pub front : List ℕ
     pub mid : S
-    pub told : Told whole old front mid
+    pub trace : AnswersItems whole old front mid
     pub last : Item
     pub sent : List ℕ
     pub unsent : List ℕ
-    pub told_last : Told (last ∷ []) mid (sent ++ unsent) new
+    pub last_trace : AnswersItems (last ∷ []) mid (sent ++ unsent) new
     pub next : ((items ≡ whole ++ last ∷ []) × (output ≡ front ++ (sent ++ unsent)))
         ⊎ ((items ≡ whole) × (output ≡ front)
         × IfSome input (Messages (whole ++ last ∷ []) Refused 0))
@@ -62,6 +63,6 @@ module _ {S : Type 0} (Answers : S → PlainRequest → PlainReply → S → Typ
     pub items : List Item
     pub output : List ℕ
     pub begins : IfSome input (Begins items 0)
-    pub told : Told items old output new
+    pub trace : AnswersItems items old output new
     pub written : fault ≢ serve_faults.Write → Appends before after output
-    pub broken : fault ≡ serve_faults.Write → BreaksOff input before after items output old new
+    pub broken : fault ≡ serve_faults.Write → WriterFailed input before after items output old new

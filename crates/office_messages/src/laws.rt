@@ -2,7 +2,7 @@
 ghost use Rattle.std.specs.Prelude.{◌≡◌, ℕ, Bool, true, List, ◌++◌};
 ghost use Rattle.office_messages.specs.Reply.{PlainReply};
 ghost use Rattle.office_messages.specs.Messages.{Item, Messages, Begins, Agree};
-ghost use Rattle.office_messages.specs.Serve.{Told};
+ghost use Rattle.office_messages.specs.Serve.{AnswersItems};
 ghost use Rattle.office_messages.specs.Stream.{PlainRequest};
 ghost use Rattle.office_messages.specs.declared.connection.End.{End};
 
@@ -31,7 +31,8 @@ pub fn runs_are_carried<M: Machine, N: Machine>()
     ensures { (f : M → N) → ((old : M) (r : PlainRequest) (reply : PlainReply) (new : M)
         → M.Answers old r reply new → N.Answers (f old) r reply (f new))
         → (items : List Item) (old : M) (output : List ℕ) (new : M)
-        → Told M.Answers items old output new → Told N.Answers items (f old) output (f new) }
+        → AnswersItems M.Answers items old output new
+        → AnswersItems N.Answers items (f old) output (f new) }
 {}
 
 /// An invariant of each answer of a machine is an invariant of a run: what holds before the run
@@ -40,9 +41,9 @@ pub fn runs_keep<M: Machine>()
     ensures forwards { (holds : M → Bool) → ((old : M) (r : PlainRequest) (reply : PlainReply)
         (new : M) → M.Answers old r reply new → holds old ≡ true → holds new ≡ true)
         → (items : List Item) (old : M) (output : List ℕ) (new : M)
-        → Told M.Answers items old output new → holds old ≡ true → holds new ≡ true }
+        → AnswersItems M.Answers items old output new → holds old ≡ true → holds new ≡ true }
     ensures backwards { (holds : M → Bool) → ((old : M) (r : PlainRequest) (reply : PlainReply)
         (new : M) → M.Answers old r reply new → holds new ≡ true → holds old ≡ true)
         → (items : List Item) (old : M) (output : List ℕ) (new : M)
-        → Told M.Answers items old output new → holds new ≡ true → holds old ≡ true }
+        → AnswersItems M.Answers items old output new → holds new ≡ true → holds old ≡ true }
 {}

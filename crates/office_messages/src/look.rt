@@ -1,7 +1,7 @@
 //! The beginning of the received bytes.
 ghost use Rattle.std.specs.Prelude.{◌≡◌, ◌<◌, ◌≤◌, length, take};
 ghost use Rattle.office_messages.specs.Heads.{HeadAt};
-ghost use Rattle.office_messages.specs.Looks.{Knows, SaysOf};
+ghost use Rattle.office_messages.specs.Looks.{Knows, MeansBeginning};
 ghost use Rattle.office_messages.specs.HeadEnds.{HasEnd};
 
 use crate::form::Form;
@@ -44,7 +44,7 @@ const FAULTY_HEAD: Beginning = Beginning::Faulty(BadHead {
 /// byte of it is looked at once.
 pub(crate) fn look(bytes: &[u8], stage: Stage) -> Beginning
     requires { Knows bytes.now stage }
-    ensures { SaysOf bytes.now result }
+    ensures { MeansBeginning bytes.now result }
 {
     match stage {
         Stage::Reading(head) => with_head(bytes, head),
@@ -61,7 +61,7 @@ pub(crate) fn look(bytes: &[u8], stage: Stage) -> Beginning
 // Returns the same after the head was parsed: whether its body is received.
 fn with_head(bytes: &[u8], head: Head) -> Beginning
     requires { HeadAt bytes.now head }
-    ensures { SaysOf bytes.now result }
+    ensures { MeansBeginning bytes.now result }
 {
     if head.body.end <= bytes.len() {
         Beginning::Whole(head)
@@ -82,7 +82,7 @@ fn first(bytes: &[u8], n: usize) -> &[u8]
 fn parse(bytes: &[u8]) -> Beginning
     requires some { 0 < length bytes.now }
     requires ended { HasEnd bytes.now }
-    ensures { SaysOf bytes.now result }
+    ensures { MeansBeginning bytes.now result }
 {
     let mut headers = [EMPTY_HEADER_SPAN; MAX_HEADERS];
     let front = first(bytes, MAX_HEAD);
@@ -99,7 +99,7 @@ fn parse(bytes: &[u8]) -> Beginning
 // Returns the same if no head has ended.
 fn without_head(bytes: &[u8]) -> Beginning
     requires { ¬ (HasEnd bytes.now) }
-    ensures { SaysOf bytes.now result }
+    ensures { MeansBeginning bytes.now result }
 {
     if bytes.len() < MAX_HEAD {
         Beginning::More(Stage::Searching(bytes.len()))

@@ -27,7 +27,7 @@ returns-in-Ok g c =
           before = refl;
         },
         (served.ensures.ok, served.ensures.err),
-        λ told. subst (λ ended. Appends (g.E.Write.contents c.args.err.now)
+        λ trace. subst (λ ended. Appends (g.E.Write.contents c.args.err.now)
             (g.E.Write.contents c.args.err.now) (fault_lines (with_fault ended [])))
             (sym c.in-Ok.is) (Appends-nil _),
       );
@@ -56,10 +56,10 @@ returns-in-Err g c =
           before = refl;
         },
         (served.ensures.ok, served.ensures.err),
-        λ told. subst (λ ended. Appends (g.E.Write.contents c.args.err.now)
+        λ trace. subst (λ ended. Appends (g.E.Write.contents c.args.err.now)
             (g.E.Write.contents c.print_fault.new.err) (fault_lines (with_fault ended [])))
             (sym c.in-Err.is)
-            (one_line _ _ _ _ c.print_fault.ensures _ c.is_ok.ensures.value told),
+            (one_line _ _ _ _ c.print_fault.ensures _ c.is_ok.ensures.value trace),
       );
       none = tt;
       goes = client.ensures.goes.keeps;

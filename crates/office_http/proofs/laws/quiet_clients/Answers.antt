@@ -7,5 +7,5 @@ returns-clause-end c = all_end
 pub returns-clause-each : goal.returns-clause-each
 returns-clause-each c = all_each
 
-pub returns-clause-told : goal.returns-clause-told
-returns-clause-told c = all_quiet_told
+pub returns-clause-view : goal.returns-clause-view
+returns-clause-view c = all_quiet_told

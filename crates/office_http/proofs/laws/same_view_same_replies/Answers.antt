@@ -6,11 +6,11 @@ pub returns-clause-agree : goal.returns-clause-agree
 returns-clause-agree c =
     λ s input before after one next served stream written out other last ended first second.
     all_by_view s (entries first) (entries second)
-    (each_told first.items one next first.output first.told)
-    (each_told second.items other last second.output second.told)
+    (each_told first.items one next first.output first.trace)
+    (each_told second.items other last second.output second.trace)
 
 pub returns-clause-quiet : goal.returns-clause-quiet
 returns-clause-quiet c =
     λ s input before after one next served stream written out other last ended first second.
-    both_quiet s first.items second.items one next other last first.output second.output first.told
-    second.told
+    both_quiet s first.items second.items one next other last first.output second.output first.trace
+    second.trace

@@ -2,8 +2,8 @@ use Rattle.office_http.proofs.CandidateLemmas.{tells}
 use Rattle.office_http.proofs.IsolationLemmas.{stays}
 use Rattle.office_http.proofs.laws.told_by_view.Goals as goal
 
-pub returns-clause-told : goal.returns-clause-told
-returns-clause-told c = tells
+pub returns-clause-view : goal.returns-clause-view
+returns-clause-view c = tells
 
 pub returns-clause-stays : goal.returns-clause-stays
 returns-clause-stays c = stays

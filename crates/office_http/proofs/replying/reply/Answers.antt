@@ -28,8 +28,8 @@ returns-in-Err-clause-answered g c =
       );
     }
 
-pub returns-in-Err-clause-told : goal.returns-in-Err-clause-told
-returns-in-Err-clause-told g c = λ clean office now.
+pub returns-in-Err-clause-view : goal.returns-in-Err-clause-view
+returns-in-Err-clause-view g c = λ clean office now.
     let request = c.args.request.now in
     let said = reading request.method.now request.target.now (option_copied request.caller)
     request.body.now in
@@ -38,8 +38,8 @@ returns-in-Err-clause-told g c = λ clean office now.
     (refused said c.in-Err.refusal office
     (subst (λ r. GivesAsked said r) c.in-Err.is c.read_request.ensures.asked)))
 
-pub returns-in-Ok-clause-told : goal.returns-in-Ok-clause-told
-returns-in-Ok-clause-told g c = λ clean office now.
+pub returns-in-Ok-clause-view : goal.returns-in-Ok-clause-view
+returns-in-Ok-clause-view g c = λ clean office now.
     let step = c.asked_reply.ensures.step clean office now in
     let request = c.args.request.now in
     tells office step.0 (plain_request request) (plain_reply c.asked_reply.result)

@@ -10,8 +10,8 @@ returns-clause-ok g c =
     (lent_serves (λ m. m.desk.ghost_name) (λ m. m.desk.now) (Answered g.S.Store) _ _ _ _ _ _
     c.desk-1.given.1 c.serve.result c.serve.ensures.ok)
 
-pub returns-clause-told : goal.returns-clause-told
-returns-clause-told g c =
+pub returns-clause-view : goal.returns-clause-view
+returns-clause-view g c =
     serves_by_view g.S.Store _ _ _ _ _ c.serve.result
     (lent_serves (λ m. m.desk.ghost_name) (λ m. m.desk.now) (Answered g.S.Store) _ _ _ _ _ _
     c.desk-1.given.1 c.serve.result c.serve.ensures.ok)

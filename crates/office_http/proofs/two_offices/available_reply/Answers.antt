@@ -18,5 +18,5 @@ returns-clause-step c = λ o now.
 pub returns-clause-text : goal.returns-clause-text
 returns-clause-text c = λ o now.
     text o (plain_request c.args.request.now) (plain_reply c.reply-reply.result)
-    (c.reply-reply.ensures.told (memory_is_clean c.reply-reply.new.desk) o now)
+    (c.reply-reply.ensures.view (memory_is_clean c.reply-reply.new.desk) o now)
     (λ is. true≢false (sym (c.is_unavailable.ensures.1 is) ∙ c.if-is_unavailable.false))

@@ -2,17 +2,18 @@ use Rattle.std.proofs.Common.{◌≡◌, ℕ, ◌≤◌, List, Option, Result, O
 use Rattle.office_messages.specs.declared.connection.Served.{Served}
 use Rattle.office_messages.specs.declared.connection.ServeFault.{ServeFault}
 use Rattle.office_messages.specs.Messages.{Item}
-use Rattle.office_messages.specs.Serve.{Told, Serves, ServesFront}
-use Rattle.office_messages.proofs.RunLemmas.{lent_serves, lent_serves_front, told_keeps}
+use Rattle.office_messages.specs.Serve.{AnswersItems, Serves, ServesFront}
+use Rattle.office_messages.proofs.RunLemmas.{lent_serves, lent_serves_front, trace_keeps}
 use Rattle.worked_messages.specs.declared.tally.Tally.{Tally}
 use Rattle.worked_messages.specs.Tallies.{Tallies}
 use Rattle.worked_messages.proofs.tally.serve_tally.Goals as goal
 
 -- answers never lower the count
-told_grows : (items : List Item) (old : Tally) (output : List ℕ) (new : Tally)
-    → Told Tallies items old output new → old.answered ≤ 4294967295 → old.answered ≤ new.answered
-told_grows items old output new t fits =
-    told_keeps Tallies (λ tally. old.answered ≤ tally.answered)
+trace_grows : (items : List Item) (old : Tally) (output : List ℕ) (new : Tally)
+    → AnswersItems Tallies items old output new → old.answered ≤ 4294967295
+    → old.answered ≤ new.answered
+trace_grows items old output new t fits =
+    trace_keeps Tallies (λ tally. old.answered ≤ tally.answered)
     (λ o r reply n x h. omega (arith, x.0, h, fits)) items old output new t (omega arith)
 
 grows : (result : Result Served ServeFault) (input before after : Option (List ℕ)) (old new : Tally)
@@ -20,9 +21,9 @@ grows : (result : Result Served ServeFault) (input before after : Option (List �
     → IfErr result (λ fault. ServesFront Tallies input before after old new fault)
     → old.answered ≤ 4294967295 → old.answered ≤ new.answered
 grows (Ok served) input before after old new x y fits =
-    told_grows x.items old x.output new x.told fits
+    trace_grows x.items old x.output new x.trace fits
 grows (Err fault) input before after old new x y fits =
-    told_grows y.items old y.output new y.told fits
+    trace_grows y.items old y.output new y.trace fits
 
 pub returns-clause-ok : goal.returns-clause-ok
 returns-clause-ok g c =
