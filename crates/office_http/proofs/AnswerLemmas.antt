@@ -1,8 +1,8 @@
 -- From an answer of the desk to a reply.
 use Rattle.std.proofs.Common.{◌≡◌, Result, Ok, Err, refl, sym, subst, inl, inr}
 use Rattle.office_messages.specs.Reply.{PlainReply}
-use Rattle.office_requests.specs.Requests.{PlainAsked}
-use Rattle.office_requests.specs.Answering.{GivesAsked, refusal_reply}
+use Rattle.office_requests.specs.Requests.{PlainCallerCommand}
+use Rattle.office_requests.specs.Answering.{ReturnsCallerCommand, refusal_reply}
 use Rattle.office_requests.specs.declared.requests.Refusal.{Refusal}
 use Rattle.office_requests.specs.declared.requests.Refusal.TheVariants as refusal
 use Rattle.office_model.specs.Answers as answers
@@ -13,7 +13,7 @@ use Rattle.office_model.proofs.ToldLemmas.{shown_stays}
 use Rattle.office_http.specs.Replying.{IsReplyOf, RepliesTo}
 
 -- a step whose answer the reply expresses, or one that is replied with `unavailable` instead
-pub replied : (asked : PlainAsked) (old new : OfficeState) (answer : PlainAnswer)
+pub replied : (asked : PlainCallerCommand) (old new : OfficeState) (answer : PlainAnswer)
     (reply : PlainReply)
     → Steps old asked.caller asked.command answer new → IsReplyOf answer reply
     → RepliesTo (Ok asked) old reply new
@@ -24,16 +24,16 @@ replied asked old new answer reply step (inr k) = (
   k.1,
 )
 
-same : (said : Result PlainAsked Refusal) (why : Refusal) (office : OfficeState)
+same : (said : Result PlainCallerCommand Refusal) (why : Refusal) (office : OfficeState)
     → said ≡ Err why → RepliesTo said office (refusal_reply why) office
 same said why office is =
-    subst (λ (s : Result PlainAsked Refusal). RepliesTo s office (refusal_reply why) office)
+    subst (λ (s : Result PlainCallerCommand Refusal). RepliesTo s office (refusal_reply why) office)
     (sym is)
     (refl, refl)
 
 -- a request that is refused unread changes nothing
-pub refused : (said : Result PlainAsked Refusal) (why : Refusal) (office : OfficeState)
-    → GivesAsked said (Err why) → RepliesTo said office (refusal_reply why) office
+pub refused : (said : Result PlainCallerCommand Refusal) (why : Refusal) (office : OfficeState)
+    → ReturnsCallerCommand said (Err why) → RepliesTo said office (refusal_reply why) office
 refused said refusal.Caller office h = same said refusal.Caller office h
 refused said refusal.Candidate office h = same said refusal.Candidate office h
 refused said refusal.Path office h = same said refusal.Path office h

@@ -7,7 +7,7 @@ use Rattle.office_messages.specs.Stream.{PlainRequest}
 use Rattle.office_policy.specs.Commands.{PlainCommand}
 use Rattle.office_policy.specs.declared.callers.Caller.TheVariants.{Cand}
 use Rattle.office_requests.specs.Methods.{verb_of}
-use Rattle.office_requests.specs.Requests.{PlainAsked, asked_by, caller_in, her_command, reading}
+use Rattle.office_requests.specs.Requests.{PlainCallerCommand, command_by, caller_in, own_command, reading}
 use Rattle.office_requests.specs.declared.requests.Refusal.{Refusal}
 use Rattle.office_requests.specs.declared.requests.Refusal.TheVariants as refusal
 use Rattle.office_model.specs.Office.{OfficeState}
@@ -18,7 +18,7 @@ use Rattle.office_replies.specs.Replies.{reply_to}
 use Rattle.office_http.specs.Replying.{Replies, RepliesTo, TellsCandidate, her_text}
 
 -- the command that a candidate's message asks for, if it asks for one of their pages
-abbrev pub said_by : ℕ → Option PlainCommand → Result PlainAsked Refusal
+abbrev pub said_by : ℕ → Option PlainCommand → Result PlainCallerCommand Refusal
 said_by s (Some command) = Ok (record { caller = Cand s; command = command })
 said_by s None = Err refusal.Candidate
 
@@ -31,12 +31,12 @@ said_is s (Some command) = refl
 
 pub her_reading : (s : ℕ) (request : PlainRequest) → caller_in request.caller ≡ Some (Cand s)
     → reading request.method request.target request.caller request.body
-    ≡ said_by s (her_command (verb_of request.method) request.target)
+    ≡ said_by s (own_command (verb_of request.method) request.target)
 her_reading s request is =
     ap (λ found. else_err refusal.Caller found >>= (λ who.
-    asked_by who (verb_of request.method) request.target request.body >>= (λ asked.
+    command_by who (verb_of request.method) request.target request.body >>= (λ asked.
     Ok (record { caller = who; command = asked })))) is
-    ∙ said_is s (her_command (verb_of request.method) request.target)
+    ∙ said_is s (own_command (verb_of request.method) request.target)
 
 told_by : (s : ℕ) (command : Option PlainCommand) (old new : OfficeState) (reply : PlainReply)
     → RepliesTo (said_by s command) old reply new
@@ -51,5 +51,5 @@ told_by s (Some command) old new reply (answer, step, is) = elim step [
 pub tells : (old new : OfficeState) (request : PlainRequest) (reply : PlainReply)
     → Replies old request reply new → TellsCandidate old request reply
 tells old new request reply h = λ s is.
-    told_by s (her_command (verb_of request.method) request.target) old new reply
+    told_by s (own_command (verb_of request.method) request.target) old new reply
     (subst (λ said. RepliesTo said old reply new) (her_reading s request is) h)

@@ -19,7 +19,7 @@ use Rattle.office_policy.specs.Commands.{PlainCommand}
 use Rattle.office_policy.specs.declared.callers.Caller.{Caller}
 use Rattle.office_policy.specs.declared.callers.Caller.TheVariants.{Cand, Dept, Office}
 use Rattle.office_requests.specs.Methods.{verb_of}
-use Rattle.office_requests.specs.Requests.{PlainAsked, caller_in, her_command, reading}
+use Rattle.office_requests.specs.Requests.{PlainCallerCommand, caller_in, own_command, reading}
 use Rattle.office_requests.specs.declared.requests.Refusal.{Refusal}
 use Rattle.office_model.specs.Office.{OfficeState}
 use Rattle.office_model.specs.Quiet.{IsQuiet, KeepsPublication}
@@ -51,7 +51,7 @@ stays_by s (Some command) old new reply (answer, step, is) = elim step [
 pub stays : (s : ℕ) (old new : OfficeState) (request : PlainRequest) (reply : PlainReply)
     → Replies old request reply new → IsFrom s request → new ≡ old
 stays s old new request reply h is =
-    stays_by s (her_command (verb_of request.method) request.target) old new reply
+    stays_by s (own_command (verb_of request.method) request.target) old new reply
     (subst (λ said. RepliesTo said old reply new) (her_reading s request is) h)
 
 -- two replies by one view, unless the office is unavailable for one of them
@@ -75,7 +75,8 @@ same_bytes s one other next last request reply answer same is h k =
     (tells one next request reply h s is))
     (tells other last request answer k s is)
 
-quiet_said : (s : ℕ) (said : Result PlainAsked Refusal) (old new : OfficeState) (reply : PlainReply)
+quiet_said : (s : ℕ) (said : Result PlainCallerCommand Refusal) (old new : OfficeState)
+    (reply : PlainReply)
     → (trace : RepliesTo said old reply new)
     → IfSome (asked_in said old reply new trace) (λ x. IsQuiet s old x.command x.answer)
     → view_of s new ≡ view_of s old
@@ -189,7 +190,7 @@ quiet_told s items old new output trace q =
 asks_same : (s : ℕ) (view : View) (one other : PlainRequest) → AsksTheSame one other
     → her_reply s one view ≡ her_reply s other view
 asks_same s view one other same =
-    λ i. her_text s (her_command (verb_of (same.method i)) (same.target i)) view
+    λ i. her_text s (own_command (verb_of (same.method i)) (same.target i)) view
 
 -- two messages of a candidate that ask for the same, in offices that agree on their view
 pair_alike : (s : ℕ) (x y : Entry) → TellsHerView x → TellsHerView y
@@ -286,7 +287,7 @@ abbrev exchanges : List Entry → List Exchange
 exchanges [] = []
 exchanges (e ∷ es) = with_asked e.asked (exchanges es)
 
-one_more : (s : ℕ) (said : Result PlainAsked Refusal) (old mid new : OfficeState)
+one_more : (s : ℕ) (said : Result PlainCallerCommand Refusal) (old mid new : OfficeState)
     (reply : PlainReply) (trace : RepliesTo said old reply mid) (later : List Change)
     (xs : List Exchange)
     → IfSome (asked_in said old reply mid trace) (λ x. KeepsPublication x.answer)

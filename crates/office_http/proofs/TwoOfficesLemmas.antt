@@ -7,7 +7,7 @@ use Rattle.office_messages.specs.Reply.{PlainReply}
 use Rattle.office_messages.specs.Stream.{PlainRequest}
 use Rattle.office_messages.specs.declared.request.Request.{Request}
 use Rattle.office_messages.specs.declared.statuses.Status.TheVariants as status
-use Rattle.office_requests.specs.Requests.{PlainAsked, reading}
+use Rattle.office_requests.specs.Requests.{PlainCallerCommand, reading}
 use Rattle.office_requests.specs.declared.requests.Refusal.{Refusal}
 use Rattle.office_model.specs.Office.{OfficeState}
 use Rattle.office_model.specs.Step.{Outcome}
@@ -24,7 +24,8 @@ IsAvailable reply = reply.status ≢ status.ServiceUnavailable
 is_other : (reply : PlainReply) → IsAvailable reply → reply ≢ unavailable
 is_other reply available is = available (ap (λ (r : PlainReply). r.status) is)
 
-after_asked : (said : Result PlainAsked Refusal) (old new : OfficeState) (reply : PlainReply)
+after_asked : (said : Result PlainCallerCommand Refusal) (old new : OfficeState)
+    (reply : PlainReply)
     → RepliesTo said old reply new → IsAvailable reply → new ≡ office_after_asked old said
 after_asked (Err refusal) old new reply h available = h.0
 after_asked (Ok asked) old new reply (answer, step, is) available = elim step [

@@ -10,7 +10,7 @@ use Rattle.office_messages.specs.Stream.{PlainRequest}
 use Rattle.office_policy.specs.Commands.{PlainCommand, load, set_owner, new_draft, drop_draft}
 use Rattle.office_policy.specs.Commands.{place, move, clear, swap, publish, batch}
 use Rattle.office_policy.specs.declared.command.Body.TheVariants.{Given}
-use Rattle.office_requests.specs.Requests.{PlainAsked, reading}
+use Rattle.office_requests.specs.Requests.{PlainCallerCommand, reading}
 use Rattle.office_requests.specs.declared.requests.Refusal.{Refusal}
 use Rattle.office_model.specs.Answers.{PlainAnswer}
 use Rattle.office_model.specs.Batches.{batch_enrolled}
@@ -52,7 +52,7 @@ changes old (batch number (Given bytes)) =
 changes old _ = tt
 
 -- the command that a message asks for, if it is not refused unread
-leaves_by : (said : Result PlainAsked Refusal) (old new : OfficeState) (reply : PlainReply)
+leaves_by : (said : Result PlainCallerCommand Refusal) (old new : OfficeState) (reply : PlainReply)
     → RepliesTo said old reply new → code_of reply.status ≡ 503 → new ≡ old
 leaves_by (Err refusal) old new reply trace is = trace.0
 leaves_by (Ok asked) old new reply (answer, step, trace) is = elim step [

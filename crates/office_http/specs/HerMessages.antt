@@ -7,7 +7,7 @@ use Rattle.office_messages.specs.Messages.{Item, asks, fails}
 use Rattle.office_messages.specs.Stream.{PlainRequest}
 use Rattle.office_policy.specs.declared.callers.Caller.TheVariants.{Cand}
 use Rattle.office_requests.specs.Methods.{verb_of}
-use Rattle.office_requests.specs.Requests.{caller_in, her_command}
+use Rattle.office_requests.specs.Requests.{caller_in, own_command}
 use Rattle.office_model.specs.Views.{View}
 use Rattle.office_http.specs.Replying.{her_text}
 
@@ -23,7 +23,7 @@ AreFrom s (asks request ∷ items) = IsFrom s request × AreFrom s items
 
 -- the reply to a candidate's message, by their view only
 abbrev pub her_reply : ℕ → PlainRequest → View → PlainReply
-her_reply s request view = her_text s (her_command (verb_of request.method) request.target) view
+her_reply s request view = her_text s (own_command (verb_of request.method) request.target) view
 
 -- a message with its reply, as bytes
 abbrev pub bytes_of : PlainRequest × PlainReply → List ℕ

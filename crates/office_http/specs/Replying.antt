@@ -12,7 +12,7 @@ use Rattle.office_policy.specs.Commands.{PlainCommand}
 use Rattle.office_policy.specs.declared.callers.Caller.TheVariants.{Cand}
 use Rattle.office_policy.specs.declared.policy.Denial.TheVariants.{P1}
 use Rattle.office_requests.specs.Methods.{verb_of}
-use Rattle.office_requests.specs.Requests.{PlainAsked, caller_in, her_command, reading}
+use Rattle.office_requests.specs.Requests.{PlainCallerCommand, caller_in, own_command, reading}
 use Rattle.office_requests.specs.Answering.{refusal_reply}
 use Rattle.office_requests.specs.Texts.{error_reply}
 use Rattle.office_requests.specs.declared.texts.FixedError.TheVariants.{Denied}
@@ -26,7 +26,8 @@ use Rattle.office_store.specs.Running.{IsAwake, Now}
 
 -- a message that asks for a command is one step of the office, whose answer is the reply; any other
 -- message is refused, and the office is unchanged
-abbrev pub RepliesTo : Result PlainAsked Refusal → OfficeState → PlainReply → OfficeState → Type 0
+abbrev pub RepliesTo : Result PlainCallerCommand Refusal → OfficeState → PlainReply → OfficeState
+    → Type 0
 RepliesTo (Ok asked) old reply new =
     (answer : PlainAnswer) × Steps old asked.caller asked.command answer new
     × (reply ≡ reply_to answer)
@@ -68,5 +69,5 @@ her_text s None view = error_reply (Denied P1)
 abbrev pub TellsCandidate : OfficeState → PlainRequest → PlainReply → Type 0
 TellsCandidate office request reply =
     (s : ℕ) → caller_in request.caller ≡ Some (Cand s)
-    → (reply ≡ her_text s (her_command (verb_of request.method) request.target) (view_of s office))
+    → (reply ≡ her_text s (own_command (verb_of request.method) request.target) (view_of s office))
     ⊎ (reply ≡ unavailable)

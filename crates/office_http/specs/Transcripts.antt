@@ -5,7 +5,7 @@ use Rattle.office_messages.specs.Messages.{Item, asks, fails}
 use Rattle.office_messages.specs.Serve.{Serves, AnswersItems}
 use Rattle.office_messages.specs.Stream.{PlainRequest}
 use Rattle.office_messages.specs.declared.connection.Served.{Served}
-use Rattle.office_requests.specs.Requests.{PlainAsked, reading}
+use Rattle.office_requests.specs.Requests.{PlainCallerCommand, reading}
 use Rattle.office_requests.specs.declared.requests.Refusal.{Refusal}
 use Rattle.office_model.specs.Office.{OfficeState}
 use Rattle.office_model.specs.Runs.{Exchange}
@@ -20,7 +20,8 @@ pub record Entry : Type 0 where
   pub reply : PlainReply
 
 -- the command and its answer
-abbrev pub asked_in : (said : Result PlainAsked Refusal) (old : OfficeState) (reply : PlainReply)
+abbrev pub asked_in : (said : Result PlainCallerCommand Refusal) (old : OfficeState)
+    (reply : PlainReply)
     (new : OfficeState) → RepliesTo said old reply new → Option Exchange
 asked_in (Ok asked) old reply new trace =
     Some (record { caller = asked.caller; command = asked.command; answer = trace.0 })

@@ -5,7 +5,7 @@ use Rattle.office_messages.specs.Heads.{plain_request}
 use Rattle.office_messages.specs.Reply.{PlainReply}
 use Rattle.office_messages.specs.Stream.{PlainRequest}
 use Rattle.office_messages.specs.declared.request.Request.{Request}
-use Rattle.office_requests.specs.Requests.{PlainAsked, reading}
+use Rattle.office_requests.specs.Requests.{PlainCallerCommand, reading}
 use Rattle.office_requests.specs.declared.requests.Refusal.{Refusal}
 use Rattle.office_model.specs.Office.{OfficeState}
 use Rattle.office_model.specs.Step.{step}
@@ -14,7 +14,7 @@ use Rattle.office_store.specs.Publications.{AddUpIn, shares_in}
 use Rattle.office_http.specs.HerMessages.{IsFrom, bytes_of, her_reply}
 
 -- the office after the command of a request; a request without one leaves it unchanged
-abbrev pub office_after_asked : OfficeState → Result PlainAsked Refusal → OfficeState
+abbrev pub office_after_asked : OfficeState → Result PlainCallerCommand Refusal → OfficeState
 office_after_asked office (Ok asked) = (step office asked.caller asked.command).0
 office_after_asked office (Err refusal) = office
 

@@ -3,7 +3,7 @@ ghost use Rattle.std.specs.Prelude.{Ok};
 ghost use Rattle.sqlite.specs.Held.{state};
 ghost use Rattle.sqlite.specs.State.{HasCleanDisk};
 ghost use Rattle.office_policy.specs.Commands.{HasSmallNumbers, plain_command};
-ghost use Rattle.office_requests.specs.Requests.{plain_asked};
+ghost use Rattle.office_requests.specs.Requests.{plain_caller_command};
 ghost use Rattle.office_model.specs.Office.{OfficeState};
 ghost use Rattle.office_store.specs.Running.{IsAwake, Now};
 ghost use Rattle.office_messages.specs.Heads.{plain_request};
@@ -14,7 +14,7 @@ use crate::answers::answer_reply;
 use office_desk::Desk;
 use office_messages::{Reply, Request, unavailable};
 use office_replies::reply_room;
-use office_requests::{Asked, Routes, read_request};
+use office_requests::{CallerCommand, Routes, read_request};
 use sqlite::Alter;
 use std::alloc::Global;
 
@@ -44,12 +44,12 @@ pub fn reply<S: Alter>(
 }
 
 // Returns the reply to a command. The room for it is allocated before anything is done.
-fn asked_reply<S: Alter>(alloc: Global, desk: &mut Desk<S>, asked: &Asked<'_>) -> Reply
+fn asked_reply<S: Alter>(alloc: Global, desk: &mut Desk<S>, asked: &CallerCommand<'_>) -> Reply
     requires { HasSmallNumbers (plain_command asked.now.command) }
     ensures step { HasCleanDisk (state S.Store desk.new) → (office : OfficeState)
         → Now (state S.Store desk.old) office
         → (next : OfficeState)
-        × RepliesTo (Ok (plain_asked asked.now)) office (plain_reply result) next
+        × RepliesTo (Ok (plain_caller_command asked.now)) office (plain_reply result) next
         × Now (state S.Store desk.new) next }
     ensures awake { HasCleanDisk (state S.Store desk.new)
         → IsDone (plain_reply result).status → IsAwake (state S.Store desk.new) }

@@ -166,7 +166,7 @@ module _ (K : Type 0) where
     pattern = [];
     is_in = own_in rows k (sym (seek_end rows)
         ∙ h);
-    takes_it = refl;
+    matches_path = refl;
   }
 
   sound_literal : (n : ℕ) → Sound n → (rows : RowsOf K) (b : ℕ) (path : List ℕ) (k : K) →
@@ -179,7 +179,7 @@ module _ (K : Type 0) where
       record {
         pattern = b ∷ found.pattern;
         is_in = in_step b rows found.pattern k found.is_in;
-        takes_it = rw (byte, same) found.takes_it;
+        matches_path = rw (byte, same) found.matches_path;
       }
 
   sound_param : (n : ℕ) → Sound n → (rows : RowsOf K) (b : ℕ) (path : List ℕ) (k : K) →
@@ -201,7 +201,7 @@ module _ (K : Type 0) where
             pattern = param_token ∷ found.pattern;
             is_in = in_step param_token rows found.pattern k
                 (in_suffix (47 ∷ []) (step param_token rows) found.pattern k found.is_in);
-            takes_it = rw e found.takes_it;
+            matches_path = rw e found.matches_path;
           }
       by_more false m e s = absurd (let f = sym
           (param_lost (step param_token rows) b path good_tails e s m) ∙ h in cc)
@@ -213,7 +213,7 @@ module _ (K : Type 0) where
         is_in = in_step param_token rows [] k
             (own_in (step param_token rows) k
             (sym (param_last (step param_token rows) b path good_tails e s) ∙ h));
-        takes_it = rw (e, no_rest path s) refl;
+        matches_path = rw (e, no_rest path s) refl;
       }
 
       go : (v : Bool) → (b == 47) ≡ v → Finds rows (b ∷ path) k

@@ -13,7 +13,7 @@ use Rattle.office_policy.specs.Commands.{publication_seats, batch}
 use Rattle.office_requests.specs.Bodies.{dept_body, place_body, text_body}
 use Rattle.office_requests.specs.ByMethod.{by_get, by_put, by_post, by_delete, of_instance}
 use Rattle.office_requests.specs.ByMethod.{of_draft}
-use Rattle.office_requests.specs.Commands.{asks_at}
+use Rattle.office_requests.specs.Commands.{page_commands}
 use Rattle.office_requests.specs.Methods.{verb_of, allow_of, is_listed}
 use Rattle.office_requests.specs.Pages.{page_of}
 use Rattle.office_requests.specs.Paths.{number_in}
@@ -121,7 +121,8 @@ three field made lists None a b = tt
 three field made lists (Some d) a b = two field (made d) (lists d) a b
 
 -- each page's field lists the methods with a command there
-page_lists : (p : Page) (path body : List ℕ) → IfSome (asks_at p path body) (Lists (allow_of p))
+page_lists : (p : Page) (path body : List ℕ)
+    → IfSome (page_commands p path body) (Lists (allow_of p))
 page_lists page.Me path body = get_lists me
 page_lists page.MyExam path body =
     one (codes "GET") _ (λ e. get_lists (my_exam e)) (number_in 3 path)
@@ -178,7 +179,7 @@ pub listed : (p : Page) (path m body : List ℕ) → page_of path ≡ Some p
     → staff_command (verb_of m) path body ≢ Err refusal.Path
     → is_listed m (allow_of p) ≡ is_ok (staff_command (verb_of m) path body)
 listed p path m body e known =
-    rw e (listed_on p (asks_at p path body) m (page_lists p path body) (rw e at known))
+    rw e (listed_on p (page_commands p path body) m (page_lists p path body) (rw e at known))
 
 no_path : (p : Page) (o : Option PlainCommand) → else_err (refusal.Method p) o ≢ Err refusal.Path
 no_path p None e = cc
@@ -203,7 +204,7 @@ two_known f g (Some d) e = one_known (f d) (g d) e
 
 -- whether the numbers in a path are numbers doesn't depend on the body
 path_known : (p : Page) (path body text : List ℕ)
-    → is_some (asks_at p path body) ≡ is_some (asks_at p path text)
+    → is_some (page_commands p path body) ≡ is_some (page_commands p path text)
 path_known page.Owner path body text = one_known _ _ (number_in 2 path)
 path_known page.Draft path body text = one_known _ _ (number_in 2 path)
 path_known page.Place path body text = two_known _ _ (number_in 2 path) (number_in 4 path)
@@ -212,13 +213,15 @@ path_known page.Batch path body text = one_known _ _ (number_in 2 path)
 path_known _ path body text = refl
 
 abbrev said_in : List ℕ → Option Page → Verb → List ℕ → Result PlainCommand Refusal
-said_in path o verb body = else_err refusal.Path o >>= (λ p. said_on p (asks_at p path body) verb)
+said_in path o verb body = else_err refusal.Path o >>=
+    (λ p. said_on p (page_commands p path body) verb)
 
 path_in : (path : List ℕ) (o : Option Page) (v w : Verb) (body text : List ℕ)
     → said_in path o v body ≡ Err refusal.Path → said_in path o w text ≡ Err refusal.Path
 path_in path None v w body text e = refl
 path_in path (Some p) v w body text e =
-    path_on p (asks_at p path body) (asks_at p path text) v w (path_known p path body text) e
+    path_on p (page_commands p path body) (page_commands p path text) v w
+    (path_known p path body text) e
 
 -- a path that is refused is refused whatever the method and the body
 pub path_first : (path : List ℕ) (v w : Verb) (body text : List ℕ)

@@ -103,4 +103,4 @@ pages_apart = refl
 
 pub one_page : (path : List ℕ) (p q : Page) → IsRouteTo p path → IsRouteTo q path → p ≡ q
 one_page path p q x y = one_of pages x.pattern y.pattern path p q pages_apart x.is_in y.is_in
-    x.takes_it y.takes_it
+    x.matches_path y.matches_path

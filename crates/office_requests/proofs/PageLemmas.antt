@@ -101,7 +101,7 @@ page_found path p text h = go (first table path) refl h
           pattern = found.pattern;
           is_in = subst
               (λ (z : Page). IsIn found.pattern z pages) is at;
-          takes_it = found.takes_it;
+          matches_path = found.matches_path;
         }
 
 -- if the table finds none, no page has that path
@@ -114,7 +114,8 @@ page_none path h p leads = go (first table path) refl h
     go None e k =
         let at = from_shown table leads.pattern p
         (subst (IsIn leads.pattern p) (sym table_pages) leads.is_in) in
-        first_none (RouteOf Page) table path table_plain e leads.pattern at.0 at.1 leads.takes_it
+        first_none (RouteOf Page) table path table_plain e leads.pattern at.0 at.1
+        leads.matches_path
 
 pub found_clause : (path : List ℕ) (o : Option Page) → ((i : ℕ) → get_or path i 0 < 256) →
     o ≡ page_at table path → IfSome o (λ p. IsRouteTo p path)
@@ -167,13 +168,13 @@ page_some path p leads = go (find (λ r. takes r.0 path) pages) refl
   where
     go : (o : Option (List ℕ × Page)) → find (λ r. takes r.0 path) pages ≡ o →
         Some p ≡ option_map (λ (row : List ℕ × Page). row.1) o
-    go None e = absurd (none_in pages path leads.pattern p e leads.is_in leads.takes_it)
+    go None e = absurd (none_in pages path leads.pattern p e leads.is_in leads.matches_path)
     go (Some row) e =
         let found = found_in pages path row e in
         let also : IsRouteTo row.1 path = record {
           pattern = row.0;
           is_in = found.0;
-          takes_it = found.1;
+          matches_path = found.1;
         } in
         ap (λ (x : Page). Some x) (one_page path p row.1 leads also)
 
@@ -186,7 +187,7 @@ page_nowhere path none = go (find (λ r. takes r.0 path) pages) refl
     go None e = refl
     go (Some row) e =
         let found = found_in pages path row e in
-        absurd (none row.1 record { pattern = row.0; is_in = found.0; takes_it = found.1 })
+        absurd (none row.1 record { pattern = row.0; is_in = found.0; matches_path = found.1 })
 
 pub only_clause : (path : List ℕ) (o : Option Page) → ((i : ℕ) → get_or path i 0 < 256) →
     o ≡ page_at table path → o ≡ page_of path

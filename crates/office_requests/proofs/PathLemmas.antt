@@ -2,7 +2,7 @@
 use Rattle.std.proofs.Common.{◌≡◌, ◌≢◌, ℕ, zero, suc, ◌+◌, ◌-◌, ◌<◌, List, [], ◌∷◌}
 use Rattle.std.proofs.Common.{length, get_or, take, drop, refl, ap, ◌∙◌, arith, add-one}
 use Rattle.std.proofs.lemmas.Bool.{eq-eqb, ne_eqb}
-use Rattle.office_requests.specs.Paths.{first_segment, behind_slash, segment}
+use Rattle.office_requests.specs.Paths.{first_segment, rest_after_slash, segment}
 
 -- without a slash all of the path is before it
 pub first_none : (path : List ℕ) →
@@ -13,7 +13,7 @@ first_none (b ∷ path) other =
     (ap (λ l. b ∷ l) (first_none path (λ k lt. other (suc k) (omega arith))))
 
 pub behind_none : (path : List ℕ) →
-    ((k : ℕ) → k < length path → get_or path k 0 ≡ 47 → ⊥) → behind_slash path ≡ []
+    ((k : ℕ) → k < length path → get_or path k 0 ≡ 47 → ⊥) → rest_after_slash path ≡ []
 behind_none [] other = refl
 behind_none (b ∷ path) other =
     rw (ne_eqb b 47 (other 0 (omega arith)))
@@ -29,7 +29,7 @@ first_at (b ∷ path) (suc i) lt is other =
     (ap (λ l. b ∷ l) (first_at path i (omega arith) is (λ k lt. other (suc k) (omega arith))))
 
 pub behind_at : (path : List ℕ) (i : ℕ) → i < length path → get_or path i 0 ≡ 47 →
-    ((k : ℕ) → k < i → get_or path k 0 ≡ 47 → ⊥) → behind_slash path ≡ drop (i + 1) path
+    ((k : ℕ) → k < i → get_or path k 0 ≡ 47 → ⊥) → rest_after_slash path ≡ drop (i + 1) path
 behind_at [] i lt is other = absurd (omega arith)
 behind_at (b ∷ path) zero lt is other = rw (eq-eqb b 47 is)
 behind_at (b ∷ path) (suc i) lt is other =
@@ -39,10 +39,10 @@ behind_at (b ∷ path) (suc i) lt is other =
 
 -- a later segment is one of the rest after the slash
 pub segment_later : (place : ℕ) (path : List ℕ) → place ≢ 0 →
-    segment place path ≡ segment (place - 1) (behind_slash path)
+    segment place path ≡ segment (place - 1) (rest_after_slash path)
 segment_later zero path some = absurd (some refl)
 segment_later (suc place) path some =
     let same : place ≡ suc place - 1 = omega arith in
-    ap (λ n. segment n (behind_slash path)) same
+    ap (λ n. segment n (rest_after_slash path)) same
 
 pub ruleset slash_facts = (first_none, behind_none, first_at, behind_at)

@@ -12,7 +12,7 @@ use Rattle.std.proofs.lemmas.Str.Parse.{digit_from_value}
 use Rattle.matchit.specs.Rows.{param_token}
 use Rattle.matchit.specs.Seek.{slash}
 use Rattle.office_policy.specs.Numbers.{IsSmall, number_of}
-use Rattle.office_requests.specs.Paths.{first_segment, behind_slash}
+use Rattle.office_requests.specs.Paths.{first_segment, rest_after_slash}
 use Rattle.office_requests.specs.Patterns.{takes, rest_of_segment}
 use Rattle.office_requests.proofs.Plain.{EndsSegment}
 
@@ -81,7 +81,7 @@ first_is [] (b ∷ rest) bare ends = rw ends refl
 first_is (b ∷ bs) rest bare ends = rw bare.0 (ap (λ l. b ∷ l) (first_is bs rest bare.1 ends))
 
 behind_is : (ds rest : List ℕ) → NoSlash ds
-    → behind_slash (ds ++ slash ∷ rest) ≡ rest
+    → rest_after_slash (ds ++ slash ∷ rest) ≡ rest
 behind_is [] rest bare = refl
 behind_is (b ∷ bs) rest bare = rw bare.0 (behind_is bs rest bare.1)
 
@@ -102,7 +102,7 @@ number_here n rest small ends =
 
 -- the rest of the path follows it
 pub behind_number : (n : ℕ) (rest : List ℕ) → IsSmall n
-    → behind_slash (decimal n ++ slash ∷ rest) ≡ rest
+    → rest_after_slash (decimal n ++ slash ∷ rest) ≡ rest
 behind_number n rest small =
     let is = writes n small in
     behind_is (decimal n) rest (without_slash (decimal n) is.digits)

@@ -19,15 +19,15 @@ use Rattle.office_policy.specs.declared.command.Body.{Body}
 use Rattle.office_requests.specs.Bodies.{dept_body, place_body, text_body}
 use Rattle.office_requests.specs.ByMethod.{by_get, by_put, by_post, by_delete, of_instance}
 use Rattle.office_requests.specs.ByMethod.{of_draft, with_two}
-use Rattle.office_requests.specs.Commands.{asks_at}
+use Rattle.office_requests.specs.Commands.{page_commands}
 use Rattle.office_requests.specs.Methods.{verb_of}
 use Rattle.office_requests.specs.Pages.{IsIn, pages, page_of}
-use Rattle.office_requests.specs.Paths.{first_segment, behind_slash}
+use Rattle.office_requests.specs.Paths.{first_segment, rest_after_slash}
 use Rattle.office_requests.specs.Patterns.{takes}
 use Rattle.office_requests.specs.Printing.{path_of, method_of}
-use Rattle.office_requests.specs.PrintedBodies.{SaysBody, ComesWith}
-use Rattle.office_requests.specs.Requests.{caller_in, her_page, candidate_command, staff_command}
-use Rattle.office_requests.specs.Requests.{asked_by, reading}
+use Rattle.office_requests.specs.PrintedBodies.{BodyHasValue, MaySendCommand}
+use Rattle.office_requests.specs.Requests.{caller_in, own_page_command, candidate_command, staff_command}
+use Rattle.office_requests.specs.Requests.{command_by, reading}
 use Rattle.office_requests.specs.declared.methods.Verb.{Verb}
 use Rattle.office_requests.specs.declared.methods.Verb.TheVariants.{Get}
 use Rattle.office_requests.specs.declared.pages.Page.{Page}
@@ -50,11 +50,11 @@ in_rows (row ∷ rows) (suc i) inside = inr (in_rows rows i (omega arith))
 -- a path that the pattern of the page takes is the page's
 page_is : (i : ℕ) (path : List ℕ) → i < 18 → takes (row_at pages i).0 path ≡ true
     → page_of path ≡ Some (row_at pages i).1
-page_is i path inside takes_it =
+page_is i path inside matches_path =
     sym (page_some path (row_at pages i).1 record {
       pattern = (row_at pages i).0;
       is_in = in_rows pages i inside;
-      takes_it = takes_it;
+      matches_path = matches_path;
     })
 
 abbrev Asks : Type 0
@@ -63,13 +63,13 @@ Asks = Verb → Option PlainCommand
 -- the commands of methods on a path of a page
 record Offers (path body : List ℕ) (p : Page) (asks : Asks) : Type 0 where
   page_there : page_of path ≡ Some p
-  asks_there : asks_at p path body ≡ Some asks
+  asks_there : page_commands p path body ≡ Some asks
 
 offers : (i : ℕ) (path body : List ℕ) (asks : Asks) → i < 18
-    → takes (row_at pages i).0 path ≡ true → asks_at (row_at pages i).1 path body ≡ Some asks
+    → takes (row_at pages i).0 path ≡ true → page_commands (row_at pages i).1 path body ≡ Some asks
     → Offers path body (row_at pages i).1 asks
-offers i path body asks inside takes_it there =
-    record { page_there = page_is i path inside takes_it; asks_there = there }
+offers i path body asks inside matches_path there =
+    record { page_there = page_is i path inside matches_path; asks_there = there }
 
 one_number : (made : ℕ → Asks) (x : Option ℕ) (n : ℕ) → x ≡ Some n
     → option_map (λ n. made n) x ≡ Some (made n)
@@ -111,7 +111,7 @@ module _ (d e : ℕ) (small : IsSmall d) (also : IsSmall e) where
   slot_is made tail ends =
       two_numbers made _ _ d e
       (number_here d (codes "/exams/" ++ (decimal e ++ tail)) small refl)
-      (ap (λ (l : List ℕ). number_of (first_segment (behind_slash l)))
+      (ap (λ (l : List ℕ). number_of (first_segment (rest_after_slash l)))
       (behind_number d (codes "exams/" ++ (decimal e ++ tail)) small)
       ∙ number_here e tail also ends)
 
@@ -127,10 +127,10 @@ module _ (d a b : ℕ) (small : IsSmall d) (also : IsSmall a) (last : IsSmall b)
       ∙ takes_number b [] [] last tt)
       (three_numbers (λ d a b. by_post (swap d a b)) _ _ _ d a b
       (number_here d (codes "/swap/" ++ pair) small refl)
-      (ap (λ (l : List ℕ). number_of (first_segment (behind_slash l)))
+      (ap (λ (l : List ℕ). number_of (first_segment (rest_after_slash l)))
       (behind_number d (codes "swap/" ++ pair) small)
       ∙ number_here a (slash ∷ (decimal b ++ [])) also refl)
-      (ap (λ (l : List ℕ). number_of (first_segment (behind_slash (behind_slash l))))
+      (ap (λ (l : List ℕ). number_of (first_segment (rest_after_slash (rest_after_slash l))))
       (behind_number d (codes "swap/" ++ pair) small)
       ∙ ap (λ (l : List ℕ). number_of (first_segment l)) (behind_number a (decimal b ++ []) also)
       ∙ number_here b [] last tt))
@@ -232,7 +232,7 @@ offered (batch n text) body small =
 -- ---- requests
 
 -- its method has the command itself
-is_asked : (c : PlainCommand) (body : List ℕ) → SaysBody body c
+is_asked : (c : PlainCommand) (body : List ℕ) → BodyHasValue body c
     → offer c body (verb_of (method_of c)) ≡ Some c
 is_asked (load text) body says = ap (λ (b : Body (List ℕ)). Some (load b)) says
 is_asked (set_owner e dept) body says = ap (λ (b : Body ℕ). Some (set_owner e b)) says
@@ -247,35 +247,35 @@ by : (path body : List ℕ) (p : Page) (asks : Asks) (verb : Verb) (c : PlainCom
 by path body p asks verb c there e = rw (there.page_there, there.asks_there, e) refl
 
 -- the office and the departments ask for it
-staff_asks : (c : PlainCommand) (body : List ℕ) → HasSmallNumbers c → SaysBody body c
+staff_asks : (c : PlainCommand) (body : List ℕ) → HasSmallNumbers c → BodyHasValue body c
     → staff_command (verb_of (method_of c)) (path_of c) body ≡ Ok c
 staff_asks c body small says =
     by (path_of c) body (page_for c) (offer c body) (verb_of (method_of c)) c
     (offered c body small) (is_asked c body says)
 
-hers_by : (path : List ℕ) (p : Page) (c : PlainCommand) → page_of path ≡ Some p
-    → her_page p path ≡ Some c → candidate_command Get path ≡ Ok c
-hers_by path p c there e = rw (there, e) refl
+own_by : (path : List ℕ) (p : Page) (c : PlainCommand) → page_of path ≡ Some p
+    → own_page_command p path ≡ Some c → candidate_command Get path ≡ Ok c
+own_by path p c there e = rw (there, e) refl
 
 -- a candidate asks for their own three pages
-she_asks : (n : ℕ) (c : PlainCommand) → HasSmallNumbers c → ComesWith (Cand n) c
+she_asks : (n : ℕ) (c : PlainCommand) → HasSmallNumbers c → MaySendCommand (Cand n) c
     → candidate_command (verb_of (method_of c)) (path_of c) ≡ Ok c
-she_asks n me small hers = hers_by _ page.Me me (offered me [] small).page_there refl
-she_asks n (my_exam e) small hers =
-    hers_by _ page.MyExam (my_exam e) (offered (my_exam e) [] small).page_there
+she_asks n me small is_own = own_by _ page.Me me (offered me [] small).page_there refl
+she_asks n (my_exam e) small is_own =
+    own_by _ page.MyExam (my_exam e) (offered (my_exam e) [] small).page_there
     (ap (option_map my_exam) (number_here e [] small tt))
-she_asks n my_penalty small hers =
-    hers_by _ page.MyPenalty my_penalty (offered my_penalty [] small).page_there refl
-she_asks n _ small hers = cc
+she_asks n my_penalty small is_own =
+    own_by _ page.MyPenalty my_penalty (offered my_penalty [] small).page_there refl
+she_asks n _ small is_own = cc
 
-asked : (who : Caller) (c : PlainCommand) (body : List ℕ) → ComesWith who c → HasSmallNumbers c
-    → SaysBody body c → asked_by who (verb_of (method_of c)) (path_of c) body ≡ Ok c
+asked : (who : Caller) (c : PlainCommand) (body : List ℕ) → MaySendCommand who c → HasSmallNumbers c
+    → BodyHasValue body c → command_by who (verb_of (method_of c)) (path_of c) body ≡ Ok c
 asked Office c body comes small says = staff_asks c body small says
 asked (Dept d) c body comes small says = staff_asks c body small says
 asked (Cand n) c body comes small says = she_asks n c small comes
 
 -- a request that is printed is read back
 pub read_back : (value : Option (List ℕ)) (who : Caller) (c : PlainCommand) (body : List ℕ)
-    → caller_in value ≡ Some who → ComesWith who c → HasSmallNumbers c → SaysBody body c
+    → caller_in value ≡ Some who → MaySendCommand who c → HasSmallNumbers c → BodyHasValue body c
     → reading (method_of c) (path_of c) value body ≡ Ok (record { caller = who; command = c })
 read_back value who c body e comes small says = rw (e, asked who c body comes small says) refl

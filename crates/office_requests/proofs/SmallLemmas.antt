@@ -19,14 +19,14 @@ use Rattle.office_policy.proofs.NumberLemmas.{number_small}
 use Rattle.serde_json.specs.Data.{Data}
 use Rattle.serde_json.specs.Find.{get, as_number, as_u64}
 use Rattle.office_requests.specs.Bodies.{at_most, number_at, of_members, members_count, place_in}
-use Rattle.office_requests.specs.Bodies.{dept_in, json_in, given_or_bad, unless_long, place_body}
+use Rattle.office_requests.specs.Bodies.{dept_in, json_in, value_or_bad, unless_long, place_body}
 use Rattle.office_requests.specs.Bodies.{dept_body, text_body}
 use Rattle.office_requests.specs.ByMethod.{by_get, by_put, by_post, by_delete, of_instance}
 use Rattle.office_requests.specs.ByMethod.{of_draft, with_one, with_two, with_three}
-use Rattle.office_requests.specs.Commands.{asks_at}
+use Rattle.office_requests.specs.Commands.{page_commands}
 use Rattle.office_requests.specs.Pages.{page_of}
 use Rattle.office_requests.specs.Paths.{segment, number_in}
-use Rattle.office_requests.specs.Requests.{her_page, her_command, staff_command, asked_by}
+use Rattle.office_requests.specs.Requests.{own_page_command, own_command, staff_command, command_by}
 use Rattle.office_requests.specs.declared.methods.Verb.{Verb}
 use Rattle.office_requests.specs.declared.methods.Verb.TheVariants.{Get, Put, Post, Delete}
 use Rattle.office_requests.specs.declared.pages.Page.{Page}
@@ -88,7 +88,7 @@ of_members_small P size says d small =
     go false = tt
 
 given_small : {A : Type 0} (P : A → Type 0) (o : Option A) → IfSome o P
-    → IfBodyHasValue (given_or_bad o) P
+    → IfBodyHasValue (value_or_bad o) P
 given_small P None small = tt
 given_small P (Some x) small = small
 
@@ -179,7 +179,7 @@ three path made small =
     (in_path 4 path)
     (λ a first. one 5 path (made d a) (λ b second. small d a b draft first second)))
 
-asks_small : (p : Page) (path body : List ℕ) → IfSome (asks_at p path body) AsksSmall
+asks_small : (p : Page) (path body : List ℕ) → IfSome (page_commands p path body) AsksSmall
 asks_small page.Me path body = get_small me tt
 asks_small page.MyExam path body = one 3 path _ (λ e exam. get_small (my_exam e) exam)
 asks_small page.MyPenalty path body = get_small my_penalty tt
@@ -209,32 +209,32 @@ asks_small page.PublicationSeats path body = get_small publication_seats tt
 asks_small page.Batch path body =
     one 2 path _ (λ n number. put_small (batch n (text_body body)) number)
 
-her_page_small : (p : Page) (path : List ℕ) → IfSome (her_page p path) HasSmallNumbers
-her_page_small page.Me path = tt
-her_page_small page.MyExam path =
+own_page_small : (p : Page) (path : List ℕ) → IfSome (own_page_command p path) HasSmallNumbers
+own_page_small page.Me path = tt
+own_page_small page.MyExam path =
     mapped IsSmall HasSmallNumbers my_exam (number_in 3 path) (in_path 3 path) (λ e exam. exam)
-her_page_small page.MyPenalty path = tt
-her_page_small _ path = tt
+own_page_small page.MyPenalty path = tt
+own_page_small _ path = tt
 
-her_small : (verb : Verb) (path : List ℕ) → IfSome (her_command verb path) HasSmallNumbers
-her_small Get path =
-    chained (λ (p : Page). Unit {0}) HasSmallNumbers (λ p. her_page p path) (page_of path)
-    (anything _) (λ p any. her_page_small p path)
-her_small _ path = tt
+own_small : (verb : Verb) (path : List ℕ) → IfSome (own_command verb path) HasSmallNumbers
+own_small Get path =
+    chained (λ (p : Page). Unit {0}) HasSmallNumbers (λ p. own_page_command p path) (page_of path)
+    (anything _) (λ p any. own_page_small p path)
+own_small _ path = tt
 
 staff_small : (verb : Verb) (path body : List ℕ)
     → IfOk (staff_command verb path body) HasSmallNumbers
 staff_small verb path body =
     judged (λ (p : Page). Unit {0}) HasSmallNumbers (else_err refusal.Path (page_of path)) _
     (else_ok (λ (p : Page). Unit {0}) refusal.Path (page_of path) (anything _))
-    (λ p any. judged AsksSmall HasSmallNumbers (else_err refusal.Path (asks_at p path body)) _
-    (else_ok AsksSmall refusal.Path (asks_at p path body) (asks_small p path body))
+    (λ p any. judged AsksSmall HasSmallNumbers (else_err refusal.Path (page_commands p path body)) _
+    (else_ok AsksSmall refusal.Path (page_commands p path body) (asks_small p path body))
     (λ asks small. else_ok HasSmallNumbers (refusal.Method p) (asks verb) (small verb)))
 
 -- the command has small numbers, for each caller
 pub asked_small : (who : Caller) (verb : Verb) (path body : List ℕ)
-    → IfOk (asked_by who verb path body) HasSmallNumbers
+    → IfOk (command_by who verb path body) HasSmallNumbers
 asked_small Office verb path body = staff_small verb path body
 asked_small (Dept d) verb path body = staff_small verb path body
 asked_small (Cand c) verb path body =
-    else_ok HasSmallNumbers refusal.Candidate (her_command verb path) (her_small verb path)
+    else_ok HasSmallNumbers refusal.Candidate (own_command verb path) (own_small verb path)

@@ -7,14 +7,14 @@ use Rattle.office_requests.specs.Methods.{allow_of}
 use Rattle.office_requests.specs.Commands.{HasJson}
 use Rattle.office_policy.specs.declared.policy.Denial.TheVariants.{P1}
 use Rattle.office_requests.specs.Texts.{error_text, error_reply}
-use Rattle.office_requests.specs.Requests.{PlainAsked, plain_asked}
+use Rattle.office_requests.specs.Requests.{PlainCallerCommand, plain_caller_command}
 use Rattle.office_requests.specs.declared.pages.Page.{Page}
 use Rattle.office_messages.specs.Reply.{PlainReply}
 use Rattle.office_messages.specs.FixedReplies.{unavailable}
 use Rattle.office_messages.specs.declared.replies.Content.TheVariants.{Json}
 use Rattle.office_messages.specs.declared.statuses.Status.TheVariants.{MethodNotAllowed}
 use Rattle.office_requests.specs.declared.texts.FixedError.TheVariants as error
-use Rattle.office_requests.specs.declared.requests.Asked.{Asked}
+use Rattle.office_requests.specs.declared.requests.CallerCommand.{CallerCommand}
 use Rattle.office_requests.specs.declared.requests.Refusal.{Refusal}
 use Rattle.office_requests.specs.declared.requests.Refusal.TheVariants as refusal
 
@@ -31,12 +31,14 @@ AnswersCommand plain command_in said (Err refusal.Path) = said ≡ Err refusal.P
 AnswersCommand plain command_in said (Err (refusal.Method page)) = said ≡ Err (refusal.Method page)
 
 -- the command that is answered
-abbrev pub GivesCommand : Result PlainCommand Refusal → Result Command Refusal → Type 0
-GivesCommand said answer = AnswersCommand plain_command (λ command. command) said answer
+abbrev pub ReturnsCommand : Result PlainCommand Refusal → Result Command Refusal → Type 0
+ReturnsCommand said answer = AnswersCommand plain_command (λ command. command) said answer
 
 -- the caller and the command
-abbrev pub GivesAsked : Result PlainAsked Refusal → Result Asked Refusal → Type 0
-GivesAsked said answer = AnswersCommand plain_asked (λ asked. asked.command) said answer
+abbrev pub ReturnsCallerCommand : Result PlainCallerCommand Refusal → Result CallerCommand Refusal
+    → Type 0
+ReturnsCallerCommand said answer = AnswersCommand plain_caller_command
+    (λ asked. asked.command) said answer
 
 -- the reply if the page doesn't have the method
 abbrev pub not_allowed : Page → PlainReply

@@ -50,9 +50,9 @@ abbrev pub dept_in : Data → Option ℕ
 dept_in d = of_members 1 (number_at (codes "dept") MAX_DEPARTMENT d) d
 
 -- the value found; without one, the body is bad
-abbrev pub given_or_bad : {A : Type 0} → Option A → Body A
-given_or_bad (Some x) = Given x
-given_or_bad None = Bad
+abbrev pub value_or_bad : {A : Type 0} → Option A → Body A
+value_or_bad (Some x) = Given x
+value_or_bad None = Bad
 
 -- a body with more bytes than a text may have is too long, whatever its value
 abbrev pub unless_long : {A : Type 0} → List ℕ → Body A → Body A
@@ -64,8 +64,8 @@ text_body text = unless_long text (Given text)
 
 -- a body with a place
 abbrev pub place_body : List ℕ → Body Place
-place_body bytes = unless_long bytes (given_or_bad (option_and_then place_in (json_in bytes)))
+place_body bytes = unless_long bytes (value_or_bad (option_and_then place_in (json_in bytes)))
 
 -- a body with a department
 abbrev pub dept_body : List ℕ → Body ℕ
-dept_body bytes = unless_long bytes (given_or_bad (option_and_then dept_in (json_in bytes)))
+dept_body bytes = unless_long bytes (value_or_bad (option_and_then dept_in (json_in bytes)))

@@ -16,30 +16,30 @@ use Rattle.office_requests.specs.declared.requests.Refusal.{Refusal}
 use Rattle.office_requests.specs.declared.requests.Refusal.TheVariants as refusal
 
 -- the command of each method of the page; nothing if a number in the path isn't one
-abbrev pub asks_at : Page → List ℕ → List ℕ → Option (Verb → Option PlainCommand)
-asks_at page.Me path body = Some (by_get me)
-asks_at page.MyExam path body = with_one 3 (λ e. by_get (my_exam e)) path
-asks_at page.MyPenalty path body = Some (by_get my_penalty)
-asks_at page.Instance path body = Some (of_instance body)
-asks_at page.Owner path body = with_one 2 (λ e. by_put (set_owner e (dept_body body))) path
-asks_at page.Draft path body = with_one 2 (λ d. of_draft d body) path
-asks_at page.DraftPenalty path body = with_one 2 (λ d. by_get (draft_penalty d)) path
-asks_at page.DraftViolations path body = with_one 2 (λ d. by_get (draft_violations d)) path
-asks_at page.Place path body = with_two (λ d e. by_post (place d e (place_body body))) path
-asks_at page.Move path body = with_two (λ d e. by_post (move d e (place_body body))) path
-asks_at page.Slot path body = with_two (λ d e. by_delete (clear d e)) path
-asks_at page.Swap path body = with_three (λ d a b. by_post (swap d a b)) path
-asks_at page.Publish path body = with_one 2 (λ d. by_post (publish d)) path
-asks_at page.Publication path body = Some (by_get publication)
-asks_at page.PublicationPenalty path body = Some (by_get publication_penalty)
-asks_at page.PublicationRooms path body = Some (by_get publication_rooms)
-asks_at page.PublicationSeats path body = Some (by_get publication_seats)
-asks_at page.Batch path body = with_one 2 (λ n. by_put (batch n (text_body body))) path
+abbrev pub page_commands : Page → List ℕ → List ℕ → Option (Verb → Option PlainCommand)
+page_commands page.Me path body = Some (by_get me)
+page_commands page.MyExam path body = with_one 3 (λ e. by_get (my_exam e)) path
+page_commands page.MyPenalty path body = Some (by_get my_penalty)
+page_commands page.Instance path body = Some (of_instance body)
+page_commands page.Owner path body = with_one 2 (λ e. by_put (set_owner e (dept_body body))) path
+page_commands page.Draft path body = with_one 2 (λ d. of_draft d body) path
+page_commands page.DraftPenalty path body = with_one 2 (λ d. by_get (draft_penalty d)) path
+page_commands page.DraftViolations path body = with_one 2 (λ d. by_get (draft_violations d)) path
+page_commands page.Place path body = with_two (λ d e. by_post (place d e (place_body body))) path
+page_commands page.Move path body = with_two (λ d e. by_post (move d e (place_body body))) path
+page_commands page.Slot path body = with_two (λ d e. by_delete (clear d e)) path
+page_commands page.Swap path body = with_three (λ d a b. by_post (swap d a b)) path
+page_commands page.Publish path body = with_one 2 (λ d. by_post (publish d)) path
+page_commands page.Publication path body = Some (by_get publication)
+page_commands page.PublicationPenalty path body = Some (by_get publication_penalty)
+page_commands page.PublicationRooms path body = Some (by_get publication_rooms)
+page_commands page.PublicationSeats path body = Some (by_get publication_seats)
+page_commands page.Batch path body = with_one 2 (λ n. by_put (batch n (text_body body))) path
 
 -- the command of a method on a page: the path is judged, then the method
 abbrev pub command_at : Page → Verb → List ℕ → List ℕ → Result PlainCommand Refusal
 command_at p verb path body =
-    else_err refusal.Path (asks_at p path body) >>= (λ asks.
+    else_err refusal.Path (page_commands p path body) >>= (λ asks.
     else_err (refusal.Method p) (asks verb))
 
 -- whether the command has a body of JSON, which takes memory to read

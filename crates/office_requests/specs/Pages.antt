@@ -50,7 +50,7 @@ IsIn t k (row ∷ rows) = ((row.0 ≡ t) × (row.1 ≡ k)) ⊎ IsIn t k rows
 pub record Finds {K : Type 0} (rows : RowsOf K) (path : List ℕ) (k : K) : Type 0 where
   pub pattern : List ℕ
   pub is_in : IsIn pattern k rows
-  pub takes_it : takes pattern path ≡ true
+  pub matches_path : takes pattern path ≡ true
 
 -- the path leads to the page
 abbrev pub IsRouteTo : Page → List ℕ → Type 0

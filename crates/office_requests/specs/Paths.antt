@@ -9,14 +9,14 @@ first_segment [] = []
 first_segment (b ∷ path) = if b == slash then [] else b ∷ first_segment path
 
 -- the bytes after the first slash
-abbrev pub behind_slash : List ℕ → List ℕ
-behind_slash [] = []
-behind_slash (b ∷ path) = if b == slash then path else behind_slash path
+abbrev pub rest_after_slash : List ℕ → List ℕ
+rest_after_slash [] = []
+rest_after_slash (b ∷ path) = if b == slash then path else rest_after_slash path
 
 -- a segment of a path, counted from 0
 abbrev pub segment : ℕ → List ℕ → List ℕ
 segment zero path = first_segment path
-segment (suc place) path = segment place (behind_slash path)
+segment (suc place) path = segment place (rest_after_slash path)
 
 -- the number that a segment is
 abbrev pub number_in : ℕ → List ℕ → Option ℕ

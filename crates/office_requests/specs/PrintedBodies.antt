@@ -9,16 +9,16 @@ use Rattle.office_policy.specs.declared.callers.Caller.TheVariants.{Cand}
 use Rattle.office_requests.specs.Bodies.{text_body, place_body, dept_body}
 
 -- the bytes of a body have the value of the command's body, if it has one
-abbrev pub SaysBody : List ℕ → PlainCommand → Type 0
-SaysBody bytes (load text) = Given bytes ≡ text
-SaysBody bytes (set_owner e dept) = dept_body bytes ≡ dept
-SaysBody bytes (new_draft d text) = text_body bytes ≡ text
-SaysBody bytes (place d e at) = place_body bytes ≡ at
-SaysBody bytes (move d e to) = place_body bytes ≡ to
-SaysBody bytes (batch n text) = text_body bytes ≡ text
-SaysBody bytes _ = Unit {0}
+abbrev pub BodyHasValue : List ℕ → PlainCommand → Type 0
+BodyHasValue bytes (load text) = Given bytes ≡ text
+BodyHasValue bytes (set_owner e dept) = dept_body bytes ≡ dept
+BodyHasValue bytes (new_draft d text) = text_body bytes ≡ text
+BodyHasValue bytes (place d e at) = place_body bytes ≡ at
+BodyHasValue bytes (move d e to) = place_body bytes ≡ to
+BodyHasValue bytes (batch n text) = text_body bytes ≡ text
+BodyHasValue bytes _ = Unit {0}
 
 -- a candidate asks only for their own pages, all other callers for any command
-abbrev pub ComesWith : Caller → PlainCommand → Type 0
-ComesWith (Cand n) c = permits (Cand n) c 0 0 ≡ Ok tt
-ComesWith _ c = Unit {0}
+abbrev pub MaySendCommand : Caller → PlainCommand → Type 0
+MaySendCommand (Cand n) c = permits (Cand n) c 0 0 ≡ Ok tt
+MaySendCommand _ c = Unit {0}

@@ -14,7 +14,7 @@ use Rattle.office_requests.specs.declared.methods.Verb.{Verb}
 use Rattle.office_requests.specs.declared.methods.Verb.TheVariants.{Get}
 use Rattle.office_requests.specs.declared.pages.Page.{Page}
 use Rattle.office_requests.specs.declared.pages.Page.TheVariants as page
-use Rattle.office_requests.specs.declared.requests.Asked.{Asked}
+use Rattle.office_requests.specs.declared.requests.CallerCommand.{CallerCommand}
 use Rattle.office_requests.specs.declared.requests.Refusal.{Refusal}
 use Rattle.office_requests.specs.declared.requests.Refusal.TheVariants as refusal
 
@@ -23,20 +23,20 @@ abbrev pub caller_in : Option (List ℕ) → Option Caller
 caller_in value = option_and_then (λ v. caller_of (trimmed v)) value
 
 -- a candidate's own three pages
-abbrev pub her_page : Page → List ℕ → Option PlainCommand
-her_page page.Me path = Some me
-her_page page.MyExam path = with_one 3 my_exam path
-her_page page.MyPenalty path = Some my_penalty
-her_page _ path = None
+abbrev pub own_page_command : Page → List ℕ → Option PlainCommand
+own_page_command page.Me path = Some me
+own_page_command page.MyExam path = with_one 3 my_exam path
+own_page_command page.MyPenalty path = Some my_penalty
+own_page_command _ path = None
 
 -- one of the candidate's pages, by GET
-abbrev pub her_command : Verb → List ℕ → Option PlainCommand
-her_command Get path = option_and_then (λ p. her_page p path) (page_of path)
-her_command _ path = None
+abbrev pub own_command : Verb → List ℕ → Option PlainCommand
+own_command Get path = option_and_then (λ p. own_page_command p path) (page_of path)
+own_command _ path = None
 
 -- a candidate asks for one of their pages, or is refused
 abbrev pub candidate_command : Verb → List ℕ → Result PlainCommand Refusal
-candidate_command verb path = else_err refusal.Candidate (her_command verb path)
+candidate_command verb path = else_err refusal.Candidate (own_command verb path)
 
 -- the office and departments ask for a command of a page
 abbrev pub staff_command : Verb → List ℕ → List ℕ → Result PlainCommand Refusal
@@ -44,23 +44,23 @@ staff_command verb path body =
     else_err refusal.Path (page_of path) >>= (λ p. command_at p verb path body)
 
 -- the command of that caller
-abbrev pub asked_by : Caller → Verb → List ℕ → List ℕ → Result PlainCommand Refusal
-asked_by Office verb path body = staff_command verb path body
-asked_by (Dept d) verb path body = staff_command verb path body
-asked_by (Cand c) verb path body = candidate_command verb path
+abbrev pub command_by : Caller → Verb → List ℕ → List ℕ → Result PlainCommand Refusal
+command_by Office verb path body = staff_command verb path body
+command_by (Dept d) verb path body = staff_command verb path body
+command_by (Cand c) verb path body = candidate_command verb path
 
 -- the caller and the command, without the place of a text in memory
-pub record PlainAsked : Type 0 where
+pub record PlainCallerCommand : Type 0 where
   pub caller : Caller
   pub command : PlainCommand
 
 -- a request as read, without the place of a text in memory
-abbrev pub plain_asked : Asked → PlainAsked
-plain_asked asked = record { caller = asked.caller; command = plain_command asked.command }
+abbrev pub plain_caller_command : CallerCommand → PlainCallerCommand
+plain_caller_command asked = record { caller = asked.caller; command = plain_command asked.command }
 
 -- the caller and the command: the caller is judged first
-abbrev pub reading : List ℕ → List ℕ → Option (List ℕ) → List ℕ → Result PlainAsked Refusal
+abbrev pub reading : List ℕ → List ℕ → Option (List ℕ) → List ℕ → Result PlainCallerCommand Refusal
 reading method path value body =
     else_err refusal.Caller (caller_in value) >>= (λ who.
-    asked_by who (verb_of method) path body >>= (λ asked.
+    command_by who (verb_of method) path body >>= (λ asked.
     Ok (record { caller = who; command = asked })))

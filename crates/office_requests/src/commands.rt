@@ -12,7 +12,7 @@ ghost use Rattle.office_requests.specs.Bodies.{dept_body, place_body, text_body}
 ghost use Rattle.office_requests.specs.ByMethod.{by_get, by_put, by_post, by_delete};
 ghost use Rattle.office_requests.specs.ByMethod.{of_instance, of_draft};
 ghost use Rattle.office_requests.specs.Commands.{command_at};
-ghost use Rattle.office_requests.specs.Answering.{GivesCommand};
+ghost use Rattle.office_requests.specs.Answering.{ReturnsCommand};
 ghost use Rattle.office_requests.specs.declared.pages.Page.TheVariants as page;
 ghost use Rattle.office_requests.specs.declared.requests.Refusal.TheVariants as refusal;
 
@@ -34,8 +34,8 @@ pub(crate) fn command_at<'a>(
     path: &[u8],
     body: &'a [u8],
 ) -> Result<Command<'a>, Refusal>
-    ensures asked { GivesCommand (command_at page verb path.now body.now) result }
-    ensures lent { IfOk result (HoldsText body.entry) }
+    ensures command { ReturnsCommand (command_at page verb path.now body.now) result }
+    ensures text { IfOk result (HoldsText body.entry) }
 {
     match page {
         Page::Me => of_me(verb),
@@ -65,8 +65,8 @@ pub(crate) fn command_at<'a>(
 }
 
 fn of_me<'a>(verb: Verb) -> Result<Command<'a>, Refusal>
-    ensures asked { GivesCommand (else_err (refusal.Method page.Me) (by_get me verb)) result }
-    ensures lent { (text : Bor (List ℕ)) → IfOk result (HoldsText text) }
+    ensures command { ReturnsCommand (else_err (refusal.Method page.Me) (by_get me verb)) result }
+    ensures text { (text : Bor (List ℕ)) → IfOk result (HoldsText text) }
 {
     match verb {
         Verb::Get => Ok(Command::Me),
@@ -75,9 +75,9 @@ fn of_me<'a>(verb: Verb) -> Result<Command<'a>, Refusal>
 }
 
 fn of_my_exam<'a>(verb: Verb, exam: ExamNo) -> Result<Command<'a>, Refusal>
-    ensures asked { GivesCommand
+    ensures command { ReturnsCommand
         (else_err (refusal.Method page.MyExam) (by_get (my_exam exam) verb)) result }
-    ensures lent { (text : Bor (List ℕ)) → IfOk result (HoldsText text) }
+    ensures text { (text : Bor (List ℕ)) → IfOk result (HoldsText text) }
 {
     match verb {
         Verb::Get => Ok(Command::MyExam(exam)),
@@ -86,9 +86,9 @@ fn of_my_exam<'a>(verb: Verb, exam: ExamNo) -> Result<Command<'a>, Refusal>
 }
 
 fn of_my_penalty<'a>(verb: Verb) -> Result<Command<'a>, Refusal>
-    ensures asked { GivesCommand
+    ensures command { ReturnsCommand
         (else_err (refusal.Method page.MyPenalty) (by_get my_penalty verb)) result }
-    ensures lent { (text : Bor (List ℕ)) → IfOk result (HoldsText text) }
+    ensures text { (text : Bor (List ℕ)) → IfOk result (HoldsText text) }
 {
     match verb {
         Verb::Get => Ok(Command::MyPenalty),
@@ -98,9 +98,9 @@ fn of_my_penalty<'a>(verb: Verb) -> Result<Command<'a>, Refusal>
 
 // Returns the command of an instance's text, which is never too long: no body exceeds its limit.
 fn of_instance<'a>(verb: Verb, body: &'a [u8]) -> Result<Command<'a>, Refusal>
-    ensures asked { GivesCommand
+    ensures command { ReturnsCommand
         (else_err (refusal.Method page.Instance) (of_instance body.now verb)) result }
-    ensures lent { IfOk result (HoldsText body.entry) }
+    ensures text { IfOk result (HoldsText body.entry) }
 {
     match verb {
         Verb::Get => Ok(Command::Instance),
@@ -115,9 +115,9 @@ fn of_owner<'a>(
     exam: ExamNo,
     body: &[u8],
 ) -> Result<Command<'a>, Refusal>
-    ensures asked { GivesCommand (else_err (refusal.Method page.Owner)
+    ensures command { ReturnsCommand (else_err (refusal.Method page.Owner)
         (by_put (set_owner exam (dept_body body.now)) verb)) result }
-    ensures lent { (text : Bor (List ℕ)) → IfOk result (HoldsText text) }
+    ensures text { (text : Bor (List ℕ)) → IfOk result (HoldsText text) }
 {
     match verb {
         Verb::Put => match dept_body(alloc, body) {
@@ -129,9 +129,9 @@ fn of_owner<'a>(
 }
 
 fn of_draft<'a>(verb: Verb, draft: u32, body: &'a [u8]) -> Result<Command<'a>, Refusal>
-    ensures asked { GivesCommand
+    ensures command { ReturnsCommand
         (else_err (refusal.Method page.Draft) (of_draft draft body.now verb)) result }
-    ensures lent { IfOk result (HoldsText body.entry) }
+    ensures text { IfOk result (HoldsText body.entry) }
 {
     match verb {
         Verb::Get => Ok(Command::Draft(draft)),
@@ -142,9 +142,9 @@ fn of_draft<'a>(verb: Verb, draft: u32, body: &'a [u8]) -> Result<Command<'a>, R
 }
 
 fn of_draft_penalty<'a>(verb: Verb, draft: u32) -> Result<Command<'a>, Refusal>
-    ensures asked { GivesCommand
+    ensures command { ReturnsCommand
         (else_err (refusal.Method page.DraftPenalty) (by_get (draft_penalty draft) verb)) result }
-    ensures lent { (text : Bor (List ℕ)) → IfOk result (HoldsText text) }
+    ensures text { (text : Bor (List ℕ)) → IfOk result (HoldsText text) }
 {
     match verb {
         Verb::Get => Ok(Command::DraftPenalty(draft)),
@@ -153,10 +153,10 @@ fn of_draft_penalty<'a>(verb: Verb, draft: u32) -> Result<Command<'a>, Refusal>
 }
 
 fn of_draft_violations<'a>(verb: Verb, draft: u32) -> Result<Command<'a>, Refusal>
-    ensures asked { GivesCommand
+    ensures command { ReturnsCommand
         (else_err (refusal.Method page.DraftViolations) (by_get (draft_violations draft) verb))
         result }
-    ensures lent { (text : Bor (List ℕ)) → IfOk result (HoldsText text) }
+    ensures text { (text : Bor (List ℕ)) → IfOk result (HoldsText text) }
 {
     match verb {
         Verb::Get => Ok(Command::DraftViolations(draft)),
@@ -171,9 +171,9 @@ fn of_place<'a>(
     exam: ExamNo,
     body: &[u8],
 ) -> Result<Command<'a>, Refusal>
-    ensures asked { GivesCommand (else_err (refusal.Method page.Place)
+    ensures command { ReturnsCommand (else_err (refusal.Method page.Place)
         (by_post (place draft exam (place_body body.now)) verb)) result }
-    ensures lent { (text : Bor (List ℕ)) → IfOk result (HoldsText text) }
+    ensures text { (text : Bor (List ℕ)) → IfOk result (HoldsText text) }
 {
     match verb {
         Verb::Post => match place_body(alloc, body) {
@@ -191,9 +191,9 @@ fn of_move<'a>(
     exam: ExamNo,
     body: &[u8],
 ) -> Result<Command<'a>, Refusal>
-    ensures asked { GivesCommand (else_err (refusal.Method page.Move)
+    ensures command { ReturnsCommand (else_err (refusal.Method page.Move)
         (by_post (move draft exam (place_body body.now)) verb)) result }
-    ensures lent { (text : Bor (List ℕ)) → IfOk result (HoldsText text) }
+    ensures text { (text : Bor (List ℕ)) → IfOk result (HoldsText text) }
 {
     match verb {
         Verb::Post => match place_body(alloc, body) {
@@ -205,9 +205,9 @@ fn of_move<'a>(
 }
 
 fn of_slot<'a>(verb: Verb, draft: u32, exam: ExamNo) -> Result<Command<'a>, Refusal>
-    ensures asked { GivesCommand
+    ensures command { ReturnsCommand
         (else_err (refusal.Method page.Slot) (by_delete (clear draft exam) verb)) result }
-    ensures lent { (text : Bor (List ℕ)) → IfOk result (HoldsText text) }
+    ensures text { (text : Bor (List ℕ)) → IfOk result (HoldsText text) }
 {
     match verb {
         Verb::Delete => Ok(Command::Clear(draft, exam)),
@@ -221,9 +221,9 @@ fn of_swap<'a>(
     first: ExamNo,
     second: ExamNo,
 ) -> Result<Command<'a>, Refusal>
-    ensures asked { GivesCommand
+    ensures command { ReturnsCommand
         (else_err (refusal.Method page.Swap) (by_post (swap draft first second) verb)) result }
-    ensures lent { (text : Bor (List ℕ)) → IfOk result (HoldsText text) }
+    ensures text { (text : Bor (List ℕ)) → IfOk result (HoldsText text) }
 {
     match verb {
         Verb::Post => Ok(Command::Swap(draft, first, second)),
@@ -232,9 +232,9 @@ fn of_swap<'a>(
 }
 
 fn of_publish<'a>(verb: Verb, draft: u32) -> Result<Command<'a>, Refusal>
-    ensures asked { GivesCommand
+    ensures command { ReturnsCommand
         (else_err (refusal.Method page.Publish) (by_post (publish draft) verb)) result }
-    ensures lent { (text : Bor (List ℕ)) → IfOk result (HoldsText text) }
+    ensures text { (text : Bor (List ℕ)) → IfOk result (HoldsText text) }
 {
     match verb {
         Verb::Post => Ok(Command::Publish(draft)),
@@ -243,9 +243,9 @@ fn of_publish<'a>(verb: Verb, draft: u32) -> Result<Command<'a>, Refusal>
 }
 
 fn of_publication<'a>(verb: Verb) -> Result<Command<'a>, Refusal>
-    ensures asked { GivesCommand
+    ensures command { ReturnsCommand
         (else_err (refusal.Method page.Publication) (by_get publication verb)) result }
-    ensures lent { (text : Bor (List ℕ)) → IfOk result (HoldsText text) }
+    ensures text { (text : Bor (List ℕ)) → IfOk result (HoldsText text) }
 {
     match verb {
         Verb::Get => Ok(Command::Publication),
@@ -254,10 +254,10 @@ fn of_publication<'a>(verb: Verb) -> Result<Command<'a>, Refusal>
 }
 
 fn of_publication_penalty<'a>(verb: Verb) -> Result<Command<'a>, Refusal>
-    ensures asked { GivesCommand
+    ensures command { ReturnsCommand
         (else_err (refusal.Method page.PublicationPenalty) (by_get publication_penalty verb))
         result }
-    ensures lent { (text : Bor (List ℕ)) → IfOk result (HoldsText text) }
+    ensures text { (text : Bor (List ℕ)) → IfOk result (HoldsText text) }
 {
     match verb {
         Verb::Get => Ok(Command::PublicationPenalty),
@@ -266,9 +266,9 @@ fn of_publication_penalty<'a>(verb: Verb) -> Result<Command<'a>, Refusal>
 }
 
 fn of_publication_rooms<'a>(verb: Verb) -> Result<Command<'a>, Refusal>
-    ensures asked { GivesCommand
+    ensures command { ReturnsCommand
         (else_err (refusal.Method page.PublicationRooms) (by_get publication_rooms verb)) result }
-    ensures lent { (text : Bor (List ℕ)) → IfOk result (HoldsText text) }
+    ensures text { (text : Bor (List ℕ)) → IfOk result (HoldsText text) }
 {
     match verb {
         Verb::Get => Ok(Command::PublicationRooms),
@@ -277,9 +277,9 @@ fn of_publication_rooms<'a>(verb: Verb) -> Result<Command<'a>, Refusal>
 }
 
 fn of_publication_seats<'a>(verb: Verb) -> Result<Command<'a>, Refusal>
-    ensures asked { GivesCommand
+    ensures command { ReturnsCommand
         (else_err (refusal.Method page.PublicationSeats) (by_get publication_seats verb)) result }
-    ensures lent { (text : Bor (List ℕ)) → IfOk result (HoldsText text) }
+    ensures text { (text : Bor (List ℕ)) → IfOk result (HoldsText text) }
 {
     match verb {
         Verb::Get => Ok(Command::PublicationSeats),
@@ -288,9 +288,9 @@ fn of_publication_seats<'a>(verb: Verb) -> Result<Command<'a>, Refusal>
 }
 
 fn of_batch<'a>(verb: Verb, number: u32, body: &'a [u8]) -> Result<Command<'a>, Refusal>
-    ensures asked { GivesCommand (else_err (refusal.Method page.Batch)
+    ensures command { ReturnsCommand (else_err (refusal.Method page.Batch)
         (by_put (batch number (text_body body.now)) verb)) result }
-    ensures lent { IfOk result (HoldsText body.entry) }
+    ensures text { IfOk result (HoldsText body.entry) }
 {
     match verb {
         Verb::Put => Ok(Command::Batch(number, text_body(body))),

@@ -5,7 +5,7 @@ ghost use Rattle.office_policy.specs.declared.callers.Caller.{Caller};
 ghost use Rattle.office_requests.specs.Methods.{verb_of, allow_of, is_listed};
 ghost use Rattle.office_requests.specs.Pages.{page_of};
 ghost use Rattle.office_requests.specs.Printing.{path_of, method_of};
-ghost use Rattle.office_requests.specs.PrintedBodies.{SaysBody, ComesWith};
+ghost use Rattle.office_requests.specs.PrintedBodies.{BodyHasValue, MaySendCommand};
 ghost use Rattle.office_requests.specs.Requests.{caller_in, staff_command, reading};
 ghost use Rattle.office_requests.specs.declared.pages.Page.{Page};
 ghost use Rattle.office_requests.specs.declared.requests.Refusal.TheVariants as refusal;
@@ -27,7 +27,8 @@ pub fn allow_lists_the_methods()
 /// command, for a candidate their own three pages.
 pub fn commands_are_read_back()
     ensures { (value : Option (List ℕ)) (who : Caller) (c : PlainCommand) (body : List ℕ)
-        → caller_in value ≡ Some who → ComesWith who c → HasSmallNumbers c → SaysBody body c
+        → caller_in value ≡ Some who → MaySendCommand who c → HasSmallNumbers c
+        → BodyHasValue body c
         → reading (method_of c) (path_of c) value body
         ≡ Ok (record { caller = who; command = c }) }
 {}

@@ -19,6 +19,6 @@ pub use office_messages::{
     drain, fault_reply, fixed_reply, serve, unavailable,
 };
 pub use pages::Page;
-pub use requests::{Asked, Refusal, read_request};
+pub use requests::{CallerCommand, Refusal, read_request};
 pub use routes::{Routes, one_page};
 pub use texts::FixedError;

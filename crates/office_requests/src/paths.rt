@@ -1,6 +1,6 @@
 // The segments of a path.
 ghost use Rattle.std.specs.Prelude.{◌≡◌, Some, None, IfOk, IfErr};
-ghost use Rattle.office_requests.specs.Paths.{first_segment, behind_slash, segment, number_in};
+ghost use Rattle.office_requests.specs.Paths.{first_segment, rest_after_slash, segment, number_in};
 ghost use Rattle.office_requests.specs.declared.requests.Refusal.TheVariants as refusal;
 
 use crate::requests::Refusal;
@@ -44,7 +44,7 @@ fn segment(path: &[u8], place: u32) -> &[u8]
 #[tactic(auto, using(crate::proofs::PathLemmas::slash_facts))]
 fn cut(path: &[u8]) -> (&[u8], &[u8])
     ensures first { result.0.now ≡ first_segment path.now }
-    ensures behind { result.1.now ≡ behind_slash path.now }
+    ensures rest { result.1.now ≡ rest_after_slash path.now }
 {
     for (i, byte) in path.iter().enumerate() {
         if *byte == SLASH {

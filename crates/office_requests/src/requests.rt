@@ -5,9 +5,9 @@ ghost use Rattle.office_messages.specs.Reply.{plain_reply};
 ghost use Rattle.office_policy.specs.CommandBodies.{HoldsText};
 ghost use Rattle.office_policy.specs.Commands.{plain_command, HasSmallNumbers};
 ghost use Rattle.office_requests.specs.Methods.{verb_of};
-ghost use Rattle.office_requests.specs.Requests.{caller_in, her_page, her_command};
-ghost use Rattle.office_requests.specs.Requests.{staff_command, asked_by, reading};
-ghost use Rattle.office_requests.specs.Answering.{GivesAsked, GivesCommand};
+ghost use Rattle.office_requests.specs.Requests.{caller_in, own_page_command, own_command};
+ghost use Rattle.office_requests.specs.Requests.{staff_command, command_by, reading};
+ghost use Rattle.office_requests.specs.Answering.{ReturnsCallerCommand, ReturnsCommand};
 ghost use Rattle.office_requests.specs.Answering.{not_allowed, refusal_reply};
 
 use crate::commands::command_at;
@@ -22,7 +22,7 @@ use std::alloc::Global;
 
 /// The caller and the command.
 #[derive(Clone, Copy)]
-pub struct Asked<'a> {
+pub struct CallerCommand<'a> {
     pub caller: Caller,
     pub command: Command<'a>,
 }
@@ -74,17 +74,17 @@ pub fn read_request<'a>(
     alloc: Global,
     routes: &Routes,
     request: &Request<'a>,
-) -> Result<Asked<'a>, Refusal>
-    ensures asked { GivesAsked (reading request.now.method.now request.now.target.now
+) -> Result<CallerCommand<'a>, Refusal>
+    ensures command { ReturnsCallerCommand (reading request.now.method.now request.now.target.now
         (option_copied request.now.caller) request.now.body.now) result }
     ensures within { IfOk result (λ asked. HasSmallNumbers (plain_command asked.command)) }
-    ensures lent { IfOk result (λ asked. HoldsText request.now.body asked.command) }
+    ensures text { IfOk result (λ asked. HoldsText request.now.body asked.command) }
 {
     let Some(caller) = caller_in(request.caller) else {
         return Err(Refusal::Caller);
     };
-    match asked_by(alloc, routes, &caller, request) {
-        Ok(command) => Ok(Asked { caller, command }),
+    match command_by(alloc, routes, &caller, request) {
+        Ok(command) => Ok(CallerCommand { caller, command }),
         Err(refusal) => Err(refusal),
     }
 }
@@ -96,19 +96,19 @@ fn caller_in(value: Option<&[u8]>) -> Option<Caller>
 }
 
 // Returns the command of that caller. A candidate may only ask for their own pages.
-fn asked_by<'a>(
+fn command_by<'a>(
     alloc: Global,
     routes: &Routes,
     caller: &Caller,
     request: &Request<'a>,
 ) -> Result<Command<'a>, Refusal>
-    ensures asked { GivesCommand (asked_by caller.now (verb_of request.now.method.now)
+    ensures command { ReturnsCommand (command_by caller.now (verb_of request.now.method.now)
         request.now.target.now request.now.body.now) result }
-    ensures lent { IfOk result (HoldsText request.now.body) }
+    ensures text { IfOk result (HoldsText request.now.body) }
 {
     let verb = Verb::read(request.method);
     match caller {
-        Caller::Cand(_) => match her_command(routes, verb, request.target) {
+        Caller::Cand(_) => match own_command(routes, verb, request.target) {
             Some(command) => Ok(command),
             None => Err(Refusal::Candidate),
         },
@@ -116,19 +116,19 @@ fn asked_by<'a>(
     }
 }
 
-fn her_command<'a>(routes: &Routes, verb: Verb, target: &str) -> Option<Command<'a>>
-    ensures command { option_map plain_command result ≡ her_command verb target.now }
-    ensures lent { (text : Bor (List ℕ)) → IfSome result (HoldsText text) }
+fn own_command<'a>(routes: &Routes, verb: Verb, target: &str) -> Option<Command<'a>>
+    ensures command { option_map plain_command result ≡ own_command verb target.now }
+    ensures text { (text : Bor (List ℕ)) → IfSome result (HoldsText text) }
 {
     match verb {
-        Verb::Get => her_page(routes.page(target)?, target.as_bytes()),
+        Verb::Get => own_page_command(routes.page(target)?, target.as_bytes()),
         _ => None,
     }
 }
 
-fn her_page<'a>(page: Page, path: &[u8]) -> Option<Command<'a>>
-    ensures command { option_map plain_command result ≡ her_page page path.now }
-    ensures lent { (text : Bor (List ℕ)) → IfSome result (HoldsText text) }
+fn own_page_command<'a>(page: Page, path: &[u8]) -> Option<Command<'a>>
+    ensures command { option_map plain_command result ≡ own_page_command page path.now }
+    ensures text { (text : Bor (List ℕ)) → IfSome result (HoldsText text) }
 {
     match page {
         Page::Me => Some(Command::Me),
@@ -146,8 +146,8 @@ fn staff_command<'a>(
     target: &str,
     body: &'a [u8],
 ) -> Result<Command<'a>, Refusal>
-    ensures asked { GivesCommand (staff_command verb target.now body.now) result }
-    ensures lent { IfOk result (HoldsText body.entry) }
+    ensures command { ReturnsCommand (staff_command verb target.now body.now) result }
+    ensures text { IfOk result (HoldsText body.entry) }
 {
     let Some(page) = routes.page(target) else {
         return Err(Refusal::Path);

@@ -1,6 +1,6 @@
 use Rattle.std.proofs.Common.{refl, inr}
 use Rattle.office_messages.specs.Reply.{plain_reply}
-use Rattle.office_requests.specs.Requests.{plain_asked}
+use Rattle.office_requests.specs.Requests.{plain_caller_command}
 use Rattle.office_desk.specs.Answers.{plain_answer}
 use Rattle.office_model.specs.Answers.{unavailable}
 use Rattle.office_http.proofs.AnswerLemmas.{replied}
@@ -16,7 +16,8 @@ returns-clause-step g c =
     λ clean office now.
     let ran = c.run-answer.ensures.runs clean office now in (
       ran.0,
-      replied (plain_asked c.args.asked.now) office ran.0 (plain_answer c.run-answer.result)
+      replied (plain_caller_command c.args.asked.now) office ran.0
+          (plain_answer c.run-answer.result)
           (plain_reply c.answer_reply.result) ran.1 c.answer_reply.ensures,
       ran.2,
     )

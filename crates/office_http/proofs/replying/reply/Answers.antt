@@ -2,7 +2,7 @@ use Rattle.std.proofs.Common.{option_copied, subst, sym}
 use Rattle.office_messages.specs.Heads.{plain_request}
 use Rattle.office_messages.specs.Reply.{PlainReply, plain_reply}
 use Rattle.office_requests.specs.Requests.{reading}
-use Rattle.office_requests.specs.Answering.{GivesAsked}
+use Rattle.office_requests.specs.Answering.{ReturnsCallerCommand}
 use Rattle.office_http.specs.Replying.{RepliesTo}
 use Rattle.office_http.proofs.AnswerLemmas.{refused}
 use Rattle.office_http.proofs.CandidateLemmas.{tells}
@@ -23,7 +23,7 @@ returns-in-Err-clause-answered g c =
         office,
         subst (λ (r : PlainReply). RepliesTo said office r office) (sym c.reply.ensures)
             (refused said c.in-Err.refusal office
-            (subst (λ r. GivesAsked said r) c.in-Err.is c.read_request.ensures.asked)),
+            (subst (λ r. ReturnsCallerCommand said r) c.in-Err.is c.read_request.ensures.command)),
         now,
       );
     }
@@ -36,7 +36,7 @@ returns-in-Err-clause-view g c = λ clean office now.
     tells office office (plain_request request) (plain_reply c.reply.result)
     (subst (λ (r : PlainReply). RepliesTo said office r office) (sym c.reply.ensures)
     (refused said c.in-Err.refusal office
-    (subst (λ r. GivesAsked said r) c.in-Err.is c.read_request.ensures.asked)))
+    (subst (λ r. ReturnsCallerCommand said r) c.in-Err.is c.read_request.ensures.command)))
 
 pub returns-in-Ok-clause-view : goal.returns-in-Ok-clause-view
 returns-in-Ok-clause-view g c = λ clean office now.
@@ -44,6 +44,6 @@ returns-in-Ok-clause-view g c = λ clean office now.
     let request = c.args.request.now in
     tells office step.0 (plain_request request) (plain_reply c.asked_reply.result)
     (subst (λ asked. RepliesTo asked office (plain_reply c.asked_reply.result) step.0)
-    (sym (subst (λ r. GivesAsked (reading request.method.now request.target.now
-    (option_copied request.caller) request.body.now) r) c.in-Ok.is c.read_request.ensures.asked))
+    (sym (subst (λ r. ReturnsCallerCommand (reading request.method.now request.target.now
+    (option_copied request.caller) request.body.now) r) c.in-Ok.is c.read_request.ensures.command))
     step.1)
