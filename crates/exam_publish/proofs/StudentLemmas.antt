@@ -287,10 +287,10 @@ later_exams r (q ∷ qs) s same a = go (eqb q.student s) refl (later_exams r qs 
     go true is more = (greater (eqb-true q.student s is), more)
     go false is more = more
 
-her_exams : (rows : List SeatRow) (s : ℕ) → IsChain RowBefore rows
+candidate_exams : (rows : List SeatRow) (s : ℕ) → IsChain RowBefore rows
     → IsChain (λ x y. x < y) (map (λ row. row.exam) (rows_of s rows))
-her_exams [] s h = tt
-her_exams (r ∷ rs) s h = go (eqb r.student s) refl (her_exams rs s h.1)
+candidate_exams [] s h = tt
+candidate_exams (r ∷ rs) s h = go (eqb r.student s) refl (candidate_exams rs s h.1)
   where
     go : (b : Bool) → eqb r.student s ≡ b
         → IsChain (λ x y. x < y) (map (λ row. row.exam) (rows_of s rs))
@@ -305,7 +305,7 @@ few_rows I rows T s are few =
     let all = each_filter (λ row. row.exam < length I.exams) (λ row. eqb row.student s) rows
     (rows_exist I rows T are) in
     let bound = bounded 0 (length I.exams) exams (omega arith)
-    (her_exams rows s (chain_from_index RowBefore rows are.in_order)) (each_low exams)
+    (candidate_exams rows s (chain_from_index RowBefore rows are.in_order)) (each_low exams)
     (to_exams (rows_of s rows) all) in
     omega (arith, length-map (rows_of s rows) (λ (row : SeatRow). row.exam))
   where

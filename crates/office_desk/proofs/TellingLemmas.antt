@@ -11,11 +11,11 @@ use Rattle.office_policy.specs.declared.callers.Caller.TheVariants.{Cand, Dept}
 use Rattle.office_policy.specs.declared.callers.Caller.TheVariants as caller
 use Rattle.office_model.specs.Answers.{PlainAnswer, my_cost, refused, text, unavailable}
 use Rattle.office_model.specs.Candidates as candidates
-use Rattle.office_model.specs.Candidates.{Asked}
-use Rattle.office_model.specs.Commands.{Gives}
+use Rattle.office_model.specs.Candidates.{CandidateQuestion}
+use Rattle.office_model.specs.Commands.{CommandResult}
 use Rattle.office_model.specs.DraftCommands.{draft_shown}
 use Rattle.office_model.specs.Office.{OfficeState, Publication}
-use Rattle.office_model.specs.Step.{of_published, outcome, told_to}
+use Rattle.office_model.specs.Step.{of_published, outcome, candidate_outcome}
 use Rattle.office_model.specs.Shown.{ShownView, shown_to}
 use Rattle.office_model.specs.Views.{view_of}
 use Rattle.office_model.specs.declared.views.ViewRow.{ViewRow}
@@ -33,7 +33,7 @@ use Rattle.office_desk.specs.Answers.{IsRefusal, plain_answer}
 use Rattle.office_desk.specs.declared.answer.Answer.{Answer}
 
 -- an `Ok` of a call becomes the command's answer
-pub given_told : {A : Type 0} (says : A → PlainAnswer) (old : OfficeState) (gives : Gives A)
+pub given_told : {A : Type 0} (says : A → PlainAnswer) (old : OfficeState) (gives : CommandResult A)
     (Stays : OfficeState → Type 0) (x : A) (told : PlainAnswer)
     → Does gives old Stays (Ok x) → told ≡ says x
     → AnswersOutcome (outcome says old gives) old Stays told
@@ -45,7 +45,8 @@ given_told says old gives Stays x told does same =
     )
 
 -- a refusal of the command becomes its answer
-pub refusal_told : {A : Type 0} (says : A → PlainAnswer) (old : OfficeState) (gives : Gives A)
+pub refusal_told : {A : Type 0} (says : A → PlainAnswer) (old : OfficeState)
+    (gives : CommandResult A)
     (Stays : OfficeState → Type 0) (f : StoreFault) (told : PlainAnswer)
     → gives ≡ Err f → Stays old → told ≡ refused f
     → AnswersOutcome (outcome says old gives) old Stays told
@@ -56,7 +57,7 @@ refusal_told says old gives Stays f told is stays same =
     )
 
 -- any fault of a call becomes an answer
-pub fault_told : {A : Type 0} (says : A → PlainAnswer) (old : OfficeState) (gives : Gives A)
+pub fault_told : {A : Type 0} (says : A → PlainAnswer) (old : OfficeState) (gives : CommandResult A)
     (Stays : OfficeState → Type 0) (f : StoreFault) (told : PlainAnswer)
     → Does gives old Stays (Err f) → told ≡ refusal f
     → AnswersOutcome (outcome says old gives) old Stays told
@@ -71,7 +72,7 @@ priced_as_shown : (says : Penalty → PlainAnswer) (d : ℕ) (office : OfficeSta
     ≡ outcome (λ found. says found.1) office (draft_shown d office)
 priced_as_shown says d office = go (draft_shown d office)
   where
-    go : (shown : Gives (Placing × Penalty))
+    go : (shown : CommandResult (Placing × Penalty))
         → outcome says office (shown >>= (λ found. Ok (found.0.1, found.1)))
         ≡ outcome (λ found. says found.1) office shown
     go (Ok given) = refl
@@ -128,11 +129,13 @@ body_refused body answer (inr long) = subst IsRefusal (sym long.1) tt
 -- ---- candidates
 
 -- an answer made from the candidate's view is the answer to the candidate
-pub view_told : (who : Caller) (asked : Asked) (says : ShownView → PlainAnswer) (old : OfficeState)
+pub view_told : (who : Caller) (asked : CandidateQuestion) (says : ShownView → PlainAnswer)
+    (old : OfficeState)
     (Stays : OfficeState → Type 0) (view : ShownView) (told : PlainAnswer)
-    → ((s : ℕ) → says (shown_to s (view_of s old)) ≡ candidates.told s asked (view_of s old))
+    → ((s : ℕ) → says (shown_to s (view_of s old))
+    ≡ candidates.candidate_answer s asked (view_of s old))
     → AnswersView who old Stays (Ok view) → told ≡ says view
-    → AnswersOutcome (told_to who asked old) old Stays told
+    → AnswersOutcome (candidate_outcome who asked old) old Stays told
 view_told caller.Office asked says old Stays view told same shows is = absurd shows
 view_told (Dept d) asked says old Stays view told same shows is = absurd shows
 view_told (Cand s) asked says old Stays view told same shows is =
@@ -142,7 +145,7 @@ view_told (Cand s) asked says old Stays view told same shows is =
 pub her_exam_told : (who : Caller) (exam : ℕ) (old : OfficeState) (Stays : OfficeState → Type 0)
     (found : Option ViewRow) (told : PlainAnswer) → AnswersExam who exam old Stays (Ok found)
     → told ≡ candidates.exam_answer found
-    → AnswersOutcome (told_to who (candidates.one exam) old) old Stays told
+    → AnswersOutcome (candidate_outcome who (candidates.one exam) old) old Stays told
 her_exam_told caller.Office exam old Stays found told shows is = absurd shows
 her_exam_told (Dept d) exam old Stays found told shows is = absurd shows
 her_exam_told (Cand s) exam old Stays found told shows is =
@@ -152,7 +155,7 @@ her_exam_told (Cand s) exam old Stays found told shows is =
 pub her_penalty_told : (who : Caller) (old : OfficeState) (Stays : OfficeState → Type 0)
     (penalty : PersonalPenalty) (told : PlainAnswer) → AnswersPenalty who old Stays (Ok penalty)
     → told ≡ my_cost penalty
-    → AnswersOutcome (told_to who candidates.cost old) old Stays told
+    → AnswersOutcome (candidate_outcome who candidates.cost old) old Stays told
 her_penalty_told caller.Office old Stays penalty told shows is = absurd shows
 her_penalty_told (Dept d) old Stays penalty told shows is = absurd shows
 her_penalty_told (Cand s) old Stays penalty told shows is =

@@ -14,8 +14,8 @@ use Rattle.exam_model.specs.declared.change.Change.{Change}
 use Rattle.exam_draft.specs.declared.fault.EditFault.TheVariants.{NoSuch}
 use Rattle.office_files.specs.declared.fault.FileFault.{FileFault}
 use Rattle.office_model.specs.BatchLines.{enrolled, no_counts}
-use Rattle.office_model.specs.Batches.{enrolled_by, kept_under, newly_enrolled, same_bytes}
-use Rattle.office_model.specs.Commands.{Gives, named, when_loaded}
+use Rattle.office_model.specs.Batches.{enrolled_by, batch_numbered, newly_enrolled, same_bytes}
+use Rattle.office_model.specs.Commands.{CommandResult, named, records_or_refusal}
 use Rattle.office_model.specs.Office.{AreEnrolled, AreKept, AreRecords, IsKeptBatch, IsOffice, KeptBatch, OfficeState, Records}
 use Rattle.office_model.specs.declared.counts.Counts.{Counts}
 use Rattle.office_model.specs.declared.fault.Refusal.TheVariants as refusal
@@ -35,7 +35,7 @@ pub as_office : (number : ℕ) (bytes : List ℕ) (changes : List Change) (r : R
     ≡ batch_judged number bytes changes r
 as_office number bytes changes r exams =
     let E : Enrolled = r.enrolments in
-    let keep : Counts × Enrolled → Gives Counts = batch_kept number bytes r in
+    let keep : Counts × Enrolled → CommandResult Counts = batch_kept number bytes r in
     let exist : ℕ → Bool = λ (n : ℕ). list_all (λ (c : Change). nat_lt c.exam n) changes in
     let fault : StoreFault = Refused (refusal.Edit NoSuch) in
     let first : (b : Bool) → (unless b fault >>= λ _. enrolled changes E no_counts >>= keep)
@@ -77,12 +77,12 @@ fits_after I changes E T done is fits = record {
 
 -- ---- the batches
 
-other_numbers : (number : ℕ) (batches : List KeptBatch) → kept_under number batches ≡ None
+other_numbers : (number : ℕ) (batches : List KeptBatch) → batch_numbered number batches ≡ None
     → AllByRecursion (λ (b : KeptBatch). number ≢ b.no) batches
 other_numbers number [] none = tt
 other_numbers number (b ∷ bs) none =
     elim (b.no == number) as (λ t. (b.no == number) ≡ t
-    → (if t then Some b else kept_under number bs) ≡ None
+    → (if t then Some b else batch_numbered number bs) ≡ None
     → AllByRecursion (λ (a : KeptBatch). number ≢ a.no) (b ∷ bs)) [
       | true ↦ λ same some. absurd (cc some)
       | false ↦ λ apart later.
@@ -90,7 +90,7 @@ other_numbers number (b ∷ bs) none =
     ] refl none
 
 one_more_kept : (batch : KeptBatch) (batches : List KeptBatch) → IsKeptBatch batch
-    → length batches < 10000 → kept_under batch.no batches ≡ None → AreKept batches
+    → length batches < 10000 → batch_numbered batch.no batches ≡ None → AreKept batches
     → AreKept (batch ∷ batches)
 one_more_kept batch batches is room new were = record {
   few = omega arith;
@@ -105,7 +105,7 @@ one_more_kept batch batches is room new were = record {
 module _ (number : ℕ) (bytes : List ℕ) (small : number ≤ 999999999)
     (short : length bytes ≤ 1048576) where
   records_after : (changes : List Change) (r : Records) (done : Counts × Enrolled)
-      → HaveNumbers changes → kept_under number r.batches ≡ None → length r.batches < 10000
+      → HaveNumbers changes → batch_numbered number r.batches ≡ None → length r.batches < 10000
       → after_batch changes r.enrolments ≡ Ok done → AreRecords r
       → AreRecords (records_with_batch number bytes r done)
   records_after changes r done known new room is were =
@@ -124,7 +124,7 @@ module _ (number : ℕ) (bytes : List ℕ) (small : number ≤ 999999999)
 
   kept_after : (changes : List Change) (r : Records) (done : Counts × Enrolled)
       (counts : Counts) (new : OfficeState)
-      → HaveNumbers changes → kept_under number r.batches ≡ None
+      → HaveNumbers changes → batch_numbered number r.batches ≡ None
       → after_batch changes r.enrolments ≡ Ok done → AreRecords r
       → batch_kept number bytes r done ≡ Ok (counts, new) → IsOffice new
   kept_after changes r done counts new known none is were keeps =
@@ -142,14 +142,14 @@ module _ (number : ℕ) (bytes : List ℕ) (small : number ≤ 999999999)
 
   new_after : (changes : List Change) (r : Records) (counts : Counts) (new : OfficeState)
       (judged : Result (Counts × Enrolled) StoreFault) → HaveNumbers changes
-      → kept_under number r.batches ≡ None → after_batch changes r.enrolments ≡ judged
+      → batch_numbered number r.batches ≡ None → after_batch changes r.enrolments ≡ judged
       → AreRecords r → (judged >>= batch_kept number bytes r) ≡ Ok (counts, new) → IsOffice new
   new_after changes r counts new (Err fault) known none is were gives = absurd (cc gives)
   new_after changes r counts new (Ok done) known none is were gives =
       kept_after changes r done counts new known none is were gives
 
   loaded_after : (changes : List Change) (r : Records) (counts : Counts) (new : OfficeState)
-      (kept : Option KeptBatch) → HaveNumbers changes → kept_under number r.batches ≡ kept
+      (kept : Option KeptBatch) → HaveNumbers changes → batch_numbered number r.batches ≡ kept
       → AreRecords r → enrolled_by kept number bytes changes r ≡ Ok (counts, new) → IsOffice new
   loaded_after changes r counts new None known none were gives =
       new_after changes r counts new (after_batch changes r.enrolments) known none refl were
@@ -170,12 +170,12 @@ pub office_after : (number : ℕ) (bytes : List ℕ) (read : Result (List Change
     (old new : OfficeState) (counts : Counts) → number ≤ 999999999
     → ((changes : List Change) → read ≡ Ok changes → (length bytes ≤ 1048576) × HaveNumbers changes)
     → IsOffice old
-    → (named (λ f. Refused (refusal.File f)) read >>= λ changes. when_loaded old >>= λ r.
-    enrolled_by (kept_under number r.batches) number bytes changes r) ≡ Ok (counts, new)
+    → (named (λ f. Refused (refusal.File f)) read >>= λ changes. records_or_refusal old >>= λ r.
+    enrolled_by (batch_numbered number r.batches) number bytes changes r) ≡ Ok (counts, new)
     → IsOffice new
 office_after number bytes (Err fault) old new counts small told was gives = absurd (cc gives)
 office_after number bytes (Ok changes) None new counts small told was gives = absurd (cc gives)
 office_after number bytes (Ok changes) (Some r) new counts small told was gives =
     let both = told changes refl in
-    loaded_after number bytes small both.0 changes r counts new (kept_under number r.batches)
+    loaded_after number bytes small both.0 changes r counts new (batch_numbered number r.batches)
     both.1 refl was gives

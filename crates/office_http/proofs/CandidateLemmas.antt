@@ -13,7 +13,7 @@ use Rattle.office_requests.specs.declared.requests.Refusal.TheVariants as refusa
 use Rattle.office_model.specs.Office.{OfficeState}
 use Rattle.office_model.specs.Step.{Outcome}
 use Rattle.office_model.specs.Views.{view_of}
-use Rattle.office_model.proofs.ToldLemmas.{told}
+use Rattle.office_model.proofs.ToldLemmas.{candidate_answer}
 use Rattle.office_replies.specs.Replies.{reply_to}
 use Rattle.office_http.specs.Replying.{Replies, RepliesTo, TellsCandidate, her_text}
 
@@ -43,7 +43,8 @@ told_by : (s : ℕ) (command : Option PlainCommand) (old new : OfficeState) (rep
     → (reply ≡ her_text s command (view_of s old)) ⊎ (reply ≡ unavailable)
 told_by s None old new reply h = inl h.1
 told_by s (Some command) old new reply (answer, step, is) = elim step [
-  | inl same ↦ inl (is ∙ ap reply_to (ap (λ (o : Outcome). o.1) (same ∙ told s old command)))
+  | inl same ↦ inl (is ∙ ap reply_to (ap (λ (o : Outcome). o.1)
+      (same ∙ candidate_answer s old command)))
   | inr h ↦ inr (is ∙ ap reply_to h.1)
 ]
 

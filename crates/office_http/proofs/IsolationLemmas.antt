@@ -43,7 +43,8 @@ stays_by : (s : ℕ) (command : Option PlainCommand) (old new : OfficeState) (re
     → RepliesTo (said_by s command) old reply new → new ≡ old
 stays_by s None old new reply h = h.0
 stays_by s (Some command) old new reply (answer, step, is) = elim step [
-  | inl same ↦ ap (λ (o : Outcome). o.0) same ∙ ap (λ (o : Outcome). o.0) (model.told s old command)
+  | inl same ↦ ap (λ (o : Outcome). o.0) same
+      ∙ ap (λ (o : Outcome). o.0) (model.candidate_answer s old command)
   | inr h ↦ h.0
 ]
 

@@ -27,7 +27,7 @@ pub fn unavailable_changes_nothing()
 ///
 /// A candidate's pages say nothing about others' enrolments, seats, exams or drafts. Whether a
 /// reply is a 503, and how long it takes, may depend on anything.
-pub fn told_by_view()
+pub fn reply_by_view()
     ensures view { (office next : OfficeState) (request : PlainRequest) (reply : PlainReply)
         → Replies office request reply next → TellsCandidate office request reply }
     ensures stays { (s : ℕ) (office next : OfficeState) (request : PlainRequest)

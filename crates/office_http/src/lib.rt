@@ -9,8 +9,8 @@ mod two_offices;
 
 pub use laws::{
     each_client_told_by_view, each_told_by_view, quiet_clients, quiet_message, quiet_messages,
-    same_changes_same_view, same_view_same_bytes, same_view_same_clients, same_view_same_output,
-    same_view_same_replies, told_by_view, unavailable_changes_nothing,
+    reply_by_view, same_changes_same_view, same_view_same_bytes, same_view_same_clients,
+    same_view_same_output, same_view_same_replies, unavailable_changes_nothing,
 };
 pub use office_desk::{
     Desk, Loaded, Office, Refusal, StoreFault, penalty_report, rooms_report, violation_report,

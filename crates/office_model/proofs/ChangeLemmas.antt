@@ -9,7 +9,7 @@ use Rattle.office_policy.specs.declared.command.Body.TheVariants.{Given}
 use Rattle.office_policy.specs.declared.policy.Denial.{Denial}
 use Rattle.office_model.specs.Answers.{PlainAnswer, now_enrolled}
 use Rattle.office_model.specs.Batches.{batch_enrolled, changes_to, lines_if_new, kept_in}
-use Rattle.office_model.specs.Commands.{Gives}
+use Rattle.office_model.specs.Commands.{CommandResult}
 use Rattle.office_model.specs.Loading.{loaded}
 use Rattle.office_model.specs.Office.{OfficeState}
 use Rattle.office_model.specs.Publishing.{draft_published}
@@ -47,7 +47,7 @@ none_new : (s : ℕ) (old new : OfficeState) (b : Bool) → FollowsIn s [] old n
 none_new s old new true h = h
 none_new s old new false h = h
 
-batch_outcome : (s number : ℕ) (old : OfficeState) (lines : List Change) (g : Gives Counts)
+batch_outcome : (s number : ℕ) (old : OfficeState) (lines : List Change) (g : CommandResult Counts)
     → IfOk g (λ x. FollowsIn s (changes_to s lines) old x.1)
     → FollowsIn s
     (changes_to s (if is_batch (outcome (now_enrolled number) old g).1 then lines else [])) old

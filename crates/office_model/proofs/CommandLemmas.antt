@@ -21,11 +21,11 @@ use Rattle.office_model.specs.declared.fault.StoreFault.TheVariants.{TooMany, Re
 use Rattle.office_model.specs.declared.fault.Refusal.TheVariants as refusal
 use Rattle.office_model.specs.Office.{OfficeState, Records, KeptBatch, set_at}
 use Rattle.office_model.specs.Views.{view_of, view_from}
-use Rattle.office_model.specs.Publishing.{rows_now}
-use Rattle.office_model.specs.Commands.{named, when_loaded, owned}
+use Rattle.office_model.specs.Publishing.{publication_rows}
+use Rattle.office_model.specs.Commands.{named, records_or_refusal, owned}
 use Rattle.office_model.specs.DraftCommands.{draft_made, draft_dropped, draft_edited, is_draft_number, first_timetable}
 use Rattle.office_model.specs.BatchLines.{after_change, enrolled, counted, no_counts}
-use Rattle.office_model.specs.Batches.{changes_to, newly_enrolled, enrolled_by, batch_enrolled, lines_if_new, kept_in, kept_under, same_bytes}
+use Rattle.office_model.specs.Batches.{changes_to, newly_enrolled, enrolled_by, batch_enrolled, lines_if_new, kept_in, batch_numbered, same_bytes}
 
 -- a fact about a judgement's result, if each part before it allows it
 pub bind : {A B F : Type 0} (P : A → Type 0) (m : Result B F) (f : B → Result A F)
@@ -96,7 +96,7 @@ keeps_view : (s : ℕ) (r : Records) (E : Enrolled) (batches : List KeptBatch)
     → exams_sat E s ≡ exams_sat r.enrolments s
     → view_of s (Some (record r { enrolments = E; batches = batches })) ≡ view_of s (Some r)
 keeps_view s r E batches h =
-    ap (λ exams. view_from r.session exams r.published (rows_of s (rows_now r.published))) h
+    ap (λ exams. view_from r.session exams r.published (rows_of s (publication_rows r.published))) h
 
 -- a new batch that names others doesn't change the candidate's view
 new_batch : (s number : ℕ) (bytes : List ℕ) (changes : List Change) (r : Records)
@@ -129,7 +129,7 @@ by_kept s number bytes r (Some kept) (Ok changes) h =
 pub no_session : {A : Type 0} (P : A → Type 0) (read : Result (List Change) FileFault)
     (f : List Change → Records → Result A StoreFault)
     → IfOk (named (λ f. Refused (refusal.File f)) read
-    >>= λ changes. when_loaded None >>= λ r. f changes r) P
+    >>= λ changes. records_or_refusal None >>= λ r. f changes r) P
 no_session P (Ok changes) f = tt
 no_session P (Err fault) f = tt
 
@@ -139,9 +139,9 @@ pub batch_keeps : (s number : ℕ) (bytes : List ℕ) (old : OfficeState)
     → IfOk (batch_enrolled number bytes old) (λ x. view_of s x.1 ≡ view_of s old)
 batch_keeps s number bytes None h =
     no_session _ (batch_in bytes)
-    (λ changes r. enrolled_by (kept_under number r.batches) number bytes changes r)
+    (λ changes r. enrolled_by (batch_numbered number r.batches) number bytes changes r)
 batch_keeps s number bytes (Some r) h =
-    by_kept s number bytes r (kept_under number r.batches) (batch_in bytes) h
+    by_kept s number bytes r (batch_numbered number r.batches) (batch_in bytes) h
 
 -- ---- commands that change only owners and drafts
 

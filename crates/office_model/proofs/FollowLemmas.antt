@@ -16,9 +16,9 @@ use Rattle.office_model.specs.declared.fault.StoreFault.TheVariants.{TooMany, Re
 use Rattle.office_model.specs.declared.fault.Refusal.TheVariants as refusal
 use Rattle.office_model.specs.Commands.{named}
 use Rattle.office_model.specs.BatchLines.{after_change, after_changes, enrolled, counted, no_counts}
-use Rattle.office_model.specs.Batches.{changes_to, newly_enrolled, enrolled_by, batch_enrolled, lines_if_new, kept_in, kept_under, same_bytes}
+use Rattle.office_model.specs.Batches.{changes_to, newly_enrolled, enrolled_by, batch_enrolled, lines_if_new, kept_in, batch_numbered, same_bytes}
 use Rattle.office_model.specs.Office.{OfficeState, Records, KeptBatch}
-use Rattle.office_model.specs.Publishing.{rows_now}
+use Rattle.office_model.specs.Publishing.{publication_rows}
 use Rattle.office_model.specs.Views.{view_of, view_from}
 use Rattle.office_model.proofs.CommandLemmas.{bind, bind_by, no_session}
 use Rattle.office_model.proofs.SameLemmas.{AreSame, same_self, same_sat, line_same, lines_same, other_same, same_then, lines_both}
@@ -100,9 +100,9 @@ pub batch_follows : (s number : ℕ) (bytes : List ℕ) (old : OfficeState)
     (λ x. FollowsIn s (changes_to s (lines_if_new (kept_in old number) (batch_in bytes))) old x.1)
 batch_follows s number bytes None =
     no_session _ (batch_in bytes)
-    (λ changes r. enrolled_by (kept_under number r.batches) number bytes changes r)
+    (λ changes r. enrolled_by (batch_numbered number r.batches) number bytes changes r)
 batch_follows s number bytes (Some r) =
-    kept_follows s number bytes r (kept_under number r.batches) (batch_in bytes)
+    kept_follows s number bytes r (batch_numbered number r.batches) (batch_in bytes)
 
 -- ---- one after another, and side by side
 
@@ -132,7 +132,7 @@ same_view : (s : ℕ) (one other : Records) → one.session ≡ other.session
     → one.published ≡ other.published
     → exams_sat one.enrolments s ≡ exams_sat other.enrolments s
     → view_of s (Some one) ≡ view_of s (Some other)
-same_view s one other e f g = λ i. view_from (e i) (g i) (f i) (rows_of s (rows_now (f i)))
+same_view s one other e f g = λ i. view_from (e i) (g i) (f i) (rows_of s (publication_rows (f i)))
 
 -- two offices after the same changes show the candidate the same view
 pub follows_alike : (s : ℕ) (xs : List Change) (old one other : OfficeState)

@@ -30,7 +30,7 @@ use Rattle.office_policy.specs.declared.command.Body.TheVariants.{Given, Bad, Lo
 use Rattle.office_model.specs.Answers.{PlainAnswer, now_loaded, now_owned, now_drafted, now_edited}
 use Rattle.office_model.specs.Answers.{now_dropped, now_published, now_enrolled}
 use Rattle.office_model.specs.Batches.{batch_enrolled}
-use Rattle.office_model.specs.Commands.{Gives}
+use Rattle.office_model.specs.Commands.{CommandResult}
 use Rattle.office_model.specs.DraftCommands.{draft_dropped, draft_edited, draft_made, first_timetable, is_draft_number}
 use Rattle.office_model.specs.Commands.{named, owned}
 use Rattle.office_model.specs.Loading.{loaded}
@@ -66,12 +66,12 @@ none_refused (Some f) done is = absurd (cc is)
 -- ---- the commands
 
 -- the office after the command is an office, for each result
-abbrev pub Leaves : {A : Type 0} → Gives A → Type 0
+abbrev pub Leaves : {A : Type 0} → CommandResult A → Type 0
 Leaves gives = IfOk gives (λ given. IsOffice given.1)
 
 -- the result comes with this office
 given_with : {A : Type 0} (given : A) (new : OfficeState) (x : A × OfficeState) → IsOffice new
-    → ◌≡◌ {A = Gives A} (Ok (given, new)) (Ok x) → IsOffice x.1
+    → ◌≡◌ {A = CommandResult A} (Ok (given, new)) (Ok x) → IsOffice x.1
 given_with given new x is e =
     let same : (given, new) ≡ x = cc in
     subst (λ y. IsOffice y.1) same is

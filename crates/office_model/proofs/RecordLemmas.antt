@@ -27,7 +27,7 @@ use Rattle.exam_publish.proofs.SeatLemmas.{are_seats}
 use Rattle.office_files.proofs.ReadingLaws.{bind_ok, unless_ok}
 use Rattle.office_model.specs.Loading.{fresh}
 use Rattle.office_model.specs.Office.{AreEnrolled, AreRecords, IsPublication, Publication, Records, set_at}
-use Rattle.office_model.specs.Publishing.{published_as, rows_now}
+use Rattle.office_model.specs.Publishing.{published_as, publication_rows}
 
 some_is : {X : Type 0} {x y : X} → Some x ≡ Some y → x ≡ y
 some_is e = cc
@@ -133,12 +133,12 @@ left_records r d h = record {
 
 -- ---- publication
 
-pub old_seated : (r : Records) → AreRecords r → AreSeated r.session (rows_now r.published)
+pub old_seated : (r : Records) → AreRecords r → AreSeated r.session (publication_rows r.published)
 old_seated r is = go r.published is.publication
   where
     go : (published : Option Publication)
         → ((p : Publication) → published ≡ Some p → IsPublication r.session p)
-        → AreSeated r.session (rows_now published)
+        → AreSeated r.session (publication_rows published)
     go None each = record {
       in_order = λ i j d before none. absurd (omega (arith, none));
       within = λ k d none. absurd (omega (arith, none));
@@ -152,11 +152,13 @@ module _ (r : Records) (T : Placing) (is : AreRecords r) (fits : Fits r.session 
   new_one = published_as r T
 
   pub are : AreSeats r.session r.enrolments T new_one.rows
-  are = are_seats r.session r.enrolments T (rows_now r.published) fits is.enrolled.set permitted
+  are = are_seats r.session r.enrolments T
+      (publication_rows r.published) fits is.enrolled.set permitted
       (old_seated r is)
 
   same : enrolled_in (length r.session.exams) new_one.rows ≡ r.enrolments
-  same = same_enrolments r.session r.enrolments T (rows_now r.published) is.session is.enrolled.set
+  same = same_enrolments r.session r.enrolments T
+      (publication_rows r.published) is.session is.enrolled.set
       fits permitted (old_seated r is)
 
   pub is_publication : IsPublication r.session new_one

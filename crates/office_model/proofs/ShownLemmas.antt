@@ -3,7 +3,7 @@ use Rattle.std.proofs.Common.{◌≡◌, ℕ, Some, None, refl}
 use Rattle.std.specs.Prelude.{Ok, Err, IfOk}
 use Rattle.exam_terms.specs.Refusing.{else_err}
 use Rattle.office_model.specs.Answers.{PlainAnswer}
-use Rattle.office_model.specs.Commands.{Gives, session_shown}
+use Rattle.office_model.specs.Commands.{CommandResult, session_shown}
 use Rattle.office_model.specs.DraftCommands.{draft_shown}
 use Rattle.office_model.specs.Office.{OfficeState}
 use Rattle.office_model.specs.Step.{outcome, draft_in_session}
@@ -11,7 +11,7 @@ use Rattle.office_model.specs.declared.fault.StoreFault.TheVariants.{NoDraft}
 use Rattle.office_model.proofs.CommandLemmas.{bind}
 
 -- if a result leaves the office unchanged, so does the outcome
-still : {A : Type 0} (says : A → PlainAnswer) (old : OfficeState) (gives : Gives A)
+still : {A : Type 0} (says : A → PlainAnswer) (old : OfficeState) (gives : CommandResult A)
     → IfOk gives (λ x. x.1 ≡ old) → (outcome says old gives).0 ≡ old
 still says old (Ok x) h = h
 still says old (Err fault) h = refl

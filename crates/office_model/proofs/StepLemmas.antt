@@ -15,13 +15,13 @@ use Rattle.office_policy.specs.declared.policy.Denial.{Denial}
 use Rattle.office_model.specs.Answers.{PlainAnswer, now_loaded, now_owned, now_drafted, now_edited}
 use Rattle.office_model.specs.Answers.{now_dropped, now_published, now_enrolled}
 use Rattle.office_model.specs.Batches.{batch_enrolled}
-use Rattle.office_model.specs.Candidates.{Asked, whole, one, cost}
-use Rattle.office_model.specs.Commands.{Gives, owned}
+use Rattle.office_model.specs.Candidates.{CandidateQuestion, whole, one, cost}
+use Rattle.office_model.specs.Commands.{CommandResult, owned}
 use Rattle.office_model.specs.DraftCommands.{draft_made, draft_dropped, draft_edited}
 use Rattle.office_model.specs.Loading.{loaded}
 use Rattle.office_model.specs.Office.{OfficeState}
 use Rattle.office_model.specs.Publishing.{draft_published}
-use Rattle.office_model.specs.Step.{outcome, told_to, permitted, if_allowed, allowed_in, step}
+use Rattle.office_model.specs.Step.{outcome, candidate_outcome, permitted, if_allowed, allowed_in, step}
 use Rattle.office_model.proofs.CommandLemmas.{Frames, owned_frame, made_frame, dropped_frame}
 use Rattle.office_model.proofs.CommandLemmas.{edited_frame}
 use Rattle.office_model.proofs.ShownLemmas.{session_stays, draft_stays, in_session_stays}
@@ -32,23 +32,24 @@ any_ok P (Err f) h = tt
 
 -- P stays true if the answer allows it
 outcome_law : {A : Type 0} (P : OfficeState → Type 0) (Q : PlainAnswer → Type 0)
-    (says : A → PlainAnswer) (old : OfficeState) (g : Gives A)
+    (says : A → PlainAnswer) (old : OfficeState) (g : CommandResult A)
     → P old → IfOk g (λ x. Q (says x.0) → P x.1) → Q (outcome says old g).1
     → P (outcome says old g).0
 outcome_law P Q says old (Ok x) here h q = h q
 outcome_law P Q says old (Err fault) here h q = here
 
 pub whatever : {A : Type 0} (P : OfficeState → Type 0) (Q : PlainAnswer → Type 0)
-    (says : A → PlainAnswer) (g : Gives A) → IfOk g (λ x. P x.1)
+    (says : A → PlainAnswer) (g : CommandResult A) → IfOk g (λ x. P x.1)
     → IfOk g (λ x. Q (says x.0) → P x.1)
 whatever P Q says (Ok x) h = λ q. h
 whatever P Q says (Err fault) h = tt
 
-told_law : (P : OfficeState → Type 0) (caller : Caller) (asked : Asked) (old : OfficeState)
-    → P old → P (told_to caller asked old).0
-told_law P Office asked old here = here
-told_law P (Dept d) asked old here = here
-told_law P (Cand s) asked old here = here
+answer_law : (P : OfficeState → Type 0) (caller : Caller) (asked : CandidateQuestion)
+    (old : OfficeState)
+    → P old → P (candidate_outcome caller asked old).0
+answer_law P Office asked old here = here
+answer_law P (Dept d) asked old here = here
+answer_law P (Cand s) asked old here = here
 
 -- P stays true after a change that the answer allows
 abbrev pub EditKeeps : (OfficeState → Type 0) → (PlainAnswer → Type 0) → OfficeState → ℕ → Edit
@@ -87,9 +88,9 @@ module _ (P : OfficeState → Type 0) (Q : PlainAnswer → Type 0) (old : Office
 
     permitted_law : (caller : Caller) (command : PlainCommand) → Keeps P Q old command
         → Q (permitted old caller command).1 → P (permitted old caller command).0
-    permitted_law caller me h q = told_law P caller whole old here
-    permitted_law caller (my_exam n) h q = told_law P caller (one n) old here
-    permitted_law caller my_penalty h q = told_law P caller cost old here
+    permitted_law caller me h q = answer_law P caller whole old here
+    permitted_law caller (my_exam n) h q = answer_law P caller (one n) old here
+    permitted_law caller my_penalty h q = answer_law P caller cost old here
     permitted_law caller (load (Given bytes)) h q =
         outcome_law P Q now_loaded old (loaded bytes old) here h q
     permitted_law caller (load Bad) h q = here

@@ -19,17 +19,17 @@ use Rattle.office_model.specs.Step.{Steps, step, Outcome}
 use Rattle.office_model.specs.Views.{view_of}
 use Rattle.office_model.proofs.StepLemmas.{EditKeeps, Keeps, any_ok, step_law}
 
-pub told : (s : ℕ) (office : OfficeState) (command : PlainCommand)
+pub candidate_answer : (s : ℕ) (office : OfficeState) (command : PlainCommand)
     → step office (Cand s) command ≡ (office, answer_to s command (view_of s office))
-told s office me = refl
-told s office command = refl
+candidate_answer s office me = refl
+candidate_answer s office command = refl
 
-pub same_told : (s : ℕ) (one other : OfficeState) (command : PlainCommand)
+pub same_answered : (s : ℕ) (one other : OfficeState) (command : PlainCommand)
     → view_of s one ≡ view_of s other
     → (step one (Cand s) command).1 ≡ (step other (Cand s) command).1
-same_told s one other command h =
-    ap (λ (o : Outcome). o.1) (told s one command) ∙ ap (answer_to s command) h
-    ∙ sym (ap (λ (o : Outcome). o.1) (told s other command))
+same_answered s one other command h =
+    ap (λ (o : Outcome). o.1) (candidate_answer s one command) ∙ ap (answer_to s command) h
+    ∙ sym (ap (λ (o : Outcome). o.1) (candidate_answer s other command))
 
 -- no change has an answer that shows something
 edits : (old : OfficeState) (d : ℕ) (change : Edit)

@@ -12,7 +12,7 @@ use Rattle.exam_publish.proofs.ListLemmas.{any_map, has_ascending}
 use Rattle.office_model.specs.Office.{Publication}
 use Rattle.office_model.specs.ViewRows.{AreOfPublication, place_in, place_of_seat, places_in, seat_in, view_row}
 use Rattle.office_model.specs.Shown.{shown_exam, shown_exams, shown_from}
-use Rattle.office_model.specs.Views.{her_exams, published_place, view_from}
+use Rattle.office_model.specs.Views.{candidate_exams, published_place, view_from}
 
 -- ---- one exam's place
 
@@ -117,9 +117,9 @@ module _ (I : Session) (published : Option Publication) (enrolled : List ℕ)
           or_true false b h = h
 
   -- the rows of the candidate's exams are those in their view
-  pub rows_shown : map (view_row I.periods enrolled places seats) (her_exams enrolled seats)
+  pub rows_shown : map (view_row I.periods enrolled places seats) (candidate_exams enrolled seats)
       ≡ shown_exams (view_from I enrolled published seats)
-  rows_shown = rows_are (her_exams enrolled seats) (λ e has.
+  rows_shown = rows_are (candidate_exams enrolled seats) (λ e has.
       sym (ap (λ b. list_any (λ x. eqb x e) enrolled || b)
       (any_map (λ x. eqb x e) (λ row. row.exam) seats))
       ∙ sym (list_any-append (λ x. eqb x e) enrolled (map (λ row. row.exam) seats))

@@ -8,7 +8,7 @@ use Rattle.exam_draft.specs.Edits.{exam_exists}
 use Rattle.exam_draft.specs.declared.fault.EditFault.TheVariants.{NoSuch}
 use Rattle.office_batches.specs.BatchText.{batch_in}
 use Rattle.office_files.specs.declared.fault.FileFault.{FileFault}
-use Rattle.office_model.specs.Commands.{Gives, named, when_loaded}
+use Rattle.office_model.specs.Commands.{CommandResult, named, records_or_refusal}
 use Rattle.office_model.specs.Office.{OfficeState, Records, KeptBatch}
 use Rattle.office_model.specs.declared.counts.Counts.{Counts}
 use Rattle.office_model.specs.declared.fault.Refusal.TheVariants as refusal
@@ -18,8 +18,8 @@ use Rattle.office_model.specs.BatchLines.{no_counts, enrolled}
 -- ---- batches
 
 -- the batch kept under a number
-abbrev pub kept_under : ℕ → List KeptBatch → Option KeptBatch
-kept_under number batches = find (λ b. b.no == number) batches
+abbrev pub batch_numbered : ℕ → List KeptBatch → Option KeptBatch
+batch_numbered number batches = find (λ b. b.no == number) batches
 
 -- whether two texts are the same bytes
 abbrev pub same_bytes : List ℕ → List ℕ → Bool
@@ -29,7 +29,7 @@ same_bytes (x ∷ xs) [] = false
 same_bytes (x ∷ xs) (y ∷ ys) = (x == y) && same_bytes xs ys
 
 -- a batch whose number isn't kept
-abbrev pub newly_enrolled : ℕ → List ℕ → List Change → Records → Gives Counts
+abbrev pub newly_enrolled : ℕ → List ℕ → List Change → Records → CommandResult Counts
 newly_enrolled number bytes changes r = do
   _ ← unless (list_all (λ change. exam_exists r.session change.exam) changes)
       (Refused (refusal.Edit NoSuch))
@@ -44,18 +44,19 @@ newly_enrolled number bytes changes r = do
   )
 
 -- a batch whose number is kept has its first counts for the same bytes, and changes nothing
-abbrev pub enrolled_by : Option KeptBatch → ℕ → List ℕ → List Change → Records → Gives Counts
+abbrev pub enrolled_by : Option KeptBatch → ℕ → List ℕ → List Change → Records
+    → CommandResult Counts
 enrolled_by None number bytes changes r = newly_enrolled number bytes changes r
 enrolled_by (Some kept) number bytes changes r = do
   _ ← unless (same_bytes kept.bytes bytes) BatchDiffers
   Ok (kept.counts, Some r)
 
 -- a batch is accepted: first the file's fault is judged, then whether a session is loaded
-abbrev pub batch_enrolled : ℕ → List ℕ → OfficeState → Gives Counts
+abbrev pub batch_enrolled : ℕ → List ℕ → OfficeState → CommandResult Counts
 batch_enrolled number bytes office = do
   changes ← named (λ f. Refused (refusal.File f)) (batch_in bytes)
-  r ← when_loaded office
-  enrolled_by (kept_under number r.batches) number bytes changes r
+  r ← records_or_refusal office
+  enrolled_by (batch_numbered number r.batches) number bytes changes r
 
 -- ---- the students whom a batch changes
 
@@ -72,4 +73,4 @@ lines_if_new (Some kept) read = []
 -- the batch that an office keeps under a number
 abbrev pub kept_in : OfficeState → ℕ → Option KeptBatch
 kept_in None number = None
-kept_in (Some r) number = kept_under number r.batches
+kept_in (Some r) number = batch_numbered number r.batches

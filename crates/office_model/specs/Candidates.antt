@@ -9,9 +9,9 @@ use Rattle.office_model.specs.Views.{View}
 use Rattle.office_model.specs.declared.views.ViewRow.{ViewRow}
 
 -- a candidate's question: all of their exams, one of them, or the cost of them
-pub data Asked : Type 0 where
-  whole cost : Asked
-  one : ℕ → Asked
+pub data CandidateQuestion : Type 0 where
+  whole cost : CandidateQuestion
+  one : ℕ → CandidateQuestion
 
 -- the candidate's exam, or that it isn't theirs
 abbrev pub exam_answer : Option ViewRow → PlainAnswer
@@ -19,14 +19,14 @@ exam_answer None = not_mine
 exam_answer (Some shown) = my_one shown
 
 -- the answer to a candidate; it doesn't show whether an exam that isn't theirs exists
-abbrev pub told : ℕ → Asked → View → PlainAnswer
-told s whole view = my_exams s (shown_exams view) (shown_penalty view)
-told s (one n) view = exam_answer (find (λ shown. shown.exam == n) (shown_exams view))
-told s cost view = my_cost (shown_penalty view)
+abbrev pub candidate_answer : ℕ → CandidateQuestion → View → PlainAnswer
+candidate_answer s whole view = my_exams s (shown_exams view) (shown_penalty view)
+candidate_answer s (one n) view = exam_answer (find (λ shown. shown.exam == n) (shown_exams view))
+candidate_answer s cost view = my_cost (shown_penalty view)
 
 -- the answer to any command of a candidate: to their own three, and the denial of all others
 abbrev pub answer_to : ℕ → PlainCommand → View → PlainAnswer
-answer_to s me view = told s whole view
-answer_to s (my_exam n) view = told s (one n) view
-answer_to s my_penalty view = told s cost view
+answer_to s me view = candidate_answer s whole view
+answer_to s (my_exam n) view = candidate_answer s (one n) view
+answer_to s my_penalty view = candidate_answer s cost view
 answer_to s _ view = denied P1

@@ -12,8 +12,8 @@ use Rattle.office_model.specs.declared.fault.StoreFault.{StoreFault}
 use Rattle.office_model.specs.declared.fault.StoreFault.TheVariants.{NotLoaded, Refused}
 
 -- the result of a command, with the office after it
-abbrev pub Gives : Type 0 → Type 0
-Gives A = Result (A × OfficeState) StoreFault
+abbrev pub CommandResult : Type 0 → Type 0
+CommandResult A = Result (A × OfficeState) StoreFault
 
 -- a fault by another name
 abbrev pub named : {A F G : Type 0} → (F → G) → Result A F → Result A G
@@ -21,15 +21,15 @@ named name (Ok x) = Ok x
 named name (Err e) = Err (name e)
 
 -- the records, once there is a session
-abbrev pub when_loaded : OfficeState → Result Records StoreFault
-when_loaded office = else_err NotLoaded office
+abbrev pub records_or_refusal : OfficeState → Result Records StoreFault
+records_or_refusal office = else_err NotLoaded office
 
 -- ---- owners
 
 -- a department becomes the owner of an exam; 0 removes the owner
-abbrev pub owned : ℕ → ℕ → OfficeState → Gives (Unit {0})
+abbrev pub owned : ℕ → ℕ → OfficeState → CommandResult (Unit {0})
 owned exam dept office = do
-  r ← when_loaded office
+  r ← records_or_refusal office
   _ ← unless (exam_exists r.session exam) (Refused (refusal.Edit NoSuch))
   Ok (tt, Some (record r { owner_of = set_at exam dept r.owner_of }))
 
@@ -41,7 +41,7 @@ owner_in exam (Some r) = r.owner_of exam
 -- ---- commands that show something
 
 -- the session and its enrolments
-abbrev pub session_shown : OfficeState → Gives (Session × Enrolled)
+abbrev pub session_shown : OfficeState → CommandResult (Session × Enrolled)
 session_shown office = do
-  r ← when_loaded office
+  r ← records_or_refusal office
   Ok ((r.session, r.enrolments), office)

@@ -13,11 +13,11 @@ use Rattle.office_model.specs.Office.{OfficeState, Records, set_at}
 use Rattle.office_model.specs.declared.fault.Refusal.TheVariants as refusal
 use Rattle.office_model.specs.declared.fault.StoreFault.{StoreFault}
 use Rattle.office_model.specs.declared.fault.StoreFault.TheVariants.{NoDraft, DraftTaken, Refused}
-use Rattle.office_model.specs.Commands.{Gives, named, when_loaded}
+use Rattle.office_model.specs.Commands.{CommandResult, named, records_or_refusal}
 
 -- the penalty of a timetable with the live enrolments
-abbrev pub penalty_now : Records → Placing → ℕ
-penalty_now r T = total_of (track r.session r.enrolments T)
+abbrev pub live_penalty : Records → Placing → ℕ
+live_penalty r T = total_of (track r.session r.enrolments T)
 
 -- a timetable with no exam placed, or the one that a text describes
 abbrev pub first_timetable : List ℕ → Session → Result Placing StoreFault
@@ -29,18 +29,18 @@ abbrev pub is_draft_number : ℕ → Bool
 is_draft_number d = nat_le 1 d && nat_le d MAX_DRAFTS
 
 -- a draft is made if its number is free, of a solution or of nothing
-abbrev pub draft_made : ℕ → List ℕ → OfficeState → Gives ℕ
+abbrev pub draft_made : ℕ → List ℕ → OfficeState → CommandResult ℕ
 draft_made d bytes office = do
-  r ← when_loaded office
+  r ← records_or_refusal office
   _ ← unless (is_draft_number d) NoDraft
   _ ← unless (is_none (r.draft d)) DraftTaken
   T ← first_timetable bytes r.session
-  Ok (penalty_now r T, Some (record r { draft = set_at d (Some T) r.draft }))
+  Ok (live_penalty r T, Some (record r { draft = set_at d (Some T) r.draft }))
 
 -- a draft is dropped
-abbrev pub draft_dropped : ℕ → OfficeState → Gives (Unit {0})
+abbrev pub draft_dropped : ℕ → OfficeState → CommandResult (Unit {0})
 draft_dropped d office = do
-  r ← when_loaded office
+  r ← records_or_refusal office
   _ ← else_err NoDraft (r.draft d)
   Ok (tt, Some (record r { draft = set_at d None r.draft }))
 
@@ -50,16 +50,16 @@ draft_in d None = None
 draft_in d (Some r) = r.draft d
 
 -- a draft, with its penalty
-abbrev pub draft_shown : ℕ → OfficeState → Gives (Placing × Penalty)
+abbrev pub draft_shown : ℕ → OfficeState → CommandResult (Placing × Penalty)
 draft_shown d office = do
-  r ← when_loaded office
+  r ← records_or_refusal office
   T ← else_err NoDraft (r.draft d)
   Ok ((T, track r.session r.enrolments T), office)
 
 -- a draft is edited: its penalty afterwards
-abbrev pub draft_edited : ℕ → Edit → OfficeState → Gives ℕ
+abbrev pub draft_edited : ℕ → Edit → OfficeState → CommandResult ℕ
 draft_edited d change office = do
-  r ← when_loaded office
+  r ← records_or_refusal office
   T ← else_err NoDraft (r.draft d)
   new ← named (λ f. Refused (refusal.Edit f)) (edited r.session r.enrolments T change)
-  Ok (penalty_now r new, Some (record r { draft = set_at d (Some new) r.draft }))
+  Ok (live_penalty r new, Some (record r { draft = set_at d (Some new) r.draft }))

@@ -11,7 +11,7 @@ use Rattle.office_model.specs.declared.counts.Loaded as counts
 use Rattle.office_model.specs.declared.fault.Refusal.TheVariants as refusal
 use Rattle.office_model.specs.declared.fault.StoreFault.{StoreFault}
 use Rattle.office_model.specs.declared.fault.StoreFault.TheVariants.{Loaded, Refused}
-use Rattle.office_model.specs.Commands.{Gives, named}
+use Rattle.office_model.specs.Commands.{CommandResult, named}
 
 -- a session with its enrolments, and nothing else
 abbrev pub fresh : Session × Enrolled → Records
@@ -44,7 +44,7 @@ NamesFirstFault bytes fault =
     (f : FileFault) → fault ≡ Refused (refusal.File f) → first_fault bytes ≡ Some f
 
 -- a session is loaded if there is none; the file's fault is judged first
-abbrev pub loaded : List ℕ → OfficeState → Gives counts.Loaded
+abbrev pub loaded : List ℕ → OfficeState → CommandResult counts.Loaded
 loaded bytes office = do
   s ← named (λ f. Refused (refusal.File f)) (instance_in bytes)
   _ ← unless (is_none office) Loaded

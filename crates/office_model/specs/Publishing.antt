@@ -7,17 +7,17 @@ use Rattle.exam_publish.specs.Changed.{changed_students}
 use Rattle.exam_publish.specs.Permit.{publish_refusal}
 use Rattle.exam_publish.specs.Seats.{seat_rows}
 use Rattle.exam_publish.specs.declared.seat_row.SeatRow.{SeatRow}
-use Rattle.office_model.specs.Commands.{Gives, named, when_loaded}
-use Rattle.office_model.specs.DraftCommands.{penalty_now}
+use Rattle.office_model.specs.Commands.{CommandResult, named, records_or_refusal}
+use Rattle.office_model.specs.DraftCommands.{live_penalty}
 use Rattle.office_model.specs.Office.{OfficeState, Records, Publication}
 use Rattle.office_model.specs.declared.counts.Published as counts
 use Rattle.office_model.specs.declared.fault.Refusal.TheVariants as refusal
 use Rattle.office_model.specs.declared.fault.StoreFault.TheVariants.{NoDraft, Refused}
 
 -- the seat rows of a publication; none if there is none
-abbrev pub rows_now : Option Publication → List SeatRow
-rows_now None = []
-rows_now (Some p) = p.rows
+abbrev pub publication_rows : Option Publication → List SeatRow
+publication_rows None = []
+publication_rows (Some p) = p.rows
 
 -- refused if there is a reason
 abbrev pub unless_refused : {F : Type 0} → Option F → Result (Unit {0}) F
@@ -29,20 +29,20 @@ unless_refused (Some fault) = Err fault
 abbrev pub published_as : Records → Placing → Publication
 published_as r T = record {
   timetable = T;
-  rows = seat_rows (pairs_of r.enrolments) T (rows_now r.published);
+  rows = seat_rows (pairs_of r.enrolments) T (publication_rows r.published);
 }
 
 -- how many candidates' rows differ from those before, and the penalty
 abbrev pub publication_counts : Records → Publication → counts.Published
 publication_counts r p = record {
-  changed = length (changed_students (rows_now r.published) p.rows);
-  penalty = penalty_now r p.timetable;
+  changed = length (changed_students (publication_rows r.published) p.rows);
+  penalty = live_penalty r p.timetable;
 }
 
 -- a draft is published, unless an exam has no place in it or it breaks a rule
-abbrev pub draft_published : ℕ → OfficeState → Gives counts.Published
+abbrev pub draft_published : ℕ → OfficeState → CommandResult counts.Published
 draft_published d office = do
-  r ← when_loaded office
+  r ← records_or_refusal office
   T ← else_err NoDraft (r.draft d)
   _ ← named (λ f. Refused (refusal.Publish f))
       (unless_refused (publish_refusal r.session r.enrolments T))

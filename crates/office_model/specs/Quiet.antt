@@ -24,13 +24,14 @@ is_batch (now_enrolled number counts) = true
 is_batch _ = false
 
 -- the changes that a command would newly make: those of a batch whose number isn't kept
-abbrev pub asked_changes : OfficeState → PlainCommand → List Change
-asked_changes old (batch number (Given bytes)) = lines_if_new (kept_in old number) (batch_in bytes)
-asked_changes old _ = []
+abbrev pub command_changes : OfficeState → PlainCommand → List Change
+command_changes old (batch number (Given bytes)) = lines_if_new (kept_in old number)
+    (batch_in bytes)
+command_changes old _ = []
 
 -- the changes that a request newly made, if it had this answer
 abbrev pub new_changes : OfficeState → PlainCommand → PlainAnswer → List Change
-new_changes old command answer = if is_batch answer then asked_changes old command else []
+new_changes old command answer = if is_batch answer then command_changes old command else []
 
 -- neither an accepted load nor an accepted publication
 pub record KeepsPublication (answer : PlainAnswer) : Type 0 where

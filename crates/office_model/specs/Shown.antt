@@ -7,7 +7,7 @@ use Rattle.exam_publish.specs.Shares.{share_of}
 use Rattle.exam_score.specs.Penalty.{PersonalPenalty}
 use Rattle.office_model.specs.declared.views.ShownPlace.{ShownPlace}
 use Rattle.office_model.specs.declared.views.ViewRow.{ViewRow}
-use Rattle.office_model.specs.Views.{View, her_exams}
+use Rattle.office_model.specs.Views.{View, candidate_exams}
 
 -- a place with the day and the time of its period
 abbrev pub shown_at : Place → Period → ShownPlace
@@ -42,7 +42,7 @@ shown_from view (e ∷ exams) (place ∷ places) =
 
 -- the candidate's exams, ascending
 abbrev pub shown_exams : View → List ViewRow
-shown_exams view = shown_from view (her_exams view.enrolled view.seats) view.places
+shown_exams view = shown_from view (candidate_exams view.enrolled view.seats) view.places
 
 -- the cost of the periods of the candidate's seat rows
 abbrev pub shown_penalty : View → PersonalPenalty

@@ -30,11 +30,11 @@ use Rattle.office_model.specs.Answers.{now_edited, now_dropped, shown_draft, now
 use Rattle.office_model.specs.Answers.{unpublished, now_enrolled, denied, bad_body, long_body}
 use Rattle.office_model.specs.Answers.{refused, unavailable}
 use Rattle.office_model.specs.Batches.{batch_enrolled}
-use Rattle.office_model.specs.Candidates.{Asked, whole, one, cost, told}
-use Rattle.office_model.specs.Commands.{Gives}
+use Rattle.office_model.specs.Candidates.{CandidateQuestion, whole, one, cost, candidate_answer}
+use Rattle.office_model.specs.Commands.{CommandResult}
 use Rattle.office_model.specs.DraftCommands.{draft_dropped, draft_edited, draft_made, draft_shown}
 use Rattle.office_model.specs.Loading.{loaded}
-use Rattle.office_model.specs.Commands.{owned, owner_in, session_shown, when_loaded}
+use Rattle.office_model.specs.Commands.{owned, owner_in, session_shown, records_or_refusal}
 use Rattle.office_model.specs.Office.{OfficeState, Publication, published_enrolments}
 use Rattle.office_model.specs.Publishing.{draft_published}
 use Rattle.office_model.specs.Views.{view_of}
@@ -45,7 +45,7 @@ abbrev pub Outcome : Type 0
 Outcome = OfficeState × PlainAnswer
 
 -- the answer with a command's result; or with its refusal, and then the office is unchanged
-abbrev pub outcome : {A : Type 0} → (A → PlainAnswer) → OfficeState → Gives A → Outcome
+abbrev pub outcome : {A : Type 0} → (A → PlainAnswer) → OfficeState → CommandResult A → Outcome
 outcome says old (Ok given) = (given.1, says given.0)
 outcome says old (Err fault) = (old, refused fault)
 
@@ -58,9 +58,9 @@ with_body old go Long = (old, long_body)
 -- ---- commands that only read
 
 -- a draft with the session and the live enrolments
-abbrev pub draft_in_session : ℕ → OfficeState → Gives ((Session × Enrolled) × Placing)
+abbrev pub draft_in_session : ℕ → OfficeState → CommandResult ((Session × Enrolled) × Placing)
 draft_in_session d office = do
-  r ← when_loaded office
+  r ← records_or_refusal office
   T ← else_err NoDraft (r.draft d)
   Ok (((r.session, r.enrolments), T), office)
 
@@ -84,10 +84,10 @@ abbrev pub published_penalty : Session → Publication → List ℕ
 published_penalty I p = penalty_text (track I (published_enrolments I p) p.timetable)
 
 -- the outcome of a permitted candidate's command
-abbrev pub told_to : Caller → Asked → OfficeState → Outcome
-told_to Office asked old = (old, unavailable)
-told_to (Dept d) asked old = (old, unavailable)
-told_to (Cand s) asked old = (old, told s asked (view_of s old))
+abbrev pub candidate_outcome : Caller → CandidateQuestion → OfficeState → Outcome
+candidate_outcome Office asked old = (old, unavailable)
+candidate_outcome (Dept d) asked old = (old, unavailable)
+candidate_outcome (Cand s) asked old = (old, candidate_answer s asked (view_of s old))
 
 -- ---- the commands
 
@@ -97,9 +97,9 @@ edit_outcome d change old = outcome (now_edited d) old (draft_edited d change ol
 
 -- a command that the policy permits
 abbrev pub permitted : OfficeState → Caller → PlainCommand → Outcome
-permitted old caller me = told_to caller whole old
-permitted old caller (my_exam n) = told_to caller (one n) old
-permitted old caller my_penalty = told_to caller cost old
+permitted old caller me = candidate_outcome caller whole old
+permitted old caller (my_exam n) = candidate_outcome caller (one n) old
+permitted old caller my_penalty = candidate_outcome caller cost old
 permitted old caller (load body) =
     with_body old (λ bytes. outcome now_loaded old (loaded bytes old)) body
 permitted old caller instance =

@@ -10,7 +10,7 @@ use Rattle.exam_publish.specs.Changed.{ascending, rows_of}
 use Rattle.exam_publish.specs.declared.seat_row.SeatRow.{SeatRow}
 use Rattle.office_files.specs.Weights.{no_weights}
 use Rattle.office_model.specs.Office.{OfficeState, Publication}
-use Rattle.office_model.specs.Publishing.{rows_now}
+use Rattle.office_model.specs.Publishing.{publication_rows}
 
 -- the candidate's live enrolments, the published places of their exams, their seat rows; the
 -- periods and the weights
@@ -22,8 +22,8 @@ pub record View : Type 0 where
   pub weights : Weights
 
 -- the exams of a candidate's enrolments and of their seats together, ascending
-abbrev pub her_exams : List ℕ → List SeatRow → List ℕ
-her_exams enrolled seats = ascending (enrolled ++ map (λ row. row.exam) seats)
+abbrev pub candidate_exams : List ℕ → List SeatRow → List ℕ
+candidate_exams enrolled seats = ascending (enrolled ++ map (λ row. row.exam) seats)
 
 -- the published place of an exam, if it has one
 abbrev pub published_place : Option Publication → ℕ → Option Place
@@ -34,7 +34,7 @@ published_place (Some p) e = place_of p.timetable e
 abbrev pub view_from : Session → List ℕ → Option Publication → List SeatRow → View
 view_from I enrolled published seats = record {
   enrolled = enrolled;
-  places = map (published_place published) (her_exams enrolled seats);
+  places = map (published_place published) (candidate_exams enrolled seats);
   seats = seats;
   periods = I.periods;
   weights = I.weights;
@@ -48,4 +48,5 @@ no_view = record { enrolled = []; places = []; seats = []; periods = []; weights
 abbrev pub view_of : ℕ → OfficeState → View
 view_of c None = no_view
 view_of c (Some r) =
-    view_from r.session (exams_sat r.enrolments c) r.published (rows_of c (rows_now r.published))
+    view_from r.session (exams_sat r.enrolments c) r.published
+    (rows_of c (publication_rows r.published))

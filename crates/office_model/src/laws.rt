@@ -13,7 +13,7 @@ ghost use Rattle.office_model.specs.Step.{Steps, step};
 ghost use Rattle.office_model.specs.Views.{view_of};
 
 /// A candidate's command changes nothing, and its answer is a function of their view.
-pub fn told_by_view()
+pub fn reply_by_view()
     ensures { (s : ℕ) (office : OfficeState) (command : PlainCommand)
         → step office (Cand s) command ≡ (office, answer_to s command (view_of s office)) }
 {}

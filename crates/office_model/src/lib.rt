@@ -10,7 +10,7 @@ mod views;
 pub use counts::{Counts, Loaded, Published};
 pub use fault::{Refusal, StoreFault, kind_number};
 pub use laws::{
-    quiet_run, quiet_step, same_changes_same_view, same_view_same_answer, shown_changes_nothing,
-    told_by_view,
+    quiet_run, quiet_step, reply_by_view, same_changes_same_view, same_view_same_answer,
+    shown_changes_nothing,
 };
 pub use views::{CandidateView, ShownPlace, ViewRow, view_rows};

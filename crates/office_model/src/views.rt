@@ -7,7 +7,7 @@ ghost use Rattle.office_model.specs.Office.{Publication};
 ghost use Rattle.office_model.specs.ViewRows.{AreOfPublication, place_in, place_of_seat, seat_in};
 ghost use Rattle.office_model.specs.ViewRows.{view_row};
 ghost use Rattle.office_model.specs.Shown.{shown_exams, shown_place};
-ghost use Rattle.office_model.specs.Views.{her_exams, view_from};
+ghost use Rattle.office_model.specs.Views.{candidate_exams, view_from};
 
 use exam_calendar::Date;
 use exam_model::{ExamNo, Instance, PeriodNo, Place, RoomNo, StudentNo};
@@ -110,7 +110,7 @@ pub fn view_rows(
         → AreOfPublication published enrolled.now places.now seats.now
         → rows.items ≡ shown_exams (view_from instance.now enrolled.now published seats.now)) }
 {
-    let exams = her_exams(alloc, enrolled, seats)?;
+    let exams = candidate_exams(alloc, enrolled, seats)?;
     rows_of(alloc, instance, enrolled, places, seats, &exams)
 }
 
@@ -133,12 +133,12 @@ fn rows_of(
 }
 
 // Returns the exams of a candidate's enrolments and of their seats together, ascending, each once.
-fn her_exams(
+fn candidate_exams(
     alloc: Global,
     enrolled: &[ExamNo],
     seats: &[SeatRow],
 ) -> Result<Vec<ExamNo>, AllocError>
-    ensures { IfOk result (λ exams. exams.items ≡ her_exams enrolled.now seats.now) }
+    ensures { IfOk result (λ exams. exams.items ≡ candidate_exams enrolled.now seats.now) }
 {
     let mut exams = Vec::from_slice(alloc, enrolled)?;
     for row in seats {

@@ -1,7 +1,7 @@
 -- Facts of a load, from its parts.
 use Rattle.std.proofs.Common.{◌≡◌, ◌⊎◌, inl, inr, Err, IfErr, Ok, Result}
 use Rattle.office_model.specs.Office.{OfficeState}
-use Rattle.office_model.specs.Commands.{Gives}
+use Rattle.office_model.specs.Commands.{CommandResult}
 use Rattle.office_store.specs.Running.{IsFault}
 use Rattle.office_model.specs.declared.fault.StoreFault.{StoreFault}
 use Rattle.office_model.specs.declared.fault.StoreFault.TheVariants.{Store}
@@ -10,7 +10,8 @@ use Rattle.office_program.specs.declared.loading.LoadFault.{LoadFault}
 use Rattle.office_program.specs.declared.loading.LoadFault.TheVariants.{Store as Refused, Write}
 
 -- if no office is found, the fault is a failed statement, or the assumption of an office is false
-pub no_office : {A : Type 0} (gives : Gives A) (fault : StoreFault) (P : OfficeState → Type 0)
+pub no_office : {A : Type 0} (gives : CommandResult A) (fault : StoreFault)
+    (P : OfficeState → Type 0)
     → (fault ≡ Store) ⊎ ((there : OfficeState) → P there → ⊥) → (there : OfficeState) → P there
     → IsFault gives fault
 no_office gives fault P (inl is) there holds = rw is tt

@@ -5,14 +5,14 @@ use Rattle.clap.specs.Words.{Text}
 use Rattle.clap.specs.Matches.{ReadsOne}
 
 -- a number that was read is the one that a found text spells
-pub read_number : {E : Type 0} (Gives : Text → Result ℕ E → Type 0) (bits : ℕ)
-    → ((t : Text) (r : Result ℕ E) → Gives t r → ParsesUnsigned bits 10 t r)
+pub read_number : {E : Type 0} (CommandResult : Text → Result ℕ E → Type 0) (bits : ℕ)
+    → ((t : Text) (r : Result ℕ E) → CommandResult t r → ParsesUnsigned bits 10 t r)
     → (found : Option Text) (read : Option ℕ) → (found ≡ None → read ≡ None)
-    → ((t : Text) → found ≡ Some t → ReadsOne Gives t read) → (n : ℕ) → read ≡ Some n
+    → ((t : Text) → found ≡ Some t → ReadsOne CommandResult t read) → (n : ℕ) → read ≡ Some n
     → (t : Text) × (found ≡ Some t) × IsNumeral 10 (without_leading_plus t)
     × (n ≡ digits_value 10 (without_leading_plus t))
-read_number Gives bits parses None read none value n is =
+read_number CommandResult bits parses None read none value n is =
     let never : None ≡ Some n = sym (none refl) ∙ is in cc
-read_number Gives bits parses (Some t) read none value n is =
-    let parsed = parses t (Ok n) (subst (ReadsOne Gives t) is (value t refl)) in
+read_number CommandResult bits parses (Some t) read none value n is =
+    let parsed = parses t (Ok n) (subst (ReadsOne CommandResult t) is (value t refl)) in
     (t, refl, parsed.0.0, parsed.1)

@@ -49,7 +49,7 @@ use Rattle.office_tables.specs.declared.draft.DraftRow.{DraftRow}
 use Rattle.office_tables.specs.declared.slot.SlotRow.{SlotRow}
 use Rattle.office_model.specs.Office.{OfficeState, Records, Publication, AreRecords, IsOffice}
 use Rattle.office_model.specs.Office.{IsPublication, published_enrolments}
-use Rattle.office_model.specs.Publishing.{rows_now}
+use Rattle.office_model.specs.Publishing.{publication_rows}
 use Rattle.office_records.specs.Publications.{placed_from, placed_rows, stored_seat}
 use Rattle.office_records.specs.PartShares.{part_rows, part_share_rows, plain_rows, room_rows}
 use Rattle.office_records.specs.SharesStored.{student_share_row, student_share_rows}
@@ -298,7 +298,7 @@ module _ (I : Session) (known : IsInstance I) where
         (recursion_from_All (PlaceExists I) p.timetable rows.places)
 
     all_seats_fit : (o : Option Publication) → published ≡ o
-        → AllByRecursion FitsSeat (map stored_seat (rows_now o))
+        → AllByRecursion FitsSeat (map stored_seat (publication_rows o))
     all_seats_fit None e = tt
     all_seats_fit (Some p) e = seats_fit p (is p e)
 

@@ -17,7 +17,7 @@ use Rattle.exam_publish.proofs.ShareLemmas.{same_share}
 use Rattle.office_tables.specs.declared.seat.SeatRow as tables
 use Rattle.office_tables.specs.declared.share_student.StudentShareRow.{StudentShareRow}
 use Rattle.office_model.specs.Office.{Publication}
-use Rattle.office_model.specs.Publishing.{rows_now}
+use Rattle.office_model.specs.Publishing.{publication_rows}
 use Rattle.office_records.specs.Publications.{stored_seat}
 use Rattle.office_records.specs.SeatsStored.{seat_rows_of, seat_rows_without, student_seats_put}
 use Rattle.office_records.specs.SharesStored.{share_rows_of, share_rows_without, student_share_row, student_share_rows, student_shares_put}
@@ -226,29 +226,32 @@ module _ (old new : List SeatRow) where
         (λ (row : StudentShareRow). not (has_changed row.student)) (λ row. refl) all))
 
 rows_now_are : (I : Session) (published : Option Publication)
-    → student_share_rows I published ≡ map student_share_row (student_shares I (rows_now published))
+    → student_share_rows I published ≡ map student_share_row
+    (student_shares I (publication_rows published))
 rows_now_are I None = refl
 rows_now_are I (Some p) = refl
 
 -- the old rows of the candidates who changed, replaced by their new rows: the rows of all
 pub seats_put : (old : Option Publication) (new : Publication) (stored : List tables.SeatRow)
-    → IsPermutation stored (map stored_seat (rows_now old))
+    → IsPermutation stored (map stored_seat (publication_rows old))
     → IsPermutation
-    (student_seats_put (changed_students (rows_now old) new.rows)
-    (seat_rows_of (changed_students (rows_now old) new.rows) (map stored_seat new.rows)) stored)
+    (student_seats_put (changed_students (publication_rows old) new.rows)
+    (seat_rows_of (changed_students (publication_rows old) new.rows)
+    (map stored_seat new.rows)) stored)
     (map stored_seat new.rows)
-seats_put old new stored are = put_seats (rows_now old) new.rows stored are
+seats_put old new stored are = put_seats (publication_rows old) new.rows stored are
 
 -- new share rows likewise
 pub shares_put : (I : Session) (old : Option Publication) (new : Publication)
     (stored : List StudentShareRow) → IsPermutation stored (student_share_rows I old)
     → IsPermutation
-    (student_shares_put (changed_students (rows_now old) new.rows)
-    (share_rows_of (changed_students (rows_now old) new.rows) (student_share_rows I (Some new)))
+    (student_shares_put (changed_students (publication_rows old) new.rows)
+    (share_rows_of (changed_students (publication_rows old) new.rows)
+    (student_share_rows I (Some new)))
     stored)
     (student_share_rows I (Some new))
 shares_put I old new stored are =
-    let was = rows_now old in
+    let was = publication_rows old in
     let who = changed_students was new.rows in
     subst
     (λ (all : List StudentShareRow). IsPermutation

@@ -6,7 +6,7 @@ use Rattle.exam_publish.specs.declared.seat_row.SeatRow as publish
 use Rattle.office_tables.specs.declared.placed.PlacedRow.{PlacedRow}
 use Rattle.office_tables.specs.declared.seat.SeatRow.{SeatRow}
 use Rattle.office_model.specs.Office.{Publication}
-use Rattle.office_model.specs.Publishing.{rows_now}
+use Rattle.office_model.specs.Publishing.{publication_rows}
 
 -- the row of an exam's published place
 abbrev pub placed_row : ℕ → Place → PlacedRow
@@ -37,7 +37,7 @@ stored_seat row = record {
 pub record StandsPublished (places : List PlacedRow) (seats : List SeatRow)
     (published : Option Publication) : Type 0 where
   pub placed : IsPermutation places (placed_rows published)
-  pub seat : IsPermutation seats (map stored_seat (rows_now published))
+  pub seat : IsPermutation seats (map stored_seat (publication_rows published))
 
 -- the same, with a mark that says whether there is a publication
 pub record ArePublicationRows (mark : Bool) (places : List PlacedRow) (seats : List SeatRow)

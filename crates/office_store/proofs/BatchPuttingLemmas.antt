@@ -28,7 +28,7 @@ use Rattle.office_enrolment.proofs.KeptLemmas.{Ascend, they_ascend}
 use Rattle.office_enrolment.proofs.LineLemmas.{accepted, all_after, line_again, line_ascends}
 use Rattle.office_enrolment.proofs.OfficeLemmas.{as_office}
 use Rattle.office_model.specs.BatchLines.{acts, after_change, after_changes, no_counts}
-use Rattle.office_model.specs.Batches.{batch_enrolled, kept_in, kept_under, newly_enrolled}
+use Rattle.office_model.specs.Batches.{batch_enrolled, kept_in, batch_numbered, newly_enrolled}
 use Rattle.office_model.specs.Office.{AreRecords, IsOffice, OfficeState, Records}
 use Rattle.office_model.specs.declared.counts.Counts.{Counts}
 use Rattle.office_model.specs.declared.fault.StoreFault.{StoreFault}
@@ -184,7 +184,7 @@ left_drafts r t changes done is stands sound judged (it ∷ its) anew lines scor
 
 module _ (number : ℕ) (bytes : List ℕ) (changes : List Change)
     (spelled : batch_in bytes ≡ Ok changes) where
-  gives_new : (r : Records) → kept_under number r.batches ≡ None
+  gives_new : (r : Records) → batch_numbered number r.batches ≡ None
       → batch_enrolled number bytes (Some r) ≡ newly_enrolled number bytes changes r
   gives_new r none = rw (spelled, none) refl
 

@@ -26,8 +26,8 @@ use Rattle.office_store.specs.declared.memory.OfficeMemory.{OfficeMemory}
 use Rattle.office_records.specs.Stands.{IsKept, parts_of}
 use Rattle.office_store.specs.NewDraft.{Begins}
 use Rattle.office_store.specs.Changes.{draft_put, draft_removed}
-use Rattle.office_model.specs.Commands.{Gives, named}
-use Rattle.office_model.specs.DraftCommands.{draft_dropped, draft_made, first_timetable, is_draft_number, penalty_now}
+use Rattle.office_model.specs.Commands.{CommandResult, named}
+use Rattle.office_model.specs.DraftCommands.{draft_dropped, draft_made, first_timetable, is_draft_number, live_penalty}
 use Rattle.office_store.specs.Running.{IsFault}
 use Rattle.office_model.specs.declared.fault.Refusal.TheVariants.{File}
 use Rattle.office_model.specs.declared.fault.StoreFault.{StoreFault}
@@ -94,7 +94,7 @@ module _ (r : Records) (d : ℕ) (bytes : List ℕ) where
   made : true ≡ is_draft_number d → is_some (r.draft d) ≡ false → (T : Placing)
       → first_timetable bytes r.session ≡ Ok T
       → draft_made d bytes (Some r)
-      ≡ Ok (penalty_now r T, Some (record r { draft = set_at d (Some T) r.draft }))
+      ≡ Ok (live_penalty r T, Some (record r { draft = set_at d (Some T) r.draft }))
   made in_range free T first = rw (sym in_range, free, first) refl
 
 -- a text is refused for a fault of the file
@@ -109,7 +109,7 @@ first_fault (b ∷ bytes) I e h = go (solution_in I (b ∷ bytes)) h
     go (Err f) h = (f, cc)
 
 -- its own refusal, or out of memory
-pub made_fault : (gives : Gives ℕ) (bytes : List ℕ) (I : Session) (e : StoreFault)
+pub made_fault : (gives : CommandResult ℕ) (bytes : List ℕ) (I : Session) (e : StoreFault)
     → (first_timetable bytes I ≡ Err e → gives ≡ Err e)
     → (e ≡ Store) ⊎ (first_timetable bytes I ≡ Err e) → IsFault gives e
 made_fault gives bytes I e refuses (inl is) = subst (IsFault gives) (sym is) tt

@@ -7,7 +7,7 @@ use Rattle.sqlite.specs.Store.{Ghosts}
 use Rattle.office_tables.specs.Alterations.{Undone}
 use Rattle.office_model.specs.Office.{OfficeState}
 use Rattle.office_records.specs.Stands.{IsKept}
-use Rattle.office_model.specs.Commands.{Gives}
+use Rattle.office_model.specs.Commands.{CommandResult}
 use Rattle.office_store.specs.Memory.{IsMemoryOf}
 use Rattle.office_store.specs.Running.{Does, IsAtRest, IsAwake, IsFault, IsStill, Now, ReadsOffice, Runs, Shows}
 use Rattle.office_store.specs.Running.{StaysOnErr, Tells}
@@ -19,19 +19,20 @@ use Rattle.office_store.proofs.RunLemmas.{at_hand, nothing_kept, now_still}
 use Rattle.office_store.proofs.RunLemmas.{still_then, still_undone}
 
 -- where an office stands and this is in memory of it, the command gives this, and leads to another
-abbrev pub Moves : {A : Type 0} → (OfficeState → Gives A) → A → Database → Database
+abbrev pub Moves : {A : Type 0} → (OfficeState → CommandResult A) → A → Database → Database
     → OfficeMemory → Type 0
 Moves command x a b m = (o : OfficeState) → IsKept a o → IsMemoryOf o m
     → (new : OfficeState) × (command o ≡ Ok (x, new)) × IsKept b new
 
 -- there it is refused so
-abbrev pub Denies : {A : Type 0} → (OfficeState → Gives A) → StoreFault → Database → OfficeMemory
+abbrev pub Denies : {A : Type 0} → (OfficeState → CommandResult A) → StoreFault → Database
+    → OfficeMemory
     → Type 0
 Denies command fault a m = (o : OfficeState) → IsKept a o → IsMemoryOf o m
     → IsFault (command o) fault
 
 -- where this is in memory before the command, that is in memory of the office after it
-abbrev pub Remembers : {A : Type 0} → (OfficeState → Gives A) → A → Database → OfficeMemory
+abbrev pub Remembers : {A : Type 0} → (OfficeState → CommandResult A) → A → Database → OfficeMemory
     → OfficeMemory → Type 0
 Remembers command x a m n = (o : OfficeState) → IsKept a o → IsMemoryOf o m
     → (new : OfficeState) → command o ≡ Ok (x, new) → IsMemoryOf new n
@@ -67,7 +68,7 @@ module _ {S : Type 0} (g : Ghosts S) (before mid inside : Held S)
       let here = there clean o now in
       shown (says o) o (Now (state g mid)) result (told clean o here.0 here.1) (λ _. here.0)
 
-module _ {S A : Type 0} (g : Ghosts S) (command : OfficeState → Gives A)
+module _ {S A : Type 0} (g : Ghosts S) (command : OfficeState → CommandResult A)
     (before mid inside : Held S)
     (m : OfficeMemory) (view : inside ≡ mid) (rest : IsAtRest (state g inside) m)
     (awake : HasCleanDisk (state g mid) → IsAwake (state g mid))
@@ -114,7 +115,7 @@ awake_inside g start inside view awake clean =
     (awake (subst (λ h. HasCleanDisk (state g h)) view clean))
 
 -- a command that is refused by what is read on from there
-pub refuses_on : {S A : Type 0} (g : Ghosts S) (command : OfficeState → Gives A)
+pub refuses_on : {S A : Type 0} (g : Ghosts S) (command : OfficeState → CommandResult A)
     (start inside after : Held S) (m : OfficeMemory) → inside ≡ start
     → IsAtRest (state g inside) m
     → (HasCleanDisk (state g start) → IsAwake (state g start))
@@ -160,7 +161,7 @@ stays_undone g before mid inside after view still awake clean undone (Err fault)
     (subst (λ h. Undone (state g h) (state g after)) view (undone is_clean)))
 
 -- a command that a look at the file precedes
-pub runs_then : {S A : Type 0} (g : Ghosts S) (command : OfficeState → Gives A)
+pub runs_then : {S A : Type 0} (g : Ghosts S) (command : OfficeState → CommandResult A)
     (before mid after : Held S) (result : Result A StoreFault)
     → (HasCleanDisk (state g mid) → IsStill (state g before) (state g mid))
     → (HasCleanDisk (state g after) → HasCleanDisk (state g mid))
@@ -188,7 +189,8 @@ seen g mid inside view P tells clean o kept =
     (subst (λ h. IsKept (state g h).now o) view kept)
 
 -- what is in memory afterwards is of the new office
-pub rests : {A : Type 0} (command : OfficeState → Gives A) (a b : State) (m n : OfficeMemory)
+pub rests : {A : Type 0} (command : OfficeState → CommandResult A) (a b : State)
+    (m n : OfficeMemory)
     (x : A) → IsAtRest a m → (HasCleanDisk b → HasCleanDisk a) → (HasCleanDisk b → IsTrue a.is_open)
     → (HasCleanDisk b → Moves command x a.now b.now m)
     → (HasCleanDisk b → Remembers command x a.now m n) → IsAtRest b n
@@ -199,7 +201,8 @@ rests command a b m n x rest clean opened moves remembers is_clean _ =
 
 -- ---- where there is no session
 
-pub not_loaded : {A : Type 0} (command : OfficeState → Gives A) (a : Database) (m : OfficeMemory)
+pub not_loaded : {A : Type 0} (command : OfficeState → CommandResult A) (a : Database)
+    (m : OfficeMemory)
     → m.kept ≡ None → command None ≡ Err NotLoaded → Denies command NotLoaded a m
 not_loaded command a m none gives o kept is =
     ap command (nothing_kept o (is.session ∙ none)) ∙ gives

@@ -22,7 +22,7 @@ use Rattle.office_tables.specs.declared.draft.DraftRow.{DraftRow}
 use Rattle.office_tables.specs.declared.slot.DeleteSlot.{DeleteSlot}
 use Rattle.office_tables.specs.declared.slot.InsertSlot.{InsertSlot}
 use Rattle.office_model.specs.Commands.{named}
-use Rattle.office_model.specs.DraftCommands.{draft_edited, penalty_now}
+use Rattle.office_model.specs.DraftCommands.{draft_edited, live_penalty}
 use Rattle.office_model.specs.Office.{OfficeState, Records, set_at}
 use Rattle.office_model.specs.declared.fault.Refusal.TheVariants as refusal
 use Rattle.office_model.specs.declared.fault.StoreFault.{StoreFault}
@@ -85,7 +85,7 @@ not_there d change r h = go (r.draft d) refl
 pub edit_gives : (d : ℕ) (change : Edit) (r : Records) (T new : Placing) → r.draft d ≡ Some T
     → edited r.session r.enrolments T change ≡ Ok new
     → draft_edited d change (Some r)
-    ≡ Ok (penalty_now r new, Some (record r { draft = set_at d (Some new) r.draft }))
+    ≡ Ok (live_penalty r new, Some (record r { draft = set_at d (Some new) r.draft }))
 edit_gives d change r T new there made = rw (there, made) refl
 
 refused_so : (d : ℕ) (change : Edit) (r : Records) (T : Placing) (e : StoreFault)

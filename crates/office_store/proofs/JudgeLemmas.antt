@@ -7,7 +7,7 @@ use Rattle.exam_model.specs.Timetable.{Placing}
 use Rattle.exam_rules.specs.Breaches.{breaches_of}
 use Rattle.exam_rules.specs.declared.breach.Breach.{Breach}
 use Rattle.exam_score.specs.Penalty.{Penalty}
-use Rattle.office_model.specs.Commands.{Gives}
+use Rattle.office_model.specs.Commands.{CommandResult}
 use Rattle.office_model.specs.DraftCommands.{draft_shown}
 use Rattle.office_model.specs.Office.{OfficeState, Records}
 use Rattle.office_records.specs.Memory.{memory_of}
@@ -20,7 +20,8 @@ use Rattle.office_store.specs.declared.memory.OfficeMemory.{OfficeMemory}
 use Rattle.office_store.proofs.StoredLemmas.{in_memory_shown, none_in_memory_shown}
 
 -- what is judged of what is shown
-abbrev judgement : Session × Enrolled → Gives (Placing × Penalty) → Gives (List Breach)
+abbrev judgement : Session × Enrolled → CommandResult (Placing × Penalty)
+    → CommandResult (List Breach)
 judgement s (Ok shown) = Ok (breaches_of s.0 s.1 shown.0.0, shown.1)
 judgement s (Err fault) = Err fault
 

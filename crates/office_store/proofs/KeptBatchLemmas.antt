@@ -14,8 +14,8 @@ use Rattle.office_tables.specs.declared.batch.BatchRow.{BatchRow}
 use Rattle.exam_terms.specs.Refusing.{◌>>=◌, unless}
 use Rattle.exam_model.specs.declared.change.Change.{Change}
 use Rattle.office_batches.specs.BatchText.{batch_in}
-use Rattle.office_model.specs.Batches.{batch_enrolled, kept_in, kept_under, same_bytes}
-use Rattle.office_model.specs.Commands.{Gives}
+use Rattle.office_model.specs.Batches.{batch_enrolled, kept_in, batch_numbered, same_bytes}
+use Rattle.office_model.specs.Commands.{CommandResult}
 use Rattle.office_model.specs.declared.counts.Counts.{Counts}
 use Rattle.office_model.specs.declared.fault.StoreFault.TheVariants.{BatchDiffers}
 use Rattle.office_model.specs.Office.{AreRecords, IsOffice, KeptBatch, OfficeState, Records}
@@ -40,13 +40,13 @@ none_under number b is (c ∷ kept) apart =
 -- the batches of a number are the one that is found under it
 one_under : (number : ℕ) (kept : List KeptBatch)
     → IsChain (λ (b c : KeptBatch). b.no ≢ c.no) kept
-    → filter (λ (b : KeptBatch). eqb b.no number) kept ≡ option_to_list (kept_under number kept)
+    → filter (λ (b : KeptBatch). eqb b.no number) kept ≡ option_to_list (batch_numbered number kept)
 one_under number [] apart = refl
 one_under number (b ∷ kept) apart =
     elim (eqb b.no number) as (λ t. eqb b.no number ≡ t
     → cond t (b ∷ filter (λ (b : KeptBatch). eqb b.no number) kept)
     (filter (λ (b : KeptBatch). eqb b.no number) kept)
-    ≡ option_to_list (cond t (Some b) (kept_under number kept))) [
+    ≡ option_to_list (cond t (Some b) (batch_numbered number kept))) [
       | true ↦ λ e. ap (λ (l : List KeptBatch). b ∷ l)
           (none_under number b (grind (arith, nat_tests, e)) kept apart.0)
       | false ↦ λ e. one_under number kept apart.1
@@ -59,14 +59,14 @@ few_under (Some b) = omega arith
 module _ (t : Tables) (r : Records) (stands : StandsLoaded t r) (is : AreRecords r) where
   -- the stored batch of a number is the office's
   stored_under : (number : ℕ) → filter (λ (b : Batch). eqb b.no number) t.batch
-      ≡ map stored_batch (option_to_list (kept_under number r.batches))
+      ≡ map stored_batch (option_to_list (batch_numbered number r.batches))
   stored_under number =
       let here = filter (λ (b : Batch). eqb b.no number) (map stored_batch r.batches) in
-      let same : here ≡ map stored_batch (option_to_list (kept_under number r.batches))
+      let same : here ≡ map stored_batch (option_to_list (batch_numbered number r.batches))
       = filter-map (λ (b : Batch). eqb b.no number) stored_batch r.batches
       ∙ ap (map stored_batch) (one_under number r.batches
       (chain_from_index (λ (b c : KeptBatch). b.no ≢ c.no) r.batches is.batches.numbers)) in
-      same_few _ _ (few_under (kept_under number r.batches))
+      same_few _ _ (few_under (batch_numbered number r.batches))
       (subst (λ l. IsPermutation l (filter (λ (b : Batch). eqb b.no number) t.batch)) same
       (IsPermutation-sym _ _
       (IsPermutation-filter (λ (b : Batch). eqb b.no number) _ _ stands.batches.same)))
@@ -107,12 +107,13 @@ pub again_does : (o : OfficeState) (number : ℕ) (bytes : List ℕ) (changes : 
     → Does (batch_enrolled number bytes o) o (λ new. new ≡ o)
     (answered_again (batch_from row) bytes)
 again_does None number bytes changes row spelled is = absurd cc
-again_does (Some r) number bytes changes row spelled is = go (kept_under number r.batches) refl is
+again_does (Some r) number bytes changes row spelled is = go
+    (batch_numbered number r.batches) refl is
   where
     head_is : {X : Type 0} {x y : X} {xs ys : List X} → x ∷ xs ≡ y ∷ ys → x ≡ y
     head_is e = cc
 
-    go : (kept : Option KeptBatch) → kept_under number r.batches ≡ kept
+    go : (kept : Option KeptBatch) → batch_numbered number r.batches ≡ kept
         → IsRowOf kept (Some row)
         → Does (batch_enrolled number bytes (Some r)) (Some r) (λ new. new ≡ Some r)
         (answered_again (batch_from row) bytes)
@@ -123,7 +124,7 @@ again_does (Some r) number bytes changes row spelled is = go (kept_under number 
         ≡ batch_enrolled number bytes (Some r) = rw (spelled, there) refl in
         subst (λ b. Does (batch_enrolled number bytes (Some r)) (Some r) (λ new. new ≡ Some r)
         (answered_again b bytes)) row_is
-        (subst (λ (g : Gives Counts). Does g (Some r) (λ new. new ≡ Some r)
+        (subst (λ (g : CommandResult Counts). Does g (Some r) (λ new. new ≡ Some r)
         (answered_again (stored_batch k) bytes)) gives (again k r bytes))
 
 -- ---- the bytes

@@ -15,7 +15,7 @@ use Rattle.office_tables.specs.Schema.{IsBlank, no_schema}
 use Rattle.office_tables.specs.Standing.{Stands, StandsBefore}
 use Rattle.office_tables.specs.Steps.{Leads, Within}
 use Rattle.office_tables.specs.Tables.{Meta, Tables, empty_tables}
-use Rattle.office_model.specs.Commands.{Gives}
+use Rattle.office_model.specs.Commands.{CommandResult}
 use Rattle.office_model.specs.Office.{OfficeState}
 use Rattle.office_model.specs.declared.fault.StoreFault.{StoreFault}
 use Rattle.office_model.specs.declared.fault.StoreFault.TheVariants.{Store}
@@ -57,12 +57,13 @@ survives_at g start inside after P view =
 -- ---- a command
 
 -- what a later opening may find after it
-abbrev pub SurvivesNext : {S A : Type 0} → Ghosts S → (OfficeState → Gives A) → Held S → Held S
+abbrev pub SurvivesNext : {S A : Type 0} → Ghosts S → (OfficeState → CommandResult A) → Held S
+    → Held S
     → Result A StoreFault → Type 0
 SurvivesNext g command old new result =
     Survives (state g old) (state g new) (MayCommit command (state g old) result)
 
-next_before : {A : Type 0} (command : OfficeState → Gives A) (before mid : State)
+next_before : {A : Type 0} (command : OfficeState → CommandResult A) (before mid : State)
     → IsStill before mid → (found : Trees) → HoldsNext command mid found
     → HoldsNext command before found
 next_before command before mid still found next =
@@ -78,7 +79,7 @@ next_before command before mid still found next =
     }
 
 -- a command that a reader precedes
-pub survives_next : {S A : Type 0} (g : Ghosts S) (command : OfficeState → Gives A)
+pub survives_next : {S A : Type 0} (g : Ghosts S) (command : OfficeState → CommandResult A)
     (before mid after : Held S) (result : Result A StoreFault)
     → Survives (state g before) (state g mid) (λ _. ⊥)
     → (HasCleanDisk (state g mid) → IsStill (state g before) (state g mid))
@@ -100,7 +101,7 @@ is_failed (Ok x) is = tt
 is_failed (Err e) is = is
 
 -- readers, and then a transaction that leads to the office after the command
-module _ {S A : Type 0} (g : Ghosts S) (command : OfficeState → Gives A)
+module _ {S A : Type 0} (g : Ghosts S) (command : OfficeState → CommandResult A)
     (before mid inside after : Held S) (m : OfficeMemory) (view : inside ≡ mid)
     (rest : IsAtRest (state g inside) m)
     (awake : HasCleanDisk (state g mid) → IsAwake (state g mid))

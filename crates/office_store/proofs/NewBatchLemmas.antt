@@ -17,7 +17,7 @@ use Rattle.office_enrolment.specs.Keeping.{batch_kept}
 use Rattle.office_enrolment.proofs.OfficeLemmas.{as_office}
 use Rattle.office_model.specs.BatchLines.{after_change, counted, enrolled, no_counts}
 use Rattle.office_model.specs.Batches.{newly_enrolled}
-use Rattle.office_model.specs.Commands.{Gives}
+use Rattle.office_model.specs.Commands.{CommandResult}
 use Rattle.office_model.specs.Office.{Records}
 use Rattle.office_model.specs.declared.counts.Counts.{Counts}
 use Rattle.office_model.specs.declared.fault.Refusal.TheVariants as refusal
@@ -58,7 +58,7 @@ batch_fault changes E fault is =
 
 module _ (number : ℕ) (bytes : List ℕ) (changes : List Change) (r : Records)
     (exams : length r.enrolments ≡ length r.session.exams) where
-  abbrev gives : Gives Counts
+  abbrev gives : CommandResult Counts
   gives = newly_enrolled number bytes changes r
 
   judged_so : (judged : Result (Counts × Enrolled) StoreFault)

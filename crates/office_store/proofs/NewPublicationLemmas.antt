@@ -19,7 +19,7 @@ use Rattle.exam_score.specs.Penalty.{total_of}
 use Rattle.exam_score.specs.Track.{track}
 use Rattle.exam_score.specs.FrontLoad.{exam_front}
 use Rattle.office_model.specs.Office.{Records}
-use Rattle.office_model.specs.Publishing.{draft_published, rows_now}
+use Rattle.office_model.specs.Publishing.{draft_published, publication_rows}
 use Rattle.office_model.specs.declared.fault.Refusal.TheVariants as refusal
 use Rattle.office_model.specs.declared.fault.StoreFault.{StoreFault}
 use Rattle.office_model.specs.declared.fault.StoreFault.TheVariants.{Refused, Store}
@@ -120,7 +120,7 @@ module _ (d : ℕ) (r : Records) (I : Session) (E : Enrolled) (T : Placing)
   pub publishes : (before : List PlacedRow) (old rows : List SeatRow) (penalty : ℕ)
       (result : Result NewPublication StoreFault) → publish_refusal I E T ≡ None
       → IsPermutation before (placed_rows r.published)
-      → old ≡ rows_now r.published → rows ≡ seat_rows (pairs_of E) T old
+      → old ≡ publication_rows r.published → rows ≡ seat_rows (pairs_of E) T old
       → penalty ≡ total_of (track I E T) → IfOk result (ArePutIn I T before old rows penalty)
       → IfErr result (λ e. e ≡ Store) → Publishes d r result
   publishes before old rows penalty (Ok new) permitted were was are costs put err = record {
@@ -130,12 +130,13 @@ module _ (d : ℕ) (r : Records) (I : Session) (E : Enrolled) (T : Placing)
         permitted;
     before = before;
     were = were;
-    put = subst (λ (p : Session × Enrolled). ArePutIn p.0 T before (rows_now r.published)
-        (seat_rows (pairs_of p.1) T (rows_now r.published)) (total_of (track p.0 p.1 T)) new)
+    put = subst (λ (p : Session × Enrolled). ArePutIn p.0 T before (publication_rows r.published)
+        (seat_rows (pairs_of p.1) T (publication_rows r.published))
+        (total_of (track p.0 p.1 T)) new)
         (sym both)
-        (subst (λ n. ArePutIn I T before (rows_now r.published)
-        (seat_rows (pairs_of E) T (rows_now r.published)) n new) costs
-        (subst (λ l. ArePutIn I T before (rows_now r.published) l penalty new)
+        (subst (λ n. ArePutIn I T before (publication_rows r.published)
+        (seat_rows (pairs_of E) T (publication_rows r.published)) n new) costs
+        (subst (λ l. ArePutIn I T before (publication_rows r.published) l penalty new)
         (are ∙ ap (seat_rows (pairs_of E) T) was)
         (subst (λ l. ArePutIn I T before l rows penalty new) was put)));
   }

@@ -41,7 +41,7 @@ use Rattle.office_tables.specs.declared.share_part.InsertPartShare.{InsertPartSh
 use Rattle.office_tables.specs.declared.share_student.InsertStudentShare.{InsertStudentShare}
 use Rattle.office_model.specs.Office.{AreRecords, OfficeState}
 use Rattle.office_model.specs.Office.{Publication, Records}
-use Rattle.office_model.specs.Publishing.{draft_published, publication_counts, published_as, rows_now}
+use Rattle.office_model.specs.Publishing.{draft_published, publication_counts, published_as, publication_rows}
 use Rattle.office_model.specs.declared.fault.StoreFault.{StoreFault}
 use Rattle.office_model.specs.declared.fault.StoreFault.TheVariants.{NoDraft, NotLoaded}
 use Rattle.office_model.proofs.RecordLemmas.{published_records}
@@ -283,12 +283,12 @@ module _ (r : Records) (T : Placing) (is : AreRecords r) (fits : Fits r.session 
 
   module _ (before : List PlacedRow) (were : IsPermutation before (placed_rows r.published))
       (penalty : ℕ) (new : NewPublication)
-      (put : ArePutIn r.session T before (rows_now r.published) new_one.rows penalty new)
+      (put : ArePutIn r.session T before (publication_rows r.published) new_one.rows penalty new)
       (t : Tables) where
     abbrev who : List ℕ
-    who = changed_students (rows_now r.published) new_one.rows
+    who = changed_students (publication_rows r.published) new_one.rows
 
-    seat_in : IsPermutation t.seat (map stored_seat (rows_now r.published))
+    seat_in : IsPermutation t.seat (map stored_seat (publication_rows r.published))
         → IsPermutation (publication_put new t).seat (map stored_seat new_one.rows)
     seat_in stored =
         let all = map stored_seat new_one.rows in
@@ -350,7 +350,7 @@ module _ (r : Records) (T : Placing) (is : AreRecords r) (fits : Fits r.session 
   -- the database stands for the office with the publication
   published_kept : (a b : Database) (before : List PlacedRow)
       → IsPermutation before (placed_rows r.published) → (penalty : ℕ) (new : NewPublication)
-      → ArePutIn r.session T before (rows_now r.published) new_one.rows penalty new
+      → ArePutIn r.session T before (publication_rows r.published) new_one.rows penalty new
       → IsKept a (Some r) → ((t : Tables) → Stands a t → Stands b (publication_put new t))
       → IsKept b (Some (record r { published = Some new_one }))
   published_kept a b before were penalty new put kept makes = record {

@@ -21,7 +21,7 @@ use Rattle.office_tables.specs.declared.seat.SeatRow.{SeatRow}
 use Rattle.office_tables.specs.declared.share_student.StudentShareRow.{StudentShareRow}
 use Rattle.office_model.specs.Office.{AreRecords, IsOffice, IsPublication, OfficeState}
 use Rattle.office_model.specs.Office.{Publication, Records}
-use Rattle.office_model.specs.Publishing.{rows_now}
+use Rattle.office_model.specs.Publishing.{publication_rows}
 use Rattle.office_model.specs.declared.fault.StoreFault.{StoreFault}
 use Rattle.office_records.specs.Memory.{Memory, memory_of}
 use Rattle.office_records.specs.Faults.{store_fault}
@@ -54,7 +54,7 @@ placed_read t (Some r) rows stands p =
 
 pub seats_read : (t : Tables) (o : OfficeState) (rows : List SeatRow) → StandsForOffice t o
     → IsPermutation t.seat rows
-    → IsPermutation rows (map stored_seat (rows_now (published_in o)))
+    → IsPermutation rows (map stored_seat (publication_rows (published_in o)))
 seats_read t None rows stands p =
     IsPermutation-sym _ _ (subst (λ (t : Tables). IsPermutation t.seat rows) stands p)
 seats_read t (Some r) rows stands p =

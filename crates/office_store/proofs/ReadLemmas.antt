@@ -13,7 +13,7 @@ use Rattle.office_records.specs.TableRows.{slots_at, slot_rows}
 use Rattle.office_records.specs.declared.fault.RecordFault.{RecordFault}
 use Rattle.office_records.specs.declared.fault.RecordFault.TheVariants.{NoMemory, BadRows}
 use Rattle.office_model.specs.declared.fault.StoreFault.{StoreFault}
-use Rattle.office_model.specs.Commands.{Gives, session_shown}
+use Rattle.office_model.specs.Commands.{CommandResult, session_shown}
 use Rattle.office_model.specs.DraftCommands.{draft_in}
 use Rattle.office_records.specs.Faults.{store_fault}
 use Rattle.office_store.specs.Running.{Does, IsFault}
@@ -34,7 +34,7 @@ pub same_head : {X : Type 0} (x y : X) → x ∷ [] ≡ y ∷ [] → x ≡ y
 same_head x y e = cc
 
 -- a fault in rows that are those of an office is out of memory
-pub fault_of : {A : Type 0} (gives : Gives A) (o : OfficeState) (r : Result A StoreFault)
+pub fault_of : {A : Type 0} (gives : CommandResult A) (o : OfficeState) (r : Result A StoreFault)
     (f : RecordFault) → IsErrAnd r (λ e. e ≡ store_fault f) → (f ≡ BadRows → ⊥)
     → Does gives o (λ new. new ≡ o) r
 fault_of gives o (Ok x) f is not_bad = absurd is
@@ -43,7 +43,8 @@ fault_of gives o (Err e) NoMemory is not_bad =
 fault_of gives o (Err e) BadRows is not_bad = absurd (not_bad refl)
 
 -- where the office stays, it stands after the call as before
-pub does_now : {A : Type 0} (gives : Gives A) (o : OfficeState) (Stays : OfficeState → Type 0)
+pub does_now : {A : Type 0} (gives : CommandResult A) (o : OfficeState)
+    (Stays : OfficeState → Type 0)
     (r : Result A StoreFault) → Does gives o (λ new. new ≡ o) r → Stays o → Does gives o Stays r
 does_now gives o Stays (Ok x) does here = (does.0, does.1, subst Stays (sym does.2) here)
 does_now gives o Stays (Err e) does here = (does.0, here)

@@ -53,7 +53,7 @@ use Rattle.office_tables.specs.Seat.{HerSeatsRise}
 use Rattle.office_tables.specs.declared.seat.SeatRow.{SeatRow}
 use Rattle.office_tables.specs.declared.share_student.StudentShareRow.{StudentShareRow}
 use Rattle.office_model.specs.Office.{IsPublication}
-use Rattle.office_model.specs.Publishing.{rows_now}
+use Rattle.office_model.specs.Publishing.{publication_rows}
 use Rattle.office_model.specs.Shown.{shown_exams, shown_penalty}
 use Rattle.office_model.specs.Views.{no_view, view_from, view_of}
 use Rattle.office_model.specs.declared.views.ViewRow.{ViewRow}
@@ -428,7 +428,8 @@ her_rise c (row ∷ rows) order own =
     (before_all c row rows own.0 own.1 order.0, her_rise c rows order.1 own.1)
 
 her_seats_rise : (r : Records) (c : ℕ) → AreRecords r → (published : Option Publication)
-    → r.published ≡ published → HerSeatsRise (map stored_seat (rows_of c (rows_now published)))
+    → r.published ≡ published → HerSeatsRise
+    (map stored_seat (rows_of c (publication_rows published)))
 her_seats_rise r c is None e = tt
 her_seats_rise r c is (Some p) e =
     her_rise c (rows_of c p.rows)
@@ -440,15 +441,15 @@ pub her_seats_read : (t : Tables) (o : OfficeState) (c : ℕ) (found : List Seat
     → StandsForOffice t o
     → IsOffice o
     → IsInOrder HerSeatsRise (filter (λ (x : SeatRow). eqb x.student c) t.seat) found
-    → found ≡ map stored_seat (rows_of c (rows_now (published_in o)))
+    → found ≡ map stored_seat (rows_of c (publication_rows (published_in o)))
 her_seats_read t None c found stands is order =
     order [] (subst (λ (t : Tables).
     IsPermutation (filter (λ (x : SeatRow). eqb x.student c) t.seat) []) (sym stands)
     (IsPermutation-refl [])) tt
 her_seats_read t (Some r) c found stands is order =
-    order (map stored_seat (rows_of c (rows_now r.published)))
+    order (map stored_seat (rows_of c (publication_rows r.published)))
     (subst (IsPermutation (filter (λ (x : SeatRow). eqb x.student c) t.seat))
-    (filter-map (λ (x : SeatRow). eqb x.student c) stored_seat (rows_now r.published))
+    (filter-map (λ (x : SeatRow). eqb x.student c) stored_seat (publication_rows r.published))
     (IsPermutation-filter (λ (x : SeatRow). eqb x.student c) _ _ stands.published.seat))
     (her_seats_rise r c is r.published refl)
 
@@ -553,14 +554,14 @@ pub her_share_in : (r : Records) (c : ℕ) → AreRecords r → (shares : List S
     → IsPermutation (filter (λ (x : StudentShareRow). eqb x.student c) (student_rows_in (Some r)))
     shares
     → IsHerShare shares
-    (share_of r.session.periods r.session.weights (rows_of c (rows_now r.published)))
+    (share_of r.session.periods r.session.weights (rows_of c (publication_rows r.published)))
 her_share_in r c is shares same = go r.published refl same
   where
     go : (published : Option Publication) → r.published ≡ published
         → IsPermutation (filter (λ (x : StudentShareRow). eqb x.student c)
         (student_share_rows r.session published)) shares
         → IsHerShare shares
-        (share_of r.session.periods r.session.weights (rows_of c (rows_now published)))
+        (share_of r.session.periods r.session.weights (rows_of c (publication_rows published)))
     go None e same = none (same_few [] shares (omega arith) same) refl
     go (Some p) e same = her_share r.session p c (small_shares_of r p is e) shares same
 
@@ -576,13 +577,13 @@ her_share_of (Some r) c is shares same = her_share_in r c is shares same
 -- her rows are at the published places of their exams
 hers_placed : (r : Records) (c : ℕ) → AreRecords r
     → All (λ (row : publish.SeatRow). published_place r.published row.exam ≡ Some (row_place row))
-    (rows_of c (rows_now r.published))
+    (rows_of c (publication_rows r.published))
 hers_placed r c is = go r.published is.publication
   where
     go : (published : Option Publication)
         → ((p : Publication) → published ≡ Some p → IsPublication r.session p)
         → All (λ (row : publish.SeatRow). published_place published row.exam ≡ Some (row_place row))
-        (rows_of c (rows_now published))
+        (rows_of c (publication_rows published))
     go None each = λ k d none. absurd (omega (arith, none))
     go (Some p) each =
         All-from_recursion (IsAtExam p.timetable) (rows_of c p.rows)
@@ -590,12 +591,12 @@ hers_placed r c is = go r.published is.publication
         (recursion_from_All (IsAtExam p.timetable) p.rows (each p refl).rows.at_exams))
 
 hers_numbered : (r : Records) (c : ℕ) → AreRecords r
-    → AreNumbered (rows_of c (rows_now r.published))
+    → AreNumbered (rows_of c (publication_rows r.published))
 hers_numbered r c is = go r.published is.publication
   where
     go : (published : Option Publication)
         → ((p : Publication) → published ≡ Some p → IsPublication r.session p)
-        → AreNumbered (rows_of c (rows_now published))
+        → AreNumbered (rows_of c (publication_rows published))
     go None each = λ k d none. absurd (omega (arith, none))
     go (Some p) each =
         All-from_recursion (λ (row : publish.SeatRow). row.student ≤ 999999999) (rows_of c p.rows)
@@ -608,7 +609,7 @@ module _ (r : Records) (I : Session) (c : ℕ) (is : AreRecords r) (same : r.ses
     (enrols : List EnrolRow) (places : List PlacedRow) (seats : List SeatRow)
     (hers : AreHerRows (Some r) c enrols places seats) where
   abbrev her_seat_rows : List publish.SeatRow
-  her_seat_rows = rows_of c (rows_now r.published)
+  her_seat_rows = rows_of c (publication_rows r.published)
 
   -- no seat is beyond a limit
   pub not_bad : ((own : List publish.SeatRow) → AreNumbered own → map stored_seat own ≡ seats → ⊥)
@@ -623,9 +624,9 @@ module _ (r : Records) (I : Session) (c : ℕ) (is : AreRecords r) (same : r.ses
       → rows ≡ shown_exams (view_from I enrolled published own))
       → rows ≡ shown_exams (view_of c (Some r))
   exams_shown enrolled at own rows exams stands only shown =
-      let her_exams : enrolled ≡ exams_sat r.enrolments c = exams ∙ hers.of_enrols in
+      let candidate_exams : enrolled ≡ exams_sat r.enrolments c = exams ∙ hers.of_enrols in
       let her_places : at ≡ places_in r.published enrolled
-      = stands ∙ hers.of_places ∙ ap (places_in r.published) (sym her_exams) in
+      = stands ∙ hers.of_places ∙ ap (places_in r.published) (sym candidate_exams) in
       let own_is : own ≡ her_seat_rows = only her_seat_rows (sym hers.of_seats) in
       let published : AreOfPublication r.published enrolled at own = record {
         places = her_places;
@@ -634,7 +635,7 @@ module _ (r : Records) (I : Session) (c : ℕ) (is : AreRecords r) (same : r.ses
             (hers_placed r c is);
       } in
       shown r.published published
-      ∙ (λ i. shown_exams (view_from (sym same i) (her_exams i) r.published (own_is i)))
+      ∙ (λ i. shown_exams (view_from (sym same i) (candidate_exams i) r.published (own_is i)))
 
 -- ---- what is told
 

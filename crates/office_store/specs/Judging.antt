@@ -4,12 +4,12 @@ use Rattle.std.specs.declared.alloc.Global.{Global}
 use Rattle.exam_terms.specs.Refusing.{◌>>=◌}
 use Rattle.exam_rules.specs.Breaches.{breaches_of}
 use Rattle.exam_rules.specs.declared.breach.Breach.{Breach}
-use Rattle.office_model.specs.Commands.{Gives}
+use Rattle.office_model.specs.Commands.{CommandResult}
 use Rattle.office_model.specs.Office.{OfficeState}
 use Rattle.office_model.specs.Step.{draft_in_session}
 
 -- all breaches of a draft, with the live enrolments
-abbrev pub draft_judged : ℕ → OfficeState → Gives (List Breach)
+abbrev pub draft_judged : ℕ → OfficeState → CommandResult (List Breach)
 draft_judged d office = do
   found ← draft_in_session d office
   Ok (breaches_of found.0.0.0 found.0.0.1 found.0.1, found.1)

@@ -7,7 +7,7 @@ use Rattle.sqlite.specs.Store.{Ghosts}
 use Rattle.sqlite_trees.specs.Tree.{Trees}
 use Rattle.office_schema.specs.Schema.{office_schema, schema_before}
 use Rattle.office_tables.specs.Schema.{no_schema}
-use Rattle.office_model.specs.Commands.{Gives}
+use Rattle.office_model.specs.Commands.{CommandResult}
 use Rattle.office_model.specs.Office.{OfficeState}
 use Rattle.office_model.specs.declared.fault.StoreFault.{StoreFault}
 use Rattle.office_model.specs.declared.fault.StoreFault.TheVariants.{Store}
@@ -20,7 +20,8 @@ abbrev pub found_in : Trees → Database
 found_in found = record { schema = office_schema; trees = found }
 
 -- the trees hold the office that the command makes of the one in the open file
-pub record HoldsNext {A : Type 0} (command : OfficeState → Gives A) (old : State) (found : Trees)
+pub record HoldsNext {A : Type 0} (command : OfficeState → CommandResult A) (old : State)
+    (found : Trees)
     : Type 0 where
   pub was_open : IsTrue old.is_open
   pub office : OfficeState
@@ -31,7 +32,8 @@ pub record HoldsNext {A : Type 0} (command : OfficeState → Gives A) (old : Sta
   pub holds : IsKept (found_in found) next
 
 -- what a command may commit, unless it is refused by name: the next office
-abbrev pub MayCommit : {A : Type 0} → (OfficeState → Gives A) → State → Result A StoreFault → Trees
+abbrev pub MayCommit : {A : Type 0} → (OfficeState → CommandResult A) → State → Result A StoreFault
+    → Trees
     → Type 0
 MayCommit command old result found =
     IfErr result (λ e. e ≡ Store) × HoldsNext command old found
@@ -44,7 +46,8 @@ pub record Leaves {A E : Type 0} (may : Trees → Type 0) (old new : State) (res
   pub survives : Survives old new may
 
 -- what a command leaves behind
-abbrev pub LeavesNext : {S A : Type 0} → Ghosts S → (OfficeState → Gives A) → Held S → Held S
+abbrev pub LeavesNext : {S A : Type 0} → Ghosts S → (OfficeState → CommandResult A) → Held S
+    → Held S
     → Result A StoreFault → Type 0
 LeavesNext store command old new result =
     Leaves (MayCommit command (state store old) result) (state store old) (state store new) result

@@ -11,8 +11,8 @@ use Rattle.office_tables.specs.declared.placed.PlacedRow.{PlacedRow}
 use Rattle.office_tables.specs.SharePart.{ArePartAmounts}
 use Rattle.office_tables.specs.ShareStudent.{AreStudentAmounts}
 use Rattle.office_model.specs.Office.{OfficeState, Records}
-use Rattle.office_model.specs.Publishing.{draft_published, published_as, rows_now}
-use Rattle.office_model.specs.DraftCommands.{penalty_now}
+use Rattle.office_model.specs.Publishing.{draft_published, published_as, publication_rows}
+use Rattle.office_model.specs.DraftCommands.{live_penalty}
 use Rattle.office_model.specs.declared.fault.StoreFault.{StoreFault}
 use Rattle.office_records.specs.Publications.{placed_from, placed_rows, stored_seat}
 use Rattle.office_records.specs.SeatsStored.{seat_rows_of}
@@ -63,8 +63,8 @@ pub record IsPutInFor (d : ℕ) (r : Records) (new : NewPublication) : Type 0 wh
   pub permitted : publish_refusal r.session r.enrolments timetable ≡ None
   pub before : List PlacedRow
   pub were : IsPermutation before (placed_rows r.published)
-  pub put : ArePutIn r.session timetable before (rows_now r.published)
-      (published_as r timetable).rows (penalty_now r timetable) new
+  pub put : ArePutIn r.session timetable before (publication_rows r.published)
+      (published_as r timetable).rows (live_penalty r timetable) new
 
 -- that, or the command's own refusal
 abbrev pub Publishes : ℕ → Records → Result NewPublication StoreFault → Type 0

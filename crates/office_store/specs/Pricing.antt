@@ -2,12 +2,12 @@
 use Rattle.std.specs.Prelude.{ℕ, Ok}
 use Rattle.exam_terms.specs.Refusing.{◌>>=◌}
 use Rattle.exam_score.specs.Penalty.{Penalty}
-use Rattle.office_model.specs.Commands.{Gives}
+use Rattle.office_model.specs.Commands.{CommandResult}
 use Rattle.office_model.specs.DraftCommands.{draft_shown}
 use Rattle.office_model.specs.Office.{OfficeState}
 
 -- the penalty of a draft, with the live enrolments
-abbrev pub draft_priced : ℕ → OfficeState → Gives Penalty
+abbrev pub draft_priced : ℕ → OfficeState → CommandResult Penalty
 draft_priced d office = do
   found ← draft_shown d office
   Ok (found.0.1, found.1)

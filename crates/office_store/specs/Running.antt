@@ -3,7 +3,7 @@ use Rattle.std.specs.Prelude.{◌≡◌, IsTrue, OnErr, Result, Ok, Err}
 use Rattle.sqlite.specs.Held.{Held, state}
 use Rattle.sqlite.specs.State.{State, HasCleanDisk}
 use Rattle.sqlite.specs.Store.{Ghosts}
-use Rattle.office_model.specs.Commands.{Gives}
+use Rattle.office_model.specs.Commands.{CommandResult}
 use Rattle.office_model.specs.Office.{OfficeState}
 use Rattle.office_records.specs.Stands.{IsKept}
 use Rattle.office_model.specs.declared.fault.StoreFault.{StoreFault}
@@ -16,20 +16,20 @@ abbrev pub Now : State → OfficeState → Type 0
 Now s office = IsTrue s.is_open → IsKept s.now office
 
 -- the command's own refusal, or a failed statement; an honest store never answers BadSchema
-abbrev pub IsFault : {A : Type 0} → Gives A → StoreFault → Type 0
+abbrev pub IsFault : {A : Type 0} → CommandResult A → StoreFault → Type 0
 IsFault gives Store = Unit {0}
 IsFault gives BadSchema = ⊥
 IsFault gives fault = gives ≡ Err fault
 
 -- it gave what the command gives and the tables represent that office, or it was refused and they
 -- represent the old one
-abbrev pub Does : {A : Type 0} → Gives A → OfficeState → (OfficeState → Type 0)
+abbrev pub Does : {A : Type 0} → CommandResult A → OfficeState → (OfficeState → Type 0)
     → Result A StoreFault → Type 0
 Does gives old Stays (Ok x) = (new : OfficeState) × (gives ≡ Ok (x, new)) × Stays new
 Does gives old Stays (Err fault) = IsFault gives fault × Stays old
 
 -- a changing command, over a disk that returns what was written
-abbrev pub Runs : {S A : Type 0} → Ghosts S → (OfficeState → Gives A) → Held S → Held S
+abbrev pub Runs : {S A : Type 0} → Ghosts S → (OfficeState → CommandResult A) → Held S → Held S
     → Result A StoreFault → Type 0
 Runs store command old new result =
     HasCleanDisk (state store new) → (office : OfficeState) → Now (state store old) office

@@ -9,7 +9,7 @@ use Rattle.office_tables.specs.declared.placed.PlacedRow.{PlacedRow}
 use Rattle.office_tables.specs.declared.seat.SeatRow.{SeatRow}
 use Rattle.office_tables.specs.declared.share_student.StudentShareRow.{StudentShareRow}
 use Rattle.office_model.specs.Office.{OfficeState}
-use Rattle.office_model.specs.Publishing.{rows_now}
+use Rattle.office_model.specs.Publishing.{publication_rows}
 use Rattle.office_model.specs.ViewRows.{places_in}
 use Rattle.office_records.specs.Publications.{stored_seat}
 use Rattle.office_store.specs.OfficeRows.{published_in}
@@ -45,4 +45,4 @@ pub record AreHerRows (office : OfficeState) (c : ℕ) (enrols : List EnrolRow)
     (places : List PlacedRow) (seats : List SeatRow) : Type 0 where
   pub of_enrols : map (λ row. row.exam) enrols ≡ exams_in c office
   pub of_places : map place_in_row places ≡ places_in (published_in office) (exams_in c office)
-  pub of_seats : seats ≡ map stored_seat (rows_of c (rows_now (published_in office)))
+  pub of_seats : seats ≡ map stored_seat (rows_of c (publication_rows (published_in office)))

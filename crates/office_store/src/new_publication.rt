@@ -11,7 +11,7 @@ ghost use Rattle.exam_publish.specs.Rows.{ArePublishedRows, RowsInOrder};
 ghost use Rattle.exam_publish.specs.Seats.{AreSeated};
 ghost use Rattle.exam_score.specs.Penalty.{total_of};
 ghost use Rattle.office_model.specs.Office.{AreRecords, OfficeState, Records};
-ghost use Rattle.office_model.specs.Publishing.{draft_published, rows_now};
+ghost use Rattle.office_model.specs.Publishing.{draft_published, publication_rows};
 ghost use Rattle.office_records.specs.Memory.{memory_of};
 ghost use Rattle.office_records.specs.Publications.{StandsPublished, stored_seat};
 ghost use Rattle.office_records.specs.SeatsStored.{seat_rows_of};
@@ -119,7 +119,7 @@ fn old_seats(
 ) -> Result<Vec<SeatRow>, StoreFault>
     ensures are { (r : Records) → AreRecords r → r.session ≡ instance.now
         → StandsPublished found.now.placements.items found.now.seats.items r.published
-        → Tells (rows_now r.published) (listed result) }
+        → Tells (publication_rows r.published) (listed result) }
     ensures seated { IfOk result (λ rows. AreSeated instance.now rows.items) }
 {
     match published_of(alloc, instance, found)? {

@@ -4,7 +4,7 @@ ghost use Rattle.sqlite.specs.Held.{state};
 ghost use Rattle.sqlite.specs.State.{HasCleanDisk, Survives};
 ghost use Rattle.exam_publish.specs.Changed.{rows_of};
 ghost use Rattle.office_model.specs.Office.{AreRecords, OfficeState, Records};
-ghost use Rattle.office_model.specs.Publishing.{rows_now};
+ghost use Rattle.office_model.specs.Publishing.{publication_rows};
 ghost use Rattle.office_model.specs.ViewRows.{places_in};
 ghost use Rattle.office_model.specs.Shown.{shown_exams, shown_penalty, shown_to};
 ghost use Rattle.office_model.specs.Views.{view_of};
@@ -57,7 +57,7 @@ impl<S: Alter> Office<S> {
             → HasCleanDisk (state S.Store self.old) }
         ensures survives { Survives (state S.Store self.old) (state S.Store self.new) (λ _. ⊥) }
     {
-        let exams = self.her_exams(alloc, student)?;
+        let exams = self.candidate_exams(alloc, student)?;
         let personal = self.candidate_penalty(alloc, student)?;
         Ok(CandidateView::new(student, exams, personal))
     }
@@ -83,7 +83,7 @@ impl<S: Alter> Office<S> {
             → HasCleanDisk (state S.Store self.old) }
         ensures survives { Survives (state S.Store self.old) (state S.Store self.new) (λ _. ⊥) }
     {
-        let rows = self.her_exams(alloc, student)?;
+        let rows = self.candidate_exams(alloc, student)?;
         Ok(row_of(&rows, exam))
     }
 
@@ -110,7 +110,11 @@ impl<S: Alter> Office<S> {
     }
 
     // All exams of a candidate, as she is shown them; none if nothing is loaded.
-    fn her_exams(&mut self, alloc: Global, student: StudentNo) -> Result<Vec<ViewRow>, StoreFault>
+    fn candidate_exams(
+        &mut self,
+        alloc: Global,
+        student: StudentNo,
+    ) -> Result<Vec<ViewRow>, StoreFault>
         ensures reads { ReadsOffice S.Store (λ o. shown_exams (view_of student o))
             self.old self.new (listed result) }
         ensures still { HasCleanDisk (state S.Store self.new)
@@ -191,7 +195,7 @@ impl<S: Alter> Office<S> {
         ensures rows { HasCleanDisk (state S.Store self.new) → (office : OfficeState)
             → IsKept (state S.Store self.new).now office
             → IfOk result (λ rows. rows.items
-            ≡ map stored_seat (rows_of student (rows_now (published_in office)))) }
+            ≡ map stored_seat (rows_of student (publication_rows (published_in office)))) }
         ensures still { HasCleanDisk (state S.Store self.new)
             → IsStill (state S.Store self.old) (state S.Store self.new) }
         ensures awake { HasCleanDisk (state S.Store self.new)

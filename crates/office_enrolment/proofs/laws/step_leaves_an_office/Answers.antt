@@ -1,6 +1,6 @@
 use Rattle.std.proofs.Common.{◌≡◌, inl, inr, ap, sym, subst, Ok, Err, refl}
 use Rattle.office_model.specs.Batches.{batch_enrolled}
-use Rattle.office_model.specs.Commands.{Gives}
+use Rattle.office_model.specs.Commands.{CommandResult}
 use Rattle.office_model.specs.Office.{IsOffice, OfficeState}
 use Rattle.office_model.specs.Step.{Outcome}
 use Rattle.office_model.specs.declared.counts.Counts.{Counts}
@@ -8,7 +8,7 @@ use Rattle.office_model.proofs.OfficeLemmas.{Leaves, step_leaves}
 use Rattle.office_enrolment.proofs.laws.step_leaves_an_office.Goals as goal
 
 -- the office after a result is an office, if it is one for each result
-each_leaves : (gives : Gives Counts)
+each_leaves : (gives : CommandResult Counts)
     → ((counts : Counts) (new : OfficeState) → gives ≡ Ok (counts, new) → IsOffice new)
     → Leaves gives
 each_leaves (Ok given) leaves = leaves given.0 given.1 refl

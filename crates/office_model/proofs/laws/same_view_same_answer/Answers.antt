@@ -1,5 +1,5 @@
-use Rattle.office_model.proofs.ToldLemmas.{same_told}
+use Rattle.office_model.proofs.ToldLemmas.{same_answered}
 use Rattle.office_model.proofs.laws.same_view_same_answer.Goals as goal
 
 pub returns : goal.returns
-returns c = same_told
+returns c = same_answered

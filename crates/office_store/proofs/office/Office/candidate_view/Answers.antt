@@ -14,12 +14,12 @@ returns-clause-reads g c clean o now =
 
 pub returns-in_err-personal-clause-survives : goal.returns-in_err-personal-clause-survives
 returns-in_err-personal-clause-survives g c =
-    survives_on (state g.S.Store c.args.self.now) (state g.S.Store c.her_exams.new.self)
-    (state g.S.Store c.candidate_penalty.new.self) c.her_exams.ensures.survives
+    survives_on (state g.S.Store c.args.self.now) (state g.S.Store c.candidate_exams.new.self)
+    (state g.S.Store c.candidate_penalty.new.self) c.candidate_exams.ensures.survives
     c.candidate_penalty.ensures.survives
 
 pub returns-clause-survives : goal.returns-clause-survives
 returns-clause-survives g c =
-    survives_on (state g.S.Store c.args.self.now) (state g.S.Store c.her_exams.new.self)
-    (state g.S.Store c.candidate_penalty.new.self) c.her_exams.ensures.survives
+    survives_on (state g.S.Store c.args.self.now) (state g.S.Store c.candidate_exams.new.self)
+    (state g.S.Store c.candidate_penalty.new.self) c.candidate_exams.ensures.survives
     c.candidate_penalty.ensures.survives

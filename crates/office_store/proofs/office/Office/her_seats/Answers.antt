@@ -1,7 +1,7 @@
 use Rattle.std.proofs.Common.{◌≡◌, ap, arith, map, not, subst, ◌∙◌}
 use Rattle.sqlite.specs.Held.{state}
 use Rattle.exam_publish.specs.Changed.{rows_of}
-use Rattle.office_model.specs.Publishing.{rows_now}
+use Rattle.office_model.specs.Publishing.{publication_rows}
 use Rattle.office_records.specs.Publications.{stored_seat}
 use Rattle.office_store.specs.OfficeRows.{published_in}
 use Rattle.office_store.proofs.RunLemmas.{kept_read, rest_read}
@@ -30,7 +30,7 @@ returns-clause-rows g c clean office here =
     (c.is_autocommit-at_rest.ensures.value ∙ ap not c.self.invariant.0))
     c.in_ok-rows.ensures.open c.in_ok-rows.ensures.same clean office here in
     subst (λ n. c.in_ok-rows.rows.items
-    ≡ map stored_seat (rows_of n (rows_now (published_in office)))) c.get.ensures.number
+    ≡ map stored_seat (rows_of n (publication_rows (published_in office)))) c.get.ensures.number
     (her_seats_read kept.held office c.get.result c.in_ok-rows.rows.items kept.stands kept.office
     (c.in_ok-rows.ensures.in_order clean kept.held kept.tables))
 

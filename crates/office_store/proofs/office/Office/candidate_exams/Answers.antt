@@ -4,7 +4,7 @@ use Rattle.office_model.specs.Views.{view_of}
 use Rattle.office_store.specs.Judging.{listed}
 use Rattle.office_store.proofs.CommandLemmas.{tells}
 use Rattle.office_store.proofs.ViewLemmas.{exams_told, nothing_told}
-use Rattle.office_store.proofs.office.Office.her_exams.Goals as goal
+use Rattle.office_store.proofs.office.Office.candidate_exams.Goals as goal
 
 pub returns-in_default-clause-reads : goal.returns-in_default-clause-reads
 returns-in_default-clause-reads g c =

@@ -1,6 +1,6 @@
 use Rattle.office_http.proofs.CandidateLemmas.{tells}
 use Rattle.office_http.proofs.IsolationLemmas.{stays}
-use Rattle.office_http.proofs.laws.told_by_view.Goals as goal
+use Rattle.office_http.proofs.laws.reply_by_view.Goals as goal
 
 pub returns-clause-view : goal.returns-clause-view
 returns-clause-view c = tells

@@ -1,0 +1,5 @@
+use Rattle.office_model.proofs.ToldLemmas.{candidate_answer}
+use Rattle.office_model.proofs.laws.reply_by_view.Goals as goal
+
+pub returns : goal.returns
+returns c = candidate_answer
