@@ -23,7 +23,7 @@ use Rattle.office_model.specs.declared.fault.StoreFault.{StoreFault}
 use Rattle.office_model.specs.declared.fault.StoreFault.TheVariants.{BatchDiffers, Refused, TooMany}
 use Rattle.office_model.proofs.RecordLemmas.{are_enrolled}
 use Rattle.office_enrolment.specs.AfterBatch.{after_batch}
-use Rattle.office_enrolment.specs.Keeping.{batch_judged, batch_kept, records_with_batch}
+use Rattle.office_enrolment.specs.Keeping.{batch_judged, batch_stored, records_with_batch}
 use Rattle.office_enrolment.proofs.LineLemmas.{HaveNumbers, accepted, all_after, all_exams, all_kept}
 
 -- ---- the judgement
@@ -35,7 +35,7 @@ pub as_office : (number : ℕ) (bytes : List ℕ) (changes : List Change) (r : R
     ≡ batch_judged number bytes changes r
 as_office number bytes changes r exams =
     let E : Enrolled = r.enrolments in
-    let keep : Counts × Enrolled → CommandResult Counts = batch_kept number bytes r in
+    let keep : Counts × Enrolled → CommandResult Counts = batch_stored number bytes r in
     let exist : ℕ → Bool = λ (n : ℕ). list_all (λ (c : Change). nat_lt c.exam n) changes in
     let fault : StoreFault = Refused (refusal.Edit NoSuch) in
     let first : (b : Bool) → (unless b fault >>= λ _. enrolled changes E no_counts >>= keep)
@@ -126,7 +126,7 @@ module _ (number : ℕ) (bytes : List ℕ) (small : number ≤ 999999999)
       (counts : Counts) (new : OfficeState)
       → HaveNumbers changes → batch_numbered number r.batches ≡ None
       → after_batch changes r.enrolments ≡ Ok done → AreRecords r
-      → batch_kept number bytes r done ≡ Ok (counts, new) → IsOffice new
+      → batch_stored number bytes r done ≡ Ok (counts, new) → IsOffice new
   kept_after changes r done counts new known none is were keeps =
       let room : Bool = nat_lt (length r.batches) 10000 in
       let gave : Counts × OfficeState = (done.0, Some (records_with_batch number bytes r done)) in
@@ -143,7 +143,7 @@ module _ (number : ℕ) (bytes : List ℕ) (small : number ≤ 999999999)
   new_after : (changes : List Change) (r : Records) (counts : Counts) (new : OfficeState)
       (judged : Result (Counts × Enrolled) StoreFault) → HaveNumbers changes
       → batch_numbered number r.batches ≡ None → after_batch changes r.enrolments ≡ judged
-      → AreRecords r → (judged >>= batch_kept number bytes r) ≡ Ok (counts, new) → IsOffice new
+      → AreRecords r → (judged >>= batch_stored number bytes r) ≡ Ok (counts, new) → IsOffice new
   new_after changes r counts new (Err fault) known none is were gives = absurd (cc gives)
   new_after changes r counts new (Ok done) known none is were gives =
       kept_after changes r done counts new known none is were gives

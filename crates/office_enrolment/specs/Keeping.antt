@@ -18,8 +18,8 @@ records_with_batch number bytes r done = record r {
 }
 
 -- refused if the number of kept batches is at its limit
-abbrev pub batch_kept : ℕ → List ℕ → Records → Counts × Enrolled → CommandResult Counts
-batch_kept number bytes r done = do
+abbrev pub batch_stored : ℕ → List ℕ → Records → Counts × Enrolled → CommandResult Counts
+batch_stored number bytes r done = do
   _ ← unless (nat_lt (length r.batches) MAX_BATCHES) TooMany
   Ok (done.0, Some (records_with_batch number bytes r done))
 
@@ -27,4 +27,4 @@ batch_kept number bytes r done = do
 abbrev pub batch_judged : ℕ → List ℕ → List Change → Records → CommandResult Counts
 batch_judged number bytes changes r = do
   done ← after_batch changes r.enrolments
-  batch_kept number bytes r done
+  batch_stored number bytes r done

@@ -197,7 +197,7 @@ module _ (number : ℕ) (bytes : List ℕ) (changes : List Change)
       let there : nat_lt (length r.batches) 10000 ≡ true = grind (arith, nat_tests, room) in
       as_office number bytes changes r exams
       ∙ ap (λ (judged : Result (Counts × Enrolled) StoreFault).
-      judged >>= keeping.batch_kept number bytes r) after
+      judged >>= keeping.batch_stored number bytes r) after
       ∙ ap (λ b. unless b TooMany >>= λ _.
       Ok (done.0, Some (keeping.records_with_batch number bytes r done))) there
 

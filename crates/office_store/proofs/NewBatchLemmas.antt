@@ -13,7 +13,7 @@ use Rattle.exam_model.specs.declared.change.Change.{Change}
 use Rattle.exam_draft.specs.declared.fault.EditFault.TheVariants.{NoSuch}
 use Rattle.office_tables.specs.declared.draft.DraftRow.{DraftRow}
 use Rattle.office_enrolment.specs.AfterBatch.{Refuses, after_batch, latest, names_exam}
-use Rattle.office_enrolment.specs.Keeping.{batch_kept}
+use Rattle.office_enrolment.specs.Keeping.{batch_stored}
 use Rattle.office_enrolment.proofs.OfficeLemmas.{as_office}
 use Rattle.office_model.specs.BatchLines.{after_change, counted, enrolled, no_counts}
 use Rattle.office_model.specs.Batches.{newly_enrolled}
@@ -63,10 +63,10 @@ module _ (number : ℕ) (bytes : List ℕ) (changes : List Change) (r : Records)
 
   judged_so : (judged : Result (Counts × Enrolled) StoreFault)
       → after_batch changes r.enrolments ≡ judged
-      → gives ≡ (judged >>= batch_kept number bytes r)
+      → gives ≡ (judged >>= batch_stored number bytes r)
   judged_so judged is =
       as_office number bytes changes r exams
-      ∙ ap (λ (j : Result (Counts × Enrolled) StoreFault). j >>= batch_kept number bytes r) is
+      ∙ ap (λ (j : Result (Counts × Enrolled) StoreFault). j >>= batch_stored number bytes r) is
 
   -- its lines refuse it, or memory
   pub lines_refuse : (fault : StoreFault) → Refuses (after_batch changes r.enrolments) fault
