@@ -39,20 +39,20 @@ object_text first others =
 -- ---- as the program holds them
 
 -- a member's value, as text
-abbrev pub said_text : Says → List ℕ
-said_text (Number n) = decimal n
-said_text (Word w) = quoted w.now
+abbrev pub value_text : Says → List ℕ
+value_text (Number n) = decimal n
+value_text (Word w) = quoted w.now
 
 -- a member as lists of bytes
 abbrev pub plain_member : Member → PlainMember
-plain_member m = record { key = m.key.now; says = said_text m.says }
+plain_member m = record { key = m.key.now; says = value_text m.says }
 
 -- a short word
-abbrev pub IsShortSaid : Says → Type 0
-IsShortSaid (Number n) = Unit {0}
-IsShortSaid (Word w) = length w.now ≤ WORD_BYTES
+abbrev pub IsShortValue : Says → Type 0
+IsShortValue (Number n) = Unit {0}
+IsShortValue (Word w) = length w.now ≤ WORD_BYTES
 
 -- a member whose key and word are short
 pub record IsShort (m : Member) : Type 0 where
   pub key : length m.key.now ≤ WORD_BYTES
-  pub says : IsShortSaid m.says
+  pub says : IsShortValue m.says

@@ -3,8 +3,8 @@
 ghost use Rattle.std.specs.Prelude.{◌≡◌, ◌+◌, ◌≤◌, ◌++◌, All, IfOk, length, decimal};
 ghost use Rattle.std.specs.Prelude.{map, vec_len, vec_capacity};
 ghost use Rattle.office_messages.specs.Reply.{plain_reply, json_reply};
-ghost use Rattle.office_replies.specs.Objects.{IsShort, IsShortSaid, member_text, object_text};
-ghost use Rattle.office_replies.specs.Objects.{plain_member, quoted, said_text};
+ghost use Rattle.office_replies.specs.Objects.{IsShort, IsShortValue, member_text, object_text};
+ghost use Rattle.office_replies.specs.Objects.{plain_member, quoted, value_text};
 
 use itoa::Buffer;
 use office_messages::{Content, Payload, Reply, Status, put};
@@ -111,14 +111,14 @@ fn put_member(room: &mut Vec<u8>, member: Member)
     put(room, b"\"");
     put(room, member.key);
     put(room, b"\":");
-    put_said(room, member.says);
+    put_value(room, member.says);
 }
 
 // Adds a member's value, for which there is room.
-fn put_said(room: &mut Vec<u8>, says: Says)
-    requires short { IsShortSaid says }
+fn put_value(room: &mut Vec<u8>, says: Says)
+    requires short { IsShortValue says }
     requires room { vec_len room.old + SAID_BYTES ≤ vec_capacity room.old }
-    ensures text { room.new.items ≡ room.old.items ++ said_text says }
+    ensures text { room.new.items ≡ room.old.items ++ value_text says }
     ensures len { vec_len room.new ≤ vec_len room.old + SAID_BYTES }
     ensures room { vec_capacity room.old ≤ vec_capacity room.new }
 {
