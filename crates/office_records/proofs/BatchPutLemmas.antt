@@ -19,7 +19,7 @@ use Rattle.office_enrolment.specs.Keeping.{records_with_batch}
 use Rattle.office_enrolment.proofs.RowLemmas.{rows_after_batch}
 use Rattle.office_records.specs.BatchRows.{batch_put, enrol_rows}
 use Rattle.office_records.specs.Found.{AreDrafts}
-use Rattle.office_records.specs.Stands.{IsSound, StandsLoaded, parts_of}
+use Rattle.office_records.specs.Representation.{IsSound, TablesRepresentRecords, parts_of}
 use Rattle.office_records.specs.TableRows.{stored_batch}
 use Rattle.office_records.proofs.SameTables.{few_once, few_read}
 
@@ -38,8 +38,8 @@ module _ (number : ℕ) (bytes : List ℕ) (changes : List Change) (r : Records)
       (omega (arith, small), omega (arith, few), omega (arith, few), omega (arith, few))
 
   -- the tables represent the office after the batch
-  pub batch_stands : number ≤ 999999999 → lines_in done.0 ≤ 1048576 → StandsLoaded t r
-      → StandsLoaded put (records_with_batch number bytes r done)
+  pub batch_stands : number ≤ 999999999 → lines_in done.0 ≤ 1048576 → TablesRepresentRecords t r
+      → TablesRepresentRecords put (records_with_batch number bytes r done)
   batch_stands small few h = record {
     meta = h.meta;
     owner = h.owner;

@@ -13,7 +13,7 @@ use Rattle.office_tables.specs.Tables.{Batch, Tables}
 use Rattle.office_tables.specs.declared.batch.BatchCountsRow.{BatchCountsRow}
 use Rattle.office_model.specs.Office.{AreKept, IsKeptBatch, IsOffice, KeptBatch, OfficeState}
 use Rattle.office_records.specs.FoundBatches.{AreBatchRows, AreFoundBatches, IsBatchRow, IsShort}
-use Rattle.office_records.specs.Stands.{StandsForOffice, StandsBatches}
+use Rattle.office_records.specs.Representation.{TablesRepresentOffice, RowsRepresentBatches}
 use Rattle.office_records.specs.TableRows.{stored_batch}
 
 -- a stored batch as the office's kept batch
@@ -46,7 +46,7 @@ module _ (found : List BatchCountsRow) (batches : List Batch) (are : AreBatchRow
       all_from_map IsBatchRow counts_of batches
       (subst (AllByRecursion IsBatchRow) (sym rows) (recursion_from_All IsBatchRow found are.each))
 
-  pub batches_stand : StandsBatches batches (map kept_batch batches)
+  pub batches_stand : RowsRepresentBatches batches (map kept_batch batches)
   batches_stand = record {
     same = subst (IsPermutation batches) (sym (stored_again batches)) (IsPermutation-refl batches);
     fit = all_weaker (λ (b : Batch). IsBatchRow (counts_of b)) FitsBatch (λ b is. is.fits) batches
@@ -80,7 +80,7 @@ batches_kept found batches are these = record {
 -- ---- from the batches to their rows
 
 pub batch_rows : (found : List BatchCountsRow) (batches : List Batch) (kept : List KeptBatch)
-    → map counts_of batches ≡ found → StandsBatches batches kept → AreKept kept
+    → map counts_of batches ≡ found → RowsRepresentBatches batches kept → AreKept kept
     → AreBatchRows found
 batch_rows found batches kept rows stand are = record {
   few = let stored = length-map kept stored_batch in
@@ -143,7 +143,7 @@ short_by_rows found batches rows all =
     (subst (AllByRecursion Picked) (sym rows) (recursion_from_All Picked found all)))
 
 -- an office's batches are not too long
-pub stored_short : (t : Tables) (o : OfficeState) → StandsForOffice t o → IsOffice o
+pub stored_short : (t : Tables) (o : OfficeState) → TablesRepresentOffice t o → IsOffice o
     → All IsShort t.batch
 stored_short t None stands is =
     subst (λ (u : Tables). All IsShort u.batch) (sym stands)

@@ -17,7 +17,7 @@ use Rattle.office_tables.specs.declared.draft.DraftRow.{DraftRow}
 use Rattle.office_tables.specs.declared.slot.SlotRow.{SlotRow}
 use Rattle.office_records.specs.Found.{AreDrafts, AreSlots}
 use Rattle.office_model.specs.Office.{set_at}
-use Rattle.office_records.specs.Stands.{parts_of}
+use Rattle.office_records.specs.Representation.{parts_of}
 use Rattle.office_records.specs.TableRows.{drafts_at, slots_at, slot_rows, once}
 use Rattle.office_records.proofs.PassLemmas.{none_pass, one_passes, found_one, passes_at}
 use Rattle.office_records.proofs.PassLemmas.{each_passes, all_pass, two_pass}

@@ -27,9 +27,9 @@ abbrev Found : Type 0
 Found = Option (Placing × Vec publish.SeatRow Global)
 
 -- an empty list, and one that isn't
-pub not_empty : {X : Type 0} (xs : List X) (told : Bool) → told ≡ nat_eq (length xs) 0
-    → told ≡ false → xs ≡ [] → ⊥
-not_empty xs told is untrue none =
+pub not_empty : {X : Type 0} (xs : List X) (is_known : Bool) → is_known ≡ nat_eq (length xs) 0
+    → is_known ≡ false → xs ≡ [] → ⊥
+not_empty xs is_known is untrue none =
     true≢false (sym (is ∙ ap (λ l. nat_eq (length l) 0) none) ∙ untrue)
 
 pub no_rows : {X : Type 0} (xs : List X) → IsPermutation xs [] → xs ≡ []

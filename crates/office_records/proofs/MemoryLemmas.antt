@@ -27,7 +27,7 @@ use Rattle.office_tables.specs.Enrol.{enrol_columns}
 use Rattle.office_tables.specs.declared.enrol.EnrolRow.{EnrolRow}
 use Rattle.office_model.specs.Office.{OfficeState, Records, AreRecords, AreEnrolled}
 use Rattle.office_records.specs.Memory.{memory_of}
-use Rattle.office_records.specs.Stands.{IsKept, StandsForOffice, StandsLoaded, IsKeptIn}
+use Rattle.office_records.specs.Representation.{RepresentsOffice, TablesRepresentOffice, TablesRepresentRecords, RepresentsOfficeIn}
 use Rattle.office_records.specs.TableRows.{enrol_row, meta_row}
 
 -- ---- the rows of a table
@@ -155,7 +155,7 @@ module _ (version : Version) (db : Database) (p q : Tables) (held : StandsIn ver
   enrols = same_rows keyless enrol_columns columns_back columns_are p.enrol q.enrol (db.trees 2)
       held.enrol held2.enrol
 
-  nothing_loaded : (r : Records) → StandsForOffice p None → StandsLoaded q r → ⊥
+  nothing_loaded : (r : Records) → TablesRepresentOffice p None → TablesRepresentRecords q r → ⊥
   nothing_loaded r none some =
       let is : IsPermutation (record { published = false; instance = [] } ∷ [])
       (meta_row (is_some r.published) r.session ∷ [])
@@ -164,7 +164,8 @@ module _ (version : Version) (db : Database) (p q : Tables) (held : StandsIn ver
       let same = ap (λ (m : Meta). m.instance) (same_one _ _ is) in
       absurd (let long = ap length same in omega (arith, long))
 
-  loaded_same : (r s : Records) → StandsLoaded p r → StandsLoaded q s → AreRecords r → AreRecords s
+  loaded_same : (r s : Records) → TablesRepresentRecords p r → TablesRepresentRecords q s
+      → AreRecords r → AreRecords s
       → memory_of (Some r) ≡ memory_of (Some s)
   loaded_same r s a b first second =
       let one : IsPermutation (meta_row (is_some r.published) r.session ∷ [])
@@ -181,7 +182,7 @@ module _ (version : Version) (db : Database) (p q : Tables) (held : StandsIn ver
 
 -- a database represents one session with one set of enrolments
 pub same_memory_in : (version : Version) (db : Database) (o p : OfficeState)
-    → IsKeptIn version db o → IsKeptIn version db p → memory_of o ≡ memory_of p
+    → RepresentsOfficeIn version db o → RepresentsOfficeIn version db p → memory_of o ≡ memory_of p
 same_memory_in version db None None a b = refl
 same_memory_in version db None (Some s) a b =
     absurd (nothing_loaded version db a.held b.held a.tables b.tables s a.stands b.stands)
@@ -190,6 +191,7 @@ same_memory_in version db (Some r) None a b =
 same_memory_in version db (Some r) (Some s) a b =
     loaded_same version db a.held b.held a.tables b.tables r s a.stands b.stands a.office b.office
 
-pub same_memory : (db : Database) (o p : OfficeState) → IsKept db o → IsKept db p
+pub same_memory : (db : Database) (o p : OfficeState) → RepresentsOffice db o
+    → RepresentsOffice db p
     → memory_of o ≡ memory_of p
 same_memory = same_memory_in Two

@@ -53,7 +53,7 @@ use Rattle.office_model.specs.Publishing.{publication_rows}
 use Rattle.office_records.specs.Publications.{placed_from, placed_rows, stored_seat}
 use Rattle.office_records.specs.PartShares.{part_rows, part_share_rows, plain_rows, room_rows}
 use Rattle.office_records.specs.SharesStored.{student_share_row, student_share_rows}
-use Rattle.office_records.specs.Stands.{IsKept, IsSound, StandsForOffice, IsKeptIn}
+use Rattle.office_records.specs.Representation.{RepresentsOffice, IsSound, TablesRepresentOffice, RepresentsOfficeIn}
 use Rattle.office_records.specs.TableRows.{some_dept, once, slot_rows, slots_from, enrol_row}
 
 -- ---- lists
@@ -314,7 +314,8 @@ module _ (I : Session) (known : IsInstance I) where
 
 -- ---- the tables
 
-pub are_readable : (t : Tables) (o : OfficeState) → StandsForOffice t o → IsSound t o → IsOffice o
+pub are_readable : (t : Tables) (o : OfficeState) → TablesRepresentOffice t o → IsSound t o
+    → IsOffice o
     → AreReadable t
 are_readable t None stands sound is = subst AreReadable (sym stands) (record {
   row = record { published = false; instance = [] };
@@ -356,11 +357,12 @@ are_readable t (Some r) stands sound is = record {
 }
 
 -- a database that represents an office, in any version, is not foreign
-pub not_foreign_in : (version : Version) (db : Database) (o : OfficeState) → IsKeptIn version db o
+pub not_foreign_in : (version : Version) (db : Database) (o : OfficeState)
+    → RepresentsOfficeIn version db o
     → IsForeign db → ⊥
 not_foreign_in version db o kept foreign =
     foreign version kept.held (are_readable kept.held o kept.stands kept.sound kept.office)
     kept.tables
 
-pub not_foreign : (db : Database) (o : OfficeState) → IsKept db o → IsForeign db → ⊥
+pub not_foreign : (db : Database) (o : OfficeState) → RepresentsOffice db o → IsForeign db → ⊥
 not_foreign = not_foreign_in Two

@@ -18,7 +18,7 @@ use Rattle.office_records.specs.Found.{AreOwners, ArePublication, IsSessionRow, 
 use Rattle.office_model.specs.Office.{OfficeState, Publication, Records, AreKept, AreRecords, IsOffice, IsPublication}
 use Rattle.office_records.specs.FoundPublications.{ArePublished}
 use Rattle.office_records.specs.Memory.{memory_of}
-use Rattle.office_records.specs.Stands.{IsSound, StandsForOffice, StandsLoaded}
+use Rattle.office_records.specs.Representation.{IsSound, TablesRepresentOffice, TablesRepresentRecords}
 use Rattle.office_records.specs.TableRows.{meta_row}
 use Rattle.office_records.proofs.BatchRowLemmas.{batch_rows, batches_kept, batches_stand}
 use Rattle.office_records.proofs.BatchRowLemmas.{kept_batch, no_batches}
@@ -78,7 +78,7 @@ module _ (found : Found) (batches : List Batch) where
       }
 
   pub nothing_loaded : IsUnloaded found → AreFoundBatches found.batches.items batches
-      → (office : OfficeState) × StandsForOffice t office × IsSound t office × IsOffice office
+      → (office : OfficeState) × TablesRepresentOffice t office × IsSound t office × IsOffice office
       × (memory_of office ≡ None)
   nothing_loaded is these =
       let none = no_batches batches (these.rows ∙ is.batches) in
@@ -100,7 +100,7 @@ module _ (found : Found) (batches : List Batch) where
       → (draft : ℕ → Option Placing) × AreDrafts I E found.drafts.items found.slots.items draft
       → (published : Option Publication) × IsPublished I published
       → AreBatchRows found.batches.items → AreFoundBatches found.batches.items batches
-      → (office : OfficeState) × StandsForOffice t office × IsSound t office × IsOffice office
+      → (office : OfficeState) × TablesRepresentOffice t office × IsSound t office × IsOffice office
       × (memory_of office ≡ Some (I, E))
   office_of I E session owners enrols drafts published kept these = (
     Some (record {
@@ -136,7 +136,7 @@ module _ (found : Found) (batches : List Batch) where
 
   -- ---- from the office to its rows
 
-  module _ (r : Records) (stands : StandsLoaded t r) (sound : IsSound t (Some r))
+  module _ (r : Records) (stands : TablesRepresentRecords t r) (sound : IsSound t (Some r))
       (is : AreRecords r) where
     pub kept_rows : map counts_of batches ≡ found.batches.items → AreBatchRows found.batches.items
     kept_rows rows =

@@ -30,7 +30,7 @@ use Rattle.office_tables.specs.declared.slot.SlotRow.{SlotRow}
 use Rattle.office_model.specs.Office.{OfficeState, Records}
 use Rattle.office_tables.proofs.RecordsBack.{owner_of, enrol_of, draft_of, slot_of, placement_of}
 use Rattle.office_tables.proofs.RecordsBack.{seat_of, student_share_of, part_share_of, batch_of}
-use Rattle.office_records.specs.Stands.{IsScoredRow, IsSound, StandsForOffice, StandsLoaded}
+use Rattle.office_records.specs.Representation.{IsScoredRow, IsSound, TablesRepresentOffice, TablesRepresentRecords}
 use Rattle.office_records.specs.TableRows.{some_dept, once}
 use Rattle.office_records.proofs.MemoryLemmas.{same_rows, same_one, meta_back, meta_is}
 
@@ -159,7 +159,7 @@ module _ (version : Version) (db : Database) (t u : Tables) (p : StandsIn versio
       (no_share_part (ap (λ (t : Tables). t.share_part) is))
       (no_batch (ap (λ (t : Tables). t.batch) is))
 
-  loaded : (r : Records) → StandsLoaded t r → StandsLoaded u r
+  loaded : (r : Records) → TablesRepresentRecords t r → TablesRepresentRecords u r
   loaded r h = record {
     meta = one_meta _ h.meta;
     owner = λ e. few_read (λ (o : OwnerRow). o.dept) _ _ _
@@ -183,7 +183,7 @@ module _ (version : Version) (db : Database) (t u : Tables) (p : StandsIn versio
   }
 
   -- both represent the same offices
-  pub same_stands_in : (o : OfficeState) → StandsForOffice t o → StandsForOffice u o
+  pub same_stands_in : (o : OfficeState) → TablesRepresentOffice t o → TablesRepresentOffice u o
   same_stands_in None h = empty h
   same_stands_in (Some r) h = loaded r h
 
@@ -201,7 +201,7 @@ module _ (version : Version) (db : Database) (t u : Tables) (p : StandsIn versio
 
 -- the same of version 2
 pub same_stands : (db : Database) (t u : Tables) → Stands db t → Stands db u → (o : OfficeState)
-    → StandsForOffice t o → StandsForOffice u o
+    → TablesRepresentOffice t o → TablesRepresentOffice u o
 same_stands = same_stands_in Two
 
 pub same_sound : (db : Database) (t u : Tables) → Stands db t → Stands db u → (o : OfficeState)

@@ -14,7 +14,7 @@ use Rattle.exam_model.specs.Timetable.{Placing}
 use Rattle.exam_terms.specs.declared.place.Place.{Place}
 use Rattle.office_tables.specs.declared.slot.SlotRow.{SlotRow}
 use Rattle.office_records.specs.Found.{AreSlots}
-use Rattle.office_records.specs.NextRow.{IsFree, IsPut}
+use Rattle.office_records.specs.NextRow.{IsFree, IsSlotPlaced}
 use Rattle.office_records.specs.TableRows.{slots_at, slots_from, slot_row}
 
 -- ---- the rows of a timetable
@@ -228,7 +228,7 @@ module _ (I : Session) (d : ℕ) (found : List SlotRow) (row : SlotRow) (T : Pla
         ∙ ap (λ b. slots_at d found ++ cond b (row ∷ slots_at d rest) (slots_at d rest)) passes
 
     -- a row of a free exam
-    pub slot_more : (U : Placing) → IsPut I row T U → AreSlots I d (found ++ row ∷ []) U
+    pub slot_more : (U : Placing) → IsSlotPlaced I row T U → AreSlots I d (found ++ row ∷ []) U
     slot_more U put = record {
       exams = ap length put.set ∙ length-set T row.exam (Some (place_in row)) ∙ are.exams;
       places = subst (All (PlaceExists I)) (sym put.set) placed;
@@ -317,7 +317,8 @@ module _ (I : Session) (d i : ℕ) (found : List SlotRow) (o : SlotRow) (within 
       (let is : eqb (get_or found i o).draft d ≡ false = grind (arith, nat_tests, other) in is))
 
   -- the next row is of a free exam
-  pub next_put : (get_or found i o).draft ≡ d → (U : Placing) → IsPut I (get_or found i o) T U
+  pub next_put : (get_or found i o).draft ≡ d → (U : Placing)
+      → IsSlotPlaced I (get_or found i o) T U
       → AreSlots I d (take (i + 1) found) U
   next_put own U put =
       subst (λ l. AreSlots I d l U) (sym (take_more found i o within))

@@ -11,7 +11,7 @@ use Rattle.office_tables.specs.declared.enrol.EnrolRow.{EnrolRow}
 use Rattle.office_tables.specs.declared.slot.SlotRow.{SlotRow}
 use Rattle.office_enrolment.specs.Rows.{RowKind, after_rows}
 use Rattle.office_records.specs.Found.{AreSlots}
-use Rattle.office_records.specs.Stands.{parts_of}
+use Rattle.office_records.specs.Representation.{parts_of}
 use Rattle.office_records.specs.TableRows.{enrol_row}
 
 -- the rows of pairs in the table of enrolments

@@ -23,7 +23,7 @@ use Rattle.office_model.specs.Office.{AreEnrolled, Publication}
 use Rattle.office_records.specs.Publications.{ArePublicationRows}
 use Rattle.office_records.specs.FoundPublications.{ArePublished}
 use Rattle.office_records.specs.SharesStored.{AreShared}
-use Rattle.office_records.specs.Stands.{parts_of}
+use Rattle.office_records.specs.Representation.{parts_of}
 use Rattle.office_records.specs.TableRows.{session_text, enrol_row, slots_from, slot_rows, once, some_dept, owners_at, drafts_at, slots_at}
 
 -- the row of this session, whether it has a publication or not

@@ -1,5 +1,5 @@
 pub mod Memory
-pub mod Stands
+pub mod Representation
 pub mod TableRows
 pub mod FoundBatches
 pub mod Found

@@ -30,6 +30,6 @@ pub record IsFree (I : Session) (row : SlotRow) (T : Placing) : Type 0 where
   pub nowhere : place_of T row.exam ≡ None
 
 -- the exam has that place in the new timetable
-pub record IsPut (I : Session) (row : SlotRow) (old new : Placing) : Type 0 where
+pub record IsSlotPlaced (I : Session) (row : SlotRow) (old new : Placing) : Type 0 where
   pub free : IsFree I row old
   pub set : new ≡ slice_set old row.exam (Some (record { period = row.period; room = row.room }))

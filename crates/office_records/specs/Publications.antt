@@ -34,7 +34,7 @@ stored_seat row = record {
 }
 
 -- these rows are the places and the seats of the publication
-pub record StandsPublished (places : List PlacedRow) (seats : List SeatRow)
+pub record RowsRepresentPublication (places : List PlacedRow) (seats : List SeatRow)
     (published : Option Publication) : Type 0 where
   pub placed : IsPermutation places (placed_rows published)
   pub seat : IsPermutation seats (map stored_seat (publication_rows published))
@@ -43,4 +43,4 @@ pub record StandsPublished (places : List PlacedRow) (seats : List SeatRow)
 pub record ArePublicationRows (mark : Bool) (places : List PlacedRow) (seats : List SeatRow)
     (published : Option Publication) : Type 0 where
   pub marked : mark ≡ is_some published
-  pub stands : StandsPublished places seats published
+  pub stands : RowsRepresentPublication places seats published

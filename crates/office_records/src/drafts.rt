@@ -7,7 +7,7 @@ ghost use Rattle.exam_model.specs.Timetable.{Placing};
 ghost use Rattle.exam_score.specs.Track.{track};
 ghost use Rattle.office_tables.specs.Draft.{AreAmounts};
 ghost use Rattle.office_records.specs.Found.{AreDrafts, AreSlots};
-ghost use Rattle.office_records.specs.Stands.{parts_of};
+ghost use Rattle.office_records.specs.Representation.{parts_of};
 
 use crate::fault::RecordFault;
 use crate::timetable::timetable_of;

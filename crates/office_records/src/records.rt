@@ -7,7 +7,7 @@ ghost use Rattle.office_model.specs.Office.{IsOffice, OfficeState};
 ghost use Rattle.office_records.specs.Found.{HasNoPublication, IsUnloaded};
 ghost use Rattle.office_records.specs.FoundBatches.{AreFoundBatches};
 ghost use Rattle.office_records.specs.Memory.{AreTogether, memory_of};
-ghost use Rattle.office_records.specs.Stands.{IsSound, StandsForOffice};
+ghost use Rattle.office_records.specs.Representation.{IsSound, TablesRepresentOffice};
 
 use crate::batches::check_batches;
 use crate::drafts::check_drafts;
@@ -26,13 +26,13 @@ use std::alloc::Global;
 pub fn kept_of(alloc: Global, found: &Found) -> Result<Option<(Instance, Enrolments)>, RecordFault>
     ensures are { IfOk result (λ kept. (batches : List Batch)
         → AreFoundBatches found.now.batches.items batches
-        → (office : OfficeState) × StandsForOffice (tables_of found.now batches) office
+        → (office : OfficeState) × TablesRepresentOffice (tables_of found.now batches) office
         × IsSound (tables_of found.now batches) office × IsOffice office
         × (memory_of office ≡ kept)) }
     ensures together { IfOk result AreTogether }
     ensures none { IfErr result (λ e. e ≡ RecordFault.BadRows → (batches : List Batch)
         → map counts_of batches ≡ found.now.batches.items → (office : OfficeState)
-        → StandsForOffice (tables_of found.now batches) office
+        → TablesRepresentOffice (tables_of found.now batches) office
         → IsSound (tables_of found.now batches) office → IsOffice office → ⊥) }
 {
     if is_unloaded(found) {

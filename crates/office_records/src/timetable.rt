@@ -2,7 +2,7 @@
 ghost use Rattle.std.specs.Prelude.{◌≡◌, IfErr, IfOk, OnErr, OnOk, length};
 ghost use Rattle.exam_model.specs.Timetable.{Placing};
 ghost use Rattle.office_records.specs.Found.{AreSlots};
-ghost use Rattle.office_records.specs.NextRow.{IsFree, IsPut};
+ghost use Rattle.office_records.specs.NextRow.{IsFree, IsSlotPlaced};
 
 use crate::fault::RecordFault;
 use exam_model::{ExamNo, Instance, PeriodNo, Place, RoomNo, Timetable};
@@ -33,7 +33,7 @@ pub fn timetable_of(
 // Places an exam that is not placed yet.
 fn put_slot(timetable: &mut Timetable, instance: &Instance, row: SlotRow) -> Result<(), RecordFault>
     requires exams { length timetable.old ≡ length instance.now.exams }
-    ensures put { OnOk result (IsPut instance.now row timetable.old timetable.new) }
+    ensures put { OnOk result (IsSlotPlaced instance.now row timetable.old timetable.new) }
     ensures bad { OnErr result (IsFree instance.now row timetable.old → ⊥) }
     ensures fault { IfErr result (λ e. e ≡ RecordFault.BadRows) }
 {

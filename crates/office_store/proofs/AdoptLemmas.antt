@@ -27,7 +27,7 @@ use Rattle.office_model.specs.declared.fault.StoreFault.{StoreFault}
 use Rattle.office_model.specs.declared.fault.StoreFault.TheVariants.{Store}
 use Rattle.office_records.specs.FoundBatches.{AreFoundBatches, IsShort}
 use Rattle.office_records.specs.Memory.{Memory, memory_of}
-use Rattle.office_records.specs.Stands.{IsKept, IsKeptIn, IsSound, StandsForOffice}
+use Rattle.office_records.specs.Representation.{RepresentsOffice, RepresentsOfficeIn, IsSound, TablesRepresentOffice}
 use Rattle.office_records.proofs.BatchRowLemmas.{stored_short}
 use Rattle.office_records.proofs.MemoryLemmas.{same_memory_in}
 use Rattle.office_records.proofs.SameTables.{same_sound_in, same_stands_in}
@@ -150,17 +150,18 @@ module _ (db : Database) (found : Found) (batches : List Batch)
 
   -- what stands for an office is among the tables that were found
   module _ (o : OfficeState) (there : HoldsOffice db o) where
-    kept : IsKeptIn found.version db o
-    kept = subst (λ version. IsKeptIn version db o)
+    kept : RepresentsOfficeIn found.version db o
+    kept = subst (λ version. RepresentsOfficeIn version db o)
         (one_version db there.0 found.version there.1.tables.schema held.schema) there.1
 
-    same_office : StandsForOffice (tables_of found batches) o
+    same_office : TablesRepresentOffice (tables_of found batches) o
     same_office =
         same_stands_in found.version db kept.held (tables_of found batches) kept.tables held o
         kept.stands
 
     -- where those tables are in version 2, they represent it
-    pub kept_after : (new : Database) → Stands new (tables_of found batches) → IsKept new o
+    pub kept_after : (new : Database) → Stands new (tables_of found batches)
+        → RepresentsOffice new o
     kept_after new stands = record {
       held = tables_of found batches;
       tables = stands;
@@ -181,7 +182,7 @@ module _ (db : Database) (found : Found) (batches : List Batch)
 
     -- nor in what is kept in memory of the tables that were found
     pub none_weighed : (memory : Memory) → (AreFoundBatches found.batches.items batches
-        → (office : OfficeState) × StandsForOffice (tables_of found batches) office
+        → (office : OfficeState) × TablesRepresentOffice (tables_of found batches) office
         × IsSound (tables_of found batches) office × IsOffice office
         × (memory_of office ≡ memory))
         → WeighsNoNight found.version memory
@@ -196,7 +197,8 @@ module _ (db : Database) (found : Found) (batches : List Batch)
         }) in
         subst (WeighsNoNight found.version) (same ∙ is.4) weighs
 
-    pub none_refused : ((office : OfficeState) → StandsForOffice (tables_of found batches) office
+    pub none_refused : ((office : OfficeState)
+        → TablesRepresentOffice (tables_of found batches) office
         → IsSound (tables_of found batches) office → IsOffice office → ⊥) → ⊥
     none_refused none =
         none o same_office

@@ -7,13 +7,13 @@ use Rattle.office_tables.specs.Tables.{Tables}
 use Rattle.office_model.specs.Office.{AreRecords, IsOffice, OfficeState, Records}
 use Rattle.office_records.specs.Found.{AreDrafts}
 use Rattle.office_records.specs.Memory.{AreTogether, Memory, memory_of}
-use Rattle.office_records.specs.Stands.{IsSound, StandsForOffice, StandsLoaded}
+use Rattle.office_records.specs.Representation.{IsSound, TablesRepresentOffice, TablesRepresentRecords}
 use Rattle.office_store.specs.Memory.{AreNoDrafts, AreSuited, IsDraftOf, IsTogether, draft_at, scored_draft}
 use Rattle.office_store.specs.declared.memory.Draft.{Draft}
 use Rattle.office_store.specs.declared.memory.OfficeMemory.{OfficeMemory}
 
 -- the rows of an office are those of its drafts
-pub drafts_stored : (t : Tables) (r : Records) → StandsLoaded t r → AreRecords r
+pub drafts_stored : (t : Tables) (r : Records) → TablesRepresentRecords t r → AreRecords r
     → IsSound t (Some r) → AreDrafts r.session r.enrolments t.draft t.slot r.draft
 drafts_stored t r stands is sound = record {
   numbered = is.numbered;
@@ -24,7 +24,8 @@ drafts_stored t r stands is sound = record {
 }
 
 -- what is made of its rows are its drafts
-pub found_drafts : (t : Tables) (o : OfficeState) → StandsForOffice t o → IsSound t o → IsOffice o
+pub found_drafts : (t : Tables) (o : OfficeState) → TablesRepresentOffice t o → IsSound t o
+    → IsOffice o
     → (kept : Memory) → memory_of o ≡ kept → (drafts : List (Option Draft))
     → IfSome kept (λ k. (d : ℕ) → IsDraftOf k.0 d t.draft t.slot (draft_at drafts d))
     → (kept ≡ None → (d : ℕ) → draft_at drafts d ≡ None)
@@ -36,7 +37,8 @@ found_drafts t (Some r) stands sound is kept memory drafts are none d =
     (sym memory) are d r.enrolments r.draft (drafts_stored t r stands is sound)
 
 -- they are not refused
-pub drafts_stand : (t : Tables) (o : OfficeState) → StandsForOffice t o → IsSound t o → IsOffice o
+pub drafts_stand : (t : Tables) (o : OfficeState) → TablesRepresentOffice t o → IsSound t o
+    → IsOffice o
     → (kept : Memory) → memory_of o ≡ kept
     → IfSome kept (λ k. AreNoDrafts k.0 t.draft t.slot) → (kept ≡ None → ⊥) → ⊥
 drafts_stand t None stands sound is kept memory none loaded = loaded (sym memory)

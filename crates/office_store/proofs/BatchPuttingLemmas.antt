@@ -36,7 +36,7 @@ use Rattle.office_model.specs.declared.fault.StoreFault.TheVariants.{TooMany}
 use Rattle.office_records.specs.BatchRows.{batch_put, enrol_rows}
 use Rattle.office_records.specs.Found.{AreDrafts}
 use Rattle.office_records.specs.Memory.{memory_of}
-use Rattle.office_records.specs.Stands.{IsKept, IsSound, StandsLoaded}
+use Rattle.office_records.specs.Representation.{RepresentsOffice, IsSound, TablesRepresentRecords}
 use Rattle.office_records.specs.TableRows.{enrol_row, stored_batch}
 use Rattle.office_records.proofs.BatchPutLemmas.{batch_sound, batch_stands, drafts_moved}
 use Rattle.office_store.specs.NewBatches.{AreAnew, Enrols, IsNewFor, drafts_after, line_put, new_batch_put}
@@ -162,7 +162,7 @@ idle_batch changes E done is judged none =
 
 -- the drafts after the lines are those of the office: anew, or as they stand
 left_drafts : (r : Records) (t : Tables) (changes : List Change) (done : Counts × Enrolled)
-    → AreRecords r → StandsLoaded t r → IsSound t (Some r)
+    → AreRecords r → TablesRepresentRecords t r → IsSound t (Some r)
     → after_batch changes r.enrolments ≡ Ok done → (its : List PutLine) (anew : List DraftRow)
     → map (λ (it : PutLine). it.change) its ≡ acting changes r.enrolments
     → (its ≢ [] → AreAnew r done.1 anew) → AreAnew r done.1 (drafts_after its anew t.draft)
@@ -206,17 +206,17 @@ module _ (number : ℕ) (bytes : List ℕ) (changes : List Change)
   module _ (I : Session) (E : Enrolled) (a : Database) (m : OfficeMemory) where
     -- what is put in is what the command puts in, whatever the records are that stand there
     abbrev pub Comes : Result NewBatch StoreFault → Type 0
-    Comes result = (r : Records) → IsKept a (Some r) → memory_of (Some r) ≡ Some (I, E)
+    Comes result = (r : Records) → RepresentsOffice a (Some r) → memory_of (Some r) ≡ Some (I, E)
         → IsMemoryOf (Some r) m → Enrols changes r result
 
     module _ (at_hand : m.kept ≡ Some (I, E))
-        (is_new : (o : OfficeState) → IsKept a o → kept_in o number ≡ None) where
+        (is_new : (o : OfficeState) → RepresentsOffice a o → kept_in o number ≡ None) where
       pub enrol_denied : (e : StoreFault) → Comes (Err e)
           → Denies (batch_enrolled number bytes) e a m
       enrol_denied e comes o kept is =
           let of = kept_of o I E (is.session ∙ at_hand) in
           let r = of.records in
-          let here = subst (IsKept a) of.is kept in
+          let here = subst (RepresentsOffice a) of.is kept in
           subst (λ gives. IsFault gives e)
           (sym (ap (batch_enrolled number bytes) of.is ∙ gives_new r (is_new (Some r) here)))
           (comes r here (subst (λ o. memory_of o ≡ Some (I, E)) of.is (is.session ∙ at_hand))
@@ -234,7 +234,8 @@ module _ (number : ℕ) (bytes : List ℕ) (changes : List Change)
         abbrev done : Records → Counts × Enrolled
         done r = (new.counts, latest new.enrolments r.enrolments)
 
-        module _ (r : Records) (here : IsKept a (Some r)) (made : IsNewFor changes r new) where
+        module _ (r : Records) (here : RepresentsOffice a (Some r))
+            (made : IsNewFor changes r new) where
           gives : batch_enrolled number bytes (Some r)
               ≡ Ok (new.counts, Some (keeping.records_with_batch number bytes r (done r)))
           gives =
@@ -253,11 +254,11 @@ module _ (number : ℕ) (bytes : List ℕ) (changes : List Change)
 
           enrolled_kept : ((t : Tables) → Stands a t
               → Stands b (new_batch_put number bytes new t))
-              → IsKept b (Some (keeping.records_with_batch number bytes r (done r)))
+              → RepresentsOffice b (Some (keeping.records_with_batch number bytes r (done r)))
           enrolled_kept makes = record {
             held = new_batch_put number bytes new here.held;
             tables = makes here.held here.tables;
-            stands = subst (λ (l : List Change). StandsLoaded
+            stands = subst (λ (l : List Change). TablesRepresentRecords
                 (batch_put l left row here.held)
                 (keeping.records_with_batch number bytes r (done r)))
                 (sym made.lines)
@@ -279,7 +280,7 @@ module _ (number : ℕ) (bytes : List ℕ) (changes : List Change)
         enrol_moves comes makes o kept is =
             let of = kept_of o I E (is.session ∙ at_hand) in
             let r = of.records in
-            let here = subst (IsKept a) of.is kept in
+            let here = subst (RepresentsOffice a) of.is kept in
             let made = comes r here
             (subst (λ o. memory_of o ≡ Some (I, E)) of.is (is.session ∙ at_hand))
             (subst (λ o. IsMemoryOf o m) of.is is) in (
@@ -296,7 +297,7 @@ module _ (number : ℕ) (bytes : List ℕ) (changes : List Change)
             let of = kept_of o I E (is.session ∙ at_hand) in
             let r = of.records in
             let s = keeping.records_with_batch number bytes r (done r) in
-            let here = subst (IsKept a) of.is kept in
+            let here = subst (RepresentsOffice a) of.is kept in
             let memory = subst (λ o. IsMemoryOf o m) of.is is in
             let made = comes r here
             (subst (λ o. memory_of o ≡ Some (I, E)) of.is (is.session ∙ at_hand)) memory in

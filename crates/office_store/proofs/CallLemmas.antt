@@ -23,7 +23,7 @@ use Rattle.office_model.specs.Office.{OfficeState, Records, set_at}
 use Rattle.office_store.specs.Memory.{HasPut, IsMemoryOf, draft_at, scored_by, scored_draft}
 use Rattle.office_store.specs.declared.memory.Draft.{Draft}
 use Rattle.office_store.specs.declared.memory.OfficeMemory.{OfficeMemory}
-use Rattle.office_records.specs.Stands.{IsKept, parts_of}
+use Rattle.office_records.specs.Representation.{RepresentsOffice, parts_of}
 use Rattle.office_store.specs.NewDraft.{Begins}
 use Rattle.office_store.specs.Changes.{draft_put, draft_removed}
 use Rattle.office_model.specs.Commands.{CommandResult, named}
@@ -135,8 +135,8 @@ pub begun_kept : (a b : Database) (r : Records) (d : ℕ) (bytes : List ℕ) (be
     (row : DraftRow) (slots : List SlotRow)
     (begins : Begins d bytes r.session r.enrolments begun slots) → row.no ≡ d
     → parts_of row ≡ begun.parts → true ≡ is_draft_number d → is_some (r.draft d) ≡ false
-    → IsKept a (Some r) → ((t : Tables) → Stands a t → Stands b (draft_put row slots t))
-    → IsKept b (Some (record r { draft = set_at d (Some begun.timetable) r.draft }))
+    → RepresentsOffice a (Some r) → ((t : Tables) → Stands a t → Stands b (draft_put row slots t))
+    → RepresentsOffice b (Some (record r { draft = set_at d (Some begun.timetable) r.draft }))
 begun_kept a b r d bytes begun row slots begins number parts numbered free kept makes =
     let within = in_range d numbered in
     made_kept a b r d begun.timetable row slots number begins.rows (parts ∙ begins.scored)
@@ -183,7 +183,7 @@ module _ (d : ℕ) (a : Database) (m : OfficeMemory) where
         _,
         ap (draft_dropped d) of.is
             ∙ dropped_one of.records d (there true some o is of.records of.is),
-        left_kept a b of.records d (subst (IsKept a) of.is kept) makes,
+        left_kept a b of.records d (subst (RepresentsOffice a) of.is kept) makes,
       )
 
   pub drop_remembers : (after : OfficeMemory) → is_some m.kept ≡ true
@@ -192,7 +192,7 @@ module _ (d : ℕ) (a : Database) (m : OfficeMemory) where
   drop_remembers after loaded some puts o kept is new gives =
       let of = has_records o m is loaded in
       let r = of.records in
-      let here : IsKept a (Some r) = subst (IsKept a) of.is kept in
+      let here : RepresentsOffice a (Some r) = subst (RepresentsOffice a) of.is kept in
       let stored = there true some o is r of.is in
       let within = here.office.numbered d stored in
       subst (λ o. IsMemoryOf o after)
@@ -250,7 +250,7 @@ module _ (d : ℕ) (a : Database) (m : OfficeMemory) where
                     total is_total,
                 begun_kept a b of.records d text begun row (put_rows placed) (begun_office o of)
                     number parts
-                    numbered free (subst (IsKept a) of.is kept) makes,
+                    numbered free (subst (RepresentsOffice a) of.is kept) makes,
               )
 
           pub made_remembers : (after : OfficeMemory) → (d ≤ 8 → HasPut d (Some begun) m after)

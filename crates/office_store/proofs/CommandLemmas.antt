@@ -6,7 +6,7 @@ use Rattle.sqlite.specs.State.{State, HasCleanDisk}
 use Rattle.sqlite.specs.Store.{Ghosts}
 use Rattle.office_tables.specs.Alterations.{Undone}
 use Rattle.office_model.specs.Office.{OfficeState}
-use Rattle.office_records.specs.Stands.{IsKept}
+use Rattle.office_records.specs.Representation.{RepresentsOffice}
 use Rattle.office_model.specs.Commands.{CommandResult}
 use Rattle.office_store.specs.Memory.{IsMemoryOf}
 use Rattle.office_store.specs.Running.{Does, IsAtRest, IsAwake, IsFault, IsStill, Now, ReadsOffice, Runs, Shows}
@@ -21,20 +21,20 @@ use Rattle.office_store.proofs.RunLemmas.{still_then, still_undone}
 -- where an office stands and this is in memory of it, the command gives this, and leads to another
 abbrev pub Moves : {A : Type 0} → (OfficeState → CommandResult A) → A → Database → Database
     → OfficeMemory → Type 0
-Moves command x a b m = (o : OfficeState) → IsKept a o → IsMemoryOf o m
-    → (new : OfficeState) × (command o ≡ Ok (x, new)) × IsKept b new
+Moves command x a b m = (o : OfficeState) → RepresentsOffice a o → IsMemoryOf o m
+    → (new : OfficeState) × (command o ≡ Ok (x, new)) × RepresentsOffice b new
 
 -- there it is refused so
 abbrev pub Denies : {A : Type 0} → (OfficeState → CommandResult A) → StoreFault → Database
     → OfficeMemory
     → Type 0
-Denies command fault a m = (o : OfficeState) → IsKept a o → IsMemoryOf o m
+Denies command fault a m = (o : OfficeState) → RepresentsOffice a o → IsMemoryOf o m
     → IsFault (command o) fault
 
 -- where this is in memory before the command, that is in memory of the office after it
 abbrev pub Remembers : {A : Type 0} → (OfficeState → CommandResult A) → A → Database → OfficeMemory
     → OfficeMemory → Type 0
-Remembers command x a m n = (o : OfficeState) → IsKept a o → IsMemoryOf o m
+Remembers command x a m n = (o : OfficeState) → RepresentsOffice a o → IsMemoryOf o m
     → (new : OfficeState) → command o ≡ Ok (x, new) → IsMemoryOf new n
 
 -- what is told of an office that stays is shown
@@ -51,7 +51,7 @@ module _ {S : Type 0} (g : Ghosts S) (before mid inside : Held S)
     (still : HasCleanDisk (state g mid) → IsStill (state g before) (state g mid)) where
   -- the office that stood there does, and its session is in memory
   there : HasCleanDisk (state g mid) → (o : OfficeState) → Now (state g before) o
-      → IsKept (state g mid).now o × IsMemoryOf o m
+      → RepresentsOffice (state g mid).now o × IsMemoryOf o m
   there clean o now =
       let here = now_still (state g before) (state g mid) o (still clean) now (awake clean).0 in (
         here,
@@ -61,7 +61,7 @@ module _ {S : Type 0} (g : Ghosts S) (before mid inside : Held S)
 
   -- what is answered is what the office says
   pub tells : {A : Type 0} (says : OfficeState → A) (result : Result A StoreFault)
-      → (HasCleanDisk (state g mid) → (o : OfficeState) → IsKept (state g mid).now o
+      → (HasCleanDisk (state g mid) → (o : OfficeState) → RepresentsOffice (state g mid).now o
       → IsMemoryOf o m → Tells (says o) result)
       → ReadsOffice g says before mid result
   tells says result told clean o now =
@@ -74,7 +74,7 @@ module _ {S A : Type 0} (g : Ghosts S) (command : OfficeState → CommandResult 
     (awake : HasCleanDisk (state g mid) → IsAwake (state g mid))
     (still : HasCleanDisk (state g mid) → IsStill (state g before) (state g mid)) where
   found : HasCleanDisk (state g mid) → (o : OfficeState) → Now (state g before) o
-      → IsKept (state g mid).now o × IsMemoryOf o m
+      → RepresentsOffice (state g mid).now o × IsMemoryOf o m
   found = there g before mid inside m view rest awake still
 
   pub refuses : (fault : StoreFault)
@@ -86,7 +86,7 @@ module _ {S A : Type 0} (g : Ghosts S) (command : OfficeState → CommandResult 
 
   -- a command that only shows
   pub shows : (result : Result A StoreFault)
-      → (HasCleanDisk (state g mid) → (o : OfficeState) → IsKept (state g mid).now o
+      → (HasCleanDisk (state g mid) → (o : OfficeState) → RepresentsOffice (state g mid).now o
       → IsMemoryOf o m
       → Does (command o) o (λ new. new ≡ o) result)
       → Runs g command before mid result
@@ -102,7 +102,8 @@ module _ {S A : Type 0} (g : Ghosts S) (command : OfficeState → CommandResult 
       → Runs g command before after (Ok x)
   runs after x clean moves is_clean o now =
       let there = found (subst (λ h. HasCleanDisk (state g h)) view (clean is_clean)) o now in
-      let moved = moves is_clean o (subst (λ h. IsKept (state g h).now o) (sym view) there.0)
+      let moved = moves is_clean o (subst (λ h. RepresentsOffice (state g h).now o)
+      (sym view) there.0)
       there.1 in
       (moved.0, moved.1, λ _. moved.2)
 
@@ -182,11 +183,12 @@ stays_then g before mid after (Err fault) still clean stays is_clean =
 -- and what is said of each office that stands there
 pub seen : {S : Type 0} (g : Ghosts S) (mid inside : Held S) → inside ≡ mid
     → (P : OfficeState → Type 0)
-    → (HasCleanDisk (state g mid) → (o : OfficeState) → IsKept (state g mid).now o → P o)
-    → HasCleanDisk (state g inside) → (o : OfficeState) → IsKept (state g inside).now o → P o
+    → (HasCleanDisk (state g mid) → (o : OfficeState) → RepresentsOffice (state g mid).now o → P o)
+    → HasCleanDisk (state g inside) → (o : OfficeState) → RepresentsOffice (state g inside).now o
+    → P o
 seen g mid inside view P tells clean o kept =
     tells (subst (λ h. HasCleanDisk (state g h)) view clean) o
-    (subst (λ h. IsKept (state g h).now o) view kept)
+    (subst (λ h. RepresentsOffice (state g h).now o) view kept)
 
 -- what is in memory afterwards is of the new office
 pub rests : {A : Type 0} (command : OfficeState → CommandResult A) (a b : State)

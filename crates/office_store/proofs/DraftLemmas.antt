@@ -20,7 +20,7 @@ use Rattle.office_store.specs.Changes.{draft_put, draft_removed}
 use Rattle.office_model.specs.DraftCommands.{draft_in}
 use Rattle.office_model.specs.Office.{OfficeState, Records, set_at}
 use Rattle.office_model.proofs.RecordLemmas.{left_records, made_records}
-use Rattle.office_records.specs.Stands.{StandsForOffice, StandsLoaded, IsSound, IsScoredRow, IsKept, parts_of}
+use Rattle.office_records.specs.Representation.{TablesRepresentOffice, TablesRepresentRecords, IsSound, IsScoredRow, RepresentsOffice, parts_of}
 use Rattle.office_records.specs.TableRows.{drafts_at, slots_at, slots_from, slot_rows, slot_row, once}
 use Rattle.office_records.proofs.KeyLemmas.{none_of, all_of_other, each_left}
 use Rattle.office_records.proofs.MemoryLemmas.{same_one}
@@ -67,7 +67,7 @@ some_is x y e = cc
 -- ---- a draft is put in
 
 module _ (t : Tables) (r : Records) (d : ℕ) (T : Placing) (row : DraftRow) (slots : List SlotRow)
-    (number_is : row.no ≡ d) (are : slots ≡ slots_from d 0 T) (h : StandsLoaded t r)
+    (number_is : row.no ≡ d) (are : slots ≡ slots_from d 0 T) (h : TablesRepresentRecords t r)
     (free : r.draft d ≡ None) where
   free_at : (n : ℕ) → eqb n d ≡ true → r.draft n ≡ None
   free_at n e = ap r.draft (let same : n ≡ d = grind (arith, nat_tests, e) in same) ∙ free
@@ -124,7 +124,7 @@ module _ (t : Tables) (r : Records) (d : ℕ) (T : Placing) (row : DraftRow) (sl
       (subst (λ l. IsPermutation (slots_at n (reverse slots ++ t.slot)) l) is (made_rows n))
       (h.slot n)
 
-  made_stands : StandsLoaded (draft_put row slots t)
+  made_stands : TablesRepresentRecords (draft_put row slots t)
       (record r { draft = set_at d (Some T) r.draft })
   made_stands = record {
     meta = h.meta;
@@ -165,9 +165,9 @@ module _ (t : Tables) (r : Records) (d : ℕ) (T : Placing) (row : DraftRow) (sl
 pub made_kept : (a b : Database) (r : Records) (d : ℕ) (T : Placing) (row : DraftRow)
     (slots : List SlotRow) → row.no ≡ d → slots ≡ slots_from d 0 T
     → parts_of row ≡ track r.session r.enrolments T
-    → r.draft d ≡ None → 1 ≤ d → d ≤ 8 → Fits r.session r.enrolments T → IsKept a (Some r)
+    → r.draft d ≡ None → 1 ≤ d → d ≤ 8 → Fits r.session r.enrolments T → RepresentsOffice a (Some r)
     → ((t : Tables) → Stands a t → Stands b (draft_put row slots t))
-    → IsKept b (Some (record r { draft = set_at d (Some T) r.draft }))
+    → RepresentsOffice b (Some (record r { draft = set_at d (Some T) r.draft }))
 made_kept a b r d T row slots number_is are scored free low high fits kept makes = record {
   held = draft_put row slots kept.held;
   tables = makes kept.held kept.tables;
@@ -178,7 +178,7 @@ made_kept a b r d T row slots number_is are scored free low high fits kept makes
 
 -- ---- a draft is taken out
 
-module _ (t : Tables) (r : Records) (d : ℕ) (h : StandsLoaded t r) where
+module _ (t : Tables) (r : Records) (d : ℕ) (h : TablesRepresentRecords t r) where
   left_draft : (n : ℕ) (b : Bool) → eqb n d ≡ b
       → map (λ (x : DraftRow). x.no) (drafts_at n (filter (λ x. not (eqb x.no d)) t.draft))
       ≡ once (is_some (cond b None (r.draft n))) n
@@ -200,7 +200,8 @@ module _ (t : Tables) (r : Records) (d : ℕ) (h : StandsLoaded t r) where
       subst (λ l. IsPermutation l (slot_rows n (r.draft n)))
       (sym (all_of_other (λ (s : SlotRow). s.draft) d n e t.slot)) (h.slot n)
 
-  left_stands : StandsLoaded (draft_removed d t) (record r { draft = set_at d None r.draft })
+  left_stands : TablesRepresentRecords (draft_removed d t)
+      (record r { draft = set_at d None r.draft })
   left_stands = record {
     meta = h.meta;
     owner = h.owner;
@@ -223,9 +224,9 @@ left_sound t r d sound = record {
         → IsScoredRow (record r { draft = set_at d None r.draft }) x
     other x k e S f = k S (sym (ap (λ b. cond b None (r.draft x.no)) e) ∙ f)
 
-pub left_kept : (a b : Database) (r : Records) (d : ℕ) → IsKept a (Some r)
+pub left_kept : (a b : Database) (r : Records) (d : ℕ) → RepresentsOffice a (Some r)
     → ((t : Tables) → Stands a t → Stands b (draft_removed d t))
-    → IsKept b (Some (record r { draft = set_at d None r.draft }))
+    → RepresentsOffice b (Some (record r { draft = set_at d None r.draft }))
 left_kept a b r d kept makes = record {
   held = draft_removed d kept.held;
   tables = makes kept.held kept.tables;
@@ -244,7 +245,8 @@ one_or_none true n (y ∷ []) p = ap (λ z. z ∷ []) (same_one n y p)
 one_or_none true n (y ∷ z ∷ ys) p =
     absurd (let long = length_permutation _ _ p in omega (arith, long))
 
-pub draft_read : (t : Tables) (o : OfficeState) (d : ℕ) (rows : List DraftRow) → StandsForOffice t o
+pub draft_read : (t : Tables) (o : OfficeState) (d : ℕ) (rows : List DraftRow)
+    → TablesRepresentOffice t o
     → IsPermutation (filter (λ r. eqb r.no d) t.draft) rows
     → map (λ (r : DraftRow). r.no) rows ≡ once (is_some (draft_in d o)) d
 draft_read t None d rows stands p =

@@ -28,7 +28,7 @@ use Rattle.office_model.specs.declared.fault.Refusal.TheVariants as refusal
 use Rattle.office_model.specs.declared.fault.StoreFault.{StoreFault}
 use Rattle.office_model.specs.declared.fault.StoreFault.TheVariants.{BadSchema, NoDraft, NotLoaded, Refused, Store}
 use Rattle.office_records.specs.Memory.{memory_of}
-use Rattle.office_records.specs.Stands.{IsKept, parts_of}
+use Rattle.office_records.specs.Representation.{RepresentsOffice, parts_of}
 use Rattle.office_store.specs.Changes.{edit_put, new_place, slots_put}
 use Rattle.office_store.specs.Editing.{Edits, IsEdited, IsJudged}
 use Rattle.office_store.specs.Folding.{IsEditOf}
@@ -175,7 +175,7 @@ pub record IsStored (b : Database) (o : OfficeState) (d : ℕ) (change : Edit) (
     : Type 0 where
   pub office : OfficeState
   pub gives : draft_edited d change o ≡ Ok (total, office)
-  pub kept : IsKept b office
+  pub kept : RepresentsOffice b office
 
 -- what the command gives of an office
 edited_gives : (o : OfficeState) (d : ℕ) (change : Edit) (new : Draft) (total : ℕ)
@@ -192,17 +192,17 @@ edited_gives o d change new total of is_total =
 pub edit_stored : (a b : Database) (o : OfficeState) (d : ℕ) (change : Edit)
     (new : Draft) (row : DraftRow) (total : ℕ) (exams : List ℕ)
     (of : IsEdited d change o new) → row.no ≡ d → parts_of row ≡ new.parts
-    → total ≡ total_of new.parts → exams ≡ edited_exams change → IsKept a o
+    → total ≡ total_of new.parts → exams ≡ edited_exams change → RepresentsOffice a o
     → ((t : Tables) → Stands a t → Stands b (edit_put row new.timetable exams t))
     → IsStored b o d change total
 edit_stored a b o d change new row total exams of number parts is_total are kept makes = record {
   office = Some (record of.records { draft = set_at d (Some new.timetable) of.records.draft });
   gives = edited_gives o d change new total of is_total;
-  kept = subst (λ n. IsKept b
+  kept = subst (λ n. RepresentsOffice b
       (Some (record of.records { draft = set_at n (Some new.timetable) of.records.draft }))) number
       (edit_kept a b of.records of.old new.timetable row change
       (ap of.records.draft number ∙ of.draft)
-      of.edits (parts ∙ of.scored) of.fits (subst (IsKept a) of.is kept)
+      of.edits (parts ∙ of.scored) of.fits (subst (RepresentsOffice a) of.is kept)
       (subst (λ l. (t : Tables) → Stands a t → Stands b (edit_put row new.timetable l t)) are
       makes));
 }
@@ -212,7 +212,7 @@ edit_stored a b o d change new row total exams of number parts is_total are kept
 -- the transaction makes of the office what the command does
 pub edit_moves : (a b : Database) (m : OfficeMemory) (d : ℕ) (change : Edit) (new : Draft)
     (row : DraftRow) (total : ℕ) (places : List (Both DeleteSlot (Option InsertSlot)))
-    → ((o : OfficeState) → IsKept a o → IsMemoryOf o m → IsEdited d change o new)
+    → ((o : OfficeState) → RepresentsOffice a o → IsMemoryOf o m → IsEdited d change o new)
     → row.no ≡ d → parts_of row ≡ new.parts → total ≡ total_of new.parts
     → places ≡ map (new_place d new.timetable) (edited_exams change)
     → ((t : Tables) → Stands a t
@@ -233,13 +233,14 @@ edit_moves a b m d change new row total places edits number parts is_total put c
     (stored.office, stored.gives, stored.kept)
 
 pub edit_remembers : (a : Database) (m n : OfficeMemory) (d : ℕ) (change : Edit) (new : Draft)
-    (total : ℕ) → ((o : OfficeState) → IsKept a o → IsMemoryOf o m → IsEdited d change o new)
+    (total : ℕ) → ((o : OfficeState) → RepresentsOffice a o → IsMemoryOf o m
+    → IsEdited d change o new)
     → total ≡ total_of new.parts → (d ≤ 8 → HasPut d (Some new) m n)
     → Remembers (draft_edited d change) total a m n
 edit_remembers a m n d change new total edits is_total puts o kept is next gives =
     let of = edits o kept is in
     let r = of.records in
-    let here : IsKept a (Some r) = subst (IsKept a) of.is kept in
+    let here : RepresentsOffice a (Some r) = subst (RepresentsOffice a) of.is kept in
     let within = here.office.numbered d (subst IsSome (sym of.draft) refl) in
     let scored : Some new ≡ Some (scored_by r.session r.enrolments new.timetable)
     = ap (λ P. Some (record { timetable = new.timetable; parts = P })) of.scored in

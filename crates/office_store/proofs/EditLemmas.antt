@@ -25,7 +25,7 @@ use Rattle.exam_draft.specs.Judged.{edited_exams}
 use Rattle.exam_draft.specs.declared.edit.Edit.{Edit}
 use Rattle.exam_draft.specs.declared.edit.Edit.TheVariants as edit
 use Rattle.office_model.specs.Office.{Records, set_at}
-use Rattle.office_records.specs.Stands.{StandsLoaded, IsSound, IsScoredRow, IsKept, parts_of}
+use Rattle.office_records.specs.Representation.{TablesRepresentRecords, IsSound, IsScoredRow, RepresentsOffice, parts_of}
 use Rattle.office_records.specs.TableRows.{drafts_at, slots_at, slots_from, slot_rows, once}
 use Rattle.office_records.proofs.KeyLemmas.{none_of, all_of_other, each_left}
 use Rattle.office_model.proofs.RecordLemmas.{made_records}
@@ -100,7 +100,7 @@ touched I E T new (edit.Clear e) h =
 -- ---- the tables after it
 
 module _ (t : Tables) (r : Records) (T new : Placing) (row : DraftRow) (exams : List ℕ)
-    (h : StandsLoaded t r) (there : r.draft row.no ≡ Some T) where
+    (h : TablesRepresentRecords t r) (there : r.draft row.no ≡ Some T) where
   abbrev replaced : Tables
   replaced = with_draft row (without_draft row.no t)
 
@@ -145,9 +145,9 @@ module _ (t : Tables) (r : Records) (T new : Placing) (row : DraftRow) (exams : 
         subst (λ l. IsPermutation l (slot_rows n (r.draft n)))
         (sym (others_as_before row.no new n e exams replaced)) (h.slot n)
 
-    edit_stands : StandsLoaded (edit_put row new exams t) after
+    edit_stands : TablesRepresentRecords (edit_put row new exams t) after
     edit_stands =
-        subst (λ u. StandsLoaded u after) (sym only) (record {
+        subst (λ u. TablesRepresentRecords u after) (sym only) (record {
           meta = h.meta;
           owner = h.owner;
           enrol = h.enrol;
@@ -184,9 +184,9 @@ module _ (t : Tables) (r : Records) (T new : Placing) (row : DraftRow) (exams : 
 pub edit_kept : (a b : Database) (r : Records) (T new : Placing) (row : DraftRow) (change : Edit)
     → r.draft row.no ≡ Some T → edited r.session r.enrolments T change ≡ Ok new
     → parts_of row ≡ track r.session r.enrolments new → Fits r.session r.enrolments new
-    → IsKept a (Some r)
+    → RepresentsOffice a (Some r)
     → ((t : Tables) → Stands a t → Stands b (edit_put row new (edited_exams change) t))
-    → IsKept b (Some (record r { draft = set_at row.no (Some new) r.draft }))
+    → RepresentsOffice b (Some (record r { draft = set_at row.no (Some new) r.draft }))
 edit_kept a b r T new row change there made scored fits kept makes =
     let before = kept.office.drafts row.no T there in
     let long : length T ≡ length new = before.timetable ∙ sym fits.timetable in

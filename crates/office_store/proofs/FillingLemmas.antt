@@ -16,7 +16,7 @@ use Rattle.office_tables.specs.declared.draft.InsertDraft.{InsertDraft}
 use Rattle.office_tables.specs.declared.slot.SlotRow.{SlotRow}
 use Rattle.office_model.specs.Office.{AreRecords, Records}
 use Rattle.office_records.specs.Found.{AreDrafts}
-use Rattle.office_records.specs.Stands.{IsKept, parts_of}
+use Rattle.office_records.specs.Representation.{RepresentsOffice, parts_of}
 use Rattle.office_records.specs.TableRows.{drafts_at, once}
 use Rattle.office_store.specs.Memory.{AreDraftRows, draft_at, scored_by}
 use Rattle.office_store.specs.declared.memory.Draft.{Draft}

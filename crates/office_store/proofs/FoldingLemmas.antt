@@ -25,7 +25,7 @@ use Rattle.exam_score.specs.Penalty.{Penalty}
 use Rattle.exam_score.specs.Track.{track}
 use Rattle.exam_score.proofs.ConcernedLemmas.{edit_is, track_is}
 use Rattle.office_model.specs.declared.fault.StoreFault.TheVariants.{BadSchema}
-use Rattle.office_records.specs.Stands.{IsKept}
+use Rattle.office_records.specs.Representation.{RepresentsOffice}
 use Rattle.office_records.proofs.ReadableLemmas.{are_readable}
 use Rattle.office_tables.specs.Enrol.{FitsEnrol, HerEnrolsRise}
 use Rattle.office_tables.specs.Readers.{LeavesCommitted, OpensNone}
@@ -147,7 +147,7 @@ module _ {S : Type 0} (store : Ghosts S) where
           clean = had.clean;
           opened = mid.0.0.is_open;
           records = had.records;
-          kept = subst (λ db. IsKept db (Some had.records)) (sym mid.0.0.now_is) had.kept;
+          kept = subst (λ db. RepresentsOffice db (Some had.records)) (sym mid.0.0.now_is) had.kept;
           enrolments = had.enrolments;
         }
 

@@ -11,7 +11,7 @@ use Rattle.office_tables.specs.Tables.{Tables}
 use Rattle.office_model.specs.Office.{OfficeState, Records, AreRecords}
 use Rattle.office_records.specs.Found.{AreSlots}
 use Rattle.office_records.specs.Memory.{memory_of}
-use Rattle.office_records.specs.Stands.{IsKept, StandsForOffice, StandsLoaded}
+use Rattle.office_records.specs.Representation.{RepresentsOffice, TablesRepresentOffice, TablesRepresentRecords}
 use Rattle.office_records.specs.TableRows.{once, slot_rows, slots_at, stored_batch}
 use Rattle.office_records.proofs.MemoryLemmas.{same_memory}
 use Rattle.office_records.proofs.SameTables.{same_stands}
@@ -23,7 +23,7 @@ use Rattle.office_store.specs.declared.memory.OfficeMemory.{OfficeMemory}
 -- ---- the number of batches
 
 -- each kept batch has a row
-pub counted : (t : Tables) (o : OfficeState) → StandsForOffice t o
+pub counted : (t : Tables) (o : OfficeState) → TablesRepresentOffice t o
     → length t.batch ≡ batch_count o
 counted t None stands = ap (λ (u : Tables). length u.batch) stands
 counted t (Some r) stands =
@@ -32,7 +32,7 @@ counted t (Some r) stands =
     omega (arith, stored, kept)
 
 -- the offices that a database stands for keep one number of batches
-same_count : (db : Database) (o p : OfficeState) → IsKept db o → IsKept db p
+same_count : (db : Database) (o p : OfficeState) → RepresentsOffice db o → RepresentsOffice db p
     → batch_count o ≡ batch_count p
 same_count db o p a b =
     sym (counted b.held o (same_stands db a.held b.held a.tables b.tables o a.stands))
@@ -47,10 +47,11 @@ one_there true false d e = absurd cc
 one_there false true d e = absurd cc
 one_there false false d e = refl
 
-module _ (t : Tables) (r s : Records) (d : ℕ) (a : StandsLoaded t r) (b : StandsLoaded t s)
+module _ (t : Tables) (r s : Records) (d : ℕ) (a : TablesRepresentRecords t r)
+    (b : TablesRepresentRecords t s)
     (of : AreRecords r) (also : AreRecords s) (session : r.session ≡ s.session) where
   -- a draft's places are those of one timetable
-  slots_of : (q : Records) (I : Session) → q.session ≡ I → StandsLoaded t q → AreRecords q
+  slots_of : (q : Records) (I : Session) → q.session ≡ I → TablesRepresentRecords t q → AreRecords q
       → (T : Placing) → q.draft d ≡ Some T → AreSlots I d t.slot T
   slots_of q I same stands records T is =
       let fits = records.drafts d T is in
@@ -86,7 +87,8 @@ both_same r s d memory draft =
     ∙ ap (option_map (scored_by s.session s.enrolments)) draft
 
 -- the offices that a database represents have the same drafts
-same_drafts : (db : Database) (o p : OfficeState) → IsKept db o → IsKept db p → (d : ℕ)
+same_drafts : (db : Database) (o p : OfficeState) → RepresentsOffice db o → RepresentsOffice db p
+    → (d : ℕ)
     → memory_of o ≡ memory_of p → scored_draft d o ≡ scored_draft d p
 same_drafts db None None a b d memory = refl
 same_drafts db None (Some s) a b d memory = absurd cc
@@ -100,7 +102,8 @@ same_drafts db (Some r) (Some s) a b d memory =
 -- ---- all that is in memory
 
 -- what is in memory of one office that a database represents is so of each
-pub same_in_memory : (db : Database) (o p : OfficeState) → IsKept db o → IsKept db p
+pub same_in_memory : (db : Database) (o p : OfficeState) → RepresentsOffice db o
+    → RepresentsOffice db p
     → (m : OfficeMemory) → IsMemoryOf o m → IsMemoryOf p m
 same_in_memory db o p a b m is =
     let memory = same_memory db o p a b in

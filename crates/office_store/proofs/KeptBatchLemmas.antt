@@ -19,7 +19,7 @@ use Rattle.office_model.specs.Commands.{CommandResult}
 use Rattle.office_model.specs.declared.counts.Counts.{Counts}
 use Rattle.office_model.specs.declared.fault.StoreFault.TheVariants.{BatchDiffers}
 use Rattle.office_model.specs.Office.{AreRecords, IsOffice, KeptBatch, OfficeState, Records}
-use Rattle.office_records.specs.Stands.{StandsForOffice, StandsLoaded}
+use Rattle.office_records.specs.Representation.{TablesRepresentOffice, TablesRepresentRecords}
 use Rattle.office_records.specs.TableRows.{stored_batch}
 use Rattle.office_records.proofs.SameTables.{same_few}
 use Rattle.office_store.specs.NewBatches.{IsRowOf, answered_again}
@@ -56,7 +56,7 @@ few_under : (o : Option KeptBatch) → length (map stored_batch (option_to_list 
 few_under None = omega arith
 few_under (Some b) = omega arith
 
-module _ (t : Tables) (r : Records) (stands : StandsLoaded t r) (is : AreRecords r) where
+module _ (t : Tables) (r : Records) (stands : TablesRepresentRecords t r) (is : AreRecords r) where
   -- the stored batch of a number is the office's
   stored_under : (number : ℕ) → filter (λ (b : Batch). eqb b.no number) t.batch
       ≡ map stored_batch (option_to_list (batch_numbered number r.batches))
@@ -72,7 +72,7 @@ module _ (t : Tables) (r : Records) (stands : StandsLoaded t r) (is : AreRecords
       (IsPermutation-filter (λ (b : Batch). eqb b.no number) _ _ stands.batches.same)))
 
 pub batch_read : (t : Tables) (o : OfficeState) (number : ℕ) (found : Option BatchRow)
-    → StandsForOffice t o → IsOffice o
+    → TablesRepresentOffice t o → IsOffice o
     → filter (λ (b : Batch). eqb b.no number) t.batch ≡ map batch_from (option_to_list found)
     → IsRowOf (kept_in o number) found
 batch_read t None number found stands is row =

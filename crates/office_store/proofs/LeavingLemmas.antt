@@ -19,7 +19,7 @@ use Rattle.office_model.specs.Commands.{CommandResult}
 use Rattle.office_model.specs.Office.{OfficeState}
 use Rattle.office_model.specs.declared.fault.StoreFault.{StoreFault}
 use Rattle.office_model.specs.declared.fault.StoreFault.TheVariants.{Store}
-use Rattle.office_records.specs.Stands.{IsKept}
+use Rattle.office_records.specs.Representation.{RepresentsOffice}
 use Rattle.office_store.specs.FoldReads.{IsSame}
 use Rattle.office_store.specs.Leaving.{HoldsNext, MayCommit, MayMake, found_in}
 use Rattle.office_store.specs.Running.{IsAtRest, IsAwake, IsStill}
@@ -71,7 +71,7 @@ next_before command before mid still found next =
     record {
       was_open = was.0;
       office = next.office;
-      stood = subst (λ db. IsKept db next.office) was.1 next.stood;
+      stood = subst (λ db. RepresentsOffice db next.office) was.1 next.stood;
       answer = next.answer;
       next = next.next;
       does = next.does;
@@ -122,8 +122,8 @@ module _ {S A : Type 0} (g : Ghosts S) (command : OfficeState → CommandResult 
       record {
         was_open = was.0;
         office = stood.0;
-        stood = subst (λ db. IsKept db stood.0) was.1
-            (subst (λ h. IsKept (state g h).now stood.0) view stood.1);
+        stood = subst (λ db. RepresentsOffice db stood.0) was.1
+            (subst (λ h. RepresentsOffice (state g h).now stood.0) view stood.1);
         answer = x;
         next = moved.0;
         does = moved.1;

@@ -29,7 +29,7 @@ use Rattle.office_store.specs.Memory.{IsMemoryOf, draft_at}
 use Rattle.office_store.specs.declared.memory.OfficeMemory.{OfficeMemory}
 use Rattle.office_store.proofs.CommandLemmas.{Denies, Moves, Remembers}
 use Rattle.office_store.proofs.RememberingLemmas.{next_is}
-use Rattle.office_records.specs.Stands.{StandsLoaded, IsKept}
+use Rattle.office_records.specs.Representation.{TablesRepresentRecords, RepresentsOffice}
 use Rattle.office_records.specs.TableRows.{enrol_row}
 
 -- ---- the rows of pairs
@@ -76,7 +76,7 @@ exam_added E e lt =
 module _ (I : Session) (E : Enrolled) (text : List ℕ) (rows : List EnrolRow)
     (is_text : text ≡ canonical_instance I (no_pairs (length I.exams)))
     (are_rows : IsPermutation rows (map enrol_row (pairs_of E))) where
-  session_stands : StandsLoaded (session_put text rows empty_tables) (fresh (I, E))
+  session_stands : TablesRepresentRecords (session_put text rows empty_tables) (fresh (I, E))
   session_stands = record {
     meta = ap (λ b. record { published = false; instance = b } ∷ []) is_text;
     owner = λ e. refl;
@@ -90,9 +90,9 @@ module _ (I : Session) (E : Enrolled) (text : List ℕ) (rows : List EnrolRow)
   }
 
   -- the database stands for the office with that session alone
-  session_kept : (a b : Database) → IsKept a None
+  session_kept : (a b : Database) → RepresentsOffice a None
       → ((t : Tables) → Stands a t → Stands b (session_put text rows t))
-      → IsInstance I → AreEnrolled I E → IsKept b (Some (fresh (I, E)))
+      → IsInstance I → AreEnrolled I E → RepresentsOffice b (Some (fresh (I, E)))
   session_kept a b kept makes is are = record {
     held = session_put text rows empty_tables;
     tables = makes empty_tables (subst (Stands a) kept.stands kept.tables);
@@ -169,7 +169,8 @@ load_moves text I E counts stored its a b m read counted is_text are_rows is are
       Some (fresh (I, E)),
       ap (loaded text) none ∙ loaded_first text (I, E) read
           ∙ ap (λ k. Ok (k, Some (fresh (I, E)))) (sym counted),
-      session_kept I E stored rows is_text are_rows a b (subst (IsKept a) none kept) makes is are,
+      session_kept I E stored rows is_text are_rows a b
+          (subst (RepresentsOffice a) none kept) makes is are,
     )
 
 pub load_remembers : (text : List ℕ) (I : Session) (E : Enrolled) (counts : loading.Loaded)

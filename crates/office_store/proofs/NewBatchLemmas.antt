@@ -23,7 +23,7 @@ use Rattle.office_model.specs.declared.counts.Counts.{Counts}
 use Rattle.office_model.specs.declared.fault.Refusal.TheVariants as refusal
 use Rattle.office_model.specs.declared.fault.StoreFault.{StoreFault}
 use Rattle.office_model.specs.declared.fault.StoreFault.TheVariants.{Refused, TooMany}
-use Rattle.office_records.specs.Stands.{IsKept}
+use Rattle.office_records.specs.Representation.{RepresentsOffice}
 use Rattle.office_records.specs.TableRows.{once}
 use Rattle.office_store.specs.Memory.{AreDraftRows, AreRescored, IsMemoryOf, draft_at, rescored, scored_by}
 use Rattle.office_store.specs.NewBatches.{AreAnew}
@@ -115,7 +115,8 @@ made_exams None E n is = tt
 
 -- rows of rescored drafts are an office's drafts with these enrolments
 rows_anew : (db : Database) (r : Records) (m : OfficeMemory) (F : Enrolled)
-    (made : List (Option Draft)) (rows : List DraftRow) → IsKept db (Some r) → IsMemoryOf (Some r) m
+    (made : List (Option Draft)) (rows : List DraftRow) → RepresentsOffice db (Some r)
+    → IsMemoryOf (Some r) m
     → length F ≡ length r.session.exams → AreRescored r.session F m.drafts made
     → AreDraftRows made rows → AreAnew r F rows
 rows_anew db r m F made rows kept is exams scored are = record {
@@ -151,7 +152,7 @@ rows_anew db r m F made rows kept is exams scored are = record {
 -- the drafts with those that were made
 pub latest_drafts : (db : Database) (r : Records) (m : OfficeMemory) (I : Session)
     (made : Option Enrolled) (drafts : List (Option Draft)) (rows : List DraftRow)
-    → IsKept db (Some r) → IsMemoryOf (Some r) m → r.session ≡ I
+    → RepresentsOffice db (Some r) → IsMemoryOf (Some r) m → r.session ≡ I
     → IfSome made (λ F. length F ≡ length I.exams)
     → IfSome made (λ F. AreRescored I F m.drafts drafts) → AreDraftRows drafts rows
     → made ≢ None → AreAnew r (latest made r.enrolments) rows

@@ -10,7 +10,7 @@ use Rattle.office_tables.specs.Versions.{schema_of}
 use Rattle.office_tables.specs.declared.version.Version.{Version}
 use Rattle.office_tables.specs.declared.version.Version.TheVariants.{One, Two}
 use Rattle.office_model.specs.Office.{OfficeState}
-use Rattle.office_records.specs.Stands.{IsKept}
+use Rattle.office_records.specs.Representation.{RepresentsOffice}
 use Rattle.office_store.specs.Faults.{IsOfDatabase}
 use Rattle.office_store.specs.Opening.{HoldsOffice, IsOfficeOf}
 use Rattle.office_model.specs.declared.fault.StoreFault.{StoreFault}
@@ -35,7 +35,8 @@ before_load db there bare (inr held) =
     absurd (has_some held.0 (sym held.1.tables.schema ∙ bare))
 
 -- the tables of version 2 are those of one of the two
-pub kept_holds : (db : Database) (there : OfficeState) → IsKept db there → HoldsOffice db there
+pub kept_holds : (db : Database) (there : OfficeState) → RepresentsOffice db there
+    → HoldsOffice db there
 kept_holds db there kept = (Two, kept, tt)
 
 -- with tables, they represent it

@@ -23,7 +23,7 @@ use Rattle.office_store.proofs.RunLemmas.{kept_of}
 use Rattle.exam_draft.specs.Edits.{exam_exists}
 use Rattle.exam_draft.specs.declared.fault.EditFault.TheVariants.{NoSuch}
 use Rattle.office_model.specs.Commands.{owned, owner_in}
-use Rattle.office_records.specs.Stands.{StandsForOffice, StandsLoaded, IsSound, IsKept}
+use Rattle.office_records.specs.Representation.{TablesRepresentOffice, TablesRepresentRecords, IsSound, RepresentsOffice}
 use Rattle.office_records.specs.TableRows.{owners_at, some_dept}
 use Rattle.office_model.specs.declared.fault.Refusal.TheVariants.{Edit}
 use Rattle.office_model.specs.declared.fault.StoreFault.TheVariants.{Refused}
@@ -31,7 +31,7 @@ use Rattle.office_records.proofs.KeyLemmas.{none_of, all_of_other}
 use Rattle.office_records.proofs.MemoryLemmas.{same_one}
 
 -- the rows of the exam that is set, and of the others
-module _ (t : Tables) (r : Records) (e d : ℕ) (h : StandsLoaded t r) where
+module _ (t : Tables) (r : Records) (e d : ℕ) (h : TablesRepresentRecords t r) where
   abbrev pub left : List OwnerRow
   left = filter (λ o. not (eqb o.exam e)) t.owner
 
@@ -67,7 +67,7 @@ module _ (t : Tables) (r : Records) (e d : ℕ) (h : StandsLoaded t r) where
   zero_is is = grind (arith, nat_tests, is)
 
   pub owner_stands : (b : Bool) → eqb d 0 ≡ b
-      → StandsLoaded (cond b (without_owner e t) (with_owner row (without_owner e t)))
+      → TablesRepresentRecords (cond b (without_owner e t) (with_owner row (without_owner e t)))
       (record r { owner_of = set_at e d r.owner_of })
   owner_stands true is = record {
     meta = h.meta;
@@ -113,10 +113,10 @@ owner_sound t r e d true h = record { scored = h.scored; shared = h.shared }
 owner_sound t r e d false h = record { scored = h.scored; shared = h.shared }
 
 -- the database stands for the office with that owner
-pub owner_kept : (a b : Database) (r : Records) (e d : ℕ) → IsKept a (Some r)
+pub owner_kept : (a b : Database) (r : Records) (e d : ℕ) → RepresentsOffice a (Some r)
     → ((t : Tables) → Stands a t → Stands b (owner_put e d t))
     → e < length r.session.exams → d ≤ 999
-    → IsKept b (Some (record r { owner_of = set_at e d r.owner_of }))
+    → RepresentsOffice b (Some (record r { owner_of = set_at e d r.owner_of }))
 owner_kept a b r e d kept makes exists few = record {
   held = owner_put e d kept.held;
   tables = makes kept.held kept.tables;
@@ -154,7 +154,7 @@ module _ (a : Database) (m : OfficeMemory) (I : Session) (E : Enrolled)
       let there = subst (λ I. e < length I.exams) (sym of.session) exists in (
         _,
         ap (owned e d) of.is ∙ owned_there of.records e d there,
-        owner_kept a b of.records e d (subst (IsKept a) of.is kept)
+        owner_kept a b of.records e d (subst (RepresentsOffice a) of.is kept)
             (subst (λ n. (t : Tables) → Stands a t → Stands b (owner_put n d t)) same makes) there
             few,
       )
@@ -185,7 +185,8 @@ few x false [] p = absurd (let long = length_permutation _ _ p in omega (arith, 
 few x false (y ∷ []) p = ap (λ z. z ∷ []) (same_one x y p)
 few x false (y ∷ z ∷ ys) p = absurd (let long = length_permutation _ _ p in omega (arith, long))
 
-pub owner_read : (t : Tables) (o : OfficeState) (e : ℕ) (rows : List OwnerRow) → StandsForOffice t o
+pub owner_read : (t : Tables) (o : OfficeState) (e : ℕ) (rows : List OwnerRow)
+    → TablesRepresentOffice t o
     → IsPermutation (filter (λ r. eqb r.exam e) t.owner) rows
     → map (λ r. r.dept) rows ≡ some_dept (owner_in e o)
 owner_read t None e rows stands p =

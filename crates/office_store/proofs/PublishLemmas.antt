@@ -51,7 +51,7 @@ use Rattle.office_records.specs.SeatsStored.{seat_rows_of, seat_rows_without}
 use Rattle.office_records.specs.SharesStored.{share_rows_of, share_rows_without}
 use Rattle.office_records.specs.PartShares.{part_share_rows}
 use Rattle.office_records.specs.SharesStored.{student_share_rows}
-use Rattle.office_records.specs.Stands.{IsKept, IsSound, StandsLoaded}
+use Rattle.office_records.specs.Representation.{RepresentsOffice, IsSound, TablesRepresentRecords}
 use Rattle.office_records.specs.TableRows.{meta_row, session_text}
 use Rattle.office_records.proofs.RepublicationLemmas as republication
 use Rattle.office_store.specs.ChangedPlacements.{changed_rows, exams_of, placements_without}
@@ -317,8 +317,8 @@ module _ (r : Records) (T : Placing) (is : AreRecords r) (fits : Fits r.session 
         ∙ taken_back _ (λ (it : InsertStudentShare). it.row) (λ x. refl) (share_rows_of who all)))
         (republication.shares_put r.session r.published new_one t.share_student stored)
 
-    published_stands : StandsLoaded t r
-        → StandsLoaded (publication_put new t) (record r { published = Some new_one })
+    published_stands : TablesRepresentRecords t r
+        → TablesRepresentRecords (publication_put new t) (record r { published = Some new_one })
     published_stands h = record {
       meta = meta_in r.session r.published before new.text were put.text t.meta h.meta;
       owner = h.owner;
@@ -351,8 +351,8 @@ module _ (r : Records) (T : Placing) (is : AreRecords r) (fits : Fits r.session 
   published_kept : (a b : Database) (before : List PlacedRow)
       → IsPermutation before (placed_rows r.published) → (penalty : ℕ) (new : NewPublication)
       → ArePutIn r.session T before (publication_rows r.published) new_one.rows penalty new
-      → IsKept a (Some r) → ((t : Tables) → Stands a t → Stands b (publication_put new t))
-      → IsKept b (Some (record r { published = Some new_one }))
+      → RepresentsOffice a (Some r) → ((t : Tables) → Stands a t → Stands b (publication_put new t))
+      → RepresentsOffice b (Some (record r { published = Some new_one }))
   published_kept a b before were penalty new put kept makes = record {
     held = publication_put new kept.held;
     tables = makes kept.held kept.tables;
@@ -413,7 +413,7 @@ module _ {S : Type 0} (g : Ghosts S) (first mid inside : Held S) (view : inside 
   pub publication_moves : (b : Database) (m : OfficeMemory) (new : NewPublication)
       → (HasCleanDisk (state g mid) → IsStill (state g first) (state g mid))
       → (HasCleanDisk (state g mid) → IsAwake (state g mid))
-      → (HasCleanDisk (state g mid) → (o : OfficeState) → IsKept (state g first).now o
+      → (HasCleanDisk (state g mid) → (o : OfficeState) → RepresentsOffice (state g first).now o
       → IsPutIn d o new)
       → HasCleanDisk (state g inside)
       → ((t : Tables) → Stands (state g inside).now t
@@ -421,13 +421,13 @@ module _ {S : Type 0} (g : Ghosts S) (first mid inside : Held S) (view : inside 
       → Moves (draft_published d) new.counts (state g inside).now b m
   publication_moves b m new still opened puts clean makes o kept is =
       let here = subst (λ h. HasCleanDisk (state g h)) view clean in
-      let there = subst (λ h. IsKept (state g h).now o) view kept in
-      let was = subst (λ db. IsKept db o) (still here (opened here).0).1 there in
+      let there = subst (λ h. RepresentsOffice (state g h).now o) view kept in
+      let was = subst (λ db. RepresentsOffice db o) (still here (opened here).0).1 there in
       let of = puts here o was in
       let r = of.records in
       let put = of.put in
       let T = put.timetable in
-      let held = subst (IsKept (state g inside).now) of.is kept in
+      let held = subst (RepresentsOffice (state g inside).now) of.is kept in
       let fits = held.office.drafts d T put.draft in (
         Some (record r { published = Some (published_as r T) }),
         ap (draft_published d) of.is ∙ publish_gives d r T put.draft put.permitted
@@ -440,14 +440,14 @@ module _ {S : Type 0} (g : Ghosts S) (first mid inside : Held S) (view : inside 
   pub publication_remembers : (m : OfficeMemory) (new : NewPublication)
       → (HasCleanDisk (state g mid) → IsStill (state g first) (state g mid))
       → (HasCleanDisk (state g mid) → IsAwake (state g mid))
-      → (HasCleanDisk (state g mid) → (o : OfficeState) → IsKept (state g first).now o
+      → (HasCleanDisk (state g mid) → (o : OfficeState) → RepresentsOffice (state g first).now o
       → IsPutIn d o new)
       → HasCleanDisk (state g inside)
       → Remembers (draft_published d) new.counts (state g inside).now m m
   publication_remembers m new still opened puts clean o kept is next gives =
       let here = subst (λ h. HasCleanDisk (state g h)) view clean in
-      let there = subst (λ h. IsKept (state g h).now o) view kept in
-      let was = subst (λ db. IsKept db o) (still here (opened here).0).1 there in
+      let there = subst (λ h. RepresentsOffice (state g h).now o) view kept in
+      let was = subst (λ db. RepresentsOffice db o) (still here (opened here).0).1 there in
       let of = puts here o was in
       let r = of.records in
       let put = of.put in

@@ -25,12 +25,12 @@ use Rattle.office_model.specs.Publishing.{publication_rows}
 use Rattle.office_model.specs.declared.fault.StoreFault.{StoreFault}
 use Rattle.office_records.specs.Memory.{Memory, memory_of}
 use Rattle.office_records.specs.Faults.{store_fault}
-use Rattle.office_records.specs.Publications.{ArePublicationRows, StandsPublished}
+use Rattle.office_records.specs.Publications.{ArePublicationRows, RowsRepresentPublication}
 use Rattle.office_records.specs.FoundPublications.{ArePlaces, ArePublished, publication_from}
 use Rattle.office_records.specs.Publications.{placed_from, placed_rows, stored_seat}
 use Rattle.office_records.specs.SharesStored.{AreShared}
 use Rattle.office_records.specs.PartShares.{part_rows, plain_rows}
-use Rattle.office_records.specs.Stands.{IsKept, IsSound, StandsForOffice}
+use Rattle.office_records.specs.Representation.{RepresentsOffice, IsSound, TablesRepresentOffice}
 use Rattle.office_records.proofs.PlacedRowLemmas.{same_places}
 use Rattle.office_records.proofs.ReadableLemmas.{are_numbered}
 use Rattle.office_records.specs.declared.fault.RecordFault.{RecordFault}
@@ -45,14 +45,14 @@ use Rattle.office_store.proofs.RunLemmas.{kept_of, nothing_kept}
 
 -- ---- the rows of each table
 
-pub placed_read : (t : Tables) (o : OfficeState) (rows : List PlacedRow) → StandsForOffice t o
+pub placed_read : (t : Tables) (o : OfficeState) (rows : List PlacedRow) → TablesRepresentOffice t o
     → IsPermutation t.placed rows → IsPermutation rows (placed_rows (published_in o))
 placed_read t None rows stands p =
     IsPermutation-sym _ _ (subst (λ (t : Tables). IsPermutation t.placed rows) stands p)
 placed_read t (Some r) rows stands p =
     IsPermutation-trans _ _ _ (IsPermutation-sym _ _ p) stands.published.placed
 
-pub seats_read : (t : Tables) (o : OfficeState) (rows : List SeatRow) → StandsForOffice t o
+pub seats_read : (t : Tables) (o : OfficeState) (rows : List SeatRow) → TablesRepresentOffice t o
     → IsPermutation t.seat rows
     → IsPermutation rows (map stored_seat (publication_rows (published_in o)))
 seats_read t None rows stands p =
@@ -61,7 +61,7 @@ seats_read t (Some r) rows stands p =
     IsPermutation-trans _ _ _ (IsPermutation-sym _ _ p) stands.published.seat
 
 pub student_shares_read : (t : Tables) (o : OfficeState) (rows : List StudentShareRow)
-    → StandsForOffice t o → IsSound t o → IsPermutation t.share_student rows
+    → TablesRepresentOffice t o → IsSound t o → IsPermutation t.share_student rows
     → IsPermutation rows (student_rows_in o)
 student_shares_read t None rows stands sound p =
     IsPermutation-sym _ _ (subst (λ (t : Tables). IsPermutation t.share_student rows) stands p)
@@ -69,7 +69,7 @@ student_shares_read t (Some r) rows stands sound p =
     IsPermutation-trans _ _ _ (IsPermutation-sym _ _ p) sound.shared.of_students
 
 pub part_shares_read : (t : Tables) (o : OfficeState) (rows : List PartShareRow)
-    → StandsForOffice t o
+    → TablesRepresentOffice t o
     → IsSound t o → IsPermutation t.share_part rows → IsPermutation rows (part_rows_in o)
 part_shares_read t None rows stands sound p =
     IsPermutation-sym _ _ (subst (λ (t : Tables). IsPermutation t.share_part rows) stands p)
@@ -82,16 +82,17 @@ part_shares_read t (Some r) rows stands sound p =
 module _ (o : OfficeState) (I : Session) (E : Enrolled) (m : Memory)
     (kept_in : m ≡ Some (I, E)) where
   pub published_told : (office : IsOffice o) → memory_of o ≡ m → (places : List PlacedRow)
-      (seats : List SeatRow) → StandsPublished places seats (published_in o)
+      (seats : List SeatRow) → RowsRepresentPublication places seats (published_in o)
       → (result : Result (Option Shown) StoreFault)
-      → ((r : Records) → AreRecords r → r.session ≡ I → StandsPublished places seats r.published
+      → ((r : Records) → AreRecords r → r.session ≡ I
+      → RowsRepresentPublication places seats r.published
       → Tells (publication_shown (Some r)) result)
       → Tells (publication_shown o) result
   published_told office is places seats rows result told =
       let of = kept_of o I E (is ∙ kept_in) in
       subst (λ o. Tells (publication_shown o) result) (sym of.is)
       (told of.records (subst IsOffice of.is office) of.session
-      (subst (λ o. StandsPublished places seats (published_in o)) of.is rows))
+      (subst (λ o. RowsRepresentPublication places seats (published_in o)) of.is rows))
 
   pub places_told : (office : IsOffice o) → memory_of o ≡ m → (places : List PlacedRow)
       → IsPermutation places (placed_rows (published_in o))
@@ -155,7 +156,8 @@ mark_of (Some p) I known is n long false tells =
 
 -- the rows with their mark
 pub marked_rows : (r : Records) → AreRecords r → (places : List PlacedRow) (seats : List SeatRow)
-    → StandsPublished places seats r.published → (mark : Bool) → (IsTrue mark ↔ (1 ≤ length places))
+    → RowsRepresentPublication places seats r.published → (mark : Bool)
+    → (IsTrue mark ↔ (1 ≤ length places))
     → ArePublicationRows mark places seats r.published
 marked_rows r is places seats rows mark tells = record {
   marked = mark_of r.published r.session is.session is.publication (length places)
@@ -186,7 +188,7 @@ found_shown r found is =
 -- rows that only what is published has, with their mark
 module _ (I : Session) (places : List PlacedRow) (seats : List SeatRow) (mark : Bool)
     (marks : IsTrue mark ↔ (1 ≤ length places)) (r : Records) (is : AreRecords r)
-    (same : r.session ≡ I) (rows : StandsPublished places seats r.published) where
+    (same : r.session ≡ I) (rows : RowsRepresentPublication places seats r.published) where
   pub told_found : (found : Option (Placing × Vec publish.SeatRow Global))
       → ((published : Option Publication) → ArePublicationRows mark places seats published
       → ArePublished I published → publication_from found ≡ published)
@@ -365,7 +367,7 @@ add_up (Some r) is shares e = subst (AddUpIn (Some r)) (sym e) (go r.published i
         )
 
 -- and so do the rows that it keeps
-pub stored_add_up : (d : Database) (o : OfficeState) (kept : IsKept d o)
+pub stored_add_up : (d : Database) (o : OfficeState) (kept : RepresentsOffice d o)
     → StoredAddUp o kept.held.share_student kept.held.share_part
 stored_add_up d None kept = tt
 stored_add_up d (Some r) kept = go r.published kept.office.publication kept.sound.shared

@@ -8,7 +8,7 @@ use Rattle.office_tables.specs.Tables.{Tables}
 use Rattle.office_tables.specs.declared.slot.SlotRow.{SlotRow}
 use Rattle.office_model.specs.Office.{OfficeState}
 use Rattle.office_records.specs.Memory.{memory_of}
-use Rattle.office_records.specs.Stands.{StandsForOffice}
+use Rattle.office_records.specs.Representation.{TablesRepresentOffice}
 use Rattle.office_records.specs.TableRows.{slots_at, slot_rows}
 use Rattle.office_records.specs.declared.fault.RecordFault.{RecordFault}
 use Rattle.office_records.specs.declared.fault.RecordFault.TheVariants.{NoMemory, BadRows}
@@ -20,7 +20,8 @@ use Rattle.office_store.specs.Running.{Does, IsFault}
 use Rattle.office_store.proofs.DraftLemmas.{some_is}
 
 -- the rows of its places that are read are those of its timetable
-pub places_read : (t : Tables) (o : OfficeState) (d : ℕ) (rows : List SlotRow) → StandsForOffice t o
+pub places_read : (t : Tables) (o : OfficeState) (d : ℕ) (rows : List SlotRow)
+    → TablesRepresentOffice t o
     → IsPermutation (slots_at d t.slot) rows → IsPermutation rows (slot_rows d (draft_in d o))
 places_read t None d rows stands p =
     IsPermutation-sym _ _ (subst (λ (t : Tables). IsPermutation (slots_at d t.slot) rows) stands p)

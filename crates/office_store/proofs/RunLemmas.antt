@@ -13,7 +13,7 @@ use Rattle.office_model.specs.Office.{OfficeState, Records}
 use Rattle.office_records.specs.Memory.{memory_of}
 use Rattle.office_store.specs.FoldReads.{HasRead, IsSame}
 use Rattle.office_store.specs.Running.{Now, IsAtRest, IsStill}
-use Rattle.office_records.specs.Stands.{IsKept}
+use Rattle.office_records.specs.Representation.{RepresentsOffice}
 use Rattle.office_tables.specs.Alterations.{Undone}
 use Rattle.office_store.specs.Memory.{IsMemoryOf}
 use Rattle.office_store.specs.declared.memory.OfficeMemory.{OfficeMemory}
@@ -24,7 +24,7 @@ use Rattle.office_store.proofs.InMemoryLemmas.{same_in_memory}
 pub now_still : (a b : State) (o : OfficeState) → IsStill a b → Now a o → Now b o
 now_still a b o still now opened =
     let is = still opened in
-    subst (λ db. IsKept db o) (sym is.1) (now is.0)
+    subst (λ db. RepresentsOffice db o) (sym is.1) (now is.0)
 
 -- one call behind another
 pub still_then : (a b c : State) → IsStill a b → IsStill b c → IsStill a c
@@ -38,7 +38,7 @@ pub rest_still : (a b : State) (m : OfficeMemory) → (HasCleanDisk b → HasCle
 rest_still a b m clean still rest is_clean opened =
     let is = still is_clean opened in
     let here = rest (clean is_clean) is.0 in
-    (here.0, subst (λ db. IsKept db here.0) (sym is.1) here.1, here.2)
+    (here.0, subst (λ db. RepresentsOffice db here.0) (sym is.1) here.1, here.2)
 
 -- a reader that failed, where all that was written was committed
 pub still_kept : (a b : State) → (IsTrue a.is_open → a.now ≡ a.committed) → Keeps a b → IsStill a b
@@ -56,7 +56,7 @@ still_undone a b settled undone opened =
 -- ---- what is in memory
 
 pub at_hand : (s : State) (m : OfficeMemory) (o : OfficeState) → IsAtRest s m → HasCleanDisk s
-    → IsTrue s.is_open → IsKept s.now o → IsMemoryOf o m
+    → IsTrue s.is_open → RepresentsOffice s.now o → IsMemoryOf o m
 at_hand s m o rest clean opened kept =
     let here = rest clean opened in
     same_in_memory s.now here.0 o here.1 kept m here.2
@@ -105,10 +105,10 @@ module _ (a b : State) (m : OfficeMemory) (rest : IsAtRest a m)
   -- it has answered: what stands now stood before
   pub kept_read : (HasCleanDisk b → IsTrue a.is_open)
       → (HasCleanDisk b → (t : Tables) → Stands a.now t → IsUnchanged a b)
-      → HasCleanDisk b → (o : OfficeState) → IsKept b.now o → IsKept a.now o
+      → HasCleanDisk b → (o : OfficeState) → RepresentsOffice b.now o → RepresentsOffice a.now o
   kept_read was_open same is_clean o =
       let here = rest (clean is_clean) (was_open is_clean) in
-      subst (λ db. IsKept db o) (same is_clean here.1.held here.1.tables).0.now_is
+      subst (λ db. RepresentsOffice db o) (same is_clean here.1.held here.1.tables).0.now_is
 
 -- ---- readers that had answered, and then a transaction that failed
 

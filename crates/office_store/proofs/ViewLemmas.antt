@@ -29,7 +29,7 @@ use Rattle.office_model.specs.Office.{AreRecords, IsOffice, OfficeState, Publica
 use Rattle.office_model.specs.Views.{published_place}
 use Rattle.office_model.specs.ViewRows.{AreOfPublication, places_in}
 use Rattle.office_records.specs.Publications.{placed_from, placed_row, placed_rows}
-use Rattle.office_records.specs.Stands.{StandsForOffice}
+use Rattle.office_records.specs.Representation.{TablesRepresentOffice}
 use Rattle.office_records.specs.TableRows.{enrol_row, once}
 use Rattle.office_store.specs.OfficeRows.{published_in}
 use Rattle.office_store.specs.Viewing.{exams_in, her_row, place_in_row}
@@ -59,7 +59,7 @@ use Rattle.office_model.specs.Views.{no_view, view_from, view_of}
 use Rattle.office_model.specs.declared.views.ViewRow.{ViewRow}
 use Rattle.office_records.specs.Publications.{stored_seat}
 use Rattle.office_records.specs.SharesStored.{student_share_row, student_share_rows}
-use Rattle.office_records.specs.Stands.{IsSound}
+use Rattle.office_records.specs.Representation.{IsSound}
 use Rattle.office_records.proofs.SameTables.{same_few}
 use Rattle.office_records.proofs.ReadableLemmas.{are_numbered}
 use Rattle.office_store.specs.OfficeRows.{student_rows_in}
@@ -226,7 +226,8 @@ abbrev row_pair : EnrolRow → Pair
 row_pair r = record { exam = r.exam; student = r.student }
 
 -- what is stored of her enrolments is that of her exams
-her_enrolments : (t : Tables) (r : Records) (c : ℕ) → StandsForOffice t (Some r) → AreRecords r
+her_enrolments : (t : Tables) (r : Records) (c : ℕ) → TablesRepresentOffice t (Some r)
+    → AreRecords r
     → IsPermutation (filter (λ (x : EnrolRow). eqb x.student c) t.enrol)
     (map (her_row c) (exams_sat r.enrolments c))
 her_enrolments t r c stands is =
@@ -236,7 +237,7 @@ her_enrolments t r c stands is =
     (IsPermutation-filter (λ (x : EnrolRow). eqb x.student c) _ _ stands.enrol)
 
 pub rows_read : (t : Tables) (r : Records) (c : ℕ) (found : List EnrolRow)
-    → StandsForOffice t (Some r)
+    → TablesRepresentOffice t (Some r)
     → AreRecords r
     → IsInOrder HerEnrolsRise (filter (λ (x : EnrolRow). eqb x.student c) t.enrol) found
     → found ≡ map (her_row c) (exams_sat r.enrolments c)
@@ -245,7 +246,7 @@ rows_read t r c found stands is order =
     (rows_rise c (exams_sat r.enrolments c) (sat_rise r.enrolments c))
 
 pub enrols_read : (t : Tables) (o : OfficeState) (c : ℕ) (found : List EnrolRow)
-    → StandsForOffice t o
+    → TablesRepresentOffice t o
     → IsOffice o
     → IsInOrder HerEnrolsRise (filter (λ (x : EnrolRow). eqb x.student c) t.enrol) found
     → map (λ (r : EnrolRow). r.exam) found ≡ exams_in c o
@@ -329,7 +330,7 @@ rows_of_exam (Some p) e =
 abbrev rows_for : Option Publication → List ℕ → List PlacedRow
 rows_for published es = flat_map (λ e. one_or_none (row_for published e)) es
 
-her_places : (t : Tables) (r : Records) (c : ℕ) → StandsForOffice t (Some r) → AreRecords r
+her_places : (t : Tables) (r : Records) (c : ℕ) → TablesRepresentOffice t (Some r) → AreRecords r
     → IsPermutation (placed_of c t) (rows_for r.published (exams_sat r.enrolments c))
 her_places t r c stands is =
     let by : EnrolRow → List PlacedRow =
@@ -381,7 +382,7 @@ places_back published (e ∷ es) = go (published_place published e) (places_back
     go (Some at) more = ap (λ l. (e, at) ∷ l) more
 
 pub places_read : (t : Tables) (o : OfficeState) (c : ℕ) (found : List PlacedRow)
-    → StandsForOffice t o
+    → TablesRepresentOffice t o
     → IsOffice o → IsInOrder PlacementsRise (placed_of c t) found
     → map place_in_row found ≡ places_in (published_in o) (exams_in c o)
 places_read t None c found stands is order =
@@ -438,7 +439,7 @@ her_seats_rise r c is (Some p) e =
     (hers c p.rows)
 
 pub her_seats_read : (t : Tables) (o : OfficeState) (c : ℕ) (found : List SeatRow)
-    → StandsForOffice t o
+    → TablesRepresentOffice t o
     → IsOffice o
     → IsInOrder HerSeatsRise (filter (λ (x : SeatRow). eqb x.student c) t.seat) found
     → found ≡ map stored_seat (rows_of c (publication_rows (published_in o)))
@@ -456,7 +457,7 @@ her_seats_read t (Some r) c found stands is order =
 -- ---- her share
 
 pub her_shares_read : (t : Tables) (o : OfficeState) (c : ℕ) (found : List StudentShareRow)
-    → StandsForOffice t o → IsSound t o
+    → TablesRepresentOffice t o → IsSound t o
     → IsPermutation (filter (λ (x : StudentShareRow). eqb x.student c) t.share_student) found
     → IsPermutation (filter (λ (x : StudentShareRow). eqb x.student c) (student_rows_in o)) found
 her_shares_read t None c found stands sound p =

@@ -5,7 +5,7 @@ use Rattle.sqlite.specs.State.{HasCleanDisk, IsUnchanged, Survives}
 use Rattle.sqlite.specs.Store.{Ghosts}
 use Rattle.exam_model.specs.Enrolments.{Enrolled}
 use Rattle.office_model.specs.Office.{Records}
-use Rattle.office_records.specs.Stands.{IsKept}
+use Rattle.office_records.specs.Representation.{RepresentsOffice}
 use Rattle.office_tables.specs.Readers.{LeavesCommitted, OpensNone}
 use Rattle.office_tables.specs.Tables.{Tables}
 use Rattle.office_tables.specs.Standing.{Stands}
@@ -30,5 +30,5 @@ pub record HadEnrolments {S : Type 0} (store : Ghosts S) (old new : Held S) (E :
   pub clean : HasCleanDisk (state store new)
   pub opened : IsTrue (state store old).is_open
   pub records : Records
-  pub kept : IsKept (state store old).now (Some records)
+  pub kept : RepresentsOffice (state store old).now (Some records)
   pub enrolments : records.enrolments ≡ E

@@ -11,7 +11,7 @@ use Rattle.office_model.specs.Commands.{CommandResult}
 use Rattle.office_model.specs.Office.{OfficeState}
 use Rattle.office_model.specs.declared.fault.StoreFault.{StoreFault}
 use Rattle.office_model.specs.declared.fault.StoreFault.TheVariants.{Store}
-use Rattle.office_records.specs.Stands.{IsKept}
+use Rattle.office_records.specs.Representation.{RepresentsOffice}
 use Rattle.office_store.specs.Opening.{IsTakenOver}
 use Rattle.office_store.specs.Running.{IsAwake}
 
@@ -25,11 +25,11 @@ pub record HoldsNext {A : Type 0} (command : OfficeState → CommandResult A) (o
     : Type 0 where
   pub was_open : IsTrue old.is_open
   pub office : OfficeState
-  pub stood : IsKept old.now office
+  pub stood : RepresentsOffice old.now office
   pub answer : A
   pub next : OfficeState
   pub does : command office ≡ Ok (answer, next)
-  pub holds : IsKept (found_in found) next
+  pub holds : RepresentsOffice (found_in found) next
 
 -- what a command may commit, unless it is refused by name: the next office
 abbrev pub MayCommit : {A : Type 0} → (OfficeState → CommandResult A) → State → Result A StoreFault
@@ -62,7 +62,7 @@ connection_of (Err refused) = refused.1
 abbrev pub MayMake : {S : Type 0} → State → Result (Held S) (StoreFault × Held S) → Trees → Type 0
 MayMake old result found =
     (old.now.schema ≡ no_schema) × IfErr result (λ refused. refused.0 ≡ Store)
-    × IsKept (found_in found) None
+    × RepresentsOffice (found_in found) None
 
 -- what taking an office over may commit where its tables are of version 1, unless that is refused by
 -- name: the same office in version 2

@@ -11,7 +11,7 @@ use Rattle.office_tables.specs.declared.slot.SlotRow.{SlotRow}
 use Rattle.office_model.specs.Office.{OfficeState, Records}
 use Rattle.office_records.specs.Found.{AreDrafts}
 use Rattle.office_records.specs.Memory.{AreTogether, memory_of}
-use Rattle.office_records.specs.Stands.{parts_of}
+use Rattle.office_records.specs.Representation.{parts_of}
 use Rattle.office_records.specs.TableRows.{drafts_at, once}
 use Rattle.office_store.specs.declared.memory.Draft.{Draft}
 use Rattle.office_store.specs.declared.memory.OfficeMemory.{OfficeMemory}

@@ -11,7 +11,7 @@ use Rattle.office_tables.specs.declared.version.Version.{Version}
 use Rattle.office_tables.specs.declared.version.Version.TheVariants.{One, Two}
 use Rattle.office_model.specs.Office.{OfficeState}
 use Rattle.office_records.specs.Memory.{Memory, memory_of}
-use Rattle.office_records.specs.Stands.{IsKept, IsKeptIn}
+use Rattle.office_records.specs.Representation.{RepresentsOffice, RepresentsOfficeIn}
 use Rattle.office_store.specs.Memory.{IsMemoryOf}
 use Rattle.office_store.specs.declared.memory.OfficeMemory.{OfficeMemory}
 
@@ -24,7 +24,8 @@ WeighsNoNight Two memory = Unit {0}
 -- the database represents this office in one of the two versions, and is sound
 abbrev pub HoldsOffice : Database → OfficeState → Type 0
 HoldsOffice db office =
-    (version : Version) × IsKeptIn version db office × WeighsNoNight version (memory_of office)
+    (version : Version) × RepresentsOfficeIn version db office
+    × WeighsNoNight version (memory_of office)
 
 -- the database represents this office; one with no table represents the office before its load
 abbrev pub IsOfficeOf : Database → OfficeState → Type 0
@@ -37,7 +38,7 @@ pub record IsFoundOffice (db : Database) (found : Found) (memory : OfficeMemory)
   pub counted : map counts_of batches ≡ found.batches.items
   pub tables : StandsIn found.version db (tables_of found batches)
   pub office : OfficeState
-  pub kept : IsKeptIn found.version db office
+  pub kept : RepresentsOfficeIn found.version db office
   pub weighs : WeighsNoNight found.version (memory_of office)
   pub in_memory : IsMemoryOf office memory
 
@@ -45,4 +46,4 @@ pub record IsFoundOffice (db : Database) (found : Found) (memory : OfficeMemory)
 pub record IsTakenOver (old new : Database) : Type 0 where
   pub office : OfficeState
   pub stood : HoldsOffice old office
-  pub stands : (there : OfficeState) → HoldsOffice old there → IsKept new there
+  pub stands : (there : OfficeState) → HoldsOffice old there → RepresentsOffice new there

@@ -5,7 +5,7 @@ use Rattle.sqlite.specs.State.{State, HasCleanDisk}
 use Rattle.sqlite.specs.Store.{Ghosts}
 use Rattle.office_model.specs.Commands.{CommandResult}
 use Rattle.office_model.specs.Office.{OfficeState}
-use Rattle.office_records.specs.Stands.{IsKept}
+use Rattle.office_records.specs.Representation.{RepresentsOffice}
 use Rattle.office_model.specs.declared.fault.StoreFault.{StoreFault}
 use Rattle.office_model.specs.declared.fault.StoreFault.TheVariants.{Store, BadSchema}
 use Rattle.office_store.specs.Memory.{IsMemoryOf}
@@ -13,7 +13,7 @@ use Rattle.office_store.specs.declared.memory.OfficeMemory.{OfficeMemory}
 
 -- while the store is open, its tables represent this office
 abbrev pub Now : State → OfficeState → Type 0
-Now s office = IsTrue s.is_open → IsKept s.now office
+Now s office = IsTrue s.is_open → RepresentsOffice s.now office
 
 -- the command's own refusal, or a failed statement; an honest store never answers BadSchema
 abbrev pub IsFault : {A : Type 0} → CommandResult A → StoreFault → Type 0
@@ -59,7 +59,7 @@ ReadsOffice store says old new result =
 abbrev pub IsAtRest : State → OfficeMemory → Type 0
 IsAtRest s memory =
     HasCleanDisk s → IsTrue s.is_open
-    → (office : OfficeState) × IsKept s.now office × IsMemoryOf office memory
+    → (office : OfficeState) × RepresentsOffice s.now office × IsMemoryOf office memory
 
 -- ---- a look at the file
 

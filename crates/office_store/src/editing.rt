@@ -9,7 +9,7 @@ ghost use Rattle.exam_draft.specs.Edits.{edited};
 ghost use Rattle.exam_draft.specs.Judged.{IsEditedAt, edited_exams};
 ghost use Rattle.office_model.specs.Office.{OfficeState, Records};
 ghost use Rattle.office_records.specs.Memory.{memory_of};
-ghost use Rattle.office_records.specs.Stands.{IsKept};
+ghost use Rattle.office_records.specs.Representation.{RepresentsOffice};
 ghost use Rattle.office_model.specs.Commands.{named};
 ghost use Rattle.office_model.specs.DraftCommands.{draft_edited};
 ghost use Rattle.office_store.specs.Changes.{moved, new_place};
@@ -93,7 +93,7 @@ fn edited_draft<S: Alter>(
 ) -> Result<EditedDraft, StoreFault>
     requires together { IsTogether memory.now }
     ensures edits { HasCleanDisk (state S.Store conn.new) → IsAwake (state S.Store conn.old)
-        → (office : OfficeState) → IsKept (state S.Store conn.old).now office
+        → (office : OfficeState) → RepresentsOffice (state S.Store conn.old).now office
         → IsMemoryOf office memory.now → Edits number edit office result }
     ensures places { IfOk result (λ new. new.places.items
         ≡ map (new_place number new.draft.timetable) (edited_exams edit)) }

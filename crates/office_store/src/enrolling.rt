@@ -6,7 +6,7 @@ ghost use Rattle.exam_terms.specs.declared.limits.TheConstants.{MAX_BATCH};
 ghost use Rattle.office_batches.specs.BatchText.{batch_in};
 ghost use Rattle.office_model.specs.Batches.{batch_enrolled, kept_in};
 ghost use Rattle.office_model.specs.Office.{OfficeState};
-ghost use Rattle.office_records.specs.Stands.{IsKept};
+ghost use Rattle.office_records.specs.Representation.{RepresentsOffice};
 ghost use Rattle.office_store.specs.NewBatches.{IsRowOf, answered_again};
 ghost use Rattle.office_store.specs.Leaving.{LeavesNext};
 ghost use Rattle.office_store.specs.Running.{IsAwake, IsStill, Runs, StaysOnErr};
@@ -68,7 +68,7 @@ impl<S: Alter> Office<S> {
         requires number { number ≤ MAX_BATCH }
         requires spelled { batch_in text.now ≡ Ok changes.now }
         requires is_new { HasCleanDisk (state S.Store self.old) → (office : OfficeState)
-            → IsKept (state S.Store self.old).now office → kept_in office number ≡ None }
+            → RepresentsOffice (state S.Store self.old).now office → kept_in office number ≡ None }
         requires awake { HasCleanDisk (state S.Store self.old) → IsAwake (state S.Store self.old) }
         ensures runs { Runs S.Store (batch_enrolled number text.now) self.old self.new result }
         ensures stays { StaysOnErr S.Store self.old self.new result }
@@ -94,7 +94,7 @@ impl<S: Alter> Office<S> {
     // The batch that is kept under a number, if there is one.
     fn kept_batch(&mut self, alloc: Global, number: u32) -> Result<Option<BatchRow>, Failed>
         ensures row { HasCleanDisk (state S.Store self.new) → (office : OfficeState)
-            → IsKept (state S.Store self.new).now office
+            → RepresentsOffice (state S.Store self.new).now office
             → IfOk result (IsRowOf (kept_in office number)) }
         ensures still { HasCleanDisk (state S.Store self.new)
             → IsStill (state S.Store self.old) (state S.Store self.new) }

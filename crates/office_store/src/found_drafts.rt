@@ -3,7 +3,7 @@ ghost use Rattle.std.specs.Prelude.{◌≡◌, ◌==◌, ◌≤◌, ◌^◌, ℕ
 ghost use Rattle.std.specs.List.{find};
 ghost use Rattle.exam_model.specs.Fits.{Suits};
 ghost use Rattle.exam_score.specs.Penalty.{total_of};
-ghost use Rattle.office_records.specs.Stands.{parts_of};
+ghost use Rattle.office_records.specs.Representation.{parts_of};
 ghost use Rattle.office_store.specs.Faults.{IsOfDatabase};
 ghost use Rattle.office_store.specs.Memory.{AreNoDrafts, AreSuited, IsDraftOf, draft_at};
 

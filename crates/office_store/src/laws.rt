@@ -4,7 +4,7 @@ ghost use Rattle.sqlite.specs.Effect.{Database};
 ghost use Rattle.sqlite.specs.Held.{Held, state};
 ghost use Rattle.sqlite_trees.specs.Tree.{Trees};
 ghost use Rattle.office_model.specs.Office.{OfficeState};
-ghost use Rattle.office_records.specs.Stands.{IsKept};
+ghost use Rattle.office_records.specs.Representation.{RepresentsOffice};
 ghost use Rattle.office_store.specs.Publications.{StoredAddUp};
 ghost use Rattle.office_store.specs.Running.{IsAwake};
 
@@ -13,7 +13,7 @@ use sqlite::Alter;
 /// Of tables that represent an office with a publication, the rows of shares are, together, its
 /// penalty, with the enrolments that were published: in all, and part by part.
 pub fn stored_shares_add_up()
-    ensures { (db : Database) (office : OfficeState) (kept : IsKept db office)
+    ensures { (db : Database) (office : OfficeState) (kept : RepresentsOffice db office)
         → StoredAddUp office kept.held.share_student kept.held.share_part }
 {}
 

@@ -9,7 +9,7 @@ ghost use Rattle.office_tables.specs.Alterations.{Changed, HoldsChanged, Undone}
 ghost use Rattle.office_tables.specs.Draft.{AreAmounts};
 ghost use Rattle.office_model.specs.Office.{Records};
 ghost use Rattle.office_records.specs.Memory.{memory_of};
-ghost use Rattle.office_records.specs.Stands.{IsKept};
+ghost use Rattle.office_records.specs.Representation.{RepresentsOffice};
 ghost use Rattle.office_store.specs.Memory.{AreRescored, AreSuited, IsMemoryOf};
 ghost use Rattle.office_store.specs.NewBatches.{Enrols, new_batch_put, put_line};
 
@@ -51,7 +51,7 @@ pub(crate) fn new_batch(
     requires exams { length enrolments.now ≡ length instance.now.exams }
     requires suited { AreSuited instance.now memory.now.drafts }
     requires lines { length changes.now ≤ TEXT_BYTES }
-    ensures enrols { (db : Database) (r : Records) → IsKept db (Some r)
+    ensures enrols { (db : Database) (r : Records) → RepresentsOffice db (Some r)
         → memory_of (Some r) ≡ Some (instance.now, enrolments.now)
         → IsMemoryOf (Some r) memory.now → Enrols changes.now r result }
     ensures room { OnOk result (memory.now.batches < MAX_BATCHES) }

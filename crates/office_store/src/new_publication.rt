@@ -13,12 +13,12 @@ ghost use Rattle.exam_score.specs.Penalty.{total_of};
 ghost use Rattle.office_model.specs.Office.{AreRecords, OfficeState, Records};
 ghost use Rattle.office_model.specs.Publishing.{draft_published, publication_rows};
 ghost use Rattle.office_records.specs.Memory.{memory_of};
-ghost use Rattle.office_records.specs.Publications.{StandsPublished, stored_seat};
+ghost use Rattle.office_records.specs.Publications.{RowsRepresentPublication, stored_seat};
 ghost use Rattle.office_records.specs.SeatsStored.{seat_rows_of};
 ghost use Rattle.office_records.specs.SharesStored.{share_rows_of};
 ghost use Rattle.office_records.specs.PartShares.{HasFewParts, part_rows};
 ghost use Rattle.office_records.specs.SharesStored.{student_share_row};
-ghost use Rattle.office_records.specs.Stands.{IsKept};
+ghost use Rattle.office_records.specs.Representation.{RepresentsOffice};
 ghost use Rattle.office_store.specs.FoldReads.{HasRead, IsSame};
 ghost use Rattle.office_store.specs.Judging.{listed};
 ghost use Rattle.office_store.specs.Memory.{IsMemoryOf, IsTogether};
@@ -72,7 +72,7 @@ pub(crate) fn new_publication<S: Alter>(
 ) -> Result<NewPublication, StoreFault>
     requires together { IsTogether memory.now }
     ensures publishes { HasCleanDisk (state S.Store conn.new) → IsAwake (state S.Store conn.old)
-        → (office : OfficeState) → IsKept (state S.Store conn.old).now office
+        → (office : OfficeState) → RepresentsOffice (state S.Store conn.old).now office
         → IsMemoryOf office memory.now → PutsIn number office result }
     ensures small { IfOk result AreSmallShares }
     ensures read { HasRead S.Store conn.old conn.new }
@@ -118,7 +118,7 @@ fn old_seats(
     found: &PublishedRows,
 ) -> Result<Vec<SeatRow>, StoreFault>
     ensures are { (r : Records) → AreRecords r → r.session ≡ instance.now
-        → StandsPublished found.now.placements.items found.now.seats.items r.published
+        → RowsRepresentPublication found.now.placements.items found.now.seats.items r.published
         → Tells (publication_rows r.published) (listed result) }
     ensures seated { IfOk result (λ rows. AreSeated instance.now rows.items) }
 {

@@ -7,7 +7,7 @@ ghost use Rattle.office_store.specs.Faults.{IsOfDatabase};
 ghost use Rattle.office_store.specs.Leaving.{Leaves, MayMake, connection_of};
 ghost use Rattle.office_store.specs.Running.{IsAwake, IsStill};
 ghost use Rattle.office_tables.specs.Alterations.{Undone};
-ghost use Rattle.office_records.specs.Stands.{IsKept};
+ghost use Rattle.office_records.specs.Representation.{RepresentsOffice};
 
 use crate::memory::OfficeMemory;
 use crate::transactions::make_tables;
@@ -50,7 +50,7 @@ impl<S: Alter> Office<S> {
     pub fn create(conn: Connection<S>) -> Result<Office<S>, (StoreFault, Connection<S>)>
         // The tables represent the office without a session.
         ensures made { IfOk result (λ office. HasCleanDisk (state S.Store office)
-            → IsKept (state S.Store office).now None) }
+            → RepresentsOffice (state S.Store office).now None) }
         // There were none.
         ensures bare { IfOk result (λ _. (state S.Store conn).now.schema ≡ no_schema) }
         // There was one, and the connection comes back as it was.

@@ -3,7 +3,7 @@ ghost use Rattle.std.specs.Prelude.{◌≡◌, ◌↔◌, ◌≤◌, IfOk, IsPer
 ghost use Rattle.sqlite.specs.Held.{state};
 ghost use Rattle.sqlite.specs.State.{HasCleanDisk, Survives};
 ghost use Rattle.office_model.specs.Office.{AreRecords, OfficeState, Records};
-ghost use Rattle.office_records.specs.Publications.{StandsPublished, placed_rows};
+ghost use Rattle.office_records.specs.Publications.{RowsRepresentPublication, placed_rows};
 ghost use Rattle.office_records.specs.FoundPublications.{AreFound, publication_from};
 ghost use Rattle.office_records.specs.SharesStored.{AreShared};
 ghost use Rattle.office_store.specs.Publications.{AddUpIn, plain, publication_shown, shares_in};
@@ -95,7 +95,7 @@ pub(crate) fn published_of(
     found: &PublishedRows,
 ) -> Result<Option<(Timetable, Vec<SeatRow>)>, StoreFault>
     ensures told { (r : Records) → AreRecords r → r.session ≡ instance.now
-        → StandsPublished found.now.placements.items found.now.seats.items r.published
+        → RowsRepresentPublication found.now.placements.items found.now.seats.items r.published
         → Tells (publication_shown (Some r)) (plain result) }
     ensures are { IfOk result
         (λ published. AreFound instance.now (publication_from published)) }

@@ -3,8 +3,8 @@ ghost use Rattle.std.specs.Prelude.{IfOk, IsPermutation, IsTrue, OnOk};
 ghost use Rattle.sqlite.specs.Held.{state};
 ghost use Rattle.sqlite.specs.State.{HasCleanDisk, Survives};
 ghost use Rattle.office_model.specs.Office.{OfficeState};
-ghost use Rattle.office_records.specs.Publications.{StandsPublished, placed_rows};
-ghost use Rattle.office_records.specs.Stands.{IsKept};
+ghost use Rattle.office_records.specs.Publications.{RowsRepresentPublication, placed_rows};
+ghost use Rattle.office_records.specs.Representation.{RepresentsOffice};
 ghost use Rattle.office_store.specs.FoldReads.{HasRead, IsSame};
 ghost use Rattle.office_store.specs.OfficeRows.{AreShareRowsOf, part_rows_in, published_in};
 ghost use Rattle.office_store.specs.OfficeRows.{student_rows_in};
@@ -37,8 +37,9 @@ impl<S: Alter> Office<S> {
     // The rows of what is published.
     pub(crate) fn published_rows(&mut self, alloc: Global) -> Result<PublishedRows, Failed>
         ensures rows { HasCleanDisk (state S.Store self.new) → (office : OfficeState)
-            → IsKept (state S.Store self.new).now office
-            → IfOk result (λ found. StandsPublished found.placements.items found.seats.items
+            → RepresentsOffice (state S.Store self.new).now office
+            → IfOk result (λ found. RowsRepresentPublication found.placements.items
+            found.seats.items
             (published_in office)) }
         ensures still { HasCleanDisk (state S.Store self.new)
             → IsStill (state S.Store self.old) (state S.Store self.new) }
@@ -56,7 +57,7 @@ impl<S: Alter> Office<S> {
     // Only the rows of its places.
     pub(crate) fn placements(&mut self, alloc: Global) -> Result<Vec<PlacedRow>, Failed>
         ensures rows { HasCleanDisk (state S.Store self.new) → (office : OfficeState)
-            → IsKept (state S.Store self.new).now office
+            → RepresentsOffice (state S.Store self.new).now office
             → IfOk result (λ rows. IsPermutation rows.items (placed_rows (published_in office))) }
         ensures still { HasCleanDisk (state S.Store self.new)
             → IsStill (state S.Store self.old) (state S.Store self.new) }
@@ -74,7 +75,7 @@ impl<S: Alter> Office<S> {
     // The rows of its shares.
     pub(crate) fn share_rows(&mut self, alloc: Global) -> Result<ShareRows, Failed>
         ensures rows { HasCleanDisk (state S.Store self.new) → (office : OfficeState)
-            → IsKept (state S.Store self.new).now office
+            → RepresentsOffice (state S.Store self.new).now office
             → IfOk result (λ found. AreShareRowsOf office found.students.items found.parts.items) }
         ensures still { HasCleanDisk (state S.Store self.new)
             → IsStill (state S.Store self.old) (state S.Store self.new) }
@@ -91,7 +92,7 @@ impl<S: Alter> Office<S> {
 
     fn student_shares(&mut self, alloc: Global) -> Result<Vec<StudentShareRow>, Failed>
         ensures rows { HasCleanDisk (state S.Store self.new) → (office : OfficeState)
-            → IsKept (state S.Store self.new).now office
+            → RepresentsOffice (state S.Store self.new).now office
             → IfOk result (λ rows. IsPermutation rows.items (student_rows_in office)) }
         ensures still { HasCleanDisk (state S.Store self.new)
             → IsStill (state S.Store self.old) (state S.Store self.new) }
@@ -108,7 +109,7 @@ impl<S: Alter> Office<S> {
 
     fn part_shares(&mut self, alloc: Global) -> Result<Vec<PartShareRow>, Failed>
         ensures rows { HasCleanDisk (state S.Store self.new) → (office : OfficeState)
-            → IsKept (state S.Store self.new).now office
+            → RepresentsOffice (state S.Store self.new).now office
             → IfOk result (λ rows. IsPermutation rows.items (part_rows_in office)) }
         ensures still { HasCleanDisk (state S.Store self.new)
             → IsStill (state S.Store self.old) (state S.Store self.new) }
@@ -130,8 +131,8 @@ pub(crate) fn read_published<S: Alter>(
     conn: &mut Connection<S>,
 ) -> Result<PublishedRows, Failed>
     ensures rows { HasCleanDisk (state S.Store conn.new) → (office : OfficeState)
-        → IsKept (state S.Store conn.old).now office
-        → IfOk result (λ found. StandsPublished found.placements.items found.seats.items
+        → RepresentsOffice (state S.Store conn.old).now office
+        → IfOk result (λ found. RowsRepresentPublication found.placements.items found.seats.items
         (published_in office)) }
     ensures open { HasCleanDisk (state S.Store conn.new)
         → OnOk result (IsTrue (state S.Store conn.old).is_open) }

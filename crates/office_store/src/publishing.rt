@@ -4,7 +4,7 @@ ghost use Rattle.sqlite.specs.Held.{state};
 ghost use Rattle.sqlite.specs.State.{HasCleanDisk, Survives};
 ghost use Rattle.office_model.specs.Office.{OfficeState};
 ghost use Rattle.office_model.specs.Publishing.{draft_published};
-ghost use Rattle.office_records.specs.Stands.{IsKept};
+ghost use Rattle.office_records.specs.Representation.{RepresentsOffice};
 ghost use Rattle.office_store.specs.NewPublications.{AreSmallShares, PutsIn};
 ghost use Rattle.office_store.specs.Leaving.{LeavesNext};
 ghost use Rattle.office_store.specs.Running.{IsAwake, IsStill, Runs, StaysOnErr};
@@ -43,7 +43,7 @@ impl<S: Alter> Office<S> {
         number: u32,
     ) -> Result<NewPublication, StoreFault>
         ensures publishes { HasCleanDisk (state S.Store self.new) → IsAwake (state S.Store self.old)
-            → (office : OfficeState) → IsKept (state S.Store self.old).now office
+            → (office : OfficeState) → RepresentsOffice (state S.Store self.old).now office
             → PutsIn number office result }
         ensures small { IfOk result AreSmallShares }
         ensures still { HasCleanDisk (state S.Store self.new)

@@ -5,7 +5,7 @@ ghost use Rattle.sqlite.specs.State.{HasCleanDisk, Survives};
 ghost use Rattle.office_model.specs.Office.{OfficeState};
 ghost use Rattle.office_model.specs.Commands.{session_shown};
 ghost use Rattle.office_model.specs.DraftCommands.{draft_shown};
-ghost use Rattle.office_records.specs.Stands.{IsKept};
+ghost use Rattle.office_records.specs.Representation.{RepresentsOffice};
 ghost use Rattle.office_store.specs.Judging.{draft_judged, listed};
 ghost use Rattle.office_store.specs.OfficeRows.{shown};
 ghost use Rattle.office_store.specs.Pricing.{draft_priced};
@@ -27,7 +27,7 @@ impl<S: Alter> Office<S> {
         // While the store is open, these are the session and its present enrolments.
         ensures shown { HasCleanDisk (state S.Store self.now)
             → IsTrue (state S.Store self.now).is_open → (office : OfficeState)
-            → IsKept (state S.Store self.now).now office
+            → RepresentsOffice (state S.Store self.now).now office
             → Does (session_shown office) office (λ new. new ≡ office) (shown result) }
         ensures fault { IfErr result (λ e. e ≡ StoreFault.NotLoaded) }
         ensures exams { IfOk result (λ shown. length shown.1.now ≡ length shown.0.now.exams) }

@@ -3,7 +3,7 @@ ghost use Rattle.std.specs.Prelude.{◌≡◌, ◌++◌, [], ◌∷◌, All, IfO
 ghost use Rattle.exam_model.specs.Fits.{Fits};
 ghost use Rattle.office_tables.specs.Draft.{AreAmounts};
 ghost use Rattle.office_tables.specs.declared.draft.DraftRow.{DraftRow};
-ghost use Rattle.office_records.specs.Stands.{parts_of};
+ghost use Rattle.office_records.specs.Representation.{parts_of};
 ghost use Rattle.office_store.specs.Memory.{AreDraftRows, AreRescored, AreSuited, rescored};
 
 use crate::memory::{Draft, Drafts, NUMBERS, no_drafts};

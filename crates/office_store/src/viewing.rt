@@ -9,7 +9,7 @@ ghost use Rattle.office_model.specs.ViewRows.{places_in};
 ghost use Rattle.office_model.specs.Shown.{shown_exams, shown_penalty, shown_to};
 ghost use Rattle.office_model.specs.Views.{view_of};
 ghost use Rattle.office_records.specs.Publications.{stored_seat};
-ghost use Rattle.office_records.specs.Stands.{IsKept};
+ghost use Rattle.office_records.specs.Representation.{RepresentsOffice};
 ghost use Rattle.office_store.specs.Judging.{listed};
 ghost use Rattle.office_store.specs.OfficeRows.{published_in, student_rows_in};
 ghost use Rattle.office_store.specs.Running.{IsAwake, IsStill, ReadsOffice, Tells};
@@ -135,7 +135,7 @@ impl<S: Alter> Office<S> {
     // What the tables hold of a candidate, her share apart.
     fn her_rows(&mut self, alloc: Global, student: StudentNo) -> Result<HerRows, Failed>
         ensures rows { HasCleanDisk (state S.Store self.new) → (office : OfficeState)
-            → IsKept (state S.Store self.new).now office
+            → RepresentsOffice (state S.Store self.new).now office
             → IfOk result (λ found. AreHerRows office student found.enrols.items
             found.places.items found.seats.items) }
         ensures still { HasCleanDisk (state S.Store self.new)
@@ -158,7 +158,7 @@ impl<S: Alter> Office<S> {
 
     fn her_enrols(&mut self, alloc: Global, student: StudentNo) -> Result<Vec<EnrolRow>, Failed>
         ensures rows { HasCleanDisk (state S.Store self.new) → (office : OfficeState)
-            → IsKept (state S.Store self.new).now office
+            → RepresentsOffice (state S.Store self.new).now office
             → IfOk result (λ rows. map (λ row. row.exam) rows.items ≡ exams_in student office) }
         ensures still { HasCleanDisk (state S.Store self.new)
             → IsStill (state S.Store self.old) (state S.Store self.new) }
@@ -175,7 +175,7 @@ impl<S: Alter> Office<S> {
 
     fn her_places(&mut self, alloc: Global, student: StudentNo) -> Result<Vec<PlacedRow>, Failed>
         ensures rows { HasCleanDisk (state S.Store self.new) → (office : OfficeState)
-            → IsKept (state S.Store self.new).now office
+            → RepresentsOffice (state S.Store self.new).now office
             → IfOk result (λ rows. map place_in_row rows.items
             ≡ places_in (published_in office) (exams_in student office)) }
         ensures still { HasCleanDisk (state S.Store self.new)
@@ -193,7 +193,7 @@ impl<S: Alter> Office<S> {
 
     fn her_seats(&mut self, alloc: Global, student: StudentNo) -> Result<Vec<SeatRow>, Failed>
         ensures rows { HasCleanDisk (state S.Store self.new) → (office : OfficeState)
-            → IsKept (state S.Store self.new).now office
+            → RepresentsOffice (state S.Store self.new).now office
             → IfOk result (λ rows. rows.items
             ≡ map stored_seat (rows_of student (publication_rows (published_in office)))) }
         ensures still { HasCleanDisk (state S.Store self.new)
@@ -215,7 +215,7 @@ impl<S: Alter> Office<S> {
         student: StudentNo,
     ) -> Result<Vec<StudentShareRow>, Failed>
         ensures rows { HasCleanDisk (state S.Store self.new) → (office : OfficeState)
-            → IsKept (state S.Store self.new).now office
+            → RepresentsOffice (state S.Store self.new).now office
             → IfOk result (λ rows. IsPermutation
             (filter (λ row. row.student == student) (student_rows_in office)) rows.items) }
         ensures still { HasCleanDisk (state S.Store self.new)

@@ -14,7 +14,7 @@ exams-preserved c =
     let T = c.args.timetable.now in
     let e = c.exams.exam in
     let within : e < length T = omega (arith, c.exams-test.true, c.exams-exam-end.ensures.count) in
-    let told = sym (c.get.ensures ∙ ap (place_of T) c.new.ensures) in
+    let is_known = sym (c.get.ensures ∙ ap (place_of T) c.new.ensures) in
     elim c.match-get.branch [
       | in-Some+in_ok-push w ↦
           (let row : ℕ → ℕ → PlacedRow = λ p r. record { exam = e; period = p; room = r } in
@@ -22,8 +22,8 @@ exams-preserved c =
           ∙ ap₂ (λ p r. c.exams.rows.items ++ row p r ∷ []) w.get-in-Some.ensures
           w.get-in-Some-2.ensures
           ∙ ap (λ l. l ++ placed_row e w.in-Some.place ∷ []) c.exams.invariant
-          ∙ sym (placed_more e T within w.in-Some.place (told ∙ w.in-Some.is)))
+          ∙ sym (placed_more e T within w.in-Some.place (is_known ∙ w.in-Some.is)))
       | in_default w ↦
           ap items w.rows-is ∙ c.exams.invariant
-          ∙ sym (placed_same e T within (told ∙ w.in_default.is))
+          ∙ sym (placed_same e T within (is_known ∙ w.in_default.is))
     ]

@@ -10,7 +10,7 @@ use Rattle.office_tables.specs.declared.found.Found.{Found}
 use Rattle.office_records.specs.Found.{AreDrafts, AreEnrolRows, AreOwners, IsUnloaded}
 use Rattle.office_records.specs.FoundBatches.{AreBatchRows}
 use Rattle.office_model.specs.Office.{OfficeState, Records, AreRecords, IsOffice}
-use Rattle.office_records.specs.Stands.{IsSound, StandsForOffice, StandsLoaded}
+use Rattle.office_records.specs.Representation.{IsSound, TablesRepresentOffice, TablesRepresentRecords}
 use Rattle.office_records.specs.declared.fault.RecordFault.{RecordFault}
 use Rattle.office_records.specs.declared.fault.RecordFault.TheVariants.{BadRows}
 use Rattle.office_records.proofs.RecordLemmas.{draft_rows, enrol_rows, kept_rows, office_of}
@@ -21,7 +21,8 @@ use Rattle.office_records.proofs.records.kept_of.Goals as goal
 abbrev StandsForNone : Found → Type 0
 StandsForNone found =
     (batches : List Batch) → map counts_of batches ≡ found.batches.items → (office : OfficeState)
-    → StandsForOffice (tables_of found batches) office → IsSound (tables_of found batches) office
+    → TablesRepresentOffice (tables_of found batches) office
+    → IsSound (tables_of found batches) office
     → IsOffice office → ⊥
 
 -- the rows are neither an office with a session nor one without
@@ -29,7 +30,7 @@ refused : {X : Type 0} (found : Found) (unloaded : Bool) (fault : RecordFault)
     (r : Result X RecordFault)
     → (IsTrue unloaded ↔ IsUnloaded found) → unloaded ≡ false → IsErrAnd r (λ e. e ≡ fault)
     → (fault ≡ BadRows → (batches : List Batch) → map counts_of batches ≡ found.batches.items
-    → (r : Records) → StandsLoaded (tables_of found batches) r
+    → (r : Records) → TablesRepresentRecords (tables_of found batches) r
     → IsSound (tables_of found batches) (Some r) → AreRecords r → ⊥)
     → IfErr r (λ e. e ≡ BadRows → StandsForNone found)
 refused found unloaded fault (Ok x) empty is same none = tt
@@ -37,7 +38,7 @@ refused found unloaded fault (Err e) empty is same none =
     λ bad batches rows o. each batches rows o bad
   where
     each : (batches : List Batch) → map counts_of batches ≡ found.batches.items
-        → (o : OfficeState) → e ≡ BadRows → StandsForOffice (tables_of found batches) o
+        → (o : OfficeState) → e ≡ BadRows → TablesRepresentOffice (tables_of found batches) o
         → IsSound (tables_of found batches) o → IsOffice o → ⊥
     each batches rows None bad stands sound office =
         let was = empty.1 (unloaded_found found batches rows stands) in absurd cc

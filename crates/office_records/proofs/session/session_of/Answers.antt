@@ -35,10 +35,10 @@ itself (x ∷ xs) = ap (λ b. b && pointwise nat_eq xs xs) (eq-eqb x x refl) ∙
 
 not_other : (xs ys : List ℕ) (other : Bool) → other ≡ not (pointwise nat_eq xs ys) → other ≡ true
     → xs ≡ ys → ⊥
-not_other xs ys other tested told same =
+not_other xs ys other tested is_known same =
     let equal : pointwise nat_eq xs ys ≡ true
     = subst (λ zs. pointwise nat_eq xs zs ≡ true) same (itself xs) in
-    absurd (clash (sym told ∙ tested ∙ ap not equal))
+    absurd (clash (sym is_known ∙ tested ∙ ap not equal))
   where
     clash : true ≡ false → ⊥
     clash e = absurd cc

@@ -2,7 +2,7 @@ use Rattle.std.proofs.Common.{rules, ◌≡◌, ◌∙◌, Err, Ok, Some, ap, su
 use Rattle.exam_model.specs.Enrolments.{Enrolled}
 use Rattle.exam_model.specs.Instance.{Session}
 use Rattle.office_model.specs.declared.fault.StoreFault.TheVariants.{NoDraft}
-use Rattle.office_records.specs.Stands.{IsKept}
+use Rattle.office_records.specs.Representation.{RepresentsOffice}
 use Rattle.office_store.specs.Editing.{Edits}
 use Rattle.office_store.proofs.EditCallLemmas.{both, edit_at_hand, edit_comes, edits_in_memory}
 use Rattle.office_store.proofs.EditCallLemmas.{none_in_memory, not_there, only_failed}
@@ -55,7 +55,7 @@ returns-in_err-parts-clause-edits g c clean awake o kept is =
       clean = clean;
       opened = awake.0;
       records = r;
-      kept = subst (IsKept _) same kept;
+      kept = subst (RepresentsOffice _) same kept;
       enrolments = ap (λ (p : Session × Enrolled). p.1) (both r I E here);
     })
     (edit_at_hand r I E here d c.args.edit c.in_ok-judged.judged judged
@@ -81,7 +81,7 @@ returns-clause-edits g c clean awake o kept is =
       clean = clean;
       opened = awake.0;
       records = r;
-      kept = subst (IsKept _) same kept;
+      kept = subst (RepresentsOffice _) same kept;
       enrolments = ap (λ (p : Session × Enrolled). p.1) (both r I E here);
     })
     (edit_at_hand r I E here d c.args.edit c.in_ok-judged.judged judged

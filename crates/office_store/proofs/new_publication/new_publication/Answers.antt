@@ -6,7 +6,7 @@ use Rattle.exam_score.specs.Penalty.{total_of}
 use Rattle.exam_score.specs.Track.{track}
 use Rattle.office_model.specs.declared.fault.StoreFault.TheVariants.{NoDraft}
 use Rattle.office_records.specs.Publications.{placed_rows}
-use Rattle.office_records.specs.Stands.{IsKept}
+use Rattle.office_records.specs.Representation.{RepresentsOffice}
 use Rattle.office_store.specs.FoldReads.{IsSame}
 use Rattle.office_store.specs.NewPublications.{PutsIn}
 use Rattle.exam_model.specs.Enrolments.{Enrolled}
@@ -56,7 +56,7 @@ returns-in_err-old-clause-publishes g c clean awake o kept is =
     subst (PutsIn d o) (sym same_as)
     (puts_in_memory c.args.memory.now I E c.in-Some.is d (Err fault) o is
     (λ r same here memory.
-    let there = subst (IsKept _) same kept in
+    let there = subst (RepresentsOffice _) same kept in
     only_failed d r fault
     (c.in_err-old.ensures.are r there.office (same_session r I E here)
     (c.in_ok-published.ensures.rows clean (Some r) there))))
@@ -69,7 +69,7 @@ returns-clause-publishes g c clean awake o kept is =
     let T = c.in-Some-draft.draft.now.timetable in
     puts_in_memory c.args.memory.now I E c.in-Some.is d c.put_together.result o is
     (λ r same here memory.
-    let there = subst (IsKept _) same kept in
+    let there = subst (RepresentsOffice _) same kept in
     let draft = there_of d r c.in-Some-draft.draft.now
     (sym (memory.drafts d) ∙ c.in-Some-draft.ensures.some) in
     let was = c.in_ok-old.ensures.are r there.office (same_session r I E here)

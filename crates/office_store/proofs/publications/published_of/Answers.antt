@@ -1,6 +1,6 @@
 use Rattle.std.proofs.Common.{◌↔◌, ◌≤◌, Some, length, subst, sym}
 use Rattle.std.specs.Prelude.{IsTrue}
-use Rattle.office_records.specs.Publications.{StandsPublished}
+use Rattle.office_records.specs.Publications.{RowsRepresentPublication}
 use Rattle.office_store.specs.Publications.{plain, publication_shown}
 use Rattle.office_store.proofs.PublishedReadLemmas.{found_good, plain_fault, told_fault, told_found}
 use Rattle.office_store.proofs.publications.published_of.Goals as goal
@@ -14,8 +14,9 @@ returns-in_err-published-clause-told c r is same rows =
     c.in_err-published.field-0.0 (plain_fault c.from_residual.result _ c.from_residual.ensures.1)
     (λ bad. found_good c.args.instance.now c.deref.result.now c.deref-2.result.now mark
     (subst (λ l. IsTrue mark ↔ (1 ≤ length l)) placed c.has_places-mark.ensures) r is same
-    (subst (λ l. StandsPublished l c.deref-2.result.now r.published) placed
-    (subst (λ l. StandsPublished c.args.found.now.placements.items l r.published) seated rows))
+    (subst (λ l. RowsRepresentPublication l c.deref-2.result.now r.published) placed
+    (subst (λ l. RowsRepresentPublication c.args.found.now.placements.items l r.published) seated
+    rows))
     (c.in_err-published.ensures.none bad))
 
 pub returns-clause-told : goal.returns-clause-told
@@ -25,6 +26,7 @@ returns-clause-told c r is same rows =
     let seated = sym c.deref-2.ensures.value in
     told_found c.args.instance.now c.deref.result.now c.deref-2.result.now mark
     (subst (λ l. IsTrue mark ↔ (1 ≤ length l)) placed c.has_places-mark.ensures) r is same
-    (subst (λ l. StandsPublished l c.deref-2.result.now r.published) placed
-    (subst (λ l. StandsPublished c.args.found.now.placements.items l r.published) seated rows))
+    (subst (λ l. RowsRepresentPublication l c.deref-2.result.now r.published) placed
+    (subst (λ l. RowsRepresentPublication c.args.found.now.placements.items l r.published) seated
+    rows))
     c.in_ok-published.published c.in_ok-published.ensures.only

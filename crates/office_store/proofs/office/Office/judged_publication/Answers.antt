@@ -1,6 +1,6 @@
 use Rattle.std.proofs.Common.{subst, sym}
 use Rattle.sqlite.specs.Held.{state}
-use Rattle.office_records.specs.Stands.{IsKept}
+use Rattle.office_records.specs.Representation.{RepresentsOffice}
 use Rattle.office_store.specs.Running.{IsAwake}
 use Rattle.office_store.proofs.RunLemmas.{at_hand}
 use Rattle.office_store.proofs.LeavingLemmas.{survives_at}
@@ -11,7 +11,8 @@ returns-clause-publishes g c clean awake office kept =
     let inside = state g.S.Store c.self.inside.conn in
     let before = c.new_publication.ensures.read.clean clean in
     let opened = subst (λ h. IsAwake (state g.S.Store h)) (sym c.self.view_is) awake in
-    let here = subst (λ h. IsKept (state g.S.Store h).now office) (sym c.self.view_is) kept in
+    let here = subst (λ h. RepresentsOffice (state g.S.Store h).now office)
+    (sym c.self.view_is) kept in
     c.new_publication.ensures.publishes clean opened office here
     (at_hand inside c.self.inside.memory office c.self.invariant.1 before opened.0 here)
 

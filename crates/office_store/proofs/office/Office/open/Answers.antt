@@ -1,7 +1,7 @@
 use Rattle.std.proofs.Common.{inl, inr, None, refl, sym, subst, rules}
 use Rattle.sqlite.specs.Held.{state}
 use Rattle.sqlite.proofs.StateLemmas.{survives_weaker}
-use Rattle.office_records.specs.Stands.{IsKept}
+use Rattle.office_records.specs.Representation.{RepresentsOffice}
 use Rattle.office_store.specs.Leaving.{connection_of}
 use Rattle.office_store.proofs.OpenLemmas.{before_load, fails, holds, if_err, if_ok, or_none}
 use Rattle.office_store.proofs.office.Office.open.Goals as goal
@@ -10,7 +10,7 @@ use Rattle.office_store.proofs.office.Office.open.Goals as goal
 pub returns-then-is_bare-clause-found : goal.returns-then-is_bare-clause-found
 returns-then-is_bare-clause-found g c = if_ok c.create.result _ _ _
     (λ office made bare clean there is stays.
-    subst (IsKept _) (sym (before_load _ there bare is)) (made clean))
+    subst (RepresentsOffice _) (sym (before_load _ there bare is)) (made clean))
     c.create.ensures.made c.create.ensures.bare
 
 -- the office that was there is still there

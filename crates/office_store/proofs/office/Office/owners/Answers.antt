@@ -2,7 +2,7 @@ use Rattle.std.proofs.Common.{ap, arith, not, ◌∙◌, ◌==◌, filter, subst
 use Rattle.sqlite.specs.Held.{state}
 use Rattle.std.specs.Prelude.{IsPermutation}
 use Rattle.office_tables.specs.declared.owner.OwnerRow.{OwnerRow}
-use Rattle.office_records.specs.Stands.{IsKept}
+use Rattle.office_records.specs.Representation.{RepresentsOffice}
 use Rattle.office_store.proofs.OwnerLemmas.{owner_read}
 use Rattle.office_store.proofs.RunLemmas.{rest_read}
 use Rattle.office_store.proofs.LeavingLemmas.{survives_at}
@@ -24,7 +24,8 @@ pub returns-clause-rows : goal.returns-clause-rows
 returns-clause-rows g c clean office now =
     let here = now (subst (λ h. IsTrue (state g.S.Store h).is_open) c.self.view_is
     (c.in_ok-rows.ensures.open clean)) in
-    let kept = subst (λ h. IsKept (state g.S.Store h).now office) (sym c.self.view_is) here in
+    let kept = subst (λ h. RepresentsOffice (state g.S.Store h).now office)
+    (sym c.self.view_is) here in
     let read = subst (λ e. IsPermutation (filter (λ (r : OwnerRow). r.exam == e) kept.held.owner)
     c.in_ok-rows.rows.items) c.get.ensures
     (c.in_ok-rows.ensures.rows clean kept.held kept.tables) in

@@ -13,31 +13,31 @@ use Rattle.office_tables.specs.declared.draft.DraftRow.{DraftRow}
 use Rattle.office_tables.specs.declared.version.Version.{Version}
 use Rattle.office_tables.specs.declared.version.Version.TheVariants.{One, Two}
 use Rattle.office_model.specs.Office.{OfficeState, Records, KeptBatch, IsOffice}
-use Rattle.office_records.specs.Publications.{StandsPublished}
+use Rattle.office_records.specs.Publications.{RowsRepresentPublication}
 use Rattle.office_records.specs.SharesStored.{AreShared}
 use Rattle.office_records.specs.TableRows.{meta_row, enrol_row, slot_rows, stored_batch, once, some_dept, owners_at, drafts_at, slots_at}
 
 -- ---- the tables
 
 -- these rows are the kept batches, with their bytes and counts, and numbers of 32 bits
-pub record StandsBatches (rows : List Batch) (kept : List KeptBatch) : Type 0 where
+pub record RowsRepresentBatches (rows : List Batch) (kept : List KeptBatch) : Type 0 where
   pub same : IsPermutation rows (map stored_batch kept)
   pub fit : AllByRecursion FitsBatch rows
 
 -- each table has exactly the office's part; penalties and shares aren't judged
-pub record StandsLoaded (t : Tables) (r : Records) : Type 0 where
+pub record TablesRepresentRecords (t : Tables) (r : Records) : Type 0 where
   pub meta : t.meta ≡ meta_row (is_some r.published) r.session ∷ []
   pub owner : (e : ℕ) → map (λ o. o.dept) (owners_at e t.owner) ≡ some_dept (r.owner_of e)
   pub enrol : IsPermutation t.enrol (map enrol_row (pairs_of r.enrolments))
   pub draft : (d : ℕ) → map (λ row. row.no) (drafts_at d t.draft) ≡ once (is_some (r.draft d)) d
   pub slot : (d : ℕ) → IsPermutation (slots_at d t.slot) (slot_rows d (r.draft d))
-  pub published : StandsPublished t.placed t.seat r.published
-  pub batches : StandsBatches t.batch r.batches
+  pub published : RowsRepresentPublication t.placed t.seat r.published
+  pub batches : RowsRepresentBatches t.batch r.batches
 
 -- the tables represent the office: before a load they are empty
-abbrev pub StandsForOffice : Tables → OfficeState → Type 0
-StandsForOffice t None = t ≡ empty_tables
-StandsForOffice t (Some r) = StandsLoaded t r
+abbrev pub TablesRepresentOffice : Tables → OfficeState → Type 0
+TablesRepresentOffice t None = t ≡ empty_tables
+TablesRepresentOffice t (Some r) = TablesRepresentRecords t r
 
 -- ---- soundness
 
@@ -72,17 +72,17 @@ IsSound t (Some r) = AreSound t r
 -- ---- a database
 
 -- the database's tables represent this office in this version, and are sound
-pub record IsKeptIn (version : Version) (db : Database) (o : OfficeState) : Type 0 where
+pub record RepresentsOfficeIn (version : Version) (db : Database) (o : OfficeState) : Type 0 where
   pub held : Tables
   pub tables : tables.StandsIn version db held
-  pub stands : StandsForOffice held o
+  pub stands : TablesRepresentOffice held o
   pub sound : IsSound held o
   pub office : IsOffice o
 
 -- the database is that of an office
-abbrev pub IsKept : Database → OfficeState → Type 0
-IsKept = IsKeptIn Two
+abbrev pub RepresentsOffice : Database → OfficeState → Type 0
+RepresentsOffice = RepresentsOfficeIn Two
 
 -- it is that of an office in version 1
-abbrev pub IsKeptBefore : Database → OfficeState → Type 0
-IsKeptBefore = IsKeptIn One
+abbrev pub RepresentsOldOffice : Database → OfficeState → Type 0
+RepresentsOldOffice = RepresentsOfficeIn One
