@@ -25,17 +25,17 @@ use Rattle.exam_model.specs.Timetable.{Placing}
 use Rattle.exam_score.specs.Penalty.{Penalty, PersonalPenalty}
 use Rattle.exam_terms.specs.Refusing.{◌>>=◌}
 use Rattle.office_store.specs.Pricing.{draft_priced}
-use Rattle.office_store.specs.Running.{Does}
+use Rattle.office_store.specs.Running.{CommandOutcome}
 use Rattle.office_desk.specs.Answers.{refusal}
 use Rattle.office_desk.specs.Performing.{AnswersExam, AnswersOutcome, AnswersPenalty, AnswersView}
-use Rattle.office_desk.specs.Performing.{AwakeUnlessRefused, IsGiven, told_of}
+use Rattle.office_desk.specs.Performing.{CommittedUnlessRefused, IsGiven, told_of}
 use Rattle.office_desk.specs.Answers.{IsRefusal, plain_answer}
 use Rattle.office_desk.specs.declared.answer.Answer.{Answer}
 
 -- an `Ok` of a call becomes the command's answer
 pub given_told : {A : Type 0} (says : A → PlainAnswer) (old : OfficeState) (gives : CommandResult A)
     (Stays : OfficeState → Type 0) (x : A) (told : PlainAnswer)
-    → Does gives old Stays (Ok x) → told ≡ says x
+    → CommandOutcome gives old Stays (Ok x) → told ≡ says x
     → AnswersOutcome (outcome says old gives) old Stays told
 given_told says old gives Stays x told does same =
     let is = does.1 in
@@ -59,7 +59,7 @@ refusal_told says old gives Stays f told is stays same =
 -- any fault of a call becomes an answer
 pub fault_told : {A : Type 0} (says : A → PlainAnswer) (old : OfficeState) (gives : CommandResult A)
     (Stays : OfficeState → Type 0) (f : StoreFault) (told : PlainAnswer)
-    → Does gives old Stays (Err f) → told ≡ refusal f
+    → CommandOutcome gives old Stays (Err f) → told ≡ refusal f
     → AnswersOutcome (outcome says old gives) old Stays told
 fault_told says old gives Stays Store told does same = inr (same, does.1)
 fault_told says old gives Stays BadSchema told does same = absurd does.0
@@ -80,7 +80,7 @@ priced_as_shown says d office = go (draft_shown d office)
 
 pub priced_told : (says : Penalty → PlainAnswer) (d : ℕ) (office : OfficeState)
     (Stays : OfficeState → Type 0) (penalty : Penalty) (told : PlainAnswer)
-    → Does (draft_priced d office) office Stays (Ok penalty) → told ≡ says penalty
+    → CommandOutcome (draft_priced d office) office Stays (Ok penalty) → told ≡ says penalty
     → AnswersOutcome (outcome (λ found. says found.1) office (draft_shown d office)) office Stays
     told
 priced_told says d office Stays penalty told does same =
@@ -103,7 +103,7 @@ is_refusal f = tt
 -- `?` makes a refusal of a fault
 pub fault_refused : {S : Type 0} (g : Ghosts S) (new : Held S) (r : Result Answer Answer)
     (f : StoreFault) → IsErrAnd r (λ answer. plain_answer answer ≡ refusal f)
-    → AwakeUnlessRefused g new r
+    → CommittedUnlessRefused g new r
 fault_refused g new r f is clean =
     inl (subst IsRefusal (sym (err_told r f is)) (is_refusal f))
 
@@ -116,7 +116,7 @@ fault_refuses (Err answer) f is = subst IsRefusal (sym is) (is_refusal f)
 
 -- `?` makes a refusal of refused memory
 pub memory_refused : {S : Type 0} (g : Ghosts S) (new : Held S) (r : Result Answer Answer)
-    → IsErrAnd r (λ answer. plain_answer answer ≡ unavailable) → AwakeUnlessRefused g new r
+    → IsErrAnd r (λ answer. plain_answer answer ≡ unavailable) → CommittedUnlessRefused g new r
 memory_refused g new (Ok answer) is clean = absurd is
 memory_refused g new (Err answer) is clean = inl (subst IsRefusal (sym is) tt)
 

@@ -16,7 +16,7 @@ use Rattle.office_model.specs.Step.{Outcome, permitted}
 use Rattle.office_model.specs.Shown.{ShownView, shown_exams, shown_penalty, shown_to}
 use Rattle.office_model.specs.Views.{view_of}
 use Rattle.office_model.specs.declared.views.ViewRow.{ViewRow}
-use Rattle.office_store.specs.Running.{IsAwake, Now}
+use Rattle.office_store.specs.Running.{IsCommitted, Represents}
 use Rattle.office_desk.specs.Answers.{IsRefusal, plain_answer}
 use Rattle.office_desk.specs.declared.answer.Answer.{Answer}
 
@@ -34,8 +34,8 @@ AnswersOutcome outcome old Stays answer =
 abbrev pub Yields : {S : Type 0} → Ghosts S → (OfficeState → Outcome) → Held S → Held S
     → Result Answer Answer → Type 0
 Yields store command old new result =
-    HasCleanDisk (state store new) → (office : OfficeState) → Now (state store old) office
-    → AnswersOutcome (command office) office (Now (state store new)) (told_of result)
+    HasCleanDisk (state store new) → (office : OfficeState) → Represents (state store old) office
+    → AnswersOutcome (command office) office (Represents (state store new)) (told_of result)
 
 -- the command is performed as a permitted one, whoever the caller is
 abbrev pub Performs : {S : Type 0} → Ghosts S → PlainCommand → Held S → Held S
@@ -51,9 +51,9 @@ PerformsFor store caller command old new result =
 
 -- assuming the disk returns what was written, a command that isn't refused leaves the database
 -- open, and all writes committed
-abbrev pub AwakeUnlessRefused : {S : Type 0} → Ghosts S → Held S → Result Answer Answer → Type 0
-AwakeUnlessRefused store new result =
-    HasCleanDisk (state store new) → IsRefusal (told_of result) ⊎ IsAwake (state store new)
+abbrev pub CommittedUnlessRefused : {S : Type 0} → Ghosts S → Held S → Result Answer Answer → Type 0
+CommittedUnlessRefused store new result =
+    HasCleanDisk (state store new) → IsRefusal (told_of result) ⊎ IsCommitted (state store new)
 
 -- `Ok`, only for a candidate, is their view; `Err` is answered with `unavailable`; the office is
 -- unchanged
@@ -67,8 +67,8 @@ AnswersView caller old Stays (Err answer) = (plain_answer answer ≡ unavailable
 abbrev pub ShowsView : {S : Type 0} → Ghosts S → Caller → Held S → Held S
     → Result ShownView Answer → Type 0
 ShowsView store caller old new result =
-    HasCleanDisk (state store new) → (office : OfficeState) → Now (state store old) office
-    → AnswersView caller office (Now (state store new)) result
+    HasCleanDisk (state store new) → (office : OfficeState) → Represents (state store old) office
+    → AnswersView caller office (Represents (state store new)) result
 
 -- likewise, a candidate is answered with one of their exams
 abbrev pub AnswersExam : Caller → ℕ → OfficeState → (OfficeState → Type 0)
@@ -82,8 +82,8 @@ AnswersExam caller exam old Stays (Err answer) = (plain_answer answer ≡ unavai
 abbrev pub ShowsExam : {S : Type 0} → Ghosts S → Caller → ℕ → Held S → Held S
     → Result (Option ViewRow) Answer → Type 0
 ShowsExam store caller exam old new result =
-    HasCleanDisk (state store new) → (office : OfficeState) → Now (state store old) office
-    → AnswersExam caller exam office (Now (state store new)) result
+    HasCleanDisk (state store new) → (office : OfficeState) → Represents (state store old) office
+    → AnswersExam caller exam office (Represents (state store new)) result
 
 -- likewise, a candidate is answered with what their exams cost them
 abbrev pub AnswersPenalty : Caller → OfficeState → (OfficeState → Type 0)
@@ -97,8 +97,8 @@ AnswersPenalty caller old Stays (Err answer) = (plain_answer answer ≡ unavaila
 abbrev pub ShowsPenalty : {S : Type 0} → Ghosts S → Caller → Held S → Held S
     → Result PersonalPenalty Answer → Type 0
 ShowsPenalty store caller old new result =
-    HasCleanDisk (state store new) → (office : OfficeState) → Now (state store old) office
-    → AnswersPenalty caller office (Now (state store new)) result
+    HasCleanDisk (state store new) → (office : OfficeState) → Represents (state store old) office
+    → AnswersPenalty caller office (Represents (state store new)) result
 
 -- `Ok` is the value of the body; `Err` is the answer to a faulty or too long body
 abbrev pub IsGiven : {A : Type 0} → Body A → Result A Answer → Type 0

@@ -4,9 +4,9 @@ ghost use Rattle.std.specs.Prelude.{IfErr, OnOk};
 ghost use Rattle.sqlite.specs.Held.{state};
 ghost use Rattle.sqlite.specs.State.{HasCleanDisk};
 ghost use Rattle.office_policy.specs.Commands.{me, my_exam, my_penalty};
-ghost use Rattle.office_store.specs.Running.{IsAwake};
+ghost use Rattle.office_store.specs.Running.{IsCommitted};
 ghost use Rattle.office_desk.specs.Answers.{IsRefusal, plain_answer};
-ghost use Rattle.office_desk.specs.Performing.{AwakeUnlessRefused, PerformsFor, ShowsExam, ShowsPenalty, ShowsView};
+ghost use Rattle.office_desk.specs.Performing.{CommittedUnlessRefused, PerformsFor, ShowsExam, ShowsPenalty, ShowsView};
 
 use crate::answer::Answer;
 use exam_score::PersonalParts;
@@ -24,7 +24,7 @@ pub(crate) fn me<S: Alter>(
     caller: Caller,
 ) -> Result<Answer, Answer>
     ensures performs { PerformsFor S.Store caller me office.old office.new result }
-    ensures awake { AwakeUnlessRefused S.Store office.new result }
+    ensures all_committed { CommittedUnlessRefused S.Store office.new result }
     ensures clean { HasCleanDisk (state S.Store office.new)
         → HasCleanDisk (state S.Store office.old) }
 {
@@ -40,7 +40,7 @@ pub(crate) fn my_exam<S: Alter>(
     exam: ExamNo,
 ) -> Result<Answer, Answer>
     ensures performs { PerformsFor S.Store caller (my_exam exam) office.old office.new result }
-    ensures awake { AwakeUnlessRefused S.Store office.new result }
+    ensures all_committed { CommittedUnlessRefused S.Store office.new result }
     ensures clean { HasCleanDisk (state S.Store office.new)
         → HasCleanDisk (state S.Store office.old) }
 {
@@ -58,7 +58,7 @@ pub(crate) fn my_penalty<S: Alter>(
     caller: Caller,
 ) -> Result<Answer, Answer>
     ensures performs { PerformsFor S.Store caller my_penalty office.old office.new result }
-    ensures awake { AwakeUnlessRefused S.Store office.new result }
+    ensures all_committed { CommittedUnlessRefused S.Store office.new result }
     ensures clean { HasCleanDisk (state S.Store office.new)
         → HasCleanDisk (state S.Store office.old) }
 {
@@ -73,8 +73,8 @@ fn her_view<S: Alter>(
     caller: Caller,
 ) -> Result<CandidateView, Answer>
     ensures shows { ShowsView S.Store caller office.old office.new result }
-    ensures awake { HasCleanDisk (state S.Store office.new)
-        → OnOk result (IsAwake (state S.Store office.new)) }
+    ensures all_committed { HasCleanDisk (state S.Store office.new)
+        → OnOk result (IsCommitted (state S.Store office.new)) }
     ensures refuses { IfErr result (λ answer. IsRefusal (plain_answer answer)) }
     ensures clean { HasCleanDisk (state S.Store office.new)
         → HasCleanDisk (state S.Store office.old) }
@@ -94,8 +94,8 @@ fn her_exam<S: Alter>(
     exam: ExamNo,
 ) -> Result<Option<ViewRow>, Answer>
     ensures shows { ShowsExam S.Store caller exam office.old office.new result }
-    ensures awake { HasCleanDisk (state S.Store office.new)
-        → OnOk result (IsAwake (state S.Store office.new)) }
+    ensures all_committed { HasCleanDisk (state S.Store office.new)
+        → OnOk result (IsCommitted (state S.Store office.new)) }
     ensures refuses { IfErr result (λ answer. IsRefusal (plain_answer answer)) }
     ensures clean { HasCleanDisk (state S.Store office.new)
         → HasCleanDisk (state S.Store office.old) }
@@ -114,8 +114,8 @@ fn her_penalty<S: Alter>(
     caller: Caller,
 ) -> Result<PersonalParts, Answer>
     ensures shows { ShowsPenalty S.Store caller office.old office.new result }
-    ensures awake { HasCleanDisk (state S.Store office.new)
-        → OnOk result (IsAwake (state S.Store office.new)) }
+    ensures all_committed { HasCleanDisk (state S.Store office.new)
+        → OnOk result (IsCommitted (state S.Store office.new)) }
     ensures refuses { IfErr result (λ answer. IsRefusal (plain_answer answer)) }
     ensures clean { HasCleanDisk (state S.Store office.new)
         → HasCleanDisk (state S.Store office.old) }

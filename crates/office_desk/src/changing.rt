@@ -8,7 +8,7 @@ ghost use Rattle.office_policy.specs.CommandBodies.{plain_text};
 ghost use Rattle.office_policy.specs.Commands.{new_draft, place, publish, set_owner, swap};
 ghost use Rattle.exam_terms.specs.declared.limits.TheConstants.{MAX_BATCH, MAX_DEPARTMENT};
 ghost use Rattle.office_model.specs.Step.{edit_outcome};
-ghost use Rattle.office_desk.specs.Performing.{AwakeUnlessRefused, IsGiven, Performs, Yields};
+ghost use Rattle.office_desk.specs.Performing.{CommittedUnlessRefused, IsGiven, Performs, Yields};
 
 use crate::answer::Answer;
 use exam_draft::Edit;
@@ -25,7 +25,7 @@ pub(crate) fn load<S: Alter>(
 ) -> Result<Answer, Answer>
     ensures performs { Performs S.Store (load (plain_text body.entry))
         office.old office.new result }
-    ensures awake { AwakeUnlessRefused S.Store office.new result }
+    ensures all_committed { CommittedUnlessRefused S.Store office.new result }
     ensures clean { HasCleanDisk (state S.Store office.new)
         → HasCleanDisk (state S.Store office.old) }
 {
@@ -41,7 +41,7 @@ pub(crate) fn set_owner<S: Alter>(
 ) -> Result<Answer, Answer>
     requires { IfBodyHasValue body (λ dept. dept ≤ MAX_DEPARTMENT) }
     ensures performs { Performs S.Store (set_owner exam body) office.old office.new result }
-    ensures awake { AwakeUnlessRefused S.Store office.new result }
+    ensures all_committed { CommittedUnlessRefused S.Store office.new result }
     ensures clean { HasCleanDisk (state S.Store office.new)
         → HasCleanDisk (state S.Store office.old) }
 {
@@ -58,7 +58,7 @@ pub(crate) fn new_draft<S: Alter>(
 ) -> Result<Answer, Answer>
     ensures performs { Performs S.Store (new_draft number (plain_text body.entry))
         office.old office.new result }
-    ensures awake { AwakeUnlessRefused S.Store office.new result }
+    ensures all_committed { CommittedUnlessRefused S.Store office.new result }
     ensures clean { HasCleanDisk (state S.Store office.new)
         → HasCleanDisk (state S.Store office.old) }
 {
@@ -69,7 +69,7 @@ pub(crate) fn new_draft<S: Alter>(
 
 pub(crate) fn drop_draft<S: Alter>(office: &mut Office<S>, number: u32) -> Result<Answer, Answer>
     ensures performs { Performs S.Store (drop_draft number) office.old office.new result }
-    ensures awake { AwakeUnlessRefused S.Store office.new result }
+    ensures all_committed { CommittedUnlessRefused S.Store office.new result }
     ensures clean { HasCleanDisk (state S.Store office.new)
         → HasCleanDisk (state S.Store office.old) }
 {
@@ -85,7 +85,7 @@ pub(crate) fn place_exam<S: Alter>(
     body: Body<Place>,
 ) -> Result<Answer, Answer>
     ensures performs { Performs S.Store (place number exam body) office.old office.new result }
-    ensures awake { AwakeUnlessRefused S.Store office.new result }
+    ensures all_committed { CommittedUnlessRefused S.Store office.new result }
     ensures clean { HasCleanDisk (state S.Store office.new)
         → HasCleanDisk (state S.Store office.old) }
 {
@@ -101,7 +101,7 @@ pub(crate) fn move_exam<S: Alter>(
     body: Body<Place>,
 ) -> Result<Answer, Answer>
     ensures performs { Performs S.Store (move number exam body) office.old office.new result }
-    ensures awake { AwakeUnlessRefused S.Store office.new result }
+    ensures all_committed { CommittedUnlessRefused S.Store office.new result }
     ensures clean { HasCleanDisk (state S.Store office.new)
         → HasCleanDisk (state S.Store office.old) }
 {
@@ -116,7 +116,7 @@ pub(crate) fn clear_exam<S: Alter>(
     exam: ExamNo,
 ) -> Result<Answer, Answer>
     ensures performs { Performs S.Store (clear number exam) office.old office.new result }
-    ensures awake { AwakeUnlessRefused S.Store office.new result }
+    ensures all_committed { CommittedUnlessRefused S.Store office.new result }
     ensures clean { HasCleanDisk (state S.Store office.new)
         → HasCleanDisk (state S.Store office.old) }
 {
@@ -131,7 +131,7 @@ pub(crate) fn swap_exams<S: Alter>(
     b: ExamNo,
 ) -> Result<Answer, Answer>
     ensures performs { Performs S.Store (swap number a b) office.old office.new result }
-    ensures awake { AwakeUnlessRefused S.Store office.new result }
+    ensures all_committed { CommittedUnlessRefused S.Store office.new result }
     ensures clean { HasCleanDisk (state S.Store office.new)
         → HasCleanDisk (state S.Store office.old) }
 {
@@ -144,7 +144,7 @@ pub(crate) fn publish<S: Alter>(
     number: u32,
 ) -> Result<Answer, Answer>
     ensures performs { Performs S.Store (publish number) office.old office.new result }
-    ensures awake { AwakeUnlessRefused S.Store office.new result }
+    ensures all_committed { CommittedUnlessRefused S.Store office.new result }
     ensures clean { HasCleanDisk (state S.Store office.new)
         → HasCleanDisk (state S.Store office.old) }
 {
@@ -161,7 +161,7 @@ pub(crate) fn enrol_batch<S: Alter>(
     requires { number ≤ MAX_BATCH }
     ensures performs { Performs S.Store (batch number (plain_text body.entry))
         office.old office.new result }
-    ensures awake { AwakeUnlessRefused S.Store office.new result }
+    ensures all_committed { CommittedUnlessRefused S.Store office.new result }
     ensures clean { HasCleanDisk (state S.Store office.new)
         → HasCleanDisk (state S.Store office.old) }
 {
@@ -177,7 +177,7 @@ fn edit<S: Alter>(
     change: Edit,
 ) -> Result<Answer, Answer>
     ensures edits { Yields S.Store (edit_outcome number change) office.old office.new result }
-    ensures awake { AwakeUnlessRefused S.Store office.new result }
+    ensures all_committed { CommittedUnlessRefused S.Store office.new result }
     ensures clean { HasCleanDisk (state S.Store office.new)
         → HasCleanDisk (state S.Store office.old) }
 {

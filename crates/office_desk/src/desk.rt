@@ -5,10 +5,10 @@ ghost use Rattle.sqlite.specs.State.{HasCleanDisk};
 ghost use Rattle.office_policy.specs.Commands.{HasSmallNumbers, plain_command};
 ghost use Rattle.office_model.specs.Office.{OfficeState};
 ghost use Rattle.office_model.specs.Step.{Steps};
-ghost use Rattle.office_store.specs.Running.{IsAwake, IsStill, Now};
+ghost use Rattle.office_store.specs.Running.{IsCommitted, StateUnchanged, Represents};
 ghost use Rattle.office_store.specs.Shut.{IsShut};
 ghost use Rattle.office_desk.specs.Answers.{IsRefusal, plain_answer};
-ghost use Rattle.office_desk.specs.Performing.{AwakeUnlessRefused, PerformsFor, told_of};
+ghost use Rattle.office_desk.specs.Performing.{CommittedUnlessRefused, PerformsFor, told_of};
 
 use crate::answer::Answer;
 use crate::candidates::{me, my_exam, my_penalty};
@@ -63,13 +63,13 @@ impl<S: Alter> Desk<S> {
         // Assuming the disk returns what was written, this is one step of the office; or the answer
         // is `Unavailable`, and the office is unchanged.
         ensures runs { HasCleanDisk (state S.Store self.new) → (office : OfficeState)
-            → Now (state S.Store self.old) office
+            → Represents (state S.Store self.old) office
             → (new : OfficeState)
             × Steps office caller (plain_command command.now) (plain_answer result) new
-            × Now (state S.Store self.new) new }
+            × Represents (state S.Store self.new) new }
         // After a command that isn't refused the database is open, and all writes are committed.
-        ensures awake { HasCleanDisk (state S.Store self.new)
-            → IsRefusal (plain_answer result) ⊎ IsAwake (state S.Store self.new) }
+        ensures all_committed { HasCleanDisk (state S.Store self.new)
+            → IsRefusal (plain_answer result) ⊎ IsCommitted (state S.Store self.new) }
         ensures clean { HasCleanDisk (state S.Store self.new)
             → HasCleanDisk (state S.Store self.old) }
     {
@@ -85,9 +85,9 @@ impl<S: Alter> Desk<S> {
     pub fn is_shut(&mut self) -> Result<bool, StoreFault>
         ensures shut { HasCleanDisk (state S.Store self.new) → IfOk result (λ is_shut.
             MatchBool is_shut (IsShut (state S.Store self.new))
-            (IsAwake (state S.Store self.new))) }
-        ensures still { HasCleanDisk (state S.Store self.new)
-            → IsStill (state S.Store self.old) (state S.Store self.new) }
+            (IsCommitted (state S.Store self.new))) }
+        ensures unchanged { HasCleanDisk (state S.Store self.new)
+            → StateUnchanged (state S.Store self.old) (state S.Store self.new) }
         ensures fault { IfErr result (λ e. e ≡ StoreFault.Store) }
         ensures clean { HasCleanDisk (state S.Store self.new)
             → HasCleanDisk (state S.Store self.old) }
@@ -115,7 +115,7 @@ fn perform<S: Alter>(
     requires { HasSmallNumbers (plain_command command.now) }
     ensures performs { PerformsFor S.Store caller (plain_command command.now)
         office.old office.new result }
-    ensures awake { AwakeUnlessRefused S.Store office.new result }
+    ensures all_committed { CommittedUnlessRefused S.Store office.new result }
     ensures clean { HasCleanDisk (state S.Store office.new)
         → HasCleanDisk (state S.Store office.old) }
 {

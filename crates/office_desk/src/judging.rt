@@ -3,7 +3,7 @@ ghost use Rattle.sqlite.specs.Held.{state};
 ghost use Rattle.sqlite.specs.State.{HasCleanDisk};
 ghost use Rattle.office_policy.specs.Commands.{plain_command};
 ghost use Rattle.office_model.specs.Step.{allowed_in};
-ghost use Rattle.office_store.specs.Running.{ReadsOffice};
+ghost use Rattle.office_store.specs.Running.{QueryReturned};
 
 use exam_terms::DeptNo;
 use office_policy::{Caller, Command, Denial, allowed};
@@ -19,7 +19,7 @@ pub(crate) fn judged<S: Alter>(
     caller: Caller,
     command: &Command<'_>,
 ) -> Result<Result<(), Denial>, StoreFault>
-    ensures reads { ReadsOffice S.Store (λ o. allowed_in o caller (plain_command command.now))
+    ensures reads { QueryReturned S.Store (λ o. allowed_in o caller (plain_command command.now))
         office.old office.new result }
     ensures clean { HasCleanDisk (state S.Store office.new)
         → HasCleanDisk (state S.Store office.old) }
@@ -38,7 +38,7 @@ fn judged_by_owners<S: Alter>(
     dept: DeptNo,
     command: &Command<'_>,
 ) -> Result<Result<(), Denial>, StoreFault>
-    ensures reads { ReadsOffice S.Store
+    ensures reads { QueryReturned S.Store
         (λ o. allowed_in o (Caller.Dept dept) (plain_command command.now))
         office.old office.new result }
     ensures clean { HasCleanDisk (state S.Store office.new)

@@ -3,7 +3,7 @@ ghost use Rattle.sqlite.specs.Held.{state};
 ghost use Rattle.sqlite.specs.State.{HasCleanDisk};
 ghost use Rattle.office_policy.specs.Commands.{publication, publication_penalty};
 ghost use Rattle.office_policy.specs.Commands.{publication_rooms, publication_seats};
-ghost use Rattle.office_desk.specs.Performing.{AwakeUnlessRefused, Performs};
+ghost use Rattle.office_desk.specs.Performing.{CommittedUnlessRefused, Performs};
 
 use crate::answer::Answer;
 use office_files::write_solution;
@@ -15,7 +15,7 @@ use std::alloc::Global;
 // Answers with the published timetable, as a solution file.
 pub(crate) fn publication<S: Alter>(office: &mut Office<S>, alloc: Global) -> Result<Answer, Answer>
     ensures performs { Performs S.Store publication office.old office.new result }
-    ensures awake { AwakeUnlessRefused S.Store office.new result }
+    ensures all_committed { CommittedUnlessRefused S.Store office.new result }
     ensures clean { HasCleanDisk (state S.Store office.new)
         → HasCleanDisk (state S.Store office.old) }
 {
@@ -34,7 +34,7 @@ pub(crate) fn publication_penalty<S: Alter>(
     alloc: Global,
 ) -> Result<Answer, Answer>
     ensures performs { Performs S.Store publication_penalty office.old office.new result }
-    ensures awake { AwakeUnlessRefused S.Store office.new result }
+    ensures all_committed { CommittedUnlessRefused S.Store office.new result }
     ensures clean { HasCleanDisk (state S.Store office.new)
         → HasCleanDisk (state S.Store office.old) }
 {
@@ -54,7 +54,7 @@ pub(crate) fn publication_rooms<S: Alter>(
     alloc: Global,
 ) -> Result<Answer, Answer>
     ensures performs { Performs S.Store publication_rooms office.old office.new result }
-    ensures awake { AwakeUnlessRefused S.Store office.new result }
+    ensures all_committed { CommittedUnlessRefused S.Store office.new result }
     ensures clean { HasCleanDisk (state S.Store office.new)
         → HasCleanDisk (state S.Store office.old) }
 {
@@ -72,7 +72,7 @@ pub(crate) fn publication_seats<S: Alter>(
     alloc: Global,
 ) -> Result<Answer, Answer>
     ensures performs { Performs S.Store publication_seats office.old office.new result }
-    ensures awake { AwakeUnlessRefused S.Store office.new result }
+    ensures all_committed { CommittedUnlessRefused S.Store office.new result }
     ensures clean { HasCleanDisk (state S.Store office.new)
         → HasCleanDisk (state S.Store office.old) }
 {

@@ -2,7 +2,7 @@
 ghost use Rattle.sqlite.specs.Held.{state};
 ghost use Rattle.sqlite.specs.State.{HasCleanDisk};
 ghost use Rattle.office_policy.specs.Commands.{draft, draft_penalty, draft_violations, instance};
-ghost use Rattle.office_desk.specs.Performing.{AwakeUnlessRefused, Performs};
+ghost use Rattle.office_desk.specs.Performing.{CommittedUnlessRefused, Performs};
 
 use crate::answer::Answer;
 use office_files::write_instance;
@@ -14,7 +14,7 @@ use std::alloc::Global;
 // Answers with the session and its live enrolments, as an instance file.
 pub(crate) fn instance<S: Alter>(office: &mut Office<S>, alloc: Global) -> Result<Answer, Answer>
     ensures performs { Performs S.Store instance office.old office.new result }
-    ensures awake { AwakeUnlessRefused S.Store office.new result }
+    ensures all_committed { CommittedUnlessRefused S.Store office.new result }
     ensures clean { HasCleanDisk (state S.Store office.new)
         → HasCleanDisk (state S.Store office.old) }
 {
@@ -32,7 +32,7 @@ pub(crate) fn draft<S: Alter>(
     number: u32,
 ) -> Result<Answer, Answer>
     ensures performs { Performs S.Store (draft number) office.old office.new result }
-    ensures awake { AwakeUnlessRefused S.Store office.new result }
+    ensures all_committed { CommittedUnlessRefused S.Store office.new result }
     ensures clean { HasCleanDisk (state S.Store office.new)
         → HasCleanDisk (state S.Store office.old) }
 {
@@ -46,7 +46,7 @@ pub(crate) fn penalty<S: Alter>(
     number: u32,
 ) -> Result<Answer, Answer>
     ensures performs { Performs S.Store (draft_penalty number) office.old office.new result }
-    ensures awake { AwakeUnlessRefused S.Store office.new result }
+    ensures all_committed { CommittedUnlessRefused S.Store office.new result }
     ensures clean { HasCleanDisk (state S.Store office.new)
         → HasCleanDisk (state S.Store office.old) }
 {
@@ -61,7 +61,7 @@ pub(crate) fn violations<S: Alter>(
     number: u32,
 ) -> Result<Answer, Answer>
     ensures performs { Performs S.Store (draft_violations number) office.old office.new result }
-    ensures awake { AwakeUnlessRefused S.Store office.new result }
+    ensures all_committed { CommittedUnlessRefused S.Store office.new result }
     ensures clean { HasCleanDisk (state S.Store office.new)
         → HasCleanDisk (state S.Store office.old) }
 {

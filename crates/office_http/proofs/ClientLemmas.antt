@@ -13,7 +13,7 @@ use Rattle.office_messages.specs.declared.connection.ServeFault.{ServeFault}
 use Rattle.office_messages.specs.declared.connection.ServeFault.TheVariants.{Read, Write, TooMany, NoMemory}
 use Rattle.office_model.specs.Office.{OfficeState}
 use Rattle.office_model.specs.Views.{view_of}
-use Rattle.office_store.specs.Running.{Now}
+use Rattle.office_store.specs.Running.{Represents}
 use Rattle.office_http.specs.Clients.{ServesAll, ServesAllByView, ServesTo, all_entries, entries_to}
 use Rattle.office_http.specs.Isolation.{AreToldAlike, AreToldByView, IsHersOrQuiet, RepliesView}
 use Rattle.office_http.specs.Replying.{Answered}
@@ -55,7 +55,7 @@ module _ {S : Type 0} (store : Ghosts S) where
   pub visits_lead : (vs : List Visit) (old new : Held S) → ServesVisits (Answered store) vs old new
       → LeadsOffice store (ServesAll vs) old new
   visits_lead [] old new is = λ clean office now.
-      (office, refl, subst (λ h. Now (state store h) office) (sym is) now)
+      (office, refl, subst (λ h. Represents (state store h) office) (sym is) now)
   visits_lead (v ∷ vs) old new (mid, served, rest) = λ clean office now.
       let here = ended_leads v.ended v.input v.before v.after old mid served.0 served.1
       (visits_clean vs mid new rest clean) office now in

@@ -11,7 +11,7 @@ use Rattle.office_messages.specs.Messages.{Item, asks, fails, Begins}
 use Rattle.office_messages.specs.Serve.{WriterFailed, AnswersItems, Serves, ServesFront}
 use Rattle.office_messages.proofs.RunLemmas.{trace_kept}
 use Rattle.office_model.specs.Office.{OfficeState}
-use Rattle.office_store.specs.Running.{Now}
+use Rattle.office_store.specs.Running.{Represents}
 use Rattle.office_http.specs.Replying.{Answered, Replies}
 use Rattle.office_http.specs.Serving.{AnswersFront, LeadsOffice}
 
@@ -33,11 +33,11 @@ module _ {S : Type 0} (store : Ghosts S) where
 
   told_leads : (items : List Item) (old : Held S) (output : List ℕ) (new : Held S)
       → AnswersItems (Answered store) items old output new → HasCleanDisk (state store new)
-      → (office : OfficeState) → Now (state store old) office
+      → (office : OfficeState) → Represents (state store old) office
       → (next : OfficeState) × AnswersItems Replies items office output next
-      × Now (state store new) next
+      × Represents (state store new) next
   told_leads [] old output new t clean office now =
-      (office, (t.0, refl), subst (λ h. Now (state store h) office) (sym t.1) now)
+      (office, (t.0, refl), subst (λ h. Represents (state store h) office) (sym t.1) now)
   told_leads (fails fault form ∷ items) old output new (rest, is, t) clean office now =
       let later = told_leads items old rest new t clean office now in
       (later.0, (rest, is, later.1), later.2)

@@ -22,7 +22,7 @@ use Rattle.office_model.specs.Office.{OfficeState}
 use Rattle.office_model.specs.Step.{Steps}
 use Rattle.office_model.specs.Views.{View, view_of}
 use Rattle.office_replies.specs.Replies.{reply_to, view_text}
-use Rattle.office_store.specs.Running.{IsAwake, Now}
+use Rattle.office_store.specs.Running.{IsCommitted, Represents}
 
 -- a message that asks for a command is one step of the office, whose answer is the reply; any other
 -- message is refused, and the office is unchanged
@@ -53,9 +53,11 @@ IsDone other = ⊥
 pub record Answered {S : Type 0} (store : Ghosts S) (old : Held S) (request : PlainRequest)
     (reply : PlainReply) (new : Held S) : Type 0 where
   pub clean : HasCleanDisk (state store new) → HasCleanDisk (state store old)
-  pub step : HasCleanDisk (state store new) → (office : OfficeState) → Now (state store old) office
-      → (next : OfficeState) × Replies office request reply next × Now (state store new) next
-  pub awake : HasCleanDisk (state store new) → IsDone reply.status → IsAwake (state store new)
+  pub step : HasCleanDisk (state store new) → (office : OfficeState)
+      → Represents (state store old) office
+      → (next : OfficeState) × Replies office request reply next × Represents (state store new) next
+  pub all_committed : HasCleanDisk (state store new) → IsDone reply.status
+      → IsCommitted (state store new)
 
 -- ---- candidates
 

@@ -10,7 +10,7 @@ use Rattle.office_messages.specs.declared.connection.ServeFault.{ServeFault}
 use Rattle.office_messages.specs.declared.connection.ServeFault.TheVariants.{Write}
 use Rattle.office_model.specs.Office.{OfficeState}
 use Rattle.office_http.specs.Replying.{Replies}
-use Rattle.office_store.specs.Running.{Now}
+use Rattle.office_store.specs.Running.{Represents}
 
 -- the first messages of the stream were answered, with the replies of the office; if the writer
 -- failed, all replies but the last were written whole, and the last command is done too
@@ -28,5 +28,5 @@ AnswersFront input before after fault old new =
 abbrev pub LeadsOffice : {S : Type 0} → Ghosts S → (OfficeState → OfficeState → Type 0)
     → Held S → Held S → Type 0
 LeadsOffice store LeadsTo old new =
-    HasCleanDisk (state store new) → (office : OfficeState) → Now (state store old) office
-    → (next : OfficeState) × LeadsTo office next × Now (state store new) next
+    HasCleanDisk (state store new) → (office : OfficeState) → Represents (state store old) office
+    → (next : OfficeState) × LeadsTo office next × Represents (state store new) next

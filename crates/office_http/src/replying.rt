@@ -5,7 +5,7 @@ ghost use Rattle.sqlite.specs.State.{HasCleanDisk};
 ghost use Rattle.office_policy.specs.Commands.{HasSmallNumbers, plain_command};
 ghost use Rattle.office_requests.specs.Requests.{plain_caller_command};
 ghost use Rattle.office_model.specs.Office.{OfficeState};
-ghost use Rattle.office_store.specs.Running.{IsAwake, Now};
+ghost use Rattle.office_store.specs.Running.{IsCommitted, Represents};
 ghost use Rattle.office_messages.specs.Heads.{plain_request};
 ghost use Rattle.office_messages.specs.Reply.{plain_reply};
 ghost use Rattle.office_http.specs.Replying.{Answered, IsDone, RepliesTo, TellsCandidate};
@@ -34,7 +34,7 @@ pub fn reply<S: Alter>(
         desk.new }
     // A candidate is replied the text of their view, and nothing else that is stored.
     ensures view { HasCleanDisk (state S.Store desk.new) → (office : OfficeState)
-        → Now (state S.Store desk.old) office
+        → Represents (state S.Store desk.old) office
         → TellsCandidate office (plain_request request.now) (plain_reply result) }
 {
     match read_request(alloc, routes, request) {
@@ -47,12 +47,12 @@ pub fn reply<S: Alter>(
 fn asked_reply<S: Alter>(alloc: Global, desk: &mut Desk<S>, asked: &CallerCommand<'_>) -> Reply
     requires { HasSmallNumbers (plain_command asked.now.command) }
     ensures step { HasCleanDisk (state S.Store desk.new) → (office : OfficeState)
-        → Now (state S.Store desk.old) office
+        → Represents (state S.Store desk.old) office
         → (next : OfficeState)
         × RepliesTo (Ok (plain_caller_command asked.now)) office (plain_reply result) next
-        × Now (state S.Store desk.new) next }
-    ensures awake { HasCleanDisk (state S.Store desk.new)
-        → IsDone (plain_reply result).status → IsAwake (state S.Store desk.new) }
+        × Represents (state S.Store desk.new) next }
+    ensures all_committed { HasCleanDisk (state S.Store desk.new)
+        → IsDone (plain_reply result).status → IsCommitted (state S.Store desk.new) }
     ensures clean { HasCleanDisk (state S.Store desk.new)
         → HasCleanDisk (state S.Store desk.old) }
 {

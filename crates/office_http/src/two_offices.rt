@@ -5,7 +5,7 @@ ghost use Rattle.sqlite.specs.Steps.{over_memory};
 ghost use Rattle.office_messages.specs.Heads.{plain_request};
 ghost use Rattle.office_messages.specs.Reply.{plain_reply};
 ghost use Rattle.office_model.specs.Office.{OfficeState};
-ghost use Rattle.office_store.specs.Running.{Now};
+ghost use Rattle.office_store.specs.Running.{Represents};
 ghost use Rattle.office_http.specs.TwoOffices.{AreShares, RepliesAlike, RepliesText, office_after, office_of};
 
 use crate::replying::reply;
@@ -72,7 +72,8 @@ fn office_of(
     routes: &Routes,
     requests: &[Request<'_>],
 ) -> Result<Office<MemStore>, AskFault>
-    ensures { IfOk result (λ office. Now (state over_memory office) (office_of requests.now)) }
+    ensures { IfOk result (λ office. Represents (state over_memory office)
+        (office_of requests.now)) }
 {
     let mut desk = Desk::new(new_office(alloc)?);
     for request in requests {
@@ -83,7 +84,7 @@ fn office_of(
 
 // Returns the office in an empty database in memory.
 fn new_office(alloc: Global) -> Result<Office<MemStore>, AskFault>
-    ensures { IfOk result (λ office. Now (state over_memory office) None) }
+    ensures { IfOk result (λ office. Represents (state over_memory office) None) }
 {
     let Ok(conn) = Connection::open_in_memory(alloc) else {
         return Err(AskFault::NoMemory);
@@ -101,9 +102,10 @@ fn ask(
     office: Office<MemStore>,
     asked: &Request<'_>,
 ) -> Result<ReplyAndShares, AskFault>
-    ensures text { IfOk result (λ said. (o : OfficeState) → Now (state over_memory office) o
+    ensures text { IfOk result (λ said. (o : OfficeState) → Represents (state over_memory office) o
         → RepliesText o (plain_request asked.now) (plain_reply said.reply)) }
-    ensures add_up { IfOk result (λ said. (o : OfficeState) → Now (state over_memory office) o
+    ensures add_up { IfOk result (λ said. (o : OfficeState)
+        → Represents (state over_memory office) o
         → AreShares o said.shares) }
 {
     let mut office = office;
@@ -122,9 +124,10 @@ fn available_reply(
     desk: &mut Desk<MemStore>,
     request: &Request<'_>,
 ) -> Result<Reply, AskFault>
-    ensures step { IfOk result (λ _. (o : OfficeState) → Now (state over_memory desk.old) o
-        → Now (state over_memory desk.new) (office_after o (plain_request request.now))) }
-    ensures text { IfOk result (λ reply. (o : OfficeState) → Now (state over_memory desk.old) o
+    ensures step { IfOk result (λ _. (o : OfficeState) → Represents (state over_memory desk.old) o
+        → Represents (state over_memory desk.new) (office_after o (plain_request request.now))) }
+    ensures text { IfOk result (λ reply. (o : OfficeState)
+        → Represents (state over_memory desk.old) o
         → RepliesText o (plain_request request.now) (plain_reply reply)) }
 {
     let reply = reply(alloc, routes, desk, request);

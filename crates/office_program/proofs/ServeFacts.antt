@@ -23,7 +23,7 @@ use Rattle.office_messages.specs.Visits.{Visit, ServesVisits}
 use Rattle.office_messages.proofs.RunLemmas.{Lends}
 use Rattle.office_messages.proofs.VisitLemmas.{lent_visits, visits_along}
 use Rattle.office_model.specs.Office.{OfficeState}
-use Rattle.office_store.specs.Running.{IsAwake, IsStill}
+use Rattle.office_store.specs.Running.{IsCommitted, StateUnchanged}
 use Rattle.office_store.proofs.RunLemmas.{now_still}
 use Rattle.office_program.specs.Serve.{IsStoreShut, LeavesPort, OfficeServes}
 use Rattle.office_program.specs.Serve.{PrintsServed, ServesTerms}
@@ -62,7 +62,7 @@ module _ {S : Type 0} (store : Ghosts S) where
   -- a request that was answered is still answered after the store is looked at
   pub answered_on : (old mid new : Held S) (request : PlainRequest) (reply : PlainReply)
       → Answered store old request reply mid → (IsDone reply.status → new ≡ mid)
-      → (HasCleanDisk (state store new) → IsStill (state store mid) (state store new))
+      → (HasCleanDisk (state store new) → StateUnchanged (state store mid) (state store new))
       → (HasCleanDisk (state store new) → HasCleanDisk (state store mid))
       → Answered store old request reply new
   answered_on old mid new request reply x done still clean = record {
@@ -70,7 +70,8 @@ module _ {S : Type 0} (store : Ghosts S) where
     step = λ k office now.
         let led = x.step (clean k) office now in
         (led.0, led.1, now_still (state store mid) (state store new) led.0 (still k) led.2);
-    awake = λ k is. subst (λ h. IsAwake (state store h)) (sym (done is)) (x.awake (clean k) is);
+    all_committed = λ k is. subst (λ h. IsCommitted (state store h)) (sym (done is))
+        (x.all_committed (clean k) is);
   }
 
   -- an answer of the machine is one of its desk, and it says that the store is shut only if it is

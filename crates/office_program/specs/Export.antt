@@ -8,7 +8,7 @@ use Rattle.office_files.specs.CanonicalSolution.{canonical_solution}
 use Rattle.office_model.specs.Office.{OfficeState, Publication}
 use Rattle.office_model.specs.Step.{publication_in}
 use Rattle.office_model.specs.declared.fault.StoreFault.TheVariants as store
-use Rattle.office_store.specs.Running.{Now}
+use Rattle.office_store.specs.Running.{Represents}
 use Rattle.office_program.specs.declared.exporting.ExportFault.{ExportFault}
 use Rattle.office_program.specs.declared.exporting.ExportFault.TheVariants as fault
 
@@ -24,7 +24,7 @@ pub record Exports (office : OfficeState) (after : State) (old new : Option (Lis
   pub text : List ℕ
   pub published : published_solution office ≡ Some text
   pub printed : Appends old new text
-  pub stands : Now after office
+  pub stands : Represents after office
 
 -- a statement failed, nothing is published, memory was refused, or the writer failed while the
 -- publication was written

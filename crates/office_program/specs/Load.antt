@@ -4,7 +4,7 @@ use Rattle.std.specs.Io.KnownBytes.{Appends}
 use Rattle.sqlite.specs.State.{State}
 use Rattle.office_model.specs.Office.{OfficeState}
 use Rattle.office_model.specs.Loading.{NamesFirstFault, SpellsSession, loaded}
-use Rattle.office_store.specs.Running.{IsFault, Now}
+use Rattle.office_store.specs.Running.{IsFault, Represents}
 use Rattle.office_model.specs.declared.counts.Loaded.{Loaded}
 use Rattle.office_program.specs.declared.loading.LoadFault.{LoadFault}
 use Rattle.office_program.specs.declared.loading.LoadFault.TheVariants.{Store, Write}
@@ -24,7 +24,7 @@ pub record IsLoaded (text : List ℕ) (office : OfficeState) (after : State) (co
     : Type 0 where
   pub next : OfficeState
   pub gives : loaded text office ≡ Ok (counts, next)
-  pub stands : Now after next
+  pub stands : Represents after next
 
 -- the text is loaded into the office, and the line that says how much is printed
 pub record Loads (text : List ℕ) (office : OfficeState) (after : State)

@@ -4,7 +4,7 @@ ghost use Rattle.sqlite.specs.Held.{state};
 ghost use Rattle.sqlite.specs.State.{HasCleanDisk};
 ghost use Rattle.office_http.specs.Replying.{IsDone};
 ghost use Rattle.office_program.specs.Serve.{IsStoreShut};
-ghost use Rattle.office_store.specs.Running.{IsStill};
+ghost use Rattle.office_store.specs.Running.{StateUnchanged};
 
 use crate::telling::{LongWork, tell};
 use office_connections::MayShut;
@@ -67,8 +67,8 @@ fn asks_to_publish(request: &Request<'_>) -> bool {
 fn is_shut_after<S: Alter>(status: Status, desk: &mut Desk<S>) -> bool
     ensures shut { IsTrue result → IsStoreShut S.Store desk.new }
     ensures done { IsDone status → desk.new ≡ desk.old }
-    ensures still { HasCleanDisk (state S.Store desk.new)
-        → IsStill (state S.Store desk.old) (state S.Store desk.new) }
+    ensures unchanged { HasCleanDisk (state S.Store desk.new)
+        → StateUnchanged (state S.Store desk.old) (state S.Store desk.new) }
     ensures clean { HasCleanDisk (state S.Store desk.new) → HasCleanDisk (state S.Store desk.old) }
 {
     match status {
@@ -80,8 +80,8 @@ fn is_shut_after<S: Alter>(status: Status, desk: &mut Desk<S>) -> bool
 // Returns whether the store is shut; false if that can't be found out.
 fn is_shut<S: Alter>(desk: &mut Desk<S>) -> bool
     ensures shut { IsTrue result → IsStoreShut S.Store desk.new }
-    ensures still { HasCleanDisk (state S.Store desk.new)
-        → IsStill (state S.Store desk.old) (state S.Store desk.new) }
+    ensures unchanged { HasCleanDisk (state S.Store desk.new)
+        → StateUnchanged (state S.Store desk.old) (state S.Store desk.new) }
     ensures clean { HasCleanDisk (state S.Store desk.new) → HasCleanDisk (state S.Store desk.old) }
 {
     match desk.is_shut() {

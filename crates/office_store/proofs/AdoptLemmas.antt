@@ -32,10 +32,10 @@ use Rattle.office_records.proofs.BatchRowLemmas.{stored_short}
 use Rattle.office_records.proofs.MemoryLemmas.{same_memory_in}
 use Rattle.office_records.proofs.SameTables.{same_sound_in, same_stands_in}
 use Rattle.office_store.specs.Leaving.{MayMigrate, found_in}
-use Rattle.office_store.specs.Opening.{HoldsOffice, IsFoundOffice, IsTakenOver, WeighsNoNight}
+use Rattle.office_store.specs.Opening.{HoldsOffice, IsFoundOffice, DatabaseUpgraded, WeighsNoNight}
 use Rattle.office_store.specs.declared.memory.OfficeMemory.{OfficeMemory}
 use Rattle.office_tables.specs.Alterations.{Undone}
-use Rattle.office_store.specs.Running.{IsAwake}
+use Rattle.office_store.specs.Running.{IsCommitted}
 
 -- ---- readers, one after the other
 
@@ -233,7 +233,7 @@ undone_after g old mid new (inr still) undone = record {
 -- an office that was found is represented by its tables in version 2
 pub taken_over : (old new : Database) (found : Found) (memory : OfficeMemory)
     (is : IsFoundOffice old found memory) → Stands new (tables_of found is.batches)
-    → IsTakenOver old new
+    → DatabaseUpgraded old new
 taken_over old new found memory is stands = record {
   office = is.office;
   stood = (found.version, is.kept, is.weighs);
@@ -288,7 +288,7 @@ module _ {S : Type 0} (g : Ghosts S) (old new : Held S)
 
   -- and all that was written is committed
   pub awake_still : (IsTrue (state g old).is_open → (state g old).now ≡ (state g old).committed)
-      → IsTrue (state g new).is_open → IsAwake (state g new)
+      → IsTrue (state g new).is_open → IsCommitted (state g new)
   awake_still settled opened = elim same [
     | inl is ↦ (
       opened,

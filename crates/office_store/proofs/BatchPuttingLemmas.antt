@@ -39,7 +39,7 @@ use Rattle.office_records.specs.Memory.{memory_of}
 use Rattle.office_records.specs.Representation.{RepresentsOffice, IsSound, TablesRepresentRecords}
 use Rattle.office_records.specs.TableRows.{enrol_row, stored_batch}
 use Rattle.office_records.proofs.BatchPutLemmas.{batch_sound, batch_stands, drafts_moved}
-use Rattle.office_store.specs.NewBatches.{AreAnew, Enrols, IsNewFor, drafts_after, line_put, new_batch_put}
+use Rattle.office_store.specs.NewBatches.{AreDraftsWith, Enrols, IsNewFor, drafts_after, line_put, new_batch_put}
 use Rattle.office_store.specs.Memory.{AreRescored, IsMemoryOf, IsRenewed}
 use Rattle.office_store.specs.Running.{IsFault}
 use Rattle.office_store.specs.declared.memory.OfficeMemory.{OfficeMemory}
@@ -165,7 +165,8 @@ left_drafts : (r : Records) (t : Tables) (changes : List Change) (done : Counts 
     → AreRecords r → TablesRepresentRecords t r → IsSound t (Some r)
     → after_batch changes r.enrolments ≡ Ok done → (its : List PutLine) (anew : List DraftRow)
     → map (λ (it : PutLine). it.change) its ≡ acting changes r.enrolments
-    → (its ≢ [] → AreAnew r done.1 anew) → AreAnew r done.1 (drafts_after its anew t.draft)
+    → (its ≢ [] → AreDraftsWith r done.1 anew)
+    → AreDraftsWith r done.1 (drafts_after its anew t.draft)
 left_drafts r t changes done is stands sound judged [] anew lines scored = record {
   slots = t.slot;
   are = subst (λ (E : Enrolled). AreDrafts r.session E t.draft t.slot r.draft)
@@ -248,7 +249,7 @@ module _ (number : ℕ) (bytes : List ℕ) (changes : List Change)
           abbrev left : List DraftRow
           left = drafts_after new.lines.items rows here.held.draft
 
-          again : AreAnew r (done r).1 left
+          again : AreDraftsWith r (done r).1 left
           again = left_drafts r here.held changes (done r) here.office here.stands here.sound
               made.after new.lines.items rows made.lines made.drafts
 

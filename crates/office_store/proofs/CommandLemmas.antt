@@ -9,8 +9,8 @@ use Rattle.office_model.specs.Office.{OfficeState}
 use Rattle.office_records.specs.Representation.{RepresentsOffice}
 use Rattle.office_model.specs.Commands.{CommandResult}
 use Rattle.office_store.specs.Memory.{IsMemoryOf}
-use Rattle.office_store.specs.Running.{Does, IsAtRest, IsAwake, IsFault, IsStill, Now, ReadsOffice, Runs, Shows}
-use Rattle.office_store.specs.Running.{StaysOnErr, Tells}
+use Rattle.office_store.specs.Running.{CommandOutcome, MatchesMemory, IsCommitted, IsFault, StateUnchanged, Represents, QueryReturned, CommandRan, QueryOutcome}
+use Rattle.office_store.specs.Running.{StaysOnErr, ReturnsValue}
 use Rattle.office_model.specs.declared.fault.StoreFault.{StoreFault}
 use Rattle.office_model.specs.declared.fault.StoreFault.TheVariants.{NotLoaded}
 use Rattle.office_store.specs.declared.memory.OfficeMemory.{OfficeMemory}
@@ -39,47 +39,50 @@ Remembers command x a m n = (o : OfficeState) → RepresentsOffice a o → IsMem
 
 -- what is told of an office that stays is shown
 pub shown : {A : Type 0} (says : A) (o : OfficeState) (Stays : OfficeState → Type 0)
-    (result : Result A StoreFault) → Tells says result → Stays o → Shows says o Stays result
+    (result : Result A StoreFault) → ReturnsValue says result → Stays o
+    → QueryOutcome says o Stays result
 shown says o Stays (Ok x) is here = (is, here)
 shown says o Stays (Err fault) is here = (is, here)
 
 -- from the connection before a look at the file, by which nothing changes, to the one behind it,
 -- which is at hand
 module _ {S : Type 0} (g : Ghosts S) (before mid inside : Held S)
-    (m : OfficeMemory) (view : inside ≡ mid) (rest : IsAtRest (state g inside) m)
-    (awake : HasCleanDisk (state g mid) → IsAwake (state g mid))
-    (still : HasCleanDisk (state g mid) → IsStill (state g before) (state g mid)) where
+    (m : OfficeMemory) (view : inside ≡ mid) (rest : MatchesMemory (state g inside) m)
+    (all_committed : HasCleanDisk (state g mid) → IsCommitted (state g mid))
+    (still : HasCleanDisk (state g mid) → StateUnchanged (state g before) (state g mid)) where
   -- the office that stood there does, and its session is in memory
-  there : HasCleanDisk (state g mid) → (o : OfficeState) → Now (state g before) o
+  there : HasCleanDisk (state g mid) → (o : OfficeState) → Represents (state g before) o
       → RepresentsOffice (state g mid).now o × IsMemoryOf o m
   there clean o now =
-      let here = now_still (state g before) (state g mid) o (still clean) now (awake clean).0 in (
+      let here = now_still (state g before) (state g mid) o (still clean) now
+      (all_committed clean).0 in (
         here,
-        at_hand (state g mid) m o (subst (λ h. IsAtRest (state g h) m) view rest) clean
-            (awake clean).0 here,
+        at_hand (state g mid) m o (subst (λ h. MatchesMemory (state g h) m) view rest) clean
+            (all_committed clean).0 here,
       )
 
   -- what is answered is what the office says
   pub tells : {A : Type 0} (says : OfficeState → A) (result : Result A StoreFault)
       → (HasCleanDisk (state g mid) → (o : OfficeState) → RepresentsOffice (state g mid).now o
-      → IsMemoryOf o m → Tells (says o) result)
-      → ReadsOffice g says before mid result
-  tells says result told clean o now =
+      → IsMemoryOf o m → ReturnsValue (says o) result)
+      → QueryReturned g says before mid result
+  tells says result meaning clean o now =
       let here = there clean o now in
-      shown (says o) o (Now (state g mid)) result (told clean o here.0 here.1) (λ _. here.0)
+      shown (says o) o (Represents (state g mid)) result (meaning clean o here.0 here.1)
+      (λ _. here.0)
 
 module _ {S A : Type 0} (g : Ghosts S) (command : OfficeState → CommandResult A)
     (before mid inside : Held S)
-    (m : OfficeMemory) (view : inside ≡ mid) (rest : IsAtRest (state g inside) m)
-    (awake : HasCleanDisk (state g mid) → IsAwake (state g mid))
-    (still : HasCleanDisk (state g mid) → IsStill (state g before) (state g mid)) where
-  found : HasCleanDisk (state g mid) → (o : OfficeState) → Now (state g before) o
+    (m : OfficeMemory) (view : inside ≡ mid) (rest : MatchesMemory (state g inside) m)
+    (all_committed : HasCleanDisk (state g mid) → IsCommitted (state g mid))
+    (still : HasCleanDisk (state g mid) → StateUnchanged (state g before) (state g mid)) where
+  found : HasCleanDisk (state g mid) → (o : OfficeState) → Represents (state g before) o
       → RepresentsOffice (state g mid).now o × IsMemoryOf o m
-  found = there g before mid inside m view rest awake still
+  found = there g before mid inside m view rest all_committed still
 
   pub refuses : (fault : StoreFault)
       → (HasCleanDisk (state g mid) → Denies command fault (state g mid).now m)
-      → Runs g command before mid (Err fault)
+      → CommandRan g command before mid (Err fault)
   refuses fault denies clean o now =
       let there = found clean o now in
       (denies clean o there.0 there.1, λ _. there.0)
@@ -88,18 +91,18 @@ module _ {S A : Type 0} (g : Ghosts S) (command : OfficeState → CommandResult 
   pub shows : (result : Result A StoreFault)
       → (HasCleanDisk (state g mid) → (o : OfficeState) → RepresentsOffice (state g mid).now o
       → IsMemoryOf o m
-      → Does (command o) o (λ new. new ≡ o) result)
-      → Runs g command before mid result
+      → CommandOutcome (command o) o (λ new. new ≡ o) result)
+      → CommandRan g command before mid result
   shows result does clean o now =
       let there = found clean o now in
-      does_now (command o) o (Now (state g mid)) result
+      does_now (command o) o (Represents (state g mid)) result
       (does clean o there.0 there.1) (λ _. there.0)
 
   pub runs : (after : Held S) (x : A)
       → (HasCleanDisk (state g after) → HasCleanDisk (state g inside))
       → (HasCleanDisk (state g after)
       → Moves command x (state g inside).now (state g after).now m)
-      → Runs g command before after (Ok x)
+      → CommandRan g command before after (Ok x)
   runs after x clean moves is_clean o now =
       let there = found (subst (λ h. HasCleanDisk (state g h)) view (clean is_clean)) o now in
       let moved = moves is_clean o (subst (λ h. RepresentsOffice (state g h).now o)
@@ -109,25 +112,26 @@ module _ {S A : Type 0} (g : Ghosts S) (command : OfficeState → CommandResult 
 
 -- what is awake is so inside
 pub awake_inside : {S : Type 0} (g : Ghosts S) (start inside : Held S) → inside ≡ start
-    → (HasCleanDisk (state g start) → IsAwake (state g start))
-    → HasCleanDisk (state g inside) → IsAwake (state g inside)
-awake_inside g start inside view awake clean =
-    subst (λ h. IsAwake (state g h)) (sym view)
-    (awake (subst (λ h. HasCleanDisk (state g h)) view clean))
+    → (HasCleanDisk (state g start) → IsCommitted (state g start))
+    → HasCleanDisk (state g inside) → IsCommitted (state g inside)
+awake_inside g start inside view all_committed clean =
+    subst (λ h. IsCommitted (state g h)) (sym view)
+    (all_committed (subst (λ h. HasCleanDisk (state g h)) view clean))
 
 -- a command that is refused by what is read on from there
 pub refuses_on : {S A : Type 0} (g : Ghosts S) (command : OfficeState → CommandResult A)
     (start inside after : Held S) (m : OfficeMemory) → inside ≡ start
-    → IsAtRest (state g inside) m
-    → (HasCleanDisk (state g start) → IsAwake (state g start))
+    → MatchesMemory (state g inside) m
+    → (HasCleanDisk (state g start) → IsCommitted (state g start))
     → (HasCleanDisk (state g after) → HasCleanDisk (state g inside))
-    → (HasCleanDisk (state g after) → IsStill (state g inside) (state g after))
+    → (HasCleanDisk (state g after) → StateUnchanged (state g inside) (state g after))
     → (fault : StoreFault)
     → (HasCleanDisk (state g after) → Denies command fault (state g inside).now m)
-    → Runs g command start after (Err fault)
-refuses_on g command start inside after m view rest awake clean still fault denies k o now =
-    let opened = (awake_inside g start inside view awake (clean k)).0 in
-    let stood : Now (state g inside) o = subst (λ h. Now (state g h) o) (sym view) now in
+    → CommandRan g command start after (Err fault)
+refuses_on g command start inside after m view rest all_committed clean still fault denies k o now =
+    let opened = (awake_inside g start inside view all_committed (clean k)).0 in
+    let stood : Represents (state g inside) o = subst (λ h. Represents (state g h) o)
+    (sym view) now in
     let here = stood opened in (
       denies k o here (at_hand (state g inside) m o rest (clean k) opened here),
       now_still (state g inside) (state g after) o (still k) stood,
@@ -135,44 +139,45 @@ refuses_on g command start inside after m view rest awake clean still fault deni
 
 -- the office that stood there does, where a look says that nothing has changed
 pub stays_by : {S : Type 0} (g : Ghosts S) (before mid : Held S)
-    → (HasCleanDisk (state g mid) → IsStill (state g before) (state g mid))
-    → HasCleanDisk (state g mid) → (o : OfficeState) → Now (state g before) o → Now (state g mid) o
+    → (HasCleanDisk (state g mid) → StateUnchanged (state g before) (state g mid))
+    → HasCleanDisk (state g mid) → (o : OfficeState) → Represents (state g before) o
+    → Represents (state g mid) o
 stays_by g before mid still clean o = now_still (state g before) (state g mid) o (still clean)
 
 -- a refusal by what is read on from there has changed nothing either
 pub stays_on : {S A : Type 0} (g : Ghosts S) (start inside after : Held S) → inside ≡ start
-    → (HasCleanDisk (state g after) → IsStill (state g inside) (state g after))
+    → (HasCleanDisk (state g after) → StateUnchanged (state g inside) (state g after))
     → (result : Result A StoreFault) → StaysOnErr g start after result
 stays_on g start inside after view still (Ok x) clean = tt
 stays_on g start inside after view still (Err fault) clean =
-    subst (λ h. IsStill (state g h) (state g after)) view (still clean)
+    subst (λ h. StateUnchanged (state g h) (state g after)) view (still clean)
 
 -- nor has a transaction that failed behind the look
 pub stays_undone : {S A : Type 0} (g : Ghosts S) (before mid inside after : Held S) → inside ≡ mid
-    → (HasCleanDisk (state g mid) → IsStill (state g before) (state g mid))
-    → (HasCleanDisk (state g mid) → IsAwake (state g mid))
+    → (HasCleanDisk (state g mid) → StateUnchanged (state g before) (state g mid))
+    → (HasCleanDisk (state g mid) → IsCommitted (state g mid))
     → (HasCleanDisk (state g after) → HasCleanDisk (state g inside))
     → (HasCleanDisk (state g after) → Undone (state g inside) (state g after))
     → (result : Result A StoreFault) → StaysOnErr g before after result
-stays_undone g before mid inside after view still awake clean undone (Ok x) is_clean = tt
-stays_undone g before mid inside after view still awake clean undone (Err fault) is_clean =
+stays_undone g before mid inside after view still all_committed clean undone (Ok x) is_clean = tt
+stays_undone g before mid inside after view still all_committed clean undone (Err fault) is_clean =
     let was = subst (λ h. HasCleanDisk (state g h)) view (clean is_clean) in
     still_then (state g before) (state g mid) (state g after) (still was)
-    (still_undone (state g mid) (state g after) (λ _. (awake was).1)
+    (still_undone (state g mid) (state g after) (λ _. (all_committed was).1)
     (subst (λ h. Undone (state g h) (state g after)) view (undone is_clean)))
 
 -- a command that a look at the file precedes
 pub runs_then : {S A : Type 0} (g : Ghosts S) (command : OfficeState → CommandResult A)
     (before mid after : Held S) (result : Result A StoreFault)
-    → (HasCleanDisk (state g mid) → IsStill (state g before) (state g mid))
+    → (HasCleanDisk (state g mid) → StateUnchanged (state g before) (state g mid))
     → (HasCleanDisk (state g after) → HasCleanDisk (state g mid))
-    → Runs g command mid after result → Runs g command before after result
+    → CommandRan g command mid after result → CommandRan g command before after result
 runs_then g command before mid after result still clean run is_clean o now =
     run is_clean o (stays_by g before mid still (clean is_clean) o now)
 
 pub stays_then : {S A : Type 0} (g : Ghosts S) (before mid after : Held S)
     (result : Result A StoreFault)
-    → (HasCleanDisk (state g mid) → IsStill (state g before) (state g mid))
+    → (HasCleanDisk (state g mid) → StateUnchanged (state g before) (state g mid))
     → (HasCleanDisk (state g after) → HasCleanDisk (state g mid))
     → StaysOnErr g mid after result → StaysOnErr g before after result
 stays_then g before mid after (Ok x) still clean stays is_clean = tt
@@ -193,9 +198,10 @@ seen g mid inside view P tells clean o kept =
 -- what is in memory afterwards is of the new office
 pub rests : {A : Type 0} (command : OfficeState → CommandResult A) (a b : State)
     (m n : OfficeMemory)
-    (x : A) → IsAtRest a m → (HasCleanDisk b → HasCleanDisk a) → (HasCleanDisk b → IsTrue a.is_open)
+    (x : A) → MatchesMemory a m → (HasCleanDisk b → HasCleanDisk a)
+    → (HasCleanDisk b → IsTrue a.is_open)
     → (HasCleanDisk b → Moves command x a.now b.now m)
-    → (HasCleanDisk b → Remembers command x a.now m n) → IsAtRest b n
+    → (HasCleanDisk b → Remembers command x a.now m n) → MatchesMemory b n
 rests command a b m n x rest clean opened moves remembers is_clean _ =
     let here = rest (clean is_clean) (opened is_clean) in
     let moved = moves is_clean here.0 here.1 here.2 in

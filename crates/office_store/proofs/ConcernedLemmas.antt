@@ -57,17 +57,18 @@ not_above c s (t ∷ ss) above is =
 -- ---- the pairs of students
 
 -- the pairs of one student, among others
-abbrev pub hers : List Pair → ℕ → List Pair
-hers pairs s = filter (λ p. eqb p.student s) pairs
+abbrev pub pairs_of_student : List Pair → ℕ → List Pair
+pairs_of_student pairs s = filter (λ p. eqb p.student s) pairs
 
 -- in whatever order pairs are, those of some students are each student's
 pub gathered : (pairs : List Pair) (ss : List ℕ) → IsChain (λ x y. x < y) ss
-    → IsPermutation (filter (λ p. has_number ss p.student) pairs) (flat_map (hers pairs) ss)
+    → IsPermutation (filter (λ p. has_number ss p.student) pairs)
+    (flat_map (pairs_of_student pairs) ss)
 gathered pairs [] h =
     subst (λ l. IsPermutation l []) (sym (none_pass pairs)) (IsPermutation-refl [])
 gathered pairs (s ∷ ss) h =
     subst (λ l. IsPermutation (filter (λ p. has_number (s ∷ ss) p.student) pairs)
-    (l ++ flat_map (hers pairs) ss))
+    (l ++ flat_map (pairs_of_student pairs) ss))
     (filter_agree (λ (p : Pair). eqb s p.student) (λ p. eqb p.student s)
     (λ p. turned s p.student) pairs)
     (IsPermutation-trans _ _ _
@@ -79,8 +80,8 @@ gathered pairs (s ∷ ss) h =
     turned m n = grind (arith, nat_tests)
 
 module _ (E : Enrolled) (known : AreEnrolments E)
-    (own : (s : ℕ) → hers (pairs_of E) s ≡ pairs_sat (Some s) (exams_sat E s)) where
-  each_own : (ss : List ℕ) → flat_map (hers (pairs_of E)) ss ≡ pairs_of_students E ss
+    (own : (s : ℕ) → pairs_of_student (pairs_of E) s ≡ pairs_sat (Some s) (exams_sat E s)) where
+  each_own : (ss : List ℕ) → flat_map (pairs_of_student (pairs_of E)) ss ≡ pairs_of_students E ss
   each_own [] = refl
   each_own (s ∷ ss) = ap₂ (λ a b. a ++ b) (own s) (each_own ss)
 

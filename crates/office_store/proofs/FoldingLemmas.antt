@@ -33,11 +33,11 @@ use Rattle.office_tables.specs.Selections.{IsInOrder}
 use Rattle.office_tables.specs.Tables.{Tables}
 use Rattle.office_tables.specs.Standing.{Stands}
 use Rattle.office_tables.specs.declared.enrol.EnrolRow.{EnrolRow}
-use Rattle.office_store.specs.FoldReads.{HadEnrolments, HasRead, IsSame}
+use Rattle.office_store.specs.FoldReads.{HadEnrolments, HasRead, RowsUnchanged}
 use Rattle.office_store.specs.Folding.{CanTake, HasTaken, IsEditOf, pairs_of_students, students_of_exams}
-use Rattle.office_store.specs.Running.{Tells}
+use Rattle.office_store.specs.Running.{ReturnsValue}
 use Rattle.office_store.specs.declared.editing.Judged.{Judged}
-use Rattle.office_store.specs.Viewing.{her_row}
+use Rattle.office_store.specs.Viewing.{candidate_enrol_row}
 use Rattle.office_store.proofs.ConcernedLemmas.{concerned, each_append, students_few}
 use Rattle.office_store.proofs.LeavingLemmas.{survives_on, survives_same}
 use Rattle.office_store.proofs.ViewLemmas.{exams_back, own_pairs, rows_read, sat_rise}
@@ -72,7 +72,7 @@ module _ {S : Type 0} (store : Ghosts S) where
     mode = mode;
   }
 
-  pub same_itself : (a : Held S) → IsSame store a a
+  pub same_itself : (a : Held S) → RowsUnchanged store a a
   same_itself a clean t stands is = (
     record {
       was_open = is;
@@ -85,7 +85,7 @@ module _ {S : Type 0} (store : Ghosts S) where
     refl,
   )
 
-  module _ (a b c : Held S) (first : HasRead store a b) (same : IsSame store a b)
+  module _ (a b c : Held S) (first : HasRead store a b) (same : RowsUnchanged store a b)
       (next : HasRead store b c) where
     -- the tables stand there still
     tables_on : HasCleanDisk (state store c) → (t : Tables) → Stands (state store a).now t
@@ -121,7 +121,7 @@ module _ {S : Type 0} (store : Ghosts S) where
       mode = λ m. next.mode (first.mode m);
     }
 
-    pub same_on : IsSame store b c → IsSame store a c
+    pub same_on : RowsUnchanged store b c → RowsUnchanged store a c
     same_on more clean t stands is =
         let mid = tables_on clean t stands is in
         let last = more clean t mid.1 mid.0.0.is_open in (
@@ -373,34 +373,39 @@ in_order_is rows false some = (
 
 -- ---- a student's rows
 
-each_hers : (s : ℕ) (exams : List ℕ)
-    → AllByRecursion (λ (row : EnrolRow). row.student ≡ s) (map (her_row s) exams)
-each_hers s [] = tt
-each_hers s (e ∷ exams) = (refl, each_hers s exams)
+each_of_candidate : (s : ℕ) (exams : List ℕ)
+    → AllByRecursion (λ (row : EnrolRow). row.student ≡ s) (map (candidate_enrol_row s) exams)
+each_of_candidate s [] = tt
+each_of_candidate s (e ∷ exams) = (refl, each_of_candidate s exams)
 
-pub are_hers_of : (s : ℕ) (rows : List EnrolRow) (exams : List ℕ) → rows ≡ map (her_row s) exams
+pub candidate_are_of : (s : ℕ) (rows : List EnrolRow) (exams : List ℕ) → rows
+    ≡ map (candidate_enrol_row s) exams
     → All (λ (row : EnrolRow). row.student ≡ s) rows
-are_hers_of s rows exams is =
+candidate_are_of s rows exams is =
     subst (All (λ (row : EnrolRow). row.student ≡ s)) (sym is)
-    (All-from_recursion (λ (row : EnrolRow). row.student ≡ s) (map (her_row s) exams)
-    (each_hers s exams))
+    (All-from_recursion (λ (row : EnrolRow). row.student ≡ s) (map (candidate_enrol_row s) exams)
+    (each_of_candidate s exams))
 
 -- rows of hers are those of their exams
-pub hers_back : (s : ℕ) (rows : List EnrolRow) → All (λ (row : EnrolRow). row.student ≡ s) rows
-    → rows ≡ map (her_row s) (map (λ (row : EnrolRow). row.exam) rows)
-hers_back s rows all = each rows (recursion_from_All (λ (row : EnrolRow). row.student ≡ s) rows all)
+pub candidate_back : (s : ℕ) (rows : List EnrolRow) → All (λ (row : EnrolRow). row.student ≡ s) rows
+    → rows ≡ map (candidate_enrol_row s) (map (λ (row : EnrolRow). row.exam) rows)
+candidate_back s rows all = each rows (recursion_from_All
+    (λ (row : EnrolRow). row.student ≡ s) rows all)
   where
     each : (qs : List EnrolRow) → AllByRecursion (λ (row : EnrolRow). row.student ≡ s) qs
-        → qs ≡ map (her_row s) (map (λ (row : EnrolRow). row.exam) qs)
+        → qs ≡ map (candidate_enrol_row s) (map (λ (row : EnrolRow). row.exam) qs)
     each [] h = refl
-    each (q ∷ qs) h = ap₂ (λ (n : ℕ) (l : List EnrolRow). her_row n q.exam ∷ l) h.0 (each qs h.1)
+    each (q ∷ qs) h = ap₂ (λ (n : ℕ) (l : List EnrolRow). candidate_enrol_row n q.exam ∷ l) h.0
+        (each qs h.1)
 
-pub exams_are : (s : ℕ) (rows : List EnrolRow) (exams : List ℕ) → rows ≡ map (her_row s) exams
+pub exams_are : (s : ℕ) (rows : List EnrolRow) (exams : List ℕ) → rows
+    ≡ map (candidate_enrol_row s) exams
     → map (λ (row : EnrolRow). row.exam) rows ≡ exams
 exams_are s rows exams is =
     ap (map (λ (row : EnrolRow). row.exam)) is ∙ exams_back s exams
 
-pub up_of : (s : ℕ) (rows : List EnrolRow) (exams : List ℕ) → rows ≡ map (her_row s) exams
+pub up_of : (s : ℕ) (rows : List EnrolRow) (exams : List ℕ) → rows
+    ≡ map (candidate_enrol_row s) exams
     → IsAscending exams → IsAscending (map (λ (row : EnrolRow). row.exam) rows)
 up_of s rows exams is up = subst IsAscending (sym (exams_are s rows exams is)) up
 
@@ -415,10 +420,10 @@ pub rows_had : {S : Type 0} (store : Ghosts S) (a b : Held S) (E : Enrolled)
     → HadEnrolments store a b E → (s n : ℕ) → n ≡ s → (found : List EnrolRow)
     → (HasCleanDisk (state store b) → (t : Tables) → Stands (state store a).now t
     → IsInOrder HerEnrolsRise (filter (λ (x : EnrolRow). eqb x.student n) t.enrol) found)
-    → found ≡ map (her_row s) (exams_sat E s)
+    → found ≡ map (candidate_enrol_row s) (exams_sat E s)
 rows_had store a b E had s n is found order =
-    subst (λ E. found ≡ map (her_row s) (exams_sat E s)) had.enrolments
-    (subst (λ k. found ≡ map (her_row k) (exams_sat had.records.enrolments k)) is
+    subst (λ E. found ≡ map (candidate_enrol_row s) (exams_sat E s)) had.enrolments
+    (subst (λ k. found ≡ map (candidate_enrol_row k) (exams_sat had.records.enrolments k)) is
     (rows_read had.kept.held had.records n found had.kept.stands had.kept.office
     (order had.clean had.kept.held had.kept.tables)))
 
@@ -446,7 +451,7 @@ sat_up E s = ascending_from_chain (exams_sat E s) (chained (exams_sat E s) (sat_
 
 -- ---- what the fold gives
 
-pub told_after : {S : Type 0} (store : Ghosts S) (a b : Held S) (fold : Folded) (I : Session)
+pub returned_after : {S : Type 0} (store : Ghosts S) (a b : Held S) (fold : Folded) (I : Session)
     (E : Enrolled) (judged : Judged) (edited sizes : List ℕ) (r : Option Penalty)
     (pairs : List Pair) → HadEnrolments store a b E → IsEditOf I E judged
     → IsFoldOf fold I judged.draft.now.timetable judged.new edited → edited ≡ judged.exams.items
@@ -454,8 +459,9 @@ pub told_after : {S : Type 0} (store : Ghosts S) (a b : Held S) (fold : Folded) 
     → pairs ≡ pairs_of_students E (students_of_exams E judged.exams.items)
     → (IsOfEdit fold E pairs sizes judged.draft.now.parts → r ≡ Some (track fold.instance E
     fold.later))
-    → Tells (track I E judged.new) (ok_or r BadSchema)
-told_after store a b fold I E judged edited sizes r pairs had of is same sized stands are scored =
+    → ReturnsValue (track I E judged.new) (ok_or r BadSchema)
+returned_after store a b fold I E judged edited sizes r pairs had of is same sized stands are
+    scored =
     let known = are_known store a b E had in
     let exams = judged.exams.items in
     let moved : IsPermutation (pairs_concerned E exams) pairs
@@ -467,7 +473,7 @@ told_after store a b fold I E judged edited sizes r pairs had of is same sized s
     (scored (edit_is fold I E judged.draft.now.timetable judged.new exams pairs sizes
     judged.draft.now.parts on known of.fits
     moved sized of.others of.scored)) in
-    subst (λ o. Tells (track I E judged.new) (ok_or o BadSchema)) (sym some) refl
+    subst (λ o. ReturnsValue (track I E judged.new) (ok_or o BadSchema)) (sym some) refl
 
 pub fold_of : (fold empty : Folded) (I : Session) (old new : Placing) (edited : List ℕ)
     → IsFoldOf fold empty.instance empty.earlier empty.later empty.edited

@@ -134,11 +134,11 @@ module _ (I : Session) (E : Enrolled) (rows : List DraftRow) (slots : List SlotR
 -- ---- faults
 
 -- only rows that are wrong are a wrong schema
-pub told : {X Q : Type 0} (r : Result X StoreFault) (fault : RecordFault)
+pub meaning : {X Q : Type 0} (r : Result X StoreFault) (fault : RecordFault)
     → IsErrAnd r (λ e. e ≡ store_fault fault) → (fault ≡ BadRows → Q)
     → IfErr r (λ e. e ≡ BadSchema → Q)
-told (Ok x) fault is h = tt
-told (Err e) fault is h = λ bad. h (named fault (sym is ∙ bad))
+meaning (Ok x) fault is h = tt
+meaning (Err e) fault is h = λ bad. h (named fault (sym is ∙ bad))
   where
     named : (fault : RecordFault) → store_fault fault ≡ BadSchema → fault ≡ BadRows
     named NoMemory e = absurd cc

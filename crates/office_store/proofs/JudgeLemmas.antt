@@ -14,7 +14,7 @@ use Rattle.office_records.specs.Memory.{memory_of}
 use Rattle.office_model.specs.declared.fault.StoreFault.TheVariants.{NoDraft}
 use Rattle.office_store.specs.Judging.{draft_judged}
 use Rattle.office_store.specs.Memory.{IsMemoryOf, draft_at}
-use Rattle.office_store.specs.Running.{Does}
+use Rattle.office_store.specs.Running.{CommandOutcome}
 use Rattle.office_store.specs.declared.memory.Draft.{Draft}
 use Rattle.office_store.specs.declared.memory.OfficeMemory.{OfficeMemory}
 use Rattle.office_store.proofs.StoredLemmas.{in_memory_shown, none_in_memory_shown}
@@ -40,8 +40,8 @@ judges d (Some r) s is =
 -- where a draft is shown, its breaches are these
 pub judged : (d : ℕ) (o : OfficeState) (I : Session) (E : Enrolled) (T : Placing) (P : Penalty)
     (found : List Breach) → memory_of o ≡ Some (I, E) → found ≡ breaches_of I E T
-    → Does (draft_shown d o) o (λ new. new ≡ o) (Ok (T, P))
-    → Does (draft_judged d o) o (λ new. new ≡ o) (Ok found)
+    → CommandOutcome (draft_shown d o) o (λ new. new ≡ o) (Ok (T, P))
+    → CommandOutcome (draft_judged d o) o (λ new. new ≡ o) (Ok found)
 judged d o I E T P found is same shown = (
   shown.0,
   judges d o (I, E) is ∙ ap (judgement (I, E)) shown.1
@@ -55,7 +55,7 @@ pub in_memory_judged : (m : OfficeMemory) (d : ℕ) (o : OfficeState) → IsMemo
     → (I : Session) (E : Enrolled) → m.kept ≡ Some (I, E) → (draft : Draft)
     → draft_at m.drafts d ≡ Some draft → (found : List Breach)
     → found ≡ breaches_of I E draft.timetable
-    → Does (draft_judged d o) o (λ new. new ≡ o) (Ok found)
+    → CommandOutcome (draft_judged d o) o (λ new. new ≡ o) (Ok found)
 in_memory_judged m d o is I E kept draft at found same =
     judged d o I E draft.timetable draft.parts found (is.session ∙ kept) same
     (in_memory_shown m d o is draft at draft.timetable refl)

@@ -22,8 +22,8 @@ use Rattle.office_model.specs.Office.{AreRecords, IsOffice, KeptBatch, OfficeSta
 use Rattle.office_records.specs.Representation.{TablesRepresentOffice, TablesRepresentRecords}
 use Rattle.office_records.specs.TableRows.{stored_batch}
 use Rattle.office_records.proofs.SameTables.{same_few}
-use Rattle.office_store.specs.NewBatches.{IsRowOf, answered_again}
-use Rattle.office_store.specs.Running.{Does}
+use Rattle.office_store.specs.NewBatches.{IsRowOf, first_counts}
+use Rattle.office_store.specs.Running.{CommandOutcome}
 
 -- a number that no batch has
 none_under : (number : ℕ) (b : KeptBatch) → b.no ≡ number → (kept : List KeptBatch)
@@ -91,11 +91,13 @@ no_row_of o number is = go (kept_in o number) is
 -- ---- a number that is kept
 
 again : (k : KeptBatch) (r : Records) (bytes : List ℕ)
-    → Does (unless (same_bytes k.bytes bytes) BatchDiffers >>= λ _. Ok (k.counts, Some r)) (Some r)
-    (λ new. new ≡ Some r) (answered_again (stored_batch k) bytes)
+    → CommandOutcome (unless (same_bytes k.bytes bytes) BatchDiffers >>= λ _. Ok (k.counts, Some r))
+    (Some r)
+    (λ new. new ≡ Some r) (first_counts (stored_batch k) bytes)
 again k r bytes =
     elim (same_bytes k.bytes bytes) as (λ b.
-    Does (unless b BatchDiffers >>= λ _. Ok (k.counts, Some r)) (Some r) (λ new. new ≡ Some r)
+    CommandOutcome (unless b BatchDiffers >>= λ _. Ok (k.counts, Some r)) (Some r)
+    (λ new. new ≡ Some r)
     (unless b BatchDiffers >>= λ _. Ok k.counts)) [
       | true ↦ (Some r, refl, refl)
       | false ↦ (refl, refl)
@@ -104,8 +106,8 @@ again k r bytes =
 -- it is answered as at first
 pub again_does : (o : OfficeState) (number : ℕ) (bytes : List ℕ) (changes : List Change)
     (row : BatchRow) → batch_in bytes ≡ Ok changes → IsRowOf (kept_in o number) (Some row)
-    → Does (batch_enrolled number bytes o) o (λ new. new ≡ o)
-    (answered_again (batch_from row) bytes)
+    → CommandOutcome (batch_enrolled number bytes o) o (λ new. new ≡ o)
+    (first_counts (batch_from row) bytes)
 again_does None number bytes changes row spelled is = absurd cc
 again_does (Some r) number bytes changes row spelled is = go
     (batch_numbered number r.batches) refl is
@@ -115,17 +117,18 @@ again_does (Some r) number bytes changes row spelled is = go
 
     go : (kept : Option KeptBatch) → batch_numbered number r.batches ≡ kept
         → IsRowOf kept (Some row)
-        → Does (batch_enrolled number bytes (Some r)) (Some r) (λ new. new ≡ Some r)
-        (answered_again (batch_from row) bytes)
+        → CommandOutcome (batch_enrolled number bytes (Some r)) (Some r) (λ new. new ≡ Some r)
+        (first_counts (batch_from row) bytes)
     go None there none = absurd cc
     go (Some k) there same =
         let row_is : stored_batch k ≡ batch_from row = sym (head_is same) in
         let gives : (unless (same_bytes k.bytes bytes) BatchDiffers >>= λ _. Ok (k.counts, Some r))
         ≡ batch_enrolled number bytes (Some r) = rw (spelled, there) refl in
-        subst (λ b. Does (batch_enrolled number bytes (Some r)) (Some r) (λ new. new ≡ Some r)
-        (answered_again b bytes)) row_is
-        (subst (λ (g : CommandResult Counts). Does g (Some r) (λ new. new ≡ Some r)
-        (answered_again (stored_batch k) bytes)) gives (again k r bytes))
+        subst (λ b. CommandOutcome (batch_enrolled number bytes (Some r)) (Some r)
+        (λ new. new ≡ Some r)
+        (first_counts b bytes)) row_is
+        (subst (λ (g : CommandResult Counts). CommandOutcome g (Some r) (λ new. new ≡ Some r)
+        (first_counts (stored_batch k) bytes)) gives (again k r bytes))
 
 -- ---- the bytes
 
@@ -140,14 +143,14 @@ twice true = refl
 twice false = refl
 
 -- what a test of two texts tells
-pub told_same : (xs bs ys : List ℕ) (other : Bool) → other ≡ not (pointwise nat_eq xs ys)
+pub returned_same : (xs bs ys : List ℕ) (other : Bool) → other ≡ not (pointwise nat_eq xs ys)
     → xs ≡ bs → same_bytes bs ys ≡ not other
-told_same xs bs ys other tested is =
+returned_same xs bs ys other tested is =
     sym (ap (λ l. same_bytes l ys) is) ∙ sym (bytes_same xs ys)
     ∙ sym (twice (pointwise nat_eq xs ys)) ∙ sym (ap not tested)
 
 pub answer_is : (b : Batch) (bytes : List ℕ) (same : Bool) → same_bytes b.bytes bytes ≡ same
-    → answered_again b bytes
+    → first_counts b bytes
     ≡ (unless same BatchDiffers >>= λ _.
     Ok (record { added = b.added; dropped = b.dropped; unchanged = b.unchanged }))
 answer_is b bytes same is =

@@ -20,9 +20,9 @@ use Rattle.office_model.specs.Office.{OfficeState}
 use Rattle.office_model.specs.declared.fault.StoreFault.{StoreFault}
 use Rattle.office_model.specs.declared.fault.StoreFault.TheVariants.{Store}
 use Rattle.office_records.specs.Representation.{RepresentsOffice}
-use Rattle.office_store.specs.FoldReads.{IsSame}
+use Rattle.office_store.specs.FoldReads.{RowsUnchanged}
 use Rattle.office_store.specs.Leaving.{HoldsNext, MayCommit, MayMake, found_in}
-use Rattle.office_store.specs.Running.{IsAtRest, IsAwake, IsStill}
+use Rattle.office_store.specs.Running.{MatchesMemory, IsCommitted, StateUnchanged}
 use Rattle.office_store.specs.Transactions.{Turned}
 use Rattle.office_store.specs.declared.memory.OfficeMemory.{OfficeMemory}
 use Rattle.office_store.proofs.CommandLemmas.{Moves}
@@ -64,7 +64,7 @@ SurvivesNext g command old new result =
     Survives (state g old) (state g new) (MayCommit command (state g old) result)
 
 next_before : {A : Type 0} (command : OfficeState → CommandResult A) (before mid : State)
-    → IsStill before mid → (found : Trees) → HoldsNext command mid found
+    → StateUnchanged before mid → (found : Trees) → HoldsNext command mid found
     → HoldsNext command before found
 next_before command before mid still found next =
     let was = still next.was_open in
@@ -82,7 +82,7 @@ next_before command before mid still found next =
 pub survives_next : {S A : Type 0} (g : Ghosts S) (command : OfficeState → CommandResult A)
     (before mid after : Held S) (result : Result A StoreFault)
     → Survives (state g before) (state g mid) (λ _. ⊥)
-    → (HasCleanDisk (state g mid) → IsStill (state g before) (state g mid))
+    → (HasCleanDisk (state g mid) → StateUnchanged (state g before) (state g mid))
     → (HasCleanDisk (state g after) → HasCleanDisk (state g mid))
     → SurvivesNext g command mid after result → SurvivesNext g command before after result
 survives_next g command before mid after result read still clean =
@@ -103,9 +103,9 @@ is_failed (Err e) is = is
 -- readers, and then a transaction that leads to the office after the command
 module _ {S A : Type 0} (g : Ghosts S) (command : OfficeState → CommandResult A)
     (before mid inside after : Held S) (m : OfficeMemory) (view : inside ≡ mid)
-    (rest : IsAtRest (state g inside) m)
-    (awake : HasCleanDisk (state g mid) → IsAwake (state g mid))
-    (still : HasCleanDisk (state g mid) → IsStill (state g before) (state g mid))
+    (rest : MatchesMemory (state g inside) m)
+    (all_committed : HasCleanDisk (state g mid) → IsCommitted (state g mid))
+    (still : HasCleanDisk (state g mid) → StateUnchanged (state g before) (state g mid))
     (read : Survives (state g before) (state g mid) (λ _. ⊥)) (f : Tables → Tables) (x : A)
     (put : Survives (state g inside) (state g after) (HoldsChanged f (state g inside)))
     (moves : HasCleanDisk (state g after) → (found : Trees)
@@ -116,8 +116,9 @@ module _ {S A : Type 0} (g : Ghosts S) (command : OfficeState → CommandResult 
   next_held after_clean found changed =
       let clean : HasCleanDisk (state g inside) = omega (arith, put.clean, after_clean) in
       let there = subst (λ h. HasCleanDisk (state g h)) view clean in
-      let was = still there (awake there).0 in
-      let stood = rest clean (subst (λ h. IsAwake (state g h)) (sym view) (awake there)).0 in
+      let was = still there (all_committed there).0 in
+      let stood = rest clean (subst (λ h. IsCommitted (state g h)) (sym view)
+      (all_committed there)).0 in
       let moved = moves after_clean found changed stood.0 stood.1 stood.2 in
       record {
         was_open = was.0;
@@ -140,7 +141,7 @@ module _ {S A : Type 0} (g : Ghosts S) (command : OfficeState → CommandResult 
 
 -- a transaction on what was read is one on what stood there before
 pub changed_on : {S : Type 0} (g : Ghosts S) (a b c : Held S)
-    → Survives (state g a) (state g b) (λ _. ⊥) → IsSame g a b
+    → Survives (state g a) (state g b) (λ _. ⊥) → RowsUnchanged g a b
     → (HasCleanDisk (state g a) → IsTrue (state g a).is_open) → (make : Tables → Tables)
     → Survives (state g b) (state g c) (HoldsChanged make (state g b))
     → Survives (state g a) (state g c) (HoldsChanged make (state g a))

@@ -26,7 +26,7 @@ use Rattle.office_model.specs.declared.fault.StoreFault.TheVariants.{Refused, To
 use Rattle.office_records.specs.Representation.{RepresentsOffice}
 use Rattle.office_records.specs.TableRows.{once}
 use Rattle.office_store.specs.Memory.{AreDraftRows, AreRescored, IsMemoryOf, draft_at, rescored, scored_by}
-use Rattle.office_store.specs.NewBatches.{AreAnew}
+use Rattle.office_store.specs.NewBatches.{AreDraftsWith}
 use Rattle.office_store.specs.Running.{IsFault}
 use Rattle.office_store.specs.declared.memory.Draft.{Draft}
 use Rattle.office_store.specs.declared.memory.OfficeMemory.{OfficeMemory}
@@ -118,7 +118,7 @@ rows_anew : (db : Database) (r : Records) (m : OfficeMemory) (F : Enrolled)
     (made : List (Option Draft)) (rows : List DraftRow) → RepresentsOffice db (Some r)
     → IsMemoryOf (Some r) m
     → length F ≡ length r.session.exams → AreRescored r.session F m.drafts made
-    → AreDraftRows made rows → AreAnew r F rows
+    → AreDraftRows made rows → AreDraftsWith r F rows
 rows_anew db r m F made rows kept is exams scored are = record {
   slots = kept.held.slot;
   are = record {
@@ -155,7 +155,7 @@ pub latest_drafts : (db : Database) (r : Records) (m : OfficeMemory) (I : Sessio
     → RepresentsOffice db (Some r) → IsMemoryOf (Some r) m → r.session ≡ I
     → IfSome made (λ F. length F ≡ length I.exams)
     → IfSome made (λ F. AreRescored I F m.drafts drafts) → AreDraftRows drafts rows
-    → made ≢ None → AreAnew r (latest made r.enrolments) rows
+    → made ≢ None → AreDraftsWith r (latest made r.enrolments) rows
 latest_drafts db r m I (Some F) drafts rows kept is same exams scored are some =
     rows_anew db r m F drafts rows kept is
     (subst (λ (J : Session). length F ≡ length J.exams) (sym same) exams)

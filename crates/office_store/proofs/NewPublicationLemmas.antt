@@ -27,7 +27,7 @@ use Rattle.office_records.specs.Memory.{memory_of}
 use Rattle.office_records.specs.Publications.{placed_rows}
 use Rattle.office_records.specs.PartShares.{HasFewParts}
 use Rattle.office_tables.specs.declared.placed.PlacedRow.{PlacedRow}
-use Rattle.office_store.specs.NewPublications.{ArePutIn, Publishes}
+use Rattle.office_store.specs.NewPublications.{AreInserted, Publishes}
 use Rattle.office_store.specs.Running.{IsFault}
 use Rattle.office_store.specs.declared.new_publication.NewPublication.{NewPublication}
 
@@ -121,7 +121,7 @@ module _ (d : ℕ) (r : Records) (I : Session) (E : Enrolled) (T : Placing)
       (result : Result NewPublication StoreFault) → publish_refusal I E T ≡ None
       → IsPermutation before (placed_rows r.published)
       → old ≡ publication_rows r.published → rows ≡ seat_rows (pairs_of E) T old
-      → penalty ≡ total_of (track I E T) → IfOk result (ArePutIn I T before old rows penalty)
+      → penalty ≡ total_of (track I E T) → IfOk result (AreInserted I T before old rows penalty)
       → IfErr result (λ e. e ≡ Store) → Publishes d r result
   publishes before old rows penalty (Ok new) permitted were was are costs put err = record {
     timetable = T;
@@ -130,15 +130,15 @@ module _ (d : ℕ) (r : Records) (I : Session) (E : Enrolled) (T : Placing)
         permitted;
     before = before;
     were = were;
-    put = subst (λ (p : Session × Enrolled). ArePutIn p.0 T before (publication_rows r.published)
+    put = subst (λ (p : Session × Enrolled). AreInserted p.0 T before (publication_rows r.published)
         (seat_rows (pairs_of p.1) T (publication_rows r.published))
         (total_of (track p.0 p.1 T)) new)
         (sym both)
-        (subst (λ n. ArePutIn I T before (publication_rows r.published)
+        (subst (λ n. AreInserted I T before (publication_rows r.published)
         (seat_rows (pairs_of E) T (publication_rows r.published)) n new) costs
-        (subst (λ l. ArePutIn I T before (publication_rows r.published) l penalty new)
+        (subst (λ l. AreInserted I T before (publication_rows r.published) l penalty new)
         (are ∙ ap (seat_rows (pairs_of E) T) was)
-        (subst (λ l. ArePutIn I T before l rows penalty new) was put)));
+        (subst (λ l. AreInserted I T before l rows penalty new) was put)));
   }
   publishes before old rows penalty (Err e) permitted were was are costs put err =
       subst (IsFault (draft_published d (Some r))) (sym err) tt

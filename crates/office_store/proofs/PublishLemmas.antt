@@ -57,11 +57,11 @@ use Rattle.office_records.proofs.RepublicationLemmas as republication
 use Rattle.office_store.specs.ChangedPlacements.{changed_rows, exams_of, placements_without}
 use Rattle.office_store.specs.PublicationChanges.{mark_put, meta_after, places_put}
 use Rattle.office_store.specs.PublicationChanges.{publication_put, shares_put}
-use Rattle.office_store.specs.NewPublications.{ArePutIn, IsPutIn, Publishes}
-use Rattle.office_store.specs.NewPublications.{PutsIn, mark_text}
+use Rattle.office_store.specs.NewPublications.{AreInserted, IsInserted, Publishes}
+use Rattle.office_store.specs.NewPublications.{InsertsOrRefuses, mark_text}
 use Rattle.office_store.specs.RowPuts.{place_gone, placement_put}
 use Rattle.office_store.specs.Memory.{IsMemoryOf, scored_draft}
-use Rattle.office_store.specs.Running.{IsAwake, IsStill}
+use Rattle.office_store.specs.Running.{IsCommitted, StateUnchanged}
 use Rattle.office_store.specs.declared.memory.OfficeMemory.{OfficeMemory}
 use Rattle.office_store.specs.declared.new_publication.NewPublication.{NewPublication}
 use Rattle.office_store.proofs.ChangedPlacementLemmas.{AreOwnExams, own_exams, stored_put}
@@ -197,7 +197,7 @@ module _ (gone : List DeleteStudentShare) (students : List InsertStudentShare)
 pub places_made : (new : NewPublication) (away : List DeletePlacement) (ps : List InsertPlacement)
     (gone : List DeleteStudentSeats) (ss : List InsertSeat)
     → away ≡ new.places_gone.items → ps ≡ new.placements.items
-    → gone ≡ new.seats_gone.items → ss ≡ new.seats.items → (t : Tables)
+    → gone ≡ new.deleted_seats.items → ss ≡ new.seats.items → (t : Tables)
     → seats_made gone ss (placements_made away ps (mark_put new.text t)) ≡ places_put new t
 places_made new away ps gone ss a b c d t =
     ap (seats_made gone ss) (placements_are away ps (mark_put new.text t))
@@ -212,7 +212,7 @@ places_made new away ps gone ss a b c d t =
 
 pub shares_made : (new : NewPublication) (gone : List DeleteStudentShare)
     (students : List InsertStudentShare) (parts : List InsertPartShare)
-    → gone ≡ new.shares_gone.items → students ≡ new.students.items → parts ≡ new.parts.items
+    → gone ≡ new.deleted_shares.items → students ≡ new.students.items → parts ≡ new.parts.items
     → (t : Tables)
     → parts_made gone students parts (students_made gone students parts t) ≡ shares_put new t
 shares_made new gone students parts a b c t =
@@ -283,7 +283,7 @@ module _ (r : Records) (T : Placing) (is : AreRecords r) (fits : Fits r.session 
 
   module _ (before : List PlacedRow) (were : IsPermutation before (placed_rows r.published))
       (penalty : ℕ) (new : NewPublication)
-      (put : ArePutIn r.session T before (publication_rows r.published) new_one.rows penalty new)
+      (put : AreInserted r.session T before (publication_rows r.published) new_one.rows penalty new)
       (t : Tables) where
     abbrev who : List ℕ
     who = changed_students (publication_rows r.published) new_one.rows
@@ -294,9 +294,9 @@ module _ (r : Records) (T : Placing) (is : AreRecords r) (fits : Fits r.session 
         let all = map stored_seat new_one.rows in
         IsPermutation-trans _ _ _
         (put_over (λ l. seat_rows_without l t.seat)
-        (map (λ (it : DeleteStudentSeats). it.student) new.seats_gone.items) who
+        (map (λ (it : DeleteStudentSeats). it.student) new.deleted_seats.items) who
         (map (λ (it : InsertSeat). it.row) new.seats.items) (seat_rows_of who all)
-        (ap (map (λ (it : DeleteStudentSeats). it.student)) put.seats_gone
+        (ap (map (λ (it : DeleteStudentSeats). it.student)) put.deleted_seats
         ∙ taken_back _ (λ (it : DeleteStudentSeats). it.student) (λ x. refl) who)
         (ap (map (λ (it : InsertSeat). it.row)) put.seats
         ∙ taken_back _ (λ (it : InsertSeat). it.row) (λ x. refl) (seat_rows_of who all)))
@@ -309,9 +309,9 @@ module _ (r : Records) (T : Placing) (is : AreRecords r) (fits : Fits r.session 
         let all = student_share_rows r.session (Some new_one) in
         IsPermutation-trans _ _ _
         (put_over (λ l. share_rows_without l t.share_student)
-        (map (λ (it : DeleteStudentShare). it.student) new.shares_gone.items) who
+        (map (λ (it : DeleteStudentShare). it.student) new.deleted_shares.items) who
         (map (λ (it : InsertStudentShare). it.row) new.students.items) (share_rows_of who all)
-        (ap (map (λ (it : DeleteStudentShare). it.student)) put.shares_gone
+        (ap (map (λ (it : DeleteStudentShare). it.student)) put.deleted_shares
         ∙ taken_back _ (λ (it : DeleteStudentShare). it.student) (λ x. refl) who)
         (ap (map (λ (it : InsertStudentShare). it.row)) put.students
         ∙ taken_back _ (λ (it : InsertStudentShare). it.row) (λ x. refl) (share_rows_of who all)))
@@ -350,7 +350,7 @@ module _ (r : Records) (T : Placing) (is : AreRecords r) (fits : Fits r.session 
   -- the database stands for the office with the publication
   published_kept : (a b : Database) (before : List PlacedRow)
       → IsPermutation before (placed_rows r.published) → (penalty : ℕ) (new : NewPublication)
-      → ArePutIn r.session T before (publication_rows r.published) new_one.rows penalty new
+      → AreInserted r.session T before (publication_rows r.published) new_one.rows penalty new
       → RepresentsOffice a (Some r) → ((t : Tables) → Stands a t → Stands b (publication_put new t))
       → RepresentsOffice b (Some (record r { published = Some new_one }))
   published_kept a b before were penalty new put kept makes = record {
@@ -379,7 +379,7 @@ publish_gives d r T there permitted = rw (there, permitted) refl
 
 -- what is put in for these records is put in for their office
 in_office : (d : ℕ) (r : Records) (result : Result NewPublication StoreFault)
-    → Publishes d r result → PutsIn d (Some r) result
+    → Publishes d r result → InsertsOrRefuses d (Some r) result
 in_office d r (Ok new) puts = record { records = r; is = refl; put = puts }
 in_office d r (Err fault) refused = refused
 
@@ -388,7 +388,7 @@ pub puts_in_memory : (m : OfficeMemory) (I : Session) (E : Enrolled) → m.kept 
     → (d : ℕ) (result : Result NewPublication StoreFault) (o : OfficeState) → IsMemoryOf o m
     → ((r : Records) → o ≡ Some r → memory_of (Some r) ≡ Some (I, E) → IsMemoryOf (Some r) m
     → Publishes d r result)
-    → PutsIn d o result
+    → InsertsOrRefuses d o result
 puts_in_memory m I E kept d result None is publishes =
     absurd (let none = is.session ∙ kept in cc)
 puts_in_memory m I E kept d result (Some r) is publishes =
@@ -411,10 +411,10 @@ module _ {S : Type 0} (g : Ghosts S) (first mid inside : Held S) (view : inside 
     (d : ℕ) where
   -- the transaction makes of the office what the command does
   pub publication_moves : (b : Database) (m : OfficeMemory) (new : NewPublication)
-      → (HasCleanDisk (state g mid) → IsStill (state g first) (state g mid))
-      → (HasCleanDisk (state g mid) → IsAwake (state g mid))
+      → (HasCleanDisk (state g mid) → StateUnchanged (state g first) (state g mid))
+      → (HasCleanDisk (state g mid) → IsCommitted (state g mid))
       → (HasCleanDisk (state g mid) → (o : OfficeState) → RepresentsOffice (state g first).now o
-      → IsPutIn d o new)
+      → IsInserted d o new)
       → HasCleanDisk (state g inside)
       → ((t : Tables) → Stands (state g inside).now t
       → Stands b (publication_put new t))
@@ -438,10 +438,10 @@ module _ {S : Type 0} (g : Ghosts S) (first mid inside : Held S) (view : inside 
       )
 
   pub publication_remembers : (m : OfficeMemory) (new : NewPublication)
-      → (HasCleanDisk (state g mid) → IsStill (state g first) (state g mid))
-      → (HasCleanDisk (state g mid) → IsAwake (state g mid))
+      → (HasCleanDisk (state g mid) → StateUnchanged (state g first) (state g mid))
+      → (HasCleanDisk (state g mid) → IsCommitted (state g mid))
       → (HasCleanDisk (state g mid) → (o : OfficeState) → RepresentsOffice (state g first).now o
-      → IsPutIn d o new)
+      → IsInserted d o new)
       → HasCleanDisk (state g inside)
       → Remembers (draft_published d) new.counts (state g inside).now m m
   publication_remembers m new still opened puts clean o kept is next gives =

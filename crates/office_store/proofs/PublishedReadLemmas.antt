@@ -40,7 +40,7 @@ use Rattle.office_store.specs.Publications.{AddUpIn, Shown, StoredAddUp, plain}
 use Rattle.office_store.specs.Publications.{publication_shown, shares_in, timetable_shown}
 use Rattle.office_store.specs.OfficeRows.{AreShareRowsOf, part_rows_in, published_in}
 use Rattle.office_store.specs.OfficeRows.{student_rows_in}
-use Rattle.office_store.specs.Running.{Shows, Tells}
+use Rattle.office_store.specs.Running.{QueryOutcome, ReturnsValue}
 use Rattle.office_store.proofs.RunLemmas.{kept_of, nothing_kept}
 
 -- ---- the rows of each table
@@ -81,42 +81,43 @@ part_shares_read t (Some r) rows stands sound p =
 -- the records of what is at hand, where the rows are theirs
 module _ (o : OfficeState) (I : Session) (E : Enrolled) (m : Memory)
     (kept_in : m ≡ Some (I, E)) where
-  pub published_told : (office : IsOffice o) → memory_of o ≡ m → (places : List PlacedRow)
+  pub published_returned : (office : IsOffice o) → memory_of o ≡ m → (places : List PlacedRow)
       (seats : List SeatRow) → RowsRepresentPublication places seats (published_in o)
       → (result : Result (Option Shown) StoreFault)
       → ((r : Records) → AreRecords r → r.session ≡ I
       → RowsRepresentPublication places seats r.published
-      → Tells (publication_shown (Some r)) result)
-      → Tells (publication_shown o) result
-  published_told office is places seats rows result told =
+      → ReturnsValue (publication_shown (Some r)) result)
+      → ReturnsValue (publication_shown o) result
+  published_returned office is places seats rows result meaning =
       let of = kept_of o I E (is ∙ kept_in) in
-      subst (λ o. Tells (publication_shown o) result) (sym of.is)
-      (told of.records (subst IsOffice of.is office) of.session
+      subst (λ o. ReturnsValue (publication_shown o) result) (sym of.is)
+      (meaning of.records (subst IsOffice of.is office) of.session
       (subst (λ o. RowsRepresentPublication places seats (published_in o)) of.is rows))
 
-  pub places_told : (office : IsOffice o) → memory_of o ≡ m → (places : List PlacedRow)
+  pub places_returned : (office : IsOffice o) → memory_of o ≡ m → (places : List PlacedRow)
       → IsPermutation places (placed_rows (published_in o))
       → (result : Result (Option Placing) StoreFault)
       → ((r : Records) → AreRecords r → r.session ≡ I
-      → IsPermutation places (placed_rows r.published) → Tells (timetable_shown (Some r)) result)
-      → Tells (timetable_shown o) result
-  places_told office is places rows result told =
+      → IsPermutation places (placed_rows r.published)
+      → ReturnsValue (timetable_shown (Some r)) result)
+      → ReturnsValue (timetable_shown o) result
+  places_returned office is places rows result meaning =
       let of = kept_of o I E (is ∙ kept_in) in
-      subst (λ o. Tells (timetable_shown o) result) (sym of.is)
-      (told of.records (subst IsOffice of.is office) of.session
+      subst (λ o. ReturnsValue (timetable_shown o) result) (sym of.is)
+      (meaning of.records (subst IsOffice of.is office) of.session
       (subst (λ o. IsPermutation places (placed_rows (published_in o))) of.is rows))
 
-  pub shares_told : (office : IsOffice o) → memory_of o ≡ m → (students : List StudentShareRow)
+  pub shares_returned : (office : IsOffice o) → memory_of o ≡ m → (students : List StudentShareRow)
       (parts : List PartShareRow) → AreShareRowsOf o students parts
       → (result : Result (Option Sharing) StoreFault)
       → ((r : Records) → AreRecords r → r.session ≡ I
-      → AreShared r.session r.published students parts → Tells (shares_in (Some r)) result)
-      → Tells (shares_in o) result
-  shares_told office is students parts rows result told =
+      → AreShared r.session r.published students parts → ReturnsValue (shares_in (Some r)) result)
+      → ReturnsValue (shares_in o) result
+  shares_returned office is students parts rows result meaning =
       let of = kept_of o I E (is ∙ kept_in) in
       let theirs = subst (λ o. AreShareRowsOf o students parts) of.is rows in
-      subst (λ o. Tells (shares_in o) result) (sym of.is)
-      (told of.records (subst IsOffice of.is office) of.session
+      subst (λ o. ReturnsValue (shares_in o) result) (sym of.is)
+      (meaning of.records (subst IsOffice of.is office) of.session
       (record { of_students = theirs.of_students; of_parts = theirs.of_parts }))
 
 -- where there is no session, nothing is published
@@ -189,12 +190,12 @@ found_shown r found is =
 module _ (I : Session) (places : List PlacedRow) (seats : List SeatRow) (mark : Bool)
     (marks : IsTrue mark ↔ (1 ≤ length places)) (r : Records) (is : AreRecords r)
     (same : r.session ≡ I) (rows : RowsRepresentPublication places seats r.published) where
-  pub told_found : (found : Option (Placing × Vec publish.SeatRow Global))
+  pub returned_found : (found : Option (Placing × Vec publish.SeatRow Global))
       → ((published : Option Publication) → ArePublicationRows mark places seats published
       → ArePublished I published → publication_from found ≡ published)
       → option_map (λ (p : Placing × Vec publish.SeatRow Global). (p.0, p.1.items)) found
       ≡ publication_shown (Some r)
-  told_found found only =
+  returned_found found only =
       found_shown r found
       (only r.published (marked_rows r is places seats rows mark marks)
       (subst (λ I. ArePublished I r.published) same
@@ -210,11 +211,12 @@ module _ (I : Session) (places : List PlacedRow) (seats : List SeatRow) (mark : 
       (are_published r.session r.published is.publication))
 
 -- a fault in rows that aren't bad is out of memory
-pub told_fault : {A : Type 0} (says : A) (result : Result A StoreFault) (fault : RecordFault)
-    → IsErrAnd result (λ e. e ≡ store_fault fault) → (fault ≡ BadRows → ⊥) → Tells says result
-told_fault says (Ok x) fault is good = absurd is
-told_fault says (Err e) NoMemory is good = is
-told_fault says (Err e) BadRows is good = absurd (good refl)
+pub returned_fault : {A : Type 0} (says : A) (result : Result A StoreFault) (fault : RecordFault)
+    → IsErrAnd result (λ e. e ≡ store_fault fault) → (fault ≡ BadRows → ⊥)
+    → ReturnsValue says result
+returned_fault says (Ok x) fault is good = absurd is
+returned_fault says (Err e) NoMemory is good = is
+returned_fault says (Err e) BadRows is good = absurd (good refl)
 
 pub plain_fault : {F : Type 0} (result : Result (Option (Placing × Vec publish.SeatRow Global)) F)
     (P : F → Type 0) → IsErrAnd result P → IsErrAnd (plain result) P
@@ -233,7 +235,7 @@ places_of r I same p is places rows =
 
 pub places_none : (r : Records) → AreRecords r → (places : List PlacedRow)
     → IsPermutation places (placed_rows r.published) → length places ≡ 0
-    → Tells (timetable_shown (Some r)) (Ok None)
+    → ReturnsValue (timetable_shown (Some r)) (Ok None)
 places_none r is places rows none = go r.published is.publication rows
   where
     go : (published : Option Publication)
@@ -251,7 +253,7 @@ places_none r is places rows none = go r.published is.publication rows
 pub places_some : (r : Records) (I : Session) → AreRecords r → r.session ≡ I
     → (places : List PlacedRow) → IsPermutation places (placed_rows r.published)
     → 1 ≤ length places → (T : Placing) → ArePlaces I places T
-    → Tells (timetable_shown (Some r)) (Ok (Some T))
+    → ReturnsValue (timetable_shown (Some r)) (Ok (Some T))
 places_some r I is same places rows some T found = go r.published is.publication rows
   where
     go : (published : Option Publication)
@@ -294,7 +296,7 @@ has_part I p known none =
 
 pub shares_none : (r : Records) → AreRecords r → (students : List StudentShareRow)
     (parts : List PartShareRow) → AreShared r.session r.published students parts
-    → length parts ≡ 0 → Tells (shares_in (Some r)) (Ok None)
+    → length parts ≡ 0 → ReturnsValue (shares_in (Some r)) (Ok None)
 shares_none r is students parts shared none = go r.published shared
   where
     go : (published : Option Publication) → AreShared r.session published students parts
@@ -310,11 +312,11 @@ pub shares_some : (r : Records) (I : Session) → AreRecords r → r.session ≡
     → AreShared r.session r.published students parts → 1 ≤ length parts → (shares : Sharing)
     → ((p : Publication) → AreShared I (Some p) students parts
     → shares ≡ shares_of I p.rows p.timetable)
-    → Tells (shares_in (Some r)) (Ok (Some shares))
+    → ReturnsValue (shares_in (Some r)) (Ok (Some shares))
 shares_some r I is same students parts shared some shares only =
     subst (λ I. AreShared I r.published students parts
     → Some shares ≡ option_map (λ (p : Publication). shares_of I p.rows p.timetable) r.published)
-    (sym same) (go r.published) shared ∙ told r.published
+    (sym same) (go r.published) shared ∙ meaning r.published
   where
     go : (published : Option Publication) → AreShared I published students parts
         → Some shares ≡ option_map (λ (p : Publication). shares_of I p.rows p.timetable) published
@@ -322,11 +324,11 @@ shares_some r I is same students parts shared some shares only =
         absurd (let long = length_permutation _ _ shared.of_parts in omega (arith, long, some))
     go (Some p) shared = ap Some (only p shared)
 
-    told : (published : Option Publication)
+    meaning : (published : Option Publication)
         → option_map (λ (p : Publication). shares_of r.session p.rows p.timetable) published
         ≡ shares_in (Some (record r { published = published }))
-    told None = refl
-    told (Some p) = refl
+    meaning None = refl
+    meaning (Some p) = refl
 
 -- an office whose rows of shares are some has published something
 pub shares_good : (r : Records) (I : Session) → AreRecords r → r.session ≡ I
@@ -388,7 +390,8 @@ stored_add_up d (Some r) kept = go r.published kept.office.publication kept.soun
 
 -- what is answered adds up
 pub adds_up_in : (o : OfficeState) (Stays : OfficeState → Type 0)
-    (result : Result (Option Sharing) StoreFault) → IsOffice o → Shows (shares_in o) o Stays result
+    (result : Result (Option Sharing) StoreFault) → IsOffice o
+    → QueryOutcome (shares_in o) o Stays result
     → IfOk result (AddUpIn o)
 adds_up_in o Stays (Ok shares) is shown = add_up o is shares shown.0
 adds_up_in o Stays (Err fault) is shown = tt

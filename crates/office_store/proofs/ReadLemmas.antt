@@ -16,7 +16,7 @@ use Rattle.office_model.specs.declared.fault.StoreFault.{StoreFault}
 use Rattle.office_model.specs.Commands.{CommandResult, session_shown}
 use Rattle.office_model.specs.DraftCommands.{draft_in}
 use Rattle.office_records.specs.Faults.{store_fault}
-use Rattle.office_store.specs.Running.{Does, IsFault}
+use Rattle.office_store.specs.Running.{CommandOutcome, IsFault}
 use Rattle.office_store.proofs.DraftLemmas.{some_is}
 
 -- the rows of its places that are read are those of its timetable
@@ -37,7 +37,7 @@ same_head x y e = cc
 -- a fault in rows that are those of an office is out of memory
 pub fault_of : {A : Type 0} (gives : CommandResult A) (o : OfficeState) (r : Result A StoreFault)
     (f : RecordFault) → IsErrAnd r (λ e. e ≡ store_fault f) → (f ≡ BadRows → ⊥)
-    → Does gives o (λ new. new ≡ o) r
+    → CommandOutcome gives o (λ new. new ≡ o) r
 fault_of gives o (Ok x) f is not_bad = absurd is
 fault_of gives o (Err e) NoMemory is not_bad =
     subst (λ e. IsFault gives e × (o ≡ o)) (sym is) (tt, refl)
@@ -46,15 +46,16 @@ fault_of gives o (Err e) BadRows is not_bad = absurd (not_bad refl)
 -- where the office stays, it stands after the call as before
 pub does_now : {A : Type 0} (gives : CommandResult A) (o : OfficeState)
     (Stays : OfficeState → Type 0)
-    (r : Result A StoreFault) → Does gives o (λ new. new ≡ o) r → Stays o → Does gives o Stays r
+    (r : Result A StoreFault) → CommandOutcome gives o (λ new. new ≡ o) r → Stays o
+    → CommandOutcome gives o Stays r
 does_now gives o Stays (Ok x) does here = (does.0, does.1, subst Stays (sym does.2) here)
 does_now gives o Stays (Err e) does here = (does.0, here)
 
 -- ---- the session
 
 -- what is at hand is what the office shows
-pub session_told : (o : OfficeState) (I : Session) (E : Enrolled) → memory_of o ≡ Some (I, E)
+pub session_returned : (o : OfficeState) (I : Session) (E : Enrolled) → memory_of o ≡ Some (I, E)
     → session_shown o ≡ Ok ((I, E), o)
-session_told None I E here = absurd cc
-session_told (Some r) I E here =
+session_returned None I E here = absurd cc
+session_returned (Some r) I E here =
     ap (λ (s : Session × Enrolled). Ok (s, Some r)) (some_is (r.session, r.enrolments) (I, E) here)

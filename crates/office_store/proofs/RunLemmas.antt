@@ -11,8 +11,8 @@ use Rattle.office_tables.specs.Tables.{Tables}
 use Rattle.office_tables.specs.Standing.{Stands}
 use Rattle.office_model.specs.Office.{OfficeState, Records}
 use Rattle.office_records.specs.Memory.{memory_of}
-use Rattle.office_store.specs.FoldReads.{HasRead, IsSame}
-use Rattle.office_store.specs.Running.{Now, IsAtRest, IsStill}
+use Rattle.office_store.specs.FoldReads.{HasRead, RowsUnchanged}
+use Rattle.office_store.specs.Running.{Represents, MatchesMemory, StateUnchanged}
 use Rattle.office_records.specs.Representation.{RepresentsOffice}
 use Rattle.office_tables.specs.Alterations.{Undone}
 use Rattle.office_store.specs.Memory.{IsMemoryOf}
@@ -21,41 +21,43 @@ use Rattle.office_store.proofs.InMemoryLemmas.{same_in_memory}
 
 -- ---- nothing has changed
 
-pub now_still : (a b : State) (o : OfficeState) → IsStill a b → Now a o → Now b o
+pub now_still : (a b : State) (o : OfficeState) → StateUnchanged a b → Represents a o
+    → Represents b o
 now_still a b o still now opened =
     let is = still opened in
     subst (λ db. RepresentsOffice db o) (sym is.1) (now is.0)
 
 -- one call behind another
-pub still_then : (a b c : State) → IsStill a b → IsStill b c → IsStill a c
+pub still_then : (a b c : State) → StateUnchanged a b → StateUnchanged b c → StateUnchanged a c
 still_then a b c first next opened =
     let late = next opened in
     let early = first late.0 in
     (early.0, late.1 ∙ early.1)
 
 pub rest_still : (a b : State) (m : OfficeMemory) → (HasCleanDisk b → HasCleanDisk a)
-    → (HasCleanDisk b → IsStill a b) → IsAtRest a m → IsAtRest b m
+    → (HasCleanDisk b → StateUnchanged a b) → MatchesMemory a m → MatchesMemory b m
 rest_still a b m clean still rest is_clean opened =
     let is = still is_clean opened in
     let here = rest (clean is_clean) is.0 in
     (here.0, subst (λ db. RepresentsOffice db here.0) (sym is.1) here.1, here.2)
 
 -- a reader that failed, where all that was written was committed
-pub still_kept : (a b : State) → (IsTrue a.is_open → a.now ≡ a.committed) → Keeps a b → IsStill a b
+pub still_kept : (a b : State) → (IsTrue a.is_open → a.now ≡ a.committed) → Keeps a b
+    → StateUnchanged a b
 still_kept a b settled kept opened =
     let was = kept.was_open opened in
     (was, elim (kept.now opened) [ inl same ↦ same | inr back ↦ back ∙ sym (settled was) ])
 
 -- a transaction that failed
 pub still_undone : (a b : State) → (IsTrue a.is_open → a.now ≡ a.committed)
-    → Undone a b → IsStill a b
+    → Undone a b → StateUnchanged a b
 still_undone a b settled undone opened =
     let was = undone.was_open opened in
     (was, undone.now opened ∙ sym (settled was))
 
 -- ---- what is in memory
 
-pub at_hand : (s : State) (m : OfficeMemory) (o : OfficeState) → IsAtRest s m → HasCleanDisk s
+pub at_hand : (s : State) (m : OfficeMemory) (o : OfficeState) → MatchesMemory s m → HasCleanDisk s
     → IsTrue s.is_open → RepresentsOffice s.now o → IsMemoryOf o m
 at_hand s m o rest clean opened kept =
     let here = rest clean opened in
@@ -88,18 +90,18 @@ kept_of (Some r) I E h = record {
 -- ---- a reader of one table, which opens no store
 
 -- all that was written had been committed
-module _ (a b : State) (m : OfficeMemory) (rest : IsAtRest a m)
+module _ (a b : State) (m : OfficeMemory) (rest : MatchesMemory a m)
     (clean : HasCleanDisk b → HasCleanDisk a)
     (settled : IsTrue a.is_open → a.now ≡ a.committed) where
   -- it leaves the tables, or what was committed
   module _ (was_open : HasCleanDisk b → IsTrue b.is_open → IsTrue a.is_open)
       (reads : HasCleanDisk b → (t : Tables) → Stands a.now t → Keeps a b) where
-    pub still_read : HasCleanDisk b → IsStill a b
+    pub still_read : HasCleanDisk b → StateUnchanged a b
     still_read is_clean opened =
         let here = rest (clean is_clean) (was_open is_clean opened) in
         still_kept a b settled (reads is_clean here.1.held here.1.tables) opened
 
-    pub rest_read : IsAtRest b m
+    pub rest_read : MatchesMemory b m
     rest_read = rest_still a b m clean still_read rest
 
   -- it has answered: what stands now stood before
@@ -113,12 +115,12 @@ module _ (a b : State) (m : OfficeMemory) (rest : IsAtRest a m)
 -- ---- readers that had answered, and then a transaction that failed
 
 module _ {S : Type 0} (g : Ghosts S) (a b c : Held S) (m : OfficeMemory)
-    (rest : IsAtRest (state g a) m)
+    (rest : MatchesMemory (state g a) m)
     (settled : IsTrue (state g a).is_open → (state g a).now ≡ (state g a).committed)
-    (read : HasRead g a b) (same : IsSame g a b)
+    (read : HasRead g a b) (same : RowsUnchanged g a b)
     (clean : HasCleanDisk (state g c) → HasCleanDisk (state g b))
     (undone : HasCleanDisk (state g c) → Undone (state g b) (state g c)) where
-  pub still_failed : HasCleanDisk (state g c) → IsStill (state g a) (state g c)
+  pub still_failed : HasCleanDisk (state g c) → StateUnchanged (state g a) (state g c)
   still_failed is_clean opened =
       let back = undone is_clean in
       let mid = clean is_clean in
@@ -128,12 +130,12 @@ module _ {S : Type 0} (g : Ghosts S) (a b c : Held S) (m : OfficeMemory)
       (was, back.now opened ∙ kept.0.committed_is ∙ sym (settled was))
 
   -- what is in memory is still the office's
-  pub rest_failed : IsAtRest (state g c) m
+  pub rest_failed : MatchesMemory (state g c) m
   rest_failed =
       rest_still (state g a) (state g c) m (λ k. read.clean (clean k)) still_failed rest
 
 -- what a transaction makes of what was read, it makes of what stood there before
-pub made_on : {S : Type 0} (g : Ghosts S) (a b : Held S) (c : Database) → IsSame g a b
+pub made_on : {S : Type 0} (g : Ghosts S) (a b : Held S) (c : Database) → RowsUnchanged g a b
     → HasCleanDisk (state g b) → IsTrue (state g a).is_open → (make : Tables → Tables)
     → ((t : Tables) → Stands (state g b).now t → Stands c (make t))
     → (t : Tables) → Stands (state g a).now t → Stands c (make t)

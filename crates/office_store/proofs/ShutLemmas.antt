@@ -13,7 +13,7 @@ use Rattle.sqlite.specs.declared.error.ErrorCode.TheVariants.{Closed}
 use Rattle.sqlite.specs.Outline.{Outline}
 use Rattle.sqlite.specs.State.{State, HasCleanDisk, HasCause, IsNoStatement, IsNotRun, IsUnchanged, store_error}
 use Rattle.office_model.specs.declared.fault.StoreFault.{StoreFault}
-use Rattle.office_store.specs.Running.{IsAwake, IsStill}
+use Rattle.office_store.specs.Running.{IsCommitted, StateUnchanged}
 use Rattle.office_store.specs.Shut.{IsShut}
 
 not_true : (b : Bool) → (IsTrue b → ⊥) → b ≡ false
@@ -54,24 +54,24 @@ module _ (a b : State) (settled : IsTrue a.is_open → a.now ≡ a.committed) (s
     (asked : Result Outline Error)
     (took : HasCleanDisk b → IfOk asked (λ s. (s.text ≡ sql) × IsUnchanged a b))
     (refused : HasCleanDisk b → IfErr asked (λ e. (params : Row) → IsNotRun a b sql params e)) where
-  still_not_run : (params : Row) (e : Error) → IsNotRun a b sql params e → IsStill a b
+  still_not_run : (params : Row) (e : Error) → IsNotRun a b sql params e → StateUnchanged a b
   unfolding IsNotRun
   still_not_run params e (inl h) opened = (h.1.0.was_open, h.1.0.now_is)
   still_not_run params e (inr h) opened =
       let was = h.3.was_open opened in (was, (h.3.undone opened).0 ∙ sym (settled was))
 
   still_by : (r : Result Outline Error) → IfOk r (λ s. (s.text ≡ sql) × IsUnchanged a b)
-      → IfErr r (λ e. (params : Row) → IsNotRun a b sql params e) → IsStill a b
+      → IfErr r (λ e. (params : Row) → IsNotRun a b sql params e) → StateUnchanged a b
   still_by (Ok s) x y opened = (x.1.0.was_open, x.1.0.now_is)
   still_by (Err e) x y opened = still_not_run [] e (y []) opened
 
   -- asking changes nothing
-  pub still_asked : HasCleanDisk b → IsStill a b
+  pub still_asked : HasCleanDisk b → StateUnchanged a b
   still_asked clean = still_by asked (took clean) (refused clean)
 
   -- a statement that was taken met an open store
   awake_by : (r : Result Outline Error) → IfOk r (λ s. (s.text ≡ sql) × IsUnchanged a b)
-      → None ≡ result_err r → IsAwake b
+      → None ≡ result_err r → IsCommitted b
   awake_by (Ok s) x is =
       (x.1.0.is_open, x.1.0.now_is ∙ settled x.1.0.was_open ∙ sym x.1.0.committed_is)
   awake_by (Err e) x is = absurd cc
@@ -85,9 +85,9 @@ module _ (a b : State) (settled : IsTrue a.is_open → a.now ≡ a.committed) (s
       some_is : {X : Type 0} {x y : X} → Some x ≡ Some y → x ≡ y
       some_is e = cc
 
-  pub told_shut : (x : Option Error) → x ≡ result_err asked → (t : Result Bool StoreFault)
+  pub returned_shut : (x : Option Error) → x ≡ result_err asked → (t : Result Bool StoreFault)
       → IfOk t (λ b. MatchBool b (x ≡ Some (SqliteFailure Closed)) (x ≡ None))
-      → HasCleanDisk b → IfOk t (λ shut. MatchBool shut (IsShut b) (IsAwake b))
-  told_shut x is (Err fault) h clean = tt
-  told_shut x is (Ok true) h clean = shut_because asked (refused clean) (sym h ∙ is)
-  told_shut x is (Ok false) h clean = awake_by asked (took clean) (sym h ∙ is)
+      → HasCleanDisk b → IfOk t (λ shut. MatchBool shut (IsShut b) (IsCommitted b))
+  returned_shut x is (Err fault) h clean = tt
+  returned_shut x is (Ok true) h clean = shut_because asked (refused clean) (sym h ∙ is)
+  returned_shut x is (Ok false) h clean = awake_by asked (took clean) (sym h ∙ is)

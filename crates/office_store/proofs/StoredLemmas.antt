@@ -11,7 +11,7 @@ use Rattle.office_model.specs.Office.{OfficeState, Records}
 use Rattle.office_model.specs.declared.fault.StoreFault.{StoreFault}
 use Rattle.office_store.specs.Memory.{IsMemoryOf, draft_at, scored_draft}
 use Rattle.office_store.specs.Pricing.{draft_priced}
-use Rattle.office_store.specs.Running.{Does}
+use Rattle.office_store.specs.Running.{CommandOutcome}
 use Rattle.office_store.specs.declared.memory.Draft.{Draft}
 use Rattle.office_store.specs.declared.memory.OfficeMemory.{OfficeMemory}
 use Rattle.office_store.proofs.EditCallLemmas.{there_of}
@@ -23,7 +23,7 @@ shown_so r d T is = rw is refl
 -- it is what is shown
 pub in_memory_shown : (m : OfficeMemory) (d : ℕ) (o : OfficeState) → IsMemoryOf o m
     → (draft : Draft) → draft_at m.drafts d ≡ Some draft → (T : Placing) → T ≡ draft.timetable
-    → Does (draft_shown d o) o (λ new. new ≡ o) (Ok (T, draft.parts))
+    → CommandOutcome (draft_shown d o) o (λ new. new ≡ o) (Ok (T, draft.parts))
 in_memory_shown m d None is draft at T same =
     absurd (let none = sym (is.drafts d) ∙ at in cc)
 in_memory_shown m d (Some r) is draft at T same =
@@ -65,7 +65,7 @@ priced shown = shown >>= λ found. Ok (found.0.1, found.1)
 
 pub in_memory_priced : (m : OfficeMemory) (d : ℕ) (o : OfficeState) → IsMemoryOf o m
     → (draft : Draft) → draft_at m.drafts d ≡ Some draft
-    → Does (draft_priced d o) o (λ new. new ≡ o) (Ok draft.parts)
+    → CommandOutcome (draft_priced d o) o (λ new. new ≡ o) (Ok draft.parts)
 in_memory_priced m d o is draft at =
     let shown = in_memory_shown m d o is draft at draft.timetable refl in (
       shown.0,

@@ -77,8 +77,8 @@ module _ (d : ℕ) (m n : OfficeMemory) (x : Option Draft) (together : IsTogethe
     drafts = λ I E kept e draft at. at_number put I E kept e (eqb e d) refl draft at;
   }
 
-  pub put_together : (d ≤ 8 → HasPut d x m n) → (8 < d → n ≡ m) → IsTogether n
-  put_together within beyond = go (nat_le d 8) refl
+  pub publication_writes : (d ≤ 8 → HasPut d x m n) → (8 < d → n ≡ m) → IsTogether n
+  publication_writes within beyond = go (nat_le d 8) refl
     where
       go : (b : Bool) → nat_le d 8 ≡ b → IsTogether n
       go true is = put_in (within (grind (arith, nat_tests, is)))
@@ -87,13 +87,13 @@ module _ (d : ℕ) (m n : OfficeMemory) (x : Option Draft) (together : IsTogethe
 -- a draft is gone
 pub none_together : (d : ℕ) (m n : OfficeMemory) → IsTogether m → (d ≤ 8 → HasPut d None m n)
     → (8 < d → n ≡ m) → IsTogether n
-none_together d m n together = put_together d m n None together (λ I E kept. tt)
+none_together d m n together = publication_writes d m n None together (λ I E kept. tt)
 
 -- a draft of the session
 pub draft_together : (d : ℕ) (m n : OfficeMemory) (draft : Draft) → IsTogether m
     → ((I : Session) (E : Enrolled) → m.kept ≡ Some (I, E) → Suits I draft.timetable)
     → (d ≤ 8 → HasPut d (Some draft) m n) → (8 < d → n ≡ m) → IsTogether n
-draft_together d m n draft together suits = put_together d m n (Some draft) together suits
+draft_together d m n draft together suits = publication_writes d m n (Some draft) together suits
 
 -- what fits these enrolments is a timetable of the session
 pub suits_of : (m : OfficeMemory) (I : Session) (E : Enrolled) (draft : Draft)

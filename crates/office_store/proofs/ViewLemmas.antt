@@ -32,7 +32,7 @@ use Rattle.office_records.specs.Publications.{placed_from, placed_row, placed_ro
 use Rattle.office_records.specs.Representation.{TablesRepresentOffice}
 use Rattle.office_records.specs.TableRows.{enrol_row, once}
 use Rattle.office_store.specs.OfficeRows.{published_in}
-use Rattle.office_store.specs.Viewing.{exams_in, her_row, place_in_row}
+use Rattle.office_store.specs.Viewing.{exams_in, candidate_enrol_row, place_in_row}
 use Rattle.std.specs.Prelude.{◌^◌, All}
 use Rattle.std.proofs.Common.{inl, inr}
 use Rattle.std.proofs.lemmas.List.Elements.{All-from_recursion, recursion_from_All}
@@ -64,11 +64,11 @@ use Rattle.office_records.proofs.SameTables.{same_few}
 use Rattle.office_records.proofs.ReadableLemmas.{are_numbered}
 use Rattle.office_store.specs.OfficeRows.{student_rows_in}
 use Rattle.office_store.specs.Judging.{listed}
-use Rattle.office_store.specs.Running.{Tells}
+use Rattle.office_store.specs.Running.{ReturnsValue}
 use Rattle.office_model.specs.declared.fault.StoreFault.{StoreFault}
 use Rattle.office_records.specs.Memory.{Memory, memory_of}
 use Rattle.office_store.proofs.RunLemmas.{nothing_kept}
-use Rattle.office_store.specs.Viewing.{AreHerRows, no_share, share_in_row}
+use Rattle.office_store.specs.Viewing.{AreCandidateRows, no_share, share_in_row}
 
 -- ---- a number in ascending numbers
 
@@ -166,38 +166,40 @@ sat_rise E c = subst (IsAscending (λ x y. x < y)) (sym (sat_is E c)) (exams_ris
 
 one_exam : (c k : ℕ) (ss : List ℕ)
     → filter (λ (r : EnrolRow). eqb r.student c) (map enrol_row (pairs_at k ss))
-    ≡ map (λ s. her_row s k) (filter (λ s. eqb s c) ss)
+    ≡ map (λ s. candidate_enrol_row s k) (filter (λ s. eqb s c) ss)
 one_exam c k [] = refl
 one_exam c k (s ∷ ss) = go (eqb s c) (one_exam c k ss)
   where
     go : (b : Bool)
         → filter (λ (r : EnrolRow). eqb r.student c) (map enrol_row (pairs_at k ss))
-        ≡ map (λ s. her_row s k) (filter (λ s. eqb s c) ss)
-        → cond b (her_row s k ∷ filter (λ (r : EnrolRow). eqb r.student c)
+        ≡ map (λ s. candidate_enrol_row s k) (filter (λ s. eqb s c) ss)
+        → cond b (candidate_enrol_row s k ∷ filter (λ (r : EnrolRow). eqb r.student c)
         (map enrol_row (pairs_at k ss)))
         (filter (λ (r : EnrolRow). eqb r.student c) (map enrol_row (pairs_at k ss)))
-        ≡ map (λ s. her_row s k) (cond b (s ∷ filter (λ s. eqb s c) ss) (filter (λ s. eqb s c) ss))
-    go true more = ap (λ l. her_row s k ∷ l) more
+        ≡ map (λ s. candidate_enrol_row s k)
+        (cond b (s ∷ filter (λ s. eqb s c) ss) (filter (λ s. eqb s c) ss))
+    go true more = ap (λ l. candidate_enrol_row s k ∷ l) more
     go false more = more
 
-once_row : (b : Bool) (c k : ℕ) → map (λ s. her_row s k) (once b c) ≡ map (her_row c) (once b k)
+once_row : (b : Bool) (c k : ℕ) → map (λ s. candidate_enrol_row s k) (once b c)
+    ≡ map (candidate_enrol_row c) (once b k)
 once_row true c k = refl
 once_row false c k = refl
 
-her_pairs : (k : ℕ) (E : Enrolled) (c : ℕ) → AllByRecursion (IsChain (λ x y. x < y)) E
+candidate_pairs : (k : ℕ) (E : Enrolled) (c : ℕ) → AllByRecursion (IsChain (λ x y. x < y)) E
     → filter (λ (r : EnrolRow). eqb r.student c) (map enrol_row (pairs_from k E))
-    ≡ map (her_row c) (exams_from k E c)
-her_pairs k [] c h = refl
-her_pairs k (ss ∷ E) c h =
-    let hers = filter (λ (r : EnrolRow). eqb r.student c) in
-    ap hers (map-append enrol_row (pairs_at k ss) (pairs_from (k + 1) E))
+    ≡ map (candidate_enrol_row c) (exams_from k E c)
+candidate_pairs k [] c h = refl
+candidate_pairs k (ss ∷ E) c h =
+    let own_rows = filter (λ (r : EnrolRow). eqb r.student c) in
+    ap own_rows (map-append enrol_row (pairs_at k ss) (pairs_from (k + 1) E))
     ∙ filter-append (λ (r : EnrolRow). eqb r.student c) (map enrol_row (pairs_at k ss))
     (map enrol_row (pairs_from (k + 1) E))
     ∙ ap₂ (λ a b. a ++ b)
-    (one_exam c k ss ∙ ap (map (λ s. her_row s k)) (found_once c ss h.0)
+    (one_exam c k ss ∙ ap (map (λ s. candidate_enrol_row s k)) (found_once c ss h.0)
     ∙ once_row (has_number ss c) c k)
-    (her_pairs (k + 1) E c h.1)
-    ∙ sym (map-append (her_row c) (once (has_number ss c) k) (exams_from (k + 1) E c))
+    (candidate_pairs (k + 1) E c h.1)
+    ∙ sym (map-append (candidate_enrol_row c) (once (has_number ss c) k) (exams_from (k + 1) E c))
 
 each_chain : (E : Enrolled) → ((e : ℕ) → e < length E → rising.IsAscending (students E e))
     → AllByRecursion (IsChain (λ x y. x < y)) E
@@ -208,16 +210,17 @@ each_chain (ss ∷ E) h = (
 )
 
 rows_rise : (c : ℕ) (es : List ℕ) → IsAscending (λ x y. x < y) es
-    → HerEnrolsRise (map (her_row c) es)
+    → HerEnrolsRise (map (candidate_enrol_row c) es)
 rows_rise c [] h = tt
 rows_rise c (e ∷ es) h = (each es h.0, rows_rise c es h.1)
   where
     each : (es : List ℕ) → AllByRecursion (λ y. e < y) es
-        → AllByRecursion (λ (b : EnrolRow). e < b.exam) (map (her_row c) es)
+        → AllByRecursion (λ (b : EnrolRow). e < b.exam) (map (candidate_enrol_row c) es)
     each [] a = tt
     each (y ∷ es) a = (a.0, each es a.1)
 
-pub exams_back : (c : ℕ) (es : List ℕ) → map (λ (r : EnrolRow). r.exam) (map (her_row c) es) ≡ es
+pub exams_back : (c : ℕ) (es : List ℕ) → map (λ (r : EnrolRow). r.exam)
+    (map (candidate_enrol_row c) es) ≡ es
 exams_back c [] = refl
 exams_back c (e ∷ es) = ap (λ l. e ∷ l) (exams_back c es)
 
@@ -226,23 +229,24 @@ abbrev row_pair : EnrolRow → Pair
 row_pair r = record { exam = r.exam; student = r.student }
 
 -- what is stored of her enrolments is that of her exams
-her_enrolments : (t : Tables) (r : Records) (c : ℕ) → TablesRepresentOffice t (Some r)
+candidate_enrolments : (t : Tables) (r : Records) (c : ℕ) → TablesRepresentOffice t (Some r)
     → AreRecords r
     → IsPermutation (filter (λ (x : EnrolRow). eqb x.student c) t.enrol)
-    (map (her_row c) (exams_sat r.enrolments c))
-her_enrolments t r c stands is =
+    (map (candidate_enrol_row c) (exams_sat r.enrolments c))
+candidate_enrolments t r c stands is =
     subst (IsPermutation (filter (λ (x : EnrolRow). eqb x.student c) t.enrol))
-    (her_pairs 0 r.enrolments c (each_chain r.enrolments is.enrolled.set.ascending)
-    ∙ ap (map (her_row c)) (sym (sat_is r.enrolments c)))
+    (candidate_pairs 0 r.enrolments c (each_chain r.enrolments is.enrolled.set.ascending)
+    ∙ ap (map (candidate_enrol_row c)) (sym (sat_is r.enrolments c)))
     (IsPermutation-filter (λ (x : EnrolRow). eqb x.student c) _ _ stands.enrol)
 
 pub rows_read : (t : Tables) (r : Records) (c : ℕ) (found : List EnrolRow)
     → TablesRepresentOffice t (Some r)
     → AreRecords r
     → IsInOrder HerEnrolsRise (filter (λ (x : EnrolRow). eqb x.student c) t.enrol) found
-    → found ≡ map (her_row c) (exams_sat r.enrolments c)
+    → found ≡ map (candidate_enrol_row c) (exams_sat r.enrolments c)
 rows_read t r c found stands is order =
-    order (map (her_row c) (exams_sat r.enrolments c)) (her_enrolments t r c stands is)
+    order (map (candidate_enrol_row c) (exams_sat r.enrolments c))
+    (candidate_enrolments t r c stands is)
     (rows_rise c (exams_sat r.enrolments c) (sat_rise r.enrolments c))
 
 pub enrols_read : (t : Tables) (o : OfficeState) (c : ℕ) (found : List EnrolRow)
@@ -270,9 +274,9 @@ own_pairs E c known =
     sym (pairs_back (filter (λ (p : Pair). eqb p.student c) (pairs_of E)))
     ∙ ap (map row_pair)
     (sym (filter-map (λ (x : EnrolRow). eqb x.student c) enrol_row (pairs_of E))
-    ∙ her_pairs 0 E c (each_chain E known.ascending)
-    ∙ ap (map (her_row c)) (sym (sat_is E c)))
-    ∙ map-map row_pair (her_row c) (exams_sat E c)
+    ∙ candidate_pairs 0 E c (each_chain E known.ascending)
+    ∙ ap (map (candidate_enrol_row c)) (sym (sat_is E c)))
+    ∙ map-map row_pair (candidate_enrol_row c) (exams_sat E c)
 
 -- ---- the rows of the places of exams
 
@@ -330,18 +334,19 @@ rows_of_exam (Some p) e =
 abbrev rows_for : Option Publication → List ℕ → List PlacedRow
 rows_for published es = flat_map (λ e. one_or_none (row_for published e)) es
 
-her_places : (t : Tables) (r : Records) (c : ℕ) → TablesRepresentOffice t (Some r) → AreRecords r
+candidate_places : (t : Tables) (r : Records) (c : ℕ) → TablesRepresentOffice t (Some r)
+    → AreRecords r
     → IsPermutation (placed_of c t) (rows_for r.published (exams_sat r.enrolments c))
-her_places t r c stands is =
+candidate_places t r c stands is =
     let by : EnrolRow → List PlacedRow =
     λ x. filter (λ (p : PlacedRow). eqb p.exam x.exam) t.placed in
     IsPermutation-trans _ _ _
-    (IsPermutation-flat_map by _ _ (her_enrolments t r c stands is))
+    (IsPermutation-flat_map by _ _ (candidate_enrolments t r c stands is))
     (subst (λ l. IsPermutation l (rows_for r.published (exams_sat r.enrolments c)))
-    (sym (flat_map-map by (her_row c) (exams_sat r.enrolments c)))
-    (IsPermutation-flat_map_each (λ e. by (her_row c e))
+    (sym (flat_map-map by (candidate_enrol_row c) (exams_sat r.enrolments c)))
+    (IsPermutation-flat_map_each (λ e. by (candidate_enrol_row c e))
     (λ e. one_or_none (row_for r.published e))
-    (λ e. subst (IsPermutation (by (her_row c e))) (rows_of_exam r.published e)
+    (λ e. subst (IsPermutation (by (candidate_enrol_row c e))) (rows_of_exam r.published e)
     (IsPermutation-filter (λ (p : PlacedRow). eqb p.exam e) _ _ stands.published.placed))
     (exams_sat r.enrolments c)))
 
@@ -391,16 +396,16 @@ places_read t None c found stands is order =
     (IsPermutation-refl [])) tt)
 places_read t (Some r) c found stands is order =
     ap (map place_in_row)
-    (order (rows_for r.published (exams_sat r.enrolments c)) (her_places t r c stands is)
+    (order (rows_for r.published (exams_sat r.enrolments c)) (candidate_places t r c stands is)
     (places_rise r.published (exams_sat r.enrolments c) (sat_rise r.enrolments c)))
     ∙ places_back r.published (exams_sat r.enrolments c)
 
 -- ---- her seats
 
-hers : (c : ℕ) (rows : List publish.SeatRow)
+own_rows : (c : ℕ) (rows : List publish.SeatRow)
     → AllByRecursion (λ (row : publish.SeatRow). row.student ≡ c) (rows_of c rows)
-hers c [] = tt
-hers c (row ∷ rows) = go (eqb row.student c) refl (hers c rows)
+own_rows c [] = tt
+own_rows c (row ∷ rows) = go (eqb row.student c) refl (own_rows c rows)
   where
     go : (b : Bool) → eqb row.student c ≡ b
         → AllByRecursion (λ (row : publish.SeatRow). row.student ≡ c) (rows_of c rows)
@@ -421,50 +426,50 @@ before_all c row (next ∷ rows) own all before =
     go (inl less) = less
     go (inr same) = absurd (let e = all.0 in let f = same.1 in omega (arith, e, f, own))
 
-her_rise : (c : ℕ) (rows : List publish.SeatRow) → IsChain RowBefore rows
+candidate_rise : (c : ℕ) (rows : List publish.SeatRow) → IsChain RowBefore rows
     → AllByRecursion (λ (row : publish.SeatRow). row.student ≡ c) rows
     → HerSeatsRise (map stored_seat rows)
-her_rise c [] order own = tt
-her_rise c (row ∷ rows) order own =
-    (before_all c row rows own.0 own.1 order.0, her_rise c rows order.1 own.1)
+candidate_rise c [] order own = tt
+candidate_rise c (row ∷ rows) order own =
+    (before_all c row rows own.0 own.1 order.0, candidate_rise c rows order.1 own.1)
 
-her_seats_rise : (r : Records) (c : ℕ) → AreRecords r → (published : Option Publication)
+candidate_seats_rise : (r : Records) (c : ℕ) → AreRecords r → (published : Option Publication)
     → r.published ≡ published → HerSeatsRise
     (map stored_seat (rows_of c (publication_rows published)))
-her_seats_rise r c is None e = tt
-her_seats_rise r c is (Some p) e =
-    her_rise c (rows_of c p.rows)
+candidate_seats_rise r c is None e = tt
+candidate_seats_rise r c is (Some p) e =
+    candidate_rise c (rows_of c p.rows)
     (chain_filter RowBefore (λ (row : publish.SeatRow). eqb row.student c) p.rows
     (chain_from_index RowBefore p.rows (is.publication p e).rows.in_order))
-    (hers c p.rows)
+    (own_rows c p.rows)
 
-pub her_seats_read : (t : Tables) (o : OfficeState) (c : ℕ) (found : List SeatRow)
+pub candidate_seats_read : (t : Tables) (o : OfficeState) (c : ℕ) (found : List SeatRow)
     → TablesRepresentOffice t o
     → IsOffice o
     → IsInOrder HerSeatsRise (filter (λ (x : SeatRow). eqb x.student c) t.seat) found
     → found ≡ map stored_seat (rows_of c (publication_rows (published_in o)))
-her_seats_read t None c found stands is order =
+candidate_seats_read t None c found stands is order =
     order [] (subst (λ (t : Tables).
     IsPermutation (filter (λ (x : SeatRow). eqb x.student c) t.seat) []) (sym stands)
     (IsPermutation-refl [])) tt
-her_seats_read t (Some r) c found stands is order =
+candidate_seats_read t (Some r) c found stands is order =
     order (map stored_seat (rows_of c (publication_rows r.published)))
     (subst (IsPermutation (filter (λ (x : SeatRow). eqb x.student c) t.seat))
     (filter-map (λ (x : SeatRow). eqb x.student c) stored_seat (publication_rows r.published))
     (IsPermutation-filter (λ (x : SeatRow). eqb x.student c) _ _ stands.published.seat))
-    (her_seats_rise r c is r.published refl)
+    (candidate_seats_rise r c is r.published refl)
 
 -- ---- her share
 
-pub her_shares_read : (t : Tables) (o : OfficeState) (c : ℕ) (found : List StudentShareRow)
+pub candidate_shares_read : (t : Tables) (o : OfficeState) (c : ℕ) (found : List StudentShareRow)
     → TablesRepresentOffice t o → IsSound t o
     → IsPermutation (filter (λ (x : StudentShareRow). eqb x.student c) t.share_student) found
     → IsPermutation (filter (λ (x : StudentShareRow). eqb x.student c) (student_rows_in o)) found
-her_shares_read t None c found stands sound p =
+candidate_shares_read t None c found stands sound p =
     subst (λ (t : Tables).
     IsPermutation (filter (λ (x : StudentShareRow). eqb x.student c) t.share_student) found) stands
     p
-her_shares_read t (Some r) c found stands sound p =
+candidate_shares_read t (Some r) c found stands sound p =
     IsPermutation-trans _ _ _
     (IsPermutation-filter (λ (x : StudentShareRow). eqb x.student c) _ _
     (IsPermutation-sym _ _ sound.shared.of_students)) p
@@ -496,9 +501,9 @@ module _ (I : Session) (p : Publication) (c : ℕ) where
   abbrev share_row : ℕ → StudentShareRow
   share_row s = student_share_row (s, share_at s)
 
-  hers_are : filter (λ (x : StudentShareRow). eqb x.student c) (student_share_rows I (Some p))
+  candidate_are : filter (λ (x : StudentShareRow). eqb x.student c) (student_share_rows I (Some p))
       ≡ map share_row (once (has_number (students_of p.rows) c) c)
-  hers_are =
+  candidate_are =
       ap (filter (λ (x : StudentShareRow). eqb x.student c))
       (map-map student_share_row (λ s. (s, share_at s)) (students_of p.rows))
       ∙ filter-map (λ (x : StudentShareRow). eqb x.student c) share_row (students_of p.rows)
@@ -527,12 +532,12 @@ module _ (I : Session) (p : Publication) (c : ℕ) where
       (all-filter (λ s. personal_total (share_at s) < 2 ^ 62) (λ s. eqb s c) (students_of p.rows)
       each)).0
 
-  her_share : AreSmall (shares_of I p.rows p.timetable) → (shares : List StudentShareRow)
+  own_share : AreSmall (shares_of I p.rows p.timetable) → (shares : List StudentShareRow)
       → IsPermutation (filter (λ (x : StudentShareRow). eqb x.student c)
       (student_share_rows I (Some p))) shares → IsHerShare shares (share_at c)
-  her_share small shares same =
+  own_share small shares same =
       go (has_number (students_of p.rows) c) refl
-      (subst (λ l. IsPermutation l shares) hers_are same)
+      (subst (λ l. IsPermutation l shares) candidate_are same)
     where
       go : (b : Bool) → has_number (students_of p.rows) c ≡ b
           → IsPermutation (map share_row (once b c)) shares → IsHerShare shares (share_at c)
@@ -551,12 +556,12 @@ small_shares_of r p is e =
     published_small r.session p.rows p.timetable (shares_of r.session p.rows p.timetable) is.session
     known.rows numbered (adds_up r.session p.rows p.timetable is.session known.rows numbered)
 
-pub her_share_in : (r : Records) (c : ℕ) → AreRecords r → (shares : List StudentShareRow)
+pub candidate_share_in : (r : Records) (c : ℕ) → AreRecords r → (shares : List StudentShareRow)
     → IsPermutation (filter (λ (x : StudentShareRow). eqb x.student c) (student_rows_in (Some r)))
     shares
     → IsHerShare shares
     (share_of r.session.periods r.session.weights (rows_of c (publication_rows r.published)))
-her_share_in r c is shares same = go r.published refl same
+candidate_share_in r c is shares same = go r.published refl same
   where
     go : (published : Option Publication) → r.published ≡ published
         → IsPermutation (filter (λ (x : StudentShareRow). eqb x.student c)
@@ -564,22 +569,22 @@ her_share_in r c is shares same = go r.published refl same
         → IsHerShare shares
         (share_of r.session.periods r.session.weights (rows_of c (publication_rows published)))
     go None e same = none (same_few [] shares (omega arith) same) refl
-    go (Some p) e same = her_share r.session p c (small_shares_of r p is e) shares same
+    go (Some p) e same = own_share r.session p c (small_shares_of r p is e) shares same
 
 -- in any office it is what her seats cost her
-pub her_share_of : (o : OfficeState) (c : ℕ) → IsOffice o → (shares : List StudentShareRow)
+pub candidate_share_of : (o : OfficeState) (c : ℕ) → IsOffice o → (shares : List StudentShareRow)
     → IsPermutation (filter (λ (x : StudentShareRow). eqb x.student c) (student_rows_in o)) shares
     → IsHerShare shares (shown_penalty (view_of c o))
-her_share_of None c is shares same = none (same_few [] shares (omega arith) same) refl
-her_share_of (Some r) c is shares same = her_share_in r c is shares same
+candidate_share_of None c is shares same = none (same_few [] shares (omega arith) same) refl
+candidate_share_of (Some r) c is shares same = candidate_share_in r c is shares same
 
 -- ---- what the rows show
 
 -- her rows are at the published places of their exams
-hers_placed : (r : Records) (c : ℕ) → AreRecords r
+candidate_placed : (r : Records) (c : ℕ) → AreRecords r
     → All (λ (row : publish.SeatRow). published_place r.published row.exam ≡ Some (row_place row))
     (rows_of c (publication_rows r.published))
-hers_placed r c is = go r.published is.publication
+candidate_placed r c is = go r.published is.publication
   where
     go : (published : Option Publication)
         → ((p : Publication) → published ≡ Some p → IsPublication r.session p)
@@ -591,9 +596,9 @@ hers_placed r c is = go r.published is.publication
         (all-filter (IsAtExam p.timetable) (λ (row : publish.SeatRow). eqb row.student c) p.rows
         (recursion_from_All (IsAtExam p.timetable) p.rows (each p refl).rows.at_exams))
 
-hers_numbered : (r : Records) (c : ℕ) → AreRecords r
+candidate_numbered : (r : Records) (c : ℕ) → AreRecords r
     → AreNumbered (rows_of c (publication_rows r.published))
-hers_numbered r c is = go r.published is.publication
+candidate_numbered r c is = go r.published is.publication
   where
     go : (published : Option Publication)
         → ((p : Publication) → published ≡ Some p → IsPublication r.session p)
@@ -608,14 +613,14 @@ hers_numbered r c is = go r.published is.publication
 
 module _ (r : Records) (I : Session) (c : ℕ) (is : AreRecords r) (same : r.session ≡ I)
     (enrols : List EnrolRow) (places : List PlacedRow) (seats : List SeatRow)
-    (hers : AreHerRows (Some r) c enrols places seats) where
-  abbrev her_seat_rows : List publish.SeatRow
-  her_seat_rows = rows_of c (publication_rows r.published)
+    (own_rows : AreCandidateRows (Some r) c enrols places seats) where
+  abbrev candidate_seat_rows : List publish.SeatRow
+  candidate_seat_rows = rows_of c (publication_rows r.published)
 
   -- no seat is beyond a limit
   pub not_bad : ((own : List publish.SeatRow) → AreNumbered own → map stored_seat own ≡ seats → ⊥)
       → ⊥
-  not_bad nobody = nobody her_seat_rows (hers_numbered r c is) (sym hers.of_seats)
+  not_bad nobody = nobody candidate_seat_rows (candidate_numbered r c is) (sym own_rows.of_seats)
 
   pub exams_shown : (enrolled : List ℕ) (at : List (ℕ × Place)) (own : List publish.SeatRow)
       (rows : List ViewRow)
@@ -625,15 +630,15 @@ module _ (r : Records) (I : Session) (c : ℕ) (is : AreRecords r) (same : r.ses
       → rows ≡ shown_exams (view_from I enrolled published own))
       → rows ≡ shown_exams (view_of c (Some r))
   exams_shown enrolled at own rows exams stands only shown =
-      let candidate_exams : enrolled ≡ exams_sat r.enrolments c = exams ∙ hers.of_enrols in
-      let her_places : at ≡ places_in r.published enrolled
-      = stands ∙ hers.of_places ∙ ap (places_in r.published) (sym candidate_exams) in
-      let own_is : own ≡ her_seat_rows = only her_seat_rows (sym hers.of_seats) in
+      let candidate_exams : enrolled ≡ exams_sat r.enrolments c = exams ∙ own_rows.of_enrols in
+      let candidate_places : at ≡ places_in r.published enrolled
+      = stands ∙ own_rows.of_places ∙ ap (places_in r.published) (sym candidate_exams) in
+      let own_is : own ≡ candidate_seat_rows = only candidate_seat_rows (sym own_rows.of_seats) in
       let published : AreOfPublication r.published enrolled at own = record {
-        places = her_places;
+        places = candidate_places;
         seats = subst (All (λ (row : publish.SeatRow).
             published_place r.published row.exam ≡ Some (row_place row))) (sym own_is)
-            (hers_placed r c is);
+            (candidate_placed r c is);
       } in
       shown r.published published
       ∙ (λ i. shown_exams (view_from (sym same i) (candidate_exams i) r.published (own_is i)))
@@ -641,36 +646,36 @@ module _ (r : Records) (I : Session) (c : ℕ) (is : AreRecords r) (same : r.ses
 -- ---- what is told
 
 -- her share is read of its row
-pub personal_told : (shares rows : List StudentShareRow) (share : PersonalPenalty)
+pub personal_returned : (shares rows : List StudentShareRow) (share : PersonalPenalty)
     (result : Result PersonalPenalty StoreFault) → rows ≡ shares → IsHerShare shares share
     → (rows ≡ [] → result ≡ Ok no_share)
     → ((row : StudentShareRow) → rows ≡ row ∷ [] → personal_total (share_in_row row) < 2 ^ 62
     → result ≡ Ok (share_in_row row))
     → result ≡ Ok share
-personal_told shares rows share result same (none empty is) nothing one_row =
+personal_returned shares rows share result same (none empty is) nothing one_row =
     nothing (same ∙ empty) ∙ ap Ok (sym is)
-personal_told shares rows share result same (one row alone is small) nothing one_row =
+personal_returned shares rows share result same (one row alone is small) nothing one_row =
     one_row row (same ∙ alone) (subst (λ p. personal_total p < 2 ^ 62) (sym is) small) ∙ ap Ok is
 
-pub penalty_told : (shares rows : List StudentShareRow) (share : PersonalPenalty)
+pub penalty_returned : (shares rows : List StudentShareRow) (share : PersonalPenalty)
     (result : Result PersonalPenalty StoreFault) → rows ≡ shares → IsHerShare shares share
     → (rows ≡ [] → result ≡ Ok no_share)
     → ((row : StudentShareRow) → rows ≡ row ∷ [] → personal_total (share_in_row row) < 2 ^ 62
     → result ≡ Ok (share_in_row row))
-    → Tells share result
-penalty_told shares rows share result same hers nothing one_row =
-    subst (Tells share)
-    (sym (personal_told shares rows share result same hers nothing one_row)) refl
+    → ReturnsValue share result
+penalty_returned shares rows share result same own_rows nothing one_row =
+    subst (ReturnsValue share)
+    (sym (personal_returned shares rows share result same own_rows nothing one_row)) refl
 
 -- what is told of these lists is told of equal ones
-pub told_of_same : (I : Session) (rows : List ViewRow) (enrolled exams : List ℕ)
+pub returned_of_same : (I : Session) (rows : List ViewRow) (enrolled exams : List ℕ)
     (at places : List (ℕ × Place)) (own seats : List publish.SeatRow)
     → enrolled ≡ exams → at ≡ places → own ≡ seats
     → ((published : Option Publication) → AreOfPublication published enrolled at own
     → rows ≡ shown_exams (view_from I enrolled published own))
     → (published : Option Publication) → AreOfPublication published exams places seats
     → rows ≡ shown_exams (view_from I exams published seats)
-told_of_same I rows enrolled exams at places own seats p q s told =
+returned_of_same I rows enrolled exams at places own seats p q s meaning =
     subst (λ (l : List publish.SeatRow). (published : Option Publication)
     → AreOfPublication published exams places l
     → rows ≡ shown_exams (view_from I exams published l)) s
@@ -678,31 +683,31 @@ told_of_same I rows enrolled exams at places own seats p q s told =
     → AreOfPublication published exams l own
     → rows ≡ shown_exams (view_from I exams published own)) q
     (subst (λ (l : List ℕ). (published : Option Publication) → AreOfPublication published l at own
-    → rows ≡ shown_exams (view_from I l published own)) p told))
+    → rows ≡ shown_exams (view_from I l published own)) p meaning))
 
 -- ---- the view of an office
 
 same_memory : {x y : Session × Enrolled} → Some x ≡ Some y → x ≡ y
 same_memory e = cc
 
-pub exams_told : (o : OfficeState) (I : Session) (E : Enrolled) (m : Memory) → m ≡ Some (I, E)
+pub exams_returned : (o : OfficeState) (I : Session) (E : Enrolled) (m : Memory) → m ≡ Some (I, E)
     → IsOffice o → memory_of o ≡ m → (c : ℕ) (enrols : List EnrolRow) (places : List PlacedRow)
-    (seats : List SeatRow) → AreHerRows o c enrols places seats
-    → (told : Result (List ViewRow) StoreFault)
+    (seats : List SeatRow) → AreCandidateRows o c enrols places seats
+    → (meaning : Result (List ViewRow) StoreFault)
     → ((r : Records) → AreRecords r → r.session ≡ I
-    → AreHerRows (Some r) c enrols places seats
-    → Tells (shown_exams (view_of c (Some r))) told)
-    → Tells (shown_exams (view_of c o)) told
-exams_told None I E m is office memory c enrols places seats rows told exams =
+    → AreCandidateRows (Some r) c enrols places seats
+    → ReturnsValue (shown_exams (view_of c (Some r))) meaning)
+    → ReturnsValue (shown_exams (view_of c o)) meaning
+exams_returned None I E m is office memory c enrols places seats rows meaning exams =
     absurd (let e = memory ∙ is in cc)
-exams_told (Some r) I E m is office memory c enrols places seats rows told exams =
+exams_returned (Some r) I E m is office memory c enrols places seats rows meaning exams =
     exams r office (ap (λ (kept : Session × Enrolled). kept.0) (same_memory (memory ∙ is))) rows
 
-pub nothing_told : (o : OfficeState) (m : Memory) → m ≡ None → memory_of o ≡ m → (c : ℕ)
-    (told : Result (List ViewRow) StoreFault) → Tells (shown_exams no_view) told
-    → Tells (shown_exams (view_of c o)) told
-nothing_told o m empty memory c told exams =
-    subst (λ (o : OfficeState). Tells (shown_exams (view_of c o)) told)
+pub nothing_returned : (o : OfficeState) (m : Memory) → m ≡ None → memory_of o ≡ m → (c : ℕ)
+    (meaning : Result (List ViewRow) StoreFault) → ReturnsValue (shown_exams no_view) meaning
+    → ReturnsValue (shown_exams (view_of c o)) meaning
+nothing_returned o m empty memory c meaning exams =
+    subst (λ (o : OfficeState). ReturnsValue (shown_exams (view_of c o)) meaning)
     (sym (nothing_kept o (memory ∙ empty))) exams
 
 -- a fault stays one where a list is told

@@ -19,8 +19,8 @@ pub record HasRead {S : Type 0} (store : Ghosts S) (old new : Held S) : Type 0 w
   pub mode : old.in_transaction ≡ false → new.in_transaction ≡ false
 
 -- over a clean disk, if the tables are an office's, everything is as it was
-abbrev pub IsSame : {S : Type 0} → Ghosts S → Held S → Held S → Type 0
-IsSame store old new =
+abbrev pub RowsUnchanged : {S : Type 0} → Ghosts S → Held S → Held S → Type 0
+RowsUnchanged store old new =
     HasCleanDisk (state store new) → (t : Tables) → Stands (state store old).now t
     → IsTrue (state store old).is_open → IsUnchanged (state store old) (state store new)
 

@@ -12,8 +12,8 @@ use Rattle.office_model.specs.Office.{OfficeState}
 use Rattle.office_model.specs.declared.fault.StoreFault.{StoreFault}
 use Rattle.office_model.specs.declared.fault.StoreFault.TheVariants.{Store}
 use Rattle.office_records.specs.Representation.{RepresentsOffice}
-use Rattle.office_store.specs.Opening.{IsTakenOver}
-use Rattle.office_store.specs.Running.{IsAwake}
+use Rattle.office_store.specs.Opening.{DatabaseUpgraded}
+use Rattle.office_store.specs.Running.{IsCommitted}
 
 -- the database of a file in which these trees are found, under the office's schema
 abbrev pub found_in : Trees → Database
@@ -42,7 +42,7 @@ MayCommit command old result found =
 -- that all is committed, and a later opening may find what it might have found before, or them
 pub record Leaves {A E : Type 0} (may : Trees → Type 0) (old new : State) (result : Result A E)
     : Type 0 where
-  pub awake : HasCleanDisk new → OnOk result (IsAwake new)
+  pub all_committed : HasCleanDisk new → OnOk result (IsCommitted new)
   pub survives : Survives old new may
 
 -- what a command leaves behind
@@ -70,7 +70,7 @@ abbrev pub MayMigrate : {S : Type 0} → State → Result (Held S) (StoreFault �
     → Type 0
 MayMigrate old result found =
     (old.now.schema ≡ schema_before) × IfErr result (λ refused. refused.0 ≡ Store)
-    × IsTakenOver old.now (found_in found)
+    × DatabaseUpgraded old.now (found_in found)
 
 -- what opening may commit: the tables without a session, or those of version 2
 abbrev pub MayOpen : {S : Type 0} → State → Result (Held S) (StoreFault × Held S) → Trees → Type 0

@@ -35,7 +35,7 @@ abbrev pub put_line : Change → PutLine
 put_line change = record { change = change }
 
 -- these rows are an office's drafts with other enrolments
-pub record AreAnew (r : Records) (E : Enrolled) (drafts : List DraftRow) : Type 0 where
+pub record AreDraftsWith (r : Records) (E : Enrolled) (drafts : List DraftRow) : Type 0 where
   pub slots : List SlotRow
   pub are : AreDrafts r.session E drafts slots r.draft
 
@@ -47,7 +47,7 @@ pub record IsNewFor (changes : List Change) (r : Records) (new : NewBatch) : Typ
   pub room : length r.batches < MAX_BATCHES
   pub lines : map (λ it. it.change) new.lines.items ≡ acting changes r.enrolments
   pub drafts : new.lines.items ≢ []
-      → AreAnew r (latest new.enrolments r.enrolments) (map (λ it. it.row) new.drafts.items)
+      → AreDraftsWith r (latest new.enrolments r.enrolments) (map (λ it. it.row) new.drafts.items)
 
 -- that, or the refusal of such a batch, whatever its number and its bytes
 abbrev pub Enrols : List Change → Records → Result NewBatch StoreFault → Type 0
@@ -73,7 +73,7 @@ new_batch_put number bytes new t =
     (stored_batch (record { no = number; bytes = bytes; counts = new.counts })) t
 
 -- a batch that is kept is answered as at first, if it has these bytes
-abbrev pub answered_again : Batch → List ℕ → Result Counts StoreFault
-answered_again b bytes = do
+abbrev pub first_counts : Batch → List ℕ → Result Counts StoreFault
+first_counts b bytes = do
   _ ← unless (same_bytes b.bytes bytes) BatchDiffers
   Ok (record { added = b.added; dropped = b.dropped; unchanged = b.unchanged })

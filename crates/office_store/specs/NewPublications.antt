@@ -22,7 +22,7 @@ use Rattle.office_records.specs.TableRows.{session_text}
 use Rattle.office_store.specs.ChangedPlacements.{changed_rows}
 use Rattle.office_store.specs.Running.{IsFault}
 use Rattle.office_store.specs.declared.new_publication.NewPublication.{NewPublication}
-use Rattle.office_store.specs.RowPuts.{place_gone, placement_put, her_seats_gone, seat_put, share_gone, student_share_put, part_share_put}
+use Rattle.office_store.specs.RowPuts.{place_gone, placement_put, deleted_candidate_seats, seat_put, deleted_share, student_share_put, part_share_put}
 
 -- ---- a publication that is put in
 
@@ -34,15 +34,17 @@ mark_text I (row ∷ before) = None
 -- this timetable in place of the placements before, of which only those that differ go and come; of
 -- the candidates' seats and shares only those whose seats differ, which go and come; and what is
 -- answered
-pub record ArePutIn (I : Session) (T : Placing) (before : List PlacedRow) (old rows : List SeatRow)
+pub record AreInserted (I : Session) (T : Placing) (before : List PlacedRow)
+    (old rows : List SeatRow)
     (penalty : ℕ) (new : NewPublication) : Type 0 where
   pub text : option_map (λ text. text.items) new.text ≡ mark_text I before
   pub places_gone : new.places_gone.items ≡ map place_gone (changed_rows before (placed_from 0 T))
   pub placements : new.placements.items ≡ map placement_put (changed_rows (placed_from 0 T) before)
-  pub seats_gone : new.seats_gone.items ≡ map her_seats_gone (changed_students old rows)
+  pub deleted_seats : new.deleted_seats.items
+      ≡ map deleted_candidate_seats (changed_students old rows)
   pub seats : new.seats.items
       ≡ map seat_put (seat_rows_of (changed_students old rows) (map stored_seat rows))
-  pub shares_gone : new.shares_gone.items ≡ map share_gone (changed_students old rows)
+  pub deleted_shares : new.deleted_shares.items ≡ map deleted_share (changed_students old rows)
   pub students : new.students.items ≡ map student_share_put
       (share_rows_of (changed_students old rows) (map student_share_row (student_shares I rows)))
   pub parts : new.parts.items ≡ map part_share_put (part_rows (shares_of I rows T))
@@ -57,27 +59,27 @@ pub record AreSmallShares (new : NewPublication) : Type 0 where
 -- ---- by an office's records
 
 -- what the command puts in, of a draft that fits and may be published
-pub record IsPutInFor (d : ℕ) (r : Records) (new : NewPublication) : Type 0 where
+pub record IsInsertedFor (d : ℕ) (r : Records) (new : NewPublication) : Type 0 where
   pub timetable : Placing
   pub draft : r.draft d ≡ Some timetable
   pub permitted : publish_refusal r.session r.enrolments timetable ≡ None
   pub before : List PlacedRow
   pub were : IsPermutation before (placed_rows r.published)
-  pub put : ArePutIn r.session timetable before (publication_rows r.published)
+  pub put : AreInserted r.session timetable before (publication_rows r.published)
       (published_as r timetable).rows (live_penalty r timetable) new
 
 -- that, or the command's own refusal
 abbrev pub Publishes : ℕ → Records → Result NewPublication StoreFault → Type 0
-Publishes d r (Ok new) = IsPutInFor d r new
+Publishes d r (Ok new) = IsInsertedFor d r new
 Publishes d r (Err fault) = IsFault (draft_published d (Some r)) fault
 
 -- what the command puts in of an office
-pub record IsPutIn (d : ℕ) (office : OfficeState) (new : NewPublication) : Type 0 where
+pub record IsInserted (d : ℕ) (office : OfficeState) (new : NewPublication) : Type 0 where
   pub records : Records
   pub is : office ≡ Some records
-  pub put : IsPutInFor d records new
+  pub put : IsInsertedFor d records new
 
 -- that, or the command's own refusal
-abbrev pub PutsIn : ℕ → OfficeState → Result NewPublication StoreFault → Type 0
-PutsIn d office (Ok new) = IsPutIn d office new
-PutsIn d office (Err fault) = IsFault (draft_published d office) fault
+abbrev pub InsertsOrRefuses : ℕ → OfficeState → Result NewPublication StoreFault → Type 0
+InsertsOrRefuses d office (Ok new) = IsInserted d office new
+InsertsOrRefuses d office (Err fault) = IsFault (draft_published d office) fault

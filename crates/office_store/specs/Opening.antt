@@ -43,7 +43,7 @@ pub record IsFoundOffice (db : Database) (found : Found) (memory : OfficeMemory)
   pub in_memory : IsMemoryOf office memory
 
 -- a database represented an office, and the other represents it in version 2
-pub record IsTakenOver (old new : Database) : Type 0 where
+pub record DatabaseUpgraded (old new : Database) : Type 0 where
   pub office : OfficeState
   pub stood : HoldsOffice old office
   pub stands : (there : OfficeState) → HoldsOffice old there → RepresentsOffice new there

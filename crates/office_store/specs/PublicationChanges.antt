@@ -24,14 +24,14 @@ places_put new t = record t {
   placed = reverse (map (λ it. it.row) new.placements.items)
       ++ placements_without (map (λ it. it.exam) new.places_gone.items) t.placed;
   seat = reverse (map (λ it. it.row) new.seats.items)
-      ++ seat_rows_without (map (λ it. it.student) new.seats_gone.items) t.seat;
+      ++ seat_rows_without (map (λ it. it.student) new.deleted_seats.items) t.seat;
 }
 
 -- of the candidates' shares some go and some come; all of exams, periods and rooms are put in again
 abbrev pub shares_put : NewPublication → Tables → Tables
 shares_put new t = record t {
   share_student = reverse (map (λ it. it.row) new.students.items)
-      ++ share_rows_without (map (λ it. it.student) new.shares_gone.items) t.share_student;
+      ++ share_rows_without (map (λ it. it.student) new.deleted_shares.items) t.share_student;
   share_part = reverse (map (λ it. it.row) new.parts.items);
 }
 

@@ -21,16 +21,16 @@ abbrev pub placement_put : PlacedRow → InsertPlacement
 placement_put row = record { row = row }
 
 -- a candidate's seats are taken out
-abbrev pub her_seats_gone : ℕ → DeleteStudentSeats
-her_seats_gone student = record { student = student }
+abbrev pub deleted_candidate_seats : ℕ → DeleteStudentSeats
+deleted_candidate_seats student = record { student = student }
 
 -- the row of a seat is put in
 abbrev pub seat_put : stored.SeatRow → InsertSeat
 seat_put row = record { row = row }
 
 -- a candidate's share is taken out
-abbrev pub share_gone : ℕ → DeleteStudentShare
-share_gone student = record { student = student }
+abbrev pub deleted_share : ℕ → DeleteStudentShare
+deleted_share student = record { student = student }
 
 -- the row of a candidate's share is put in
 abbrev pub student_share_put : StudentShareRow → InsertStudentShare

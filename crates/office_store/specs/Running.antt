@@ -12,8 +12,8 @@ use Rattle.office_store.specs.Memory.{IsMemoryOf}
 use Rattle.office_store.specs.declared.memory.OfficeMemory.{OfficeMemory}
 
 -- while the store is open, its tables represent this office
-abbrev pub Now : State → OfficeState → Type 0
-Now s office = IsTrue s.is_open → RepresentsOffice s.now office
+abbrev pub Represents : State → OfficeState → Type 0
+Represents s office = IsTrue s.is_open → RepresentsOffice s.now office
 
 -- the command's own refusal, or a failed statement; an honest store never answers BadSchema
 abbrev pub IsFault : {A : Type 0} → CommandResult A → StoreFault → Type 0
@@ -23,55 +23,57 @@ IsFault gives fault = gives ≡ Err fault
 
 -- it gave what the command gives and the tables represent that office, or it was refused and they
 -- represent the old one
-abbrev pub Does : {A : Type 0} → CommandResult A → OfficeState → (OfficeState → Type 0)
+abbrev pub CommandOutcome : {A : Type 0} → CommandResult A → OfficeState → (OfficeState → Type 0)
     → Result A StoreFault → Type 0
-Does gives old Stays (Ok x) = (new : OfficeState) × (gives ≡ Ok (x, new)) × Stays new
-Does gives old Stays (Err fault) = IsFault gives fault × Stays old
+CommandOutcome gives old Stays (Ok x) = (new : OfficeState) × (gives ≡ Ok (x, new)) × Stays new
+CommandOutcome gives old Stays (Err fault) = IsFault gives fault × Stays old
 
 -- a changing command, over a disk that returns what was written
-abbrev pub Runs : {S A : Type 0} → Ghosts S → (OfficeState → CommandResult A) → Held S → Held S
+abbrev pub CommandRan : {S A : Type 0} → Ghosts S → (OfficeState → CommandResult A) → Held S
+    → Held S
     → Result A StoreFault → Type 0
-Runs store command old new result =
-    HasCleanDisk (state store new) → (office : OfficeState) → Now (state store old) office
-    → Does (command office) office (Now (state store new)) result
+CommandRan store command old new result =
+    HasCleanDisk (state store new) → (office : OfficeState) → Represents (state store old) office
+    → CommandOutcome (command office) office (Represents (state store new)) result
 
 -- the answer is what the office says, or a statement failed
-abbrev pub Tells : {A : Type 0} → A → Result A StoreFault → Type 0
-Tells says (Ok x) = x ≡ says
-Tells says (Err fault) = fault ≡ Store
+abbrev pub ReturnsValue : {A : Type 0} → A → Result A StoreFault → Type 0
+ReturnsValue says (Ok x) = x ≡ says
+ReturnsValue says (Err fault) = fault ≡ Store
 
 -- a call that only reads answers what the office says, or a statement failed; the office stays
-abbrev pub Shows : {A : Type 0} → A → OfficeState → (OfficeState → Type 0)
+abbrev pub QueryOutcome : {A : Type 0} → A → OfficeState → (OfficeState → Type 0)
     → Result A StoreFault → Type 0
-Shows says office Stays (Ok x) = (x ≡ says) × Stays office
-Shows says office Stays (Err fault) = (fault ≡ Store) × Stays office
+QueryOutcome says office Stays (Ok x) = (x ≡ says) × Stays office
+QueryOutcome says office Stays (Err fault) = (fault ≡ Store) × Stays office
 
 -- the same, over a disk that returns what was written
-abbrev pub ReadsOffice : {S A : Type 0} → Ghosts S → (OfficeState → A) → Held S → Held S
+abbrev pub QueryReturned : {S A : Type 0} → Ghosts S → (OfficeState → A) → Held S → Held S
     → Result A StoreFault → Type 0
-ReadsOffice store says old new result =
-    HasCleanDisk (state store new) → (office : OfficeState) → Now (state store old) office
-    → Shows (says office) office (Now (state store new)) result
+QueryReturned store says old new result =
+    HasCleanDisk (state store new) → (office : OfficeState) → Represents (state store old) office
+    → QueryOutcome (says office) office (Represents (state store new)) result
 
 -- ---- what is kept in memory
 
 -- over a clean disk, while it is open, the file represents an office of which this is in memory
-abbrev pub IsAtRest : State → OfficeMemory → Type 0
-IsAtRest s memory =
+abbrev pub MatchesMemory : State → OfficeMemory → Type 0
+MatchesMemory s memory =
     HasCleanDisk s → IsTrue s.is_open
     → (office : OfficeState) × RepresentsOffice s.now office × IsMemoryOf office memory
 
 -- ---- a look at the file
 
 -- nothing has changed
-abbrev pub IsStill : State → State → Type 0
-IsStill old new = IsTrue new.is_open → IsTrue old.is_open × (new.now ≡ old.now)
+abbrev pub StateUnchanged : State → State → Type 0
+StateUnchanged old new = IsTrue new.is_open → IsTrue old.is_open × (new.now ≡ old.now)
 
 -- over a disk that returns what was written, a refusal has changed nothing
 abbrev pub StaysOnErr : {S A : Type 0} → Ghosts S → Held S → Held S → Result A StoreFault → Type 0
 StaysOnErr store old new result =
-    HasCleanDisk (state store new) → OnErr result (IsStill (state store old) (state store new))
+    HasCleanDisk (state store new) → OnErr result
+    (StateUnchanged (state store old) (state store new))
 
 -- it is open, and all that was written is committed
-abbrev pub IsAwake : State → Type 0
-IsAwake s = IsTrue s.is_open × (s.now ≡ s.committed)
+abbrev pub IsCommitted : State → Type 0
+IsCommitted s = IsTrue s.is_open × (s.now ≡ s.committed)

@@ -20,8 +20,8 @@ exams_in c None = []
 exams_in c (Some r) = exams_sat r.enrolments c
 
 -- the row of her enrolment in an exam
-abbrev pub her_row : ℕ → ℕ → EnrolRow
-her_row c e = record { student = c; exam = e }
+abbrev pub candidate_enrol_row : ℕ → ℕ → EnrolRow
+candidate_enrol_row c e = record { student = c; exam = e }
 
 -- an exam beside its place
 abbrev pub place_in_row : PlacedRow → ℕ × Place
@@ -41,7 +41,7 @@ abbrev pub no_share : PersonalPenalty
 no_share = record { row = 0; day = 0; spread = 0; night = 0 }
 
 -- her enrolments and the published places of these exams, and her seats
-pub record AreHerRows (office : OfficeState) (c : ℕ) (enrols : List EnrolRow)
+pub record AreCandidateRows (office : OfficeState) (c : ℕ) (enrols : List EnrolRow)
     (places : List PlacedRow) (seats : List SeatRow) : Type 0 where
   pub of_enrols : map (λ row. row.exam) enrols ≡ exams_in c office
   pub of_places : map place_in_row places ≡ places_in (published_in office) (exams_in c office)

@@ -12,8 +12,8 @@ ghost use Rattle.office_model.specs.Office.{OfficeState};
 ghost use Rattle.office_store.specs.Faults.{IsOfDatabase};
 ghost use Rattle.office_store.specs.Leaving.{Leaves, MayMigrate, connection_of, found_in};
 ghost use Rattle.office_store.specs.Memory.{IsTogether};
-ghost use Rattle.office_store.specs.Opening.{HoldsOffice, IsFoundOffice, IsTakenOver, WeighsNoNight};
-ghost use Rattle.office_store.specs.Running.{IsAwake};
+ghost use Rattle.office_store.specs.Opening.{HoldsOffice, IsFoundOffice, DatabaseUpgraded, WeighsNoNight};
+ghost use Rattle.office_store.specs.Running.{IsCommitted};
 
 use crate::fault::Failed;
 use crate::found_drafts::drafts_found;
@@ -39,7 +39,7 @@ impl<S: Alter> Office<S> {
     ) -> Result<Office<S>, (StoreFault, Connection<S>)>
         // The tables represented an office, and now they represent it in version 2.
         ensures adopted { IfOk result (λ office. HasCleanDisk (state S.Store office)
-            → IsTakenOver (state S.Store conn).now (state S.Store office).now) }
+            → DatabaseUpgraded (state S.Store conn).now (state S.Store office).now) }
         // In version 2 nothing has changed.
         ensures same { IfOk result (λ office. HasCleanDisk (state S.Store office)
             → (state S.Store conn).now.schema ≡ office_schema
@@ -134,8 +134,9 @@ fn bring_up<S: Alter>(conn: &mut Connection<S>, found: &Found) -> Result<(), Fai
         → StandsIn found.now.version (state S.Store conn.old).now (tables_of found.now batches)
         → OnOk result (Stands (state S.Store conn.new).now (tables_of found.now batches)) }
     ensures same { found.now.version ≡ Version.Two → OnOk result (conn.new ≡ conn.old) }
-    ensures awake { HasCleanDisk (state S.Store conn.new) → IsAwake (state S.Store conn.old)
-        → OnOk result (IsAwake (state S.Store conn.new)) }
+    ensures all_committed { HasCleanDisk (state S.Store conn.new)
+        → IsCommitted (state S.Store conn.old)
+        → OnOk result (IsCommitted (state S.Store conn.new)) }
     ensures undone { HasCleanDisk (state S.Store conn.new)
         → OnErr result (Undone (state S.Store conn.old) (state S.Store conn.new)) }
     ensures rests { conn.new.in_transaction ≡ false }

@@ -6,7 +6,7 @@ ghost use Rattle.exam_model.specs.Fits.{PlaceExists};
 ghost use Rattle.office_store.specs.NewDraft.{Begins};
 ghost use Rattle.office_model.specs.DraftCommands.{draft_dropped, draft_made, first_timetable, is_draft_number};
 ghost use Rattle.office_store.specs.Leaving.{LeavesNext};
-ghost use Rattle.office_store.specs.Running.{Runs, StaysOnErr};
+ghost use Rattle.office_store.specs.Running.{CommandRan, StaysOnErr};
 ghost use Rattle.office_records.specs.TableRows.{slots_from};
 
 use crate::memory::Draft;
@@ -29,7 +29,7 @@ impl<S: Alter> Office<S> {
     /// else it is the timetable of a solution file, with or without breaches. `NotLoaded`; then
     /// `NoDraft`: not 1 to 8; then `DraftTaken`; then `Refused`: the file is faulty.
     pub fn new_draft(&mut self, alloc: Global, number: u32, text: &[u8]) -> Result<u64, StoreFault>
-        ensures runs { Runs S.Store (draft_made number text.now) self.old self.new result }
+        ensures runs { CommandRan S.Store (draft_made number text.now) self.old self.new result }
         // Whatever the refusal, the tables are as they were.
         ensures stays { StaysOnErr S.Store self.old self.new result }
         ensures clean { HasCleanDisk (state S.Store self.new)
@@ -63,7 +63,7 @@ impl<S: Alter> Office<S> {
 
     /// Takes a draft out. `NotLoaded`, then `NoDraft`: there is none of this number.
     pub fn drop_draft(&mut self, number: u32) -> Result<(), StoreFault>
-        ensures runs { Runs S.Store (draft_dropped number) self.old self.new result }
+        ensures runs { CommandRan S.Store (draft_dropped number) self.old self.new result }
         // Whatever the refusal, the tables are as they were.
         ensures stays { StaysOnErr S.Store self.old self.new result }
         ensures clean { HasCleanDisk (state S.Store self.new)

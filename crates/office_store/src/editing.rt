@@ -14,10 +14,10 @@ ghost use Rattle.office_model.specs.Commands.{named};
 ghost use Rattle.office_model.specs.DraftCommands.{draft_edited};
 ghost use Rattle.office_store.specs.Changes.{moved, new_place};
 ghost use Rattle.office_store.specs.Editing.{Edits, Judges};
-ghost use Rattle.office_store.specs.FoldReads.{HasRead, IsSame};
+ghost use Rattle.office_store.specs.FoldReads.{HasRead, RowsUnchanged};
 ghost use Rattle.office_store.specs.Leaving.{LeavesNext};
 ghost use Rattle.office_store.specs.Memory.{IsMemoryOf, IsTogether, scored_draft};
-ghost use Rattle.office_store.specs.Running.{IsAwake, Runs, StaysOnErr};
+ghost use Rattle.office_store.specs.Running.{IsCommitted, CommandRan, StaysOnErr};
 
 use crate::folding::penalty_after;
 use crate::memory::{Draft, OfficeMemory};
@@ -50,7 +50,7 @@ impl<S: Alter> Office<S> {
     /// Edits a draft, and answers its penalty. `NotLoaded`, `NoDraft`: there is none of this
     /// number, then `Refused` with the edit's own fault.
     pub fn edit(&mut self, alloc: Global, number: u32, edit: Edit) -> Result<u64, StoreFault>
-        ensures runs { Runs S.Store (draft_edited number edit) self.old self.new result }
+        ensures runs { CommandRan S.Store (draft_edited number edit) self.old self.new result }
         // Whatever the refusal, the tables are as they were.
         ensures stays { StaysOnErr S.Store self.old self.new result }
         ensures clean { HasCleanDisk (state S.Store self.new)
@@ -92,7 +92,7 @@ fn edited_draft<S: Alter>(
     edit: Edit,
 ) -> Result<EditedDraft, StoreFault>
     requires together { IsTogether memory.now }
-    ensures edits { HasCleanDisk (state S.Store conn.new) → IsAwake (state S.Store conn.old)
+    ensures edits { HasCleanDisk (state S.Store conn.new) → IsCommitted (state S.Store conn.old)
         → (office : OfficeState) → RepresentsOffice (state S.Store conn.old).now office
         → IsMemoryOf office memory.now → Edits number edit office result }
     ensures places { IfOk result (λ new. new.places.items
@@ -100,7 +100,7 @@ fn edited_draft<S: Alter>(
     ensures suits { IfOk result (λ new. (I : Session) (E : Enrolled)
         → memory.now.kept ≡ Some (I, E) → Suits I new.draft.timetable) }
     ensures read { HasRead S.Store conn.old conn.new }
-    ensures same { OnOk result (IsSame S.Store conn.old conn.new) }
+    ensures same { OnOk result (RowsUnchanged S.Store conn.old conn.new) }
 {
     let Some((instance, enrolments)) = &memory.kept else {
         return Err(StoreFault::NotLoaded);
@@ -127,7 +127,7 @@ fn judged_draft<'a>(
     edit: Edit,
 ) -> Result<Judged<'a>, StoreFault>
     requires fits { Fits instance.now enrolments.now draft.now.timetable }
-    ensures told { (d : ℕ) (r : Records)
+    ensures meaning { (d : ℕ) (r : Records)
         → memory_of (Some r) ≡ Some (instance.now, enrolments.now)
         → scored_draft d (Some r) ≡ Some draft.now → Judges d edit r result }
     ensures of { IfOk result (λ judged. judged.exams.items ≡ edited_exams edit) }

@@ -7,9 +7,9 @@ ghost use Rattle.office_batches.specs.BatchText.{batch_in};
 ghost use Rattle.office_model.specs.Batches.{batch_enrolled, kept_in};
 ghost use Rattle.office_model.specs.Office.{OfficeState};
 ghost use Rattle.office_records.specs.Representation.{RepresentsOffice};
-ghost use Rattle.office_store.specs.NewBatches.{IsRowOf, answered_again};
+ghost use Rattle.office_store.specs.NewBatches.{IsRowOf, first_counts};
 ghost use Rattle.office_store.specs.Leaving.{LeavesNext};
-ghost use Rattle.office_store.specs.Running.{IsAwake, IsStill, Runs, StaysOnErr};
+ghost use Rattle.office_store.specs.Running.{IsCommitted, StateUnchanged, CommandRan, StaysOnErr};
 ghost use Rattle.office_tables.specs.Batch.{batch_from};
 
 use crate::fault::Failed;
@@ -37,7 +37,8 @@ impl<S: Alter> Office<S> {
         text: &[u8],
     ) -> Result<Counts, StoreFault>
         requires number { number ≤ MAX_BATCH }
-        ensures runs { Runs S.Store (batch_enrolled number text.now) self.old self.new result }
+        ensures runs { CommandRan S.Store
+            (batch_enrolled number text.now) self.old self.new result }
         // Whatever the refusal, the tables are as they were.
         ensures stays { StaysOnErr S.Store self.old self.new result }
         ensures clean { HasCleanDisk (state S.Store self.new)
@@ -69,8 +70,10 @@ impl<S: Alter> Office<S> {
         requires spelled { batch_in text.now ≡ Ok changes.now }
         requires is_new { HasCleanDisk (state S.Store self.old) → (office : OfficeState)
             → RepresentsOffice (state S.Store self.old).now office → kept_in office number ≡ None }
-        requires awake { HasCleanDisk (state S.Store self.old) → IsAwake (state S.Store self.old) }
-        ensures runs { Runs S.Store (batch_enrolled number text.now) self.old self.new result }
+        requires all_committed { HasCleanDisk (state S.Store self.old)
+            → IsCommitted (state S.Store self.old) }
+        ensures runs { CommandRan S.Store
+            (batch_enrolled number text.now) self.old self.new result }
         ensures stays { StaysOnErr S.Store self.old self.new result }
         ensures clean { HasCleanDisk (state S.Store self.new)
             → HasCleanDisk (state S.Store self.old) }
@@ -96,10 +99,10 @@ impl<S: Alter> Office<S> {
         ensures row { HasCleanDisk (state S.Store self.new) → (office : OfficeState)
             → RepresentsOffice (state S.Store self.new).now office
             → IfOk result (IsRowOf (kept_in office number)) }
-        ensures still { HasCleanDisk (state S.Store self.new)
-            → IsStill (state S.Store self.old) (state S.Store self.new) }
-        ensures awake { HasCleanDisk (state S.Store self.new)
-            → OnOk result (IsAwake (state S.Store self.new)) }
+        ensures unchanged { HasCleanDisk (state S.Store self.new)
+            → StateUnchanged (state S.Store self.old) (state S.Store self.new) }
+        ensures all_committed { HasCleanDisk (state S.Store self.new)
+            → OnOk result (IsCommitted (state S.Store self.new)) }
         ensures clean { HasCleanDisk (state S.Store self.new)
             → HasCleanDisk (state S.Store self.old) }
         ensures survives { Survives (state S.Store self.old) (state S.Store self.new) (λ _. ⊥) }
@@ -112,7 +115,7 @@ impl<S: Alter> Office<S> {
 
 // What a kept batch was answered, if it had these bytes.
 fn first_answer(row: &BatchRow, text: &[u8]) -> Result<Counts, StoreFault>
-    ensures { result ≡ answered_again (batch_from row.now) text.now }
+    ensures { result ≡ first_counts (batch_from row.now) text.now }
 {
     if row.bytes.as_slice() != text {
         return Err(StoreFault::BatchDiffers);

@@ -6,11 +6,11 @@ ghost use Rattle.exam_model.specs.Enrolments.{Enrolled, IsAscending};
 ghost use Rattle.exam_model.specs.Pairs.{Pair};
 ghost use Rattle.exam_score.specs.Folds.{IsFoldOf, RepresentsPairs, pairs_sat};
 ghost use Rattle.exam_score.specs.Track.{track};
-ghost use Rattle.office_store.specs.FoldReads.{HadEnrolments, HasRead, IsSame};
+ghost use Rattle.office_store.specs.FoldReads.{HadEnrolments, HasRead, RowsUnchanged};
 ghost use Rattle.office_store.specs.Folding.{CanTake, IsEditOf};
 ghost use Rattle.office_store.specs.Folding.{pairs_of_students, students_of_exams};
-ghost use Rattle.office_store.specs.Running.{Tells};
-ghost use Rattle.office_store.specs.Viewing.{her_row};
+ghost use Rattle.office_store.specs.Running.{ReturnsValue};
+ghost use Rattle.office_store.specs.Viewing.{candidate_enrol_row};
 
 use crate::editing::Judged;
 use crate::viewing::exams_of;
@@ -33,11 +33,11 @@ pub(crate) fn penalty_after<S: Alter>(
 ) -> Result<Parts, StoreFault>
     requires exams { length enrolments.now ≡ length instance.now.exams }
     requires exist { All (λ e. e < length enrolments.now) judged.now.exams.items }
-    ensures told { HadEnrolments S.Store conn.old conn.new enrolments.now
+    ensures meaning { HadEnrolments S.Store conn.old conn.new enrolments.now
         → IsEditOf instance.now enrolments.now judged.now
-        → Tells (track instance.now enrolments.now judged.now.new) result }
+        → ReturnsValue (track instance.now enrolments.now judged.now.new) result }
     ensures read { HasRead S.Store conn.old conn.new }
-    ensures same { OnOk result (IsSame S.Store conn.old conn.new) }
+    ensures same { OnOk result (RowsUnchanged S.Store conn.old conn.new) }
 {
     let sizes = sizes_of(alloc, enrolments)?;
     let students = students_of_exams(alloc, enrolments, &judged.exams)?;
@@ -86,7 +86,7 @@ fn fold_students<'a, S: Alter>(
     ensures fault { (E : Enrolled) → HadEnrolments S.Store conn.old conn.new E
         → IfErr result (λ e. e ≡ StoreFault.Store) }
     ensures read { HasRead S.Store conn.old conn.new }
-    ensures same { OnOk result (IsSame S.Store conn.old conn.new) }
+    ensures same { OnOk result (RowsUnchanged S.Store conn.old conn.new) }
 {
     let mut fold = empty;
     let mut count = 0;
@@ -136,12 +136,12 @@ fn read_exams<S: Alter>(
     student: StudentNo,
 ) -> Result<Vec<ExamNo>, StoreFault>
     ensures ascending { IfOk result (λ exams. IsAscending exams.items) }
-    ensures hers { (E : Enrolled) → HadEnrolments S.Store conn.old conn.new E
+    ensures exams { (E : Enrolled) → HadEnrolments S.Store conn.old conn.new E
         → IfOk result (λ exams. exams.items ≡ exams_sat E student) }
     ensures fault { (E : Enrolled) → HadEnrolments S.Store conn.old conn.new E
         → IfErr result (λ e. e ≡ StoreFault.Store) }
     ensures read { HasRead S.Store conn.old conn.new }
-    ensures same { OnOk result (IsSame S.Store conn.old conn.new) }
+    ensures same { OnOk result (RowsUnchanged S.Store conn.old conn.new) }
 {
     let Ok(found) = find_enrols_of(alloc, conn, student.get()) else {
         return Err(StoreFault::Store);
@@ -158,12 +158,13 @@ fn exams_in_order(
     student: StudentNo,
     rows: &[EnrolRow],
 ) -> Result<Vec<ExamNo>, StoreFault>
-    ensures are { IfOk result (λ exams. rows.now ≡ map (her_row student) exams.items) }
+    ensures are { IfOk result (λ exams. rows.now ≡ map (candidate_enrol_row student) exams.items) }
     ensures ascending { IfOk result (λ exams. IsAscending exams.items) }
-    ensures fault { (exams : List ℕ) → rows.now ≡ map (her_row student) exams → IsAscending exams
+    ensures fault { (exams : List ℕ) → rows.now ≡ map (candidate_enrol_row student) exams
+        → IsAscending exams
         → IfErr result (λ e. e ≡ StoreFault.Store) }
 {
-    if !are_hers(student, rows) {
+    if !are_of_candidate(student, rows) {
         return Err(StoreFault::BadSchema);
     }
     if !are_in_order(rows) {
@@ -174,7 +175,7 @@ fn exams_in_order(
 }
 
 // Whether the rows are this student's.
-fn are_hers(student: StudentNo, rows: &[EnrolRow]) -> bool
+fn are_of_candidate(student: StudentNo, rows: &[EnrolRow]) -> bool
     ensures { IsTrue result ↔ All (λ row. row.student ≡ student) rows.now }
 {
     rows.iter().all(|row| row.student == student.get())

@@ -6,7 +6,7 @@ ghost use Rattle.sqlite_trees.specs.Tree.{Trees};
 ghost use Rattle.office_model.specs.Office.{OfficeState};
 ghost use Rattle.office_records.specs.Representation.{RepresentsOffice};
 ghost use Rattle.office_store.specs.Publications.{StoredAddUp};
-ghost use Rattle.office_store.specs.Running.{IsAwake};
+ghost use Rattle.office_store.specs.Running.{IsCommitted};
 
 use sqlite::Alter;
 
@@ -20,6 +20,6 @@ pub fn stored_shares_add_up()
 /// Of a store that is open, with all that was written committed, as after an Ok, a later opening
 /// finds what is there now, and nothing else.
 pub fn awake_store_leaves_its_tables<S: Alter>()
-    ensures { (conn : Held S) (found : Trees) → IsAwake (state S.Store conn)
+    ensures { (conn : Held S) (found : Trees) → IsCommitted (state S.Store conn)
         → (state S.Store conn).may_leave found → found ≡ (state S.Store conn).now.trees }
 {}

@@ -7,7 +7,7 @@ ghost use Rattle.exam_model.specs.Instance.{IsInstance};
 ghost use Rattle.exam_model.specs.Pairs.{pairs_at, pairs_of};
 ghost use Rattle.office_model.specs.Loading.{NamesFirstFault, SpellsSession, loaded_of, loaded};
 ghost use Rattle.office_store.specs.Leaving.{LeavesNext};
-ghost use Rattle.office_store.specs.Running.{Runs, StaysOnErr};
+ghost use Rattle.office_store.specs.Running.{CommandRan, StaysOnErr};
 ghost use Rattle.office_records.specs.TableRows.{enrol_row};
 
 use crate::memory::OfficeMemory;
@@ -25,7 +25,7 @@ impl<S: Alter> Office<S> {
     /// Loads the session of an instance file with its enrolments, once. `Refused`: the file is
     /// faulty; then `Loaded`: there is a session already.
     pub fn load(&mut self, alloc: Global, text: &[u8]) -> Result<Loaded, StoreFault>
-        ensures runs { Runs S.Store (loaded text.now) self.old self.new result }
+        ensures runs { CommandRan S.Store (loaded text.now) self.old self.new result }
         // Over any disk it is how much the text spells.
         ensures counts { IfOk result (SpellsSession text.now) }
         // Over any disk a text that is refused has the fault first that is named.

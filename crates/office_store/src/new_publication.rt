@@ -19,13 +19,13 @@ ghost use Rattle.office_records.specs.SharesStored.{share_rows_of};
 ghost use Rattle.office_records.specs.PartShares.{HasFewParts, part_rows};
 ghost use Rattle.office_records.specs.SharesStored.{student_share_row};
 ghost use Rattle.office_records.specs.Representation.{RepresentsOffice};
-ghost use Rattle.office_store.specs.FoldReads.{HasRead, IsSame};
+ghost use Rattle.office_store.specs.FoldReads.{HasRead, RowsUnchanged};
 ghost use Rattle.office_store.specs.Judging.{listed};
 ghost use Rattle.office_store.specs.Memory.{IsMemoryOf, IsTogether};
-ghost use Rattle.office_store.specs.NewPublications.{ArePutIn, AreSmallShares, PutsIn};
-ghost use Rattle.office_store.specs.RowPuts.{her_seats_gone, part_share_put};
-ghost use Rattle.office_store.specs.RowPuts.{seat_put, share_gone, student_share_put};
-ghost use Rattle.office_store.specs.Running.{IsAwake, IsFault, Tells};
+ghost use Rattle.office_store.specs.NewPublications.{AreInserted, AreSmallShares, InsertsOrRefuses};
+ghost use Rattle.office_store.specs.RowPuts.{deleted_candidate_seats, part_share_put};
+ghost use Rattle.office_store.specs.RowPuts.{seat_put, deleted_share, student_share_put};
+ghost use Rattle.office_store.specs.Running.{IsCommitted, IsFault, ReturnsValue};
 ghost use Rattle.office_tables.specs.SharePart.{ArePartAmounts};
 ghost use Rattle.office_tables.specs.ShareStudent.{AreStudentAmounts};
 
@@ -53,10 +53,10 @@ pub(crate) struct NewPublication {
     pub(crate) places_gone: Vec<DeletePlacement>,
     pub(crate) placements: Vec<InsertPlacement>,
     // Seats of candidates whose seat rows differ from those before: the old ones, and the new.
-    pub(crate) seats_gone: Vec<DeleteStudentSeats>,
+    pub(crate) deleted_seats: Vec<DeleteStudentSeats>,
     pub(crate) seats: Vec<InsertSeat>,
     // Shares of these candidates, likewise.
-    pub(crate) shares_gone: Vec<DeleteStudentShare>,
+    pub(crate) deleted_shares: Vec<DeleteStudentShare>,
     pub(crate) students: Vec<InsertStudentShare>,
     pub(crate) parts: Vec<InsertPartShare>,
     pub(crate) counts: Published,
@@ -71,12 +71,12 @@ pub(crate) fn new_publication<S: Alter>(
     number: u32,
 ) -> Result<NewPublication, StoreFault>
     requires together { IsTogether memory.now }
-    ensures publishes { HasCleanDisk (state S.Store conn.new) → IsAwake (state S.Store conn.old)
+    ensures publishes { HasCleanDisk (state S.Store conn.new) → IsCommitted (state S.Store conn.old)
         → (office : OfficeState) → RepresentsOffice (state S.Store conn.old).now office
-        → IsMemoryOf office memory.now → PutsIn number office result }
+        → IsMemoryOf office memory.now → InsertsOrRefuses number office result }
     ensures small { IfOk result AreSmallShares }
     ensures read { HasRead S.Store conn.old conn.new }
-    ensures same { OnOk result (IsSame S.Store conn.old conn.new) }
+    ensures same { OnOk result (RowsUnchanged S.Store conn.old conn.new) }
 {
     let Some((instance, enrolments)) = &memory.kept else {
         return Err(StoreFault::NotLoaded);
@@ -88,7 +88,7 @@ pub(crate) fn new_publication<S: Alter>(
     let published = read_published(alloc, conn)?;
     let old = old_seats(alloc, instance, &published)?;
     let rows = seats(alloc, instance, enrolments, &draft.timetable, &old)?;
-    put_together(alloc, instance, draft, &published.placements, &old, &rows)
+    publication_writes(alloc, instance, draft, &published.placements, &old, &rows)
 }
 
 // Whether a draft of the session in memory may be published.
@@ -119,7 +119,7 @@ fn old_seats(
 ) -> Result<Vec<SeatRow>, StoreFault>
     ensures are { (r : Records) → AreRecords r → r.session ≡ instance.now
         → RowsRepresentPublication found.now.placements.items found.now.seats.items r.published
-        → Tells (publication_rows r.published) (listed result) }
+        → ReturnsValue (publication_rows r.published) (listed result) }
     ensures seated { IfOk result (λ rows. AreSeated instance.now rows.items) }
 {
     match published_of(alloc, instance, found)? {
@@ -129,7 +129,7 @@ fn old_seats(
 }
 
 // The writes of a draft with these seats, in place of the placements before and of old seats.
-fn put_together(
+fn publication_writes(
     alloc: Global,
     instance: &Instance,
     draft: &Draft,
@@ -139,7 +139,8 @@ fn put_together(
 ) -> Result<NewPublication, StoreFault>
     requires published { ArePublishedRows instance.now rows.now draft.now.timetable }
     requires old_in_order { RowsInOrder old.now }
-    ensures put { IfOk result (ArePutIn instance.now draft.now.timetable before.now old.now rows.now
+    ensures put { IfOk result (AreInserted instance.now draft.now.timetable before.now old.now
+        rows.now
         (total_of draft.now.parts)) }
     ensures small { IfOk result AreSmallShares }
     ensures err { IfErr result (λ e. e ≡ StoreFault.Store) }
@@ -151,9 +152,9 @@ fn put_together(
     let places = placement_rows(alloc, &draft.timetable)?;
     let places_gone = places_gone(alloc, &places, before)?;
     let placements = placements_put(alloc, &places, before)?;
-    let seats_gone = seats_gone(alloc, &candidates)?;
+    let deleted_seats = deleted_seats(alloc, &candidates)?;
     let seats = seats_put(alloc, rows, &candidates)?;
-    let shares_gone = shares_gone(alloc, &candidates)?;
+    let deleted_shares = deleted_shares(alloc, &candidates)?;
     let students = student_shares_put(alloc, &shares, &candidates)?;
     let parts = part_shares_put(alloc, &shares)?;
     let counts = Published {
@@ -164,9 +165,9 @@ fn put_together(
         text,
         places_gone,
         placements,
-        seats_gone,
+        deleted_seats,
         seats,
-        shares_gone,
+        deleted_shares,
         students,
         parts,
         counts,
@@ -197,20 +198,20 @@ fn count_of(candidates: &[StudentNo]) -> u32
     candidates.len() as u32
 }
 
-fn seats_gone(
+fn deleted_seats(
     alloc: Global,
     candidates: &[StudentNo],
 ) -> Result<Vec<DeleteStudentSeats>, AllocError>
-    ensures { IfOk result (λ put. put.items ≡ map her_seats_gone candidates.now) }
+    ensures { IfOk result (λ put. put.items ≡ map deleted_candidate_seats candidates.now) }
 {
     candidates
         .iter()
-        .map(|candidate| her_seats_gone(*candidate))
+        .map(|candidate| deleted_candidate_seats(*candidate))
         .collect(alloc)
 }
 
-fn her_seats_gone(candidate: StudentNo) -> DeleteStudentSeats
-    ensures { result ≡ her_seats_gone candidate }
+fn deleted_candidate_seats(candidate: StudentNo) -> DeleteStudentSeats
+    ensures { result ≡ deleted_candidate_seats candidate }
 {
     DeleteStudentSeats {
         student: candidate.get(),
@@ -232,20 +233,20 @@ fn seats_put(
         .collect(alloc)
 }
 
-fn shares_gone(
+fn deleted_shares(
     alloc: Global,
     candidates: &[StudentNo],
 ) -> Result<Vec<DeleteStudentShare>, AllocError>
-    ensures { IfOk result (λ put. put.items ≡ map share_gone candidates.now) }
+    ensures { IfOk result (λ put. put.items ≡ map deleted_share candidates.now) }
 {
     candidates
         .iter()
-        .map(|candidate| share_gone(*candidate))
+        .map(|candidate| deleted_share(*candidate))
         .collect(alloc)
 }
 
-fn share_gone(candidate: StudentNo) -> DeleteStudentShare
-    ensures { result ≡ share_gone candidate }
+fn deleted_share(candidate: StudentNo) -> DeleteStudentShare
+    ensures { result ≡ deleted_share candidate }
 {
     DeleteStudentShare {
         student: candidate.get(),

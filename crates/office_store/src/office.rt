@@ -5,7 +5,7 @@ ghost use Rattle.sqlite.specs.State.{HasCleanDisk, Survives};
 ghost use Rattle.office_tables.specs.Schema.{no_schema};
 ghost use Rattle.office_store.specs.Faults.{IsOfDatabase};
 ghost use Rattle.office_store.specs.Leaving.{Leaves, MayMake, connection_of};
-ghost use Rattle.office_store.specs.Running.{IsAwake, IsStill};
+ghost use Rattle.office_store.specs.Running.{IsCommitted, StateUnchanged};
 ghost use Rattle.office_tables.specs.Alterations.{Undone};
 ghost use Rattle.office_records.specs.Representation.{RepresentsOffice};
 
@@ -28,7 +28,7 @@ impl<S: Alter> Model for Office<S> {
     ghost use Rattle.std.specs.Prelude.{◌≡◌, false};
     ghost use Rattle.sqlite.specs.Held.{Held, held_code, state};
     ghost use Rattle.office_store.specs.Memory.{IsTogether};
-    ghost use Rattle.office_store.specs.Running.{IsAtRest};
+    ghost use Rattle.office_store.specs.Running.{MatchesMemory};
 
     ghost Value = { Held S };
 
@@ -40,7 +40,7 @@ impl<S: Alter> Model for Office<S> {
     // session, enrolments and drafts, each with its penalty, and the number of its kept batches.
     // Over any disk the drafts in memory are timetables of the session in memory.
     ghost invariant = { λ o. (o.conn.in_transaction ≡ false)
-        × IsAtRest (state S.Store o.conn) o.memory × IsTogether o.memory };
+        × MatchesMemory (state S.Store o.conn) o.memory × IsTogether o.memory };
 }
 
 impl<S: Alter> Office<S> {
@@ -85,10 +85,10 @@ impl<S: Alter> Office<S> {
 
     /// Looks whether the file can still be read; memory and the file then agree.
     pub fn look(&mut self) -> Result<(), StoreFault>
-        ensures awake { HasCleanDisk (state S.Store self.new)
-            → OnOk result (IsAwake (state S.Store self.new)) }
-        ensures still { HasCleanDisk (state S.Store self.new)
-            → IsStill (state S.Store self.old) (state S.Store self.new) }
+        ensures all_committed { HasCleanDisk (state S.Store self.new)
+            → OnOk result (IsCommitted (state S.Store self.new)) }
+        ensures unchanged { HasCleanDisk (state S.Store self.new)
+            → StateUnchanged (state S.Store self.old) (state S.Store self.new) }
         ensures fault { IfErr result (λ e. e ≡ StoreFault.Store) }
         ensures clean { HasCleanDisk (state S.Store self.new)
             → HasCleanDisk (state S.Store self.old) }

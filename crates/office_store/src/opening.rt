@@ -7,7 +7,7 @@ ghost use Rattle.office_model.specs.Office.{OfficeState};
 ghost use Rattle.office_store.specs.Faults.{IsOfDatabase};
 ghost use Rattle.office_store.specs.Leaving.{Leaves, MayOpen, connection_of};
 ghost use Rattle.office_store.specs.Opening.{IsOfficeOf};
-ghost use Rattle.office_store.specs.Running.{Now};
+ghost use Rattle.office_store.specs.Running.{Represents};
 ghost use Rattle.office_tables.specs.Alterations.{Undone};
 
 use crate::office::Office;
@@ -28,7 +28,7 @@ impl<S: Alter> Office<S> {
         // The office that the database represents is the one that is found, in version 2.
         ensures found { IfOk result (λ office. HasCleanDisk (state S.Store office)
             → (there : OfficeState) → IsOfficeOf (state S.Store conn).now there
-            → Now (state S.Store office) there) }
+            → Represents (state S.Store office) there) }
         // It represented one.
         ensures stood { IfOk result (λ office. HasCleanDisk (state S.Store office)
             → (there : OfficeState) × IsOfficeOf (state S.Store conn).now there) }

@@ -7,7 +7,7 @@ ghost use Rattle.office_model.specs.Commands.{owned, owner_in};
 ghost use Rattle.office_model.specs.Office.{OfficeState};
 ghost use Rattle.office_store.specs.Changes.{new_owner};
 ghost use Rattle.office_store.specs.Leaving.{LeavesNext};
-ghost use Rattle.office_store.specs.Running.{IsAwake, IsStill, Now, ReadsOffice, Runs, StaysOnErr};
+ghost use Rattle.office_store.specs.Running.{IsCommitted, StateUnchanged, Represents, QueryReturned, CommandRan, StaysOnErr};
 ghost use Rattle.office_records.specs.TableRows.{some_dept};
 
 use crate::fault::Failed;
@@ -25,7 +25,7 @@ impl<S: Alter> Office<S> {
     /// there is no session; then `Refused` with `NoSuch`: there is no such exam.
     pub fn set_owner(&mut self, exam: ExamNo, dept: u32) -> Result<(), StoreFault>
         requires dept { dept ≤ MAX_DEPARTMENT }
-        ensures runs { Runs S.Store (owned exam dept) self.old self.new result }
+        ensures runs { CommandRan S.Store (owned exam dept) self.old self.new result }
         // Whatever the refusal, the tables are as they were.
         ensures stays { StaysOnErr S.Store self.old self.new result }
         ensures clean { HasCleanDisk (state S.Store self.new)
@@ -51,13 +51,13 @@ impl<S: Alter> Office<S> {
 
     /// The department that owns an exam; 0 for one that nobody owns or that isn't there.
     pub fn owner(&mut self, alloc: Global, exam: ExamNo) -> Result<u32, StoreFault>
-        ensures reads { ReadsOffice S.Store (owner_in exam) self.old self.new result }
+        ensures reads { QueryReturned S.Store (owner_in exam) self.old self.new result }
         // While it is open, the database is as it was, row by row.
-        ensures still { HasCleanDisk (state S.Store self.new)
-            → IsStill (state S.Store self.old) (state S.Store self.new) }
+        ensures unchanged { HasCleanDisk (state S.Store self.new)
+            → StateUnchanged (state S.Store self.old) (state S.Store self.new) }
         // Memory and the file then agree.
-        ensures awake { HasCleanDisk (state S.Store self.new)
-            → OnOk result (IsAwake (state S.Store self.new)) }
+        ensures all_committed { HasCleanDisk (state S.Store self.new)
+            → OnOk result (IsCommitted (state S.Store self.new)) }
         ensures clean { HasCleanDisk (state S.Store self.new)
             → HasCleanDisk (state S.Store self.old) }
         ensures survives { Survives (state S.Store self.old) (state S.Store self.new) (λ _. ⊥) }
@@ -73,15 +73,16 @@ impl<S: Alter> Office<S> {
     // The rows of an exam's owner: one, or none.
     fn owners(&mut self, alloc: Global, exam: ExamNo) -> Result<Vec<OwnerRow>, Failed>
         ensures rows { HasCleanDisk (state S.Store self.new) → (office : OfficeState)
-            → Now (state S.Store self.old) office
+            → Represents (state S.Store self.old) office
             → IfOk result (λ rows.
             map (λ r. r.dept) rows.items ≡ some_dept (owner_in exam office)) }
         ensures stays { HasCleanDisk (state S.Store self.new) → (office : OfficeState)
-            → Now (state S.Store self.old) office → Now (state S.Store self.new) office }
-        ensures still { HasCleanDisk (state S.Store self.new)
-            → IsStill (state S.Store self.old) (state S.Store self.new) }
-        ensures awake { HasCleanDisk (state S.Store self.new)
-            → OnOk result (IsAwake (state S.Store self.new)) }
+            → Represents (state S.Store self.old) office
+            → Represents (state S.Store self.new) office }
+        ensures unchanged { HasCleanDisk (state S.Store self.new)
+            → StateUnchanged (state S.Store self.old) (state S.Store self.new) }
+        ensures all_committed { HasCleanDisk (state S.Store self.new)
+            → OnOk result (IsCommitted (state S.Store self.new)) }
         ensures clean { HasCleanDisk (state S.Store self.new)
             → HasCleanDisk (state S.Store self.old) }
         ensures survives { Survives (state S.Store self.old) (state S.Store self.new) (λ _. ⊥) }

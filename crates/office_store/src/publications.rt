@@ -8,7 +8,7 @@ ghost use Rattle.office_records.specs.FoundPublications.{AreFound, publication_f
 ghost use Rattle.office_records.specs.SharesStored.{AreShared};
 ghost use Rattle.office_store.specs.Publications.{AddUpIn, plain, publication_shown, shares_in};
 ghost use Rattle.office_store.specs.Publications.{timetable_shown};
-ghost use Rattle.office_store.specs.Running.{IsAwake, IsStill, Now, ReadsOffice, Tells};
+ghost use Rattle.office_store.specs.Running.{IsCommitted, StateUnchanged, Represents, QueryReturned, ReturnsValue};
 
 use crate::office::Office;
 use crate::published_rows::{PublishedRows, ShareRows};
@@ -27,13 +27,13 @@ impl<S: Alter> Office<S> {
         &mut self,
         alloc: Global,
     ) -> Result<Option<(Timetable, Vec<SeatRow>)>, StoreFault>
-        ensures reads { ReadsOffice S.Store publication_shown self.old self.new (plain result) }
+        ensures reads { QueryReturned S.Store publication_shown self.old self.new (plain result) }
         // While it is open, the database is as it was, row by row.
-        ensures still { HasCleanDisk (state S.Store self.new)
-            → IsStill (state S.Store self.old) (state S.Store self.new) }
+        ensures unchanged { HasCleanDisk (state S.Store self.new)
+            → StateUnchanged (state S.Store self.old) (state S.Store self.new) }
         // Memory and the file then agree.
-        ensures awake { HasCleanDisk (state S.Store self.new)
-            → OnOk result (IsAwake (state S.Store self.new)) }
+        ensures all_committed { HasCleanDisk (state S.Store self.new)
+            → OnOk result (IsCommitted (state S.Store self.new)) }
         ensures clean { HasCleanDisk (state S.Store self.new)
             → HasCleanDisk (state S.Store self.old) }
         ensures survives { Survives (state S.Store self.old) (state S.Store self.new) (λ _. ⊥) }
@@ -47,13 +47,13 @@ impl<S: Alter> Office<S> {
 
     /// Only the published timetable; no seat is read. `None`: nothing is published.
     pub fn published_timetable(&mut self, alloc: Global) -> Result<Option<Timetable>, StoreFault>
-        ensures reads { ReadsOffice S.Store timetable_shown self.old self.new result }
+        ensures reads { QueryReturned S.Store timetable_shown self.old self.new result }
         // While it is open, the database is as it was, row by row.
-        ensures still { HasCleanDisk (state S.Store self.new)
-            → IsStill (state S.Store self.old) (state S.Store self.new) }
+        ensures unchanged { HasCleanDisk (state S.Store self.new)
+            → StateUnchanged (state S.Store self.old) (state S.Store self.new) }
         // Memory and the file then agree.
-        ensures awake { HasCleanDisk (state S.Store self.new)
-            → OnOk result (IsAwake (state S.Store self.new)) }
+        ensures all_committed { HasCleanDisk (state S.Store self.new)
+            → OnOk result (IsCommitted (state S.Store self.new)) }
         ensures clean { HasCleanDisk (state S.Store self.new)
             → HasCleanDisk (state S.Store self.old) }
         ensures survives { Survives (state S.Store self.old) (state S.Store self.new) (λ _. ⊥) }
@@ -67,15 +67,15 @@ impl<S: Alter> Office<S> {
 
     /// Whose share of the publication's penalty is how much. `None`: nothing is published.
     pub fn shares(&mut self, alloc: Global) -> Result<Option<Shares>, StoreFault>
-        ensures reads { ReadsOffice S.Store shares_in self.old self.new result }
+        ensures reads { QueryReturned S.Store shares_in self.old self.new result }
         // Together they are the penalty of the publication.
         ensures add_up { HasCleanDisk (state S.Store self.new) → (office : OfficeState)
-            → Now (state S.Store self.old) office → IfOk result (AddUpIn office) }
+            → Represents (state S.Store self.old) office → IfOk result (AddUpIn office) }
         // While it is open, the database is as it was, row by row.
-        ensures still { HasCleanDisk (state S.Store self.new)
-            → IsStill (state S.Store self.old) (state S.Store self.new) }
-        ensures awake { HasCleanDisk (state S.Store self.new)
-            → OnOk result (IsAwake (state S.Store self.new)) }
+        ensures unchanged { HasCleanDisk (state S.Store self.new)
+            → StateUnchanged (state S.Store self.old) (state S.Store self.new) }
+        ensures all_committed { HasCleanDisk (state S.Store self.new)
+            → OnOk result (IsCommitted (state S.Store self.new)) }
         ensures clean { HasCleanDisk (state S.Store self.new)
             → HasCleanDisk (state S.Store self.old) }
         ensures survives { Survives (state S.Store self.old) (state S.Store self.new) (λ _. ⊥) }
@@ -94,9 +94,9 @@ pub(crate) fn published_of(
     instance: &Instance,
     found: &PublishedRows,
 ) -> Result<Option<(Timetable, Vec<SeatRow>)>, StoreFault>
-    ensures told { (r : Records) → AreRecords r → r.session ≡ instance.now
+    ensures meaning { (r : Records) → AreRecords r → r.session ≡ instance.now
         → RowsRepresentPublication found.now.placements.items found.now.seats.items r.published
-        → Tells (publication_shown (Some r)) (plain result) }
+        → ReturnsValue (publication_shown (Some r)) (plain result) }
     ensures are { IfOk result
         (λ published. AreFound instance.now (publication_from published)) }
 {
@@ -118,9 +118,9 @@ fn placed_in(
     instance: &Instance,
     places: &[PlacedRow],
 ) -> Result<Option<Timetable>, StoreFault>
-    ensures told { (r : Records) → AreRecords r → r.session ≡ instance.now
+    ensures meaning { (r : Records) → AreRecords r → r.session ≡ instance.now
         → IsPermutation places.now (placed_rows r.published)
-        → Tells (timetable_shown (Some r)) result }
+        → ReturnsValue (timetable_shown (Some r)) result }
 {
     // each exam of a publication has a place
     if places.is_empty() {
@@ -136,9 +136,9 @@ fn shared_of(
     instance: &Instance,
     found: &ShareRows,
 ) -> Result<Option<Shares>, StoreFault>
-    ensures told { (r : Records) → AreRecords r → r.session ≡ instance.now
+    ensures meaning { (r : Records) → AreRecords r → r.session ≡ instance.now
         → AreShared r.session r.published found.now.students.items found.now.parts.items
-        → Tells (shares_in (Some r)) result }
+        → ReturnsValue (shares_in (Some r)) result }
 {
     // each exam of a publication has a share
     if found.parts.is_empty() {

@@ -5,9 +5,9 @@ ghost use Rattle.sqlite.specs.State.{HasCleanDisk, Survives};
 ghost use Rattle.office_model.specs.Office.{OfficeState};
 ghost use Rattle.office_model.specs.Publishing.{draft_published};
 ghost use Rattle.office_records.specs.Representation.{RepresentsOffice};
-ghost use Rattle.office_store.specs.NewPublications.{AreSmallShares, PutsIn};
+ghost use Rattle.office_store.specs.NewPublications.{AreSmallShares, InsertsOrRefuses};
 ghost use Rattle.office_store.specs.Leaving.{LeavesNext};
-ghost use Rattle.office_store.specs.Running.{IsAwake, IsStill, Runs, StaysOnErr};
+ghost use Rattle.office_store.specs.Running.{IsCommitted, StateUnchanged, CommandRan, StaysOnErr};
 
 use crate::new_publication::{NewPublication, new_publication};
 use crate::office::Office;
@@ -22,7 +22,7 @@ impl<S: Alter> Office<S> {
     /// seat rows changed, and the penalty. `NotLoaded`; then `NoDraft`: there is none of this
     /// number; then `Refused`: an exam has no place, or a hard rule is broken.
     pub fn publish(&mut self, alloc: Global, number: u32) -> Result<Published, StoreFault>
-        ensures runs { Runs S.Store (draft_published number) self.old self.new result }
+        ensures runs { CommandRan S.Store (draft_published number) self.old self.new result }
         // Whatever the refusal, the tables are as they were.
         ensures stays { StaysOnErr S.Store self.old self.new result }
         ensures clean { HasCleanDisk (state S.Store self.new)
@@ -42,14 +42,16 @@ impl<S: Alter> Office<S> {
         alloc: Global,
         number: u32,
     ) -> Result<NewPublication, StoreFault>
-        ensures publishes { HasCleanDisk (state S.Store self.new) → IsAwake (state S.Store self.old)
+        ensures publishes { HasCleanDisk (state S.Store self.new)
+            → IsCommitted (state S.Store self.old)
             → (office : OfficeState) → RepresentsOffice (state S.Store self.old).now office
-            → PutsIn number office result }
+            → InsertsOrRefuses number office result }
         ensures small { IfOk result AreSmallShares }
-        ensures still { HasCleanDisk (state S.Store self.new)
-            → IsStill (state S.Store self.old) (state S.Store self.new) }
-        ensures awake { HasCleanDisk (state S.Store self.new) → IsAwake (state S.Store self.old)
-            → OnOk result (IsAwake (state S.Store self.new)) }
+        ensures unchanged { HasCleanDisk (state S.Store self.new)
+            → StateUnchanged (state S.Store self.old) (state S.Store self.new) }
+        ensures all_committed { HasCleanDisk (state S.Store self.new)
+            → IsCommitted (state S.Store self.old)
+            → OnOk result (IsCommitted (state S.Store self.new)) }
         ensures clean { HasCleanDisk (state S.Store self.new)
             → HasCleanDisk (state S.Store self.old) }
         ensures survives { Survives (state S.Store self.old) (state S.Store self.new) (λ _. ⊥) }

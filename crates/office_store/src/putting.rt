@@ -64,7 +64,7 @@ fn put_places<S: Alter>(tx: &mut Transaction<'_, S>, new: &NewPublication) -> Re
     };
     let seats = Both {
         first: Each {
-            alterations: &new.seats_gone,
+            alterations: &new.deleted_seats,
         },
         second: InsertSeats { rows: &new.seats },
     };
@@ -101,7 +101,7 @@ fn put_shares<S: Alter>(tx: &mut Transaction<'_, S>, new: &NewPublication) -> Re
 {
     let students = Both {
         first: Each {
-            alterations: &new.shares_gone,
+            alterations: &new.deleted_shares,
         },
         second: Each {
             alterations: &new.students,

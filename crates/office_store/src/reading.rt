@@ -9,7 +9,7 @@ ghost use Rattle.office_records.specs.Representation.{RepresentsOffice};
 ghost use Rattle.office_store.specs.Judging.{draft_judged, listed};
 ghost use Rattle.office_store.specs.OfficeRows.{shown};
 ghost use Rattle.office_store.specs.Pricing.{draft_priced};
-ghost use Rattle.office_store.specs.Running.{Does, IsAwake, IsStill, Runs};
+ghost use Rattle.office_store.specs.Running.{CommandOutcome, IsCommitted, StateUnchanged, CommandRan};
 
 use crate::office::Office;
 use exam_model::{Enrolments, Instance, Timetable};
@@ -28,7 +28,7 @@ impl<S: Alter> Office<S> {
         ensures shown { HasCleanDisk (state S.Store self.now)
             → IsTrue (state S.Store self.now).is_open → (office : OfficeState)
             → RepresentsOffice (state S.Store self.now).now office
-            → Does (session_shown office) office (λ new. new ≡ office) (shown result) }
+            → CommandOutcome (session_shown office) office (λ new. new ≡ office) (shown result) }
         ensures fault { IfErr result (λ e. e ≡ StoreFault.NotLoaded) }
         ensures exams { IfOk result (λ shown. length shown.1.now ≡ length shown.0.now.exams) }
     {
@@ -41,13 +41,13 @@ impl<S: Alter> Office<S> {
     /// A draft's timetable with its penalty. `NotLoaded`, then `NoDraft`: there is none of
     /// this number.
     pub fn draft(&mut self, alloc: Global, number: u32) -> Result<(Timetable, Parts), StoreFault>
-        ensures runs { Runs S.Store (draft_shown number) self.old self.new result }
+        ensures runs { CommandRan S.Store (draft_shown number) self.old self.new result }
         // While it is open, the database is as it was, row by row.
-        ensures still { HasCleanDisk (state S.Store self.new)
-            → IsStill (state S.Store self.old) (state S.Store self.new) }
+        ensures unchanged { HasCleanDisk (state S.Store self.new)
+            → StateUnchanged (state S.Store self.old) (state S.Store self.new) }
         // Memory and the file then agree.
-        ensures awake { HasCleanDisk (state S.Store self.new)
-            → OnOk result (IsAwake (state S.Store self.new)) }
+        ensures all_committed { HasCleanDisk (state S.Store self.new)
+            → OnOk result (IsCommitted (state S.Store self.new)) }
         ensures clean { HasCleanDisk (state S.Store self.new)
             → HasCleanDisk (state S.Store self.old) }
         ensures survives { Survives (state S.Store self.old) (state S.Store self.new) (λ _. ⊥) }
@@ -65,13 +65,13 @@ impl<S: Alter> Office<S> {
 
     /// What a draft costs. `NotLoaded`, then `NoDraft`: there is none of this number.
     pub fn penalty(&mut self, number: u32) -> Result<Parts, StoreFault>
-        ensures runs { Runs S.Store (draft_priced number) self.old self.new result }
+        ensures runs { CommandRan S.Store (draft_priced number) self.old self.new result }
         // While it is open, the database is as it was, row by row.
-        ensures still { HasCleanDisk (state S.Store self.new)
-            → IsStill (state S.Store self.old) (state S.Store self.new) }
+        ensures unchanged { HasCleanDisk (state S.Store self.new)
+            → StateUnchanged (state S.Store self.old) (state S.Store self.new) }
         // Memory and the file then agree.
-        ensures awake { HasCleanDisk (state S.Store self.new)
-            → OnOk result (IsAwake (state S.Store self.new)) }
+        ensures all_committed { HasCleanDisk (state S.Store self.new)
+            → OnOk result (IsCommitted (state S.Store self.new)) }
         ensures clean { HasCleanDisk (state S.Store self.new)
             → HasCleanDisk (state S.Store self.old) }
         ensures survives { Survives (state S.Store self.old) (state S.Store self.new) (λ _. ⊥) }
@@ -89,13 +89,13 @@ impl<S: Alter> Office<S> {
     /// All breaches of a draft, in their order. `NotLoaded`, then `NoDraft`: there is none of this
     /// number.
     pub fn breaches(&mut self, alloc: Global, number: u32) -> Result<Vec<Breach>, StoreFault>
-        ensures runs { Runs S.Store (draft_judged number) self.old self.new (listed result) }
+        ensures runs { CommandRan S.Store (draft_judged number) self.old self.new (listed result) }
         // While it is open, the database is as it was, row by row.
-        ensures still { HasCleanDisk (state S.Store self.new)
-            → IsStill (state S.Store self.old) (state S.Store self.new) }
+        ensures unchanged { HasCleanDisk (state S.Store self.new)
+            → StateUnchanged (state S.Store self.old) (state S.Store self.new) }
         // Memory and the file then agree.
-        ensures awake { HasCleanDisk (state S.Store self.new)
-            → OnOk result (IsAwake (state S.Store self.new)) }
+        ensures all_committed { HasCleanDisk (state S.Store self.new)
+            → OnOk result (IsCommitted (state S.Store self.new)) }
         ensures clean { HasCleanDisk (state S.Store self.new)
             → HasCleanDisk (state S.Store self.old) }
         ensures survives { Survives (state S.Store self.old) (state S.Store self.new) (λ _. ⊥) }

@@ -2,7 +2,7 @@
 ghost use Rattle.std.specs.Prelude.{◌≡◌, IfErr, IfOk, MatchBool, None, Some};
 ghost use Rattle.sqlite.specs.Held.{state};
 ghost use Rattle.sqlite.specs.State.{HasCleanDisk, Survives};
-ghost use Rattle.office_store.specs.Running.{IsAwake, IsStill};
+ghost use Rattle.office_store.specs.Running.{IsCommitted, StateUnchanged};
 ghost use Rattle.office_store.specs.Shut.{IsShut};
 
 use crate::office::Office;
@@ -15,9 +15,9 @@ impl<S: Alter> Office<S> {
     pub fn is_shut(&mut self) -> Result<bool, StoreFault>
         ensures shut { HasCleanDisk (state S.Store self.new) → IfOk result (λ is_shut.
             MatchBool is_shut (IsShut (state S.Store self.new))
-            (IsAwake (state S.Store self.new))) }
-        ensures still { HasCleanDisk (state S.Store self.new)
-            → IsStill (state S.Store self.old) (state S.Store self.new) }
+            (IsCommitted (state S.Store self.new))) }
+        ensures unchanged { HasCleanDisk (state S.Store self.new)
+            → StateUnchanged (state S.Store self.old) (state S.Store self.new) }
         ensures fault { IfErr result (λ e. e ≡ StoreFault.Store) }
         ensures clean { HasCleanDisk (state S.Store self.new)
             → HasCleanDisk (state S.Store self.old) }

@@ -12,8 +12,8 @@ ghost use Rattle.office_records.specs.Publications.{stored_seat};
 ghost use Rattle.office_records.specs.Representation.{RepresentsOffice};
 ghost use Rattle.office_store.specs.Judging.{listed};
 ghost use Rattle.office_store.specs.OfficeRows.{published_in, student_rows_in};
-ghost use Rattle.office_store.specs.Running.{IsAwake, IsStill, ReadsOffice, Tells};
-ghost use Rattle.office_store.specs.Viewing.{AreHerRows, exams_in, place_in_row};
+ghost use Rattle.office_store.specs.Running.{IsCommitted, StateUnchanged, QueryReturned, ReturnsValue};
+ghost use Rattle.office_store.specs.Viewing.{AreCandidateRows, exams_in, place_in_row};
 
 use crate::candidate_share::personal_in;
 use crate::fault::Failed;
@@ -31,7 +31,7 @@ use std::alloc::{AllocError, Global};
 
 // The rows of a candidate's enrolments, of the places of these exams, and of her seats.
 #[derive(Drop)]
-struct HerRows {
+struct CandidateRows {
     enrols: Vec<EnrolRow>,
     places: Vec<PlacedRow>,
     seats: Vec<SeatRow>,
@@ -45,14 +45,14 @@ impl<S: Alter> Office<S> {
         alloc: Global,
         student: StudentNo,
     ) -> Result<CandidateView, StoreFault>
-        ensures reads { ReadsOffice S.Store (λ o. shown_to student (view_of student o))
+        ensures reads { QueryReturned S.Store (λ o. shown_to student (view_of student o))
             self.old self.new result }
         // While it is open, the database is as it was, row by row.
-        ensures still { HasCleanDisk (state S.Store self.new)
-            → IsStill (state S.Store self.old) (state S.Store self.new) }
+        ensures unchanged { HasCleanDisk (state S.Store self.new)
+            → StateUnchanged (state S.Store self.old) (state S.Store self.new) }
         // Memory and the file then agree.
-        ensures awake { HasCleanDisk (state S.Store self.new)
-            → OnOk result (IsAwake (state S.Store self.new)) }
+        ensures all_committed { HasCleanDisk (state S.Store self.new)
+            → OnOk result (IsCommitted (state S.Store self.new)) }
         ensures clean { HasCleanDisk (state S.Store self.new)
             → HasCleanDisk (state S.Store self.old) }
         ensures survives { Survives (state S.Store self.old) (state S.Store self.new) (λ _. ⊥) }
@@ -70,15 +70,15 @@ impl<S: Alter> Office<S> {
         student: StudentNo,
         exam: ExamNo,
     ) -> Result<Option<ViewRow>, StoreFault>
-        ensures reads { ReadsOffice S.Store
+        ensures reads { QueryReturned S.Store
             (λ o. find (λ row. row.exam == exam) (shown_exams (view_of student o)))
             self.old self.new result }
         // While it is open, the database is as it was, row by row.
-        ensures still { HasCleanDisk (state S.Store self.new)
-            → IsStill (state S.Store self.old) (state S.Store self.new) }
+        ensures unchanged { HasCleanDisk (state S.Store self.new)
+            → StateUnchanged (state S.Store self.old) (state S.Store self.new) }
         // Memory and the file then agree.
-        ensures awake { HasCleanDisk (state S.Store self.new)
-            → OnOk result (IsAwake (state S.Store self.new)) }
+        ensures all_committed { HasCleanDisk (state S.Store self.new)
+            → OnOk result (IsCommitted (state S.Store self.new)) }
         ensures clean { HasCleanDisk (state S.Store self.new)
             → HasCleanDisk (state S.Store self.old) }
         ensures survives { Survives (state S.Store self.old) (state S.Store self.new) (λ _. ⊥) }
@@ -93,19 +93,19 @@ impl<S: Alter> Office<S> {
         alloc: Global,
         student: StudentNo,
     ) -> Result<PersonalParts, StoreFault>
-        ensures reads { ReadsOffice S.Store (λ o. shown_penalty (view_of student o))
+        ensures reads { QueryReturned S.Store (λ o. shown_penalty (view_of student o))
             self.old self.new result }
         // While it is open, the database is as it was, row by row.
-        ensures still { HasCleanDisk (state S.Store self.new)
-            → IsStill (state S.Store self.old) (state S.Store self.new) }
+        ensures unchanged { HasCleanDisk (state S.Store self.new)
+            → StateUnchanged (state S.Store self.old) (state S.Store self.new) }
         // Memory and the file then agree.
-        ensures awake { HasCleanDisk (state S.Store self.new)
-            → OnOk result (IsAwake (state S.Store self.new)) }
+        ensures all_committed { HasCleanDisk (state S.Store self.new)
+            → OnOk result (IsCommitted (state S.Store self.new)) }
         ensures clean { HasCleanDisk (state S.Store self.new)
             → HasCleanDisk (state S.Store self.old) }
         ensures survives { Survives (state S.Store self.old) (state S.Store self.new) (λ _. ⊥) }
     {
-        let rows = self.her_shares(alloc, student)?;
+        let rows = self.candidate_shares(alloc, student)?;
         personal_in(&rows)
     }
 
@@ -115,17 +115,17 @@ impl<S: Alter> Office<S> {
         alloc: Global,
         student: StudentNo,
     ) -> Result<Vec<ViewRow>, StoreFault>
-        ensures reads { ReadsOffice S.Store (λ o. shown_exams (view_of student o))
+        ensures reads { QueryReturned S.Store (λ o. shown_exams (view_of student o))
             self.old self.new (listed result) }
-        ensures still { HasCleanDisk (state S.Store self.new)
-            → IsStill (state S.Store self.old) (state S.Store self.new) }
-        ensures awake { HasCleanDisk (state S.Store self.new)
-            → OnOk result (IsAwake (state S.Store self.new)) }
+        ensures unchanged { HasCleanDisk (state S.Store self.new)
+            → StateUnchanged (state S.Store self.old) (state S.Store self.new) }
+        ensures all_committed { HasCleanDisk (state S.Store self.new)
+            → OnOk result (IsCommitted (state S.Store self.new)) }
         ensures clean { HasCleanDisk (state S.Store self.new)
             → HasCleanDisk (state S.Store self.old) }
         ensures survives { Survives (state S.Store self.old) (state S.Store self.new) (λ _. ⊥) }
     {
-        let found = self.her_rows(alloc, student)?;
+        let found = self.candidate_rows(alloc, student)?;
         let Some((instance, _)) = &self.memory.kept else {
             return Ok(Vec::new(alloc));
         };
@@ -133,37 +133,41 @@ impl<S: Alter> Office<S> {
     }
 
     // What the tables hold of a candidate, her share apart.
-    fn her_rows(&mut self, alloc: Global, student: StudentNo) -> Result<HerRows, Failed>
+    fn candidate_rows(&mut self, alloc: Global, student: StudentNo) -> Result<CandidateRows, Failed>
         ensures rows { HasCleanDisk (state S.Store self.new) → (office : OfficeState)
             → RepresentsOffice (state S.Store self.new).now office
-            → IfOk result (λ found. AreHerRows office student found.enrols.items
+            → IfOk result (λ found. AreCandidateRows office student found.enrols.items
             found.places.items found.seats.items) }
-        ensures still { HasCleanDisk (state S.Store self.new)
-            → IsStill (state S.Store self.old) (state S.Store self.new) }
-        ensures awake { HasCleanDisk (state S.Store self.new)
-            → OnOk result (IsAwake (state S.Store self.new)) }
+        ensures unchanged { HasCleanDisk (state S.Store self.new)
+            → StateUnchanged (state S.Store self.old) (state S.Store self.new) }
+        ensures all_committed { HasCleanDisk (state S.Store self.new)
+            → OnOk result (IsCommitted (state S.Store self.new)) }
         ensures clean { HasCleanDisk (state S.Store self.new)
             → HasCleanDisk (state S.Store self.old) }
         ensures survives { Survives (state S.Store self.old) (state S.Store self.new) (λ _. ⊥) }
     {
-        let enrols = self.her_enrols(alloc, student)?;
-        let places = self.her_places(alloc, student)?;
-        let seats = self.her_seats(alloc, student)?;
-        Ok(HerRows {
+        let enrols = self.candidate_enrols(alloc, student)?;
+        let places = self.candidate_places(alloc, student)?;
+        let seats = self.candidate_seats(alloc, student)?;
+        Ok(CandidateRows {
             enrols,
             places,
             seats,
         })
     }
 
-    fn her_enrols(&mut self, alloc: Global, student: StudentNo) -> Result<Vec<EnrolRow>, Failed>
+    fn candidate_enrols(
+        &mut self,
+        alloc: Global,
+        student: StudentNo,
+    ) -> Result<Vec<EnrolRow>, Failed>
         ensures rows { HasCleanDisk (state S.Store self.new) → (office : OfficeState)
             → RepresentsOffice (state S.Store self.new).now office
             → IfOk result (λ rows. map (λ row. row.exam) rows.items ≡ exams_in student office) }
-        ensures still { HasCleanDisk (state S.Store self.new)
-            → IsStill (state S.Store self.old) (state S.Store self.new) }
-        ensures awake { HasCleanDisk (state S.Store self.new)
-            → OnOk result (IsAwake (state S.Store self.new)) }
+        ensures unchanged { HasCleanDisk (state S.Store self.new)
+            → StateUnchanged (state S.Store self.old) (state S.Store self.new) }
+        ensures all_committed { HasCleanDisk (state S.Store self.new)
+            → OnOk result (IsCommitted (state S.Store self.new)) }
         ensures clean { HasCleanDisk (state S.Store self.new)
             → HasCleanDisk (state S.Store self.old) }
         ensures survives { Survives (state S.Store self.old) (state S.Store self.new) (λ _. ⊥) }
@@ -173,15 +177,19 @@ impl<S: Alter> Office<S> {
         Ok(rows)
     }
 
-    fn her_places(&mut self, alloc: Global, student: StudentNo) -> Result<Vec<PlacedRow>, Failed>
+    fn candidate_places(
+        &mut self,
+        alloc: Global,
+        student: StudentNo,
+    ) -> Result<Vec<PlacedRow>, Failed>
         ensures rows { HasCleanDisk (state S.Store self.new) → (office : OfficeState)
             → RepresentsOffice (state S.Store self.new).now office
             → IfOk result (λ rows. map place_in_row rows.items
             ≡ places_in (published_in office) (exams_in student office)) }
-        ensures still { HasCleanDisk (state S.Store self.new)
-            → IsStill (state S.Store self.old) (state S.Store self.new) }
-        ensures awake { HasCleanDisk (state S.Store self.new)
-            → OnOk result (IsAwake (state S.Store self.new)) }
+        ensures unchanged { HasCleanDisk (state S.Store self.new)
+            → StateUnchanged (state S.Store self.old) (state S.Store self.new) }
+        ensures all_committed { HasCleanDisk (state S.Store self.new)
+            → OnOk result (IsCommitted (state S.Store self.new)) }
         ensures clean { HasCleanDisk (state S.Store self.new)
             → HasCleanDisk (state S.Store self.old) }
         ensures survives { Survives (state S.Store self.old) (state S.Store self.new) (λ _. ⊥) }
@@ -191,15 +199,15 @@ impl<S: Alter> Office<S> {
         Ok(rows)
     }
 
-    fn her_seats(&mut self, alloc: Global, student: StudentNo) -> Result<Vec<SeatRow>, Failed>
+    fn candidate_seats(&mut self, alloc: Global, student: StudentNo) -> Result<Vec<SeatRow>, Failed>
         ensures rows { HasCleanDisk (state S.Store self.new) → (office : OfficeState)
             → RepresentsOffice (state S.Store self.new).now office
             → IfOk result (λ rows. rows.items
             ≡ map stored_seat (rows_of student (publication_rows (published_in office)))) }
-        ensures still { HasCleanDisk (state S.Store self.new)
-            → IsStill (state S.Store self.old) (state S.Store self.new) }
-        ensures awake { HasCleanDisk (state S.Store self.new)
-            → OnOk result (IsAwake (state S.Store self.new)) }
+        ensures unchanged { HasCleanDisk (state S.Store self.new)
+            → StateUnchanged (state S.Store self.old) (state S.Store self.new) }
+        ensures all_committed { HasCleanDisk (state S.Store self.new)
+            → OnOk result (IsCommitted (state S.Store self.new)) }
         ensures clean { HasCleanDisk (state S.Store self.new)
             → HasCleanDisk (state S.Store self.old) }
         ensures survives { Survives (state S.Store self.old) (state S.Store self.new) (λ _. ⊥) }
@@ -209,7 +217,7 @@ impl<S: Alter> Office<S> {
         Ok(rows)
     }
 
-    fn her_shares(
+    fn candidate_shares(
         &mut self,
         alloc: Global,
         student: StudentNo,
@@ -218,10 +226,10 @@ impl<S: Alter> Office<S> {
             → RepresentsOffice (state S.Store self.new).now office
             → IfOk result (λ rows. IsPermutation
             (filter (λ row. row.student == student) (student_rows_in office)) rows.items) }
-        ensures still { HasCleanDisk (state S.Store self.new)
-            → IsStill (state S.Store self.old) (state S.Store self.new) }
-        ensures awake { HasCleanDisk (state S.Store self.new)
-            → OnOk result (IsAwake (state S.Store self.new)) }
+        ensures unchanged { HasCleanDisk (state S.Store self.new)
+            → StateUnchanged (state S.Store self.old) (state S.Store self.new) }
+        ensures all_committed { HasCleanDisk (state S.Store self.new)
+            → OnOk result (IsCommitted (state S.Store self.new)) }
         ensures clean { HasCleanDisk (state S.Store self.new)
             → HasCleanDisk (state S.Store self.old) }
         ensures survives { Survives (state S.Store self.old) (state S.Store self.new) (λ _. ⊥) }
@@ -236,12 +244,12 @@ impl<S: Alter> Office<S> {
 fn exams_from(
     alloc: Global,
     instance: &Instance,
-    found: &HerRows,
+    found: &CandidateRows,
 ) -> Result<Vec<ViewRow>, StoreFault>
-    ensures told { (s : ℕ) (r : Records) → AreRecords r → r.session ≡ instance.now
-        → AreHerRows (Some r) s found.now.enrols.items found.now.places.items
+    ensures meaning { (s : ℕ) (r : Records) → AreRecords r → r.session ≡ instance.now
+        → AreCandidateRows (Some r) s found.now.enrols.items found.now.places.items
         found.now.seats.items
-        → Tells (shown_exams (view_of s (Some r))) (listed result) }
+        → ReturnsValue (shown_exams (view_of s (Some r))) (listed result) }
 {
     let enrolled = exams_of(alloc, &found.enrols)?;
     let places = places_of(alloc, &found.places)?;

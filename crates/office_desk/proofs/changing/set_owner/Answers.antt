@@ -1,7 +1,7 @@
 use Rattle.sqlite.specs.Held.{state}
 use Rattle.office_model.specs.Answers.{now_owned}
 use Rattle.office_model.specs.Commands.{owned}
-use Rattle.office_store.specs.Running.{Now}
+use Rattle.office_store.specs.Running.{Represents}
 use Rattle.office_desk.proofs.TellingLemmas.{body_refused, err_told, fault_refused, fault_told}
 use Rattle.std.proofs.Common.{◌≡◌, Err, inl, rules, subst, sym}
 use Rattle.office_desk.specs.Answers.{IsRefusal}
@@ -13,14 +13,15 @@ returns-in_err-set_owner-clause-performs g c caller clean office now =
     rw c.in_ok-dept.ensures
     (fault_told (λ done. now_owned c.args.exam c.in_ok-dept.dept) office
     (owned c.args.exam c.in_ok-dept.dept office)
-    (Now (state g.S.Store c.set_owner.new.self)) _ _
+    (Represents (state g.S.Store c.set_owner.new.self)) _ _
     (c.in_err-set_owner.ensures.runs clean office now)
     (err_told _ _ c.from_residual-in_err-set_owner.ensures.1))
 
-pub returns-in_err-dept-clause-awake : goal.returns-in_err-dept-clause-awake
-returns-in_err-dept-clause-awake g c clean =
+pub returns-in_err-dept-clause-all_committed : goal.returns-in_err-dept-clause-all_committed
+returns-in_err-dept-clause-all_committed g c clean =
     let is : c.from_residual.result ≡ Err c.in_err-dept.field-0.0 = search rules in
     inl (subst (λ r. IsRefusal (told_of r)) (sym is) (body_refused _ _ c.in_err-dept.ensures))
 
-pub returns-in_err-set_owner-clause-awake : goal.returns-in_err-set_owner-clause-awake
-returns-in_err-set_owner-clause-awake g c = fault_refused g.S.Store c.set_owner.new.self _ _ c.from_residual-in_err-set_owner.ensures.1
+pub returns-in_err-set_owner-clause-all_committed
+    : goal.returns-in_err-set_owner-clause-all_committed
+returns-in_err-set_owner-clause-all_committed g c = fault_refused g.S.Store c.set_owner.new.self _ _ c.from_residual-in_err-set_owner.ensures.1

@@ -22,12 +22,13 @@ returns-clause-step g c =
       ran.2,
     )
 
-pub returns-in_default-clause-awake : goal.returns-in_default-clause-awake
-returns-in_default-clause-awake g c =
+pub returns-in_default-clause-all_committed : goal.returns-in_default-clause-all_committed
+returns-in_default-clause-all_committed g c =
     λ clean done. not_unavailable (plain_reply c.unavailable.result) c.unavailable.ensures done
 
-pub returns-clause-awake : goal.returns-clause-awake
-returns-clause-awake g c =
+pub returns-clause-all_committed : goal.returns-clause-all_committed
+returns-clause-all_committed g c =
     λ clean done. unless_refused (plain_answer c.run-answer.result)
-    (plain_reply c.answer_reply.result) c.answer_reply.ensures (c.run-answer.ensures.awake clean)
+    (plain_reply c.answer_reply.result) c.answer_reply.ensures
+    (c.run-answer.ensures.all_committed clean)
     done

@@ -17,7 +17,7 @@ returns-in-Err-clause-answered g c =
     request.body.now in
     record {
       clean = λ h. h;
-      awake = λ clean done.
+      all_committed = λ clean done.
           not_unread c.in-Err.refusal (plain_reply c.reply.result) c.reply.ensures done;
       step = λ clean office now. (
         office,

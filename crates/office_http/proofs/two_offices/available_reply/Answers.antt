@@ -4,14 +4,14 @@ use Rattle.sqlite.specs.Held.{state}
 use Rattle.sqlite.specs.Steps.{over_memory}
 use Rattle.office_messages.specs.Heads.{plain_request}
 use Rattle.office_messages.specs.Reply.{plain_reply}
-use Rattle.office_store.specs.Running.{Now}
+use Rattle.office_store.specs.Running.{Represents}
 use Rattle.office_http.proofs.TwoOfficesLemmas.{after, text}
 use Rattle.office_http.proofs.two_offices.available_reply.Goals as goal
 
 pub returns-clause-step : goal.returns-clause-step
 returns-clause-step c = λ o now.
     let went = c.reply-reply.ensures.answered.step (memory_is_clean c.reply-reply.new.desk) o now in
-    subst (λ n. Now (state over_memory c.reply-reply.new.desk) n)
+    subst (λ n. Represents (state over_memory c.reply-reply.new.desk) n)
     (after o went.0 (plain_request c.args.request.now) (plain_reply c.reply-reply.result) went.1
     (λ is. true≢false (sym (c.is_unavailable.ensures.1 is) ∙ c.if-is_unavailable.false))) went.2
 

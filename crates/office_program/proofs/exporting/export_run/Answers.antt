@@ -3,7 +3,7 @@ use Rattle.sqlite.specs.Held.{state}
 use Rattle.sqlite.specs.State.{HasCleanDisk}
 use Rattle.office_program.specs.Export.{Exports}
 use Rattle.office_store.specs.Opening.{HoldsOffice}
-use Rattle.office_store.specs.Running.{Now}
+use Rattle.office_store.specs.Running.{Represents}
 use Rattle.office_store.proofs.OpenLemmas.{kept_holds}
 use Rattle.office_program.proofs.exporting.export_run.Goals as goal
 
@@ -45,6 +45,6 @@ returns-in-Err-export_from-clause-stays g c = λ clean kept there is opened.
     let released = c.release-in-Err-export_from.ensures in
     let now = subst (λ held. HasCleanDisk (state g.S.Store held)) released clean in
     let found = c.in-Ok.ensures.adopted (c.export_from.ensures.clean now) in
-    let after = subst (λ held. Now (state g.S.Store held) there) (sym released)
+    let after = subst (λ held. Represents (state g.S.Store held) there) (sym released)
     (c.export_from.ensures.stays now there (λ opened. found.stands there is)) in
     kept_holds _ there (after opened)

@@ -3,7 +3,7 @@ use Rattle.sqlite.specs.Held.{state}
 use Rattle.sqlite.specs.State.{HasCleanDisk}
 use Rattle.office_program.specs.Load.{Loads, RefusesLoad}
 use Rattle.office_store.specs.Opening.{IsOfficeOf}
-use Rattle.office_store.specs.Running.{Now}
+use Rattle.office_store.specs.Running.{Represents}
 use Rattle.office_program.proofs.LoadFacts.{if_refused, no_office}
 use Rattle.office_store.proofs.OpenLemmas.{kept_holds}
 use Rattle.office_program.proofs.loading.load_run.Goals as goal
@@ -48,6 +48,6 @@ returns-in-Err-load_into-clause-stays g c = λ clean kept there is.
     let now = subst (λ held. HasCleanDisk (state g.S.Store held)) released clean in
     if_refused c.in-Err-load_into.fault
     (λ after opened. inr (kept_holds _ there
-    (subst (λ held. Now (state g.S.Store held) there) (sym released) after opened)))
+    (subst (λ held. Represents (state g.S.Store held) there) (sym released) after opened)))
     (c.in-Err-load_into.ensures.stays now there
     (c.in-Ok.ensures.found (c.load_into.ensures.clean now) there is))

@@ -2,7 +2,7 @@ use Rattle.std.proofs.Common.{◌∙◌, [], arith, inl, inr, subst, sym}
 use Rattle.sqlite.specs.Held.{state}
 use Rattle.sqlite.specs.State.{HasCleanDisk}
 use Rattle.office_store.specs.Opening.{IsOfficeOf}
-use Rattle.office_store.specs.Running.{Now}
+use Rattle.office_store.specs.Running.{Represents}
 use Rattle.office_program.proofs.ServeFacts.{nobody_served}
 use Rattle.office_store.proofs.OpenLemmas.{kept_holds}
 use Rattle.office_program.proofs.serving.serve_stored.Goals as goal
@@ -29,11 +29,11 @@ returns-clause-reached g c = λ clean kept there is.
     let at_end = subst (λ held. HasCleanDisk (state g.S.Store held)) same clean in
     let begun = subst (λ held. HasCleanDisk (state g.S.Store held)) made
     (c.serve_desk-done.ensures.clean at_end) in
-    let now = subst (λ held. Now (state g.S.Store held) there) (sym made)
+    let now = subst (λ held. Represents (state g.S.Store held) there) (sym made)
     (c.in-Ok.ensures.found begun there is) in
     let x = c.serve_desk-done.ensures.reached in
     let led = x.serves.served at_end there now in
-    let after = subst (λ held. Now (state g.S.Store held) led.0) (sym same) led.2 in (
+    let after = subst (λ held. Represents (state g.S.Store held) led.0) (sym same) led.2 in (
       x.serves.visits,
       omega (arith, x.serves.count, x.most),
       led.0,

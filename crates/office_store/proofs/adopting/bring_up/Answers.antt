@@ -20,8 +20,8 @@ returns-in-One-clause-tables g c clean batches held =
     (ap (λ text. record { published = found.meta.published; instance = text } ∷ [])
     (sym c.deref.ensures.value)))
 
-pub returns-in-One-clause-awake : goal.returns-in-One-clause-awake
-returns-in-One-clause-awake g c clean awake =
+pub returns-in-One-clause-all_committed : goal.returns-in-One-clause-all_committed
+returns-in-One-clause-all_committed g c clean all_committed =
     let found = c.args.found.now in
     on_ok_weaker c.migrate_tables.result (λ turned. (turned.is_open, turned.committed))
     (c.migrate_tables.ensures.done clean (tables_of found [])

@@ -16,7 +16,7 @@ use Rattle.office_model.specs.declared.fault.StoreFault.TheVariants.{BadSchema}
 use Rattle.office_store.proofs.AdoptLemmas.{both_same, found_batches, held_still, keeps_still}
 use Rattle.office_store.proofs.AdoptLemmas.{open_still}
 use Rattle.office_store.proofs.AdoptLemmas.{none_long, none_refused, none_weighed}
-use Rattle.office_store.proofs.FoundDraftLemmas.{told}
+use Rattle.office_store.proofs.FoundDraftLemmas.{meaning}
 use Rattle.office_store.proofs.LeavingLemmas.{survives_on}
 use Rattle.office_store.proofs.AllDraftLemmas.{drafts_stand, found_drafts, found_together}
 use Rattle.office_store.proofs.InMemoryLemmas.{counted}
@@ -36,7 +36,7 @@ returns-in_err-kept-clause-none g c clean =
     let found = c.in-Ok-Some.found in
     let some : c.in-Ok-Some.field-0 ≡ Some found = search rules in
     let adopted = subst (IsAdopted db) some (c.in-Ok-Some.ensures.found clean) in
-    told c.from_residual.result c.in_err-kept.field-0.0
+    meaning c.from_residual.result c.in_err-kept.field-0.0
     c.from_residual.ensures.1
     (λ bad o there. none_refused db found adopted.0 adopted.1 adopted.2 o there
     (c.in_err-kept.ensures.none bad adopted.0 adopted.1))

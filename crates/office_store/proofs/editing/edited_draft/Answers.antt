@@ -10,11 +10,11 @@ use Rattle.office_store.proofs.TogetherLemmas.{fits_in, suits_of}
 use Rattle.office_store.proofs.editing.edited_draft.Goals as goal
 
 pub returns-in_default-clause-edits : goal.returns-in_default-clause-edits
-returns-in_default-clause-edits g c clean awake o kept is =
+returns-in_default-clause-edits g c clean all_committed o kept is =
     none_in_memory c.args.memory.now c.in_default.is c.args.number c.args.edit o is
 
 pub returns-in_default-draft-clause-edits : goal.returns-in_default-draft-clause-edits
-returns-in_default-draft-clause-edits g c clean awake o kept is =
+returns-in_default-draft-clause-edits g c clean all_committed o kept is =
     edits_in_memory c.args.memory.now c.in-Some.instance c.in-Some.enrolments c.in-Some.is
     c.args.number c.args.edit (Err NoDraft) o is
     (λ r same here memory. not_there c.args.number c.args.edit r
@@ -27,18 +27,18 @@ judged_draft-requires g c = record {
 }
 
 pub returns-in_err-judged-clause-edits : goal.returns-in_err-judged-clause-edits
-returns-in_err-judged-clause-edits g c clean awake o kept is =
+returns-in_err-judged-clause-edits g c clean all_committed o kept is =
     let d = c.args.number in
     let fault = c.in_err-judged.field-0.0 in
     let same_as : c.from_residual.result ≡ Err fault = search rules in
     subst (Edits d c.args.edit o) (sym same_as)
     (edits_in_memory c.args.memory.now c.in-Some.instance c.in-Some.enrolments c.in-Some.is d
     c.args.edit (Err fault) o is
-    (λ r same here memory. c.in_err-judged.ensures.told d r here
+    (λ r same here memory. c.in_err-judged.ensures.meaning d r here
     (sym (memory.drafts d) ∙ c.in-Some-draft.ensures.some)))
 
 pub returns-in_err-parts-clause-edits : goal.returns-in_err-parts-clause-edits
-returns-in_err-parts-clause-edits g c clean awake o kept is =
+returns-in_err-parts-clause-edits g c clean all_committed o kept is =
     let d = c.args.number in
     let I = c.in-Some.instance in
     let E = c.in-Some.enrolments in
@@ -47,13 +47,13 @@ returns-in_err-parts-clause-edits g c clean awake o kept is =
     subst (Edits d c.args.edit o) (sym same_as)
     (edits_in_memory c.args.memory.now I E c.in-Some.is d c.args.edit (Err fault) o is
     (λ r same here memory.
-    let judged = c.in_ok-judged.ensures.told d r here
+    let judged = c.in_ok-judged.ensures.meaning d r here
     (sym (memory.drafts d) ∙ c.in-Some-draft.ensures.some) in
     only_failed d c.args.edit (Some r) fault
-    (c.in_err-parts.ensures.told
+    (c.in_err-parts.ensures.meaning
     (record {
       clean = clean;
-      opened = awake.0;
+      opened = all_committed.0;
       records = r;
       kept = subst (RepresentsOffice _) same kept;
       enrolments = ap (λ (p : Session × Enrolled). p.1) (both r I E here);
@@ -62,7 +62,7 @@ returns-in_err-parts-clause-edits g c clean awake o kept is =
     c.in_ok-judged.ensures.of c.in_ok-judged.ensures.kept))))
 
 pub returns-clause-edits : goal.returns-clause-edits
-returns-clause-edits g c clean awake o kept is =
+returns-clause-edits g c clean all_committed o kept is =
     let d = c.args.number in
     let I = c.in-Some.instance in
     let E = c.in-Some.enrolments in
@@ -72,14 +72,14 @@ returns-clause-edits g c clean awake o kept is =
       places = c.in_ok-places.places;
     })) o is
     (λ r same here memory.
-    let judged = c.in_ok-judged.ensures.told d r here
+    let judged = c.in_ok-judged.ensures.meaning d r here
     (sym (memory.drafts d) ∙ c.in-Some-draft.ensures.some) in
     edit_comes r I E here d c.args.edit c.in_ok-judged.judged c.in_ok-parts.parts judged
     c.in_ok-judged.ensures.kept
-    (c.in_ok-parts.ensures.told
+    (c.in_ok-parts.ensures.meaning
     (record {
       clean = clean;
-      opened = awake.0;
+      opened = all_committed.0;
       records = r;
       kept = subst (RepresentsOffice _) same kept;
       enrolments = ap (λ (p : Session × Enrolled). p.1) (both r I E here);

@@ -14,7 +14,7 @@ returns-in_err-exams-clause-fault g c E had =
 pub returns-in_err-count-clause-fault : goal.returns-in_err-count-clause-fault
 returns-in_err-count-clause-fault g c E had =
     let inv = c.each.invariant in
-    let hers = c.in_ok-exams.ensures.hers E
+    let own_rows = c.in_ok-exams.ensures.exams E
     (had_on g.S.Store c.args.conn.now c.each.conn c.read_exams.new.conn inv.read inv.same
     c.read_exams.ensures.read E had) in
     let few = not_more g.S.Store c.args.students.now c.args.conn.now c.each.conn
@@ -23,7 +23,7 @@ returns-in_err-count-clause-fault g c E had =
     c.requires.ascending E had
     (had_before g.S.Store c.args.conn.now c.each.conn c.read_exams.new.conn inv.read inv.same
     c.read_exams.ensures.read E had)
-    (c.deref.ensures.value ∙ hers) in
+    (c.deref.ensures.value ∙ own_rows) in
     absurd (omega (arith, few, c.in_err-count.ensures.err.1))
 
 pub fold_exams-requires-clause-room : goal.fold_exams-requires-clause-room
@@ -52,7 +52,7 @@ each-preserved g c =
           c.in_ok-fold_exams.ensures.stands
           (had_before g.S.Store c.args.conn.now c.each.conn c.read_exams.new.conn inv.read inv.same
           c.read_exams.ensures.read)
-          (λ E had. c.in_ok-exams.ensures.hers E
+          (λ E had. c.in_ok-exams.ensures.exams E
           (had_on g.S.Store c.args.conn.now c.each.conn c.read_exams.new.conn inv.read inv.same
           c.read_exams.ensures.read E had));
       up = rise_on c.each.rest.now c.in-Some.student.now c.in-Some.others.now is inv.up;

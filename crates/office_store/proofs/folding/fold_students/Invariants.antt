@@ -1,7 +1,7 @@
 use Rattle.std.proofs.Common.{length}
 use Rattle.exam_model.specs.Enrolments.{IsAscending}
 use Rattle.exam_score.specs.Folds.{IsFoldOf}
-use Rattle.office_store.specs.FoldReads.{HasRead, IsSame}
+use Rattle.office_store.specs.FoldReads.{HasRead, RowsUnchanged}
 use Rattle.office_store.specs.Folding.{HasTaken}
 use Rattle.office_store.proofs.folding.fold_students.Given as goal
 
@@ -12,7 +12,7 @@ invariant-each g l = record {
   up : IsAscending l.rest;
   of : IsFoldOf l.fold l.fn.empty.instance l.fn.empty.earlier l.fn.empty.later l.fn.empty.edited;
   read : HasRead g.S.Store l.fn.conn l.conn;
-  same : IsSame g.S.Store l.fn.conn l.conn;
+  same : RowsUnchanged g.S.Store l.fn.conn l.conn;
 }
 
 abbrev pub decreases-each : goal.decreases-each

@@ -6,8 +6,8 @@ use Rattle.exam_score.specs.Folds.{Folded}
 use Rattle.exam_score.specs.Front.{AreSizes}
 use Rattle.exam_score.specs.Track.{track}
 use Rattle.office_store.specs.Folding.{pairs_of_students, students_of_exams}
-use Rattle.office_store.specs.Running.{Tells}
-use Rattle.office_store.proofs.FoldingLemmas.{fold_of, told_after}
+use Rattle.office_store.specs.Running.{ReturnsValue}
+use Rattle.office_store.proofs.FoldingLemmas.{fold_of, returned_after}
 use Rattle.office_store.proofs.folding.penalty_after.Goals as goal
 
 pub fold_students-requires-clause-ascending : goal.fold_students-requires-clause-ascending
@@ -15,14 +15,15 @@ fold_students-requires-clause-ascending g c =
     subst IsAscending (sym (c.deref-3.ensures.value ∙ c.in_ok-students.ensures))
     (ascends (flat_map (students c.args.enrolments.now) c.deref.result.now))
 
-pub returns-in_err-fold-clause-told : goal.returns-in_err-fold-clause-told
-returns-in_err-fold-clause-told g c had of =
+pub returns-in_err-fold-clause-meaning : goal.returns-in_err-fold-clause-meaning
+returns-in_err-fold-clause-meaning g c had of =
     let is : c.from_residual-in_err-fold.result ≡ Err c.in_err-fold.field-0.0 = search rules in
-    subst (Tells (track c.args.instance.now c.args.enrolments.now c.args.judged.now.new)) (sym is)
+    subst (ReturnsValue (track c.args.instance.now c.args.enrolments.now c.args.judged.now.new))
+    (sym is)
     (c.in_err-fold.ensures.fault c.args.enrolments.now had)
 
-pub returns-clause-told : goal.returns-clause-told
-returns-clause-told g c had of =
+pub returns-clause-meaning : goal.returns-clause-meaning
+returns-clause-meaning g c had of =
     let I = c.args.instance.now in
     let E = c.args.enrolments.now in
     let judged = c.args.judged.now in
@@ -31,8 +32,8 @@ returns-clause-told g c had of =
     let stands = c.in_ok-fold.ensures.stands in
     let found = c.deref-3.ensures.value ∙ c.in_ok-students.ensures
     ∙ ap (students_of_exams E) c.deref.ensures.value in
-    subst (Tells (track I E judged.new)) (sym c.ok_or.ensures.value)
-    (told_after g.S.Store c.args.conn.now c.fold_students.new.conn c.in_ok-fold.fold I E judged
+    subst (ReturnsValue (track I E judged.new)) (sym c.ok_or.ensures.value)
+    (returned_after g.S.Store c.args.conn.now c.fold_students.new.conn c.in_ok-fold.fold I E judged
     empty.edited c.deref-4.result.now c.finish.result stands.0 had of
     (fold_of c.in_ok-fold.fold empty I judged.draft.now.timetable judged.new empty.edited
     c.in_ok-fold.ensures.of

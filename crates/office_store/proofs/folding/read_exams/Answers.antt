@@ -5,8 +5,8 @@ use Rattle.std.specs.declared.alloc.Global.{Global}
 use Rattle.office_store.proofs.FoldingLemmas.{exams_are, ok_weaker, rows_fit, rows_had, sat_up, some_is}
 use Rattle.office_store.proofs.folding.read_exams.Goals as goal
 
-pub returns-clause-hers : goal.returns-clause-hers
-returns-clause-hers g c E had =
+pub returns-clause-exams : goal.returns-clause-exams
+returns-clause-exams g c E had =
     let s = c.args.student in
     let rows = rows_had g.S.Store c.args.conn.now c.find_enrols_of.new.conn E had s c.get.result
     c.get.ensures.number c.in-Some.rows.items

@@ -2,7 +2,7 @@ use Rattle.std.proofs.Common.{rules, ◌≡◌, ◌∙◌, Err, Ok, ap, option_m
 use Rattle.std.specs.Prelude.{IfErr, ok_or}
 use Rattle.office_model.specs.declared.fault.StoreFault.TheVariants.{BadSchema}
 use Rattle.office_store.specs.Memory.{AreNoDrafts, scored_by}
-use Rattle.office_store.proofs.FoundDraftLemmas.{its_row, made_of, no_draft, none_of, small_of, some_of, told}
+use Rattle.office_store.proofs.FoundDraftLemmas.{its_row, made_of, no_draft, none_of, small_of, some_of, meaning}
 use Rattle.office_store.proofs.found_drafts.draft_of_rows.Goals as goal
 
 pub returns-in_default-clause-is : goal.returns-in_default-clause-is
@@ -26,7 +26,7 @@ returns-in_err-parts-clause-bad c =
 
 pub returns-in_err-timetable-clause-bad : goal.returns-in_err-timetable-clause-bad
 returns-in_err-timetable-clause-bad c =
-    told c.from_residual-in_err-timetable.result c.in_err-timetable.field-0.0
+    meaning c.from_residual-in_err-timetable.result c.in_err-timetable.field-0.0
     c.from_residual-in_err-timetable.ensures.1
     (λ bad E draft known enrolled are.
     let of = its_row c.args.instance.now E c.args.rows.now c.args.slots.now draft are

@@ -7,8 +7,8 @@ use Rattle.exam_score.specs.Track.{track}
 use Rattle.office_model.specs.declared.fault.StoreFault.TheVariants.{NoDraft}
 use Rattle.office_records.specs.Publications.{placed_rows}
 use Rattle.office_records.specs.Representation.{RepresentsOffice}
-use Rattle.office_store.specs.FoldReads.{IsSame}
-use Rattle.office_store.specs.NewPublications.{PutsIn}
+use Rattle.office_store.specs.FoldReads.{RowsUnchanged}
+use Rattle.office_store.specs.NewPublications.{InsertsOrRefuses}
 use Rattle.exam_model.specs.Enrolments.{Enrolled}
 use Rattle.exam_model.specs.Instance.{Session}
 use Rattle.office_store.proofs.EditCallLemmas.{both, there_of}
@@ -18,11 +18,11 @@ use Rattle.office_store.proofs.TogetherLemmas.{fits_in}
 use Rattle.office_store.proofs.new_publication.new_publication.Goals as goal
 
 pub returns-in_default-clause-publishes : goal.returns-in_default-clause-publishes
-returns-in_default-clause-publishes g c clean awake o kept is =
+returns-in_default-clause-publishes g c clean all_committed o kept is =
     none_published c.args.memory.now c.in_default.is c.args.number o is
 
 pub returns-in_default-draft-clause-publishes : goal.returns-in_default-draft-clause-publishes
-returns-in_default-draft-clause-publishes g c clean awake o kept is =
+returns-in_default-draft-clause-publishes g c clean all_committed o kept is =
     puts_in_memory c.args.memory.now c.in-Some.instance c.in-Some.enrolments c.in-Some.is
     c.args.number (Err NoDraft) o is
     (λ r same here memory. no_such_draft c.args.number r
@@ -35,11 +35,11 @@ check_permit-requires g c = record {
 }
 
 pub returns-in_err-check_permit-clause-publishes : goal.returns-in_err-check_permit-clause-publishes
-returns-in_err-check_permit-clause-publishes g c clean awake o kept is =
+returns-in_err-check_permit-clause-publishes g c clean all_committed o kept is =
     let d = c.args.number in
     let fault = c.in_err-check_permit.field-0.0 in
     let same_as : c.from_residual.result ≡ Err fault = search rules in
-    subst (PutsIn d o) (sym same_as)
+    subst (InsertsOrRefuses d o) (sym same_as)
     (puts_in_memory c.args.memory.now c.in-Some.instance c.in-Some.enrolments c.in-Some.is d
     (Err fault) o is
     (λ r same here memory. c.in_err-check_permit.ensures.refused d r here
@@ -47,13 +47,13 @@ returns-in_err-check_permit-clause-publishes g c clean awake o kept is =
     (sym (memory.drafts d) ∙ c.in-Some-draft.ensures.some)).timetable))
 
 pub returns-in_err-old-clause-publishes : goal.returns-in_err-old-clause-publishes
-returns-in_err-old-clause-publishes g c clean awake o kept is =
+returns-in_err-old-clause-publishes g c clean all_committed o kept is =
     let d = c.args.number in
     let I = c.in-Some.instance in
     let E = c.in-Some.enrolments in
     let fault = c.in_err-old.field-0.0 in
     let same_as : c.from_residual-in_err-old.result ≡ Err fault = search rules in
-    subst (PutsIn d o) (sym same_as)
+    subst (InsertsOrRefuses d o) (sym same_as)
     (puts_in_memory c.args.memory.now I E c.in-Some.is d (Err fault) o is
     (λ r same here memory.
     let there = subst (RepresentsOffice _) same kept in
@@ -62,12 +62,12 @@ returns-in_err-old-clause-publishes g c clean awake o kept is =
     (c.in_ok-published.ensures.rows clean (Some r) there))))
 
 pub returns-clause-publishes : goal.returns-clause-publishes
-returns-clause-publishes g c clean awake o kept is =
+returns-clause-publishes g c clean all_committed o kept is =
     let d = c.args.number in
     let I = c.in-Some.instance in
     let E = c.in-Some.enrolments in
     let T = c.in-Some-draft.draft.now.timetable in
-    puts_in_memory c.args.memory.now I E c.in-Some.is d c.put_together.result o is
+    puts_in_memory c.args.memory.now I E c.in-Some.is d c.publication_writes.result o is
     (λ r same here memory.
     let there = subst (RepresentsOffice _) same kept in
     let draft = there_of d r c.in-Some-draft.draft.now
@@ -75,7 +75,7 @@ returns-clause-publishes g c clean awake o kept is =
     let was = c.in_ok-old.ensures.are r there.office (same_session r I E here)
     (c.in_ok-published.ensures.rows clean (Some r) there) in
     publishes d r I E T here draft.timetable c.deref-2.result.now c.deref-3.result.now
-    c.deref-4.result.now (total_of c.in-Some-draft.draft.now.parts) c.put_together.result
+    c.deref-4.result.now (total_of c.in-Some-draft.draft.now.parts) c.publication_writes.result
     c.in_ok-check_permit.ensures.permitted
     (subst (λ l. IsPermutation l (placed_rows r.published)) (sym c.deref-2.ensures.value)
     (c.in_ok-published.ensures.rows clean (Some r) there).placed)
@@ -84,7 +84,7 @@ returns-clause-publishes g c clean awake o kept is =
     ∙ ap (seat_rows (pairs_of E) T) (c.deref.ensures.value ∙ sym c.deref-3.ensures.value))
     (ap total_of (draft.scored
     ∙ ap (λ (p : Session × Enrolled). track p.0 p.1 T) (both r I E here)))
-    c.put_together.ensures.put c.put_together.ensures.err)
+    c.publication_writes.ensures.put c.publication_writes.ensures.err)
 
 -- what holds whatever is answered holds of an Ok
 on_any : {A E : Type 0} (P : Type 0) (result : Result A E) → P → OnOk result P
@@ -93,5 +93,6 @@ on_any P (Err e) is = tt
 
 pub returns-clause-same : goal.returns-clause-same
 returns-clause-same g c =
-    on_any (IsSame g.S.Store c.args.conn.now c.read_published.new.conn) c.put_together.result
+    on_any (RowsUnchanged g.S.Store c.args.conn.now c.read_published.new.conn)
+    c.publication_writes.result
     c.in_ok-published.ensures.same

@@ -2,15 +2,15 @@ use Rattle.std.proofs.Common.{◌↔◌, ◌≤◌, Some, length, subst, sym}
 use Rattle.std.specs.Prelude.{IsTrue}
 use Rattle.office_records.specs.Publications.{RowsRepresentPublication}
 use Rattle.office_store.specs.Publications.{plain, publication_shown}
-use Rattle.office_store.proofs.PublishedReadLemmas.{found_good, plain_fault, told_fault, told_found}
+use Rattle.office_store.proofs.PublishedReadLemmas.{found_good, plain_fault, returned_fault, returned_found}
 use Rattle.office_store.proofs.publications.published_of.Goals as goal
 
-pub returns-in_err-published-clause-told : goal.returns-in_err-published-clause-told
-returns-in_err-published-clause-told c r is same rows =
+pub returns-in_err-published-clause-meaning : goal.returns-in_err-published-clause-meaning
+returns-in_err-published-clause-meaning c r is same rows =
     let mark = c.has_places-mark.result in
     let placed = sym c.deref.ensures.value in
     let seated = sym c.deref-2.ensures.value in
-    told_fault (publication_shown (Some r)) (plain c.from_residual.result)
+    returned_fault (publication_shown (Some r)) (plain c.from_residual.result)
     c.in_err-published.field-0.0 (plain_fault c.from_residual.result _ c.from_residual.ensures.1)
     (λ bad. found_good c.args.instance.now c.deref.result.now c.deref-2.result.now mark
     (subst (λ l. IsTrue mark ↔ (1 ≤ length l)) placed c.has_places-mark.ensures) r is same
@@ -19,12 +19,12 @@ returns-in_err-published-clause-told c r is same rows =
     rows))
     (c.in_err-published.ensures.none bad))
 
-pub returns-clause-told : goal.returns-clause-told
-returns-clause-told c r is same rows =
+pub returns-clause-meaning : goal.returns-clause-meaning
+returns-clause-meaning c r is same rows =
     let mark = c.has_places-mark.result in
     let placed = sym c.deref.ensures.value in
     let seated = sym c.deref-2.ensures.value in
-    told_found c.args.instance.now c.deref.result.now c.deref-2.result.now mark
+    returned_found c.args.instance.now c.deref.result.now c.deref-2.result.now mark
     (subst (λ l. IsTrue mark ↔ (1 ≤ length l)) placed c.has_places-mark.ensures) r is same
     (subst (λ l. RowsRepresentPublication l c.deref-2.result.now r.published) placed
     (subst (λ l. RowsRepresentPublication c.args.found.now.placements.items l r.published) seated

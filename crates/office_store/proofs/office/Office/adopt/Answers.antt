@@ -9,8 +9,8 @@ use Rattle.office_store.proofs.LeavingLemmas.{survives_more, survives_same}
 use Rattle.office_store.proofs.office.Office.adopt.Goals as goal
 
 at_rest : (answer within : Bool) → answer ≡ not within → answer ≡ true → within ≡ false
-at_rest answer true is told = absurd cc
-at_rest answer false is told = refl
+at_rest answer true is meaning = absurd cc
+at_rest answer false is meaning = refl
 
 pub bring_up-requires : goal.bring_up-requires
 bring_up-requires g c = record {
@@ -54,9 +54,9 @@ returns-in-Ok-bring_up-clause-same g c clean schema =
 
 pub returns-in-Ok-bring_up-clause-leaves : goal.returns-in-Ok-bring_up-clause-leaves
 returns-in-Ok-bring_up-clause-leaves g c = record {
-  awake = λ clean.
+  all_committed = λ clean.
       let clean_mid = c.bring_up.ensures.clean clean in
-      c.in-Ok-bring_up.ensures.awake clean
+      c.in-Ok-bring_up.ensures.all_committed clean
       (awake_still g.S.Store c.args.conn c.kept_in.new.conn (c.in-Ok.ensures.same clean_mid)
       (c.is_autocommit.ensures.settled c.if-not-is_autocommit.false)
       (c.in-Ok.ensures.open clean_mid));
@@ -68,7 +68,7 @@ returns-in-Ok-bring_up-clause-leaves g c = record {
 
 pub returns-clause-leaves : goal.returns-clause-leaves
 returns-clause-leaves g c = record {
-  awake = search rules;
+  all_committed = search rules;
   survives = may_migrate g.S.Store c.args.conn c.kept_in.new.conn c.bring_up.new.conn _ _
       (Err (Store, c.bring_up.new.conn)) refl
       c.bring_up.ensures.clean c.in-Ok.ensures.same c.in-Ok.ensures.kept
@@ -82,7 +82,7 @@ returns-clause-undone g c =
 
 pub returns-in-Err-clause-leaves : goal.returns-in-Err-clause-leaves
 returns-in-Err-clause-leaves g c = record {
-  awake = search rules;
+  all_committed = search rules;
   survives = survives_more (state g.S.Store c.args.conn) (state g.S.Store c.kept_in.new.conn) _
       c.kept_in.ensures.survives;
 }
@@ -98,7 +98,7 @@ returns-in-Err-clause-undone g c =
 pub returns-then-not-is_autocommit-clause-leaves
     : goal.returns-then-not-is_autocommit-clause-leaves
 returns-then-not-is_autocommit-clause-leaves g c = record {
-  awake = search rules;
+  all_committed = search rules;
   survives = survives_more (state g.S.Store c.args.conn) (state g.S.Store c.args.conn) _
       (survives_same (state g.S.Store c.args.conn));
 }

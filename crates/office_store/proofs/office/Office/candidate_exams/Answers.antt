@@ -3,23 +3,28 @@ use Rattle.office_model.specs.Shown.{shown_exams}
 use Rattle.office_model.specs.Views.{view_of}
 use Rattle.office_store.specs.Judging.{listed}
 use Rattle.office_store.proofs.CommandLemmas.{tells}
-use Rattle.office_store.proofs.ViewLemmas.{exams_told, nothing_told}
+use Rattle.office_store.proofs.ViewLemmas.{exams_returned, nothing_returned}
 use Rattle.office_store.proofs.office.Office.candidate_exams.Goals as goal
 
 pub returns-in_default-clause-reads : goal.returns-in_default-clause-reads
 returns-in_default-clause-reads g c =
-    tells g.S.Store c.args.self.now c.her_rows.new.self c.self.inside.conn c.self.inside.memory
-    c.self.view_is c.self.invariant.1 c.in_ok-found.ensures.awake c.in_ok-found.ensures.still
+    tells g.S.Store c.args.self.now c.candidate_rows.new.self c.self.inside.conn
+    c.self.inside.memory
+    c.self.view_is c.self.invariant.1 c.in_ok-found.ensures.all_committed
+    c.in_ok-found.ensures.unchanged
     (λ o. shown_exams (view_of c.args.student o)) (listed (Ok c.new.result))
-    (λ k o kept is. nothing_told o c.self.inside.memory.kept c.in_default.is is.session
+    (λ k o kept is. nothing_returned o c.self.inside.memory.kept c.in_default.is is.session
     c.args.student
     (listed (Ok c.new.result)) c.new.ensures.items)
 
 pub returns-clause-reads : goal.returns-clause-reads
 returns-clause-reads g c =
-    tells g.S.Store c.args.self.now c.her_rows.new.self c.self.inside.conn c.self.inside.memory
-    c.self.view_is c.self.invariant.1 c.in_ok-found.ensures.awake c.in_ok-found.ensures.still
+    tells g.S.Store c.args.self.now c.candidate_rows.new.self c.self.inside.conn
+    c.self.inside.memory
+    c.self.view_is c.self.invariant.1 c.in_ok-found.ensures.all_committed
+    c.in_ok-found.ensures.unchanged
     (λ o. shown_exams (view_of c.args.student o)) (listed c.exams_from.result)
-    (λ k o kept is. exams_told o c.in-Some.instance c.in-Some.field-0-1 c.self.inside.memory.kept
+    (λ k o kept is. exams_returned o c.in-Some.instance c.in-Some.field-0-1
+    c.self.inside.memory.kept
     c.in-Some.is kept.office is.session c.args.student _ _ _ (c.in_ok-found.ensures.rows k o kept)
-    (listed c.exams_from.result) (c.exams_from.ensures.told c.args.student))
+    (listed c.exams_from.result) (c.exams_from.ensures.meaning c.args.student))

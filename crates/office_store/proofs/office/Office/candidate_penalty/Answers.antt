@@ -1,20 +1,20 @@
 use Rattle.sqlite.specs.Held.{state}
 use Rattle.office_model.specs.Shown.{shown_penalty}
 use Rattle.office_model.specs.Views.{view_of}
-use Rattle.office_store.specs.Running.{Now}
+use Rattle.office_store.specs.Running.{Represents}
 use Rattle.office_store.proofs.CommandLemmas.{shown, stays_by}
-use Rattle.office_store.proofs.ViewLemmas.{her_share_of, penalty_told}
+use Rattle.office_store.proofs.ViewLemmas.{candidate_share_of, penalty_returned}
 use Rattle.office_store.proofs.office.Office.candidate_penalty.Goals as goal
 
 pub returns-clause-reads : goal.returns-clause-reads
 returns-clause-reads g c clean o now =
-    let mid = c.her_shares.new.self in
-    let stays = stays_by g.S.Store c.args.self.now mid c.in_ok-rows.ensures.still clean o now in
-    let kept = stays (c.in_ok-rows.ensures.awake clean).0 in
+    let mid = c.candidate_shares.new.self in
+    let stays = stays_by g.S.Store c.args.self.now mid c.in_ok-rows.ensures.unchanged clean o now in
+    let kept = stays (c.in_ok-rows.ensures.all_committed clean).0 in
     let rows = c.in_ok-rows.rows.items in
     let penalty = shown_penalty (view_of c.args.student o) in
-    shown penalty o (Now (state g.S.Store mid)) c.personal_in.result
-    (penalty_told rows c.deref.result.now penalty c.personal_in.result c.deref.ensures.value
-    (her_share_of o c.args.student kept.office rows (c.in_ok-rows.ensures.rows clean o kept))
+    shown penalty o (Represents (state g.S.Store mid)) c.personal_in.result
+    (penalty_returned rows c.deref.result.now penalty c.personal_in.result c.deref.ensures.value
+    (candidate_share_of o c.args.student kept.office rows (c.in_ok-rows.ensures.rows clean o kept))
     c.personal_in.ensures.none c.personal_in.ensures.one)
     stays

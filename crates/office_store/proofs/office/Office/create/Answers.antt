@@ -40,21 +40,21 @@ returns-in-Ok-clause-made g c clean = record {
 pub returns-then-not-is_autocommit-clause-leaves
     : goal.returns-then-not-is_autocommit-clause-leaves
 returns-then-not-is_autocommit-clause-leaves g c = record {
-  awake = search rules;
+  all_committed = search rules;
   survives = survives_more (state g.S.Store c.args.conn) (state g.S.Store c.args.conn) _
       (survives_same (state g.S.Store c.args.conn));
 }
 
 pub returns-then-not-is_bare-clause-leaves : goal.returns-then-not-is_bare-clause-leaves
 returns-then-not-is_bare-clause-leaves g c = record {
-  awake = search rules;
+  all_committed = search rules;
   survives = survives_more (state g.S.Store c.args.conn) (state g.S.Store c.args.conn) _
       (survives_same (state g.S.Store c.args.conn));
 }
 
 pub returns-in-Ok-clause-leaves : goal.returns-in-Ok-clause-leaves
 returns-in-Ok-clause-leaves g c = record {
-  awake = search rules;
+  all_committed = search rules;
   survives = let bare : (state g.S.Store c.args.conn).now.schema ≡ no_schema = search rules in
       may_make g.S.Store c.args.conn c.make_tables.new.conn (Ok c.make_tables.new.conn) bare tt
       c.make_tables.ensures.survives;
@@ -62,7 +62,7 @@ returns-in-Ok-clause-leaves g c = record {
 
 pub returns-in-Err-clause-leaves : goal.returns-in-Err-clause-leaves
 returns-in-Err-clause-leaves g c = record {
-  awake = search rules;
+  all_committed = search rules;
   survives = let bare : (state g.S.Store c.args.conn).now.schema ≡ no_schema = search rules in
       may_make g.S.Store c.args.conn c.make_tables.new.conn (Err (Store, c.make_tables.new.conn))
       bare refl

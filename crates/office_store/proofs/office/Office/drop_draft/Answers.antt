@@ -13,14 +13,14 @@ returns-then-is_none-clause-runs g c =
     let empty : c.self.inside.memory.kept ≡ None = search rules in
     refuses g.S.Store (draft_dropped c.args.number) c.args.self.now c.look.new.self
     c.self.inside.conn c.self.inside.memory c.self.view_is c.self.invariant.1
-    c.in_ok-look.ensures.awake c.in_ok-look.ensures.still NotLoaded
+    c.in_ok-look.ensures.all_committed c.in_ok-look.ensures.unchanged NotLoaded
     (λ _. not_loaded (draft_dropped c.args.number) _ _ empty refl)
 
 pub returns-then-not-has_draft-clause-runs : goal.returns-then-not-has_draft-clause-runs
 returns-then-not-has_draft-clause-runs g c =
     refuses g.S.Store (draft_dropped c.args.number) c.args.self.now c.look.new.self
     c.self.inside.conn c.self.inside.memory c.self.view_is c.self.invariant.1
-    c.in_ok-look.ensures.awake c.in_ok-look.ensures.still NoDraft
+    c.in_ok-look.ensures.all_committed c.in_ok-look.ensures.unchanged NoDraft
     (λ k. drop_denied c.args.number _ c.self.inside.memory c.if-is_none.ensures
     c.if-not-has_draft.ensures)
 
@@ -45,7 +45,7 @@ pub returns-clause-runs : goal.returns-clause-runs
 returns-clause-runs g c =
     runs g.S.Store (draft_dropped c.args.number) c.args.self.now c.look.new.self
     c.self.inside.conn c.self.inside.memory c.self.view_is c.self.invariant.1
-    c.in_ok-look.ensures.awake c.in_ok-look.ensures.still c.put.new.conn
+    c.in_ok-look.ensures.all_committed c.in_ok-look.ensures.unchanged c.put.new.conn
     tt c.put.ensures.clean
     (λ k. drop_moves c.args.number _ c.self.inside.memory _ c.if-is_none.ensures
     c.if-not-has_draft.ensures
@@ -53,31 +53,31 @@ returns-clause-runs g c =
 
 pub returns-in_err-look-clause-leaves : goal.returns-in_err-look-clause-leaves
 returns-in_err-look-clause-leaves g c = record {
-  awake = search rules;
+  all_committed = search rules;
   survives = survives_more (state g.S.Store c.args.self.now) (state g.S.Store c.look.new.self) _
       c.look.ensures.survives;
 }
 
 pub returns-then-is_none-clause-leaves : goal.returns-then-is_none-clause-leaves
 returns-then-is_none-clause-leaves g c = record {
-  awake = search rules;
+  all_committed = search rules;
   survives = survives_more (state g.S.Store c.args.self.now) (state g.S.Store c.look.new.self) _
       c.look.ensures.survives;
 }
 
 pub returns-then-not-has_draft-clause-leaves : goal.returns-then-not-has_draft-clause-leaves
 returns-then-not-has_draft-clause-leaves g c = record {
-  awake = search rules;
+  all_committed = search rules;
   survives = survives_more (state g.S.Store c.args.self.now) (state g.S.Store c.look.new.self) _
       c.look.ensures.survives;
 }
 
 pub returns-in_err-put-clause-leaves : goal.returns-in_err-put-clause-leaves
 returns-in_err-put-clause-leaves g c = record {
-  awake = search rules;
+  all_committed = search rules;
   survives = survives_by g.S.Store (draft_dropped c.args.number) c.args.self.now c.look.new.self
       c.self.inside.conn c.put.new.conn c.self.inside.memory c.self.view_is
-      c.self.invariant.1 c.in_ok-look.ensures.awake c.in_ok-look.ensures.still
+      c.self.invariant.1 c.in_ok-look.ensures.all_committed c.in_ok-look.ensures.unchanged
       c.look.ensures.survives _ tt c.put.ensures.survives
       (λ k found changed. drop_moves c.args.number _ c.self.inside.memory _ c.if-is_none.ensures
       c.if-not-has_draft.ensures changed)
@@ -86,10 +86,10 @@ returns-in_err-put-clause-leaves g c = record {
 
 pub returns-clause-leaves : goal.returns-clause-leaves
 returns-clause-leaves g c = record {
-  awake = search rules;
+  all_committed = search rules;
   survives = survives_by g.S.Store (draft_dropped c.args.number) c.args.self.now c.look.new.self
       c.self.inside.conn c.put.new.conn c.self.inside.memory c.self.view_is
-      c.self.invariant.1 c.in_ok-look.ensures.awake c.in_ok-look.ensures.still
+      c.self.invariant.1 c.in_ok-look.ensures.all_committed c.in_ok-look.ensures.unchanged
       c.look.ensures.survives _ tt c.put.ensures.survives
       (λ k found changed. drop_moves c.args.number _ c.self.inside.memory _ c.if-is_none.ensures
       c.if-not-has_draft.ensures changed)

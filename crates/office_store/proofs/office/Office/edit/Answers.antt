@@ -8,7 +8,7 @@ use Rattle.office_tables.specs.Draft.{with_draft, without_draft}
 use Rattle.office_tables.specs.Tables.{Tables}
 use Rattle.office_model.specs.DraftCommands.{draft_edited}
 use Rattle.office_model.specs.declared.fault.StoreFault.TheVariants.{Store}
-use Rattle.office_store.specs.Running.{Runs}
+use Rattle.office_store.specs.Running.{CommandRan}
 use Rattle.office_store.proofs.CommandLemmas.{awake_inside, refuses_on, rests, runs, runs_then}
 use Rattle.office_store.proofs.CommandLemmas.{stays_on, stays_then}
 use Rattle.office_store.proofs.EditCallLemmas.{edit_moves, edit_remembers}
@@ -21,7 +21,7 @@ use Rattle.office_store.proofs.office.Office.edit.Goals as goal
 
 pub returns-in_err-look-clause-leaves : goal.returns-in_err-look-clause-leaves
 returns-in_err-look-clause-leaves g c = record {
-  awake = search rules;
+  all_committed = search rules;
   survives = survives_more (state g.S.Store c.args.self.now) (state g.S.Store c.look.new.self) _
       c.look.ensures.survives;
 }
@@ -47,12 +47,12 @@ returns-in_err-new-clause-runs g c =
     let fault = c.in_err-new.field-0.0 in
     let command = draft_edited c.args.number c.args.edit in
     let is : c.from_residual-in_err-new.result ≡ Err fault = search rules in
-    subst (Runs g.S.Store command c.args.self.now after) (sym is)
+    subst (CommandRan g.S.Store command c.args.self.now after) (sym is)
     (runs_then g.S.Store command c.args.self.now start after (Err fault)
-    c.in_ok-look.ensures.still
+    c.in_ok-look.ensures.unchanged
     (λ k. subst (λ h. HasCleanDisk (state g.S.Store h)) c.self.view_is (read.clean k))
     (refuses_on g.S.Store command start inside after c.self.inside.memory
-    c.self.view_is c.self.invariant.1 c.in_ok-look.ensures.awake read.clean
+    c.self.view_is c.self.invariant.1 c.in_ok-look.ensures.all_committed read.clean
     (still_read (state g.S.Store inside) (state g.S.Store after) c.self.inside.memory
     c.self.invariant.1 read.clean
     (c.is_autocommit-at_rest.ensures.settled
@@ -60,7 +60,8 @@ returns-in_err-new-clause-runs g c =
     read.was_open read.kept)
     fault
     (λ k o here is. c.in_err-new.ensures.edits k
-    (awake_inside g.S.Store start inside c.self.view_is c.in_ok-look.ensures.awake (read.clean k))
+    (awake_inside g.S.Store start inside c.self.view_is c.in_ok-look.ensures.all_committed
+    (read.clean k))
     o here is)))
 
 pub returns-in_err-new-clause-stays : goal.returns-in_err-new-clause-stays
@@ -70,7 +71,7 @@ returns-in_err-new-clause-stays g c =
     let after = c.edited_draft.new.conn in
     let read = c.edited_draft.ensures.read in
     stays_then g.S.Store c.args.self.now start after c.from_residual-in_err-new.result
-    c.in_ok-look.ensures.still
+    c.in_ok-look.ensures.unchanged
     (λ k. subst (λ h. HasCleanDisk (state g.S.Store h)) c.self.view_is (read.clean k))
     (stays_on g.S.Store start inside after c.self.view_is
     (still_read (state g.S.Store inside) (state g.S.Store after) c.self.inside.memory
@@ -103,14 +104,14 @@ returns-in_err-put-clause-runs g c =
     let command = draft_edited c.args.number c.args.edit in
     let given = err_from_is_err_and c.from_residual-in_err-put.result
     c.from_residual-in_err-put.ensures.1 in
-    subst (Runs g.S.Store command c.args.self.now after)
+    subst (CommandRan g.S.Store command c.args.self.now after)
     (sym (given.1 ∙ ap Err given.2))
     (runs_then g.S.Store command c.args.self.now start after (Err Store)
-    c.in_ok-look.ensures.still
+    c.in_ok-look.ensures.unchanged
     (λ k. subst (λ h. HasCleanDisk (state g.S.Store h)) c.self.view_is
     (read.clean (c.put.ensures.clean k)))
     (refuses_on g.S.Store command start inside after c.self.inside.memory
-    c.self.view_is c.self.invariant.1 c.in_ok-look.ensures.awake
+    c.self.view_is c.self.invariant.1 c.in_ok-look.ensures.all_committed
     (λ k. read.clean (c.put.ensures.clean k))
     (still_failed g.S.Store inside mid after c.self.inside.memory c.self.invariant.1
     (c.is_autocommit-at_rest.ensures.settled
@@ -125,7 +126,7 @@ returns-in_err-put-clause-stays g c =
     let after = c.put.new.conn in
     let read = c.edited_draft.ensures.read in
     stays_then g.S.Store c.args.self.now start after c.from_residual-in_err-put.result
-    c.in_ok-look.ensures.still
+    c.in_ok-look.ensures.unchanged
     (λ k. subst (λ h. HasCleanDisk (state g.S.Store h)) c.self.view_is
     (read.clean (c.put.ensures.clean k)))
     (stays_on g.S.Store start inside after c.self.view_is
@@ -150,17 +151,18 @@ returns-clause-runs g c =
     let make : Tables → Tables
     = λ t. after_all move_made places (with_draft row (without_draft d t)) in
     runs g.S.Store (draft_edited d c.args.edit) c.args.self.now start inside
-    c.self.inside.memory c.self.view_is c.self.invariant.1 c.in_ok-look.ensures.awake
-    c.in_ok-look.ensures.still after c.total.result (λ k. read.clean (c.put.ensures.clean k))
-    (λ k. let awake = awake_inside g.S.Store start inside c.self.view_is c.in_ok-look.ensures.awake
+    c.self.inside.memory c.self.view_is c.self.invariant.1 c.in_ok-look.ensures.all_committed
+    c.in_ok-look.ensures.unchanged after c.total.result (λ k. read.clean (c.put.ensures.clean k))
+    (λ k. let all_committed = awake_inside g.S.Store start inside c.self.view_is
+    c.in_ok-look.ensures.all_committed
     (read.clean (c.put.ensures.clean k)) in
     edit_moves (state g.S.Store inside).now (state g.S.Store after).now c.self.inside.memory d
     c.args.edit draft row c.total.result places
-    (λ o here is. c.in_ok-new.ensures.edits (c.put.ensures.clean k) awake o here is)
+    (λ o here is. c.in_ok-new.ensures.edits (c.put.ensures.clean k) all_committed o here is)
     c.draft_row.ensures.number c.draft_row.ensures.parts c.total.ensures.total
     (c.deref.ensures.value ∙ c.in_ok-new.ensures.places)
     (made_on g.S.Store inside mid (state g.S.Store after).now c.in_ok-new.ensures.same
-    (c.put.ensures.clean k) awake.0 make (c.in_ok-put.ensures.done k).makes))
+    (c.put.ensures.clean k) all_committed.0 make (c.in_ok-put.ensures.done k).makes))
 
 pub invariant_of-self-2 : goal.invariant_of-self-2
 invariant_of-self-2 g c =
@@ -179,22 +181,23 @@ invariant_of-self-2 g c =
       rests (draft_edited d c.args.edit) (state g.S.Store inside) (state g.S.Store after)
           c.self.inside.memory c.put-2.new.self c.total.result c.self.invariant.1
           (λ k. read.clean (c.put.ensures.clean k))
-          (λ k. (awake_inside g.S.Store start inside c.self.view_is c.in_ok-look.ensures.awake
+          (λ k. (awake_inside g.S.Store start inside c.self.view_is
+          c.in_ok-look.ensures.all_committed
           (read.clean (c.put.ensures.clean k))).0)
-          (λ k. let awake = awake_inside g.S.Store start inside c.self.view_is
-          c.in_ok-look.ensures.awake (read.clean (c.put.ensures.clean k)) in
+          (λ k. let all_committed = awake_inside g.S.Store start inside c.self.view_is
+          c.in_ok-look.ensures.all_committed (read.clean (c.put.ensures.clean k)) in
           edit_moves (state g.S.Store inside).now (state g.S.Store after).now
           c.self.inside.memory d c.args.edit draft row c.total.result places
-          (λ o here is. c.in_ok-new.ensures.edits (c.put.ensures.clean k) awake o here is)
+          (λ o here is. c.in_ok-new.ensures.edits (c.put.ensures.clean k) all_committed o here is)
           c.draft_row.ensures.number c.draft_row.ensures.parts c.total.ensures.total
           (c.deref.ensures.value ∙ c.in_ok-new.ensures.places)
           (made_on g.S.Store inside mid (state g.S.Store after).now c.in_ok-new.ensures.same
-          (c.put.ensures.clean k) awake.0 make (c.in_ok-put.ensures.done k).makes))
-          (λ k. let awake = awake_inside g.S.Store start inside c.self.view_is
-          c.in_ok-look.ensures.awake (read.clean (c.put.ensures.clean k)) in
+          (c.put.ensures.clean k) all_committed.0 make (c.in_ok-put.ensures.done k).makes))
+          (λ k. let all_committed = awake_inside g.S.Store start inside c.self.view_is
+          c.in_ok-look.ensures.all_committed (read.clean (c.put.ensures.clean k)) in
           edit_remembers (state g.S.Store inside).now c.self.inside.memory c.put-2.new.self d
           c.args.edit draft c.total.result
-          (λ o here is. c.in_ok-new.ensures.edits (c.put.ensures.clean k) awake o here is)
+          (λ o here is. c.in_ok-new.ensures.edits (c.put.ensures.clean k) all_committed o here is)
           c.total.ensures.total c.put-2.ensures.put),
       draft_together d c.self.inside.memory c.put-2.new.self draft c.self.invariant.2
           c.in_ok-new.ensures.suits c.put-2.ensures.put c.put-2.ensures.beyond,
@@ -205,7 +208,7 @@ edited_draft-requires g c = record { together = c.self.invariant.2 }
 
 pub returns-in_err-new-clause-leaves : goal.returns-in_err-new-clause-leaves
 returns-in_err-new-clause-leaves g c = record {
-  awake = search rules;
+  all_committed = search rules;
   survives = survives_more (state g.S.Store c.args.self.now) (state g.S.Store
       c.edited_draft.new.conn) _
       (survives_on (state g.S.Store c.args.self.now) (state g.S.Store c.look.new.self)
@@ -216,7 +219,7 @@ returns-in_err-new-clause-leaves g c = record {
 
 pub returns-in_err-put-clause-leaves : goal.returns-in_err-put-clause-leaves
 returns-in_err-put-clause-leaves g c = record {
-  awake = search rules;
+  all_committed = search rules;
   survives = let start = c.look.new.self in
       let inside = c.self.inside.conn in
       let mid = c.edited_draft.new.conn in
@@ -229,16 +232,17 @@ returns-in_err-put-clause-leaves g c = record {
       let make : Tables → Tables
       = λ t. after_all move_made places (with_draft row (without_draft d t)) in
       survives_by g.S.Store (draft_edited d c.args.edit) c.args.self.now start inside after
-      c.self.inside.memory c.self.view_is c.self.invariant.1 c.in_ok-look.ensures.awake
-      c.in_ok-look.ensures.still c.look.ensures.survives make (total_of draft.parts)
+      c.self.inside.memory c.self.view_is c.self.invariant.1 c.in_ok-look.ensures.all_committed
+      c.in_ok-look.ensures.unchanged c.look.ensures.survives make (total_of draft.parts)
       (changed_on g.S.Store inside mid after read.survives c.in_ok-new.ensures.same
-      (λ k. (awake_inside g.S.Store start inside c.self.view_is c.in_ok-look.ensures.awake k).0)
+      (λ k. (awake_inside g.S.Store start inside c.self.view_is c.in_ok-look.ensures.all_committed
+      k).0)
       make c.put.ensures.survives)
-      (λ k found changed. let awake = awake_inside g.S.Store start inside c.self.view_is
-      c.in_ok-look.ensures.awake (read.clean (c.put.ensures.clean k)) in
+      (λ k found changed. let all_committed = awake_inside g.S.Store start inside c.self.view_is
+      c.in_ok-look.ensures.all_committed (read.clean (c.put.ensures.clean k)) in
       edit_moves (state g.S.Store inside).now _ c.self.inside.memory d c.args.edit draft row
       (total_of draft.parts) places
-      (λ o here is. c.in_ok-new.ensures.edits (c.put.ensures.clean k) awake o here is)
+      (λ o here is. c.in_ok-new.ensures.edits (c.put.ensures.clean k) all_committed o here is)
       c.draft_row.ensures.number c.draft_row.ensures.parts refl (c.deref.ensures.value
       ∙ c.in_ok-new.ensures.places) changed)
       c.from_residual-in_err-put.result (is_failed _ c.from_residual-in_err-put.ensures.1);
@@ -246,7 +250,7 @@ returns-in_err-put-clause-leaves g c = record {
 
 pub returns-clause-leaves : goal.returns-clause-leaves
 returns-clause-leaves g c = record {
-  awake = search rules;
+  all_committed = search rules;
   survives = let start = c.look.new.self in
       let inside = c.self.inside.conn in
       let mid = c.edited_draft.new.conn in
@@ -259,16 +263,17 @@ returns-clause-leaves g c = record {
       let make : Tables → Tables
       = λ t. after_all move_made places (with_draft row (without_draft d t)) in
       survives_by g.S.Store (draft_edited d c.args.edit) c.args.self.now start inside after
-      c.self.inside.memory c.self.view_is c.self.invariant.1 c.in_ok-look.ensures.awake
-      c.in_ok-look.ensures.still c.look.ensures.survives make (total_of draft.parts)
+      c.self.inside.memory c.self.view_is c.self.invariant.1 c.in_ok-look.ensures.all_committed
+      c.in_ok-look.ensures.unchanged c.look.ensures.survives make (total_of draft.parts)
       (changed_on g.S.Store inside mid after read.survives c.in_ok-new.ensures.same
-      (λ k. (awake_inside g.S.Store start inside c.self.view_is c.in_ok-look.ensures.awake k).0)
+      (λ k. (awake_inside g.S.Store start inside c.self.view_is c.in_ok-look.ensures.all_committed
+      k).0)
       make c.put.ensures.survives)
-      (λ k found changed. let awake = awake_inside g.S.Store start inside c.self.view_is
-      c.in_ok-look.ensures.awake (read.clean (c.put.ensures.clean k)) in
+      (λ k found changed. let all_committed = awake_inside g.S.Store start inside c.self.view_is
+      c.in_ok-look.ensures.all_committed (read.clean (c.put.ensures.clean k)) in
       edit_moves (state g.S.Store inside).now _ c.self.inside.memory d c.args.edit draft row
       (total_of draft.parts) places
-      (λ o here is. c.in_ok-new.ensures.edits (c.put.ensures.clean k) awake o here is)
+      (λ o here is. c.in_ok-new.ensures.edits (c.put.ensures.clean k) all_committed o here is)
       c.draft_row.ensures.number c.draft_row.ensures.parts refl (c.deref.ensures.value
       ∙ c.in_ok-new.ensures.places) changed)
       (Ok c.total.result) tt;

@@ -3,7 +3,7 @@ use Rattle.std.proofs.lemmas.Result.{on_err_weaker}
 use Rattle.sqlite.specs.Held.{state}
 use Rattle.office_model.specs.Batches.{batch_enrolled, kept_in}
 use Rattle.office_store.specs.NewBatches.{IsRowOf}
-use Rattle.office_store.specs.Running.{Does, Now}
+use Rattle.office_store.specs.Running.{CommandOutcome, Represents}
 use Rattle.office_store.proofs.CommandLemmas.{stays_by}
 use Rattle.office_store.proofs.KeptBatchLemmas.{again_does, no_row_of}
 use Rattle.office_store.proofs.ReadLemmas.{does_now}
@@ -15,13 +15,13 @@ use Rattle.office_store.proofs.office.Office.enrol_batch.Goals as goal
 pub returns-in-Some-clause-runs : goal.returns-in-Some-clause-runs
 returns-in-Some-clause-runs g c clean o now =
     let mid = c.kept_batch.new.self in
-    let still = stays_by g.S.Store c.args.self.now mid c.in_ok-kept.ensures.still in
-    let opened = (c.in_ok-kept.ensures.awake clean).0 in
+    let still = stays_by g.S.Store c.args.self.now mid c.in_ok-kept.ensures.unchanged in
+    let opened = (c.in_ok-kept.ensures.all_committed clean).0 in
     let here = still clean o now opened in
     let found : c.in_ok-kept.kept ≡ Some c.in-Some.row = search rules in
-    does_now (batch_enrolled c.args.number c.args.text.now o) o (Now (state g.S.Store mid))
+    does_now (batch_enrolled c.args.number c.args.text.now o) o (Represents (state g.S.Store mid))
     c.first_answer.result
-    (subst (Does (batch_enrolled c.args.number c.args.text.now o) o (λ new. new ≡ o))
+    (subst (CommandOutcome (batch_enrolled c.args.number c.args.text.now o) o (λ new. new ≡ o))
     (sym c.first_answer.ensures)
     (again_does o c.args.number c.args.text.now _ c.in-Some.row c.in-Ok.ensures.exact
     (subst (IsRowOf (kept_in o c.args.number)) found (c.in_ok-kept.ensures.row clean o here))))
@@ -31,7 +31,7 @@ returns-in-Some-clause-runs g c clean o now =
 pub returns-clause-runs : goal.returns-clause-runs
 returns-clause-runs g c clean o now =
     c.enrol_new.ensures.runs clean o
-    (stays_by g.S.Store c.args.self.now c.kept_batch.new.self c.in_ok-kept.ensures.still
+    (stays_by g.S.Store c.args.self.now c.kept_batch.new.self c.in_ok-kept.ensures.unchanged
     (c.enrol_new.ensures.clean clean) o now)
 
 -- nothing had changed before
@@ -40,7 +40,7 @@ returns-clause-stays g c clean =
     on_err_weaker c.enrol_new.result
     (still_then (state g.S.Store c.args.self.now) (state g.S.Store c.kept_batch.new.self)
     (state g.S.Store c.enrol_new.new.self)
-    (c.in_ok-kept.ensures.still (c.enrol_new.ensures.clean clean)))
+    (c.in_ok-kept.ensures.unchanged (c.enrol_new.ensures.clean clean)))
     (c.enrol_new.ensures.stays clean)
 
 pub enrol_new-requires : goal.enrol_new-requires
@@ -51,19 +51,19 @@ enrol_new-requires g c = record {
       let none : c.in_ok-kept.kept ≡ None = search rules in
       no_row_of o c.args.number
       (subst (IsRowOf (kept_in o c.args.number)) none (c.in_ok-kept.ensures.row clean o kept));
-  awake = λ clean. c.in_ok-kept.ensures.awake clean;
+  all_committed = λ clean. c.in_ok-kept.ensures.all_committed clean;
 }
 
 pub returns-in-Err-clause-leaves : goal.returns-in-Err-clause-leaves
 returns-in-Err-clause-leaves g c = record {
-  awake = search rules;
+  all_committed = search rules;
   survives = survives_more (state g.S.Store c.args.self.now) (state g.S.Store c.args.self.now) _
       (survives_same (state g.S.Store c.args.self.now));
 }
 
 pub returns-in_err-kept-clause-leaves : goal.returns-in_err-kept-clause-leaves
 returns-in_err-kept-clause-leaves g c = record {
-  awake = search rules;
+  all_committed = search rules;
   survives = survives_more (state g.S.Store c.args.self.now) (state g.S.Store
       c.kept_batch.new.self) _
       c.kept_batch.ensures.survives;
@@ -71,7 +71,7 @@ returns-in_err-kept-clause-leaves g c = record {
 
 pub returns-in-Some-clause-leaves : goal.returns-in-Some-clause-leaves
 returns-in-Some-clause-leaves g c = record {
-  awake = search rules;
+  all_committed = search rules;
   survives = survives_more (state g.S.Store c.args.self.now) (state g.S.Store
       c.kept_batch.new.self) _
       c.kept_batch.ensures.survives;
@@ -79,8 +79,8 @@ returns-in-Some-clause-leaves g c = record {
 
 pub returns-clause-leaves : goal.returns-clause-leaves
 returns-clause-leaves g c = record {
-  awake = search rules;
+  all_committed = search rules;
   survives = survives_next g.S.Store (batch_enrolled c.args.number c.args.text.now) c.args.self.now
       c.kept_batch.new.self c.enrol_new.new.self c.enrol_new.result c.kept_batch.ensures.survives
-      c.in_ok-kept.ensures.still c.enrol_new.ensures.clean c.enrol_new.ensures.leaves.survives;
+      c.in_ok-kept.ensures.unchanged c.enrol_new.ensures.clean c.enrol_new.ensures.leaves.survives;
 }

@@ -4,7 +4,7 @@ use Rattle.sqlite.specs.Held.{state}
 use Rattle.office_model.specs.Batches.{batch_enrolled, kept_in}
 use Rattle.office_model.specs.declared.fault.StoreFault.TheVariants.{NotLoaded}
 use Rattle.office_store.specs.NewBatches.{new_batch_put}
-use Rattle.office_store.specs.Running.{Runs}
+use Rattle.office_store.specs.Running.{CommandRan}
 use Rattle.office_records.specs.Memory.{AreTogether}
 use Rattle.office_store.proofs.BatchPuttingLemmas.{enrol_denied, enrol_moves, enrol_remembers}
 use Rattle.office_store.proofs.CommandLemmas.{awake_inside, not_loaded, refuses, rests}
@@ -18,7 +18,7 @@ pub returns-in_default-clause-runs : goal.returns-in_default-clause-runs
 returns-in_default-clause-runs g c =
     refuses g.S.Store (batch_enrolled c.args.number c.args.text.now) c.args.self.now
     c.args.self.now c.self.inside.conn c.self.inside.memory c.self.view_is c.self.invariant.1
-    c.requires.awake (λ _ opened. (opened, refl)) NotLoaded
+    c.requires.all_committed (λ _ opened. (opened, refl)) NotLoaded
     (λ _. not_loaded (batch_enrolled c.args.number c.args.text.now) _ _ c.in_default.is
     (rw c.requires.spelled refl))
 
@@ -31,9 +31,9 @@ returns-in_err-new-clause-runs g c =
     let inside = c.self.inside.conn in
     let fault = c.in_err-new.field-0.0 in
     let is : c.from_residual.result ≡ Err fault = search rules in
-    subst (Runs g.S.Store (batch_enrolled number text) start start) (sym is)
+    subst (CommandRan g.S.Store (batch_enrolled number text) start start) (sym is)
     (refuses g.S.Store (batch_enrolled number text) start start inside c.self.inside.memory
-    c.self.view_is c.self.invariant.1 c.requires.awake (λ _ opened. (opened, refl)) fault
+    c.self.view_is c.self.invariant.1 c.requires.all_committed (λ _ opened. (opened, refl)) fault
     (λ k. enrol_denied number text c.args.changes.now c.requires.spelled c.in-Some.instance
     c.in-Some.enrolments (state g.S.Store start).now c.self.inside.memory c.in-Some.is
     (c.requires.is_new k) fault
@@ -49,7 +49,7 @@ returns-clause-runs g c =
     let after = c.put_batch.new.conn in
     let new = c.in_ok-new.new in
     runs g.S.Store (batch_enrolled number text) start start inside c.self.inside.memory
-    c.self.view_is c.self.invariant.1 c.requires.awake (λ _ opened. (opened, refl)) after
+    c.self.view_is c.self.invariant.1 c.requires.all_committed (λ _ opened. (opened, refl)) after
     new.counts c.put_batch.ensures.clean
     (λ k. enrol_moves number text changes c.requires.spelled c.in-Some.instance
     c.in-Some.enrolments (state g.S.Store inside).now c.self.inside.memory c.in-Some.is
@@ -130,21 +130,21 @@ put_batch-requires g c = record {
 
 pub returns-in_default-clause-leaves : goal.returns-in_default-clause-leaves
 returns-in_default-clause-leaves g c = record {
-  awake = search rules;
+  all_committed = search rules;
   survives = survives_more (state g.S.Store c.args.self.now) (state g.S.Store c.args.self.now) _
       (survives_same (state g.S.Store c.args.self.now));
 }
 
 pub returns-in_err-new-clause-leaves : goal.returns-in_err-new-clause-leaves
 returns-in_err-new-clause-leaves g c = record {
-  awake = search rules;
+  all_committed = search rules;
   survives = survives_more (state g.S.Store c.args.self.now) (state g.S.Store c.args.self.now) _
       (survives_same (state g.S.Store c.args.self.now));
 }
 
 pub returns-in_err-put_batch-clause-leaves : goal.returns-in_err-put_batch-clause-leaves
 returns-in_err-put_batch-clause-leaves g c = record {
-  awake = search rules;
+  all_committed = search rules;
   survives = let number = c.args.number in
       let text = c.args.text.now in
       let changes = c.args.changes.now in
@@ -152,7 +152,7 @@ returns-in_err-put_batch-clause-leaves g c = record {
       let inside = c.self.inside.conn in
       let new = c.in_ok-new.new in
       survives_by g.S.Store (batch_enrolled number text) start start inside c.put_batch.new.conn
-      c.self.inside.memory c.self.view_is c.self.invariant.1 c.requires.awake
+      c.self.inside.memory c.self.view_is c.self.invariant.1 c.requires.all_committed
       (λ _ opened. (opened, refl)) (survives_same (state g.S.Store start))
       (new_batch_put number text new) new.counts c.put_batch.ensures.survives
       (λ k found changed. enrol_moves number text changes c.requires.spelled c.in-Some.instance
@@ -173,7 +173,7 @@ returns-in_err-put_batch-clause-leaves g c = record {
 
 pub returns-clause-leaves : goal.returns-clause-leaves
 returns-clause-leaves g c = record {
-  awake = search rules;
+  all_committed = search rules;
   survives = let number = c.args.number in
       let text = c.args.text.now in
       let changes = c.args.changes.now in
@@ -181,7 +181,7 @@ returns-clause-leaves g c = record {
       let inside = c.self.inside.conn in
       let new = c.in_ok-new.new in
       survives_by g.S.Store (batch_enrolled number text) start start inside c.put_batch.new.conn
-      c.self.inside.memory c.self.view_is c.self.invariant.1 c.requires.awake
+      c.self.inside.memory c.self.view_is c.self.invariant.1 c.requires.all_committed
       (λ _ opened. (opened, refl)) (survives_same (state g.S.Store start))
       (new_batch_put number text new) new.counts c.put_batch.ensures.survives
       (λ k found changed. enrol_moves number text changes c.requires.spelled c.in-Some.instance

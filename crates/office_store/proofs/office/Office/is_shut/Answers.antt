@@ -1,9 +1,9 @@
 use Rattle.std.proofs.Common.{ap, arith, not, subst, ◌∙◌}
 use Rattle.sqlite.specs.Held.{state}
 use Rattle.sqlite.specs.State.{HasCleanDisk}
-use Rattle.office_store.specs.Running.{IsStill}
+use Rattle.office_store.specs.Running.{StateUnchanged}
 use Rattle.office_store.proofs.RunLemmas.{rest_still}
-use Rattle.office_store.proofs.ShutLemmas.{still_asked, told_shut}
+use Rattle.office_store.proofs.ShutLemmas.{still_asked, returned_shut}
 use Rattle.office_store.proofs.LeavingLemmas.{survives_at}
 use Rattle.office_store.proofs.office.Office.is_shut.Goals as goal
 
@@ -22,16 +22,16 @@ invariant_of-self g c = (
 
 pub returns-clause-shut : goal.returns-clause-shut
 returns-clause-shut g c =
-    told_shut (state g.S.Store c.self.inside.conn) (state g.S.Store c.prepare.new.self)
+    returned_shut (state g.S.Store c.self.inside.conn) (state g.S.Store c.prepare.new.self)
     (c.is_autocommit-at_rest.ensures.settled
     (c.is_autocommit-at_rest.ensures.value ∙ ap not c.self.invariant.0))
     _ c.prepare.result c.prepare.ensures.ok c.prepare.ensures.err
     c.err.result c.err.ensures.value c.is_shut_by.result c.is_shut_by.ensures.shut
 
-pub returns-clause-still : goal.returns-clause-still
-returns-clause-still g c =
+pub returns-clause-unchanged : goal.returns-clause-unchanged
+returns-clause-unchanged g c =
     subst (λ h. HasCleanDisk (state g.S.Store c.prepare.new.self)
-    → IsStill (state g.S.Store h) (state g.S.Store c.prepare.new.self)) c.self.view_is
+    → StateUnchanged (state g.S.Store h) (state g.S.Store c.prepare.new.self)) c.self.view_is
     (still_asked (state g.S.Store c.self.inside.conn) (state g.S.Store c.prepare.new.self)
     (c.is_autocommit-at_rest.ensures.settled
     (c.is_autocommit-at_rest.ensures.value ∙ ap not c.self.invariant.0))

@@ -16,8 +16,8 @@ pub returns-then-is_some-clause-runs : goal.returns-then-is_some-clause-runs
 returns-then-is_some-clause-runs g c =
     let some : is_some c.self.inside.memory.kept ≡ true = search rules in
     refuses g.S.Store (loaded c.args.text.now) c.args.self.now c.look.new.self c.self.inside.conn
-    c.self.inside.memory c.self.view_is c.self.invariant.1 c.in_ok-look.ensures.awake
-    c.in_ok-look.ensures.still Loaded
+    c.self.inside.memory c.self.view_is c.self.invariant.1 c.in_ok-look.ensures.all_committed
+    c.in_ok-look.ensures.unchanged Loaded
     (λ _. load_denied c.args.text.now _ _ c.self.inside.memory c.in-Ok.ensures.exact some)
 
 pub returns-clause-runs : goal.returns-clause-runs
@@ -28,8 +28,8 @@ returns-clause-runs g c =
     let are = are_enrolled I E c.counts_of-loaded.ensures.enrolments
     (as_many c.args.text.now I E c.in-Ok.ensures.reading) in
     runs g.S.Store (loaded c.args.text.now) c.args.self.now c.look.new.self c.self.inside.conn
-    c.self.inside.memory c.self.view_is c.self.invariant.1 c.in_ok-look.ensures.awake
-    c.in_ok-look.ensures.still c.put.new.conn c.counts_of-loaded.result
+    c.self.inside.memory c.self.view_is c.self.invariant.1 c.in_ok-look.ensures.all_committed
+    c.in_ok-look.ensures.unchanged c.put.new.conn c.counts_of-loaded.result
     c.put.ensures.clean
     (λ k. load_moves c.args.text.now I E c.counts_of-loaded.result c.deref.result.now
     c.deref-2.result.now _ _ c.self.inside.memory c.in-Ok.ensures.exact
@@ -73,35 +73,35 @@ returns-clause-counts g c = (
 
 pub returns-in_err-look-clause-leaves : goal.returns-in_err-look-clause-leaves
 returns-in_err-look-clause-leaves g c = record {
-  awake = search rules;
+  all_committed = search rules;
   survives = survives_more (state g.S.Store c.args.self.now) (state g.S.Store c.look.new.self) _
       c.look.ensures.survives;
 }
 
 pub returns-then-is_some-clause-leaves : goal.returns-then-is_some-clause-leaves
 returns-then-is_some-clause-leaves g c = record {
-  awake = search rules;
+  all_committed = search rules;
   survives = survives_more (state g.S.Store c.args.self.now) (state g.S.Store c.look.new.self) _
       c.look.ensures.survives;
 }
 
 pub returns-in_err-stored-clause-leaves : goal.returns-in_err-stored-clause-leaves
 returns-in_err-stored-clause-leaves g c = record {
-  awake = search rules;
+  all_committed = search rules;
   survives = survives_more (state g.S.Store c.args.self.now) (state g.S.Store c.look.new.self) _
       c.look.ensures.survives;
 }
 
 pub returns-in_err-rows-clause-leaves : goal.returns-in_err-rows-clause-leaves
 returns-in_err-rows-clause-leaves g c = record {
-  awake = search rules;
+  all_committed = search rules;
   survives = survives_more (state g.S.Store c.args.self.now) (state g.S.Store c.look.new.self) _
       c.look.ensures.survives;
 }
 
 pub returns-in_err-put-clause-leaves : goal.returns-in_err-put-clause-leaves
 returns-in_err-put-clause-leaves g c = record {
-  awake = search rules;
+  all_committed = search rules;
   survives = let I : Session = c.in-Ok.read.0 in
       let E : Enrolled = c.in-Ok.read.1 in
       let no : is_some c.self.inside.memory.kept ≡ false = search rules in
@@ -109,7 +109,7 @@ returns-in_err-put-clause-leaves g c = record {
       (as_many c.args.text.now I E c.in-Ok.ensures.reading) in
       survives_by g.S.Store (loaded c.args.text.now) c.args.self.now c.look.new.self
       c.self.inside.conn c.put.new.conn c.self.inside.memory c.self.view_is
-      c.self.invariant.1 c.in_ok-look.ensures.awake c.in_ok-look.ensures.still
+      c.self.invariant.1 c.in_ok-look.ensures.all_committed c.in_ok-look.ensures.unchanged
       c.look.ensures.survives _ c.counts_of-loaded.result c.put.ensures.survives
       (λ k found changed. load_moves c.args.text.now I E c.counts_of-loaded.result
       c.deref.result.now c.deref-2.result.now _ _ c.self.inside.memory c.in-Ok.ensures.exact
@@ -121,7 +121,7 @@ returns-in_err-put-clause-leaves g c = record {
 
 pub returns-clause-leaves : goal.returns-clause-leaves
 returns-clause-leaves g c = record {
-  awake = search rules;
+  all_committed = search rules;
   survives = let I : Session = c.in-Ok.read.0 in
       let E : Enrolled = c.in-Ok.read.1 in
       let no : is_some c.self.inside.memory.kept ≡ false = search rules in
@@ -129,7 +129,7 @@ returns-clause-leaves g c = record {
       (as_many c.args.text.now I E c.in-Ok.ensures.reading) in
       survives_by g.S.Store (loaded c.args.text.now) c.args.self.now c.look.new.self
       c.self.inside.conn c.put.new.conn c.self.inside.memory c.self.view_is
-      c.self.invariant.1 c.in_ok-look.ensures.awake c.in_ok-look.ensures.still
+      c.self.invariant.1 c.in_ok-look.ensures.all_committed c.in_ok-look.ensures.unchanged
       c.look.ensures.survives _ c.counts_of-loaded.result c.put.ensures.survives
       (λ k found changed. load_moves c.args.text.now I E c.counts_of-loaded.result
       c.deref.result.now c.deref-2.result.now _ _ c.self.inside.memory c.in-Ok.ensures.exact
@@ -141,7 +141,7 @@ returns-clause-leaves g c = record {
 
 pub returns-in-Err-clause-leaves : goal.returns-in-Err-clause-leaves
 returns-in-Err-clause-leaves g c = record {
-  awake = search rules;
+  all_committed = search rules;
   survives = survives_more (state g.S.Store c.args.self.now) (state g.S.Store c.args.self.now) _
       (survives_same (state g.S.Store c.args.self.now));
 }
@@ -150,5 +150,6 @@ returns-in-Err-clause-leaves g c = record {
 pub returns-in_err-put-clause-stays : goal.returns-in_err-put-clause-stays
 returns-in_err-put-clause-stays g c =
     stays_undone g.S.Store c.args.self.now c.look.new.self c.self.inside.conn c.put.new.conn
-    c.self.view_is c.in_ok-look.ensures.still c.in_ok-look.ensures.awake c.put.ensures.clean
+    c.self.view_is c.in_ok-look.ensures.unchanged c.in_ok-look.ensures.all_committed
+    c.put.ensures.clean
     c.in_err-put.ensures.undone c.from_residual-in_err-put.result

@@ -2,7 +2,7 @@ use Rattle.std.proofs.Common.{Err, ap, refl, ◌∙◌, sym, subst, Ok, rules}
 use Rattle.std.proofs.lemmas.Result.{err_from_is_err_and}
 use Rattle.sqlite.specs.Held.{state}
 use Rattle.office_model.specs.DraftCommands.{draft_made}
-use Rattle.office_store.specs.Running.{Runs}
+use Rattle.office_store.specs.Running.{CommandRan}
 use Rattle.office_model.specs.declared.fault.StoreFault.TheVariants.{DraftTaken, NoDraft, NotLoaded}
 use Rattle.office_store.proofs.CallLemmas.{made_moves, made_remembers, number_denied, taken_denied, text_denied}
 use Rattle.office_store.proofs.CommandLemmas.{not_loaded, refuses, rests, runs}
@@ -15,14 +15,14 @@ pub returns-in_default-clause-runs : goal.returns-in_default-clause-runs
 returns-in_default-clause-runs g c =
     refuses g.S.Store (draft_made c.args.number c.args.text.now) c.args.self.now c.look.new.self
     c.self.inside.conn c.self.inside.memory c.self.view_is c.self.invariant.1
-    c.in_ok-look.ensures.awake c.in_ok-look.ensures.still NotLoaded
+    c.in_ok-look.ensures.all_committed c.in_ok-look.ensures.unchanged NotLoaded
     (λ _. not_loaded (draft_made c.args.number c.args.text.now) _ _ c.in_default.is refl)
 
 pub returns-then-not-is_draft_number-clause-runs : goal.returns-then-not-is_draft_number-clause-runs
 returns-then-not-is_draft_number-clause-runs g c =
     refuses g.S.Store (draft_made c.args.number c.args.text.now) c.args.self.now c.look.new.self
     c.self.inside.conn c.self.inside.memory c.self.view_is c.self.invariant.1
-    c.in_ok-look.ensures.awake c.in_ok-look.ensures.still NoDraft
+    c.in_ok-look.ensures.all_committed c.in_ok-look.ensures.unchanged NoDraft
     (λ k. number_denied c.args.number _ c.self.inside.memory c.args.text.now c.in-Some.instance
     c.in-Some.enrolments c.in-Some.is c.if-not-is_draft_number.ensures)
 
@@ -30,7 +30,7 @@ pub returns-then-has_draft-clause-runs : goal.returns-then-has_draft-clause-runs
 returns-then-has_draft-clause-runs g c =
     refuses g.S.Store (draft_made c.args.number c.args.text.now) c.args.self.now c.look.new.self
     c.self.inside.conn c.self.inside.memory c.self.view_is c.self.invariant.1
-    c.in_ok-look.ensures.awake c.in_ok-look.ensures.still DraftTaken
+    c.in_ok-look.ensures.all_committed c.in_ok-look.ensures.unchanged DraftTaken
     (λ k. taken_denied c.args.number _ c.self.inside.memory c.args.text.now c.in-Some.instance
     c.in-Some.enrolments c.in-Some.is c.if-not-is_draft_number.ensures c.if-has_draft.ensures)
 
@@ -38,12 +38,12 @@ pub returns-in_err-begun-clause-runs : goal.returns-in_err-begun-clause-runs
 returns-in_err-begun-clause-runs g c =
     let given = err_from_is_err_and c.from_residual-in_err-begun.result
     c.from_residual-in_err-begun.ensures.1 in
-    subst (Runs g.S.Store (draft_made c.args.number c.args.text.now) c.args.self.now
+    subst (CommandRan g.S.Store (draft_made c.args.number c.args.text.now) c.args.self.now
     c.look.new.self)
     (sym (given.1 ∙ ap Err given.2))
     (refuses g.S.Store (draft_made c.args.number c.args.text.now) c.args.self.now c.look.new.self
     c.self.inside.conn c.self.inside.memory c.self.view_is c.self.invariant.1
-    c.in_ok-look.ensures.awake c.in_ok-look.ensures.still c.in_err-begun.field-0.0
+    c.in_ok-look.ensures.all_committed c.in_ok-look.ensures.unchanged c.in_err-begun.field-0.0
     (λ k. text_denied c.args.number _ c.self.inside.memory c.args.text.now c.in-Some.instance
     c.in-Some.enrolments c.in-Some.is c.if-not-is_draft_number.ensures c.if-has_draft.ensures
     c.in_err-begun.field-0.0 c.in_err-begun.ensures.err))
@@ -77,7 +77,7 @@ pub returns-clause-runs : goal.returns-clause-runs
 returns-clause-runs g c =
     runs g.S.Store (draft_made c.args.number c.args.text.now) c.args.self.now c.look.new.self
     c.self.inside.conn c.self.inside.memory c.self.view_is c.self.invariant.1
-    c.in_ok-look.ensures.awake c.in_ok-look.ensures.still c.put.new.conn c.total.result
+    c.in_ok-look.ensures.all_committed c.in_ok-look.ensures.unchanged c.put.new.conn c.total.result
     c.put.ensures.clean
     (λ k. made_moves c.args.number _ c.self.inside.memory c.args.text.now c.in-Some.instance
     c.in-Some.enrolments c.in-Some.is
@@ -88,14 +88,14 @@ returns-clause-runs g c =
 
 pub returns-in_err-look-clause-leaves : goal.returns-in_err-look-clause-leaves
 returns-in_err-look-clause-leaves g c = record {
-  awake = search rules;
+  all_committed = search rules;
   survives = survives_more (state g.S.Store c.args.self.now) (state g.S.Store c.look.new.self) _
       c.look.ensures.survives;
 }
 
 pub returns-in_default-clause-leaves : goal.returns-in_default-clause-leaves
 returns-in_default-clause-leaves g c = record {
-  awake = search rules;
+  all_committed = search rules;
   survives = survives_more (state g.S.Store c.args.self.now) (state g.S.Store c.look.new.self) _
       c.look.ensures.survives;
 }
@@ -103,31 +103,32 @@ returns-in_default-clause-leaves g c = record {
 pub returns-then-not-is_draft_number-clause-leaves
     : goal.returns-then-not-is_draft_number-clause-leaves
 returns-then-not-is_draft_number-clause-leaves g c = record {
-  awake = search rules;
+  all_committed = search rules;
   survives = survives_more (state g.S.Store c.args.self.now) (state g.S.Store c.look.new.self) _
       c.look.ensures.survives;
 }
 
 pub returns-then-has_draft-clause-leaves : goal.returns-then-has_draft-clause-leaves
 returns-then-has_draft-clause-leaves g c = record {
-  awake = search rules;
+  all_committed = search rules;
   survives = survives_more (state g.S.Store c.args.self.now) (state g.S.Store c.look.new.self) _
       c.look.ensures.survives;
 }
 
 pub returns-in_err-begun-clause-leaves : goal.returns-in_err-begun-clause-leaves
 returns-in_err-begun-clause-leaves g c = record {
-  awake = search rules;
+  all_committed = search rules;
   survives = survives_more (state g.S.Store c.args.self.now) (state g.S.Store c.look.new.self) _
       c.look.ensures.survives;
 }
 
 pub returns-in_err-put-clause-leaves : goal.returns-in_err-put-clause-leaves
 returns-in_err-put-clause-leaves g c = record {
-  awake = search rules;
+  all_committed = search rules;
   survives = survives_by g.S.Store (draft_made c.args.number c.args.text.now) c.args.self.now
       c.look.new.self c.self.inside.conn c.put.new.conn c.self.inside.memory
-      c.self.view_is c.self.invariant.1 c.in_ok-look.ensures.awake c.in_ok-look.ensures.still
+      c.self.view_is c.self.invariant.1 c.in_ok-look.ensures.all_committed
+      c.in_ok-look.ensures.unchanged
       c.look.ensures.survives _ (total_of c.in_ok-begun.begun.parts) c.put.ensures.survives
       (λ k found changed. made_moves c.args.number _ c.self.inside.memory c.args.text.now
       c.in-Some.instance c.in-Some.enrolments c.in-Some.is
@@ -140,10 +141,11 @@ returns-in_err-put-clause-leaves g c = record {
 
 pub returns-clause-leaves : goal.returns-clause-leaves
 returns-clause-leaves g c = record {
-  awake = search rules;
+  all_committed = search rules;
   survives = survives_by g.S.Store (draft_made c.args.number c.args.text.now) c.args.self.now
       c.look.new.self c.self.inside.conn c.put.new.conn c.self.inside.memory
-      c.self.view_is c.self.invariant.1 c.in_ok-look.ensures.awake c.in_ok-look.ensures.still
+      c.self.view_is c.self.invariant.1 c.in_ok-look.ensures.all_committed
+      c.in_ok-look.ensures.unchanged
       c.look.ensures.survives _ (total_of c.in_ok-begun.begun.parts) c.put.ensures.survives
       (λ k found changed. made_moves c.args.number _ c.self.inside.memory c.args.text.now
       c.in-Some.instance c.in-Some.enrolments c.in-Some.is

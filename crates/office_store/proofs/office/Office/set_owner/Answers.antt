@@ -13,7 +13,7 @@ pub returns-in_default-clause-runs : goal.returns-in_default-clause-runs
 returns-in_default-clause-runs g c =
     refuses g.S.Store (owned c.args.exam c.args.dept) c.args.self.now c.look.new.self
     c.self.inside.conn c.self.inside.memory c.self.view_is c.self.invariant.1
-    c.in_ok-look.ensures.awake c.in_ok-look.ensures.still NotLoaded
+    c.in_ok-look.ensures.all_committed c.in_ok-look.ensures.unchanged NotLoaded
     (λ _. not_loaded (owned c.args.exam c.args.dept) _ _ c.in_default.is refl)
 
 pub returns-then-get-exams-clause-runs : goal.returns-then-get-exams-clause-runs
@@ -22,7 +22,7 @@ returns-then-get-exams-clause-runs g c =
     = omega (arith, c.exams.ensures.count, c.if-get-exams.true) in
     refuses g.S.Store (owned c.args.exam c.args.dept) c.args.self.now c.look.new.self
     c.self.inside.conn c.self.inside.memory c.self.view_is c.self.invariant.1
-    c.in_ok-look.ensures.awake c.in_ok-look.ensures.still
+    c.in_ok-look.ensures.all_committed c.in_ok-look.ensures.unchanged
     (Refused (Edit NoSuch))
     (λ _. no_exam_denied _ _ c.in-Some.instance c.in-Some.field-0-1 c.in-Some.is
     c.args.exam c.args.dept
@@ -34,7 +34,7 @@ returns-clause-runs g c =
     = omega (arith, c.exams.ensures.count, c.if-get-exams.false, c.get.ensures) in
     runs g.S.Store (owned c.args.exam c.args.dept) c.args.self.now c.look.new.self
     c.self.inside.conn c.self.inside.memory c.self.view_is c.self.invariant.1
-    c.in_ok-look.ensures.awake c.in_ok-look.ensures.still
+    c.in_ok-look.ensures.all_committed c.in_ok-look.ensures.unchanged
     c.put.new.conn tt c.put.ensures.clean
     (λ k. owner_moves _ _ c.in-Some.instance c.in-Some.field-0-1 c.in-Some.is c.args.exam
     c.args.dept _ exists c.requires.dept c.get-exam.result c.get-exam.ensures c.new_owner.result
@@ -61,33 +61,33 @@ invariant_of-self-2 g c =
 
 pub returns-in_err-look-clause-leaves : goal.returns-in_err-look-clause-leaves
 returns-in_err-look-clause-leaves g c = record {
-  awake = search rules;
+  all_committed = search rules;
   survives = survives_more (state g.S.Store c.args.self.now) (state g.S.Store c.look.new.self) _
       c.look.ensures.survives;
 }
 
 pub returns-in_default-clause-leaves : goal.returns-in_default-clause-leaves
 returns-in_default-clause-leaves g c = record {
-  awake = search rules;
+  all_committed = search rules;
   survives = survives_more (state g.S.Store c.args.self.now) (state g.S.Store c.look.new.self) _
       c.look.ensures.survives;
 }
 
 pub returns-then-get-exams-clause-leaves : goal.returns-then-get-exams-clause-leaves
 returns-then-get-exams-clause-leaves g c = record {
-  awake = search rules;
+  all_committed = search rules;
   survives = survives_more (state g.S.Store c.args.self.now) (state g.S.Store c.look.new.self) _
       c.look.ensures.survives;
 }
 
 pub returns-in_err-put-clause-leaves : goal.returns-in_err-put-clause-leaves
 returns-in_err-put-clause-leaves g c = record {
-  awake = search rules;
+  all_committed = search rules;
   survives = let exists : c.args.exam < length c.in-Some.instance.exams
       = omega (arith, c.exams.ensures.count, c.if-get-exams.false, c.get.ensures) in
       survives_by g.S.Store (owned c.args.exam c.args.dept) c.args.self.now c.look.new.self
       c.self.inside.conn c.put.new.conn c.self.inside.memory c.self.view_is
-      c.self.invariant.1 c.in_ok-look.ensures.awake c.in_ok-look.ensures.still
+      c.self.invariant.1 c.in_ok-look.ensures.all_committed c.in_ok-look.ensures.unchanged
       c.look.ensures.survives _ tt c.put.ensures.survives
       (λ k found changed. owner_moves _ _ c.in-Some.instance c.in-Some.field-0-1 c.in-Some.is
       c.args.exam c.args.dept _ exists c.requires.dept c.get-exam.result c.get-exam.ensures
@@ -97,12 +97,12 @@ returns-in_err-put-clause-leaves g c = record {
 
 pub returns-clause-leaves : goal.returns-clause-leaves
 returns-clause-leaves g c = record {
-  awake = search rules;
+  all_committed = search rules;
   survives = let exists : c.args.exam < length c.in-Some.instance.exams
       = omega (arith, c.exams.ensures.count, c.if-get-exams.false, c.get.ensures) in
       survives_by g.S.Store (owned c.args.exam c.args.dept) c.args.self.now c.look.new.self
       c.self.inside.conn c.put.new.conn c.self.inside.memory c.self.view_is
-      c.self.invariant.1 c.in_ok-look.ensures.awake c.in_ok-look.ensures.still
+      c.self.invariant.1 c.in_ok-look.ensures.all_committed c.in_ok-look.ensures.unchanged
       c.look.ensures.survives _ tt c.put.ensures.survives
       (λ k found changed. owner_moves _ _ c.in-Some.instance c.in-Some.field-0-1 c.in-Some.is
       c.args.exam c.args.dept _ exists c.requires.dept c.get-exam.result c.get-exam.ensures

@@ -6,10 +6,10 @@ use Rattle.office_records.specs.SeatsStored.{seat_rows_of}
 use Rattle.office_records.specs.SharesStored.{share_rows_of, student_share_row}
 use Rattle.office_records.specs.PartShares.{HasFewParts, part_rows}
 use Rattle.office_store.specs.ChangedPlacements.{changed_rows}
-use Rattle.office_store.specs.RowPuts.{her_seats_gone, part_share_put, place_gone, placement_put, seat_put}
-use Rattle.office_store.specs.RowPuts.{share_gone, student_share_put}
+use Rattle.office_store.specs.RowPuts.{deleted_candidate_seats, part_share_put, place_gone, placement_put, seat_put}
+use Rattle.office_store.specs.RowPuts.{deleted_share, student_share_put}
 use Rattle.office_store.proofs.NewPublicationLemmas.{few_parts}
-use Rattle.office_store.proofs.new_publication.put_together.Goals as goal
+use Rattle.office_store.proofs.new_publication.publication_writes.Goals as goal
 
 pub part_shares_put-requires : goal.part_shares_put-requires
 part_shares_put-requires c = record {
@@ -36,14 +36,14 @@ returns-clause-put c =
           ∙ ap (λ rows. map place_gone (changed_rows c.args.before.now rows)) (c.deref.ensures.value ∙ c.in_ok-places.ensures);
       placements = c.in_ok-placements.ensures
           ∙ ap (λ rows. map placement_put (changed_rows rows c.args.before.now)) (c.deref-2.ensures.value ∙ c.in_ok-places.ensures);
-      seats_gone = c.in_ok-seats_gone.ensures
-          ∙ ap (map her_seats_gone) (c.deref-3.ensures.value ∙ listed);
+      deleted_seats = c.in_ok-deleted_seats.ensures
+          ∙ ap (map deleted_candidate_seats) (c.deref-3.ensures.value ∙ listed);
       seats = c.in_ok-seats.ensures
           ∙ ap (λ (changed : List ℕ). map seat_put
           (seat_rows_of changed (map stored_seat c.args.rows.now)))
           (c.deref-4.ensures.value ∙ listed);
-      shares_gone = c.in_ok-shares_gone.ensures
-          ∙ ap (map share_gone) (c.deref-5.ensures.value ∙ listed);
+      deleted_shares = c.in_ok-deleted_shares.ensures
+          ∙ ap (map deleted_share) (c.deref-5.ensures.value ∙ listed);
       students = c.in_ok-students.ensures.put
           ∙ ap₂ (λ (changed : List ℕ) (all : Sharing). map student_share_put
           (share_rows_of changed (map student_share_row all.students)))

@@ -6,7 +6,7 @@ use Rattle.office_store.specs.Viewing.{exams_in, place_in_row}
 use Rattle.office_store.proofs.RunLemmas.{kept_read, rest_read}
 use Rattle.office_store.proofs.ViewLemmas.{places_read}
 use Rattle.office_store.proofs.LeavingLemmas.{survives_at}
-use Rattle.office_store.proofs.office.Office.her_places.Goals as goal
+use Rattle.office_store.proofs.office.Office.candidate_places.Goals as goal
 
 pub invariant_of-self : goal.invariant_of-self
 invariant_of-self g c = (

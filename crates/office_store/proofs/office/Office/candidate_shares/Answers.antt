@@ -3,9 +3,9 @@ use Rattle.sqlite.specs.Held.{state}
 use Rattle.office_tables.specs.declared.share_student.StudentShareRow.{StudentShareRow}
 use Rattle.office_store.specs.OfficeRows.{student_rows_in}
 use Rattle.office_store.proofs.RunLemmas.{kept_read, rest_read}
-use Rattle.office_store.proofs.ViewLemmas.{her_shares_read}
+use Rattle.office_store.proofs.ViewLemmas.{candidate_shares_read}
 use Rattle.office_store.proofs.LeavingLemmas.{survives_at}
-use Rattle.office_store.proofs.office.Office.her_shares.Goals as goal
+use Rattle.office_store.proofs.office.Office.candidate_shares.Goals as goal
 
 pub invariant_of-self : goal.invariant_of-self
 invariant_of-self g c = (
@@ -31,7 +31,8 @@ returns-clause-rows g c clean office here =
     subst (λ n. IsPermutation
     (filter (λ (row : StudentShareRow). row.student == n) (student_rows_in office))
     c.in_ok-rows.rows.items) c.get.ensures.number
-    (her_shares_read kept.held office c.get.result c.in_ok-rows.rows.items kept.stands kept.sound
+    (candidate_shares_read kept.held office c.get.result c.in_ok-rows.rows.items kept.stands
+    kept.sound
     (c.in_ok-rows.ensures.rows clean kept.held kept.tables))
 
 pub returns-in_err-rows-clause-survives : goal.returns-in_err-rows-clause-survives

@@ -5,7 +5,7 @@ use Rattle.office_store.specs.Viewing.{exams_in}
 use Rattle.office_store.proofs.RunLemmas.{kept_read, rest_read}
 use Rattle.office_store.proofs.ViewLemmas.{enrols_read}
 use Rattle.office_store.proofs.LeavingLemmas.{survives_at}
-use Rattle.office_store.proofs.office.Office.her_enrols.Goals as goal
+use Rattle.office_store.proofs.office.Office.candidate_enrols.Goals as goal
 
 pub invariant_of-self : goal.invariant_of-self
 invariant_of-self g c = (

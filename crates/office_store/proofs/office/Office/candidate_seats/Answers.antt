@@ -5,9 +5,9 @@ use Rattle.office_model.specs.Publishing.{publication_rows}
 use Rattle.office_records.specs.Publications.{stored_seat}
 use Rattle.office_store.specs.OfficeRows.{published_in}
 use Rattle.office_store.proofs.RunLemmas.{kept_read, rest_read}
-use Rattle.office_store.proofs.ViewLemmas.{her_seats_read}
+use Rattle.office_store.proofs.ViewLemmas.{candidate_seats_read}
 use Rattle.office_store.proofs.LeavingLemmas.{survives_at}
-use Rattle.office_store.proofs.office.Office.her_seats.Goals as goal
+use Rattle.office_store.proofs.office.Office.candidate_seats.Goals as goal
 
 pub invariant_of-self : goal.invariant_of-self
 invariant_of-self g c = (
@@ -31,7 +31,8 @@ returns-clause-rows g c clean office here =
     c.in_ok-rows.ensures.open c.in_ok-rows.ensures.same clean office here in
     subst (λ n. c.in_ok-rows.rows.items
     ≡ map stored_seat (rows_of n (publication_rows (published_in office)))) c.get.ensures.number
-    (her_seats_read kept.held office c.get.result c.in_ok-rows.rows.items kept.stands kept.office
+    (candidate_seats_read kept.held office c.get.result c.in_ok-rows.rows.items kept.stands
+    kept.office
     (c.in_ok-rows.ensures.in_order clean kept.held kept.tables))
 
 pub returns-in_err-rows-clause-survives : goal.returns-in_err-rows-clause-survives
