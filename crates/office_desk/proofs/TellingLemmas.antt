@@ -28,16 +28,17 @@ use Rattle.office_store.specs.Pricing.{draft_priced}
 use Rattle.office_store.specs.Running.{CommandOutcome}
 use Rattle.office_desk.specs.Answers.{refusal}
 use Rattle.office_desk.specs.Performing.{AnswersExam, AnswersOutcome, AnswersPenalty, AnswersView}
-use Rattle.office_desk.specs.Performing.{CommittedUnlessRefused, IsGiven, told_of}
+use Rattle.office_desk.specs.Performing.{CommittedUnlessRefused, IsBodyOrAnswer, answer_of}
 use Rattle.office_desk.specs.Answers.{IsRefusal, plain_answer}
 use Rattle.office_desk.specs.declared.answer.Answer.{Answer}
 
 -- an `Ok` of a call becomes the command's answer
-pub given_told : {A : Type 0} (says : A → PlainAnswer) (old : OfficeState) (gives : CommandResult A)
-    (Stays : OfficeState → Type 0) (x : A) (told : PlainAnswer)
-    → CommandOutcome gives old Stays (Ok x) → told ≡ says x
-    → AnswersOutcome (outcome says old gives) old Stays told
-given_told says old gives Stays x told does same =
+pub ok_answered : {A : Type 0} (says : A → PlainAnswer) (old : OfficeState)
+    (gives : CommandResult A)
+    (Stays : OfficeState → Type 0) (x : A) (final_answer : PlainAnswer)
+    → CommandOutcome gives old Stays (Ok x) → final_answer ≡ says x
+    → AnswersOutcome (outcome says old gives) old Stays final_answer
+ok_answered says old gives Stays x final_answer does same =
     let is = does.1 in
     inl (
       same ∙ sym (ap (λ g. (outcome says old g).1) is),
@@ -45,26 +46,27 @@ given_told says old gives Stays x told does same =
     )
 
 -- a refusal of the command becomes its answer
-pub refusal_told : {A : Type 0} (says : A → PlainAnswer) (old : OfficeState)
+pub refusal_answered : {A : Type 0} (says : A → PlainAnswer) (old : OfficeState)
     (gives : CommandResult A)
-    (Stays : OfficeState → Type 0) (f : StoreFault) (told : PlainAnswer)
-    → gives ≡ Err f → Stays old → told ≡ refused f
-    → AnswersOutcome (outcome says old gives) old Stays told
-refusal_told says old gives Stays f told is stays same =
+    (Stays : OfficeState → Type 0) (f : StoreFault) (final_answer : PlainAnswer)
+    → gives ≡ Err f → Stays old → final_answer ≡ refused f
+    → AnswersOutcome (outcome says old gives) old Stays final_answer
+refusal_answered says old gives Stays f final_answer is stays same =
     inl (
       same ∙ sym (ap (λ g. (outcome says old g).1) is),
       subst (λ g. Stays (outcome says old g).0) (sym is) stays,
     )
 
 -- any fault of a call becomes an answer
-pub fault_told : {A : Type 0} (says : A → PlainAnswer) (old : OfficeState) (gives : CommandResult A)
-    (Stays : OfficeState → Type 0) (f : StoreFault) (told : PlainAnswer)
-    → CommandOutcome gives old Stays (Err f) → told ≡ refusal f
-    → AnswersOutcome (outcome says old gives) old Stays told
-fault_told says old gives Stays Store told does same = inr (same, does.1)
-fault_told says old gives Stays BadSchema told does same = absurd does.0
-fault_told says old gives Stays f told does same =
-    refusal_told says old gives Stays f told does.0 does.1 same
+pub fault_answered : {A : Type 0} (says : A → PlainAnswer) (old : OfficeState)
+    (gives : CommandResult A)
+    (Stays : OfficeState → Type 0) (f : StoreFault) (final_answer : PlainAnswer)
+    → CommandOutcome gives old Stays (Err f) → final_answer ≡ refusal f
+    → AnswersOutcome (outcome says old gives) old Stays final_answer
+fault_answered says old gives Stays Store final_answer does same = inr (same, does.1)
+fault_answered says old gives Stays BadSchema final_answer does same = absurd does.0
+fault_answered says old gives Stays f final_answer does same =
+    refusal_answered says old gives Stays f final_answer does.0 does.1 same
 
 -- the answer that says only a draft's penalty is the same if the draft itself is also returned
 priced_as_shown : (says : Penalty → PlainAnswer) (d : ℕ) (office : OfficeState)
@@ -75,23 +77,24 @@ priced_as_shown says d office = go (draft_shown d office)
     go : (shown : CommandResult (Placing × Penalty))
         → outcome says office (shown >>= (λ found. Ok (found.0.1, found.1)))
         ≡ outcome (λ found. says found.1) office shown
-    go (Ok given) = refl
+    go (Ok body_or_answer) = refl
     go (Err fault) = refl
 
-pub priced_told : (says : Penalty → PlainAnswer) (d : ℕ) (office : OfficeState)
-    (Stays : OfficeState → Type 0) (penalty : Penalty) (told : PlainAnswer)
-    → CommandOutcome (draft_priced d office) office Stays (Ok penalty) → told ≡ says penalty
+pub priced_answered : (says : Penalty → PlainAnswer) (d : ℕ) (office : OfficeState)
+    (Stays : OfficeState → Type 0) (penalty : Penalty) (final_answer : PlainAnswer)
+    → CommandOutcome (draft_priced d office) office Stays (Ok penalty) → final_answer ≡ says penalty
     → AnswersOutcome (outcome (λ found. says found.1) office (draft_shown d office)) office Stays
-    told
-priced_told says d office Stays penalty told does same =
-    subst (λ outcome. AnswersOutcome outcome office Stays told) (priced_as_shown says d office)
-    (given_told says office (draft_priced d office) Stays penalty told does same)
+    final_answer
+priced_answered says d office Stays penalty final_answer does same =
+    subst (λ outcome. AnswersOutcome outcome office Stays final_answer)
+    (priced_as_shown says d office)
+    (ok_answered says office (draft_priced d office) Stays penalty final_answer does same)
 
 -- the answer that `?` makes of a fault
-pub err_told : (r : Result Answer Answer) (f : StoreFault)
-    → IsErrAnd r (λ answer. plain_answer answer ≡ refusal f) → told_of r ≡ refusal f
-err_told (Ok answer) f is = absurd is
-err_told (Err answer) f is = is
+pub err_answered : (r : Result Answer Answer) (f : StoreFault)
+    → IsErrAnd r (λ answer. plain_answer answer ≡ refusal f) → answer_of r ≡ refusal f
+err_answered (Ok answer) f is = absurd is
+err_answered (Err answer) f is = is
 
 -- ---- refusals
 
@@ -105,7 +108,7 @@ pub fault_refused : {S : Type 0} (g : Ghosts S) (new : Held S) (r : Result Answe
     (f : StoreFault) → IsErrAnd r (λ answer. plain_answer answer ≡ refusal f)
     → CommittedUnlessRefused g new r
 fault_refused g new r f is clean =
-    inl (subst IsRefusal (sym (err_told r f is)) (is_refusal f))
+    inl (subst IsRefusal (sym (err_answered r f is)) (is_refusal f))
 
 -- also in a candidate's command
 pub fault_refuses : {X : Type 0} (r : Result X Answer) (f : StoreFault)
@@ -121,7 +124,7 @@ memory_refused g new (Ok answer) is clean = absurd is
 memory_refused g new (Err answer) is clean = inl (subst IsRefusal (sym is) tt)
 
 -- a faulty body is answered with a refusal
-pub body_refused : {A : Type 0} (body : Body A) (answer : Answer) → IsGiven body (Err answer)
+pub body_refused : {A : Type 0} (body : Body A) (answer : Answer) → IsBodyOrAnswer body (Err answer)
     → IsRefusal (plain_answer answer)
 body_refused body answer (inl bad) = subst IsRefusal (sym bad.1) tt
 body_refused body answer (inr long) = subst IsRefusal (sym long.1) tt
@@ -129,42 +132,45 @@ body_refused body answer (inr long) = subst IsRefusal (sym long.1) tt
 -- ---- candidates
 
 -- an answer made from the candidate's view is the answer to the candidate
-pub view_told : (who : Caller) (asked : CandidateQuestion) (says : ShownView → PlainAnswer)
+pub view_answered : (who : Caller) (asked : CandidateQuestion) (says : ShownView → PlainAnswer)
     (old : OfficeState)
-    (Stays : OfficeState → Type 0) (view : ShownView) (told : PlainAnswer)
+    (Stays : OfficeState → Type 0) (view : ShownView) (final_answer : PlainAnswer)
     → ((s : ℕ) → says (shown_to s (view_of s old))
     ≡ candidates.candidate_answer s asked (view_of s old))
-    → AnswersView who old Stays (Ok view) → told ≡ says view
-    → AnswersOutcome (candidate_outcome who asked old) old Stays told
-view_told caller.Office asked says old Stays view told same shows is = absurd shows
-view_told (Dept d) asked says old Stays view told same shows is = absurd shows
-view_told (Cand s) asked says old Stays view told same shows is =
+    → AnswersView who old Stays (Ok view) → final_answer ≡ says view
+    → AnswersOutcome (candidate_outcome who asked old) old Stays final_answer
+view_answered caller.Office asked says old Stays view final_answer same shows is = absurd shows
+view_answered (Dept d) asked says old Stays view final_answer same shows is = absurd shows
+view_answered (Cand s) asked says old Stays view final_answer same shows is =
     inl (is ∙ ap says shows.0 ∙ same s, shows.1)
 
 -- the same for one exam
-pub her_exam_told : (who : Caller) (exam : ℕ) (old : OfficeState) (Stays : OfficeState → Type 0)
-    (found : Option ViewRow) (told : PlainAnswer) → AnswersExam who exam old Stays (Ok found)
-    → told ≡ candidates.exam_answer found
-    → AnswersOutcome (candidate_outcome who (candidates.one exam) old) old Stays told
-her_exam_told caller.Office exam old Stays found told shows is = absurd shows
-her_exam_told (Dept d) exam old Stays found told shows is = absurd shows
-her_exam_told (Cand s) exam old Stays found told shows is =
+pub exam_answered : (who : Caller) (exam : ℕ) (old : OfficeState) (Stays : OfficeState → Type 0)
+    (found : Option ViewRow) (final_answer : PlainAnswer)
+    → AnswersExam who exam old Stays (Ok found)
+    → final_answer ≡ candidates.exam_answer found
+    → AnswersOutcome (candidate_outcome who (candidates.one exam) old) old Stays final_answer
+exam_answered caller.Office exam old Stays found final_answer shows is = absurd shows
+exam_answered (Dept d) exam old Stays found final_answer shows is = absurd shows
+exam_answered (Cand s) exam old Stays found final_answer shows is =
     inl (is ∙ ap candidates.exam_answer shows.0, shows.1)
 
 -- the same for the personal penalty
-pub her_penalty_told : (who : Caller) (old : OfficeState) (Stays : OfficeState → Type 0)
-    (penalty : PersonalPenalty) (told : PlainAnswer) → AnswersPenalty who old Stays (Ok penalty)
-    → told ≡ my_cost penalty
-    → AnswersOutcome (candidate_outcome who candidates.cost old) old Stays told
-her_penalty_told caller.Office old Stays penalty told shows is = absurd shows
-her_penalty_told (Dept d) old Stays penalty told shows is = absurd shows
-her_penalty_told (Cand s) old Stays penalty told shows is =
+pub penalty_answered : (who : Caller) (old : OfficeState) (Stays : OfficeState → Type 0)
+    (penalty : PersonalPenalty) (final_answer : PlainAnswer)
+    → AnswersPenalty who old Stays (Ok penalty)
+    → final_answer ≡ my_cost penalty
+    → AnswersOutcome (candidate_outcome who candidates.cost old) old Stays final_answer
+penalty_answered caller.Office old Stays penalty final_answer shows is = absurd shows
+penalty_answered (Dept d) old Stays penalty final_answer shows is = absurd shows
+penalty_answered (Cand s) old Stays penalty final_answer shows is =
     inl (is ∙ ap my_cost shows.0, shows.1)
 
 -- ---- what is published
 
 -- a text of the publication is the answer
-pub text_told : (says : Session → Publication → List ℕ) (found : Option (Session × Publication))
-    (p : Session × Publication) (told : List ℕ) → found ≡ Some p → told ≡ says p.0 p.1
-    → text told ≡ of_published says found
-text_told says found p told is same = ap text same ∙ sym (ap (of_published says) is)
+pub text_answered : (says : Session → Publication → List ℕ) (found : Option (Session × Publication))
+    (p : Session × Publication) (final_answer : List ℕ) → found ≡ Some p → final_answer
+    ≡ says p.0 p.1
+    → text final_answer ≡ of_published says found
+text_answered says found p final_answer is same = ap text same ∙ sym (ap (of_published says) is)

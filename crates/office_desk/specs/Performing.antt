@@ -21,9 +21,9 @@ use Rattle.office_desk.specs.Answers.{IsRefusal, plain_answer}
 use Rattle.office_desk.specs.declared.answer.Answer.{Answer}
 
 -- the answer, whether something was done or not
-abbrev pub told_of : Result Answer Answer → PlainAnswer
-told_of (Ok answer) = plain_answer answer
-told_of (Err answer) = plain_answer answer
+abbrev pub answer_of : Result Answer Answer → PlainAnswer
+answer_of (Ok answer) = plain_answer answer
+answer_of (Err answer) = plain_answer answer
 
 -- the outcome is reached and answered; or the office is unchanged and the answer is `unavailable`
 abbrev pub AnswersOutcome : Outcome → OfficeState → (OfficeState → Type 0) → PlainAnswer → Type 0
@@ -35,7 +35,7 @@ abbrev pub Yields : {S : Type 0} → Ghosts S → (OfficeState → Outcome) → 
     → Result Answer Answer → Type 0
 Yields store command old new result =
     HasCleanDisk (state store new) → (office : OfficeState) → Represents (state store old) office
-    → AnswersOutcome (command office) office (Represents (state store new)) (told_of result)
+    → AnswersOutcome (command office) office (Represents (state store new)) (answer_of result)
 
 -- the command is performed as a permitted one, whoever the caller is
 abbrev pub Performs : {S : Type 0} → Ghosts S → PlainCommand → Held S → Held S
@@ -53,7 +53,7 @@ PerformsFor store caller command old new result =
 -- open, and all writes committed
 abbrev pub CommittedUnlessRefused : {S : Type 0} → Ghosts S → Held S → Result Answer Answer → Type 0
 CommittedUnlessRefused store new result =
-    HasCleanDisk (state store new) → IsRefusal (told_of result) ⊎ IsCommitted (state store new)
+    HasCleanDisk (state store new) → IsRefusal (answer_of result) ⊎ IsCommitted (state store new)
 
 -- `Ok`, only for a candidate, is their view; `Err` is answered with `unavailable`; the office is
 -- unchanged
@@ -101,8 +101,8 @@ ShowsPenalty store caller old new result =
     → AnswersPenalty caller office (Represents (state store new)) result
 
 -- `Ok` is the value of the body; `Err` is the answer to a faulty or too long body
-abbrev pub IsGiven : {A : Type 0} → Body A → Result A Answer → Type 0
-IsGiven body (Ok x) = body ≡ Given x
-IsGiven body (Err answer) =
+abbrev pub IsBodyOrAnswer : {A : Type 0} → Body A → Result A Answer → Type 0
+IsBodyOrAnswer body (Ok x) = body ≡ Given x
+IsBodyOrAnswer body (Err answer) =
     ((body ≡ Bad) × (plain_answer answer ≡ bad_body))
     ⊎ ((body ≡ Long) × (plain_answer answer ≡ long_body))

@@ -28,7 +28,7 @@ pub(crate) fn me<S: Alter>(
     ensures clean { HasCleanDisk (state S.Store office.new)
         → HasCleanDisk (state S.Store office.old) }
 {
-    let view = her_view(office, alloc, caller)?;
+    let view = view_of_caller(office, alloc, caller)?;
     Ok(Answer::Me(view))
 }
 
@@ -44,7 +44,7 @@ pub(crate) fn my_exam<S: Alter>(
     ensures clean { HasCleanDisk (state S.Store office.new)
         → HasCleanDisk (state S.Store office.old) }
 {
-    let found = her_exam(office, alloc, caller, exam)?;
+    let found = exam_of_caller(office, alloc, caller, exam)?;
     match found {
         Some(row) => Ok(Answer::MyExam(row)),
         None => Ok(Answer::NotMine),
@@ -62,12 +62,12 @@ pub(crate) fn my_penalty<S: Alter>(
     ensures clean { HasCleanDisk (state S.Store office.new)
         → HasCleanDisk (state S.Store office.old) }
 {
-    let penalty = her_penalty(office, alloc, caller)?;
+    let penalty = penalty_of_caller(office, alloc, caller)?;
     Ok(Answer::MyPenalty(penalty))
 }
 
 // Returns the view of the candidate who asks. No other caller is permitted to ask for one.
-fn her_view<S: Alter>(
+fn view_of_caller<S: Alter>(
     office: &mut Office<S>,
     alloc: Global,
     caller: Caller,
@@ -87,7 +87,7 @@ fn her_view<S: Alter>(
 }
 
 // Returns what the candidate who asks is shown of an exam. No other caller is permitted to ask.
-fn her_exam<S: Alter>(
+fn exam_of_caller<S: Alter>(
     office: &mut Office<S>,
     alloc: Global,
     caller: Caller,
@@ -108,7 +108,7 @@ fn her_exam<S: Alter>(
 }
 
 // Returns what the exams of the candidate who asks cost them. No other caller is permitted to ask.
-fn her_penalty<S: Alter>(
+fn penalty_of_caller<S: Alter>(
     office: &mut Office<S>,
     alloc: Global,
     caller: Caller,

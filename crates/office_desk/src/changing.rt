@@ -8,7 +8,7 @@ ghost use Rattle.office_policy.specs.CommandBodies.{plain_text};
 ghost use Rattle.office_policy.specs.Commands.{new_draft, place, publish, set_owner, swap};
 ghost use Rattle.exam_terms.specs.declared.limits.TheConstants.{MAX_BATCH, MAX_DEPARTMENT};
 ghost use Rattle.office_model.specs.Step.{edit_outcome};
-ghost use Rattle.office_desk.specs.Performing.{CommittedUnlessRefused, IsGiven, Performs, Yields};
+ghost use Rattle.office_desk.specs.Performing.{CommittedUnlessRefused, IsBodyOrAnswer, Performs, Yields};
 
 use crate::answer::Answer;
 use exam_draft::Edit;
@@ -29,7 +29,7 @@ pub(crate) fn load<S: Alter>(
     ensures clean { HasCleanDisk (state S.Store office.new)
         → HasCleanDisk (state S.Store office.old) }
 {
-    let text = given(body)?;
+    let text = body_or_answer(body)?;
     let loaded = office.load(alloc, text)?;
     Ok(Answer::Loaded(loaded))
 }
@@ -45,7 +45,7 @@ pub(crate) fn set_owner<S: Alter>(
     ensures clean { HasCleanDisk (state S.Store office.new)
         → HasCleanDisk (state S.Store office.old) }
 {
-    let dept = given(body)?;
+    let dept = body_or_answer(body)?;
     office.set_owner(exam, dept)?;
     Ok(Answer::Owner(exam, dept))
 }
@@ -62,7 +62,7 @@ pub(crate) fn new_draft<S: Alter>(
     ensures clean { HasCleanDisk (state S.Store office.new)
         → HasCleanDisk (state S.Store office.old) }
 {
-    let text = given(body)?;
+    let text = body_or_answer(body)?;
     let penalty = office.new_draft(alloc, number, text)?;
     Ok(Answer::NewDraft(number, penalty))
 }
@@ -89,7 +89,7 @@ pub(crate) fn place_exam<S: Alter>(
     ensures clean { HasCleanDisk (state S.Store office.new)
         → HasCleanDisk (state S.Store office.old) }
 {
-    let place = given(body)?;
+    let place = body_or_answer(body)?;
     edit(office, alloc, number, Edit::Place(exam, place))
 }
 
@@ -105,7 +105,7 @@ pub(crate) fn move_exam<S: Alter>(
     ensures clean { HasCleanDisk (state S.Store office.new)
         → HasCleanDisk (state S.Store office.old) }
 {
-    let place = given(body)?;
+    let place = body_or_answer(body)?;
     edit(office, alloc, number, Edit::Move(exam, place))
 }
 
@@ -165,7 +165,7 @@ pub(crate) fn enrol_batch<S: Alter>(
     ensures clean { HasCleanDisk (state S.Store office.new)
         → HasCleanDisk (state S.Store office.old) }
 {
-    let text = given(body)?;
+    let text = body_or_answer(body)?;
     let counts = office.enrol_batch(alloc, number, text)?;
     Ok(Answer::Enrolled(number, counts))
 }
@@ -186,8 +186,8 @@ fn edit<S: Alter>(
 }
 
 // Returns the value of a body, or the answer to a faulty one.
-fn given<T: Drop>(body: Body<T>) -> Result<T, Answer>
-    ensures { IsGiven body result }
+fn body_or_answer<T: Drop>(body: Body<T>) -> Result<T, Answer>
+    ensures { IsBodyOrAnswer body result }
 {
     match body {
         Body::Given(value) => Ok(value),

@@ -8,7 +8,7 @@ ghost use Rattle.office_model.specs.Step.{Steps};
 ghost use Rattle.office_store.specs.Running.{IsCommitted, StateUnchanged, Represents};
 ghost use Rattle.office_store.specs.Shut.{IsShut};
 ghost use Rattle.office_desk.specs.Answers.{IsRefusal, plain_answer};
-ghost use Rattle.office_desk.specs.Performing.{CommittedUnlessRefused, PerformsFor, told_of};
+ghost use Rattle.office_desk.specs.Performing.{CommittedUnlessRefused, PerformsFor, answer_of};
 
 use crate::answer::Answer;
 use crate::candidates::{me, my_exam, my_penalty};
@@ -75,7 +75,7 @@ impl<S: Alter> Desk<S> {
     {
         let asking = caller;
         match judged(&mut self.office, alloc, asking, command) {
-            Ok(Ok(())) => told(perform(&mut self.office, alloc, caller, command)),
+            Ok(Ok(())) => into_answer(perform(&mut self.office, alloc, caller, command)),
             Ok(Err(denial)) => Answer::Denied(denial),
             Err(fault) => Answer::from(fault),
         }
@@ -97,8 +97,8 @@ impl<S: Alter> Desk<S> {
 }
 
 // Returns the answer, whether something was done or not.
-fn told(performed: Result<Answer, Answer>) -> Answer
-    ensures { plain_answer result ≡ told_of performed }
+fn into_answer(performed: Result<Answer, Answer>) -> Answer
+    ensures { plain_answer result ≡ answer_of performed }
 {
     match performed {
         Ok(answer) | Err(answer) => answer,

@@ -1,6 +1,6 @@
 use Rattle.std.proofs.Common.{◌≡◌, Err, inl, rules, subst, sym}
 use Rattle.office_desk.specs.Answers.{IsRefusal}
-use Rattle.office_desk.specs.Performing.{told_of}
+use Rattle.office_desk.specs.Performing.{answer_of}
 use Rattle.office_desk.proofs.TellingLemmas.{body_refused}
 use Rattle.office_desk.proofs.changing.move_exam.Goals as goal
 
@@ -10,4 +10,4 @@ returns-clause-performs g c caller = rw c.in_ok-place.ensures c.edit.ensures.edi
 pub returns-in_err-place-clause-all_committed : goal.returns-in_err-place-clause-all_committed
 returns-in_err-place-clause-all_committed g c clean =
     let is : c.from_residual.result ≡ Err c.in_err-place.field-0.0 = search rules in
-    inl (subst (λ r. IsRefusal (told_of r)) (sym is) (body_refused _ _ c.in_err-place.ensures))
+    inl (subst (λ r. IsRefusal (answer_of r)) (sym is) (body_refused _ _ c.in_err-place.ensures))

@@ -2,7 +2,7 @@ use Rattle.std.proofs.Common.{◌∙◌, ap, inl, subst}
 use Rattle.office_reports.specs.Reports.{penalty_text}
 use Rattle.office_model.specs.Step.{publication_in, published_penalty}
 use Rattle.office_store.specs.Publications.{AddUpIn}
-use Rattle.office_desk.proofs.TellingLemmas.{text_told}
+use Rattle.office_desk.proofs.TellingLemmas.{text_answered}
 use Rattle.office_desk.proofs.publications.publication_penalty.Goals as goal
 
 pub returns-clause-performs : goal.returns-clause-performs
@@ -12,7 +12,7 @@ returns-clause-performs g c caller clean office now =
     (c.in_ok-shares.ensures.add_up clean office now) in
     let parts = c.in-Some-parts.ensures.penalty _ adds.2 in
     inl (
-      text_told published_penalty (publication_in office) adds.0 _ adds.1
+      text_answered published_penalty (publication_in office) adds.0 _ adds.1
           (rw c.into_bytes.ensures.value (c.in_ok-report.ensures ∙ ap penalty_text parts)),
       read.1,
     )
