@@ -15,7 +15,7 @@ use Rattle.office_model.specs.Step.{Outcome}
 use Rattle.office_model.specs.Views.{view_of}
 use Rattle.office_model.proofs.ToldLemmas.{candidate_answer}
 use Rattle.office_replies.specs.Replies.{reply_to}
-use Rattle.office_http.specs.Replying.{Replies, RepliesTo, TellsCandidate, her_text}
+use Rattle.office_http.specs.Replying.{Replies, RepliesTo, RepliesCandidateView, view_or_denial}
 
 -- the command that a candidate's message asks for, if it asks for one of their pages
 abbrev pub said_by : ℕ → Option PlainCommand → Result PlainCallerCommand Refusal
@@ -29,20 +29,20 @@ said_is : (s : ℕ) (command : Option PlainCommand)
 said_is s None = refl
 said_is s (Some command) = refl
 
-pub her_reading : (s : ℕ) (request : PlainRequest) → caller_in request.caller ≡ Some (Cand s)
+pub own_reading : (s : ℕ) (request : PlainRequest) → caller_in request.caller ≡ Some (Cand s)
     → reading request.method request.target request.caller request.body
     ≡ said_by s (own_command (verb_of request.method) request.target)
-her_reading s request is =
+own_reading s request is =
     ap (λ found. else_err refusal.Caller found >>= (λ who.
     command_by who (verb_of request.method) request.target request.body >>= (λ asked.
     Ok (record { caller = who; command = asked })))) is
     ∙ said_is s (own_command (verb_of request.method) request.target)
 
-told_by : (s : ℕ) (command : Option PlainCommand) (old new : OfficeState) (reply : PlainReply)
+trace_by : (s : ℕ) (command : Option PlainCommand) (old new : OfficeState) (reply : PlainReply)
     → RepliesTo (said_by s command) old reply new
-    → (reply ≡ her_text s command (view_of s old)) ⊎ (reply ≡ unavailable)
-told_by s None old new reply h = inl h.1
-told_by s (Some command) old new reply (answer, step, is) = elim step [
+    → (reply ≡ view_or_denial s command (view_of s old)) ⊎ (reply ≡ unavailable)
+trace_by s None old new reply h = inl h.1
+trace_by s (Some command) old new reply (answer, step, is) = elim step [
   | inl same ↦ inl (is ∙ ap reply_to (ap (λ (o : Outcome). o.1)
       (same ∙ candidate_answer s old command)))
   | inr h ↦ inr (is ∙ ap reply_to h.1)
@@ -50,7 +50,7 @@ told_by s (Some command) old new reply (answer, step, is) = elim step [
 
 -- whatever state the office reaches
 pub tells : (old new : OfficeState) (request : PlainRequest) (reply : PlainReply)
-    → Replies old request reply new → TellsCandidate old request reply
+    → Replies old request reply new → RepliesCandidateView old request reply
 tells old new request reply h = λ s is.
-    told_by s (own_command (verb_of request.method) request.target) old new reply
-    (subst (λ said. RepliesTo said old reply new) (her_reading s request is) h)
+    trace_by s (own_command (verb_of request.method) request.target) old new reply
+    (subst (λ said. RepliesTo said old reply new) (own_reading s request is) h)

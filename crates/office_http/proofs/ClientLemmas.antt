@@ -15,11 +15,11 @@ use Rattle.office_model.specs.Office.{OfficeState}
 use Rattle.office_model.specs.Views.{view_of}
 use Rattle.office_store.specs.Running.{Represents}
 use Rattle.office_http.specs.Clients.{ServesAll, ServesAllByView, ServesTo, all_entries, entries_to}
-use Rattle.office_http.specs.Isolation.{AreToldAlike, AreToldByView, IsHersOrQuiet, RepliesView}
+use Rattle.office_http.specs.Isolation.{GetSameBytes, GetBytesByView, IsOwnOrQuiet, RepliesView}
 use Rattle.office_http.specs.Replying.{Answered}
 use Rattle.office_http.specs.Serving.{LeadsOffice}
-use Rattle.office_http.specs.Transcripts.{Entry, TellsHerView, transcript}
-use Rattle.office_http.proofs.IsolationLemmas.{Sees, all_alike, all_by_view, both_all, each_told, quiet_each, quiet_end}
+use Rattle.office_http.specs.Transcripts.{Entry, RepliesOwnView, transcript}
+use Rattle.office_http.proofs.IsolationLemmas.{Sees, all_alike, all_by_view, both_all, each_by_view, quiet_each, quiet_end}
 use Rattle.office_http.proofs.ServingLemmas.{serves_clean, serves_front_leads, serves_leads}
 
 All-left : {X : Type 0} (P : X → Type 0) (xs ys : List X) → All P (xs ++ ys) → All P xs
@@ -65,42 +65,42 @@ module _ {S : Type 0} (store : Ghosts S) where
 -- ---- by a candidate's view
 
 -- in runs of messages that are ordered only among themselves
-told_to : (ended : Result Served ServeFault) (input before after : Option (List ℕ))
+trace_to : (ended : Result Served ServeFault) (input before after : Option (List ℕ))
     (old new : OfficeState) (run : ServesTo ended input before after old new)
-    → All TellsHerView (entries_to ended input before after old new run)
-told_to (Ok served) input before after old new run =
-    each_told run.items old new run.output run.trace
-told_to (Err Read) input before after old new (items, output, begins, trace, written) =
-    each_told items old new output trace
-told_to (Err Write) input before after old new (items, output, begins, x) =
-    All-append TellsHerView (transcript x.whole old x.front x.mid x.trace)
+    → All RepliesOwnView (entries_to ended input before after old new run)
+trace_to (Ok served) input before after old new run =
+    each_by_view run.items old new run.output run.trace
+trace_to (Err Read) input before after old new (items, output, begins, trace, written) =
+    each_by_view items old new output trace
+trace_to (Err Write) input before after old new (items, output, begins, x) =
+    All-append RepliesOwnView (transcript x.whole old x.front x.mid x.trace)
     (transcript (x.last ∷ []) x.mid (x.sent ++ x.unsent) new x.last_trace)
-    (each_told x.whole old x.mid x.front x.trace)
-    (each_told (x.last ∷ []) x.mid new (x.sent ++ x.unsent) x.last_trace)
-told_to (Err TooMany) input before after old new (items, output, begins, trace, written) =
-    each_told items old new output trace
-told_to (Err NoMemory) input before after old new (items, output, begins, trace, written) =
-    each_told items old new output trace
+    (each_by_view x.whole old x.mid x.front x.trace)
+    (each_by_view (x.last ∷ []) x.mid new (x.sent ++ x.unsent) x.last_trace)
+trace_to (Err TooMany) input before after old new (items, output, begins, trace, written) =
+    each_by_view items old new output trace
+trace_to (Err NoMemory) input before after old new (items, output, begins, trace, written) =
+    each_by_view items old new output trace
 
-pub all_told : (vs : List Visit) (old new : OfficeState) (run : ServesAll vs old new)
-    → All TellsHerView (all_entries vs old new run)
-all_told [] old new run = All-nil TellsHerView
-all_told (v ∷ vs) old new (mid, served, rest) =
-    All-append TellsHerView (entries_to v.ended v.input v.before v.after old mid served)
-    (all_entries vs mid new rest) (told_to v.ended v.input v.before v.after old mid served)
-    (all_told vs mid new rest)
+pub all_given_trace : (vs : List Visit) (old new : OfficeState) (run : ServesAll vs old new)
+    → All RepliesOwnView (all_entries vs old new run)
+all_given_trace [] old new run = All-nil RepliesOwnView
+all_given_trace (v ∷ vs) old new (mid, served, rest) =
+    All-append RepliesOwnView (entries_to v.ended v.input v.before v.after old mid served)
+    (all_entries vs mid new rest) (trace_to v.ended v.input v.before v.after old mid served)
+    (all_given_trace vs mid new rest)
 
 pub visits_by_view : {S : Type 0} (store : Ghosts S) (vs : List Visit) (old new : Held S)
     → ServesVisits (Answered store) vs old new → LeadsOffice store (ServesAllByView vs) old new
 visits_by_view store vs old new served = λ clean office now.
     let led = visits_lead store vs old new served clean office now in
-    (led.0, (led.1, all_told vs office led.0 led.1), led.2)
+    (led.0, (led.1, all_given_trace vs office led.0 led.1), led.2)
 
 -- ---- if others' messages are quiet for the candidate
 
 end_to : (s : ℕ) (ended : Result Served ServeFault) (input before after : Option (List ℕ))
     (old new : OfficeState) (run : ServesTo ended input before after old new)
-    → All (IsHersOrQuiet s) (entries_to ended input before after old new run)
+    → All (IsOwnOrQuiet s) (entries_to ended input before after old new run)
     → view_of s new ≡ view_of s old
 end_to s (Ok served) input before after old new run q =
     quiet_end s run.items old new run.output run.trace q
@@ -110,22 +110,22 @@ end_to s (Err Write) input before after old new (items, output, begins, x) q =
     let first = transcript x.whole old x.front x.mid x.trace in
     let last = transcript (x.last ∷ []) x.mid (x.sent ++ x.unsent) new x.last_trace in
     quiet_end s (x.last ∷ []) x.mid new (x.sent ++ x.unsent) x.last_trace
-    (All-right (IsHersOrQuiet s) first last q)
-    ∙ quiet_end s x.whole old x.mid x.front x.trace (All-left (IsHersOrQuiet s) first last q)
+    (All-right (IsOwnOrQuiet s) first last q)
+    ∙ quiet_end s x.whole old x.mid x.front x.trace (All-left (IsOwnOrQuiet s) first last q)
 end_to s (Err TooMany) input before after old new (items, output, begins, trace, written) q =
     quiet_end s items old new output trace q
 end_to s (Err NoMemory) input before after old new (items, output, begins, trace, written) q =
     quiet_end s items old new output trace q
 
 pub all_end : (s : ℕ) (vs : List Visit) (old new : OfficeState) (run : ServesAll vs old new)
-    → All (IsHersOrQuiet s) (all_entries vs old new run) → view_of s new ≡ view_of s old
+    → All (IsOwnOrQuiet s) (all_entries vs old new run) → view_of s new ≡ view_of s old
 all_end s [] old new run q = ap (view_of s) run
 all_end s (v ∷ vs) old new (mid, served, rest) q =
     let first = entries_to v.ended v.input v.before v.after old mid served in
     let later = all_entries vs mid new rest in
-    all_end s vs mid new rest (All-right (IsHersOrQuiet s) first later q)
+    all_end s vs mid new rest (All-right (IsOwnOrQuiet s) first later q)
     ∙ end_to s v.ended v.input v.before v.after old mid served
-    (All-left (IsHersOrQuiet s) first later q)
+    (All-left (IsOwnOrQuiet s) first later q)
 
 -- entries that see a view, then entries that see the same view of a later office
 seen_on : (s : ℕ) (old mid : OfficeState) (first later : List Entry)
@@ -137,7 +137,7 @@ seen_on s old mid first later same here there =
 
 each_to : (s : ℕ) (ended : Result Served ServeFault) (input before after : Option (List ℕ))
     (old new : OfficeState) (run : ServesTo ended input before after old new)
-    → All (IsHersOrQuiet s) (entries_to ended input before after old new run)
+    → All (IsOwnOrQuiet s) (entries_to ended input before after old new run)
     → All (Sees s (view_of s old)) (entries_to ended input before after old new run)
 each_to s (Ok served) input before after old new run q =
     quiet_each s run.items old new run.output run.trace q
@@ -146,50 +146,51 @@ each_to s (Err Read) input before after old new (items, output, begins, trace, w
 each_to s (Err Write) input before after old new (items, output, begins, x) q =
     let first = transcript x.whole old x.front x.mid x.trace in
     let last = transcript (x.last ∷ []) x.mid (x.sent ++ x.unsent) new x.last_trace in
-    let here = All-left (IsHersOrQuiet s) first last q in
+    let here = All-left (IsOwnOrQuiet s) first last q in
     seen_on s old x.mid first last (quiet_end s x.whole old x.mid x.front x.trace here)
     (quiet_each s x.whole old x.mid x.front x.trace here)
     (quiet_each s (x.last ∷ []) x.mid new (x.sent ++ x.unsent) x.last_trace
-    (All-right (IsHersOrQuiet s) first last q))
+    (All-right (IsOwnOrQuiet s) first last q))
 each_to s (Err TooMany) input before after old new (items, output, begins, trace, written) q =
     quiet_each s items old new output trace q
 each_to s (Err NoMemory) input before after old new (items, output, begins, trace, written) q =
     quiet_each s items old new output trace q
 
 pub all_each : (s : ℕ) (vs : List Visit) (old new : OfficeState) (run : ServesAll vs old new)
-    → All (IsHersOrQuiet s) (all_entries vs old new run)
+    → All (IsOwnOrQuiet s) (all_entries vs old new run)
     → All (Sees s (view_of s old)) (all_entries vs old new run)
 all_each s [] old new run q = All-nil (Sees s (view_of s old))
 all_each s (v ∷ vs) old new (mid, served, rest) q =
     let first = entries_to v.ended v.input v.before v.after old mid served in
     let later = all_entries vs mid new rest in
-    let here = All-left (IsHersOrQuiet s) first later q in
+    let here = All-left (IsOwnOrQuiet s) first later q in
     seen_on s old mid first later (end_to s v.ended v.input v.before v.after old mid served here)
     (each_to s v.ended v.input v.before v.after old mid served here)
-    (all_each s vs mid new rest (All-right (IsHersOrQuiet s) first later q))
+    (all_each s vs mid new rest (All-right (IsOwnOrQuiet s) first later q))
 
-pub all_quiet_told : (s : ℕ) (vs : List Visit) (old new : OfficeState) (run : ServesAll vs old new)
-    → All (IsHersOrQuiet s) (all_entries vs old new run)
+pub all_quiet_by_view : (s : ℕ) (vs : List Visit) (old new : OfficeState)
+    (run : ServesAll vs old new)
+    → All (IsOwnOrQuiet s) (all_entries vs old new run)
     → All (RepliesView s (view_of s old)) (all_entries vs old new run)
-all_quiet_told s vs old new run q =
-    both_all s (view_of s old) (all_entries vs old new run) (all_told vs old new run)
+all_quiet_by_view s vs old new run q =
+    both_all s (view_of s old) (all_entries vs old new run) (all_given_trace vs old new run)
     (all_each s vs old new run q)
 
 -- ---- two offices
 
 pub two_agree : (s : ℕ) (vs ws : List Visit) (one next other last : OfficeState)
     (first : ServesAll vs one next) (second : ServesAll ws other last)
-    → AreToldByView s (all_entries vs one next first) (all_entries ws other last second)
+    → GetBytesByView s (all_entries vs one next first) (all_entries ws other last second)
 two_agree s vs ws one next other last first second =
     all_by_view s (all_entries vs one next first) (all_entries ws other last second)
-    (all_told vs one next first) (all_told ws other last second)
+    (all_given_trace vs one next first) (all_given_trace ws other last second)
 
 pub two_quiet : (s : ℕ) (vs ws : List Visit) (one next other last : OfficeState)
     (first : ServesAll vs one next) (second : ServesAll ws other last)
     → view_of s one ≡ view_of s other
-    → All (IsHersOrQuiet s) (all_entries vs one next first)
-    → All (IsHersOrQuiet s) (all_entries ws other last second)
-    → AreToldAlike s (all_entries vs one next first) (all_entries ws other last second)
+    → All (IsOwnOrQuiet s) (all_entries vs one next first)
+    → All (IsOwnOrQuiet s) (all_entries ws other last second)
+    → GetSameBytes s (all_entries vs one next first) (all_entries ws other last second)
 two_quiet s vs ws one next other last first second same q k =
     let here = all_entries vs one next first in
     let there = all_entries ws other last second in

@@ -29,12 +29,12 @@ use Rattle.office_model.specs.Views.{View, view_of}
 use Rattle.office_model.proofs.ChangeLemmas.{alike}
 use Rattle.office_model.proofs.QuietLemmas.{quiet_one}
 use Rattle.office_model.proofs.ToldLemmas as model
-use Rattle.office_http.specs.HerMessages.{AreAlike, AreFrom, AsksTheSame, IsFrom, bytes_of, her_output, her_reply}
-use Rattle.office_http.specs.Isolation.{AreAvailable, AreToldAlike, AreToldByView, IsHersOrQuiet, IsQuietFor, IsToldAlike, LeavesPublication, RepliesView, changes_by, her_changes}
-use Rattle.office_http.specs.Transcripts.{Entry, ServesByView, TellsHerView, asked_in, entry, transcript}
-use Rattle.office_http.specs.Replying.{Answered, Replies, RepliesTo, her_text}
+use Rattle.office_http.specs.CandidateMessages.{HaveSameBytes, AreFrom, AsksTheSame, IsFrom, bytes_of, output_from_view, reply_from_view}
+use Rattle.office_http.specs.Isolation.{AreAvailable, GetSameBytes, GetBytesByView, IsOwnOrQuiet, IsQuietFor, GetsSameBytes, LeavesPublication, RepliesView, changes_by, changes_to_candidate}
+use Rattle.office_http.specs.Transcripts.{Entry, ServesByView, RepliesOwnView, exchange_in, entry, transcript}
+use Rattle.office_http.specs.Replying.{Answered, Replies, RepliesTo, view_or_denial}
 use Rattle.office_http.specs.Serving.{LeadsOffice}
-use Rattle.office_http.proofs.CandidateLemmas.{her_reading, said_by, tells}
+use Rattle.office_http.proofs.CandidateLemmas.{own_reading, said_by, tells}
 use Rattle.office_http.proofs.ServingLemmas.{serves_leads}
 
 -- ---- one message
@@ -53,12 +53,12 @@ pub stays : (s : ℕ) (old new : OfficeState) (request : PlainRequest) (reply : 
     → Replies old request reply new → IsFrom s request → new ≡ old
 stays s old new request reply h is =
     stays_by s (own_command (verb_of request.method) request.target) old new reply
-    (subst (λ said. RepliesTo said old reply new) (her_reading s request is) h)
+    (subst (λ said. RepliesTo said old reply new) (own_reading s request is) h)
 
 -- two replies by one view, unless the office is unavailable for one of them
 both_by : (said : PlainReply) (one other : PlainRequest) (reply answer : PlainReply)
     → one.method ≡ other.method → (reply ≡ said) ⊎ (reply ≡ unavailable)
-    → (answer ≡ said) ⊎ (answer ≡ unavailable) → AreAlike (one, reply) (other, answer)
+    → (answer ≡ said) ⊎ (answer ≡ unavailable) → HaveSameBytes (one, reply) (other, answer)
 both_by said one other reply answer method (inl r) (inl a) =
     inl (ap (λ m. reply_text (form_of m) reply) method
     ∙ ap (reply_text (form_of other.method)) (r ∙ sym a))
@@ -69,17 +69,17 @@ both_by said one other reply answer method r (inr a) = inr (inr a)
 pub same_bytes : (s : ℕ) (one other next last : OfficeState) (request : PlainRequest)
     (reply answer : PlainReply) → view_of s one ≡ view_of s other → IsFrom s request
     → Replies one request reply next → Replies other request answer last
-    → AreAlike (request, reply) (request, answer)
+    → HaveSameBytes (request, reply) (request, answer)
 same_bytes s one other next last request reply answer same is h k =
-    both_by (her_reply s request (view_of s other)) request request reply answer refl
-    (subst (λ view. (reply ≡ her_reply s request view) ⊎ (reply ≡ unavailable)) same
+    both_by (reply_from_view s request (view_of s other)) request request reply answer refl
+    (subst (λ view. (reply ≡ reply_from_view s request view) ⊎ (reply ≡ unavailable)) same
     (tells one next request reply h s is))
     (tells other last request answer k s is)
 
 quiet_said : (s : ℕ) (said : Result PlainCallerCommand Refusal) (old new : OfficeState)
     (reply : PlainReply)
     → (trace : RepliesTo said old reply new)
-    → IfSome (asked_in said old reply new trace) (λ x. IsQuiet s old x.command x.answer)
+    → IfSome (exchange_in said old reply new trace) (λ x. IsQuiet s old x.command x.answer)
     → view_of s new ≡ view_of s old
 quiet_said s (Ok asked) old new reply trace q =
     quiet_one s old new asked.caller asked.command trace.0 trace.1 q
@@ -101,60 +101,60 @@ is_candidate s (Some Office) = false
 is_candidate s (Some (Dept d)) = false
 is_candidate s (Some (Cand t)) = t == s
 
-not_hers : (s : ℕ) (found : Option Caller) → is_candidate s found ≡ false
+not_own : (s : ℕ) (found : Option Caller) → is_candidate s found ≡ false
     → ¬ (found ≡ Some (Cand s))
-not_hers s found other is =
+not_own s found other is =
     true≢false (sym (ap (is_candidate s) is ∙ eq-eqb s s refl) ∙ other)
 
-hers_or_not : (s : ℕ) (found : Option Caller)
+own_or_not : (s : ℕ) (found : Option Caller)
     → (found ≡ Some (Cand s)) ⊎ (¬ (found ≡ Some (Cand s)))
-hers_or_not s None = inr (not_hers s None refl)
-hers_or_not s (Some Office) = inr (not_hers s (Some Office) refl)
-hers_or_not s (Some (Dept d)) = inr (not_hers s (Some (Dept d)) refl)
-hers_or_not s (Some (Cand t)) = elim (cases_eq t s) [
+own_or_not s None = inr (not_own s None refl)
+own_or_not s (Some Office) = inr (not_own s (Some Office) refl)
+own_or_not s (Some (Dept d)) = inr (not_own s (Some (Dept d)) refl)
+own_or_not s (Some (Cand t)) = elim (cases_eq t s) [
   | inl is ↦ inl (ap (λ n. Some (Cand n)) is)
-  | inr other ↦ inr (not_hers s (Some (Cand t)) (ne_eqb t s other))
+  | inr other ↦ inr (not_own s (Some (Cand t)) (ne_eqb t s other))
 ]
 
 -- a message of the candidate's, or one quiet for them, leaves their view unchanged
 leaves : (s : ℕ) (old new : OfficeState) (request : PlainRequest) (reply : PlainReply)
-    → (trace : Replies old request reply new) → IsHersOrQuiet s (entry old request reply new trace)
+    → (trace : Replies old request reply new) → IsOwnOrQuiet s (entry old request reply new trace)
     → view_of s new ≡ view_of s old
-leaves s old new request reply trace q = elim (hers_or_not s (caller_in request.caller)) [
+leaves s old new request reply trace q = elim (own_or_not s (caller_in request.caller)) [
   | inl is ↦ ap (view_of s) (stays s old new request reply trace is)
   | inr other ↦ quiet_leaves s old new request reply trace (q other)
 ]
 
 -- ---- runs
 
-pub each_told : (items : List Item) (old new : OfficeState) (output : List ℕ)
+pub each_by_view : (items : List Item) (old new : OfficeState) (output : List ℕ)
     (trace : AnswersItems Replies items old output new)
-    → All TellsHerView (transcript items old output new trace)
-each_told [] old new output trace = All-nil TellsHerView
-each_told (fails fault form ∷ items) old new output (rest, is, trace) =
-    each_told items old new rest trace
-each_told (asks request ∷ items) old new output (mid, reply, rest, step, is, trace) =
-    All-cons TellsHerView (entry old request reply mid step) (transcript items mid rest new trace)
-    (tells old mid request reply step) (each_told items mid new rest trace)
+    → All RepliesOwnView (transcript items old output new trace)
+each_by_view [] old new output trace = All-nil RepliesOwnView
+each_by_view (fails fault form ∷ items) old new output (rest, is, trace) =
+    each_by_view items old new rest trace
+each_by_view (asks request ∷ items) old new output (mid, reply, rest, step, is, trace) =
+    All-cons RepliesOwnView (entry old request reply mid step) (transcript items mid rest new trace)
+    (tells old mid request reply step) (each_by_view items mid new rest trace)
 
 pub quiet_end : (s : ℕ) (items : List Item) (old new : OfficeState) (output : List ℕ)
     (trace : AnswersItems Replies items old output new)
-    → All (IsHersOrQuiet s) (transcript items old output new trace) → view_of s new ≡ view_of s old
+    → All (IsOwnOrQuiet s) (transcript items old output new trace) → view_of s new ≡ view_of s old
 quiet_end s [] old new output trace q = ap (view_of s) trace.1
 quiet_end s (fails fault form ∷ items) old new output (rest, is, trace) q =
     quiet_end s items old new rest trace q
 quiet_end s (asks request ∷ items) old new output (mid, reply, rest, step, is, trace) q =
     let first = entry old request reply mid step in
     let later = transcript items mid rest new trace in
-    quiet_end s items mid new rest trace (All-tail (IsHersOrQuiet s) first later q)
-    ∙ leaves s old mid request reply step (All-head (IsHersOrQuiet s) first later q)
+    quiet_end s items mid new rest trace (All-tail (IsOwnOrQuiet s) first later q)
+    ∙ leaves s old mid request reply step (All-head (IsOwnOrQuiet s) first later q)
 
 abbrev pub Sees : ℕ → View → Entry → Type 0
 Sees s view e = view_of s e.office ≡ view
 
 pub quiet_each : (s : ℕ) (items : List Item) (old new : OfficeState) (output : List ℕ)
     (trace : AnswersItems Replies items old output new)
-    → All (IsHersOrQuiet s) (transcript items old output new trace)
+    → All (IsOwnOrQuiet s) (transcript items old output new trace)
     → All (Sees s (view_of s old)) (transcript items old output new trace)
 quiet_each s [] old new output trace q = All-nil (Sees s (view_of s old))
 quiet_each s (fails fault form ∷ items) old new output (rest, is, trace) q =
@@ -164,69 +164,72 @@ quiet_each s (asks request ∷ items) old new output (mid, reply, rest, step, is
     let later = transcript items mid rest new trace in
     All-cons (Sees s (view_of s old)) first later refl
     (All-weaker (Sees s (view_of s mid)) (Sees s (view_of s old))
-    (λ e h. h ∙ leaves s old mid request reply step (All-head (IsHersOrQuiet s) first later q))
+    (λ e h. h ∙ leaves s old mid request reply step (All-head (IsOwnOrQuiet s) first later q))
     later
-    (quiet_each s items mid new rest trace (All-tail (IsHersOrQuiet s) first later q)))
+    (quiet_each s items mid new rest trace (All-tail (IsOwnOrQuiet s) first later q)))
 
-told_one : (s : ℕ) (view : View) (e : Entry) → TellsHerView e → Sees s view e → RepliesView s view e
-told_one s view e trace same is =
-    subst (λ v. (e.reply ≡ her_reply s e.request v) ⊎ (e.reply ≡ unavailable)) same (trace s is)
+trace_one : (s : ℕ) (view : View) (e : Entry) → RepliesOwnView e → Sees s view e
+    → RepliesView s view e
+trace_one s view e trace same is =
+    subst (λ v. (e.reply ≡ reply_from_view s e.request v) ⊎ (e.reply ≡ unavailable)) same
+    (trace s is)
 
 -- if each message finds this view, the candidate is replied its text
-pub both_all : (s : ℕ) (view : View) (es : List Entry) → All TellsHerView es → All (Sees s view) es
+pub both_all : (s : ℕ) (view : View) (es : List Entry) → All RepliesOwnView es
+    → All (Sees s view) es
     → All (RepliesView s view) es
-both_all s view es trace same = λ k d lt. told_one s view (get_or es k d) (trace k d lt)
+both_all s view es trace same = λ k d lt. trace_one s view (get_or es k d) (trace k d lt)
     (same k d lt)
 
-pub quiet_told : (s : ℕ) (items : List Item) (old new : OfficeState) (output : List ℕ)
+pub quiet_by_view : (s : ℕ) (items : List Item) (old new : OfficeState) (output : List ℕ)
     (trace : AnswersItems Replies items old output new)
-    → All (IsHersOrQuiet s) (transcript items old output new trace)
+    → All (IsOwnOrQuiet s) (transcript items old output new trace)
     → All (RepliesView s (view_of s old)) (transcript items old output new trace)
-quiet_told s items old new output trace q =
+quiet_by_view s items old new output trace q =
     both_all s (view_of s old) (transcript items old output new trace)
-    (each_told items old new output trace) (quiet_each s items old new output trace q)
+    (each_by_view items old new output trace) (quiet_each s items old new output trace q)
 
 -- ---- two connections
 
 asks_same : (s : ℕ) (view : View) (one other : PlainRequest) → AsksTheSame one other
-    → her_reply s one view ≡ her_reply s other view
+    → reply_from_view s one view ≡ reply_from_view s other view
 asks_same s view one other same =
-    λ i. her_text s (own_command (verb_of (same.method i)) (same.target i)) view
+    λ i. view_or_denial s (own_command (verb_of (same.method i)) (same.target i)) view
 
 -- two messages of a candidate that ask for the same, in offices that agree on their view
-pair_alike : (s : ℕ) (x y : Entry) → TellsHerView x → TellsHerView y
-    → view_of s x.office ≡ view_of s y.office → IsToldAlike s x y
+pair_alike : (s : ℕ) (x y : Entry) → RepliesOwnView x → RepliesOwnView y
+    → view_of s x.office ≡ view_of s y.office → GetsSameBytes s x y
 pair_alike s x y trace said view is also same =
     let replied = subst (λ v. RepliesView s v x) view (trace s) in
-    both_by (her_reply s y.request (view_of s y.office)) x.request y.request x.reply y.reply
+    both_by (reply_from_view s y.request (view_of s y.office)) x.request y.request x.reply y.reply
     same.method
     (subst (λ r. (x.reply ≡ r) ⊎ (x.reply ≡ unavailable))
     (asks_same s (view_of s y.office) x.request y.request same) (replied is))
     (said s also)
 
-pub all_by_view : (s : ℕ) (xs ys : List Entry) → All TellsHerView xs → All TellsHerView ys
-    → AreToldByView s xs ys
+pub all_by_view : (s : ℕ) (xs ys : List Entry) → All RepliesOwnView xs → All RepliesOwnView ys
+    → GetBytesByView s xs ys
 all_by_view s xs ys trace said =
     λ k d lt i e in'. pair_alike s (get_or xs k d) (get_or ys i e) (trace k d lt) (said i e in')
 
-pub all_alike : (s : ℕ) (view : View) (xs ys : List Entry) → AreToldByView s xs ys
-    → All (Sees s view) xs → All (Sees s view) ys → AreToldAlike s xs ys
+pub all_alike : (s : ℕ) (view : View) (xs ys : List Entry) → GetBytesByView s xs ys
+    → All (Sees s view) xs → All (Sees s view) ys → GetSameBytes s xs ys
 all_alike s view xs ys alike one other =
     λ k d lt i e in'. alike k d lt i e in' (one k d lt ∙ sym (other i e in'))
 
 pub both_quiet : (s : ℕ) (items others : List Item) (one next other last : OfficeState)
     (output text : List ℕ) (first : AnswersItems Replies items one output next)
     (second : AnswersItems Replies others other text last) → view_of s one ≡ view_of s other
-    → All (IsHersOrQuiet s) (transcript items one output next first)
-    → All (IsHersOrQuiet s) (transcript others other text last second)
-    → AreToldAlike s (transcript items one output next first)
+    → All (IsOwnOrQuiet s) (transcript items one output next first)
+    → All (IsOwnOrQuiet s) (transcript others other text last second)
+    → GetSameBytes s (transcript items one output next first)
     (transcript others other text last second)
 both_quiet s items others one next other last output text first second same q k =
     let here = transcript items one output next first in
     let there = transcript others other text last second in
     all_alike s (view_of s other) here there
-    (all_by_view s here there (each_told items one next output first)
-    (each_told others other last text second))
+    (all_by_view s here there (each_by_view items one next output first)
+    (each_by_view others other last text second))
     (subst (λ view. All (Sees s view) here) same (quiet_each s items one next output first q))
     (quiet_each s others other last text second k)
 
@@ -234,11 +237,12 @@ both_quiet s items others one next other last output text first second same q k 
 
 pub stays_all : (s : ℕ) (items : List Item) (old new : OfficeState) (output : List ℕ)
     → AnswersItems Replies items old output new → AreFrom s items → new ≡ old
-stays_all s [] old new output trace hers = trace.1
-stays_all s (fails fault form ∷ items) old new output (rest, is, trace) hers =
-    stays_all s items old new rest trace hers
-stays_all s (asks request ∷ items) old new output (mid, reply, rest, step, is, trace) hers =
-    stays_all s items mid new rest trace hers.1 ∙ stays s old mid request reply step hers.0
+stays_all s [] old new output trace own_items = trace.1
+stays_all s (fails fault form ∷ items) old new output (rest, is, trace) own_items =
+    stays_all s items old new rest trace own_items
+stays_all s (asks request ∷ items) old new output (mid, reply, rest, step, is, trace) own_items =
+    stays_all s items mid new rest trace own_items.1
+    ∙ stays s old mid request reply step own_items.0
 
 not_unavailable : (reply said : PlainReply) → (reply ≡ said) ⊎ (reply ≡ unavailable)
     → reply ≢ unavailable → reply ≡ said
@@ -248,23 +252,23 @@ not_unavailable reply said (inr none) other = absurd (other none)
 pub written : (s : ℕ) (items : List Item) (old new : OfficeState) (output : List ℕ)
     (trace : AnswersItems Replies items old output new) → AreFrom s items
     → AreAvailable (transcript items old output new trace)
-    → output ≡ her_output s (view_of s old) items
-written s [] old new output trace hers fine = trace.0
-written s (fails fault form ∷ items) old new output (rest, is, trace) hers fine =
+    → output ≡ output_from_view s (view_of s old) items
+written s [] old new output trace own_items fine = trace.0
+written s (fails fault form ∷ items) old new output (rest, is, trace) own_items fine =
     is ∙ ap (λ bytes. reply_text form (fault_reply fault) ++ bytes)
-    (written s items old new rest trace hers fine)
-written s (asks request ∷ items) old new output (mid, reply, rest, step, is, trace) hers fine =
+    (written s items old new rest trace own_items fine)
+written s (asks request ∷ items) old new output (mid, reply, rest, step, is, trace) own_items fine =
     let first = entry old request reply mid step in
     let later = transcript items mid rest new trace in
-    let here : reply ≡ her_reply s request (view_of s old) =
-    not_unavailable reply (her_reply s request (view_of s old))
-    (tells old mid request reply step s hers.0)
+    let here : reply ≡ reply_from_view s request (view_of s old) =
+    not_unavailable reply (reply_from_view s request (view_of s old))
+    (tells old mid request reply step s own_items.0)
     (All-head (λ e. e.reply ≢ unavailable) first later fine) in
-    let there : rest ≡ her_output s (view_of s old) items =
-    written s items mid new rest trace hers.1
+    let there : rest ≡ output_from_view s (view_of s old) items =
+    written s items mid new rest trace own_items.1
     (All-tail (λ e. e.reply ≢ unavailable) first later fine)
-    ∙ ap (λ office. her_output s (view_of s office) items)
-    (stays s old mid request reply step hers.0) in
+    ∙ ap (λ office. output_from_view s (view_of s office) items)
+    (stays s old mid request reply step own_items.0) in
     is ∙ (λ i. bytes_of (request, here i) ++ there i)
 
 -- two of them with the same messages, to offices that agree on the view
@@ -273,9 +277,9 @@ pub same_output : (s : ℕ) (items others : List Item) (one next other last : Of
     (second : AnswersItems Replies others other text last) → view_of s one ≡ view_of s other
     → items ≡ others → AreFrom s items → AreAvailable (transcript items one output next first)
     → AreAvailable (transcript others other text last second) → output ≡ text
-same_output s items others one next other last output text first second same is hers fine fit =
-    written s items one next output first hers fine ∙ (λ i. her_output s (same i) (is i))
-    ∙ sym (written s others other last text second (subst (AreFrom s) is hers) fit)
+same_output s items others one next other last output text first second same is own_items fine fit =
+    written s items one next output first own_items fine ∙ (λ i. output_from_view s (same i) (is i))
+    ∙ sym (written s others other last text second (subst (AreFrom s) is own_items) fit)
 
 -- ---- the same changes
 
@@ -291,10 +295,10 @@ exchanges (e ∷ es) = with_asked e.asked (exchanges es)
 one_more : (s : ℕ) (said : Result PlainCallerCommand Refusal) (old mid new : OfficeState)
     (reply : PlainReply) (trace : RepliesTo said old reply mid) (later : List Change)
     (xs : List Exchange)
-    → IfSome (asked_in said old reply mid trace) (λ x. KeepsPublication x.answer)
+    → IfSome (exchange_in said old reply mid trace) (λ x. KeepsPublication x.answer)
     → RunWith s later mid xs new
-    → RunWith s (changes_by s old (asked_in said old reply mid trace) ++ later) old
-    (with_asked (asked_in said old reply mid trace) xs) new
+    → RunWith s (changes_by s old (exchange_in said old reply mid trace) ++ later) old
+    (with_asked (exchange_in said old reply mid trace) xs) new
 one_more s (Ok asked) old mid new reply trace later xs keeps run =
     (mid, later, trace.1, keeps, refl, run)
 one_more s (Err refusal) old mid new reply trace later xs keeps run =
@@ -304,7 +308,7 @@ one_more s (Err refusal) old mid new reply trace later xs keeps run =
 runs : (s : ℕ) (items : List Item) (old new : OfficeState) (output : List ℕ)
     (trace : AnswersItems Replies items old output new)
     → All LeavesPublication (transcript items old output new trace)
-    → RunWith s (her_changes s (transcript items old output new trace)) old
+    → RunWith s (changes_to_candidate s (transcript items old output new trace)) old
     (exchanges (transcript items old output new trace)) new
 runs s [] old new output trace keeps = (refl, trace.1)
 runs s (fails fault form ∷ items) old new output (rest, is, trace) keeps =
@@ -313,7 +317,8 @@ runs s (asks request ∷ items) old new output (mid, reply, rest, step, is, trac
     let first = entry old request reply mid step in
     let later = transcript items mid rest new trace in
     one_more s (reading request.method request.target request.caller request.body) old mid new reply
-    step (her_changes s later) (exchanges later) (All-head LeavesPublication first later keeps)
+    step (changes_to_candidate s later) (exchanges later)
+    (All-head LeavesPublication first later keeps)
     (runs s items mid new rest trace (All-tail LeavesPublication first later keeps))
 
 pub same_changes : (s : ℕ) (old one other : OfficeState) (items others : List Item)
@@ -321,12 +326,13 @@ pub same_changes : (s : ℕ) (old one other : OfficeState) (items others : List 
     (second : AnswersItems Replies others old text other)
     → All LeavesPublication (transcript items old output one first)
     → All LeavesPublication (transcript others old text other second)
-    → her_changes s (transcript items old output one first)
-    ≡ her_changes s (transcript others old text other second) → view_of s one ≡ view_of s other
+    → changes_to_candidate s (transcript items old output one first)
+    ≡ changes_to_candidate s (transcript others old text other second) → view_of s one
+    ≡ view_of s other
 same_changes s old one other items others output text first second keeps too same =
     let here = transcript items old output one first in
     let there = transcript others old text other second in
-    alike s (her_changes s here) old one other (exchanges here) (exchanges there)
+    alike s (changes_to_candidate s here) old one other (exchanges here) (exchanges there)
     (runs s items old one output first keeps)
     (subst (λ changes. RunWith s changes old (exchanges there) other) (sym same)
     (runs s others old other text second too))
@@ -337,10 +343,10 @@ pub same_changes_bytes : (s : ℕ) (old one other next last : OfficeState) (item
     (second : AnswersItems Replies others old text other)
     → All LeavesPublication (transcript items old output one first)
     → All LeavesPublication (transcript others old text other second)
-    → her_changes s (transcript items old output one first)
-    ≡ her_changes s (transcript others old text other second)
+    → changes_to_candidate s (transcript items old output one first)
+    ≡ changes_to_candidate s (transcript others old text other second)
     → IsFrom s request → Replies one request reply next → Replies other request answer last
-    → AreAlike (request, reply) (request, answer)
+    → HaveSameBytes (request, reply) (request, answer)
 same_changes_bytes s old one other next last items others output text request reply answer first
     second keeps too same is h k =
     same_bytes s one other next last request reply answer
@@ -357,7 +363,7 @@ by_view : {S : Type 0} (store : Ghosts S) (input before after : Option (List ℕ
 by_view store input before after old new (Err fault) h = tt
 by_view store input before after old new (Ok served) h = λ clean office now.
     let run = h clean office now in
-    let trace = each_told (run.1).items office run.0 (run.1).output (run.1).trace in
+    let trace = each_by_view (run.1).items office run.0 (run.1).output (run.1).trace in
     (run.0, (run.1, trace), run.2)
 
 pub serves_by_view : {S : Type 0} (store : Ghosts S) (input before after : Option (List ℕ))

@@ -24,26 +24,26 @@ not_write fault other e = true≢false (sym (ap is_write e) ∙ other)
 
 module _ {S : Type 0} (store : Ghosts S) where
   -- a disk that is clean after a run was clean before it
-  told_clean : (items : List Item) (old : Held S) (output : List ℕ) (new : Held S)
+  trace_clean : (items : List Item) (old : Held S) (output : List ℕ) (new : Held S)
       → AnswersItems (Answered store) items old output new
       → HasCleanDisk (state store new) → HasCleanDisk (state store old)
-  told_clean items old output new t =
+  trace_clean items old output new t =
       trace_kept (Answered store) (λ h. HasCleanDisk (state store h)) (λ o r reply n x. x.clean)
       items old output new t
 
-  told_leads : (items : List Item) (old : Held S) (output : List ℕ) (new : Held S)
+  trace_leads : (items : List Item) (old : Held S) (output : List ℕ) (new : Held S)
       → AnswersItems (Answered store) items old output new → HasCleanDisk (state store new)
       → (office : OfficeState) → Represents (state store old) office
       → (next : OfficeState) × AnswersItems Replies items office output next
       × Represents (state store new) next
-  told_leads [] old output new t clean office now =
+  trace_leads [] old output new t clean office now =
       (office, (t.0, refl), subst (λ h. Represents (state store h) office) (sym t.1) now)
-  told_leads (fails fault form ∷ items) old output new (rest, is, t) clean office now =
-      let later = told_leads items old rest new t clean office now in
+  trace_leads (fails fault form ∷ items) old output new (rest, is, t) clean office now =
+      let later = trace_leads items old rest new t clean office now in
       (later.0, (rest, is, later.1), later.2)
-  told_leads (asks r ∷ items) old output new (mid, reply, rest, step, is, t) clean office now =
-      let here = step.step (told_clean items mid rest new t clean) office now in
-      let later = told_leads items mid rest new t clean here.0 here.2 in
+  trace_leads (asks r ∷ items) old output new (mid, reply, rest, step, is, t) clean office now =
+      let here = step.step (trace_clean items mid rest new t clean) office now in
+      let later = trace_leads items mid rest new t clean here.0 here.2 in
       (later.0, (here.0, reply, rest, here.1, is, later.1), later.2)
 
   module _ (input before after : Option (List ℕ)) (old new : Held S) where
@@ -53,7 +53,7 @@ module _ {S : Type 0} (store : Ghosts S) where
         (λ office next. Serves Replies input before after office next served) old new)
     serves_leads (Err fault) x = tt
     serves_leads (Ok served) x = λ clean office now.
-        let run = told_leads x.items old x.output new x.trace clean office now in (
+        let run = trace_leads x.items old x.output new x.trace clean office now in (
           run.0,
           record {
             items = x.items;
@@ -73,16 +73,16 @@ module _ {S : Type 0} (store : Ghosts S) where
         × IfSome input (Begins its 0) × AnswersItems Replies its office out next
         × Appends before after out) old new
     whole_front items output begins trace written = λ clean office now.
-        let run = told_leads items old output new trace clean office now in
+        let run = trace_leads items old output new trace clean office now in
         (run.0, (items, output, begins, run.1, written), run.2)
 
     broken_front : (items : List Item) (output : List ℕ) → IfSome input (Begins items 0)
         → WriterFailed (Answered store) input before after items output old new
         → LeadsOffice store (AnswersFront input before after Write) old new
     broken_front items output begins x = λ clean office now.
-        let kept = told_clean (x.last ∷ []) x.mid (x.sent ++ x.unsent) new x.last_trace clean in
-        let first = told_leads x.whole old x.front x.mid x.trace kept office now in
-        let last = told_leads (x.last ∷ []) x.mid
+        let kept = trace_clean (x.last ∷ []) x.mid (x.sent ++ x.unsent) new x.last_trace clean in
+        let first = trace_leads x.whole old x.front x.mid x.trace kept office now in
+        let last = trace_leads (x.last ∷ []) x.mid
         (x.sent ++ x.unsent) new x.last_trace clean first.0 first.2 in (
           last.0,
           (
@@ -127,5 +127,5 @@ module _ {S : Type 0} (store : Ghosts S) where
         → IfOk result (λ served. Serves (Answered store) input before after old new served)
         → IfErr result (λ fault. ServesFront (Answered store) input before after old new fault)
         → HasCleanDisk (state store new) → HasCleanDisk (state store old)
-    serves_clean (Ok served) x y = told_clean x.items old x.output new x.trace
-    serves_clean (Err fault) x y = told_clean y.items old y.output new y.trace
+    serves_clean (Ok served) x y = trace_clean x.items old x.output new x.trace
+    serves_clean (Err fault) x y = trace_clean y.items old y.output new y.trace

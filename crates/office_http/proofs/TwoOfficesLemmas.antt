@@ -13,9 +13,9 @@ use Rattle.office_model.specs.Office.{OfficeState}
 use Rattle.office_model.specs.Step.{Outcome}
 use Rattle.office_model.specs.Views.{View, view_of}
 use Rattle.office_replies.specs.Replies.{reply_to}
-use Rattle.office_http.specs.HerMessages.{bytes_of, her_reply}
-use Rattle.office_http.specs.Replying.{Replies, RepliesTo, TellsCandidate}
-use Rattle.office_http.specs.TwoOffices.{RepliesAlike, RepliesText, office_after, office_after_asked, office_of}
+use Rattle.office_http.specs.CandidateMessages.{bytes_of, reply_from_view}
+use Rattle.office_http.specs.Replying.{Replies, RepliesTo, RepliesCandidateView}
+use Rattle.office_http.specs.TwoOffices.{RepliesSameBytes, RepliesText, office_after, office_after_command, office_of}
 
 -- the reply isn't that the office is unavailable
 abbrev pub IsAvailable : PlainReply → Type 0
@@ -26,7 +26,7 @@ is_other reply available is = available (ap (λ (r : PlainReply). r.status) is)
 
 after_asked : (said : Result PlainCallerCommand Refusal) (old new : OfficeState)
     (reply : PlainReply)
-    → RepliesTo said old reply new → IsAvailable reply → new ≡ office_after_asked old said
+    → RepliesTo said old reply new → IsAvailable reply → new ≡ office_after_command old said
 after_asked (Err refusal) old new reply h available = h.0
 after_asked (Ok asked) old new reply (answer, step, is) available = elim step [
   | inl same ↦ ap (λ (o : Outcome). o.0) same
@@ -39,7 +39,8 @@ after old new request reply h =
     after_asked (reading request.method request.target request.caller request.body) old new reply h
 
 pub text : (office : OfficeState) (request : PlainRequest) (reply : PlainReply)
-    → TellsCandidate office request reply → IsAvailable reply → RepliesText office request reply
+    → RepliesCandidateView office request reply → IsAvailable reply
+    → RepliesText office request reply
 text office request reply tells available = λ s is. elim (tells s is) [
   | inl said ↦ said
   | inr other ↦ absurd (is_other reply available other)
@@ -47,10 +48,10 @@ text office request reply tells available = λ s is. elim (tells s is) [
 
 pub alike : (one other : OfficeState) (request : PlainRequest) (reply answer : PlainReply)
     → RepliesText one request reply → RepliesText other request answer
-    → RepliesAlike one other request reply answer
+    → RepliesSameBytes one other request reply answer
 alike one other request reply answer first second = λ s is same.
     ap (λ (r : PlainReply). bytes_of (request, r))
-    (first s is ∙ ap (λ (v : View). her_reply s request v) same ∙ sym (second s is))
+    (first s is ∙ ap (λ (v : View). reply_from_view s request v) same ∙ sym (second s is))
 
 -- one more request
 pub office_of_more : (requests : List Request) (i : ℕ) (d : Request) → i < length requests

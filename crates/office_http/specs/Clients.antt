@@ -8,7 +8,7 @@ use Rattle.office_messages.specs.declared.connection.ServeFault.TheVariants.{Rea
 use Rattle.office_model.specs.Office.{OfficeState}
 use Rattle.office_http.specs.Replying.{Replies}
 use Rattle.office_http.specs.Serving.{AnswersFront}
-use Rattle.office_http.specs.Transcripts.{Entry, TellsHerView, entries, transcript}
+use Rattle.office_http.specs.Transcripts.{Entry, RepliesOwnView, entries, transcript}
 
 -- the office served a connection, to its end or up to its fault
 abbrev pub ServesTo : Result Served ServeFault → (input before after : Option (List ℕ))
@@ -54,4 +54,4 @@ all_entries (v ∷ vs) old new (mid, served, rest) =
 -- the office that received the message, or that the office is unavailable
 abbrev pub ServesAllByView : List Visit → OfficeState → OfficeState → Type 0
 ServesAllByView visits old new =
-    (run : ServesAll visits old new) × All TellsHerView (all_entries visits old new run)
+    (run : ServesAll visits old new) × All RepliesOwnView (all_entries visits old new run)

@@ -8,38 +8,38 @@ use Rattle.office_model.specs.Office.{OfficeState}
 use Rattle.office_model.specs.Quiet.{IsQuiet, KeepsPublication, new_changes}
 use Rattle.office_model.specs.Runs.{Exchange}
 use Rattle.office_model.specs.Views.{View, view_of}
-use Rattle.office_http.specs.Transcripts.{Entry, said_in}
-use Rattle.office_http.specs.HerMessages.{IsFrom, her_reply, AsksTheSame, AreAlike}
+use Rattle.office_http.specs.Transcripts.{Entry, request_and_reply}
+use Rattle.office_http.specs.CandidateMessages.{IsFrom, reply_from_view, AsksTheSame, HaveSameBytes}
 
 -- ---- views
 
 -- the candidate is replied the text of this view, or that the office is unavailable
 abbrev pub RepliesView : ℕ → View → Entry → Type 0
 RepliesView s view e =
-    IsFrom s e.request → (e.reply ≡ her_reply s e.request view) ⊎ (e.reply ≡ unavailable)
+    IsFrom s e.request → (e.reply ≡ reply_from_view s e.request view) ⊎ (e.reply ≡ unavailable)
 
 -- the message is quiet for a candidate: the command that it asks for leaves their view unchanged
 abbrev pub IsQuietFor : ℕ → Entry → Type 0
 IsQuietFor s e = IfSome e.asked (λ x. IsQuiet s e.office x.command x.answer)
 
 -- it is the candidate's own message, or quiet for them
-abbrev pub IsHersOrQuiet : ℕ → Entry → Type 0
-IsHersOrQuiet s e = ¬ (IsFrom s e.request) → IsQuietFor s e
+abbrev pub IsOwnOrQuiet : ℕ → Entry → Type 0
+IsOwnOrQuiet s e = ¬ (IsFrom s e.request) → IsQuietFor s e
 
 -- if the candidate asks for the same in both, they get the same bytes
-abbrev pub IsToldAlike : ℕ → Entry → Entry → Type 0
-IsToldAlike s x y =
+abbrev pub GetsSameBytes : ℕ → Entry → Entry → Type 0
+GetsSameBytes s x y =
     IsFrom s x.request → IsFrom s y.request → AsksTheSame x.request y.request
-    → AreAlike (said_in x) (said_in y)
+    → HaveSameBytes (request_and_reply x) (request_and_reply y)
 
 -- the same for each message of the one list and each of the other
-abbrev pub AreToldAlike : ℕ → List Entry → List Entry → Type 0
-AreToldAlike s xs ys = All (λ x. All (IsToldAlike s x) ys) xs
+abbrev pub GetSameBytes : ℕ → List Entry → List Entry → Type 0
+GetSameBytes s xs ys = All (λ x. All (GetsSameBytes s x) ys) xs
 
 -- the same, if both messages were received by offices that agree on the candidate's view
-abbrev pub AreToldByView : ℕ → List Entry → List Entry → Type 0
-AreToldByView s xs ys =
-    All (λ x. All (λ y. view_of s x.office ≡ view_of s y.office → IsToldAlike s x y) ys) xs
+abbrev pub GetBytesByView : ℕ → List Entry → List Entry → Type 0
+GetBytesByView s xs ys =
+    All (λ x. All (λ y. view_of s x.office ≡ view_of s y.office → GetsSameBytes s x y) ys) xs
 
 -- no reply says that the office is unavailable
 abbrev pub AreAvailable : List Entry → Type 0
@@ -57,5 +57,5 @@ changes_by s office None = []
 changes_by s office (Some x) = changes_to s (new_changes office x.command x.answer)
 
 -- the changes to a candidate that a run newly made, in their order
-abbrev pub her_changes : ℕ → List Entry → List Change
-her_changes s es = flat_map (λ e. changes_by s e.office e.asked) es
+abbrev pub changes_to_candidate : ℕ → List Entry → List Change
+changes_to_candidate s es = flat_map (λ e. changes_by s e.office e.asked) es

@@ -1,7 +1,7 @@
 pub mod Replying
 pub mod Serving
 pub mod Transcripts
-pub mod HerMessages
+pub mod CandidateMessages
 pub mod Isolation
 pub mod Clients
 pub mod TwoOffices

@@ -63,13 +63,14 @@ pub record Answered {S : Type 0} (store : Ghosts S) (old : Held S) (request : Pl
 
 -- the text of a candidate's view that a command asks for; the denial if the message asks for none
 -- of their pages
-abbrev pub her_text : ℕ → Option PlainCommand → View → PlainReply
-her_text s (Some command) view = view_text s command view
-her_text s None view = error_reply (Denied P1)
+abbrev pub view_or_denial : ℕ → Option PlainCommand → View → PlainReply
+view_or_denial s (Some command) view = view_text s command view
+view_or_denial s None view = error_reply (Denied P1)
 
 -- a candidate's message is replied the text of their view in the office, or that it is unavailable
-abbrev pub TellsCandidate : OfficeState → PlainRequest → PlainReply → Type 0
-TellsCandidate office request reply =
+abbrev pub RepliesCandidateView : OfficeState → PlainRequest → PlainReply → Type 0
+RepliesCandidateView office request reply =
     (s : ℕ) → caller_in request.caller ≡ Some (Cand s)
-    → (reply ≡ her_text s (own_command (verb_of request.method) request.target) (view_of s office))
+    → (reply ≡ view_or_denial s (own_command (verb_of request.method) request.target)
+    (view_of s office))
     ⊎ (reply ≡ unavailable)

@@ -9,7 +9,7 @@ use Rattle.office_requests.specs.Requests.{PlainCallerCommand, reading}
 use Rattle.office_requests.specs.declared.requests.Refusal.{Refusal}
 use Rattle.office_model.specs.Office.{OfficeState}
 use Rattle.office_model.specs.Runs.{Exchange}
-use Rattle.office_http.specs.Replying.{Replies, RepliesTo, TellsCandidate}
+use Rattle.office_http.specs.Replying.{Replies, RepliesTo, RepliesCandidateView}
 
 -- a message with its reply, in the office that received it; the command and its answer are there
 -- unless the message is refused unread
@@ -20,12 +20,12 @@ pub record Entry : Type 0 where
   pub reply : PlainReply
 
 -- the command and its answer
-abbrev pub asked_in : (said : Result PlainCallerCommand Refusal) (old : OfficeState)
+abbrev pub exchange_in : (said : Result PlainCallerCommand Refusal) (old : OfficeState)
     (reply : PlainReply)
     (new : OfficeState) → RepliesTo said old reply new → Option Exchange
-asked_in (Ok asked) old reply new trace =
+exchange_in (Ok asked) old reply new trace =
     Some (record { caller = asked.caller; command = asked.command; answer = trace.0 })
-asked_in (Err refusal) old reply new trace = None
+exchange_in (Err refusal) old reply new trace = None
 
 -- the entry of one message that was replied to
 abbrev pub entry : (old : OfficeState) (request : PlainRequest) (reply : PlainReply)
@@ -33,7 +33,7 @@ abbrev pub entry : (old : OfficeState) (request : PlainRequest) (reply : PlainRe
 entry old request reply new trace = record {
   office = old;
   request = request;
-  asked = asked_in (reading request.method request.target request.caller request.body) old reply
+  asked = exchange_in (reading request.method request.target request.caller request.body) old reply
       new trace;
   reply = reply;
 }
@@ -55,16 +55,16 @@ entries {input} {before} {after} {old} {new} {served} run =
     transcript run.items old run.output new run.trace
 
 -- a message and its reply
-abbrev pub said_in : Entry → PlainRequest × PlainReply
-said_in e = (e.request, e.reply)
+abbrev pub request_and_reply : Entry → PlainRequest × PlainReply
+request_and_reply e = (e.request, e.reply)
 
 -- if a candidate sent the message, they are replied the text of their view in the office that
 -- received it, or that the office is unavailable
-abbrev pub TellsHerView : Entry → Type 0
-TellsHerView e = TellsCandidate e.office e.request e.reply
+abbrev pub RepliesOwnView : Entry → Type 0
+RepliesOwnView e = RepliesCandidateView e.office e.request e.reply
 
 -- a connection is served, and each candidate's message in it is replied so
 abbrev pub ServesByView : (input before after : Option (List ℕ)) (old new : OfficeState)
     (served : Served) → Type 0
 ServesByView input before after old new served =
-    (run : Serves Replies input before after old new served) × All TellsHerView (entries run)
+    (run : Serves Replies input before after old new served) × All RepliesOwnView (entries run)

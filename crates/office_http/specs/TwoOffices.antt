@@ -11,17 +11,17 @@ use Rattle.office_model.specs.Office.{OfficeState}
 use Rattle.office_model.specs.Step.{step}
 use Rattle.office_model.specs.Views.{view_of}
 use Rattle.office_store.specs.Publications.{AddUpIn, shares_in}
-use Rattle.office_http.specs.HerMessages.{IsFrom, bytes_of, her_reply}
+use Rattle.office_http.specs.CandidateMessages.{IsFrom, bytes_of, reply_from_view}
 
 -- the office after the command of a request; a request without one leaves it unchanged
-abbrev pub office_after_asked : OfficeState → Result PlainCallerCommand Refusal → OfficeState
-office_after_asked office (Ok asked) = (step office asked.caller asked.command).0
-office_after_asked office (Err refusal) = office
+abbrev pub office_after_command : OfficeState → Result PlainCallerCommand Refusal → OfficeState
+office_after_command office (Ok asked) = (step office asked.caller asked.command).0
+office_after_command office (Err refusal) = office
 
 -- the office after a request
 abbrev pub office_after : OfficeState → PlainRequest → OfficeState
 office_after office request =
-    office_after_asked office (reading request.method request.target request.caller request.body)
+    office_after_command office (reading request.method request.target request.caller request.body)
 
 -- the office that these requests lead to, one after another, from the office without a session
 abbrev pub office_of : List Request → OfficeState
@@ -31,12 +31,12 @@ office_of requests =
 -- a candidate's request is replied the text of the candidate's view
 abbrev pub RepliesText : OfficeState → PlainRequest → PlainReply → Type 0
 RepliesText office request reply =
-    (s : ℕ) → IsFrom s request → reply ≡ her_reply s request (view_of s office)
+    (s : ℕ) → IsFrom s request → reply ≡ reply_from_view s request (view_of s office)
 
 -- a candidate on whose view two offices agree gets the same bytes from both
-abbrev pub RepliesAlike : (one other : OfficeState) → PlainRequest → (reply answer : PlainReply)
+abbrev pub RepliesSameBytes : (one other : OfficeState) → PlainRequest → (reply answer : PlainReply)
     → Type 0
-RepliesAlike one other request reply answer =
+RepliesSameBytes one other request reply answer =
     (s : ℕ) → IsFrom s request → view_of s one ≡ view_of s other
     → bytes_of (request, reply) ≡ bytes_of (request, answer)
 

@@ -24,9 +24,9 @@ pub(crate) fn answer_reply(alloc: Global, room: Vec<u8>, answer: Answer) -> Repl
     ensures { IsReplyOf (plain_answer answer) (plain_reply result) }
 {
     match answer {
-        Answer::Me(view) => shown(candidate_reply(alloc, &view)),
-        Answer::MyExam(row) => shown(exam_reply(alloc, row)),
-        Answer::MyPenalty(personal) => shown(cost_reply(alloc, personal)),
+        Answer::Me(view) => reply_or_unavailable(candidate_reply(alloc, &view)),
+        Answer::MyExam(row) => reply_or_unavailable(exam_reply(alloc, row)),
+        Answer::MyPenalty(personal) => reply_or_unavailable(cost_reply(alloc, personal)),
         Answer::NotMine => FixedError::Exam.reply(),
         Answer::Loaded(loaded) => loaded_reply(room, loaded),
         Answer::Text(text) => text_reply(text),
@@ -35,7 +35,7 @@ pub(crate) fn answer_reply(alloc: Global, room: Vec<u8>, answer: Answer) -> Repl
         Answer::Edited(draft, penalty) => edited_reply(room, draft, penalty),
         Answer::Dropped(draft) => dropped_reply(room, draft),
         Answer::Draft(draft, timetable, penalty) => {
-            shown(draft_reply(alloc, draft, &timetable, penalty))
+            reply_or_unavailable(draft_reply(alloc, draft, &timetable, penalty))
         }
         Answer::Published(draft, published) => published_reply(room, draft, published),
         Answer::Enrolled(batch, counts) => enrolled_reply(room, batch, counts),
@@ -49,7 +49,7 @@ pub(crate) fn answer_reply(alloc: Global, room: Vec<u8>, answer: Answer) -> Repl
 }
 
 // Returns the reply that shows something, or the one that says that the office is unavailable.
-fn shown(made: Result<Reply, AllocError>) -> Reply
+fn reply_or_unavailable(made: Result<Reply, AllocError>) -> Reply
     ensures { (answer : PlainAnswer) → shows answer ≡ true
         → IfOk made (λ reply. plain_reply reply ≡ reply_to answer)
         → IsReplyOf answer (plain_reply result) }

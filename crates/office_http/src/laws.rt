@@ -10,10 +10,10 @@ ghost use Rattle.office_messages.specs.declared.connection.Served.{Served};
 ghost use Rattle.office_model.specs.Office.{OfficeState};
 ghost use Rattle.office_model.specs.Views.{view_of};
 ghost use Rattle.office_http.specs.Clients.{ServesAll, all_entries};
-ghost use Rattle.office_http.specs.HerMessages.{AreAlike, AreFrom, IsFrom, her_output};
-ghost use Rattle.office_http.specs.Isolation.{AreAvailable, AreToldAlike, AreToldByView, IsHersOrQuiet, IsQuietFor, LeavesPublication, RepliesView, her_changes};
-ghost use Rattle.office_http.specs.Transcripts.{TellsHerView, entries, entry, said_in, transcript};
-ghost use Rattle.office_http.specs.Replying.{Replies, TellsCandidate};
+ghost use Rattle.office_http.specs.CandidateMessages.{HaveSameBytes, AreFrom, IsFrom, output_from_view};
+ghost use Rattle.office_http.specs.Isolation.{AreAvailable, GetSameBytes, GetBytesByView, IsOwnOrQuiet, IsQuietFor, LeavesPublication, RepliesView, changes_to_candidate};
+ghost use Rattle.office_http.specs.Transcripts.{RepliesOwnView, entries, entry, request_and_reply, transcript};
+ghost use Rattle.office_http.specs.Replying.{Replies, RepliesCandidateView};
 
 /// A message that is replied with a 503 leaves the office unchanged, whoever sent it and whatever
 /// it asked for.
@@ -29,7 +29,7 @@ pub fn unavailable_changes_nothing()
 /// reply is a 503, and how long it takes, may depend on anything.
 pub fn reply_by_view()
     ensures view { (office next : OfficeState) (request : PlainRequest) (reply : PlainReply)
-        → Replies office request reply next → TellsCandidate office request reply }
+        → Replies office request reply next → RepliesCandidateView office request reply }
     ensures stays { (s : ℕ) (office next : OfficeState) (request : PlainRequest)
         (reply : PlainReply) → Replies office request reply next → IsFrom s request
         → next ≡ office }
@@ -43,7 +43,7 @@ pub fn same_view_same_bytes()
     ensures { (s : ℕ) (one other next last : OfficeState) (request : PlainRequest)
         (reply answer : PlainReply) → view_of s one ≡ view_of s other → IsFrom s request
         → Replies one request reply next → Replies other request answer last
-        → AreAlike (request, reply) (request, answer) }
+        → HaveSameBytes (request, reply) (request, answer) }
 {}
 
 /// A message that is quiet for a candidate leaves their view unchanged. Quiet is any message but an
@@ -58,10 +58,10 @@ pub fn quiet_message()
 /// Over a whole connection, and over any messages one after another, each candidate is replied the
 /// text of their view in the office that received their message, whatever others ask before and
 /// between.
-pub fn each_told_by_view()
+pub fn each_reply_by_view()
     ensures { (items : List Item) (old new : OfficeState) (output : List ℕ)
         → (trace : AnswersItems Replies items old output new)
-        → All TellsHerView (transcript items old output new trace) }
+        → All RepliesOwnView (transcript items old output new trace) }
 {}
 
 /// If all others' messages are quiet for a candidate, each message finds the candidate's view as it
@@ -70,15 +70,15 @@ pub fn each_told_by_view()
 pub fn quiet_messages()
     ensures end { (s : ℕ) (items : List Item) (old new : OfficeState) (output : List ℕ)
         → (trace : AnswersItems Replies items old output new)
-        → All (IsHersOrQuiet s) (transcript items old output new trace)
+        → All (IsOwnOrQuiet s) (transcript items old output new trace)
         → view_of s new ≡ view_of s old }
     ensures each { (s : ℕ) (items : List Item) (old new : OfficeState) (output : List ℕ)
         → (trace : AnswersItems Replies items old output new)
-        → All (IsHersOrQuiet s) (transcript items old output new trace)
+        → All (IsOwnOrQuiet s) (transcript items old output new trace)
         → All (λ e. view_of s e.office ≡ view_of s old) (transcript items old output new trace) }
     ensures view { (s : ℕ) (items : List Item) (old new : OfficeState) (output : List ℕ)
         → (trace : AnswersItems Replies items old output new)
-        → All (IsHersOrQuiet s) (transcript items old output new trace)
+        → All (IsOwnOrQuiet s) (transcript items old output new trace)
         → All (RepliesView s (view_of s old)) (transcript items old output new trace) }
 {}
 
@@ -94,14 +94,14 @@ pub fn same_view_same_replies()
         (served : Served) (stream written out : Option (List ℕ)) (other last : OfficeState)
         (ended : Served) → (first : Serves Replies input before after one next served)
         → (second : Serves Replies stream written out other last ended)
-        → AreToldByView s (entries first) (entries second) }
+        → GetBytesByView s (entries first) (entries second) }
     ensures quiet { (s : ℕ) (input before after : Option (List ℕ)) (one next : OfficeState)
         (served : Served) (stream written out : Option (List ℕ)) (other last : OfficeState)
         (ended : Served) → (first : Serves Replies input before after one next served)
         → (second : Serves Replies stream written out other last ended)
-        → view_of s one ≡ view_of s other → All (IsHersOrQuiet s) (entries first)
-        → All (IsHersOrQuiet s) (entries second)
-        → AreToldAlike s (entries first) (entries second) }
+        → view_of s one ≡ view_of s other → All (IsOwnOrQuiet s) (entries first)
+        → All (IsOwnOrQuiet s) (entries second)
+        → GetSameBytes s (entries first) (entries second) }
 {}
 
 /// If a connection has only a candidate's messages, and no reply is that the office is unavailable,
@@ -111,7 +111,7 @@ pub fn same_view_same_output()
     ensures written { (s : ℕ) (input before after : Option (List ℕ)) (office next : OfficeState)
         (served : Served) → (run : Serves Replies input before after office next served)
         → AreFrom s run.items → AreAvailable (entries run)
-        → run.output ≡ her_output s (view_of s office) run.items }
+        → run.output ≡ output_from_view s (view_of s office) run.items }
     ensures stays { (s : ℕ) (input before after : Option (List ℕ)) (office next : OfficeState)
         (served : Served) → (run : Serves Replies input before after office next served)
         → AreFrom s run.items → next ≡ office }
@@ -137,8 +137,8 @@ pub fn same_changes_same_view()
         → (second : AnswersItems Replies others old text other)
         → All LeavesPublication (transcript items old output one first)
         → All LeavesPublication (transcript others old text other second)
-        → her_changes s (transcript items old output one first)
-        ≡ her_changes s (transcript others old text other second)
+        → changes_to_candidate s (transcript items old output one first)
+        ≡ changes_to_candidate s (transcript others old text other second)
         → view_of s one ≡ view_of s other }
     ensures same { (s : ℕ) (old one other next last : OfficeState) (items others : List Item)
         (output text : List ℕ) (request : PlainRequest) (reply answer : PlainReply)
@@ -146,18 +146,18 @@ pub fn same_changes_same_view()
         → (second : AnswersItems Replies others old text other)
         → All LeavesPublication (transcript items old output one first)
         → All LeavesPublication (transcript others old text other second)
-        → her_changes s (transcript items old output one first)
-        ≡ her_changes s (transcript others old text other second)
+        → changes_to_candidate s (transcript items old output one first)
+        ≡ changes_to_candidate s (transcript others old text other second)
         → IsFrom s request → Replies one request reply next → Replies other request answer last
-        → AreAlike (request, reply) (request, answer) }
+        → HaveSameBytes (request, reply) (request, answer) }
 {}
 
 /// Over clients one after another, including connections that end with a fault, each candidate is
 /// replied the text of their view in the office that received their message, whatever others ask
 /// before and between.
-pub fn each_client_told_by_view()
+pub fn each_client_by_view()
     ensures { (visits : List Visit) (old new : OfficeState) → (run : ServesAll visits old new)
-        → All TellsHerView (all_entries visits old new run) }
+        → All RepliesOwnView (all_entries visits old new run) }
 {}
 
 /// If all others' messages are quiet for a candidate, then over clients one after another,
@@ -167,15 +167,15 @@ pub fn each_client_told_by_view()
 pub fn quiet_clients()
     ensures end { (s : ℕ) (visits : List Visit) (old new : OfficeState)
         → (run : ServesAll visits old new)
-        → All (IsHersOrQuiet s) (all_entries visits old new run)
+        → All (IsOwnOrQuiet s) (all_entries visits old new run)
         → view_of s new ≡ view_of s old }
     ensures each { (s : ℕ) (visits : List Visit) (old new : OfficeState)
         → (run : ServesAll visits old new)
-        → All (IsHersOrQuiet s) (all_entries visits old new run)
+        → All (IsOwnOrQuiet s) (all_entries visits old new run)
         → All (λ e. view_of s e.office ≡ view_of s old) (all_entries visits old new run) }
     ensures view { (s : ℕ) (visits : List Visit) (old new : OfficeState)
         → (run : ServesAll visits old new)
-        → All (IsHersOrQuiet s) (all_entries visits old new run)
+        → All (IsOwnOrQuiet s) (all_entries visits old new run)
         → All (RepliesView s (view_of s old)) (all_entries visits old new run) }
 {}
 
@@ -187,13 +187,13 @@ pub fn quiet_clients()
 pub fn same_view_same_clients()
     ensures agree { (s : ℕ) (visits others : List Visit) (one next other last : OfficeState)
         → (first : ServesAll visits one next) → (second : ServesAll others other last)
-        → AreToldByView s (all_entries visits one next first)
+        → GetBytesByView s (all_entries visits one next first)
         (all_entries others other last second) }
     ensures quiet { (s : ℕ) (visits others : List Visit) (one next other last : OfficeState)
         → (first : ServesAll visits one next) → (second : ServesAll others other last)
         → view_of s one ≡ view_of s other
-        → All (IsHersOrQuiet s) (all_entries visits one next first)
-        → All (IsHersOrQuiet s) (all_entries others other last second)
-        → AreToldAlike s (all_entries visits one next first)
+        → All (IsOwnOrQuiet s) (all_entries visits one next first)
+        → All (IsOwnOrQuiet s) (all_entries others other last second)
+        → GetSameBytes s (all_entries visits one next first)
         (all_entries others other last second) }
 {}

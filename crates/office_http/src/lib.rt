@@ -8,7 +8,7 @@ mod serving;
 mod two_offices;
 
 pub use laws::{
-    each_client_told_by_view, each_told_by_view, quiet_clients, quiet_message, quiet_messages,
+    each_client_by_view, each_reply_by_view, quiet_clients, quiet_message, quiet_messages,
     reply_by_view, same_changes_same_view, same_view_same_bytes, same_view_same_clients,
     same_view_same_output, same_view_same_replies, unavailable_changes_nothing,
 };

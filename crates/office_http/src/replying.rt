@@ -8,7 +8,7 @@ ghost use Rattle.office_model.specs.Office.{OfficeState};
 ghost use Rattle.office_store.specs.Running.{IsCommitted, Represents};
 ghost use Rattle.office_messages.specs.Heads.{plain_request};
 ghost use Rattle.office_messages.specs.Reply.{plain_reply};
-ghost use Rattle.office_http.specs.Replying.{Answered, IsDone, RepliesTo, TellsCandidate};
+ghost use Rattle.office_http.specs.Replying.{Answered, IsDone, RepliesTo, RepliesCandidateView};
 
 use crate::answers::answer_reply;
 use office_desk::Desk;
@@ -35,16 +35,16 @@ pub fn reply<S: Alter>(
     // A candidate is replied the text of their view, and nothing else that is stored.
     ensures view { HasCleanDisk (state S.Store desk.new) → (office : OfficeState)
         → Represents (state S.Store desk.old) office
-        → TellsCandidate office (plain_request request.now) (plain_reply result) }
+        → RepliesCandidateView office (plain_request request.now) (plain_reply result) }
 {
     match read_request(alloc, routes, request) {
-        Ok(asked) => asked_reply(alloc, desk, &asked),
+        Ok(asked) => command_reply(alloc, desk, &asked),
         Err(refusal) => refusal.reply(),
     }
 }
 
 // Returns the reply to a command. The room for it is allocated before anything is done.
-fn asked_reply<S: Alter>(alloc: Global, desk: &mut Desk<S>, asked: &CallerCommand<'_>) -> Reply
+fn command_reply<S: Alter>(alloc: Global, desk: &mut Desk<S>, asked: &CallerCommand<'_>) -> Reply
     requires { HasSmallNumbers (plain_command asked.now.command) }
     ensures step { HasCleanDisk (state S.Store desk.new) → (office : OfficeState)
         → Represents (state S.Store desk.old) office

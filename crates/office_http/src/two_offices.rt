@@ -6,7 +6,7 @@ ghost use Rattle.office_messages.specs.Heads.{plain_request};
 ghost use Rattle.office_messages.specs.Reply.{plain_reply};
 ghost use Rattle.office_model.specs.Office.{OfficeState};
 ghost use Rattle.office_store.specs.Running.{Represents};
-ghost use Rattle.office_http.specs.TwoOffices.{AreShares, RepliesAlike, RepliesText, office_after, office_of};
+ghost use Rattle.office_http.specs.TwoOffices.{AreShares, RepliesSameBytes, RepliesText, office_after, office_of};
 
 use crate::replying::reply;
 use exam_publish::Shares;
@@ -45,7 +45,8 @@ pub fn ask_two_offices(
     asked: &Request<'_>,
 ) -> Result<(ReplyAndShares, ReplyAndShares), AskFault>
     // If both offices agree on a candidate's view, the candidate gets the same bytes from both.
-    ensures same { IfOk result (λ said. RepliesAlike (office_of first.now) (office_of second.now)
+    ensures same { IfOk result (λ said. RepliesSameBytes (office_of first.now)
+        (office_of second.now)
         (plain_request asked.now) (plain_reply said.0.reply) (plain_reply said.1.reply)) }
     // These are the text of the candidate's view.
     ensures text { IfOk result (λ said.

@@ -15,7 +15,7 @@ use Rattle.office_connections.proofs.ClientLemmas.{clients_follow, served_open, 
 use Rattle.office_connections.proofs.ClientLemmas.{visits_keep}
 use Rattle.office_http.specs.Clients.{ServesAllByView}
 use Rattle.office_http.specs.Replying.{Answered, IsDone}
-use Rattle.office_http.specs.Transcripts.{TellsHerView}
+use Rattle.office_http.specs.Transcripts.{RepliesOwnView}
 use Rattle.office_http.proofs.ClientLemmas.{visits_by_view, visits_clean}
 use Rattle.office_messages.specs.Reply.{PlainReply}
 use Rattle.office_messages.specs.Stream.{PlainRequest}
@@ -39,7 +39,7 @@ if_so false so P Q h = absurd cc
 
 -- an office that served nobody
 pub nobody_served : (office : OfficeState) → ServesAllByView [] office office
-nobody_served office = (refl, All-nil TellsHerView)
+nobody_served office = (refl, All-nil RepliesOwnView)
 
 module _ {S : Type 0} (store : Ghosts S) where
   pub serves_nobody : (AreTheirs : List Visit → Type 0) (terms : Terms) (shown : ProgramFault)

@@ -40,10 +40,10 @@ returns-in-Err-clause-view g c = λ clean office now.
 
 pub returns-in-Ok-clause-view : goal.returns-in-Ok-clause-view
 returns-in-Ok-clause-view g c = λ clean office now.
-    let step = c.asked_reply.ensures.step clean office now in
+    let step = c.command_reply.ensures.step clean office now in
     let request = c.args.request.now in
-    tells office step.0 (plain_request request) (plain_reply c.asked_reply.result)
-    (subst (λ asked. RepliesTo asked office (plain_reply c.asked_reply.result) step.0)
+    tells office step.0 (plain_request request) (plain_reply c.command_reply.result)
+    (subst (λ asked. RepliesTo asked office (plain_reply c.command_reply.result) step.0)
     (sym (subst (λ r. ReturnsCallerCommand (reading request.method.now request.target.now
     (option_copied request.caller) request.body.now) r) c.in-Ok.is c.read_request.ensures.command))
     step.1)

@@ -9,7 +9,7 @@ use Rattle.office_policy.specs.declared.callers.Caller.TheVariants.{Cand}
 use Rattle.office_requests.specs.Methods.{verb_of}
 use Rattle.office_requests.specs.Requests.{caller_in, own_command}
 use Rattle.office_model.specs.Views.{View}
-use Rattle.office_http.specs.Replying.{her_text}
+use Rattle.office_http.specs.Replying.{view_or_denial}
 
 -- the message comes from the candidate s
 abbrev pub IsFrom : ℕ → PlainRequest → Type 0
@@ -22,20 +22,21 @@ AreFrom s (fails fault form ∷ items) = AreFrom s items
 AreFrom s (asks request ∷ items) = IsFrom s request × AreFrom s items
 
 -- the reply to a candidate's message, by their view only
-abbrev pub her_reply : ℕ → PlainRequest → View → PlainReply
-her_reply s request view = her_text s (own_command (verb_of request.method) request.target) view
+abbrev pub reply_from_view : ℕ → PlainRequest → View → PlainReply
+reply_from_view s request view = view_or_denial s
+    (own_command (verb_of request.method) request.target) view
 
 -- a message with its reply, as bytes
 abbrev pub bytes_of : PlainRequest × PlainReply → List ℕ
 bytes_of said = reply_text (form_of (said.0).method) said.1
 
 -- the bytes of a candidate's connection, by their view only
-abbrev pub her_output : ℕ → View → List Item → List ℕ
-her_output s view [] = []
-her_output s view (fails fault form ∷ items) =
-    reply_text form (fault_reply fault) ++ her_output s view items
-her_output s view (asks request ∷ items) =
-    bytes_of (request, her_reply s request view) ++ her_output s view items
+abbrev pub output_from_view : ℕ → View → List Item → List ℕ
+output_from_view s view [] = []
+output_from_view s view (fails fault form ∷ items) =
+    reply_text form (fault_reply fault) ++ output_from_view s view items
+output_from_view s view (asks request ∷ items) =
+    bytes_of (request, reply_from_view s request view) ++ output_from_view s view items
 
 -- two messages ask for the same page by the same method
 pub record AsksTheSame (one other : PlainRequest) : Type 0 where
@@ -43,6 +44,6 @@ pub record AsksTheSame (one other : PlainRequest) : Type 0 where
   pub target : one.target ≡ other.target
 
 -- two messages got the same bytes, unless one of the replies says that the office is unavailable
-abbrev pub AreAlike : PlainRequest × PlainReply → PlainRequest × PlainReply → Type 0
-AreAlike one other =
+abbrev pub HaveSameBytes : PlainRequest × PlainReply → PlainRequest × PlainReply → Type 0
+HaveSameBytes one other =
     (bytes_of one ≡ bytes_of other) ⊎ ((one.1 ≡ unavailable) ⊎ (other.1 ≡ unavailable))

@@ -5,7 +5,7 @@ use Rattle.office_desk.specs.Answers.{plain_answer}
 use Rattle.office_model.specs.Answers.{unavailable}
 use Rattle.office_http.proofs.AnswerLemmas.{replied}
 use Rattle.office_http.proofs.DoneLemmas.{not_unavailable, unless_refused}
-use Rattle.office_http.proofs.replying.asked_reply.Goals as goal
+use Rattle.office_http.proofs.replying.command_reply.Goals as goal
 
 pub returns-in_default-clause-step : goal.returns-in_default-clause-step
 returns-in_default-clause-step g c =
