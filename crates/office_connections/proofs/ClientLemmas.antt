@@ -13,8 +13,8 @@ use Rattle.office_messages.specs.Stream.{PlainRequest}
 use Rattle.office_messages.specs.Visits.{ServesVisit, ServesVisits, Visit, faults_of, with_fault}
 use Rattle.office_messages.proofs.RunLemmas.{trace_keeps}
 use Rattle.office_messages.proofs.VisitLemmas.{faults_more}
-use Rattle.office_connections.specs.Clients.{CameBetween, ComesNext, ServesClients, ServesWhileOpen}
-use Rattle.office_connections.specs.Lines.{TellsFaults, fault_lines}
+use Rattle.office_connections.specs.Clients.{CameBetween, IsNextConnection, ServesClients, ServesWhileOpen}
+use Rattle.office_connections.specs.Lines.{PrintsFaults, fault_lines}
 use Rattle.office_connections.specs.declared.accepting.Service.{Service}
 use Rattle.office_connections.proofs.LineLemmas.{more_lines}
 
@@ -34,7 +34,7 @@ module _ {I R W : Type 0} (gives : I → Option (R × W) → I → Type 0)
   -- one more client
   pub came_more : (start last next : I) (vs : List Visit) (v : Visit)
       → CameBetween gives remaining contents start vs last
-      → ComesNext gives remaining contents last v next
+      → IsNextConnection gives remaining contents last v next
       → CameBetween gives remaining contents start (vs ++ v ∷ []) next
   came_more start last next vs v x y = record {
     clients = x.clients ++ (y.from, y.to) ∷ [];
@@ -131,7 +131,7 @@ pub tells_faults : {S : Type 0} (AreTheirs : List Visit → Type 0)
     (Serve : List Visit → S → S → Type 0) (service : Service) (old new : S)
     (errors_old errors_new : Option (List ℕ))
     → ServesClients AreTheirs Serve service old new errors_old errors_new
-    → service.unwritten ≡ 0 → TellsFaults service.accepted errors_old errors_new
+    → service.unwritten ≡ 0 → PrintsFaults service.accepted errors_old errors_new
 tells_faults AreTheirs Serve service old new errors_old errors_new x none = (
   faults_of x.visits,
   omega (arith, few_faults x.visits, x.count),

@@ -14,7 +14,7 @@ use Rattle.office_connections.specs.declared.running.RunFault.TheVariants.{Liste
 module _ {I R W : Type 0} (gives : I → Option (R × W) → I → Type 0)
     (remaining : R → Option (List ℕ)) (contents : W → Option (List ℕ)) where
   -- the connection is that of the next client, a reader and a writer
-  pub record ComesNext (old : I) (visit : Visit) (new : I) : Type 0 where
+  pub record IsNextConnection (old : I) (visit : Visit) (new : I) : Type 0 where
     pub from : R
     pub to : W
     pub came : gives old (Some (from, to)) new

@@ -23,8 +23,8 @@ fault_lines [] = []
 fault_lines (f ∷ fs) = fault_line f ++ fault_lines fs
 
 -- the lines of at most this many faults are printed
-abbrev pub TellsFaults : ℕ → Option (List ℕ) → Option (List ℕ) → Type 0
-TellsFaults most old new =
+abbrev pub PrintsFaults : ℕ → Option (List ℕ) → Option (List ℕ) → Type 0
+PrintsFaults most old new =
     (faults : List ServeFault) × (length faults ≤ most) × Appends old new (fault_lines faults)
 
 -- the line that announces the port

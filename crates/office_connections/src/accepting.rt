@@ -3,7 +3,7 @@ ghost use Rattle.std.specs.Prelude.{◌≡◌, ◌<◌, ◌≤◌, ◌⊎◌, []
 ghost use Rattle.std.specs.Io.KnownBytes.{Appends};
 ghost use Rattle.office_messages.specs.Visits.{ServesVisit, Visit, with_fault};
 ghost use Rattle.office_connections.specs.Lines.{connection_fault_number, fault_line, fault_lines};
-ghost use Rattle.office_connections.specs.Clients.{AreOfClients, ComesNext, ServesClients};
+ghost use Rattle.office_connections.specs.Clients.{AreOfClients, IsNextConnection, ServesClients};
 ghost use Rattle.office_connections.specs.Clients.{ServesWhileOpen};
 
 use crate::serving::serve_client;
@@ -89,7 +89,7 @@ fn serve_next<
 ) -> Option<bool>
     requires { I.can_next clients.old }
     ensures some { IfSome result (λ is_told. (visit : Visit)
-        × ComesNext I.next_gives R.remaining W.contents clients.old visit clients.new
+        × IsNextConnection I.next_gives R.remaining W.contents clients.old visit clients.new
         × ServesVisit M.Answers visit machine.old machine.new
         × (IsTrue is_told → Appends (E.contents err.old) (E.contents err.new)
         (fault_lines (with_fault visit.ended [])))) }

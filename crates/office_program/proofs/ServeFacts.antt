@@ -9,7 +9,7 @@ use Rattle.sqlite.specs.Held.{Held, state}
 use Rattle.sqlite.specs.State.{HasCleanDisk}
 use Rattle.sqlite.specs.Store.{Ghosts}
 use Rattle.office_connections.specs.Clients.{ServesClients, ServesWhileOpen}
-use Rattle.office_connections.specs.Lines.{IsPortOf, TellsFaults, listening_line}
+use Rattle.office_connections.specs.Lines.{IsPortOf, PrintsFaults, listening_line}
 use Rattle.office_connections.specs.declared.accepting.Service.{Service}
 use Rattle.office_connections.proofs.ClientLemmas.{clients_follow, served_open, tells_faults}
 use Rattle.office_connections.proofs.ClientLemmas.{visits_keep}
@@ -154,7 +154,7 @@ module _ {S : Type 0} (store : Ghosts S) where
       status line = record {
         status = status;
         port = (port, is, line);
-        told = λ told. subst (λ n. TellsFaults n errors_old errors_new) x.all.0
+        told = λ told. subst (λ n. PrintsFaults n errors_old errors_new) x.all.0
             (tells_faults AreTheirs (OfficeServes store) x.service old new errors_old errors_new
             x.serves (x.all.1 told));
       }

@@ -3,7 +3,7 @@ use Rattle.std.specs.Prelude.{◌≡◌, ◌≢◌, ◌⊎◌, ℕ, ◌++◌, �
 use Rattle.std.specs.Prelude.{map, string_bytes}
 use Rattle.std.specs.Io.KnownBytes.{Appends, Keeps}
 use Rattle.clap.specs.Words.{Text}
-use Rattle.office_connections.specs.Lines.{PrintsPort, TellsFaults}
+use Rattle.office_connections.specs.Lines.{PrintsPort, PrintsFaults}
 use Rattle.office_program.specs.CheckAll.{JudgesAll}
 use Rattle.office_program.specs.FaultLines.{fault_line}
 use Rattle.office_program.specs.Program.{IsTask}
@@ -30,7 +30,7 @@ TellsConnections contents (Check instance solution) old new = new ≡ old
 TellsConnections contents (CheckAll session solutions form) old new = new ≡ old
 TellsConnections contents (Load database instance) old new = new ≡ old
 TellsConnections contents (Serve database terms) old new =
-    TellsFaults terms.connections (contents old) (contents new)
+    PrintsFaults terms.connections (contents old) (contents new)
 TellsConnections contents (Export database) old new = new ≡ old
 TellsConnections contents (Explain words) old new = new ≡ old
 

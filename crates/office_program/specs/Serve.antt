@@ -6,7 +6,7 @@ use Rattle.sqlite.specs.Held.{Held, state}
 use Rattle.sqlite.specs.State.{State, HasCleanDisk}
 use Rattle.sqlite.specs.Store.{Ghosts}
 use Rattle.office_connections.specs.Clients.{ServesClients}
-use Rattle.office_connections.specs.Lines.{PrintsPort, TellsFaults}
+use Rattle.office_connections.specs.Lines.{PrintsPort, PrintsFaults}
 use Rattle.office_connections.specs.declared.accepting.Service.{Service}
 use Rattle.office_http.specs.Clients.{ServesAllByView}
 use Rattle.office_http.specs.Serving.{LeadsOffice}
@@ -58,7 +58,7 @@ pub record PrintsServed (terms : Terms) (old new errors_old errors_new : Option 
   pub status : ending.status ≡ 0
   pub port : PrintsPort terms.port old new
   pub told :
-      IsTrue ending.is_told → TellsFaults terms.connections errors_old errors_new
+      IsTrue ending.is_told → PrintsFaults terms.connections errors_old errors_new
 
 -- a fault other than of writing leaves what was printed unchanged, or the port was printed
 abbrev pub LeavesPort : Terms → Option (List ℕ) → Option (List ℕ) → ProgramFault → Type 0
