@@ -61,11 +61,12 @@ pub fn serve_clients<
         unwritten: 0,
     };
     while service.accepted < plan.connections && !machine.is_shut() {
-        let Some(is_told) = serve_next(alloc, clock, clients, plan.patience, machine, err) else {
+        let Some(is_err_written) = serve_next(alloc, clock, clients, plan.patience, machine, err)
+        else {
             break;
         };
         service.accepted += 1;
-        service.unwritten += u32::from(!is_told);
+        service.unwritten += u32::from(!is_err_written);
     }
     service
 }
@@ -88,10 +89,10 @@ fn serve_next<
     err: &mut E,
 ) -> Option<bool>
     requires { I.can_next clients.old }
-    ensures some { IfSome result (λ is_told. (visit : Visit)
+    ensures some { IfSome result (λ is_err_written. (visit : Visit)
         × IsNextConnection I.next_gives R.remaining W.contents clients.old visit clients.new
         × ServesVisit M.Answers visit machine.old machine.new
-        × (IsTrue is_told → Appends (E.contents err.old) (E.contents err.new)
+        × (IsTrue is_err_written → Appends (E.contents err.old) (E.contents err.new)
         (fault_lines (with_fault visit.ended [])))) }
     ensures none { IfNone result (I.next_gives clients.old None clients.new
         × (machine.new ≡ machine.old) × (err.new ≡ err.old)) }

@@ -17,7 +17,7 @@ use Rattle.office_program.specs.CheckAll.{AddsOutcome, HasOutcomes, IsLineOf, Is
 use Rattle.office_program.specs.FaultLines.{solution_line}
 use Rattle.office_program.specs.declared.judging.Found.{Found}
 use Rattle.office_program.specs.declared.judging.VerdictLine.{VerdictLine}
-use Rattle.office_program.proofs.EndingFacts.{if_told}
+use Rattle.office_program.proofs.EndingFacts.{if_written}
 
 or_false : (b : Bool) → (b || false) ≡ b
 or_false true = refl
@@ -47,12 +47,12 @@ module _ (I : Session) (E : Enrolled) (form : LineForm) where
   -- no outcome
   pub no_outcome : (printed said : Option (List ℕ))
       → HasOutcomes I E form [] printed printed said said
-      (record { has_fault = false; has_breach = false; is_told = true })
+      (record { has_fault = false; has_breach = false; is_err_written = true })
   no_outcome printed said = record {
     outcomes = [];
     judged = record { are = refl; each = All-nil _ };
     printed = Appends-nil printed;
-    said = λ told. Appends-nil said;
+    said = λ err_line. Appends-nil said;
     fault = refl;
     breach = refl;
   }
@@ -75,8 +75,8 @@ module _ (I : Session) (E : Enrolled) (form : LineForm) where
         };
         printed = subst (Appends old new) (sym (flat_more (λ o. o.printed) os o))
             (Appends-trans old mid new _ _ so_far.printed next.printed);
-        said = λ told.
-            let both = next.said told in
+        said = λ err_line.
+            let both = next.said err_line in
             subst (Appends errors_old errors_new) (sym (flat_more (λ o. o.said) os o))
             (Appends-trans errors_old errors_mid errors_new _ _ (so_far.said both.0) both.1);
         fault = next.fault ∙ ap (λ b. b || o.is_faulty) so_far.fault
@@ -92,7 +92,7 @@ module _ (I : Session) (E : Enrolled) (form : LineForm) where
       → AddsOutcome I E form path found old new errors errors (record {
         has_fault = found.has_fault;
         has_breach = found.has_breach || line.has_breach;
-        is_told = found.is_told;
+        is_err_written = found.is_err_written;
       })
   line_added path line found old new errors is printed = record {
     outcome = record {
@@ -113,23 +113,23 @@ module _ (I : Session) (E : Enrolled) (form : LineForm) where
       breach = is.breach;
     });
     printed = printed;
-    said = λ told. (told, Appends-nil errors);
+    said = λ err_line. (err_line, Appends-nil errors);
     fault = sym (or_false found.has_fault);
     breach = refl;
   }
 
   -- so is a fault
-  pub fault_added : {T X : Type 0} (r : Result T X) (is_told : Bool) (path : List ℕ)
+  pub fault_added : {T X : Type 0} (r : Result T X) (is_err_written : Bool) (path : List ℕ)
       (fault : InputFault) (found : Found) (old errors_old errors_new : Option (List ℕ))
-      → is_told ≡ is_ok r
+      → is_err_written ≡ is_ok r
       → OnOk r (Appends errors_old errors_new
       (path ++ codes ": " ++ solution_line path fault ++ 10 ∷ []))
       → AddsOutcome I E form path found old old errors_old errors_new (record {
         has_fault = true;
         has_breach = found.has_breach;
-        is_told = found.is_told && is_told;
+        is_err_written = found.is_err_written && is_err_written;
       })
-  fault_added r is_told path fault found old errors_old errors_new is said = record {
+  fault_added r is_err_written path fault found old errors_old errors_new is said = record {
     outcome = record {
       path = path;
       printed = [];
@@ -146,9 +146,9 @@ module _ (I : Session) (E : Enrolled) (form : LineForm) where
       breach = refl;
     });
     printed = Appends-nil old;
-    said = λ told.
-        let yes = both found.is_told is_told told in
-        (yes.0, if_told r _ said is_told is yes.1);
+    said = λ err_line.
+        let yes = both found.is_err_written is_err_written err_line in
+        (yes.0, if_written r _ said is_err_written is yes.1);
     fault = sym (or_true found.has_fault);
     breach = sym (or_false found.has_breach);
   }

@@ -3,10 +3,10 @@ use Rattle.std.proofs.Common.{◌≡◌, ◌≢◌, ◌∙◌, ◌⊎◌, ℕ, B
 use Rattle.std.specs.Prelude.{IfOk, IsTrue, OnOk, is_ok}
 
 -- a bool that says whether a result is `Ok` gives, if true, what holds of an `Ok`
-pub if_told : {T E : Type 0} (r : Result T E) (P : Type 0) → OnOk r P → (b : Bool) → b ≡ is_ok r
+pub if_written : {T E : Type 0} (r : Result T E) (P : Type 0) → OnOk r P → (b : Bool) → b ≡ is_ok r
     → IsTrue b → P
-if_told (Ok x) P p b is told = p
-if_told (Err e) P p b is told = let never : true ≡ false = sym told ∙ is in cc
+if_written (Ok x) P p b is err_line = p
+if_written (Err e) P p b is err_line = let never : true ≡ false = sym err_line ∙ is in cc
 
 -- a fact of the values gives a fact of an `Ok`
 pub if_ok : {A E : Type 0} (result : Result A E) (P T : A → Type 0) → ((a : A) → P a → T a)

@@ -154,9 +154,9 @@ module _ {S : Type 0} (store : Ghosts S) where
       status line = record {
         status = status;
         port = (port, is, line);
-        told = λ told. subst (λ n. PrintsFaults n errors_old errors_new) x.all.0
+        err_line = λ err_line. subst (λ n. PrintsFaults n errors_old errors_new) x.all.0
             (tells_faults AreTheirs (OfficeServes store) x.service old new errors_old errors_new
-            x.serves (x.all.1 told));
+            x.serves (x.all.1 err_line));
       }
 
 -- a fault other than of writing left the printed text unchanged, or the port was printed

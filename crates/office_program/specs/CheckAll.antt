@@ -75,10 +75,10 @@ pub record PrintsVerdicts (form : LineForm) (paths : List (List ℕ)) (old new :
 
 -- and the line of each fault is written, unless a write failed
 pub record JudgesAll (form : LineForm) (paths : List (List ℕ))
-    (old new errors_old errors_new : Option (List ℕ)) (is_told : Bool) (status : ℕ)
+    (old new errors_old errors_new : Option (List ℕ)) (is_err_written : Bool) (status : ℕ)
     : Type 0 where
   pub prints : PrintsVerdicts form paths old new status
-  pub said : IsTrue is_told
+  pub said : IsTrue is_err_written
       → Appends errors_old errors_new (flat_map (λ o. o.said) prints.outcomes)
 
 -- ---- one solution after another
@@ -100,8 +100,8 @@ pub record AddsOutcome (I : Session) (E : Enrolled) (form : LineForm) (path : Li
   pub is : outcome.path ≡ path
   pub of : IsOutcome I E form outcome
   pub printed : Appends old new outcome.printed
-  pub said : IsTrue after.is_told
-      → IsTrue before.is_told × Appends errors_old errors_new outcome.said
+  pub said : IsTrue after.is_err_written
+      → IsTrue before.is_err_written × Appends errors_old errors_new outcome.said
   pub fault : after.has_fault ≡ (before.has_fault || outcome.is_faulty)
   pub breach : after.has_breach ≡ (before.has_breach || outcome.has_breach)
 
@@ -111,7 +111,7 @@ pub record HasOutcomes (I : Session) (E : Enrolled) (form : LineForm) (paths : L
   pub outcomes : List Outcome
   pub judged : AreJudged I E form paths outcomes
   pub printed : Appends old new (flat_map (λ o. o.printed) outcomes)
-  pub said : IsTrue found.is_told
+  pub said : IsTrue found.is_err_written
       → Appends errors_old errors_new (flat_map (λ o. o.said) outcomes)
   pub fault : found.has_fault ≡ list_any (λ o. o.is_faulty) outcomes
   pub breach : found.has_breach ≡ list_any (λ o. o.has_breach) outcomes

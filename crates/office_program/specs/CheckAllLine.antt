@@ -26,7 +26,7 @@ check_all_app = with_rule (with_rule (with_rule (new_app (codes "check-all")) js
     (required_rule (codes "session"))) solutions_rule
 
 -- the value of the flag requests this form
-pub record AsksFor (value : Option Text) (form : LineForm) : Type 0 where
+pub record RequestsForm (value : Option Text) (form : LineForm) : Type 0 where
   pub json : value ≡ Some (codes "true") → form ≡ Json
   pub plain : value ≡ Some (codes "false") → form ≡ Plain
   pub none : value ≡ None → form ≡ Plain
@@ -37,7 +37,7 @@ HasCheckAllValues rows (Check instance solution) = ⊥
 HasCheckAllValues rows (CheckAll session solutions form) =
     (first_of (codes "session") rows ≡ Some (string_bytes session))
     × (all_of (codes "solutions") rows ≡ Some (map string_bytes solutions.items))
-    × AsksFor (one_of (codes "json") rows) form
+    × RequestsForm (one_of (codes "json") rows) form
 HasCheckAllValues rows (Load database instance) = ⊥
 HasCheckAllValues rows (Serve database terms) = ⊥
 HasCheckAllValues rows (Export database) = ⊥

@@ -25,20 +25,20 @@ IsSilent (Explain words) old new = new ≡ old
 
 -- a task that is done wrote nothing to `err`; except a server, which wrote the faults of
 -- connections, at most as many as it was to serve
-abbrev pub TellsConnections : {W : Type 0} → (W → Option (List ℕ)) → Task → W → W → Type 0
-TellsConnections contents (Check instance solution) old new = new ≡ old
-TellsConnections contents (CheckAll session solutions form) old new = new ≡ old
-TellsConnections contents (Load database instance) old new = new ≡ old
-TellsConnections contents (Serve database terms) old new =
+abbrev pub WritesConnectionFaults : {W : Type 0} → (W → Option (List ℕ)) → Task → W → W → Type 0
+WritesConnectionFaults contents (Check instance solution) old new = new ≡ old
+WritesConnectionFaults contents (CheckAll session solutions form) old new = new ≡ old
+WritesConnectionFaults contents (Load database instance) old new = new ≡ old
+WritesConnectionFaults contents (Serve database terms) old new =
     PrintsFaults terms.connections (contents old) (contents new)
-TellsConnections contents (Export database) old new = new ≡ old
-TellsConnections contents (Explain words) old new = new ≡ old
+WritesConnectionFaults contents (Export database) old new = new ≡ old
+WritesConnectionFaults contents (Explain words) old new = new ≡ old
 
 -- `err` is unchanged, or has what a task of the words writes there when it is done
 abbrev pub IsQuiet : {W : Type 0} → (W → Option (List ℕ)) → List Text → W → W → Type 0
 IsQuiet contents words old new =
     (new ≡ old)
-    ⊎ ((task : Task) × IsTask words task × TellsConnections contents task old new)
+    ⊎ ((task : Task) × IsTask words task × WritesConnectionFaults contents task old new)
 
 -- on a fault other than of writing, `out` is unchanged, or a server printed its port
 abbrev pub LeavesPrinted : Task → Option (List ℕ) → Option (List ℕ) → Type 0
@@ -51,7 +51,7 @@ LeavesPrinted (Explain words) old new = Keeps old new
 
 -- the line of a fault of the task is appended to what `err` had when the fault came; unless it is a
 -- fault of writing, nothing else is printed but a server's port
-pub record TellsTask {W : Type 0} (contents : W → Option (List ℕ)) (task : Task) (old new : W)
+pub record WritesTaskFault {W : Type 0} (contents : W → Option (List ℕ)) (task : Task) (old new : W)
     (printed_old printed_new : Option (List ℕ)) : Type 0 where
   pub shown : ProgramFault
   pub fault : IsOfTask task shown
@@ -62,30 +62,34 @@ pub record TellsTask {W : Type 0} (contents : W → Option (List ℕ)) (task : T
 
 -- the line of words that give no task is written: memory ran out for them, and nothing is printed;
 -- or the help that they ask for could not be written
-abbrev pub TellsNoTask : (old new printed_old printed_new : Option (List ℕ)) → Type 0
-TellsNoTask old new printed_old printed_new =
+abbrev pub WritesNoTaskFault : (old new printed_old printed_new : Option (List ℕ)) → Type 0
+WritesNoTaskFault old new printed_old printed_new =
     (Appends old new (fault_line NoMemory ++ 10 ∷ []) × Keeps printed_old printed_new)
     ⊎ Appends old new (fault_line CannotWrite ++ 10 ∷ [])
 
 -- what `check-all` prints, and writes to `err`, if a solution has a fault
-abbrev pub TellsSolutions : {W : Type 0} → (W → Option (List ℕ)) → Task → (old new : W)
+abbrev pub WritesSolutionFaults : {W : Type 0} → (W → Option (List ℕ)) → Task → (old new : W)
     → (printed_old printed_new : Option (List ℕ)) → Bool → Type 0
-TellsSolutions contents (Check instance solution) old new printed_old printed_new is_told = ⊥
-TellsSolutions contents (CheckAll session solutions form) old new printed_old printed_new is_told =
+WritesSolutionFaults contents (Check instance solution) old new printed_old printed_new
+    is_err_written = ⊥
+WritesSolutionFaults contents (CheckAll session solutions form) old new printed_old printed_new
+    is_err_written =
     JudgesAll form (map string_bytes solutions.items) printed_old printed_new
-    (contents old) (contents new) is_told 1
-TellsSolutions contents (Load database instance) old new printed_old printed_new is_told = ⊥
-TellsSolutions contents (Serve database terms) old new printed_old printed_new is_told = ⊥
-TellsSolutions contents (Export database) old new printed_old printed_new is_told = ⊥
-TellsSolutions contents (Explain words) old new printed_old printed_new is_told = ⊥
+    (contents old) (contents new) is_err_written 1
+WritesSolutionFaults contents (Load database instance) old new printed_old printed_new
+    is_err_written = ⊥
+WritesSolutionFaults contents (Serve database terms) old new printed_old printed_new
+    is_err_written = ⊥
+WritesSolutionFaults contents (Export database) old new printed_old printed_new is_err_written = ⊥
+WritesSolutionFaults contents (Explain words) old new printed_old printed_new is_err_written = ⊥
 
 -- the line of a fault is written, either of the task of the words or of words that give no task; or
 -- those of solutions
-abbrev pub TellsFault : {W : Type 0} → (W → Option (List ℕ)) → List Text → (old new : W)
+abbrev pub WritesFault : {W : Type 0} → (W → Option (List ℕ)) → List Text → (old new : W)
     → (printed_old printed_new : Option (List ℕ)) → Type 0
-TellsFault contents words old new printed_old printed_new =
+WritesFault contents words old new printed_old printed_new =
     ((task : Task) × IsTask words task
-    × TellsTask contents task old new printed_old printed_new)
-    ⊎ (TellsNoTask (contents old) (contents new) printed_old printed_new
+    × WritesTaskFault contents task old new printed_old printed_new)
+    ⊎ (WritesNoTaskFault (contents old) (contents new) printed_old printed_new
     ⊎ ((task : Task) × IsTask words task
-    × TellsSolutions contents task old new printed_old printed_new true))
+    × WritesSolutionFaults contents task old new printed_old printed_new true))

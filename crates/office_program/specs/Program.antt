@@ -24,13 +24,13 @@ abbrev pub wants_subcommand : App → App
 wants_subcommand a = record a { top = record a.top { subcommand_required = true } }
 
 -- a command that has a version
-abbrev pub tells_version : App → App
-tells_version a = record a { top = record a.top { has_version = true } }
+abbrev pub with_version : App → App
+with_version a = record a { top = record a.top { has_version = true } }
 
 -- the program, with its commands
 abbrev pub program : App
 program = with_subcommand (with_subcommand (with_subcommand (with_subcommand (with_subcommand
-    (with_subcommand (wants_subcommand (tells_version (new_app (codes "examoffice"))))
+    (with_subcommand (wants_subcommand (with_version (new_app (codes "examoffice"))))
     check_app.top) check_all_app.top) load_app.top) serve_app.top) export_app.top) explain_app.top
 
 -- the task is the command that clap found, with its values

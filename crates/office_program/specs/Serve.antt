@@ -39,15 +39,15 @@ pub record ServesTerms {S : Type 0} (store : Ghosts S) (AreTheirs : List Visit �
   pub serves :
       ServesClients AreTheirs (OfficeServes store) service old new errors_old errors_new
   pub all : IfOk outcome (λ ending. (service.accepted ≡ terms.connections)
-      × (IsTrue ending.is_told → service.unwritten ≡ 0))
+      × (IsTrue ending.is_err_written → service.unwritten ≡ 0))
   pub fewer : IfErr outcome (λ shown. (service.accepted ≡ 0)
       ⊎ (((shown ≡ fault.CannotListen) × (service.accepted < terms.connections))
       ⊎ ((shown ≡ fault.Store Store) × IsStoreShut store new)))
 
 -- while it is open, it represents an office that this one reaches by serving at most this many
 -- connections
-abbrev pub ComesTo : ℕ → OfficeState → State → Type 0
-ComesTo connections there s =
+abbrev pub ReachesByServing : ℕ → OfficeState → State → Type 0
+ReachesByServing connections there s =
     (visits : List Visit) × (length visits ≤ connections) × (next : OfficeState)
     × ServesAllByView visits there next × (IsTrue s.is_open → IsOfficeOf s.now next)
 
@@ -57,8 +57,8 @@ pub record PrintsServed (terms : Terms) (old new errors_old errors_new : Option 
     (ending : Ending) : Type 0 where
   pub status : ending.status ≡ 0
   pub port : PrintsPort terms.port old new
-  pub told :
-      IsTrue ending.is_told → PrintsFaults terms.connections errors_old errors_new
+  pub err_line :
+      IsTrue ending.is_err_written → PrintsFaults terms.connections errors_old errors_new
 
 -- a fault other than of writing leaves what was printed unchanged, or the port was printed
 abbrev pub LeavesPort : Terms → Option (List ℕ) → Option (List ℕ) → ProgramFault → Type 0

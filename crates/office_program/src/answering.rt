@@ -6,7 +6,7 @@ ghost use Rattle.office_http.specs.Replying.{IsDone};
 ghost use Rattle.office_program.specs.Serve.{IsStoreShut};
 ghost use Rattle.office_store.specs.Running.{StateUnchanged};
 
-use crate::telling::{LongWork, tell};
+use crate::telling::{LongWork, announce};
 use office_connections::MayShut;
 use office_http::{Alter, Desk, Routes, reply};
 use office_messages::{Machine, Reply, Request, Status};
@@ -36,7 +36,7 @@ impl<S: Alter> Machine for ServingDesk<'_, '_, S> {
 
     fn answer(&mut self, alloc: Global, request: &Request<'_>) -> Reply {
         if asks_to_publish(request) {
-            tell(self.rt, LongWork::Publishing(self.database));
+            announce(self.rt, LongWork::Publishing(self.database));
         }
         let answered = reply(alloc, self.routes, self.desk, request);
         self.is_shut = is_shut_after(answered.status, self.desk);

@@ -10,7 +10,7 @@ use std::io::{IsTerminal, Read, Write};
 use std::{env, fmt, fs, io};
 
 // Prints the cause of a task's fault, if standard error is a terminal or goes to a journal.
-pub(crate) fn tell_cause(rt: &HostRuntime, task: &Task, fault: &ProgramFault<'_>) {
+pub(crate) fn announce_cause(rt: &HostRuntime, task: &Task, fault: &ProgramFault<'_>) {
     let mut terminal = rt.stderr();
     if terminal.is_terminal() || env::var(rt, "JOURNAL_STREAM").is_ok() {
         // The fault's own line is printed whether or not this one can be.
@@ -95,7 +95,7 @@ fn print_faulty<W: Write>(
     let text = text_again(rt, path);
     match line_of(&text, line) {
         Some(found) => {
-            let words = words_beside(what, found);
+            let words = words_with(what, found);
             let shown = Shown { line: found };
             writeln!(out, "{path} line {line}: {words}: {shown}")
         }
@@ -143,7 +143,7 @@ fn line_of(text: &[u8], number: u32) -> Option<&[u8]> {
 }
 
 // Returns the short words for a fault of a file, or says that a session and a solution are swapped.
-fn words_beside(what: FaultKind, line: &[u8]) -> &'static str {
+fn words_with(what: FaultKind, line: &[u8]) -> &'static str {
     if what == FaultKind::MissingSection && is_place(line) {
         return "a solution, not a session";
     }

@@ -2,7 +2,7 @@
 ghost use Rattle.std.specs.Prelude.{◌≡◌, IfErr, IfOk, Some, codes, map, string_bytes};
 ghost use Rattle.clap.specs.Words.{all_of, found_of, kind_of, one_of, rows_of};
 ghost use Rattle.clap.specs.declared.error.kind.ErrorKind.TheVariants.{OutOfMemory};
-ghost use Rattle.office_program.specs.CheckAllLine.{AsksFor, HasCheckAllValues};
+ghost use Rattle.office_program.specs.CheckAllLine.{RequestsForm, HasCheckAllValues};
 
 use crate::words::{Task, value_of};
 use clap::{ArgMatches, Error};
@@ -44,7 +44,7 @@ fn copies(alloc: Global, texts: &[&str]) -> Result<Vec<String>, AllocError>
 
 // Returns the form that the flag requests.
 fn form_of(values: &ArgMatches<'_>) -> LineForm
-    ensures { AsksFor (one_of (codes "json") (rows_of (found_of values.now))) result }
+    ensures { RequestsForm (one_of (codes "json") (rows_of (found_of values.now))) result }
 {
     if values.get_flag("json") {
         LineForm::Json

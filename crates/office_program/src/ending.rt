@@ -10,18 +10,18 @@ pub struct Ending {
     /// Whether all of this was written to the writer of faults: the line of the fault or the text
     /// of the mistake that the program ended with, or else the lines of the connections that it
     /// served. True if there is nothing to write.
-    pub is_told: bool,
+    pub is_err_written: bool,
 }
 
 impl Ending {
     // Returns an ending without anything for the writer of faults.
     pub(crate) fn quiet(status: u8) -> Ending
         ensures status { result.status ≡ status }
-        ensures told { IsTrue result.is_told }
+        ensures err_line { IsTrue result.is_err_written }
     {
         Ending {
             status,
-            is_told: true,
+            is_err_written: true,
         }
     }
 }

@@ -14,7 +14,7 @@ ghost use Rattle.office_program.specs.TaskFaults.{IsOfExport};
 
 use crate::ending::Ending;
 use crate::faults::{ProgramFault, fault_of_export, fault_of_open};
-use crate::telling::{LongWork, tell, tell_upgrade};
+use crate::telling::{LongWork, announce, announce_upgrade};
 use office_files::{FaultKind, write_solution};
 use office_http::{Alter, Connection, Office, StoreFault};
 use sqlite::{Error, ErrorCode};
@@ -50,12 +50,12 @@ pub(crate) fn export<'a, W: Write>(
     if fs::metadata(rt, database).is_err() {
         return Err(fault_of_open(Error::SqliteFailure(ErrorCode::CannotOpen)));
     }
-    tell(rt, LongWork::Opening(database));
+    announce(rt, LongWork::Opening(database));
     let conn = match Connection::open(rt, database) {
         Ok(conn) => conn,
         Err(error) => return Err(fault_of_open(error)),
     };
-    tell_upgrade(rt, database, &conn);
+    announce_upgrade(rt, database, &conn);
     // A log that can't be copied into the file stays next to it, and is read there.
     match export_run(rt.alloc(), conn, out) {
         Ok(conn) => {

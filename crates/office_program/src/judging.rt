@@ -22,7 +22,7 @@ pub(crate) struct Found {
     pub(crate) has_fault: bool,
     pub(crate) has_breach: bool,
     // Whether the line of each fault was written.
-    pub(crate) is_told: bool,
+    pub(crate) is_err_written: bool,
 }
 
 // The line of a solution that was judged.
@@ -43,7 +43,7 @@ pub(crate) fn check_all<'a, R: Files + AllocGlobal, W: Write, E: Write>(
 ) -> Result<Ending, ProgramFault<'a>>
     ensures judged { IfOk result (λ ending. JudgesAll form (map string_bytes solutions.now)
         (W.contents out.old) (W.contents out.new) (E.contents err.old) (E.contents err.new)
-        ending.is_told ending.status) }
+        ending.is_err_written ending.status) }
     ensures quiet { IfOk result (λ ending. ending.status ≢ 1 → err.new ≡ err.old) }
 
     // A line that names a file names the session's.
@@ -58,7 +58,7 @@ pub(crate) fn check_all<'a, R: Files + AllocGlobal, W: Write, E: Write>(
     match judge_each(rt, &judge, solutions, form, out, err) {
         Ok(found) => Ok(Ending {
             status: status_of(found),
-            is_told: found.is_told,
+            is_err_written: found.is_err_written,
         }),
         Err(_) => Err(ProgramFault::CannotWrite),
     }
@@ -104,7 +104,7 @@ fn judge_each<R: Files + AllocGlobal, W: Write, E: Write>(
     let mut found = Found {
         has_fault: false,
         has_breach: false,
-        is_told: true,
+        is_err_written: true,
     };
     for path in solutions {
         found = judge_one(rt, judge, path, form, found, out, err)?;
@@ -133,8 +133,8 @@ fn judge_one<R: Files + AllocGlobal, W: Write, E: Write>(
             Ok(with_verdict(found, line.has_breach))
         }
         Err(fault) => {
-            let is_told = print_fault(path, fault, err).is_ok();
-            Ok(with_fault(found, is_told))
+            let is_err_written = print_fault(path, fault, err).is_ok();
+            Ok(with_fault(found, is_err_written))
         }
     }
 }
@@ -144,7 +144,7 @@ fn with_verdict(found: Found, has_breach: bool) -> Found
     ensures { result ≡ record {
       has_fault = found.has_fault;
       has_breach = found.has_breach || has_breach;
-      is_told = found.is_told;
+      is_err_written = found.is_err_written;
     } }
 {
     Found {
@@ -154,16 +154,16 @@ fn with_verdict(found: Found, has_breach: bool) -> Found
 }
 
 // Counts one more solution that has a fault.
-fn with_fault(found: Found, is_told: bool) -> Found
+fn with_fault(found: Found, is_err_written: bool) -> Found
     ensures { result ≡ record {
       has_fault = true;
       has_breach = found.has_breach;
-      is_told = found.is_told && is_told;
+      is_err_written = found.is_err_written && is_err_written;
     } }
 {
     Found {
         has_fault: true,
-        is_told: found.is_told && is_told,
+        is_err_written: found.is_err_written && is_err_written,
         ..found
     }
 }

@@ -8,8 +8,8 @@ ghost use Rattle.clap.specs.Words.{kind_of};
 ghost use Rattle.clap.specs.declared.error.kind.ErrorKind.TheVariants as kind;
 ghost use Rattle.exam_terms.specs.declared.limits.TheConstants.{INSTANCE_BYTES};
 ghost use Rattle.office_program.specs.Endings.{IsQuiet, IsSilent, LeavesPrinted};
-ghost use Rattle.office_program.specs.Endings.{TellsConnections, TellsFault, TellsNoTask};
-ghost use Rattle.office_program.specs.Endings.{TellsSolutions};
+ghost use Rattle.office_program.specs.Endings.{WritesConnectionFaults, WritesFault, WritesNoTaskFault};
+ghost use Rattle.office_program.specs.Endings.{WritesSolutionFaults};
 ghost use Rattle.office_program.specs.FaultLines.{fault_line, not_text_line};
 ghost use Rattle.office_program.specs.Load.{PrintsCounts};
 ghost use Rattle.office_program.specs.Program.{AreAnswered, IsMistake, IsTask, fault_of_words};
@@ -17,7 +17,7 @@ ghost use Rattle.office_program.specs.TaskFaults.{IsOfLoad, IsOfOffice};
 ghost use Rattle.office_program.specs.Tasks.{IsOfTask, Prints, PrintsBroken};
 ghost use Rattle.office_program.specs.declared.words.Task.{Task};
 
-use crate::causes::tell_cause;
+use crate::causes::announce_cause;
 use crate::checking::check;
 use crate::ending::Ending;
 use crate::explaining::explain;
@@ -26,7 +26,7 @@ use crate::faults::{ProgramFault, fault_of_input, fault_of_load, fault_of_open};
 use crate::judging::check_all;
 use crate::loading::load_run;
 use crate::serving::serve;
-use crate::telling::{LongWork, tell, tell_upgrade};
+use crate::telling::{LongWork, announce, announce_upgrade};
 use crate::words::{Task, read_words};
 use clap::Error;
 use clap::error::ErrorKind;
@@ -61,7 +61,7 @@ pub fn run_program<O: Write, E: Write>(
 
     // Help, and the output of a task that is done, are written only to `out`; except that a server
     // writes the faults of connections to `err`. A mistake leaves `out` unchanged.
-    ensures quiet { (result.status ≡ 0) ⊎ (result.status ≡ 3) → IsTrue result.is_told
+    ensures quiet { (result.status ≡ 0) ⊎ (result.status ≡ 3) → IsTrue result.is_err_written
         → IsQuiet E.contents (map string_bytes words.now) err.old err.new }
     ensures unprinted { result.status ≡ 2 → out.new ≡ out.old }
 
@@ -76,8 +76,8 @@ pub fn run_program<O: Write, E: Write>(
     // Unless the fault is one of writing, `out` is unchanged, or has the line of the port. `check`,
     // `load`, `export` and `explain` write nothing else to `err`; the last line of `serve` there is
     // this one; `check-all` writes a line there for each solution with a fault, with its path.
-    ensures told { result.status ≡ 1 → IsTrue result.is_told
-        → TellsFault E.contents (map string_bytes words.now) err.old err.new
+    ensures err_line { result.status ≡ 1 → IsTrue result.is_err_written
+        → WritesFault E.contents (map string_bytes words.now) err.old err.new
         (O.contents out.old) (O.contents out.new) }
 {
     let task = match read_words(rt.alloc(), words) {
@@ -88,7 +88,7 @@ pub fn run_program<O: Write, E: Write>(
         Ok(ending) => ending,
         Err(fault) => {
             let ending = complain(&fault, err);
-            tell_cause(rt, &task, &fault);
+            announce_cause(rt, &task, &fault);
             ending
         }
     }
@@ -106,13 +106,13 @@ fn run_task<'a, W: Write, E: Write>(
         → PrintsBroken task.now (W.contents out.old) (W.contents out.new)) }
     ensures done { IfOk result (λ ending. ending.status ≡ 0
         → Prints task.now (W.contents out.old) (W.contents out.new)) }
-    ensures quiet { IfOk result (λ ending. ending.status ≢ 1 → IsTrue ending.is_told
-        → TellsConnections E.contents task.now err.old err.new) }
+    ensures quiet { IfOk result (λ ending. ending.status ≢ 1 → IsTrue ending.is_err_written
+        → WritesConnectionFaults E.contents task.now err.old err.new) }
 
     // An `Ok` has status 1 only if solutions have faults.
     ensures faulty { IfOk result (λ ending. ending.status ≡ 1
-        → TellsSolutions E.contents task.now err.old err.new
-        (W.contents out.old) (W.contents out.new) ending.is_told) }
+        → WritesSolutionFaults E.contents task.now err.old err.new
+        (W.contents out.old) (W.contents out.new) ending.is_err_written) }
 
     // A line that names a file names one of the task's.
     ensures fault { IfErr result (IsOfTask task.now) }
@@ -148,7 +148,7 @@ fn load<'a, W: Write>(
     ensures unwritten { IfErr result (λ fault. fault ≢ ProgramFault.CannotWrite
         → Keeps (W.contents out.old) (W.contents out.new)) }
 {
-    tell(rt, LongWork::Loading(instance));
+    announce(rt, LongWork::Loading(instance));
     match text_at(rt, instance) {
         Ok(text) => load_text(rt, database, &text, out),
         Err(fault) => Err(fault_of_input(fault, instance)),
@@ -179,12 +179,12 @@ fn load_text<'a, W: Write>(
     ensures unwritten { IfErr result (λ fault. fault ≢ ProgramFault.CannotWrite
         → Keeps (W.contents out.old) (W.contents out.new)) }
 {
-    tell(rt, LongWork::Opening(database));
+    announce(rt, LongWork::Opening(database));
     let conn = match Connection::open(rt, database) {
         Ok(conn) => conn,
         Err(error) => return Err(fault_of_open(error)),
     };
-    tell_upgrade(rt, database, &conn);
+    announce_upgrade(rt, database, &conn);
     // A log that can't be copied into the file stays next to it, and is read there.
     match load_run(rt.alloc(), conn, text, out) {
         Ok(conn) => {
@@ -204,8 +204,8 @@ fn refuse_words<O: Write, E: Write>(error: &Error, out: &mut O, err: &mut E) -> 
     ensures help { result.status ≡ 0 → (kind_of error.now ≡ kind.DisplayHelp)
         ⊎ (kind_of error.now ≡ kind.DisplayVersion) }
     ensures mistake { (result.status ≡ 2) ↔ IsMistake (kind_of error.now) }
-    ensures told { result.status ≡ 1 → IsTrue result.is_told
-        → TellsNoTask (E.contents err.old) (E.contents err.new)
+    ensures err_line { result.status ≡ 1 → IsTrue result.is_err_written
+        → WritesNoTaskFault (E.contents err.old) (E.contents err.new)
         (O.contents out.old) (O.contents out.new) }
     ensures quiet { result.status ≡ 0 → err.new ≡ err.old }
     ensures unprinted { result.status ≡ 2 → out.new ≡ out.old }
@@ -216,7 +216,7 @@ fn refuse_words<O: Write, E: Write>(error: &Error, out: &mut O, err: &mut E) -> 
     if error.use_stderr() {
         return Ending {
             status: 2,
-            is_told: write!(err, "{error}").is_ok(),
+            is_err_written: write!(err, "{error}").is_ok(),
         };
     }
     match write!(out, "{error}") {
@@ -228,12 +228,12 @@ fn refuse_words<O: Write, E: Write>(error: &Error, out: &mut O, err: &mut E) -> 
 // Ends with a fault. If its line can't be printed, nothing more can be done.
 fn complain<W: Write>(fault: &ProgramFault<'_>, err: &mut W) -> Ending
     ensures status { result.status ≡ 1 }
-    ensures told { IsTrue result.is_told
+    ensures err_line { IsTrue result.is_err_written
         → Appends (W.contents err.old) (W.contents err.new) (fault_line fault.now ++ 10 ∷ []) }
 {
     Ending {
         status: 1,
-        is_told: print_fault(fault, err).is_ok(),
+        is_err_written: print_fault(fault, err).is_ok(),
     }
 }
 
@@ -252,10 +252,10 @@ pub fn refuse_arguments<E: Write>(fault: &io::Error, err: &mut E) -> Ending
     ensures memory { (result.status ≡ 1) ↔ (error_kind fault.now ≡ failure.OutOfMemory) }
 
     // The line of either is written whole, unless `err` failed.
-    ensures no_memory { result.status ≡ 1 → IsTrue result.is_told
+    ensures no_memory { result.status ≡ 1 → IsTrue result.is_err_written
         → Appends (E.contents err.old) (E.contents err.new)
         (fault_line ProgramFault.NoMemory ++ 10 ∷ []) }
-    ensures no_texts { result.status ≡ 2 → IsTrue result.is_told
+    ensures no_texts { result.status ≡ 2 → IsTrue result.is_err_written
         → Appends (E.contents err.old) (E.contents err.new) (not_text_line ++ 10 ∷ []) }
 {
     if fault.kind() == io::ErrorKind::OutOfMemory {
@@ -263,7 +263,7 @@ pub fn refuse_arguments<E: Write>(fault: &io::Error, err: &mut E) -> Ending
     }
     Ending {
         status: 2,
-        is_told: print_not_text(err).is_ok(),
+        is_err_written: print_not_text(err).is_ok(),
     }
 }
 

@@ -8,13 +8,13 @@ ghost use Rattle.office_connections.specs.Clients.{AreOfClients};
 ghost use Rattle.office_connections.specs.Lines.{listening_line};
 ghost use Rattle.office_model.specs.Office.{OfficeState};
 ghost use Rattle.office_store.specs.Opening.{IsOfficeOf};
-ghost use Rattle.office_program.specs.Serve.{ComesTo, LeavesPort, PrintsServed, ServesTerms};
+ghost use Rattle.office_program.specs.Serve.{ReachesByServing, LeavesPort, PrintsServed, ServesTerms};
 ghost use Rattle.office_program.specs.TaskFaults.{IsOfServe};
 
 use crate::answering::ServingDesk;
 use crate::ending::Ending;
 use crate::faults::{ProgramFault, fault_of_open, fault_of_run};
-use crate::telling::{LongWork, tell, tell_new, tell_upgrade};
+use crate::telling::{LongWork, announce, announce_new, announce_upgrade};
 use crate::words::Terms;
 use office_connections::{Plan, Timed, listen, serve_run};
 use office_http::{Alter, Connection, Desk, Office, Routes};
@@ -37,15 +37,15 @@ pub(crate) fn serve<'a, O: Write, E: Write>(
         (LeavesPort terms (O.contents out.old) (O.contents out.new)) }
 {
     let is_new = fs::metadata(rt, database).is_err();
-    tell(rt, LongWork::Opening(database));
+    announce(rt, LongWork::Opening(database));
     let conn = match Connection::open(rt, database) {
         Ok(conn) => conn,
         Err(error) => return Err(fault_of_open(error)),
     };
     if is_new {
-        tell_new(rt, database);
+        announce_new(rt, database);
     }
-    tell_upgrade(rt, database, &conn);
+    announce_upgrade(rt, database, &conn);
     let (conn, done) = serve_stored(rt, database, conn, terms, out, err);
     // A log that can't be copied into the file stays next to it, and is read there.
     let _ = conn.close();
@@ -68,7 +68,7 @@ pub fn serve_stored<'a, S: Alter, O: Write, E: Write>(
     ensures reached { HasCleanDisk (state S.Store result.0)
         → ((state S.Store conn).now ≡ (state S.Store conn).committed)
         → (there : OfficeState) → IsOfficeOf (state S.Store conn).now there
-        → ComesTo terms.connections there (state S.Store result.0) }
+        → ReachesByServing terms.connections there (state S.Store result.0) }
     // The same as for `serve_desk`.
     ensures served { IfOk result.1 (PrintsServed terms (O.contents out.old) (O.contents out.new)
         (E.contents err.old) (E.contents err.new)) }
@@ -181,7 +181,7 @@ pub fn serve_at_desk<
     match serve_run(rt.alloc(), rt, port, clients, plan, &mut machine, out, err) {
         Ok(unwritten) => Ok(Ending {
             status: 0,
-            is_told: unwritten == 0,
+            is_err_written: unwritten == 0,
         }),
         Err(fault) => Err(fault_of_run(fault)),
     }

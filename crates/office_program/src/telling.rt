@@ -58,19 +58,19 @@ impl fmt::Display for LongWork<'_> {
 const LARGE: u64 = 2_000_000;
 
 // Says which work begins, if the file is large.
-pub(crate) fn tell(rt: &HostRuntime, work: LongWork<'_>) {
+pub(crate) fn announce(rt: &HostRuntime, work: LongWork<'_>) {
     if is_large(rt, path_of(work)) {
         say(rt, work);
     }
 }
 
 // Says that the office of a file is new.
-pub(crate) fn tell_new(rt: &HostRuntime, path: &str) {
+pub(crate) fn announce_new(rt: &HostRuntime, path: &str) {
     say(rt, LongWork::Making(path));
 }
 
 // Says that the tables of a database have version 1, if so: opening changes them.
-pub(crate) fn tell_upgrade<S: Alter>(rt: &HostRuntime, path: &str, conn: &Connection<S>) {
+pub(crate) fn announce_upgrade<S: Alter>(rt: &HostRuntime, path: &str, conn: &Connection<S>) {
     if let Ok(true) = is_of_version_1(rt.alloc(), conn) {
         say(rt, LongWork::Upgrading(path));
     }

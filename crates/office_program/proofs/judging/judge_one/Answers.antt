@@ -15,5 +15,6 @@ returns-in_ok-write_all-in-Ok-clause-ok g c =
 pub returns-in-Err-clause-ok : goal.returns-in-Err-clause-ok
 returns-in-Err-clause-ok g c =
     subst (AddsOutcome _ _ _ _ _ _ _ _ _) (sym c.with_fault.ensures)
-    (fault_added _ _ _ c.print_fault.result _ _ c.in-Err.fault _ _ _ _ c.is_ok-is_told.ensures.value
+    (fault_added _ _ _ c.print_fault.result _ _ c.in-Err.fault _ _ _ _
+    c.is_ok-is_err_written.ensures.value
     c.print_fault.ensures)

@@ -9,15 +9,15 @@ returns-in-Ok-run_task-clause-done g c = λ zero valid.
 
 -- and `err` gets only the faults of connections
 pub returns-in-Ok-run_task-clause-quiet : goal.returns-in-Ok-run_task-clause-quiet
-returns-in-Ok-run_task-clause-quiet g c = λ ended told. inr (
+returns-in-Ok-run_task-clause-quiet g c = λ ended err_line. inr (
   c.in-Ok.task,
   c.in-Ok.ensures.task,
-  c.in-Ok-run_task.ensures.quiet (not_one _ ended) told,
+  c.in-Ok-run_task.ensures.quiet (not_one _ ended) err_line,
 )
 
 -- or `err` gets the line of its fault
-pub returns-clause-told : goal.returns-clause-told
-returns-clause-told g c = λ one told. inl (
+pub returns-clause-err_line : goal.returns-clause-err_line
+returns-clause-err_line g c = λ one err_line. inl (
   c.in-Ok.task,
   c.in-Ok.ensures.task,
   record {
@@ -25,7 +25,7 @@ returns-clause-told g c = λ one told. inl (
     fault = c.in-Err-run_task.ensures.fault;
     before = c.run_task.new.err;
     silent = c.run_task.ensures.silent;
-    line = c.complain-ending.ensures.told told;
+    line = c.complain-ending.ensures.err_line err_line;
     printed = c.in-Err-run_task.ensures.unwritten;
   },
 )

@@ -12,5 +12,6 @@ returns-in-Serve-clause-done g c =
 pub returns-in-Serve-clause-unwritten : goal.returns-in-Serve-clause-unwritten
 returns-in-Serve-clause-unwritten g c =
     let port = c.serve.ensures.port in
-    if_err c.serve.result _ _ _ (λ fault told again other. rw c.in-Serve.is (told other)) port
+    if_err c.serve.result _ _ _ (λ fault err_line again other. rw c.in-Serve.is
+    (err_line other)) port
     port

@@ -24,7 +24,7 @@ returns-in-Ok-serve_run-clause-served g c =
       most = omega (arith, x.most, plan);
       serves = desk_serves g.S.Store (λ m. m.desk.ghost_name) (λ m. m.desk.now) (λ m. m.is_shut)
           _ _ _ c.desk-1.given.1 _ _ _ _ x.serves;
-      all = (x.all.0 ∙ plan, λ told. x.all.1 ∙ eqb-true _ 0 told);
+      all = (x.all.0 ∙ plan, λ err_line. x.all.1 ∙ eqb-true _ 0 err_line);
       fewer = tt;
     }
 

@@ -6,41 +6,41 @@ use Rattle.clap.specs.Simple.{app_of_fields}
 use Rattle.office_program.specs.CheckAllLine.{check_all_app}
 use Rattle.office_program.specs.CommandLine.{check_app, export_app, load_app}
 use Rattle.office_program.specs.Explaining.{explain_app}
-use Rattle.office_program.specs.Program.{program, tells_version, wants_subcommand}
+use Rattle.office_program.specs.Program.{program, with_version, wants_subcommand}
 use Rattle.office_program.specs.ServeLine.{serve_app}
 use Rattle.office_program.proofs.words.matches.Goals as goal
 
 -- the command that is built is the program
 abbrev whole_is : (c : goal.After-try_get_matches_from) → app_of c.in_ok-whole.whole ≡ program
 whole_is c =
-    let named : app_of c.after_help.result ≡ tells_version (new_app (codes "examoffice")) =
+    let named : app_of c.after_help.result ≡ with_version (new_app (codes "examoffice")) =
     ap app_of_fields c.after_help.ensures ∙ ap app_of_fields c.about.ensures
-    ∙ ap app_of_fields c.version.ensures ∙ ap tells_version c.new.ensures.app in
+    ∙ ap app_of_fields c.version.ensures ∙ ap with_version c.new.ensures.app in
     let wants : app_of c.subcommand_required.result
-    ≡ wants_subcommand (tells_version (new_app (codes "examoffice"))) =
+    ≡ wants_subcommand (with_version (new_app (codes "examoffice"))) =
     ap app_of_fields c.subcommand_required.ensures ∙ ap wants_subcommand named in
     let judges : app_of c.in_ok-subcommand.field-0 ≡ with_subcommand
-    (wants_subcommand (tells_version (new_app (codes "examoffice")))) check_app.top =
+    (wants_subcommand (with_version (new_app (codes "examoffice")))) check_app.top =
     c.in_ok-check.ensures _ _ c.in_ok-subcommand.ensures
     ∙ ap (λ a. with_subcommand a check_app.top) wants in
     let all : app_of c.in_ok-subcommand-2.field-0 ≡ with_subcommand (with_subcommand
-    (wants_subcommand (tells_version (new_app (codes "examoffice")))) check_app.top)
+    (wants_subcommand (with_version (new_app (codes "examoffice")))) check_app.top)
     check_all_app.top =
     c.in_ok-check_all.ensures _ _ c.in_ok-subcommand-2.ensures
     ∙ ap (λ a. with_subcommand a check_all_app.top) judges in
     let loads : app_of c.in_ok-subcommand-3.field-0 ≡ with_subcommand (with_subcommand
-    (with_subcommand (wants_subcommand (tells_version (new_app (codes "examoffice"))))
+    (with_subcommand (wants_subcommand (with_version (new_app (codes "examoffice"))))
     check_app.top) check_all_app.top) load_app.top =
     c.in_ok-load.ensures _ _ c.in_ok-subcommand-3.ensures
     ∙ ap (λ a. with_subcommand a load_app.top) all in
     let serves : app_of c.in_ok-subcommand-4.field-0 ≡ with_subcommand (with_subcommand
-    (with_subcommand (with_subcommand (wants_subcommand (tells_version
+    (with_subcommand (with_subcommand (wants_subcommand (with_version
     (new_app (codes "examoffice")))) check_app.top) check_all_app.top) load_app.top)
     serve_app.top =
     c.in_ok-serve.ensures _ _ c.in_ok-subcommand-4.ensures
     ∙ ap (λ a. with_subcommand a serve_app.top) loads in
     let exports : app_of c.in_ok-subcommand-5.field-0 ≡ with_subcommand (with_subcommand
-    (with_subcommand (with_subcommand (with_subcommand (wants_subcommand (tells_version
+    (with_subcommand (with_subcommand (with_subcommand (wants_subcommand (with_version
     (new_app (codes "examoffice")))) check_app.top) check_all_app.top) load_app.top)
     serve_app.top) export_app.top =
     c.in_ok-export.ensures _ _ c.in_ok-subcommand-5.ensures
