@@ -36,8 +36,8 @@ def main():
         status, text, _ = asked(crate, word)
         judged.judge(f"{crate} {word}", (0, word), (status, (defined(text) or [None])[-1]))
     _, text, _ = asked("exam_rules", "breaches_of")
-    order = [word for word in defined(text) if word in ("where_placed", "breaks", "pairs_breaking", "breaches_of")]
-    judged.judge("what is used comes first", ["where_placed", "breaks", "pairs_breaking", "breaches_of"], order)
+    order = [word for word in defined(text) if word in ("place_satisfies", "breaks", "pairs_breaking", "breaches_of")]
+    judged.judge("what is used comes first", ["place_satisfies", "breaks", "pairs_breaking", "breaches_of"], order)
     judged.judge("no such word", (1, "", "words: exam_rules defines no word nothing\n"),
                  asked("exam_rules", "nothing"))
     judged.judge("no such crate", (1, "", "words: there is no crate exam_rule with definitions\n"),
