@@ -408,12 +408,9 @@ track_exchanged fold E pairs sizes old h is =
     }
 
 -- an exchange has one result
-pub exchange_is : (old goes comes new : Penalty) (r : Option Penalty)
-    → IfSome r (IsExchanged old goes comes) → IfNone r (CannotExchange old goes comes)
-    → IsExchanged old goes comes new → total_of new < 2 ^ 62 → r ≡ Some new
-exchange_is old goes comes new None made none is small =
-    absurd (let great = none new is in omega (arith, great, small))
-exchange_is old goes comes new (Some x) made none is small =
+pub exchanged_once : (old goes comes new x : Penalty) → IsExchanged old goes comes x
+    → IsExchanged old goes comes new → x ≡ new
+exchanged_once old goes comes new x made is =
     let row : x.row ≡ new.row = omega (arith, made.row, is.row) in
     let day : x.day ≡ new.day = omega (arith, made.day, is.day) in
     let spread : x.spread ≡ new.spread = omega (arith, made.spread, is.spread) in
@@ -422,7 +419,15 @@ exchange_is old goes comes new (Some x) made none is small =
     let front : x.front ≡ new.front = omega (arith, made.front, is.front) in
     let period : x.period ≡ new.period = omega (arith, made.period, is.period) in
     let room : x.room ≡ new.room = omega (arith, made.room, is.room) in
-    λ i. Some (record { row = row i; day = day i; spread = spread i; night = night i; mixed = mixed i; front = front i; period = period i; room = room i })
+    λ i. record { row = row i; day = day i; spread = spread i; night = night i; mixed = mixed i; front = front i; period = period i; room = room i }
+
+exchange_is : (old goes comes new : Penalty) (r : Option Penalty)
+    → IfSome r (IsExchanged old goes comes) → IfNone r (CannotExchange old goes comes)
+    → IsExchanged old goes comes new → total_of new < 2 ^ 62 → r ≡ Some new
+exchange_is old goes comes new None made none is small =
+    absurd (let great = none new is in omega (arith, great, small))
+exchange_is old goes comes new (Some x) made none is small =
+    ap Some (exchanged_once old goes comes new x made is)
 
 -- so its result is the new penalty
 pub exchange_scores : (fold : Folded) (E : Enrolled) (pairs : List Pair) (sizes : List ℕ)

@@ -16,3 +16,4 @@ pub mod FoldLemmas
 pub mod TouchedLemmas
 pub mod ExchangeLemmas
 pub mod ConcernedLemmas
+pub mod RescoringLemmas

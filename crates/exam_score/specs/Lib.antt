@@ -22,3 +22,4 @@ pub mod Folds
 pub mod Touched
 pub mod Exchanges
 pub mod Concerned
+pub mod Rescoring
