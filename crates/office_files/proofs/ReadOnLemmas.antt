@@ -21,7 +21,7 @@ use Rattle.std.proofs.lemmas.List.FromFn.{get_or-range_with_len, length-range_wi
 use Rattle.exam_terms.specs.Texts.{is_blank, before_end, trim_end, trimmed}
 use Rattle.office_files.specs.Fields.{ended_parts, fields_of, first, rest}
 use Rattle.office_files.specs.Numbers.{read_on, is_number, at_most, number}
-use Rattle.office_files.specs.Digits.{Says, NoDigitAt, IsFront, few_digits, without_space}
+use Rattle.office_files.specs.Digits.{HasDigits, NoDigitAt, IsFront, few_digits, without_space}
 use Rattle.office_files.proofs.FieldLemmas.{parts_some}
 
 abbrev AllDigits : List ℕ → Type 0
@@ -103,7 +103,7 @@ digit_no_blank b e =
 -- one more digit at the front
 pub says-more : (text : List ℕ) (value count digit : ℕ) → count < length text →
     is_ascii_digit (get_or text count 0) ≡ true → digit ≡ get_or text count 0 - 48 →
-    Says text value count → Says text (10 * value + digit) (count + 1)
+    HasDigits text value count → HasDigits text (10 * value + digit) (count + 1)
 says-more text value count digit lt is same says =
     let range = digit_range (get_or text count 0) is in
     record {
@@ -114,8 +114,8 @@ says-more text value count digit lt is same says =
     }
 
 -- the digits at the front of a text's first bytes are those of the text
-pub says_front : (most : ℕ) (text : List ℕ) (value count : ℕ) → Says (take most text) value count →
-    Says text value count
+pub says_front : (most : ℕ) (text : List ℕ) (value count : ℕ) → HasDigits (take most text) value count →
+    HasDigits text value count
 says_front most text value count says =
     let least = length-take most text in
     let short : count ≤ most = omega arith in
@@ -221,7 +221,7 @@ written n (d ∷ ds) all =
 
 -- the digits at the front of a text say a number
 front_says : (text : List ℕ) (count : ℕ) → count ≤ digits_len text
-    → Says text (read_on 0 (take count text)) count
+    → HasDigits text (read_on 0 (take count text)) count
 front_says text zero le =
     record { within = omega arith; digits = refl; same = refl; small = omega arith }
 front_says text (suc i) le =
@@ -232,12 +232,12 @@ front_says text (suc i) le =
     (front_says text i (omega arith)) in
     let all : read_on 0 (take (i + 1) text)
     ≡ 10 * read_on 0 (take i text) + (get_or text i 0 - 48) = read_on-more 0 text i lt in
-    rw (← add-one i) (subst (λ n. Says text n (i + 1)) (sym all) more)
+    rw (← add-one i) (subst (λ n. HasDigits text n (i + 1)) (sym all) more)
 
 -- the value of the digits at the front of eight bytes
 pub eight_say : (text : List ℕ) (end value : ℕ) → length text ≤ 8 → end ≡ digits_len text
     → value ≡ digits_value 10 (take end text)
-    → Says text value end × NoDigitAt text end × (value < 100000000)
+    → HasDigits text value end × NoDigitAt text end × (value < 100000000)
 eight_say text end value few ends is =
     let within = prefix_len-le-length is_ascii_digit text in
     let says = front_says text end (omega (arith, ends)) in
@@ -245,7 +245,7 @@ eight_say text end value few ends is =
     pow-le-pow_right {n = 10} (omega arith) {i = end} {j = 8} (omega (arith, ends, within)) in
     let small = says.small in
     let same : value ≡ read_on 0 (take end text) = is ∙ written 0 (take end text) says.digits in (
-      subst (λ n. Says text n end) (sym same) says,
+      subst (λ n. HasDigits text n end) (sym same) says,
       λ lt. subst (λ k. is_ascii_digit (get_or text k 0) ≡ false) (sym ends)
           (prefix_len_stops is_ascii_digit text 0 (omega (arith, ends))),
       omega (arith, same, small, room),
@@ -253,7 +253,7 @@ eight_say text end value few ends is =
 
 -- fewer than eight digits at the front of eight bytes are those of the line
 pub few_front : (line : List ℕ) (value count : ℕ) → 8 < length line → count < 8
-    → Says (take 8 line) value count → NoDigitAt (take 8 line) count → IsFront line value count
+    → HasDigits (take 8 line) value count → NoDigitAt (take 8 line) count → IsFront line value count
 few_front line value count long less says whole =
     let size = length-take-le 8 line (omega arith) in
     record {
@@ -265,13 +265,13 @@ few_front line value count long less says whole =
 
 -- all of these bytes are digits
 eight_are : (line : List ℕ) (value count : ℕ) → 8 < length line → 8 ≤ count
-    → Says (take 8 line) value count → count ≡ 8
+    → HasDigits (take 8 line) value count → count ≡ 8
 eight_are line value count long most says =
     let within = says.within in omega (arith, length-take-le 8 line (omega arith))
 
 -- eight digits, and no ninth
 pub eight_front : (line : List ℕ) (value count : ℕ) → 8 < length line → 8 ≤ count
-    → Says (take 8 line) value count → is_ascii_digit (get_or line 8 0) ≡ false
+    → HasDigits (take 8 line) value count → is_ascii_digit (get_or line 8 0) ≡ false
     → IsFront line value count
 eight_front line value count long most says other =
     let eight = eight_are line value count long most says in
@@ -283,7 +283,7 @@ eight_front line value count long most says other =
 
 -- nine digits
 pub nine_front : (line : List ℕ) (value count digit : ℕ) → 8 < length line → 8 ≤ count
-    → Says (take 8 line) value count → is_ascii_digit (get_or line 8 0) ≡ true
+    → HasDigits (take 8 line) value count → is_ascii_digit (get_or line 8 0) ≡ true
     → digit ≡ get_or line 8 0 - 48 → IsFront line (10 * value + digit) (count + 1)
 nine_front line value count digit long most says is same =
     let eight = eight_are line value count long most says in

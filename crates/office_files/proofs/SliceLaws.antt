@@ -140,12 +140,12 @@ return_front (b ∷ []) =
 return_front (b ∷ c ∷ cs) = let f = return_front (c ∷ cs) in (f.0, ap (λ (xs : List ℕ). b ∷ xs) f.1)
 
 -- the facts about a located text
-pub record Stands (source : List ℕ) (s : Located) : Type 0 where
+pub record IsLocated (source : List ℕ) (s : Located) : Type 0 where
   pub lies : Lies source s.start s.text
   pub end : s.end ≡ s.start + length s.text
 
 located_stands : (source : List ℕ) (line : ℕ) (p : Piece) → Lies source p.start p.text →
-    Stands source (located line p)
+    IsLocated source (located line p)
 located_stands source line p l =
     let inner = lies_trim_start source p.start p.text l in
     let f = trim_end_front (trim_start p.text) in
@@ -155,11 +155,11 @@ located_stands source line p l =
       end = refl;
     }
 
-pub stands_slice : (source : List ℕ) (s : Located) → Stands source s → IsSliceOf source s
+pub stands_slice : (source : List ℕ) (s : Located) → IsLocated source s → IsSliceOf source s
 stands_slice source s st = lies_slice source s.line s.start s.end s.text st.end st.lies
 
 abbrev pub AllStand : List ℕ → List Located → Type 0
-AllStand source = AllByRecursion (Stands source)
+AllStand source = AllByRecursion (IsLocated source)
 
 rows_stand : (source : List ℕ) (line : ℕ) (ps : List Piece) → AllLie source ps →
     AllStand source (lines_from line ps)
@@ -184,7 +184,7 @@ fields_stand source line [] all = tt
 fields_stand source line (p ∷ ps) all =
     (located_stands source line p all.0, fields_stand source line ps all.1)
 
-tokens_in_stand : (source : List ℕ) (row : Located) → Stands source row →
+tokens_in_stand : (source : List ℕ) (row : Located) → IsLocated source row →
     AllStand source (tokens_in row)
 tokens_in_stand source row st =
     let fields = map (located row.line) (placed row.start (ended_parts 44 row.text)) in

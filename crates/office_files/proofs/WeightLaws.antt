@@ -16,7 +16,7 @@ use Rattle.office_files.specs.InstanceText.{InstanceText}
 use Rattle.office_files.specs.Lines.{Located, is_header, lines_of}
 use Rattle.office_files.specs.Numbers.{number}
 use Rattle.office_files.specs.Reading.{at_line, items_of}
-use Rattle.office_files.specs.SaidWeights.{last_section, field_after, begins_with, number_after, Says, Weighs}
+use Rattle.office_files.specs.WeightLines.{last_section, field_after, begins_with, number_after, HasAmount, Weighs}
 use Rattle.office_files.specs.Headers.{Heading}
 use Rattle.office_files.specs.Sections.{AtHeader, IsSection}
 use Rattle.office_files.specs.Weightings.{weight_word, has_word, weighting_by, weighting_line}
@@ -113,7 +113,7 @@ module _ (w : WeightWord) (place : ℕ) (get : Weights → ℕ) (is : IsWeight w
   says_behind : (before : List Weighting) (lines : List Located) (all : List Weighting)
       → list_any (has_word w) before ≡ false → weight before ≡ 0
       → items_of reads before lines ≡ Ok all
-      → Says lines (text_of w) (suc place) (weight all)
+      → HasAmount lines (text_of w) (suc place) (weight all)
   says_behind before [] all missing zero_yet read =
       let same : before ≡ all = cc in
       record {
@@ -258,7 +258,7 @@ is_night = record {
 module _ (counts : Counts) (lines : List Located) (ss : List Weighting)
     (read : items_of (weighting_line counts) [] lines ≡ Ok ss) where
   says : (w : WeightWord) (place : ℕ) (get : Weights → ℕ) → IsWeight w place get
-      → Says lines (text_of w) (suc place) (get (with_weightings no_weights ss))
+      → HasAmount lines (text_of w) (suc place) (get (with_weightings no_weights ss))
   says w place get is = says_behind w place get is counts [] lines ss refl is.none read
 
   section_weighs : Weighs lines (with_weightings no_weights ss)

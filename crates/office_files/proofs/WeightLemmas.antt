@@ -8,7 +8,7 @@ use Rattle.exam_terms.specs.Refusing.{◌>>=◌, unless}
 use Rattle.exam_model.specs.declared.parts.Weights.{Weights}
 use Rattle.office_files.specs.Fields.{first, rest, ended}
 use Rattle.office_files.specs.Numbers.{number}
-use Rattle.office_files.specs.SaidWeights.{field_after}
+use Rattle.office_files.specs.WeightLines.{field_after}
 use Rattle.office_files.specs.Weightings.{weight_word, has_word, amount_in, front_in, weighting_by}
 use Rattle.office_files.specs.Weightings.{weighting_line}
 use Rattle.office_files.specs.Weights.{with_weighting, with_weightings}

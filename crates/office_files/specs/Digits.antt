@@ -7,7 +7,7 @@ use Rattle.office_files.specs.Bytes.{space}
 use Rattle.office_files.specs.Numbers.{read_on, is_number}
 
 -- this many digits at the front of a text have that value
-pub record Says (text : List ℕ) (value count : ℕ) : Type 0 where
+pub record HasDigits (text : List ℕ) (value count : ℕ) : Type 0 where
   pub within : count ≤ length text
   pub digits : list_all is_ascii_digit (take count text) ≡ true
   pub same : read_on 0 (take count text) ≡ value
@@ -20,7 +20,7 @@ NoDigitAt text count = count < length text → is_ascii_digit (slice_index text 
 -- up to nine digits at the front of a line have that value, and if fewer than nine, no digit
 -- follows
 pub record IsFront (line : List ℕ) (value count : ℕ) : Type 0 where
-  pub says : Says line value count
+  pub says : HasDigits line value count
   pub few : count ≤ 9
   pub whole : count < 9 → NoDigitAt line count
 

@@ -20,7 +20,7 @@ pub mod Headers
 pub mod Sections
 pub mod Spelled
 pub mod InstanceText
-pub mod SaidWeights
+pub mod WeightLines
 pub mod SolutionText
 pub mod LineFaults
 pub mod FirstFault

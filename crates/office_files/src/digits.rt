@@ -1,7 +1,7 @@
 // Reading a field of few digits, the most frequent kind, in one pass over its bytes.
 ghost use Rattle.std.specs.Prelude.{◌≡◌, ◌≤◌, length, option_map, IfSome};
 ghost use Rattle.office_files.specs.Fields.{ended_parts, first, rest};
-ghost use Rattle.office_files.specs.Digits.{Says, NoDigitAt, IsFront, few_digits, without_space};
+ghost use Rattle.office_files.specs.Digits.{HasDigits, NoDigitAt, IsFront, few_digits, without_space};
 
 use crate::eight_digits::eight_digits;
 
@@ -68,7 +68,7 @@ fn front_digits(line: &[u8]) -> (u32, usize)
 #[inline(always)]
 fn digits(text: &[u8]) -> (u32, usize)
     requires { length text.now ≤ 8 }
-    ensures front { Says text.now result.0 result.1 }
+    ensures front { HasDigits text.now result.0 result.1 }
     ensures whole { NoDigitAt text.now result.1 }
 {
     let mut value: u32 = 0;

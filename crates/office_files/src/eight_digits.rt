@@ -6,13 +6,13 @@ ghost use Rattle.core.specs.Float.Numeral.{digits_len};
 ghost use Rattle.core.specs.Int.Digits.{number_from_digits};
 ghost use Rattle.core.specs.Slice.Scan.{digits_from, flag_word, little_endian};
 ghost use Rattle.core.specs.Str.Parse.{digits_value};
-ghost use Rattle.office_files.specs.Digits.{Says, NoDigitAt};
+ghost use Rattle.office_files.specs.Digits.{HasDigits, NoDigitAt};
 
 /// Returns the value of the digits at the front of the first eight bytes, and how many they are.
 #[inline(always)]
 pub(crate) fn eight_digits(text: &[u8]) -> (u32, usize)
     requires { 8 ≤ length text.now }
-    ensures front { Says (take 8 text.now) result.0 result.1 }
+    ensures front { HasDigits (take 8 text.now) result.0 result.1 }
     ensures whole { NoDigitAt (take 8 text.now) result.1 }
 {
     let (count, value) = up_to_eight(word_of_eight(text));

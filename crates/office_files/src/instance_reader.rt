@@ -24,7 +24,7 @@ use std::alloc::Global;
 
 // The values of the sections after that of the exams.
 #[derive(Drop)]
-struct Said {
+struct LaterSections {
     periods: Vec<Period>,
     rooms: Vec<Room>,
     period_rules: Vec<PeriodRule>,
@@ -94,7 +94,11 @@ fn exams_section(
 }
 
 // Reads the sections after that of the exams.
-fn later_sections(alloc: Global, sections: &mut Sections<'_>, exams: u32) -> Result<Said, FileFault>
+fn later_sections(
+    alloc: Global,
+    sections: &mut Sections<'_>,
+    exams: u32,
+) -> Result<LaterSections, FileFault>
     requires within { length sections.old.source.now ≤ INSTANCE_BYTES }
     ensures found { (exam_lines : List ExamLine) → length exam_lines ≡ exams → IfOk result (λ said.
         later_sections (line_count sections.old.source.now + 1) exam_lines sections.old.lines
@@ -133,7 +137,7 @@ fn later_sections(alloc: Global, sections: &mut Sections<'_>, exams: u32) -> Res
         counts,
     )?;
     sections.end()?;
-    Ok(Said {
+    Ok(LaterSections {
         periods,
         rooms,
         period_rules,
@@ -143,7 +147,7 @@ fn later_sections(alloc: Global, sections: &mut Sections<'_>, exams: u32) -> Res
 }
 
 // Returns the instance of the sections read, whose limits were judged line by line.
-fn instance_of(exams: Vec<Exam>, said: Said) -> Instance
+fn instance_of(exams: Vec<Exam>, said: LaterSections) -> Instance
     requires kept { IsInstance (record {
       exams = exams.items;
       periods = said.periods.items;
@@ -161,7 +165,7 @@ fn instance_of(exams: Vec<Exam>, said: Said) -> Instance
       weights = with_weightings no_weights said.weightings.items;
     } }
 {
-    let Said {
+    let LaterSections {
         periods,
         rooms,
         period_rules,

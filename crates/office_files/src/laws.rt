@@ -12,7 +12,7 @@ ghost use Rattle.office_files.specs.Reading.{fault_of};
 ghost use Rattle.office_files.specs.FirstFault.{first_fault, first_solution_fault};
 ghost use Rattle.office_files.specs.InstanceText.{InstanceText, instance_in};
 ghost use Rattle.office_files.specs.Lines.{Located, lines_of};
-ghost use Rattle.office_files.specs.SaidWeights.{Weighs, last_section};
+ghost use Rattle.office_files.specs.WeightLines.{Weighs, last_section};
 ghost use Rattle.office_files.specs.SolutionText.{SolutionText, solution_in};
 
 /// A text describes at most one instance, with one set of enrolments.

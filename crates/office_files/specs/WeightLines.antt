@@ -32,7 +32,7 @@ number_after before line = number MAX_AMOUNT (field_after before (fields_of line
 
 -- the number of a word in a section: at most one line begins with the word, and it has this number
 -- after that many fields; if no line begins with it, the number is 0
-pub record Says (section : List Located) (word : List ℕ) (before amount : ℕ) : Type 0 where
+pub record HasAmount (section : List Located) (word : List ℕ) (before amount : ℕ) : Type 0 where
   pub once : AllPairs (λ line other. begins_with word line ≡ true
       → begins_with word other ≡ false) section
   pub said : All (λ line. begins_with word line ≡ true
@@ -42,11 +42,11 @@ pub record Says (section : List Located) (word : List ℕ) (before amount : ℕ)
 -- each weight is the number after its word in the section; the word of the front load is followed
 -- by how many exams are large, how many periods are late, and their weight
 pub record Weighs (section : List Located) (w : Weights) : Type 0 where
-  pub row : Says section (codes "TWOINAROW") 1 w.row
-  pub day : Says section (codes "TWOINADAY") 1 w.day
-  pub spread : Says section (codes "PERIODSPREAD") 1 w.spread
-  pub mixed : Says section (codes "NONMIXEDDURATIONS") 1 w.mixed
-  pub front_exams : Says section (codes "FRONTLOAD") 1 w.front_exams
-  pub front_periods : Says section (codes "FRONTLOAD") 2 w.front_periods
-  pub front : Says section (codes "FRONTLOAD") 3 w.front
-  pub night : Says section (codes "OVERNIGHT") 1 w.night
+  pub row : HasAmount section (codes "TWOINAROW") 1 w.row
+  pub day : HasAmount section (codes "TWOINADAY") 1 w.day
+  pub spread : HasAmount section (codes "PERIODSPREAD") 1 w.spread
+  pub mixed : HasAmount section (codes "NONMIXEDDURATIONS") 1 w.mixed
+  pub front_exams : HasAmount section (codes "FRONTLOAD") 1 w.front_exams
+  pub front_periods : HasAmount section (codes "FRONTLOAD") 2 w.front_periods
+  pub front : HasAmount section (codes "FRONTLOAD") 3 w.front
+  pub night : HasAmount section (codes "OVERNIGHT") 1 w.night
