@@ -8,7 +8,7 @@ use Rattle.office_policy.specs.declared.callers.Caller.{Caller}
 use Rattle.office_policy.specs.declared.command.Body.TheVariants.{Given}
 use Rattle.office_policy.specs.declared.policy.Denial.{Denial}
 use Rattle.office_model.specs.Answers.{PlainAnswer, now_enrolled}
-use Rattle.office_model.specs.Batches.{batch_enrolled, changes_to, lines_if_new, kept_in}
+use Rattle.office_model.specs.Batches.{batch_enrolled, changes_to, lines_if_new, batch_of_number}
 use Rattle.office_model.specs.Commands.{CommandResult}
 use Rattle.office_model.specs.Loading.{loaded}
 use Rattle.office_model.specs.Office.{OfficeState}
@@ -61,7 +61,7 @@ one_batch : (s : ℕ) (old : OfficeState) (caller : Caller) (number : ℕ) (byte
     (if_allowed allowed old caller (batch number (Given bytes))).1)) old
     (if_allowed allowed old caller (batch number (Given bytes))).0
 one_batch s old caller number bytes (Ok done) =
-    batch_outcome s number old (lines_if_new (kept_in old number) (batch_in bytes))
+    batch_outcome s number old (lines_if_new (batch_of_number old number) (batch_in bytes))
     (batch_enrolled number bytes old) (batch_follows s number bytes old)
 one_batch s old caller number bytes (Err denial) = follows_self s old
 

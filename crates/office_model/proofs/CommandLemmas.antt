@@ -25,7 +25,7 @@ use Rattle.office_model.specs.Publishing.{publication_rows}
 use Rattle.office_model.specs.Commands.{named, records_or_refusal, owned}
 use Rattle.office_model.specs.DraftCommands.{draft_made, draft_dropped, draft_edited, is_draft_number, first_timetable}
 use Rattle.office_model.specs.BatchLines.{after_change, enrolled, counted, no_counts}
-use Rattle.office_model.specs.Batches.{changes_to, newly_enrolled, enrolled_by, batch_enrolled, lines_if_new, kept_in, batch_numbered, same_bytes}
+use Rattle.office_model.specs.Batches.{changes_to, newly_enrolled, enrolled_by, batch_enrolled, lines_if_new, batch_of_number, batch_numbered, same_bytes}
 
 -- a fact about a judgement's result, if each part before it allows it
 pub bind : {A B F : Type 0} (P : A → Type 0) (m : Result B F) (f : B → Result A F)
@@ -135,7 +135,7 @@ no_session P (Err fault) f = tt
 
 -- a batch that newly names only others doesn't change the candidate's view
 pub batch_keeps : (s number : ℕ) (bytes : List ℕ) (old : OfficeState)
-    → changes_to s (lines_if_new (kept_in old number) (batch_in bytes)) ≡ []
+    → changes_to s (lines_if_new (batch_of_number old number) (batch_in bytes)) ≡ []
     → IfOk (batch_enrolled number bytes old) (λ x. view_of s x.1 ≡ view_of s old)
 batch_keeps s number bytes None h =
     no_session _ (batch_in bytes)

@@ -16,7 +16,7 @@ use Rattle.office_model.specs.declared.fault.StoreFault.TheVariants.{TooMany, Re
 use Rattle.office_model.specs.declared.fault.Refusal.TheVariants as refusal
 use Rattle.office_model.specs.Commands.{named}
 use Rattle.office_model.specs.BatchLines.{after_change, after_changes, enrolled, counted, no_counts}
-use Rattle.office_model.specs.Batches.{changes_to, newly_enrolled, enrolled_by, batch_enrolled, lines_if_new, kept_in, batch_numbered, same_bytes}
+use Rattle.office_model.specs.Batches.{changes_to, newly_enrolled, enrolled_by, batch_enrolled, lines_if_new, batch_of_number, batch_numbered, same_bytes}
 use Rattle.office_model.specs.Office.{OfficeState, Records, KeptBatch}
 use Rattle.office_model.specs.Publishing.{publication_rows}
 use Rattle.office_model.specs.Views.{view_of, view_from}
@@ -97,7 +97,7 @@ kept_follows s number bytes r (Some kept) (Ok changes) =
 -- an accepted batch follows its new lines
 pub batch_follows : (s number : ℕ) (bytes : List ℕ) (old : OfficeState)
     → IfOk (batch_enrolled number bytes old)
-    (λ x. FollowsIn s (changes_to s (lines_if_new (kept_in old number) (batch_in bytes))) old x.1)
+    (λ x. FollowsIn s (changes_to s (lines_if_new (batch_of_number old number) (batch_in bytes))) old x.1)
 batch_follows s number bytes None =
     no_session _ (batch_in bytes)
     (λ changes r. enrolled_by (batch_numbered number r.batches) number bytes changes r)

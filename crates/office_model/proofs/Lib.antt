@@ -7,5 +7,5 @@ pub mod QuietLemmas
 pub mod SameLemmas
 pub mod FollowLemmas
 pub mod ChangeLemmas
-pub mod ToldLemmas
+pub mod AnswerLemmas
 mod ViewLemmas

@@ -6,7 +6,7 @@ use Rattle.office_policy.specs.Commands.{PlainCommand, load, publish, batch}
 use Rattle.office_policy.specs.declared.callers.Caller.{Caller}
 use Rattle.office_policy.specs.declared.command.Body.TheVariants.{Given}
 use Rattle.office_model.specs.Answers.{PlainAnswer, now_enrolled}
-use Rattle.office_model.specs.Batches.{batch_enrolled, changes_to, lines_if_new, kept_in}
+use Rattle.office_model.specs.Batches.{batch_enrolled, changes_to, lines_if_new, batch_of_number}
 use Rattle.office_model.specs.Commands.{CommandResult}
 use Rattle.office_model.specs.Loading.{loaded}
 use Rattle.office_model.specs.Office.{OfficeState}
@@ -33,7 +33,7 @@ kept s old (batch number (Given bytes)) =
     go (batch_enrolled number bytes old) (λ h. batch_keeps s number bytes old h)
   where
     go : (g : CommandResult Counts)
-        → (changes_to s (lines_if_new (kept_in old number) (batch_in bytes)) ≡ []
+        → (changes_to s (lines_if_new (batch_of_number old number) (batch_in bytes)) ≡ []
         → IfOk g (λ x. view_of s x.1 ≡ view_of s old))
         → IfOk g (λ x. IsQuiet s old (batch number (Given bytes)) (now_enrolled number x.0)
         → view_of s x.1 ≡ view_of s old)

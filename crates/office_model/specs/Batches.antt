@@ -71,6 +71,6 @@ lines_if_new None (Err fault) = []
 lines_if_new (Some kept) read = []
 
 -- the batch that an office keeps under a number
-abbrev pub kept_in : OfficeState → ℕ → Option KeptBatch
-kept_in None number = None
-kept_in (Some r) number = batch_numbered number r.batches
+abbrev pub batch_of_number : OfficeState → ℕ → Option KeptBatch
+batch_of_number None number = None
+batch_of_number (Some r) number = batch_numbered number r.batches

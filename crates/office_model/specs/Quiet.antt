@@ -5,7 +5,7 @@ use Rattle.office_batches.specs.BatchText.{batch_in}
 use Rattle.office_policy.specs.Commands.{PlainCommand, batch}
 use Rattle.office_policy.specs.declared.command.Body.TheVariants.{Given}
 use Rattle.office_model.specs.Answers.{PlainAnswer, now_loaded, now_published, now_enrolled}
-use Rattle.office_model.specs.Batches.{changes_to, kept_in, lines_if_new}
+use Rattle.office_model.specs.Batches.{changes_to, batch_of_number, lines_if_new}
 use Rattle.office_model.specs.Office.{OfficeState}
 
 -- an accepted load, publication or batch, by its answer
@@ -25,7 +25,7 @@ is_batch _ = false
 
 -- the changes that a command would newly make: those of a batch whose number isn't kept
 abbrev pub command_changes : OfficeState → PlainCommand → List Change
-command_changes old (batch number (Given bytes)) = lines_if_new (kept_in old number)
+command_changes old (batch number (Given bytes)) = lines_if_new (batch_of_number old number)
     (batch_in bytes)
 command_changes old _ = []
 

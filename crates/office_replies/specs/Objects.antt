@@ -2,8 +2,8 @@
 use Rattle.std.specs.Prelude.{ℕ, ◌≤◌, ◌++◌, List, length, codes, decimal}
 use Rattle.std.specs.List.{flat_map}
 use Rattle.office_replies.specs.declared.objects.Member.{Member}
-use Rattle.office_replies.specs.declared.objects.Says.{Says}
-use Rattle.office_replies.specs.declared.objects.Says.TheVariants.{Number, Word}
+use Rattle.office_replies.specs.declared.objects.Value.{Value}
+use Rattle.office_replies.specs.declared.objects.Value.TheVariants.{Number, Word}
 use Rattle.office_replies.specs.declared.objects.TheConstants.{WORD_BYTES}
 
 -- a key, and the text of its value
@@ -39,7 +39,7 @@ object_text first others =
 -- ---- as the program holds them
 
 -- a member's value, as text
-abbrev pub value_text : Says → List ℕ
+abbrev pub value_text : Value → List ℕ
 value_text (Number n) = decimal n
 value_text (Word w) = quoted w.now
 
@@ -48,7 +48,7 @@ abbrev pub plain_member : Member → PlainMember
 plain_member m = record { key = m.key.now; says = value_text m.says }
 
 -- a short word
-abbrev pub IsShortValue : Says → Type 0
+abbrev pub IsShortValue : Value → Type 0
 IsShortValue (Number n) = Unit {0}
 IsShortValue (Word w) = length w.now ≤ WORD_BYTES
 

@@ -24,12 +24,12 @@ const MEMBER_BYTES: usize = 45;
 #[derive(Clone, Copy)]
 pub(crate) struct Member {
     pub(crate) key: &'static [u8],
-    pub(crate) says: Says,
+    pub(crate) says: Value,
 }
 
 /// The value of a member. A word has no character that JSON escapes.
 #[derive(Clone, Copy)]
-pub(crate) enum Says {
+pub(crate) enum Value {
     Number(u64),
     Word(&'static [u8]),
 }
@@ -43,21 +43,21 @@ pub fn reply_room(alloc: Global) -> Result<Vec<u8>, AllocError>
 
 // Returns a member whose value is a number.
 pub(crate) fn number(key: &'static [u8], number: u64) -> Member
-    ensures { result ≡ record { key = key.entry; says = Says.Number number } }
+    ensures { result ≡ record { key = key.entry; says = Value.Number number } }
 {
     Member {
         key,
-        says: Says::Number(number),
+        says: Value::Number(number),
     }
 }
 
 // Returns a member whose value is a word.
 pub(crate) fn word(key: &'static [u8], word: &'static [u8]) -> Member
-    ensures { result ≡ record { key = key.entry; says = Says.Word word.entry } }
+    ensures { result ≡ record { key = key.entry; says = Value.Word word.entry } }
 {
     Member {
         key,
-        says: Says::Word(word),
+        says: Value::Word(word),
     }
 }
 
@@ -115,7 +115,7 @@ fn put_member(room: &mut Vec<u8>, member: Member)
 }
 
 // Adds a member's value, for which there is room.
-fn put_value(room: &mut Vec<u8>, says: Says)
+fn put_value(room: &mut Vec<u8>, says: Value)
     requires short { IsShortValue says }
     requires room { vec_len room.old + SAID_BYTES ≤ vec_capacity room.old }
     ensures text { room.new.items ≡ room.old.items ++ value_text says }
@@ -123,8 +123,8 @@ fn put_value(room: &mut Vec<u8>, says: Says)
     ensures room { vec_capacity room.old ≤ vec_capacity room.new }
 {
     match says {
-        Says::Number(number) => put_number(room, number),
-        Says::Word(word) => put_word(room, word),
+        Value::Number(number) => put_number(room, number),
+        Value::Word(word) => put_word(room, word),
     }
 }
 

@@ -1,4 +1,4 @@
-use Rattle.office_model.proofs.ToldLemmas.{shown_stays}
+use Rattle.office_model.proofs.AnswerLemmas.{shown_stays}
 use Rattle.office_model.proofs.laws.shown_changes_nothing.Goals as goal
 
 pub returns : goal.returns
