@@ -14,7 +14,7 @@ use Rattle.office_requests.proofs.Plain.{FindsNone, EndsSegment, ArePlain}
 use Rattle.office_requests.proofs.SeekLemmas.{AreTails, has_more, param_at, param_found, param_lost}
 use Rattle.office_requests.proofs.SeekLemmas.{param_last, param_slash, seek_end, seek_is, no_rest}
 
-flip : (x : Bool) → not x ≡ true → x ≡ false
+pub flip : (x : Bool) → not x ≡ true → x ≡ false
 flip true h = cc
 flip false h = refl
 

@@ -50,7 +50,7 @@ number_is n (b ∷ bs) is =
     rw (few, all_digits (b ∷ bs) is.digits) (ap (λ (m : ℕ). Some m) is.value)
 
 -- none of the bytes is a slash
-abbrev NoSlash : List ℕ → Type 0
+abbrev pub NoSlash : List ℕ → Type 0
 NoSlash ds = AllByRecursion (λ b. (b == 47) ≡ false) ds
 
 without_slash : (ds : List ℕ) → AllDigits 10 ds → NoSlash ds
@@ -80,7 +80,8 @@ first_is [] [] bare ends = refl
 first_is [] (b ∷ rest) bare ends = rw ends refl
 first_is (b ∷ bs) rest bare ends = rw bare.0 (ap (λ l. b ∷ l) (first_is bs rest bare.1 ends))
 
-behind_is : (ds rest : List ℕ) → NoSlash ds
+-- after a slash comes the rest
+pub behind_is : (ds rest : List ℕ) → NoSlash ds
     → rest_after_slash (ds ++ slash ∷ rest) ≡ rest
 behind_is [] rest bare = refl
 behind_is (b ∷ bs) rest bare = rw bare.0 (behind_is bs rest bare.1)
@@ -100,9 +101,6 @@ number_here n rest small ends =
     ap number_of (first_is (decimal n) rest (without_slash (decimal n) is.digits) ends)
     ∙ number_is n (decimal n) is
 
--- the rest of the path follows it
-pub behind_number : (n : ℕ) (rest : List ℕ) → IsSmall n
-    → rest_after_slash (decimal n ++ slash ∷ rest) ≡ rest
-behind_number n rest small =
-    let is = writes n small in
-    behind_is (decimal n) rest (without_slash (decimal n) is.digits)
+-- a number has no slash
+pub bare_number : (n : ℕ) → IsSmall n → NoSlash (decimal n)
+bare_number n small = without_slash (decimal n) (writes n small).digits

@@ -1,30 +1,28 @@
 -- A command's method and path, printed, are read back as the command.
-use Rattle.std.proofs.Common.{◌≡◌, ℕ, ◌<◌, true, List, [], ◌∷◌, ◌++◌, length, get_or, Option, Some}
-use Rattle.std.proofs.Common.{suc, zero, Ok, refl, sym, ap, ◌∙◌, inl, inr, arith}
-use Rattle.std.specs.Prelude.{codes, decimal, option_map, option_and_then}
+use Rattle.std.proofs.Common.{◌≡◌, ℕ, Bool, true, false, ◌&&◌, ◌==◌, not, List, [], ◌∷◌, ◌++◌}
+use Rattle.std.proofs.Common.{Option, Some, Ok}
+use Rattle.std.proofs.Common.{refl, sym, ap, ◌∙◌, inl, inr}
+use Rattle.std.specs.Prelude.{decimal, option_map}
+use Rattle.std.specs.List.{list_all}
+use Rattle.std.proofs.lemmas.Bool.{eq-eqb}
 use Rattle.matchit.specs.Rows.{param_token}
 use Rattle.matchit.specs.Seek.{slash}
 use Rattle.exam_terms.specs.declared.place.Place.{Place}
 use Rattle.office_policy.specs.Numbers.{IsSmall}
 use Rattle.office_policy.specs.Commands.{PlainCommand, HasSmallNumbers}
-use Rattle.office_policy.specs.Commands.{me, my_exam, my_penalty, load, instance}
-use Rattle.office_policy.specs.Commands.{set_owner, new_draft, draft, draft_penalty}
-use Rattle.office_policy.specs.Commands.{draft_violations, drop_draft, place, move, clear, swap}
-use Rattle.office_policy.specs.Commands.{publish, publication, publication_penalty}
-use Rattle.office_policy.specs.Commands.{publication_rooms, publication_seats, batch}
-use Rattle.office_policy.specs.Numbers.{number_of}
+use Rattle.office_policy.specs.Commands.{me, my_exam, my_penalty, load, set_owner, new_draft, draft}
+use Rattle.office_policy.specs.Commands.{draft_penalty, draft_violations, drop_draft, place, move}
+use Rattle.office_policy.specs.Commands.{clear, swap, publish, batch}
 use Rattle.office_policy.specs.declared.callers.Caller.{Caller}
 use Rattle.office_policy.specs.declared.callers.Caller.TheVariants.{Office, Dept, Cand}
 use Rattle.office_policy.specs.declared.command.Body.{Body}
-use Rattle.office_requests.specs.Bodies.{dept_body, place_body, text_body}
-use Rattle.office_requests.specs.ByMethod.{by_get, by_put, by_post, by_delete, of_instance}
-use Rattle.office_requests.specs.ByMethod.{of_draft, with_two}
-use Rattle.office_requests.specs.Commands.{page_commands}
+use Rattle.office_requests.specs.Commands.{command_of}
 use Rattle.office_requests.specs.Methods.{verb_of}
+use Rattle.office_requests.specs.Pages.{Part, word, number, parts_of, pattern_of}
 use Rattle.office_requests.specs.Pages.{IsIn, pages, page_of}
-use Rattle.office_requests.specs.Paths.{first_segment, rest_after_slash}
+use Rattle.office_requests.specs.Paths.{numbers_in, three, numbers_of}
 use Rattle.office_requests.specs.Patterns.{takes}
-use Rattle.office_requests.specs.Printing.{path_of, method_of}
+use Rattle.office_requests.specs.Printing.{row_of, path_with, path_of, method_of}
 use Rattle.office_requests.specs.PrintedBodies.{BodyHasValue, MaySendCommand}
 use Rattle.office_requests.specs.Requests.{caller_in, own_page_command, candidate_command, staff_command}
 use Rattle.office_requests.specs.Requests.{command_by, reading}
@@ -32,247 +30,184 @@ use Rattle.office_requests.specs.declared.methods.Verb.{Verb}
 use Rattle.office_requests.specs.declared.methods.Verb.TheVariants.{Get}
 use Rattle.office_requests.specs.declared.pages.Page.{Page}
 use Rattle.office_requests.specs.declared.pages.Page.TheVariants as page
+use Rattle.office_requests.proofs.FindLemmas.{flip, both}
 use Rattle.office_requests.proofs.Plain.{EndsSegment}
 use Rattle.office_requests.proofs.PageLemmas.{page_some}
-use Rattle.office_requests.proofs.PrintLemmas.{takes_number, number_here, behind_number}
+use Rattle.office_requests.proofs.PrintLemmas.{NoSlash, takes_number, number_here, behind_is, bare_number}
 
--- ---- pages
+-- ---- words in paths
 
-abbrev row_at : List (List ℕ × Page) → ℕ → List ℕ × Page
-row_at rows i = get_or rows i ([], page.Me)
+-- the bytes of a word are neither slashes nor numbers of a pattern
+abbrev is_word : List ℕ → Bool
+is_word w = list_all (λ b. not (b == slash) && not (b == param_token)) w
 
-in_rows : (rows : List (List ℕ × Page)) (i : ℕ) → i < length rows
-    → IsIn (row_at rows i).0 (row_at rows i).1 rows
-in_rows [] i inside = absurd (omega arith)
-in_rows (row ∷ rows) zero inside = inl (refl, refl)
-in_rows (row ∷ rows) (suc i) inside = inr (in_rows rows i (omega arith))
+abbrev are_words : List Part → Bool
+are_words [] = true
+are_words (word w ∷ parts) = is_word w && are_words parts
+are_words (number ∷ parts) = are_words parts
 
--- a path that the pattern of the page takes is the page's
-page_is : (i : ℕ) (path : List ℕ) → i < 18 → takes (row_at pages i).0 path ≡ true
-    → page_of path ≡ Some (row_at pages i).1
-page_is i path inside matches_path =
-    sym (page_some path (row_at pages i).1 record {
-      pattern = (row_at pages i).0;
-      is_in = in_rows pages i inside;
-      matches_path = matches_path;
-    })
+bare_word : (w : List ℕ) → is_word w ≡ true → NoSlash w
+bare_word [] is = tt
+bare_word (b ∷ w) is =
+    let parts = both _ _ is in
+    (flip (b == slash) (both _ _ parts.0).0, bare_word w parts.1)
 
-abbrev Asks : Type 0
-Asks = Verb → Option PlainCommand
-
--- the commands of methods on a path of a page
-record Offers (path body : List ℕ) (p : Page) (asks : Asks) : Type 0 where
-  page_there : page_of path ≡ Some p
-  asks_there : page_commands p path body ≡ Some asks
-
-offers : (i : ℕ) (path body : List ℕ) (asks : Asks) → i < 18
-    → takes (row_at pages i).0 path ≡ true → page_commands (row_at pages i).1 path body ≡ Some asks
-    → Offers path body (row_at pages i).1 asks
-offers i path body asks inside matches_path there =
-    record { page_there = page_is i path inside matches_path; asks_there = there }
-
-one_number : (made : ℕ → Asks) (x : Option ℕ) (n : ℕ) → x ≡ Some n
-    → option_map (λ n. made n) x ≡ Some (made n)
-one_number made x n e = rw e refl
-
-two_numbers : (made : ℕ → ℕ → Asks) (x y : Option ℕ) (d e : ℕ) → x ≡ Some d → y ≡ Some e
-    → option_and_then (λ d. option_map (λ e. made d e) y) x ≡ Some (made d e)
-two_numbers made x y d e is also = rw (is, also) refl
-
-three_numbers : (made : ℕ → ℕ → ℕ → Asks) (x y z : Option ℕ) (d a b : ℕ) → x ≡ Some d
-    → y ≡ Some a → z ≡ Some b
-    → option_and_then (λ d. option_and_then (λ a. option_map (λ b. made d a b) z) y) x
-    ≡ Some (made d a b)
-three_numbers made x y z d a b is also last = rw (is, also, last) refl
+takes_word : (w pattern path : List ℕ) → is_word w ≡ true
+    → takes (w ++ pattern) (w ++ path) ≡ takes pattern path
+takes_word [] pattern path is = refl
+takes_word (b ∷ w) pattern path is =
+    let parts = both _ _ is in
+    let other : (b == param_token) ≡ false = flip (b == param_token) (both _ _ parts.0).1 in
+    rw (other, eq-eqb b b refl)
+    (takes_word w pattern path parts.1)
 
 -- ---- paths with numbers
 
-module _ (n : ℕ) (small : IsSmall n) where
-  one_takes : (tail : List ℕ) → EndsSegment tail
-      → takes (param_token ∷ tail) (decimal n ++ tail) ≡ takes tail tail
-  one_takes tail ends = takes_number n tail tail small ends
+-- as many numbers as the path has, each of them small
+abbrev Fills : List Part → List ℕ → Type 0
+Fills [] [] = Unit {0}
+Fills [] (n ∷ ns) = ⊥
+Fills (word w ∷ parts) ns = Fills parts ns
+Fills (number ∷ parts) [] = ⊥
+Fills (number ∷ parts) (n ∷ ns) = IsSmall n × Fills parts ns
 
-  one_is : (made : ℕ → Asks) (tail : List ℕ) → EndsSegment tail
-      → option_map (λ n. made n) (number_of (first_segment (decimal n ++ tail)))
-      ≡ Some (made n)
-  one_is made tail ends = one_number made _ n (number_here n tail small ends)
+ends : (parts : List Part) (ns : List ℕ) → EndsSegment (path_with parts ns)
+ends [] ns = tt
+ends (word w ∷ parts) ns = refl
+ends (number ∷ parts) [] = tt
+ends (number ∷ parts) (n ∷ ns) = refl
 
-module _ (d e : ℕ) (small : IsSmall d) (also : IsSmall e) where
-  slot_takes : (tail : List ℕ) → EndsSegment tail
-      → takes (param_token ∷ codes "/exams/" ++ param_token ∷ tail)
-      (decimal d ++ (codes "/exams/" ++ (decimal e ++ tail))) ≡ takes tail tail
-  slot_takes tail ends =
-      takes_number d (codes "/exams/" ++ param_token ∷ tail)
-      (codes "/exams/" ++ (decimal e ++ tail)) small refl ∙ takes_number e tail tail also ends
+-- the pattern takes the path
+takes_path : (parts : List Part) (ns : List ℕ) → are_words parts ≡ true → Fills parts ns
+    → takes (pattern_of parts) (path_with parts ns) ≡ true
+takes_path [] [] words fills = refl
+takes_path [] (n ∷ ns) words fills = absurd fills
+takes_path (word w ∷ parts) ns words fills =
+    let is = both (is_word w) (are_words parts) words in
+    takes_word w (pattern_of parts) (path_with parts ns) is.0 ∙ takes_path parts ns is.1 fills
+takes_path (number ∷ parts) [] words fills = absurd fills
+takes_path (number ∷ parts) (n ∷ ns) words fills =
+    takes_number n (pattern_of parts) (path_with parts ns) fills.0 (ends parts ns)
+    ∙ takes_path parts ns words fills.1
 
-  slot_is : (made : ℕ → ℕ → Asks) (tail : List ℕ) → EndsSegment tail
-      → with_two made (codes "/drafts/" ++ (decimal d ++ (codes "/exams/" ++ (decimal e ++ tail))))
-      ≡ Some (made d e)
-  slot_is made tail ends =
-      two_numbers made _ _ d e
-      (number_here d (codes "/exams/" ++ (decimal e ++ tail)) small refl)
-      (ap (λ (l : List ℕ). number_of (first_segment (rest_after_slash l)))
-      (behind_number d (codes "exams/" ++ (decimal e ++ tail)) small)
-      ∙ number_here e tail also ends)
+-- the numbers are read back, after bytes without a slash
+numbers_back : (parts : List Part) (ns front : List ℕ) → are_words parts ≡ true → Fills parts ns
+    → NoSlash front → numbers_in parts (front ++ path_with parts ns) ≡ Some ns
+numbers_back [] [] front words fills bare = refl
+numbers_back [] (n ∷ ns) front words fills bare = absurd fills
+numbers_back (word w ∷ parts) ns front words fills bare =
+    let is = both (is_word w) (are_words parts) words in
+    ap (numbers_in parts) (behind_is front (w ++ path_with parts ns) bare)
+    ∙ numbers_back parts ns w is.1 fills (bare_word w is.0)
+numbers_back (number ∷ parts) [] front words fills bare = absurd fills
+numbers_back (number ∷ parts) (n ∷ ns) front words fills bare =
+    rw (
+      behind_is front (decimal n ++ path_with parts ns) bare,
+      number_here n (path_with parts ns) fills.0 (ends parts ns),
+      numbers_back parts ns (decimal n) words fills.1 (bare_number n fills.0),
+    ) refl
 
-module _ (d a b : ℕ) (small : IsSmall d) (also : IsSmall a) (last : IsSmall b) where
-  swap_there : (body : List ℕ)
-      → Offers (path_of (swap d a b)) body page.Swap (by_post (swap d a b))
-  swap_there body =
-      let pair = decimal a ++ (slash ∷ (decimal b ++ [])) in
-      offers 6 _ body _ (omega arith)
-      (takes_number d (codes "/swap/" ++ param_token ∷ slash ∷ param_token ∷ [])
-      (codes "/swap/" ++ pair) small refl
-      ∙ takes_number a (slash ∷ param_token ∷ []) (slash ∷ (decimal b ++ [])) also refl
-      ∙ takes_number b [] [] last tt)
-      (three_numbers (λ d a b. by_post (swap d a b)) _ _ _ d a b
-      (number_here d (codes "/swap/" ++ pair) small refl)
-      (ap (λ (l : List ℕ). number_of (first_segment (rest_after_slash l)))
-      (behind_number d (codes "swap/" ++ pair) small)
-      ∙ number_here a (slash ∷ (decimal b ++ [])) also refl)
-      (ap (λ (l : List ℕ). number_of (first_segment (rest_after_slash (rest_after_slash l))))
-      (behind_number d (codes "swap/" ++ pair) small)
-      ∙ ap (λ (l : List ℕ). number_of (first_segment l)) (behind_number a (decimal b ++ []) also)
-      ∙ number_here b [] last tt))
+-- ---- pages
 
--- ---- the commands on each path
+-- the words of each page's path are words
+words_of : (p : Page) → are_words (parts_of p) ≡ true
+words_of page.Me = refl
+words_of _ = refl
 
--- the page of a command
-abbrev page_for : PlainCommand → Page
-page_for me = page.Me
-page_for (my_exam e) = page.MyExam
-page_for my_penalty = page.MyPenalty
-page_for (load text) = page.Instance
-page_for instance = page.Instance
-page_for (set_owner e dept) = page.Owner
-page_for (new_draft d text) = page.Draft
-page_for (draft d) = page.Draft
-page_for (draft_penalty d) = page.DraftPenalty
-page_for (draft_violations d) = page.DraftViolations
-page_for (drop_draft d) = page.Draft
-page_for (place d e at) = page.Place
-page_for (move d e to) = page.Move
-page_for (clear d e) = page.Slot
-page_for (swap d a b) = page.Swap
-page_for (publish d) = page.Publish
-page_for publication = page.Publication
-page_for publication_penalty = page.PublicationPenalty
-page_for publication_rooms = page.PublicationRooms
-page_for publication_seats = page.PublicationSeats
-page_for (batch n text) = page.Batch
+-- a row is the same as itself
+same_row : (t : List ℕ) (p : Page) → (t ≡ t) × (p ≡ p)
+same_row t p = (refl, refl)
 
--- the commands of the methods of its page
-abbrev offer : PlainCommand → List ℕ → Asks
-offer (load text) body = of_instance body
-offer instance body = of_instance body
-offer (set_owner e dept) body = by_put (set_owner e (dept_body body))
-offer (new_draft d text) body = of_draft d body
-offer (draft d) body = of_draft d body
-offer (drop_draft d) body = of_draft d body
-offer (place d e at) body = by_post (place d e (place_body body))
-offer (move d e to) body = by_post (move d e (place_body body))
-offer (clear d e) body = by_delete (clear d e)
-offer (swap d a b) body = by_post (swap d a b)
-offer (publish d) body = by_post (publish d)
-offer (batch n text) body = by_put (batch n (text_body body))
-offer c body = by_get c
+-- each page is among the pages
+in_pages : (p : Page) → IsIn (pattern_of (parts_of p)) p pages
+in_pages page.Me = search (inl, inr, same_row) depth 60 fits 4000
+in_pages _ = search (inl, inr, same_row) depth 60 fits 4000
 
-abbrev IsOffered : PlainCommand → List ℕ → Type 0
-IsOffered c body = Offers (path_of c) body (page_for c) (offer c body)
+-- a path that the pattern of the page takes is the page's
+page_is : (p : Page) (path : List ℕ) → takes (pattern_of (parts_of p)) path ≡ true
+    → page_of path ≡ Some p
+page_is p path matches_path =
+    sym (page_some path p record {
+      pattern = pattern_of (parts_of p);
+      is_in = in_pages p;
+      matches_path = matches_path;
+    })
 
-draft_there : (d : ℕ) (body : List ℕ) → IsSmall d
-    → Offers (path_of (draft d)) body page.Draft (of_draft d body)
-draft_there d body small =
-    offers 8 _ body _ (omega arith) (one_takes d small [] tt)
-    (one_is d small (λ d. of_draft d body) [] tt)
+-- ---- commands
 
-offered : (c : PlainCommand) (body : List ℕ) → HasSmallNumbers c → IsOffered c body
-offered me body small = offers 13 _ body _ (omega arith) refl refl
-offered (my_exam e) body small =
-    offers 11 _ body _ (omega arith) (one_takes e small [] tt)
-    (one_is e small (λ e. by_get (my_exam e)) [] tt)
-offered my_penalty body small = offers 12 _ body _ (omega arith) refl refl
-offered (load text) body small = offers 10 _ body _ (omega arith) refl refl
-offered instance body small = offers 10 _ body _ (omega arith) refl refl
-offered (set_owner e dept) body small =
-    offers 9 _ body _ (omega arith) (one_takes e small.0 (codes "/owner") refl)
-    (one_is e small.0 (λ e. by_put (set_owner e (dept_body body))) (codes "/owner") refl)
-offered (new_draft d text) body small = draft_there d body small
-offered (draft d) body small = draft_there d body small
-offered (draft_penalty d) body small =
-    offers 4 _ body _ (omega arith) (one_takes d small (codes "/penalty") refl)
-    (one_is d small (λ d. by_get (draft_penalty d)) (codes "/penalty") refl)
-offered (draft_violations d) body small =
-    offers 7 _ body _ (omega arith) (one_takes d small (codes "/violations") refl)
-    (one_is d small (λ d. by_get (draft_violations d)) (codes "/violations") refl)
-offered (drop_draft d) body small = draft_there d body small
-offered (place d e at) body small =
-    offers 2 _ body _ (omega arith) (slot_takes d e small.0 small.1 (codes "/place") refl)
-    (slot_is d e small.0 small.1 (λ d e. by_post (place d e (place_body body))) (codes "/place")
-    refl)
-offered (move d e to) body small =
-    offers 1 _ body _ (omega arith) (slot_takes d e small.0 small.1 (codes "/move") refl)
-    (slot_is d e small.0 small.1 (λ d e. by_post (move d e (place_body body))) (codes "/move")
-    refl)
-offered (clear d e) body small =
-    offers 3 _ body _ (omega arith) (slot_takes d e small.0 small.1 [] tt)
-    (slot_is d e small.0 small.1 (λ d e. by_delete (clear d e)) [] tt)
-offered (swap d a b) body small = swap_there d a b small.0 small.1 small.2 body
-offered (publish d) body small =
-    offers 5 _ body _ (omega arith) (one_takes d small (codes "/publish") refl)
-    (one_is d small (λ d. by_post (publish d)) (codes "/publish") refl)
-offered publication body small = offers 17 _ body _ (omega arith) refl refl
-offered publication_penalty body small = offers 14 _ body _ (omega arith) refl refl
-offered publication_rooms body small = offers 15 _ body _ (omega arith) refl refl
-offered publication_seats body small = offers 16 _ body _ (omega arith) refl refl
-offered (batch n text) body small =
-    offers 0 _ body _ (omega arith) (one_takes n small [] tt)
-    (one_is n small (λ n. by_put (batch n (text_body body))) [] tt)
+-- the path of the command has all of its numbers
+filled : (c : PlainCommand) → HasSmallNumbers c → Fills (parts_of (row_of c).1) (row_of c).2
+filled (my_exam e) small = (small, tt)
+filled (set_owner e dept) small = (small.0, tt)
+filled (new_draft d text) small = (small, tt)
+filled (draft d) small = (small, tt)
+filled (draft_penalty d) small = (small, tt)
+filled (draft_violations d) small = (small, tt)
+filled (drop_draft d) small = (small, tt)
+filled (place d e at) small = (small.0, (small.1, tt))
+filled (move d e to) small = (small.0, (small.1, tt))
+filled (clear d e) small = (small.0, (small.1, tt))
+filled (swap d a b) small = (small.0, (small.1, (small.2, tt)))
+filled (publish d) small = (small, tt)
+filled (batch n text) small = (small, tt)
+filled _ small = tt
+
+page_there : (c : PlainCommand) → HasSmallNumbers c → page_of (path_of c) ≡ Some (row_of c).1
+page_there c small =
+    page_is (row_of c).1 (path_of c)
+    (takes_path (parts_of (row_of c).1) (row_of c).2 (words_of (row_of c).1) (filled c small))
+
+numbers_there : (c : PlainCommand) → HasSmallNumbers c
+    → numbers_of (row_of c).1 (path_of c) ≡ Some (three (row_of c).2)
+numbers_there c small =
+    ap (option_map three) (numbers_back (parts_of (row_of c).1) (row_of c).2 []
+    (words_of (row_of c).1) (filled c small) tt)
+
+-- the table has the command itself
+in_table : (c : PlainCommand) (body : List ℕ) → BodyHasValue body c
+    → command_of (verb_of (method_of c)) (row_of c).1 (three (row_of c).2) body ≡ Some c
+in_table (load text) body says = ap (λ (b : Body (List ℕ)). Some (load b)) says
+in_table (set_owner e dept) body says = ap (λ (b : Body ℕ). Some (set_owner e b)) says
+in_table (new_draft d text) body says = ap (λ (b : Body (List ℕ)). Some (new_draft d b)) says
+in_table (place d e at) body says = ap (λ (b : Body Place). Some (place d e b)) says
+in_table (move d e to) body says = ap (λ (b : Body Place). Some (move d e b)) says
+in_table (batch n text) body says = ap (λ (b : Body (List ℕ)). Some (batch n b)) says
+in_table _ body says = refl
 
 -- ---- requests
 
--- its method has the command itself
-is_asked : (c : PlainCommand) (body : List ℕ) → BodyHasValue body c
-    → offer c body (verb_of (method_of c)) ≡ Some c
-is_asked (load text) body says = ap (λ (b : Body (List ℕ)). Some (load b)) says
-is_asked (set_owner e dept) body says = ap (λ (b : Body ℕ). Some (set_owner e b)) says
-is_asked (new_draft d text) body says = ap (λ (b : Body (List ℕ)). Some (new_draft d b)) says
-is_asked (place d e at) body says = ap (λ (b : Body Place). Some (place d e b)) says
-is_asked (move d e to) body says = ap (λ (b : Body Place). Some (move d e b)) says
-is_asked (batch n text) body says = ap (λ (b : Body (List ℕ)). Some (batch n b)) says
-is_asked _ body says = refl
-
-by : (path body : List ℕ) (p : Page) (asks : Asks) (verb : Verb) (c : PlainCommand)
-    → Offers path body p asks → asks verb ≡ Some c → staff_command verb path body ≡ Ok c
-by path body p asks verb c there e = rw (there.page_there, there.asks_there, e) refl
+by : (path body : List ℕ) (p : Page) (n : ℕ × ℕ × ℕ) (verb : Verb) (c : PlainCommand)
+    → page_of path ≡ Some p → numbers_of p path ≡ Some n → command_of verb p n body ≡ Some c
+    → staff_command verb path body ≡ Ok c
+by path body p n verb c there numbers e = rw (there, numbers, e) refl
 
 -- the office and the departments ask for it
 staff_asks : (c : PlainCommand) (body : List ℕ) → HasSmallNumbers c → BodyHasValue body c
     → staff_command (verb_of (method_of c)) (path_of c) body ≡ Ok c
 staff_asks c body small says =
-    by (path_of c) body (page_for c) (offer c body) (verb_of (method_of c)) c
-    (offered c body small) (is_asked c body says)
+    by (path_of c) body (row_of c).1 (three (row_of c).2) (verb_of (method_of c)) c
+    (page_there c small) (numbers_there c small) (in_table c body says)
 
 own_by : (path : List ℕ) (p : Page) (c : PlainCommand) → page_of path ≡ Some p
     → own_page_command p path ≡ Some c → candidate_command Get path ≡ Ok c
 own_by path p c there e = rw (there, e) refl
 
 -- a candidate asks for their own three pages
-she_asks : (n : ℕ) (c : PlainCommand) → HasSmallNumbers c → MaySendCommand (Cand n) c
+candidate_asks : (n : ℕ) (c : PlainCommand) → HasSmallNumbers c → MaySendCommand (Cand n) c
     → candidate_command (verb_of (method_of c)) (path_of c) ≡ Ok c
-she_asks n me small is_own = own_by _ page.Me me (offered me [] small).page_there refl
-she_asks n (my_exam e) small is_own =
-    own_by _ page.MyExam (my_exam e) (offered (my_exam e) [] small).page_there
+candidate_asks n me small is_own = own_by _ page.Me me (page_there me small) refl
+candidate_asks n (my_exam e) small is_own =
+    own_by _ page.MyExam (my_exam e) (page_there (my_exam e) small)
     (ap (option_map my_exam) (number_here e [] small tt))
-she_asks n my_penalty small is_own =
-    own_by _ page.MyPenalty my_penalty (offered my_penalty [] small).page_there refl
-she_asks n _ small is_own = cc
+candidate_asks n my_penalty small is_own =
+    own_by _ page.MyPenalty my_penalty (page_there my_penalty small) refl
+candidate_asks n _ small is_own = cc
 
 asked : (who : Caller) (c : PlainCommand) (body : List ℕ) → MaySendCommand who c → HasSmallNumbers c
     → BodyHasValue body c → command_by who (verb_of (method_of c)) (path_of c) body ≡ Ok c
 asked Office c body comes small says = staff_asks c body small says
 asked (Dept d) c body comes small says = staff_asks c body small says
-asked (Cand n) c body comes small says = she_asks n c small comes
+asked (Cand n) c body comes small says = candidate_asks n c small comes
 
 -- a request that is printed is read back
 pub read_back : (value : Option (List ℕ)) (who : Caller) (c : PlainCommand) (body : List ℕ)

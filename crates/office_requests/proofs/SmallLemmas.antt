@@ -1,16 +1,14 @@
 -- The numbers of a command that was read are in their limits.
-use Rattle.std.proofs.Common.{◌≡◌, ℕ, ◌≤◌, Bool, true, false, List, Option, Some, None}
-use Rattle.std.proofs.Common.{Result, Ok, Err, refl, arith}
+use Rattle.std.proofs.Common.{◌≡◌, ℕ, zero, suc, ◌≤◌, Bool, true, false, List, [], ◌∷◌, get_or}
+use Rattle.std.proofs.Common.{Option, Some, None, Result, Ok, Err, refl, arith}
 use Rattle.std.specs.Prelude.{nat_le, nat_lt, ◌==◌, length, IfSome, IfOk, if◌then◌else◌, codes}
 use Rattle.std.specs.Prelude.{option_map, option_and_then}
+use Rattle.std.specs.List.{AllByRecursion}
 use Rattle.std.proofs.lemmas.Bool.Decides.{nat_tests}
 use Rattle.exam_terms.specs.Refusing.{◌>>=◌, else_err}
 use Rattle.office_policy.specs.CommandBodies.{IfBodyHasValue}
 use Rattle.office_policy.specs.Numbers.{IsSmall, IsSmallPlace}
-use Rattle.office_policy.specs.Commands.{PlainCommand, me, my_exam, my_penalty, HasSmallNumbers}
-use Rattle.office_policy.specs.Commands.{set_owner, draft_penalty, draft_violations, place, move}
-use Rattle.office_policy.specs.Commands.{clear, swap, publish, publication, publication_penalty}
-use Rattle.office_policy.specs.Commands.{publication_rooms, publication_seats, batch}
+use Rattle.office_policy.specs.Commands.{my_exam, HasSmallNumbers}
 use Rattle.office_policy.specs.declared.callers.Caller.{Caller}
 use Rattle.office_policy.specs.declared.callers.Caller.TheVariants.{Office, Dept, Cand}
 use Rattle.office_policy.specs.declared.command.Body.{Body}
@@ -20,12 +18,11 @@ use Rattle.serde_json.specs.Data.{Data}
 use Rattle.serde_json.specs.Find.{get, as_number, as_u64}
 use Rattle.office_requests.specs.Bodies.{at_most, number_at, of_members, members_count, place_in}
 use Rattle.office_requests.specs.Bodies.{dept_in, json_in, value_or_bad, unless_long, place_body}
-use Rattle.office_requests.specs.Bodies.{dept_body, text_body}
-use Rattle.office_requests.specs.ByMethod.{by_get, by_put, by_post, by_delete, of_instance}
-use Rattle.office_requests.specs.ByMethod.{of_draft, with_one, with_two, with_three}
-use Rattle.office_requests.specs.Commands.{page_commands}
-use Rattle.office_requests.specs.Pages.{page_of}
-use Rattle.office_requests.specs.Paths.{segment, number_in}
+use Rattle.office_requests.specs.Bodies.{dept_body}
+use Rattle.office_requests.specs.Commands.{command_of}
+use Rattle.office_requests.specs.Pages.{Part, word, number, parts_of, page_of}
+use Rattle.office_requests.specs.Paths.{rest_after_slash, segment, number_in, numbers_in}
+use Rattle.office_requests.specs.Paths.{three, numbers_of}
 use Rattle.office_requests.specs.Requests.{own_page_command, own_command, staff_command, command_by}
 use Rattle.office_requests.specs.declared.methods.Verb.{Verb}
 use Rattle.office_requests.specs.declared.methods.Verb.TheVariants.{Get, Put, Post, Delete}
@@ -125,89 +122,48 @@ dept_small bytes =
 in_path : (k : ℕ) (path : List ℕ) → IfSome (number_in k path) IsSmall
 in_path k path = number_small (segment k path)
 
+abbrev AreSmall : List ℕ → Type 0
+AreSmall ns = AllByRecursion IsSmall ns
+
+numbers_small : (parts : List Part) (path : List ℕ) → IfSome (numbers_in parts path) AreSmall
+numbers_small [] path = tt
+numbers_small (word w ∷ parts) path = numbers_small parts (rest_after_slash path)
+numbers_small (number ∷ parts) path =
+    chained IsSmall AreSmall _ (number_in 1 path) (in_path 1 path)
+    (λ n small. mapped AreSmall AreSmall (λ ns. n ∷ ns) _
+    (numbers_small parts (rest_after_slash path)) (λ ns all. (small, all)))
+
+at_small : (ns : List ℕ) (i : ℕ) → AreSmall ns → IsSmall (get_or ns i 0)
+at_small [] i all = omega arith
+at_small (n ∷ ns) zero all = all.0
+at_small (n ∷ ns) (suc i) all = at_small ns i all.1
+
+abbrev ThreeSmall : ℕ × ℕ × ℕ → Type 0
+ThreeSmall n = IsSmall n.0 × IsSmall n.1 × IsSmall n.2
+
+page_small : (p : Page) (path : List ℕ) → IfSome (numbers_of p path) ThreeSmall
+page_small p path =
+    mapped AreSmall ThreeSmall three _ (numbers_small (parts_of p) path)
+    (λ ns all. (at_small ns 0 all, at_small ns 1 all, at_small ns 2 all))
+
 -- ---- commands
 
--- for each method, the command has small numbers
-abbrev AsksSmall : (Verb → Option PlainCommand) → Type 0
-AsksSmall asks = (verb : Verb) → IfSome (asks verb) HasSmallNumbers
-
-get_small : (c : PlainCommand) → HasSmallNumbers c → AsksSmall (by_get c)
-get_small c small Get = small
-get_small c small _ = tt
-
-put_small : (c : PlainCommand) → HasSmallNumbers c → AsksSmall (by_put c)
-put_small c small Put = small
-put_small c small _ = tt
-
-post_small : (c : PlainCommand) → HasSmallNumbers c → AsksSmall (by_post c)
-post_small c small Post = small
-post_small c small _ = tt
-
-delete_small : (c : PlainCommand) → HasSmallNumbers c → AsksSmall (by_delete c)
-delete_small c small Delete = small
-delete_small c small _ = tt
-
-instance_small : (body : List ℕ) → AsksSmall (of_instance body)
-instance_small body Get = tt
-instance_small body Put = tt
-instance_small body _ = tt
-
-draft_small : (d : ℕ) (body : List ℕ) → IsSmall d → AsksSmall (of_draft d body)
-draft_small d body small Get = small
-draft_small d body small Put = small
-draft_small d body small Delete = small
-draft_small d body small _ = tt
-
-one : (k : ℕ) (path : List ℕ) (made : ℕ → Verb → Option PlainCommand)
-    → ((n : ℕ) → IsSmall n → AsksSmall (made n)) → IfSome (with_one k made path) AsksSmall
-one k path made small =
-    mapped IsSmall AsksSmall (λ n. made n) (number_in k path) (in_path k path) small
-
-two : (path : List ℕ) (made : ℕ → ℕ → Verb → Option PlainCommand)
-    → ((d e : ℕ) → IsSmall d → IsSmall e → AsksSmall (made d e))
-    → IfSome (with_two made path) AsksSmall
-two path made small =
-    chained IsSmall AsksSmall (λ d. with_one 4 (made d) path) (number_in 2 path) (in_path 2 path)
-    (λ d draft. one 4 path (made d) (λ e exam. small d e draft exam))
-
-three : (path : List ℕ) (made : ℕ → ℕ → ℕ → Verb → Option PlainCommand)
-    → ((d a b : ℕ) → IsSmall d → IsSmall a → IsSmall b → AsksSmall (made d a b))
-    → IfSome (with_three made path) AsksSmall
-three path made small =
-    chained IsSmall AsksSmall _ (number_in 2 path) (in_path 2 path)
-    (λ d draft. chained IsSmall AsksSmall (λ a. with_one 5 (made d a) path) (number_in 4 path)
-    (in_path 4 path)
-    (λ a first. one 5 path (made d a) (λ b second. small d a b draft first second)))
-
-asks_small : (p : Page) (path body : List ℕ) → IfSome (page_commands p path body) AsksSmall
-asks_small page.Me path body = get_small me tt
-asks_small page.MyExam path body = one 3 path _ (λ e exam. get_small (my_exam e) exam)
-asks_small page.MyPenalty path body = get_small my_penalty tt
-asks_small page.Instance path body = instance_small body
-asks_small page.Owner path body =
-    one 2 path _ (λ e exam. put_small (set_owner e (dept_body body)) (exam, dept_small body))
-asks_small page.Draft path body = one 2 path _ (λ d draft. draft_small d body draft)
-asks_small page.DraftPenalty path body =
-    one 2 path _ (λ d draft. get_small (draft_penalty d) draft)
-asks_small page.DraftViolations path body =
-    one 2 path _ (λ d draft. get_small (draft_violations d) draft)
-asks_small page.Place path body =
-    two path _ (λ d e draft exam.
-    post_small (place d e (place_body body)) (draft, exam, place_small body))
-asks_small page.Move path body =
-    two path _ (λ d e draft exam.
-    post_small (move d e (place_body body)) (draft, exam, place_small body))
-asks_small page.Slot path body =
-    two path _ (λ d e draft exam. delete_small (clear d e) (draft, exam))
-asks_small page.Swap path body =
-    three path _ (λ d a b draft first second. post_small (swap d a b) (draft, first, second))
-asks_small page.Publish path body = one 2 path _ (λ d draft. post_small (publish d) draft)
-asks_small page.Publication path body = get_small publication tt
-asks_small page.PublicationPenalty path body = get_small publication_penalty tt
-asks_small page.PublicationRooms path body = get_small publication_rooms tt
-asks_small page.PublicationSeats path body = get_small publication_seats tt
-asks_small page.Batch path body =
-    one 2 path _ (λ n number. put_small (batch n (text_body body)) number)
+command_small : (verb : Verb) (p : Page) (n : ℕ × ℕ × ℕ) (body : List ℕ) → ThreeSmall n
+    → IfSome (command_of verb p n body) HasSmallNumbers
+command_small Get page.MyExam n body small = small.0
+command_small Put page.Owner n body small = (small.0, dept_small body)
+command_small Put page.Draft n body small = small.0
+command_small Get page.Draft n body small = small.0
+command_small Get page.DraftPenalty n body small = small.0
+command_small Get page.DraftViolations n body small = small.0
+command_small Delete page.Draft n body small = small.0
+command_small Post page.Place n body small = (small.0, small.1, place_small body)
+command_small Post page.Move n body small = (small.0, small.1, place_small body)
+command_small Delete page.Slot n body small = (small.0, small.1)
+command_small Post page.Swap n body small = small
+command_small Post page.Publish n body small = small.0
+command_small Put page.Batch n body small = small.0
+command_small _ _ n body small = tt
 
 own_page_small : (p : Page) (path : List ℕ) → IfSome (own_page_command p path) HasSmallNumbers
 own_page_small page.Me path = tt
@@ -227,9 +183,10 @@ staff_small : (verb : Verb) (path body : List ℕ)
 staff_small verb path body =
     judged (λ (p : Page). Unit {0}) HasSmallNumbers (else_err refusal.Path (page_of path)) _
     (else_ok (λ (p : Page). Unit {0}) refusal.Path (page_of path) (anything _))
-    (λ p any. judged AsksSmall HasSmallNumbers (else_err refusal.Path (page_commands p path body)) _
-    (else_ok AsksSmall refusal.Path (page_commands p path body) (asks_small p path body))
-    (λ asks small. else_ok HasSmallNumbers (refusal.Method p) (asks verb) (small verb)))
+    (λ p any. judged ThreeSmall HasSmallNumbers (else_err refusal.Path (numbers_of p path)) _
+    (else_ok ThreeSmall refusal.Path (numbers_of p path) (page_small p path))
+    (λ n small. else_ok HasSmallNumbers (refusal.Method p) (command_of verb p n body)
+    (command_small verb p n body small)))
 
 -- the command has small numbers, for each caller
 pub asked_small : (who : Caller) (verb : Verb) (path body : List ℕ)

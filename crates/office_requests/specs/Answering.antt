@@ -1,6 +1,5 @@
 -- The result of reading a request, and the reply to a refusal.
 use Rattle.std.specs.Prelude.{◌≡◌, Some, Result, Ok, Err, IsOkAnd}
-use Rattle.office_policy.specs.declared.callers.Caller.{Caller}
 use Rattle.office_policy.specs.Commands.{PlainCommand, plain_command}
 use Rattle.office_policy.specs.declared.command.Command.{Command}
 use Rattle.office_requests.specs.Methods.{allow_of}

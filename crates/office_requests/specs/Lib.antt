@@ -4,7 +4,6 @@ pub mod Table
 pub mod Paths
 pub mod Methods
 pub mod Bodies
-pub mod ByMethod
 pub mod Commands
 pub mod Texts
 pub mod Requests

@@ -1,45 +1,63 @@
 -- The pages, each with the paths that lead to it.
-use Rattle.std.specs.Prelude.{◌≡◌, ◌⊎◌, ℕ, true, List, [], ◌∷◌, ◌++◌, codes, find}
+use Rattle.std.specs.Prelude.{◌≡◌, ◌⊎◌, ℕ, true, List, [], ◌∷◌, ◌++◌, codes, find, map}
 use Rattle.std.specs.Prelude.{Option, option_map}
 use Rattle.matchit.specs.Rows.{RowsOf, param_token}
+use Rattle.matchit.specs.Seek.{slash}
 use Rattle.office_requests.specs.Patterns.{takes}
 use Rattle.office_requests.specs.declared.pages.Page.{Page}
 use Rattle.office_requests.specs.declared.pages.Page.TheVariants as page
 
--- a number in a pattern
-abbrev pub number : List ℕ
-number = param_token ∷ []
+-- a part of a page's path: a word, or a number
+pub data Part : Type 0 where
+  word : List ℕ → Part
+  number : Part
 
--- the pattern of a draft
-abbrev pub draft : List ℕ
-draft = codes "/drafts/" ++ number
+-- the path of a draft, followed by these parts
+abbrev pub draft : List Part → List Part
+draft more = word (codes "drafts") ∷ number ∷ more
 
 -- that of an exam in a draft
-abbrev pub draft_exam : List ℕ
-draft_exam = draft ++ codes "/exams/" ++ number
+abbrev pub draft_exam : List Part → List Part
+draft_exam more = draft (word (codes "exams") ∷ number ∷ more)
+
+-- the parts of each page's path
+abbrev pub parts_of : Page → List Part
+parts_of page.Me = word (codes "me") ∷ []
+parts_of page.MyExam = word (codes "me") ∷ word (codes "exam") ∷ number ∷ []
+parts_of page.MyPenalty = word (codes "me") ∷ word (codes "penalty") ∷ []
+parts_of page.Instance = word (codes "instance") ∷ []
+parts_of page.Owner = word (codes "exams") ∷ number ∷ word (codes "owner") ∷ []
+parts_of page.Draft = draft []
+parts_of page.DraftPenalty = draft (word (codes "penalty") ∷ [])
+parts_of page.DraftViolations = draft (word (codes "violations") ∷ [])
+parts_of page.Place = draft_exam (word (codes "place") ∷ [])
+parts_of page.Move = draft_exam (word (codes "move") ∷ [])
+parts_of page.Slot = draft_exam []
+parts_of page.Swap = draft (word (codes "swap") ∷ number ∷ number ∷ [])
+parts_of page.Publish = draft (word (codes "publish") ∷ [])
+parts_of page.Publication = word (codes "publication") ∷ []
+parts_of page.PublicationPenalty = word (codes "publication") ∷ word (codes "penalty") ∷ []
+parts_of page.PublicationRooms = word (codes "publication") ∷ word (codes "rooms") ∷ []
+parts_of page.PublicationSeats = word (codes "publication") ∷ word (codes "seats") ∷ []
+parts_of page.Batch = word (codes "batches") ∷ number ∷ []
+
+-- a pattern of these parts, each after a slash
+abbrev pub pattern_of : List Part → List ℕ
+pattern_of [] = []
+pattern_of (word w ∷ parts) = slash ∷ (w ++ pattern_of parts)
+pattern_of (number ∷ parts) = slash ∷ param_token ∷ pattern_of parts
+
+-- the pages, in the order in which the router searches them
+abbrev pub all_pages : List Page
+all_pages =
+    page.Batch ∷ page.Move ∷ page.Place ∷ page.Slot ∷ page.DraftPenalty ∷ page.Publish ∷ page.Swap
+    ∷ page.DraftViolations ∷ page.Draft ∷ page.Owner ∷ page.Instance ∷ page.MyExam
+    ∷ page.MyPenalty ∷ page.Me ∷ page.PublicationPenalty ∷ page.PublicationRooms
+    ∷ page.PublicationSeats ∷ page.Publication ∷ []
 
 -- each page with its pattern
 abbrev pub pages : List (List ℕ × Page)
-pages =
-    (codes "/batches/" ++ number, page.Batch)
-    ∷ (draft_exam ++ codes "/move", page.Move)
-    ∷ (draft_exam ++ codes "/place", page.Place)
-    ∷ (draft_exam, page.Slot)
-    ∷ (draft ++ codes "/penalty", page.DraftPenalty)
-    ∷ (draft ++ codes "/publish", page.Publish)
-    ∷ (draft ++ codes "/swap/" ++ number ++ codes "/" ++ number, page.Swap)
-    ∷ (draft ++ codes "/violations", page.DraftViolations)
-    ∷ (draft, page.Draft)
-    ∷ (codes "/exams/" ++ number ++ codes "/owner", page.Owner)
-    ∷ (codes "/instance", page.Instance)
-    ∷ (codes "/me/exam/" ++ number, page.MyExam)
-    ∷ (codes "/me/penalty", page.MyPenalty)
-    ∷ (codes "/me", page.Me)
-    ∷ (codes "/publication/penalty", page.PublicationPenalty)
-    ∷ (codes "/publication/rooms", page.PublicationRooms)
-    ∷ (codes "/publication/seats", page.PublicationSeats)
-    ∷ (codes "/publication", page.Publication)
-    ∷ []
+pages = map (λ p. (pattern_of (parts_of p), p)) all_pages
 
 -- a pattern is among rows with this key
 abbrev pub IsIn : {K : Type 0} → List ℕ → K → RowsOf K → Type 0

@@ -1,5 +1,5 @@
 -- The command of a request, or its refusal without reading anything stored.
-use Rattle.std.specs.Prelude.{ℕ, List, Option, Some, None, option_and_then, Result, Ok}
+use Rattle.std.specs.Prelude.{ℕ, List, Option, Some, None, option_and_then, option_map, Result, Ok}
 use Rattle.exam_terms.specs.Refusing.{◌>>=◌, else_err}
 use Rattle.exam_terms.specs.Texts.{trimmed}
 use Rattle.office_policy.specs.Callers.{caller_of}
@@ -8,8 +8,8 @@ use Rattle.office_policy.specs.declared.callers.Caller.TheVariants.{Office, Dept
 use Rattle.office_policy.specs.Commands.{PlainCommand, me, my_exam, my_penalty, plain_command}
 use Rattle.office_requests.specs.Pages.{page_of}
 use Rattle.office_requests.specs.Methods.{verb_of}
-use Rattle.office_requests.specs.ByMethod.{with_one}
 use Rattle.office_requests.specs.Commands.{command_at}
+use Rattle.office_requests.specs.Paths.{number_in}
 use Rattle.office_requests.specs.declared.methods.Verb.{Verb}
 use Rattle.office_requests.specs.declared.methods.Verb.TheVariants.{Get}
 use Rattle.office_requests.specs.declared.pages.Page.{Page}
@@ -25,7 +25,7 @@ caller_in value = option_and_then (λ v. caller_of (trimmed v)) value
 -- a candidate's own three pages
 abbrev pub own_page_command : Page → List ℕ → Option PlainCommand
 own_page_command page.Me path = Some me
-own_page_command page.MyExam path = with_one 3 my_exam path
+own_page_command page.MyExam path = option_map my_exam (number_in 3 path)
 own_page_command page.MyPenalty path = Some my_penalty
 own_page_command _ path = None
 

@@ -1,13 +1,38 @@
 // The segments of a path.
 ghost use Rattle.std.specs.Prelude.{◌≡◌, Some, None, IfOk, IfErr};
-ghost use Rattle.office_requests.specs.Paths.{first_segment, rest_after_slash, segment, number_in};
+ghost use Rattle.office_requests.specs.Paths.{first_segment, rest_after_slash, segment};
+ghost use Rattle.office_requests.specs.Paths.{number_in, numbers_of};
 ghost use Rattle.office_requests.specs.declared.requests.Refusal.TheVariants as refusal;
 
+use crate::pages::Page;
 use crate::requests::Refusal;
-use exam_terms::ExamNo;
 use office_policy::read_number;
 
 const SLASH: u8 = b'/';
+
+/// Returns the numbers in a path of the page, in order, and 0 for each of the three that it lacks.
+/// The path is refused if one of them isn't one to nine digits.
+pub(crate) fn numbers_in(page: Page, path: &[u8]) -> Result<(u32, u32, u32), Refusal>
+    ensures ok { IfOk result (λ n. numbers_of page path.now ≡ Some n) }
+    ensures err { IfErr result (λ e. e ≡ refusal.Path × (numbers_of page path.now ≡ None)) }
+{
+    Ok(match page {
+        Page::MyExam => (number_in(path, 3)?, 0, 0),
+        Page::Owner
+        | Page::Draft
+        | Page::DraftPenalty
+        | Page::DraftViolations
+        | Page::Publish
+        | Page::Batch => (number_in(path, 2)?, 0, 0),
+        Page::Place | Page::Move | Page::Slot => (number_in(path, 2)?, number_in(path, 4)?, 0),
+        Page::Swap => (
+            number_in(path, 2)?,
+            number_in(path, 4)?,
+            number_in(path, 5)?,
+        ),
+        _ => (0, 0, 0),
+    })
+}
 
 /// Returns the number in a segment of the path; segments are counted from 0, and before the path's
 /// first slash there is an empty one. The path is refused if the segment isn't a number.
@@ -19,14 +44,6 @@ pub(crate) fn number_in(path: &[u8], place: u32) -> Result<u32, Refusal>
         Some(number) => Ok(number),
         None => Err(Refusal::Path),
     }
-}
-
-/// Returns the same as the number of an exam.
-pub(crate) fn exam_in(path: &[u8], place: u32) -> Result<ExamNo, Refusal>
-    ensures ok { IfOk result (λ n. number_in place path.now ≡ Some n) }
-    ensures err { IfErr result (λ e. e ≡ refusal.Path × (number_in place path.now ≡ None)) }
-{
-    Ok(ExamNo::new(number_in(path, place)?))
 }
 
 #[tactic(auto, using(crate::proofs::PathLemmas::segment_later))]

@@ -9,16 +9,18 @@ ghost use Rattle.office_requests.specs.Requests.{caller_in, own_page_command, ow
 ghost use Rattle.office_requests.specs.Requests.{staff_command, command_by, reading};
 ghost use Rattle.office_requests.specs.Answering.{ReturnsCallerCommand, ReturnsCommand};
 ghost use Rattle.office_requests.specs.Answering.{not_allowed, refusal_reply};
+ghost use Rattle.office_requests.specs.declared.requests.Refusal.TheVariants as refusal;
 
 use crate::commands::command_at;
 use crate::methods::{Verb, allow};
 use crate::pages::Page;
-use crate::paths::exam_in;
+use crate::paths::number_in;
 use crate::routes::Routes;
 use crate::texts::FixedError;
+use exam_terms::ExamNo;
 use office_messages::{Allow, Reply, Request, unavailable};
 use office_policy::{Caller, Command, Denial};
-use std::alloc::Global;
+use std::alloc::{AllocError, Global};
 
 /// The caller and the command.
 #[derive(Clone, Copy)]
@@ -40,6 +42,14 @@ pub enum Refusal {
     Method(Page),
     /// Out of memory while a body is read.
     NoMemory,
+}
+
+impl From<AllocError> for Refusal {
+    ghost from_gives = { λ _ e. e ≡ refusal.NoMemory };
+
+    fn from(_: AllocError) -> Refusal {
+        Refusal::NoMemory
+    }
 }
 
 impl Refusal {
@@ -132,7 +142,7 @@ fn own_page_command<'a>(page: Page, path: &[u8]) -> Option<Command<'a>>
 {
     match page {
         Page::Me => Some(Command::Me),
-        Page::MyExam => Some(Command::MyExam(exam_in(path, 3).ok()?)),
+        Page::MyExam => Some(Command::MyExam(ExamNo::new(number_in(path, 3).ok()?))),
         Page::MyPenalty => Some(Command::MyPenalty),
         _ => None,
     }
