@@ -6,3 +6,4 @@ pub mod IdleLemmas
 pub mod RowLemmas
 pub mod TextLemmas
 pub mod OfficeLemmas
+pub mod OthersLemmas
