@@ -18,7 +18,7 @@ use Rattle.office_schema.specs.declared.parts.TableKey.TheVariants.{Number, Pair
 
 -- ---- columns and tables
 
--- a column of a kind, without a default, which takes no NULL and nothing of another kind
+-- a column of a kind, without a default; it takes only values of this kind, and no NULL
 abbrev pub column_of : Kind → List ℕ → Column
 column_of kind name = record {
   name = name;
@@ -69,19 +69,19 @@ abbrev pub seated_table : List ℕ → ℕ → List Column → Table
 seated_table name tree columns = table_of name tree columns None (1 ∷ 2 ∷ [])
     ((1 ∷ 2 ∷ []) ∷ (3 ∷ 4 ∷ 5 ∷ []) ∷ []) (plain ∷ plain ∷ [])
 
--- ---- a table by its key, and a table's key alone
+-- ---- a table by its key, and the key of a table
 
--- the columns that names and kinds tell of, in their order
+-- the columns of these names and kinds, in their order
 abbrev pub columns_of : List (Bor (List ℕ) × Kind) → List Column
 columns_of = map (λ column. column_of column.1 column.0.now)
 
--- the table of a name, at a tree, whose rows are told apart in this way
+-- the table with this key, name, tree and columns
 abbrev pub table_by : TableKey → List ℕ → ℕ → List Column → Table
 table_by Number = keyed_table
 table_by Pair = paired_table
 table_by PairAndTriple = seated_table
 
--- a table's rows are told apart in this way, and in no other
+-- a table has this key, and no other
 abbrev pub HasKey : TableKey → Table → Type 0
 HasKey Number t =
     (t.key ≡ Some 0) × (t.primary ≡ 0 ∷ []) × (t.uniques ≡ []) × (t.orders ≡ [])
@@ -94,18 +94,18 @@ HasKey PairAndTriple t =
 
 -- ---- the tables
 
--- one row: the schema's version, whether anything is published, and the session's file
+-- one row: the schema's version, whether anything is published, and the session's text
 abbrev pub meta_table : Table
 meta_table = keyed_table (codes "meta") 0
     (int (codes "id") ∷ int (codes "version") ∷ int (codes "published") ∷
     blob (codes "instance") ∷ [])
 
--- which department an exam belongs to; no row where it belongs to none
+-- the department that an exam belongs to; no row if it belongs to none
 abbrev pub owner_table : Table
 owner_table = keyed_table (codes "owner") 1
     (int (codes "exam") ∷ int (codes "dept") ∷ [])
 
--- who sits which exam
+-- the exams that each student is enrolled in
 abbrev pub enrol_table : Table
 enrol_table = paired_table (codes "enrol") 2
     (int (codes "student") ∷ int (codes "exam") ∷ [])
@@ -126,40 +126,41 @@ abbrev pub placed_table : Table
 placed_table = keyed_table (codes "placed") 7
     (int (codes "exam") ∷ int (codes "period") ∷ int (codes "room") ∷ [])
 
--- nobody shares a seat
+-- the seats; no two rows have the same seat of a room in the same period
 abbrev pub seat_table : Table
 seat_table = seated_table (codes "seat") 8
     (int (codes "student") ∷ int (codes "exam") ∷ int (codes "period") ∷ int (codes "room") ∷
     int (codes "seat") ∷ [])
 
--- what each candidate with a seat adds to the publication's penalty, but over night
+-- the share of each candidate with a seat in the publication's penalty, without the amount over
+-- night
 abbrev pub share_student_table : Table
 share_student_table = keyed_table (codes "share_student") 11
     (int (codes "student") ∷ int (codes "in_row") ∷ int (codes "in_day") ∷ int (codes "spread") ∷
     [])
 
--- what each exam, period and room adds to it
+-- the share of each exam, period and room in it
 abbrev pub share_part_table : Table
 share_part_table = paired_table (codes "share_part") 12
     (int (codes "kind") ∷ int (codes "no") ∷ int (codes "penalty") ∷ int (codes "mixed") ∷ [])
 
--- the batches that were taken: their bytes, and what they were answered
+-- the accepted batches: their bytes, and the counts of their answers
 abbrev pub batch_table : Table
 batch_table = keyed_table (codes "batch") 14
     (int (codes "no") ∷ blob (codes "bytes") ∷ int (codes "added") ∷ int (codes "dropped") ∷
     int (codes "unchanged") ∷ [])
 
--- what each draft costs over night
+-- the amount over night in each draft's penalty
 abbrev pub night_draft_table : Table
 night_draft_table = keyed_table (codes "night_draft") 15
     (int (codes "no") ∷ int (codes "night") ∷ [])
 
--- what each candidate with a seat adds to the publication's penalty over night
+-- the amount over night in the share of each candidate with a seat
 abbrev pub night_share_table : Table
 night_share_table = keyed_table (codes "night_share") 16
     (int (codes "student") ∷ int (codes "night") ∷ [])
 
--- the index that SQLite makes by itself for the key of a table
+-- the index that SQLite creates for a key of a table
 abbrev pub index_of : List ℕ → ℕ → ℕ → List ℕ → Index
 index_of name tree table columns = record {
   name = name;

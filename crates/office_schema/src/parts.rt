@@ -1,4 +1,4 @@
-// Whether a part of a schema is as it is written out: columns, keys and indexes.
+// Whether parts of a schema are those of an office: columns, keys and indexes.
 ghost use Rattle.std.specs.Prelude.{◌≡◌, ◌↔◌, [], ◌∷◌, None, Some, false, IfOk, IsTrue};
 ghost use Rattle.sqlite_value.specs.Keys.{plain};
 ghost use Rattle.sqlite_value.specs.declared.value.Value.TheVariants.{Null};
@@ -11,17 +11,18 @@ use sqlite_value::keys::{Collation, Order};
 use sqlite_value::value::Value;
 use std::alloc::{AllocError, Global};
 
-// Which of a table's columns are its key.
+// The columns of a table that are its key.
 pub(crate) enum TableKey {
-    // The first, which is the row's number.
+    // The first column, which is the row's number.
     Number,
-    // The first two.
+    // The first two columns.
     Pair,
-    // The first two, and no two rows agree in the next three.
+    // The first two columns; and no two rows agree in the next three.
     PairAndTriple,
 }
 
-// A table of these columns, by name and kind.
+// Returns whether this is the table with this name, tree and key, and with columns of these names
+// and kinds.
 pub(crate) fn is_table(
     alloc: Global,
     table: &Table,
@@ -42,7 +43,7 @@ pub(crate) fn is_table(
     )
 }
 
-// Columns of these names and kinds, in this order.
+// Returns whether these are the columns of these names and kinds, in this order.
 fn are_columns(columns: &[Column], wanted: &[(&str, Kind)]) -> bool
     ensures { IsTrue result ↔ (columns.now ≡ columns_of wanted.now) }
 {
@@ -188,7 +189,7 @@ fn has_two_plain(orders: &[Order]) -> bool
     first.digits == 0 && second.digits == 0
 }
 
-// No CHECK, no reference, no default that is computed, no AUTOINCREMENT.
+// Returns whether a table has no CHECK, no reference, no computed default and no AUTOINCREMENT.
 fn is_plain(alloc: Global, table: &Table) -> Result<bool, AllocError>
     ensures { IfOk result (λ is. IsTrue is ↔ ((table.now.checks ≡ []) × (table.now.references ≡ [])
         × (table.now.computed ≡ [])
@@ -204,7 +205,7 @@ fn is_plain(alloc: Global, table: &Table) -> Result<bool, AllocError>
     )
 }
 
-// No default reads the time.
+// Returns whether no default reads the time.
 fn is_timeless(alloc: Global, stamps: &Stamps) -> Result<bool, AllocError>
     ensures { IfOk result
         (λ is. IsTrue is ↔ (stamps.now ≡ record { places = []; terms = []; formats = [] })) }
@@ -219,14 +220,14 @@ fn has_no_terms(alloc: Global, terms: &Terms) -> Result<bool, AllocError>
     Ok(lent.roots.is_empty())
 }
 
-// The index of a key of two columns.
+// Returns whether this is the index of a key of two columns.
 pub(crate) fn is_pair_index(index: &Index, name: &[u8], tree: u32, table: u32) -> bool
     ensures { IsTrue result ↔ (index.now ≡ index_of name.now tree table (1 ∷ 2 ∷ [])) }
 {
     is_index(index, name, tree, table) && is_pair(index.columns.as_slice())
 }
 
-// The index of seats in a room.
+// Returns whether this is the index of the seats in a room.
 pub(crate) fn is_seat_index(index: &Index, name: &[u8], tree: u32, table: u32) -> bool
     ensures { IsTrue result ↔ (index.now ≡ index_of name.now tree table (3 ∷ 4 ∷ 5 ∷ [])) }
 {

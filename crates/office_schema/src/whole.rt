@@ -1,5 +1,4 @@
-// Whether a schema is that of an office, found by its value: its tables, their five indexes, and no
-// more.
+// Whether a schema is that of an office: it has its tables, their five indexes, and nothing else.
 ghost use Rattle.std.specs.Prelude.{◌≡◌, ◌↔◌, [], ◌∷◌, drop, IfOk, IsTrue};
 ghost use Rattle.office_schema.specs.Schema.{office_schema, schema_before};
 ghost use Rattle.office_schema.specs.Schema.{meta_table, owner_table, enrol_table, draft_table, slot_table, placed_table, seat_table, share_student_table, share_part_table, batch_table, night_draft_table, night_share_table};
@@ -8,8 +7,8 @@ use crate::parts::{TableKey, is_pair_index, is_seat_index, is_table};
 use sqlite_schema::schema::{Index, Kind, Schema, Table};
 use std::alloc::{AllocError, Global};
 
-/// Whether it is the schema of an office's file, version 2: the twelve tables in their order and
-/// trees, their indexes, and no further table, view, index or trigger.
+/// Returns whether this is the schema of an office's file, version 2: the twelve tables in their
+/// order and trees, their indexes, and no other table, view, index or trigger.
 pub fn is_office_schema(alloc: Global, schema: &Schema) -> Result<bool, AllocError>
     ensures { IfOk result (λ is. IsTrue is ↔ (schema.now ≡ office_schema)) }
 {
@@ -20,7 +19,7 @@ pub fn is_office_schema(alloc: Global, schema: &Schema) -> Result<bool, AllocErr
     )
 }
 
-/// Whether it is the schema of version 1: the same without the two tables of nights.
+/// Returns whether this is the schema of version 1: the same without the last two tables.
 pub fn is_schema_before(alloc: Global, schema: &Schema) -> Result<bool, AllocError>
     ensures { IfOk result (λ is. IsTrue is ↔ (schema.now ≡ schema_before)) }
 {
@@ -71,7 +70,7 @@ fn has_session_tables(
     Ok(is_meta(alloc, meta)? && is_owner(alloc, owner)? && is_enrol(alloc, enrol)?)
 }
 
-// The tables of the publication, of batches and of nights.
+// Returns whether these are the tables of the publication, of batches and of amounts over night.
 fn has_later_tables(alloc: Global, tables: &[Table]) -> Result<bool, AllocError>
     ensures { IfOk result (λ is. IsTrue is ↔ (tables.now ≡ drop 5 office_schema.tables)) }
 {
@@ -95,7 +94,7 @@ fn has_later_tables(alloc: Global, tables: &[Table]) -> Result<bool, AllocError>
     )
 }
 
-// The tables of the publication and of batches.
+// Returns whether these are the tables of the publication and of batches.
 fn has_later_tables_before(alloc: Global, tables: &[Table]) -> Result<bool, AllocError>
     ensures { IfOk result (λ is. IsTrue is ↔ (tables.now ≡ drop 5 schema_before.tables)) }
 {
@@ -138,7 +137,7 @@ fn has_indexes(indexes: &[Index]) -> bool
         && has_publication_indexes(rest)
 }
 
-// The indexes of the publication.
+// Returns whether these are the indexes of the publication.
 fn has_publication_indexes(indexes: &[Index]) -> bool
     ensures { IsTrue result ↔ (indexes.now ≡ drop 2 office_schema.indexes) }
 {

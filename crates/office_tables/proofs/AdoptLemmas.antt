@@ -1,4 +1,4 @@
--- What the parts that are found tell of the tables, and what readers in a row leave.
+-- The tables according to the parts found, and the effect of readers one after another.
 use Rattle.std.proofs.Common.{◌≡◌, inl, inr, map, length, Option, Some, None, Result, OnOk, IfOk, refl, sym, ap, subst, ◌∙◌, arith}
 use Rattle.std.proofs.lemmas.Result.{IfOk-weaker, on_ok_weaker}
 use Rattle.std.specs.Prelude.{Vec}
@@ -37,12 +37,12 @@ use Rattle.office_schema.specs.Schema.{office_schema, schema_before}
 use Rattle.office_tables.specs.declared.version.Version.{Version}
 use Rattle.office_tables.specs.declared.version.Version.TheVariants.{One, Two}
 use Rattle.office_tables.specs.Joining.{AreFound}
-use Rattle.office_tables.specs.Standing.{StandsIn}
+use Rattle.office_tables.specs.TablesHeld.{HoldsTablesIn}
 use Rattle.office_tables.specs.Versions.{schema_of}
 use Rattle.office_tables.specs.Stored.{Holds, keyed, keyless}
 use Rattle.office_tables.proofs.Reading.{keeps_after}
 
--- ---- readers in a row
+-- ---- readers one after another
 
 unchanged_then : (a b c : State) → IsUnchanged a b → IsUnchanged b c → IsUnchanged a c
 unchanged_then a b c p q = (
@@ -69,7 +69,7 @@ module _ (version : Version) where
         );
       }
 
-  -- what a reader that answers Ok leaves
+  -- the effect of a reader that answers `Ok`
   abbrev pub Stays : State → State → Type 0
   Stays a b = HasCleanDisk b → HasTables version a → IsUnchanged a b
 
@@ -88,7 +88,7 @@ module _ (version : Version) where
         let mid = first (clean_before b c looks clean) tables in
         unchanged_then a b c mid (second clean (tables_still a b mid tables))
 
-    -- of a last reader, whose result is the whole's
+    -- the result of the last reader is the result of all
     pub still_then : {T E : Type 0} (r : Result T E)
         → (HasCleanDisk c → HasTables version b → OnOk r (IsUnchanged b c))
         → HasCleanDisk c → HasTables version a → OnOk r (IsUnchanged a c)
@@ -119,7 +119,7 @@ module _ (version : Version) where
           looks.survives;
     }
 
--- ---- what was found
+-- ---- the rows found
 
 pub session_found : (version : Version) (db : Database) (meta : Option MetaRow)
     (owners : Option (Vec OwnerRow Global)) (enrols : Option (Vec EnrolRow Global))
@@ -208,7 +208,7 @@ in_no_version : (version : Version) (db : Database) → db.schema ≡ schema_of 
     → IsForeignIn version db → IsForeign db
 in_no_version version db is foreign v t plain stands =
     foreign t plain
-    (subst (λ w. StandsIn w db t) (one_version v version (sym stands.schema ∙ is)) stands)
+    (subst (λ w. HoldsTablesIn w db t) (one_version v version (sym stands.schema ∙ is)) stands)
 
 pub rows_found : (version : Version) (db : Database) → db.schema ≡ schema_of version
     → (session : Option FoundSession) (drafts : Option FoundDrafts)
@@ -222,7 +222,7 @@ rows_found version db schema session drafts publication batches s d p b (Some fo
     let plan = subst (IsFoundDrafts version db) is.2 d in
     let public = subst (IsFoundPublication version db) is.3 p in
     let kept = subst (IsFoundBatches db) is.4 b in
-    let stands : StandsIn version db (tables_of found kept.0) = record {
+    let stands : HoldsTablesIn version db (tables_of found kept.0) = record {
       schema = schema;
       meta = here.meta;
       owner = here.owner;
@@ -237,7 +237,7 @@ rows_found version db schema session drafts publication batches s d p b (Some fo
       night_draft = plan.draft.second;
       night_share = public.share_student.second;
     } in
-    (kept.0, kept.1, subst (λ v. StandsIn v db (tables_of found kept.0)) (sym is.0) stands)
+    (kept.0, kept.1, subst (λ v. HoldsTablesIn v db (tables_of found kept.0)) (sym is.0) stands)
 rows_found version db schema session drafts publication batches s d p b None (inl none) =
     in_no_version version db schema (subst (IsFoundSession version db) none s)
 rows_found version db schema session drafts publication batches s d p b None (inr (inl none)) =

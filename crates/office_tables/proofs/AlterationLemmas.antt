@@ -1,4 +1,4 @@
--- What insertions and deletions make of the tables, one after the other.
+-- The effect of insertions and deletions on the tables, one after the other.
 use Rattle.std.proofs.Common.{◌≡◌, List, [], ◌∷◌, ◌++◌, map, reverse, filter, not, Bool, true, false, cond, ◌==◌, ◌||◌, refl, sym, ap, ◌∙◌, append_assoc}
 use Rattle.std.specs.List.{list_any}
 use Rattle.std.proofs.lemmas.List.{reverse-append}
@@ -22,7 +22,7 @@ use Rattle.office_tables.specs.declared.share_student.DeleteStudentShare.{Delete
 use Rattle.office_tables.specs.declared.share_student.InsertStudentShare.{InsertStudentShare}
 use Rattle.office_tables.specs.declared.slot.InsertSlot.{InsertSlot}
 
--- a row that comes before others comes last of their reverse
+-- a row that comes before others comes last in their reverse
 pub first_last : {X : Type 0} (x : X) (xs ys : List X)
     → reverse xs ++ (x ∷ ys) ≡ reverse (x ∷ xs) ++ ys
 first_last x xs ys =
@@ -85,7 +85,7 @@ part_shares_put (it ∷ rest) t =
     ∙ ap (λ l. record t { share_part = l })
     (first_last it.row (map (λ x. x.row) rest) t.share_part)
 
--- what two tests leave, one after the other
+-- the rows that two tests leave, one after the other
 twice : {X : Type 0} (p q : X → Bool) (xs : List X)
     → filter (λ x. not (q x)) (filter (λ x. not (p x)) xs) ≡ filter (λ x. not (p x || q x)) xs
 twice p q [] = refl
@@ -107,7 +107,7 @@ twice {X} p q (x ∷ xs) = go (p x) (twice p q xs)
     go true more = more
     go false more = inner (q x) more
 
--- nobody is taken out
+-- a filter that every row passes deletes none
 all_left : {X : Type 0} (xs : List X) → filter (λ _. true) xs ≡ xs
 all_left [] = refl
 all_left (x ∷ xs) = ap (λ l. x ∷ l) (all_left xs)

@@ -1,4 +1,4 @@
--- What a reader leaves, and the answers of a query, whatever it asks.
+-- The effect of a reader, and the answers of any query.
 use Rattle.std.proofs.Common.{◌≡◌, ◌+◌, IsSorted, is_lt, subst₂, inl, inr, ℕ, List, [], ◌∷◌, map, false, None, Ok, Err, Result, arith, subst, refl, sym, ap, ◌∙◌, IsTrue}
 use Rattle.std.specs.Prelude.{IsPermutation, nat_le, unwrap_or, ◌^◌}
 use Rattle.std.proofs.lemmas.List.{get_or-map, length-map}
@@ -23,14 +23,14 @@ use Rattle.sqlite.proofs.Callers.{IsPlain, command_of, reads_as}
 use Rattle.office_schema.specs.Schema.{office_schema}
 use Rattle.office_tables.specs.Asking.{asks, Means, Selects}
 use Rattle.office_tables.specs.Tables.{Tables}
-use Rattle.office_tables.specs.Standing.{Stands, StandsIn}
+use Rattle.office_tables.specs.TablesHeld.{HoldsTables, HoldsTablesIn}
 use Rattle.office_tables.specs.Versions.{schema_of}
 use Rattle.office_tables.specs.declared.version.Version.{Version}
 use Rattle.office_tables.proofs.LookLemmas.{was_open}
 use Rattle.office_tables.proofs.Queries.{both_alike}
 use Rattle.office_tables.proofs.SilentLemmas.{commits_never}
 
--- ---- what a reader leaves
+-- ---- the effect of a reader
 
 pub silent : (sql : List ℕ) (params : Row) (old new : State)
     → Survives old new (CommitsShowing sql params old)
@@ -39,7 +39,7 @@ silent sql params old new =
     survives_weaker old new _ _
     (λ _ db h plain. commits_never office_schema sql params old db plain h)
 
--- a query begins at an open store
+-- a query begins with an open store
 pub begun_open : {S : Type 0} (g : Ghosts S) (sql : List ℕ) (params : Row) (old new : Held S)
     → HasBegun g sql params old new → IsTrue (state g old).is_open
 begun_open g sql params old new (inl h) = h.1.0.was_open
@@ -47,10 +47,10 @@ begun_open g sql params old new (inr h) = was_open sql params _ _ _ h.1
 
 -- under the office's schema
 module _ (q : Query) (sql : List ℕ) (means : Means office_schema q sql) (old new : State) where
-  pub plain_in : (t : Tables) → Stands old.now t → IsPlain (understood old.now.schema sql)
+  pub plain_in : (t : Tables) → HoldsTables old.now t → IsPlain (understood old.now.schema sql)
   plain_in t stands = subst (λ s. IsPlain (understood s sql)) (sym stands.schema) means.plain
 
-  pub means_in : (t : Tables) → Stands old.now t → Means old.now.schema q sql
+  pub means_in : (t : Tables) → HoldsTables old.now t → Means old.now.schema q sql
   means_in t stands = subst (λ s. Means s q sql) (sym stands.schema) means
 
   pub silent_in : Survives old new (λ _. IsPlain (understood office_schema sql) → ⊥)
@@ -59,14 +59,14 @@ module _ (q : Query) (sql : List ℕ) (means : Means office_schema q sql) (old n
 
 -- under the schema of a version
 module _ (version : Version) (q : Query) (sql : List ℕ) (means : Means (schema_of version) q sql)
-    (old : State) (t : Tables) (stands : StandsIn version old.now t) where
+    (old : State) (t : Tables) (stands : HoldsTablesIn version old.now t) where
   pub plain_at : IsPlain (understood old.now.schema sql)
   plain_at = subst (λ s. IsPlain (understood s sql)) (sym stands.schema) means.plain
 
   pub means_at : Means old.now.schema q sql
   means_at = subst (λ s. Means s q sql) (sym stands.schema) means
 
--- what permutes a list's images is the images of a list that permutes it
+-- a permutation of a list's images is the images of a permutation of the list
 pub unmapped : {X Y : Type 0} (f : X → Y) (xs : List X) (ys : List Y) → IsPermutation (map f xs) ys
     → (zs : List X) × (ys ≡ map f zs) × IsPermutation xs zs
 unmapped f xs ys h = let back = pull_back f _ _ h xs refl in (back.0, back.2, back.1)
@@ -78,12 +78,12 @@ pub command_is : (q : Query) (names : List (List ℕ)) (r : Result Compiled Comp
 command_is q names (Ok c) h = h
 command_is q names (Err e) h = absurd h
 
--- trees of which none is replaced
+-- no tree is replaced
 pub overlay_none : (trees : Trees) → overlay trees [] ≡ trees
 overlay_none trees =
     λ i t. ap (λ o. unwrap_or o (trees t)) (both_alike (nat_le (2 ^ 31) t) None) i
 
--- what a text gives is an answer of the query that it means
+-- a text shows an answer of the query that it means
 pub answers : (q : Query) (sql : List ℕ) (params : Row) (old mid new : State)
     → Means old.now.schema q sql → IsUnchanged old mid
     → (rows : List Row) → Shown sql params mid new rows → IsAnswer q old.now.trees params rows
@@ -97,7 +97,7 @@ answers q sql params old mid new means same rows h =
     overlay_none mid.now.trees ∙ ap (λ d. d.trees) same.0.now_is in
     subst (λ trees. IsAnswer q trees params rows) bare answer
 
--- an answer shows all matches, in the order that is asked
+-- an answer shows all matches, in the order of the query
 pub arranged : (from : Join) (where_ shown : List Term) (order : List (Term × Key)) (trees : Trees)
     (params : Row) (rows : List Row) → IsAnswer (asks from where_ shown order) trees params rows
     → (found : List Env) × (rows ≡ map (eval_all shown) found)

@@ -1,4 +1,4 @@
--- What the numbers of the stored batches tell of the batches.
+-- The stored batches, according to the numbers found.
 use Rattle.std.proofs.Common.{◌≡◌, ℕ, List, [], ◌∷◌, map, take, drop, length, codes, not, ◌&&◌, Option, Some, None, true, false, Result, Ok, Err, IfOk, OnOk, pos, refl, sym, ap, ap₂, subst, ◌∙◌, arith, IsPermutation}
 use Rattle.std.specs.Prelude.{Vec}
 use Rattle.std.specs.List.{AllByRecursion}
@@ -99,7 +99,7 @@ module _ (version : Version) (db : Database) (is : db.schema ≡ schema_of versi
       ∙ map_agree (λ r. picked (keyed r)) counts_shown
       (λ r. rw (column_later r 1, column_later r 2, column_later r 3) refl) (db.trees 14)
 
-  -- the table's batches have the numbers that were found; or there are none that fit
+  -- the table's batches have the numbers found, or there are no batches that fit
   pub batches_found : (found : Option (Vec BatchCountsRow Global))
       → IsFound FitsCounts counts_columns counts_shown (db.trees 14) found → IsFoundBatches db found
   batches_found (Some found) holds =
@@ -135,7 +135,7 @@ module _ (version : Version) (db : Database) (is : db.schema ≡ schema_of versi
       none (map counts_of batches) (all-map FitsCounts counts_of batches fit)
       (record { rowids = holds.rowids; same = same })
 
--- of what is Ok, with what an Ok leaves
+-- two facts about an `Ok` give a third about its value
 pub ok_both : {T E : Type 0} (r : Result T E) (Q : Type 0) (P R : T → Type 0) → OnOk r Q → IfOk r P
     → ((x : T) → Q → P x → R x) → IfOk r R
 ok_both (Ok x) Q P R q p f = f x q p

@@ -1,4 +1,4 @@
--- What the statement on the table batch means, and what it makes of the tables.
+-- The meaning of the statement on the table batch, and its effect.
 use Rattle.std.proofs.Common.{◌≡◌, ℕ, pos, List, [], ◌∷◌, map, codes, true, Ok, refl, ◌∙◌}
 use Rattle.sqlite_trees.specs.Tree.{put_row}
 use Rattle.sqlite_value.specs.declared.value.Value.TheVariants.{Null, Int, Blob}
@@ -13,7 +13,7 @@ use Rattle.sqlite.proofs.Callers.{IsPlain, command_of}
 use Rattle.sqlite_tied.specs.Compute.{everything}
 use Rattle.office_schema.specs.Schema.{office_schema, batch_table}
 use Rattle.office_tables.specs.Tables.{Tables, Batch}
-use Rattle.office_tables.specs.Standing.{Stands}
+use Rattle.office_tables.specs.TablesHeld.{HoldsTables}
 use Rattle.office_tables.specs.Stored.{keyed}
 use Rattle.office_tables.specs.Batch.{batch_columns}
 use Rattle.office_tables.proofs.Casts.{cast_int, cast_null}
@@ -38,9 +38,9 @@ insert_plain : IsPlain (understood office_schema insert_text)
 unfolding understood everything
 insert_plain = (refl, refl)
 
-pub added : (old new : State) (row : Batch) (count : ℕ) (t : Tables) → Stands old.now t
+pub added : (old new : State) (row : Batch) (count : ℕ) (t : Tables) → HoldsTables old.now t
     → Executes insert_text (batch_columns row) old new (Ok count)
-    → Stands new.now (record t { batch = row ∷ t.batch })
+    → HoldsTables new.now (record t { batch = row ∷ t.batch })
 added old new row count t stands h =
     let done = inserts insert_text _ old new count office_schema stands.schema insert_plain
     9 batch_table refl insert_terms 6 insert_is (λ taken news. refl) h in

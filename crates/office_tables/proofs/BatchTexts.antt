@@ -1,4 +1,4 @@
--- What is read of the table of batches.
+-- The rows that queries read from the table of batches.
 use Rattle.std.proofs.Common.{◌≡◌, ◌≢◌, ◌≤◌, ◌<◌, ℕ, pos, Bool, true, false, cond, List, [], ◌∷◌, ◌++◌, map, filter, length, ◌==◌, codes, Option, Some, None, refl, sym, ap, ◌∙◌, ◌↔◌, arith, length-append, IsPermutation}
 use Rattle.std.specs.Prelude.{option_to_list, IsSome}
 use Rattle.std.specs.List.{AllByRecursion}
@@ -21,7 +21,7 @@ use Rattle.office_tables.specs.Versions.{schema_of}
 use Rattle.office_tables.specs.Asking.{asks, IsReadOf, Means}
 use Rattle.office_tables.specs.Batch.{batch_from, batch_columns}
 use Rattle.office_tables.specs.Tables.{Tables, Batch}
-use Rattle.office_tables.specs.Standing.{StandsIn}
+use Rattle.office_tables.specs.TablesHeld.{HoldsTablesIn}
 use Rattle.office_tables.specs.Stored.{keyed}
 use Rattle.office_tables.specs.declared.batch.BatchRow.{BatchRow}
 use Rattle.office_tables.proofs.OrderLemmas.{read, rising, table_shown, typed}
@@ -29,8 +29,8 @@ use Rattle.office_tables.proofs.Queries.{column_later, equal_numbers, equals, pa
 use Rattle.office_tables.proofs.RecordsBack.{batch_of}
 use Rattle.office_tables.proofs.TableLemmas.{keys_once}
 
--- a number is kept once
-pub kept_once : (version : Version) (db : Database) (t : Tables) → StandsIn version db t
+-- no two batches have the same number
+pub kept_once : (version : Version) (db : Database) (t : Tables) → HoldsTablesIn version db t
     → IsAscending (λ a b. a.no ≢ b.no) t.batch
 kept_once version db t stands =
     keys_once batch_columns (λ (b : Batch). b.no) (λ b. refl) t.batch (db.trees 14)
@@ -75,7 +75,7 @@ shown_is r = rw (
   column_later r 3,
 ) refl
 
-rows_read : (version : Version) (db : Database) (n : ℕ) (t : Tables) → StandsIn version db t
+rows_read : (version : Version) (db : Database) (n : ℕ) (t : Tables) → HoldsTablesIn version db t
     → (found : List Batch)
     → IsReadOf batch_columns 5 (Int (pos n) ∷ []) batch_of_query db.trees found
     → IsPermutation (filter (λ r. r.no == n) t.batch) found
@@ -110,7 +110,7 @@ one_at_most n [] all up = omega arith
 one_at_most n (r ∷ []) all up = omega arith
 one_at_most n (r ∷ s ∷ rows) all up = absurd (up.0.0 (all.0 ∙ sym all.1.0))
 
--- of one row at most, the last is all
+-- if there is at most one row, the last is all of them
 last_alone : {X : Type 0} (xs rest : List X) (last : Option X) → xs ≡ rest ++ option_to_list last
     → IsSome last ↔ (0 < length xs) → length xs ≤ 1 → xs ≡ option_to_list last
 last_alone [] rest None is some few = refl
@@ -121,7 +121,7 @@ last_alone xs (z ∷ rest) (Some y) is some few =
     absurd (omega (arith, few, long, ap length is))
 
 pub batch_of_read : (version : Version) (db : Database) (n : ℕ) (t : Tables)
-    → StandsIn version db t
+    → HoldsTablesIn version db t
     → (found rest : List BatchRow) (last : Option BatchRow)
     → IsReadOf (λ r. batch_columns (batch_from r)) 5
     (Int (pos n) ∷ []) batch_of_query db.trees found

@@ -1,4 +1,4 @@
--- What each CREATE TABLE means, one after the other.
+-- The meaning of each CREATE TABLE, one after the other.
 use Rattle.std.proofs.Common.{◌≡◌, ◌∙◌, ℕ, List, [], false, codes, length, Ok, ap, arith, refl, sym}
 use Rattle.std.specs.Fmt.{digits}
 use Rattle.sqlite.specs.Command.TheVariants.{CreateTable}
@@ -15,20 +15,20 @@ use Rattle.sqlite.specs.State.{State}
 use Rattle.sqlite.specs.Effect.{Database}
 use Rattle.office_tables.specs.Steps.{HasRun, Leads}
 use Rattle.office_tables.specs.Tables.{Tables}
-use Rattle.office_tables.specs.Standing.{Stands}
+use Rattle.office_tables.specs.TablesHeld.{HoldsTables}
 use Rattle.office_tables.proofs.Statements.{creates}
 use Rattle.office_schema.specs.Schema.{office_schema, schema_before}
 use Rattle.office_tables.specs.Schema.{HasRows, IsBlank, no_schema, schema_1, schema_2, schema_3, schema_4, schema_5, schema_6, schema_7, schema_8, schema_9, schema_10, schema_11, schema_12}
 use Rattle.office_schema.specs.Schema.{meta_table, owner_table, enrol_table, draft_table, slot_table, placed_table, seat_table, share_student_table, share_part_table, batch_table, night_draft_table, night_share_table}
 
--- under this schema the text makes this table
+-- under this schema the text creates this table
 pub record Defines (schema : Schema) (text : List ℕ) (table : Table) : Type 0 where
   pub command : command_of (understood schema text) ≡ CreateTable
   pub whole : statement_of text (understood schema text) ≡ text
   pub defined : table_defined_by text ≡ Ok (record table { tree = 0 })
   pub plain : IsPlain (understood schema text)
 
--- so where it has run the table is there, and the rows of the others stay
+-- so after it has run, the table exists, and the rows of the others stay
 pub makes_beside : (schema : Schema) (text : List ℕ) (table : Table) (old new : State)
     → Defines schema text table
     → lacks_sequence (created schema table) ≡ false
@@ -41,7 +41,7 @@ makes_beside schema text table old new it counted trees none ran = (
       it.whole it.defined counted ran.executed,
 )
 
--- the same beside tables with no row
+-- the same if the other tables have no rows
 pub makes : (schema : Schema) (text : List ℕ) (table : Table) (old new : State)
     → Defines schema text table
     → lacks_sequence (created schema table) ≡ false
@@ -137,18 +137,18 @@ unfolding understood everything
 night_share_defined =
     record { command = refl; whole = refl; defined = refl; plain = (refl, refl) }
 
--- ten texts make version 1
+-- ten texts create version 1
 pub ten : schema_10 ≡ schema_before
 unfolding digits
 ten = refl
 
--- all twelve make version 2
+-- all twelve create version 2
 pub whole : schema_12 ≡ office_schema
 unfolding digits
 whole = refl
 
--- a database where these tables stand is not bare
-pub has_tables : (db : Database) (t : Tables) → Stands db t → db.schema ≡ no_schema → ⊥
+-- a database with these tables is not bare
+pub has_tables : (db : Database) (t : Tables) → HoldsTables db t → db.schema ≡ no_schema → ⊥
 has_tables db t stands bare =
     let none : length office_schema.tables ≡ length no_schema.tables =
     ap (λ (s : Schema). length s.tables) (sym stands.schema ∙ bare) in

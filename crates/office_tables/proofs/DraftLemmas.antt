@@ -1,4 +1,4 @@
--- What each statement on the tables draft and night_draft means, and what it makes of the tables.
+-- The meaning of each statement on the tables draft and night_draft, and its effect.
 use Rattle.std.proofs.Common.{◌≡◌, ℕ, pos, List, [], ◌∷◌, map, filter, not, ◌==◌, codes, true, Ok, arith, refl, ◌∙◌}
 use Rattle.sqlite_trees.specs.Tree.{put_row}
 use Rattle.sqlite_value.specs.declared.value.Value.TheVariants.{Null, Int}
@@ -15,7 +15,7 @@ use Rattle.sqlite_tied.specs.Compute.{everything}
 use Rattle.office_tables.specs.declared.draft.DraftRow.{DraftRow}
 use Rattle.office_schema.specs.Schema.{office_schema, draft_table, night_draft_table}
 use Rattle.office_tables.specs.Tables.{Tables}
-use Rattle.office_tables.specs.Standing.{Stands}
+use Rattle.office_tables.specs.TablesHeld.{HoldsTables}
 use Rattle.office_tables.specs.Stored.{Holds, keyed}
 use Rattle.office_tables.specs.Draft.{draft_columns, night_draft_columns}
 use Rattle.office_tables.proofs.Casts.{cast_int, cast_null}
@@ -88,16 +88,16 @@ insert_night_plain : IsPlain (understood office_schema insert_night_text)
 unfolding understood everything
 insert_night_plain = (refl, refl)
 
--- what is in the second table stays beside a change of the first
-nights_beside : (old mid : Database) (t : Tables) → Stands old t → Others 4 old.trees mid.trees
+-- a change of the first table leaves the second unchanged
+nights_beside : (old mid : Database) (t : Tables) → HoldsTables old t → Others 4 old.trees mid.trees
     → Holds keyed (map night_draft_columns t.draft) (mid.trees 15)
 nights_beside old mid t stands others =
     still keyed _ _ _ (others.1.1.1.1.1.1.1.1.1.1.0 (omega arith)) stands.night_draft
 
 pub added : (old mid new : State) (row : DraftRow) (first second : ℕ) (t : Tables)
-    → Stands old.now t → Executes insert_text (draft_columns row) old mid (Ok first)
+    → HoldsTables old.now t → Executes insert_text (draft_columns row) old mid (Ok first)
     → Executes insert_night_text (night_draft_columns row) mid new (Ok second)
-    → Stands new.now (record t { draft = row ∷ t.draft })
+    → HoldsTables new.now (record t { draft = row ∷ t.draft })
 added old mid new row first second t stands h k =
     let one = costs_added old mid row first t.draft stands.schema stands.draft h in
     drafts_changed old.now mid.now new.now t stands (row ∷ t.draft) one
@@ -133,9 +133,9 @@ unfolding understood everything
 delete_night_plain = (refl, refl)
 
 pub deleted : (old mid new : State) (number : ℕ) (first second : ℕ) (t : Tables)
-    → Stands old.now t → Executes delete_text (Int (pos number) ∷ []) old mid (Ok first)
+    → HoldsTables old.now t → Executes delete_text (Int (pos number) ∷ []) old mid (Ok first)
     → Executes delete_night_text (Int (pos number) ∷ []) mid new (Ok second)
-    → Stands new.now (record t { draft = filter (λ r. not (r.no == number)) t.draft })
+    → HoldsTables new.now (record t { draft = filter (λ r. not (r.no == number)) t.draft })
 deleted old mid new number first second t stands h k =
     let one =
     keyed_deleted delete_text delete_plain 3 draft_table refl (λ taken news. refl) delete_is
@@ -174,9 +174,9 @@ clear_night_plain : IsPlain (understood office_schema clear_night_text)
 unfolding understood everything
 clear_night_plain = (refl, refl)
 
-pub cleared : (old mid new : State) (first second : ℕ) (t : Tables) → Stands old.now t
+pub cleared : (old mid new : State) (first second : ℕ) (t : Tables) → HoldsTables old.now t
     → Executes clear_text [] old mid (Ok first) → Executes clear_night_text [] mid new (Ok second)
-    → Stands new.now (record t { draft = [] })
+    → HoldsTables new.now (record t { draft = [] })
 cleared old mid new first second t stands h k =
     let one = keyed_cleared clear_text clear_plain 3 draft_table refl (λ taken news. refl) clear_is
     (map draft_columns t.draft) first old mid stands.schema stands.draft h in

@@ -1,4 +1,4 @@
--- What each statement on the table enrol means, and what it makes of the tables.
+-- The meaning of each statement on the table enrol, and its effect.
 use Rattle.std.proofs.Common.{◌≡◌, ℕ, pos, List, [], ◌∷◌, map, filter, not, ◌==◌, ◌&&◌, ◌++◌, codes, flat_map, length, reverse, true, Ok, refl, sym, ap, subst, ◌∙◌}
 use Rattle.sqlite_trees.specs.Tree.{put_row}
 use Rattle.sqlite_value.specs.declared.value.Value.TheVariants.{Null, Int}
@@ -17,7 +17,7 @@ use Rattle.office_tables.specs.declared.enrol.EnrolRow.{EnrolRow}
 use Rattle.office_tables.specs.declared.enrol.InsertEnrol.{InsertEnrol}
 use Rattle.office_schema.specs.Schema.{office_schema, enrol_table}
 use Rattle.office_tables.specs.Tables.{Tables}
-use Rattle.office_tables.specs.Standing.{Stands}
+use Rattle.office_tables.specs.TablesHeld.{HoldsTables}
 use Rattle.office_tables.specs.Stored.{keyless}
 use Rattle.office_tables.specs.Enrol.{enrol_columns, with_enrol}
 use Rattle.office_tables.proofs.AlterationLemmas.{enrols_put}
@@ -44,9 +44,9 @@ insert_plain : IsPlain (understood office_schema insert_text)
 unfolding understood everything
 insert_plain = (refl, refl)
 
-pub added : (old new : State) (row : EnrolRow) (count : ℕ) (t : Tables) → Stands old.now t
+pub added : (old new : State) (row : EnrolRow) (count : ℕ) (t : Tables) → HoldsTables old.now t
     → Executes insert_text (enrol_columns row) old new (Ok count)
-    → Stands new.now (record t { enrol = row ∷ t.enrol })
+    → HoldsTables new.now (record t { enrol = row ∷ t.enrol })
 added old new row count t stands h =
     let done = inserts insert_text _ old new count office_schema stands.schema insert_plain
     2 enrol_table refl insert_terms 3 insert_is (λ taken news. refl) h in
@@ -76,9 +76,9 @@ unfolding understood everything
 insert_many_plain = (refl, refl)
 
 pub added_many : (old new : State) (its : List InsertEnrol) → length its ≡ 32
-    → (count : ℕ) (t : Tables) → Stands old.now t
+    → (count : ℕ) (t : Tables) → HoldsTables old.now t
     → Executes insert_many_text (flat_map enrol_columns (map (λ it. it.row) its)) old new (Ok count)
-    → Stands new.now (after_all (λ it. with_enrol it.row) its t)
+    → HoldsTables new.now (after_all (λ it. with_enrol it.row) its t)
 added_many old new its long count t stands h =
     let rows : List EnrolRow = map (λ it. it.row) its in
     let done = added_numberless enrol_columns 2 (λ row. refl) insert_many_text 32 2 enrol_table refl
@@ -86,7 +86,7 @@ added_many old new its long count t stands h =
     (λ row. rw (cast_null, cast_int row.student, cast_int row.exam) refl)
     old new rows t.enrol (length-map its (λ it. it.row) ∙ long) count stands.schema
     stands.enrol h in
-    subst (Stands new.now) (sym (enrols_put its t))
+    subst (HoldsTables new.now) (sym (enrols_put its t))
     (enrol_changed old.now new.now t stands done.0 (reverse rows ++ t.enrol) done.1 done.2)
 
 -- ---- DELETE WHERE student = ?1 AND exam = ?2
@@ -103,9 +103,9 @@ delete_plain : IsPlain (understood office_schema delete_text)
 unfolding understood everything
 delete_plain = (refl, refl)
 
-pub deleted : (old new : State) (student exam : ℕ) (count : ℕ) (t : Tables) → Stands old.now t
+pub deleted : (old new : State) (student exam : ℕ) (count : ℕ) (t : Tables) → HoldsTables old.now t
     → Executes delete_text (Int (pos student) ∷ Int (pos exam) ∷ []) old new (Ok count)
-    → Stands new.now (record t {
+    → HoldsTables new.now (record t {
       enrol = filter (λ r. not ((r.student == student) && (r.exam == exam))) t.enrol;
     })
 deleted old new student exam count t stands h =

@@ -1,4 +1,4 @@
--- What is read of the table of enrolments.
+-- The rows that queries read from the table of enrolments.
 use Rattle.std.proofs.Common.{◌≡◌, ◌<◌, ℕ, pos, List, [], ◌∷◌, map, filter, true, ◌&&◌, ◌==◌, codes, refl, ap, arith, rules, IsPermutation, Option, Some, None}
 use Rattle.std.specs.List.{AllByRecursion}
 use Rattle.std.specs.Prelude.{IfSome, IsSome, Vec}
@@ -17,11 +17,11 @@ use Rattle.sqlite_tied.specs.Compute.{everything}
 use Rattle.office_schema.specs.Schema.{office_schema}
 use Rattle.office_tables.specs.Asking.{asks, IsReadOf, Means}
 use Rattle.office_tables.specs.Readings.{IsReadAnswer}
-use Rattle.office_tables.specs.Enrol.{FitsEnrol, HerEnrolsRise, enrol_columns}
+use Rattle.office_tables.specs.Enrol.{FitsEnrol, StudentEnrolsRise, enrol_columns}
 use Rattle.office_tables.specs.Selections.{IsInOrder}
 use Rattle.office_tables.specs.declared.enrol.EnrolRow.{EnrolRow}
 use Rattle.office_tables.specs.Tables.{Tables}
-use Rattle.office_tables.specs.Standing.{Stands}
+use Rattle.office_tables.specs.TablesHeld.{HoldsTables}
 use Rattle.office_tables.specs.Stored.{keyless}
 use Rattle.office_tables.proofs.OrderLemmas.{Rises, columns_shown, in_this_order, one_less, read, rising, table_shown}
 use Rattle.office_tables.proofs.Queries.{column_less, equal_numbers, equals, passes}
@@ -54,8 +54,8 @@ enrols_of_means = record {
   plain = (refl, refl);
 }
 
--- what is read of the table: hers
-module _ (db : Database) (number : ℕ) (t : Tables) (stands : Stands db t) where
+-- the rows read from the table: those of one student
+module _ (db : Database) (number : ℕ) (t : Tables) (stands : HoldsTables db t) where
   abbrev pub given : Row
   given = Int (pos number) ∷ []
 
@@ -89,7 +89,7 @@ module _ (db : Database) (number : ℕ) (t : Tables) (stands : Stands db t) wher
   found_rows None is = tt
 
   pub found_in_order : (found : Option (Vec EnrolRow Global)) → Answered found
-      → IfSome found (λ rows. IsInOrder HerEnrolsRise hers rows.items)
+      → IfSome found (λ rows. IsInOrder StudentEnrolsRise hers rows.items)
   found_in_order (Some rows) is =
       in_this_order (λ (a b : EnrolRow). a.exam < b.exam) (λ (x : EnrolRow). x.exam ∷ [])
       (λ x y low. one_less x.exam y.exam low) hers rows.items (enrols_of_read rows.items is)

@@ -9,7 +9,7 @@ use Rattle.sqlite_schema.specs.declared.schema.Table.{Table}
 use Rattle.sqlite.specs.Effect.{Database}
 use Rattle.office_schema.specs.Schema.{office_schema}
 use Rattle.office_tables.specs.Tables.{Tables, Meta, Batch}
-use Rattle.office_tables.specs.Standing.{Stands}
+use Rattle.office_tables.specs.TablesHeld.{HoldsTables}
 use Rattle.office_tables.specs.Stored.{Holds, keyless, keyed}
 use Rattle.office_tables.specs.Meta.{meta_columns}
 use Rattle.office_tables.specs.Owner.{owner_columns}
@@ -65,11 +65,11 @@ pub holds_none : (show : Row → Row) (stored : List Row) → stored ≡ [] → 
 holds_none show stored none =
     rw none (record { rowids = record { ints = tt; apart = tt }; same = IsPermutation-refl _ })
 
-module _ (old new : Database) (t : Tables) (stands : Stands old t)
+module _ (old new : Database) (t : Tables) (stands : HoldsTables old t)
     (schema : new.schema ≡ office_schema) where
   pub meta_changed : (rows : List Meta) → Others 0 old.trees new.trees
       → Holds keyed (map (meta_columns Two) rows) (new.trees 0)
-      → Stands new (record t { meta = rows })
+      → HoldsTables new (record t { meta = rows })
   meta_changed rows others held = record {
     schema = schema;
     meta = held;
@@ -88,7 +88,7 @@ module _ (old new : Database) (t : Tables) (stands : Stands old t)
   }
 
   pub owner_changed : (rows : List OwnerRow) → Others 1 old.trees new.trees
-      → Holds keyed (map owner_columns rows) (new.trees 1) → Stands new (record t { owner = rows })
+      → Holds keyed (map owner_columns rows) (new.trees 1) → HoldsTables new (record t { owner = rows })
   owner_changed rows others held = record {
     schema = schema;
     meta = still keyed _ _ _ (others.0 (omega arith)) stands.meta;
@@ -108,7 +108,7 @@ module _ (old new : Database) (t : Tables) (stands : Stands old t)
 
   pub enrol_changed : (rows : List EnrolRow) → Others 2 old.trees new.trees
       → Holds keyless (map enrol_columns rows) (new.trees 2)
-      → Stands new (record t { enrol = rows })
+      → HoldsTables new (record t { enrol = rows })
   enrol_changed rows others held = record {
     schema = schema;
     meta = still keyed _ _ _ (others.0 (omega arith)) stands.meta;
@@ -129,7 +129,7 @@ module _ (old new : Database) (t : Tables) (stands : Stands old t)
   pub draft_changed : (rows : List DraftRow) → BothOthers 4 15 old.trees new.trees
       → Holds keyed (map draft_columns rows) (new.trees 4)
       → Holds keyed (map night_draft_columns rows) (new.trees 15)
-      → Stands new (record t { draft = rows })
+      → HoldsTables new (record t { draft = rows })
   draft_changed rows others held nights = record {
     schema = schema;
     meta = still keyed _ _ _ (others.0 (omega arith) (omega arith)) stands.meta;
@@ -152,7 +152,7 @@ module _ (old new : Database) (t : Tables) (stands : Stands old t)
   }
 
   pub slot_changed : (rows : List SlotRow) → Others 5 old.trees new.trees
-      → Holds keyless (map slot_columns rows) (new.trees 5) → Stands new (record t { slot = rows })
+      → Holds keyless (map slot_columns rows) (new.trees 5) → HoldsTables new (record t { slot = rows })
   slot_changed rows others held = record {
     schema = schema;
     meta = still keyed _ _ _ (others.0 (omega arith)) stands.meta;
@@ -172,7 +172,7 @@ module _ (old new : Database) (t : Tables) (stands : Stands old t)
 
   pub placed_changed : (rows : List PlacedRow) → Others 7 old.trees new.trees
       → Holds keyed (map placed_columns rows) (new.trees 7)
-      → Stands new (record t { placed = rows })
+      → HoldsTables new (record t { placed = rows })
   placed_changed rows others held = record {
     schema = schema;
     meta = still keyed _ _ _ (others.0 (omega arith)) stands.meta;
@@ -191,7 +191,7 @@ module _ (old new : Database) (t : Tables) (stands : Stands old t)
   }
 
   pub seat_changed : (rows : List SeatRow) → Others 8 old.trees new.trees
-      → Holds keyless (map seat_columns rows) (new.trees 8) → Stands new (record t { seat = rows })
+      → Holds keyless (map seat_columns rows) (new.trees 8) → HoldsTables new (record t { seat = rows })
   seat_changed rows others held = record {
     schema = schema;
     meta = still keyed _ _ _ (others.0 (omega arith)) stands.meta;
@@ -212,7 +212,7 @@ module _ (old new : Database) (t : Tables) (stands : Stands old t)
   pub share_student_changed : (rows : List StudentShareRow) → BothOthers 11 16 old.trees new.trees
       → Holds keyed (map share_student_columns rows) (new.trees 11)
       → Holds keyed (map night_share_columns rows) (new.trees 16)
-      → Stands new (record t { share_student = rows })
+      → HoldsTables new (record t { share_student = rows })
   share_student_changed rows others held nights = record {
     schema = schema;
     meta = still keyed _ _ _ (others.0 (omega arith) (omega arith)) stands.meta;
@@ -235,7 +235,7 @@ module _ (old new : Database) (t : Tables) (stands : Stands old t)
 
   pub share_part_changed : (rows : List PartShareRow) → Others 12 old.trees new.trees
       → Holds keyless (map share_part_columns rows) (new.trees 12)
-      → Stands new (record t { share_part = rows })
+      → HoldsTables new (record t { share_part = rows })
   share_part_changed rows others held = record {
     schema = schema;
     meta = still keyed _ _ _ (others.0 (omega arith)) stands.meta;
@@ -254,7 +254,7 @@ module _ (old new : Database) (t : Tables) (stands : Stands old t)
   }
 
   pub batch_changed : (rows : List Batch) → Others 14 old.trees new.trees
-      → Holds keyed (map batch_columns rows) (new.trees 14) → Stands new (record t { batch = rows })
+      → Holds keyed (map batch_columns rows) (new.trees 14) → HoldsTables new (record t { batch = rows })
   batch_changed rows others held = record {
     schema = schema;
     meta = still keyed _ _ _ (others.0 (omega arith)) stands.meta;
@@ -272,10 +272,10 @@ module _ (old new : Database) (t : Tables) (stands : Stands old t)
         still keyed _ _ _ (others.1.1.1.1.1.1.1.1.1.1.1.0 (omega arith)) stands.night_share;
   }
 
-module _ (old mid new : Database) (t : Tables) (stands : Stands old t) where
+module _ (old mid new : Database) (t : Tables) (stands : HoldsTables old t) where
   pub drafts_changed : (rows : List DraftRow) → OneChanged 4 (map draft_columns rows) old mid
       → OneChanged 15 (map night_draft_columns rows) mid new
-      → Stands new (record t { draft = rows })
+      → HoldsTables new (record t { draft = rows })
   drafts_changed rows first second =
       draft_changed old new t stands second.schema rows
       (both_others 4 15 old.trees mid.trees new.trees first.others second.others)
@@ -284,7 +284,7 @@ module _ (old mid new : Database) (t : Tables) (stands : Stands old t) where
   pub student_shares_changed : (rows : List StudentShareRow)
       → OneChanged 11 (map share_student_columns rows) old mid
       → OneChanged 16 (map night_share_columns rows) mid new
-      → Stands new (record t { share_student = rows })
+      → HoldsTables new (record t { share_student = rows })
   student_shares_changed rows first second =
       share_student_changed old new t stands second.schema rows
       (both_others 11 16 old.trees mid.trees new.trees first.others second.others)

@@ -1,4 +1,4 @@
--- What a statement inside a transaction leaves of it.
+-- The effect of a statement inside a transaction.
 use Rattle.std.proofs.Common.{◌+◌, ◌<◌, ◌++◌, ◌∷◌, [], take, get_or, length, ◌≡◌, inl, inr, ℕ, List, Bool, true, false, Ok, Err, Result, refl, sym, ap, ◌∙◌, IsTrue, arith, OnOk}
 use Rattle.std.proofs.lemmas.List.{take_more}
 use Rattle.sqlite_value.specs.Order.{Row}
@@ -8,10 +8,10 @@ use Rattle.std.proofs.lemmas.Result.{on_ok_weaker}
 use Rattle.sqlite.proofs.StateLemmas.{survives_then}
 use Rattle.office_tables.specs.Alterations.{after_all}
 use Rattle.office_tables.specs.Tables.{Tables}
-use Rattle.office_tables.specs.Standing.{Stands}
+use Rattle.office_tables.specs.TablesHeld.{HoldsTables}
 use Rattle.office_tables.specs.Steps.{Within, HasRun, Makes}
 
--- what answers `Ok` was inside
+-- a connection that answers `Ok` was inside a transaction
 pub inside_of : {T E Z : Type 0} {x : T} {e : E} (b : Bool)
     → (b ≡ false → (◌≡◌ {A = Result T E} (Ok x) (Err e)) × Z) → IsTrue b
 inside_of true h = refl
@@ -62,20 +62,20 @@ pub makes_then : (f g : Tables → Tables) (a b c : State) → Makes f a b → M
     → Makes (λ t. g (f t)) a c
 makes_then f g a b c p q = (q.0, λ t h. q.1 (f t) (p.1 t h))
 
--- where a statement has run, the tables have changed as it changes them
+-- if a statement has run, the tables have the change that it makes
 pub changes_by : (f : Tables → Tables) (sql : List ℕ) (params : Row) (old new : State)
     (r : Result (Unit {0}) Error)
-    → ((count : ℕ) (t : Tables) → Stands old.now t → Executes sql params old new (Ok count)
-    → Stands new.now (f t))
+    → ((count : ℕ) (t : Tables) → HoldsTables old.now t → Executes sql params old new (Ok count)
+    → HoldsTables new.now (f t))
     → OnOk r (HasRun sql params old new) → OnOk r (Makes f old new)
 changes_by f sql params old new r step =
     on_ok_weaker r (λ ran. (ran.inside, λ t stands. step ran.count t stands ran.executed))
 
--- the same of two statements, one after the other
+-- the same for two statements, one after the other
 pub changes_by_two : (f : Tables → Tables) (sql : List ℕ) (params : Row) (more : List ℕ)
     (others : Row) (old mid new : State) (r : Result (Unit {0}) Error)
-    → ((first second : ℕ) (t : Tables) → Stands old.now t → Executes sql params old mid (Ok first)
-    → Executes more others mid new (Ok second) → Stands new.now (f t))
+    → ((first second : ℕ) (t : Tables) → HoldsTables old.now t → Executes sql params old mid (Ok first)
+    → Executes more others mid new (Ok second) → HoldsTables new.now (f t))
     → HasRun sql params old mid → OnOk r (HasRun more others mid new) → OnOk r (Makes f old new)
 changes_by_two f sql params more others old mid new r step ran =
     on_ok_weaker r (λ last. (

@@ -1,4 +1,4 @@
--- Two lists that are gone through together, by their numbers.
+-- Two lists that are traversed together, by their numbers.
 use Rattle.std.proofs.Common.{◌≡◌, ◌≢◌, ◌≤◌, ◌<◌, ◌+◌, ℕ, List, [], ◌∷◌, ◌++◌, map, take, length, get_or, sym, ap, ap₂, ◌∙◌}
 use Rattle.std.proofs.lemmas.List.{get_or-map, length-map, map-append, map_more, take_all}
 use Rattle.sqlite_value.specs.Order.{Row}
@@ -17,7 +17,7 @@ AreJoinedTo i first second number rows nights made =
 
 module _ {X : Type 0} (first second : X → Row) (number : X → ℕ) (rows : List X)
     (nights : List NightRow) where
-  -- one more of each
+  -- one more row of each
   pub next : (made grown : List X) (i : ℕ) (row x : X) (d : NightRow)
       → i < length rows → i < length nights → row ≡ get_or rows i row
       → grown ≡ made ++ x ∷ [] → (get_or nights i d).number ≡ number row → first x ≡ first row
@@ -35,12 +35,12 @@ module _ {X : Type 0} (first second : X → Row) (number : X → ℕ) (rows : Li
         ∙ sym (map_more night_columns nights i d within),
   )
 
-  -- lists of other lengths
+  -- lists of different lengths
   pub uneven : length rows ≢ length nights → map number rows ≢ map number_of_night nights
   uneven apart same =
       apart (sym (length-map rows number) ∙ ap length same ∙ length-map nights number_of_night)
 
-  -- a row and its night have other numbers
+  -- a row and its amount over night have different numbers
   pub differ : (i : ℕ) (row : X) (d : NightRow) → i < length rows → i < length nights
       → row ≡ get_or rows i row → (get_or nights i d).number ≢ number row
       → map number rows ≢ map number_of_night nights

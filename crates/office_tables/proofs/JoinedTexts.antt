@@ -1,4 +1,4 @@
--- What is read of enrolments and of published placements together.
+-- The rows that queries read from enrolments and published placements together.
 use Rattle.std.proofs.Common.{◌≡◌, ℕ, pos, List, [], ◌∷◌, ◌++◌, map, filter, flat_map, Bool, true, false, cond, ◌&&◌, ◌==◌, codes, refl, sym, ap, subst, ◌∙◌, IsPermutation}
 use Rattle.std.specs.List.{list_all}
 use Rattle.std.proofs.lemmas.List.Sorted.{IsPermutation-map, IsPermutation-trans}
@@ -20,7 +20,7 @@ use Rattle.office_tables.specs.declared.enrol.EnrolRow.{EnrolRow}
 use Rattle.office_tables.specs.declared.placed.PlacedRow.{PlacedRow}
 use Rattle.office_tables.specs.Placed.{placed_of, placed_columns}
 use Rattle.office_tables.specs.Tables.{Tables}
-use Rattle.office_tables.specs.Standing.{Stands}
+use Rattle.office_tables.specs.TablesHeld.{HoldsTables}
 use Rattle.office_tables.specs.Stored.{keyed, keyless}
 use Rattle.office_tables.specs.Enrol.{enrol_columns}
 use Rattle.office_tables.proofs.OrderLemmas.{Rises, read, rising}
@@ -77,7 +77,7 @@ placements_of_means = record {
   plain = (refl, refl);
 }
 
--- what the test says of what two rows show
+-- the test of what two rows show
 abbrev suits : Row → Row → Row → Bool
 suits params q s =
     list_all (holds (params ∷ q ∷ s ∷ []))
@@ -86,7 +86,7 @@ suits params q s =
 abbrev picked : Row → Row
 picked row = column row 0 ∷ column row 1 ∷ column row 2 ∷ []
 
--- the shown columns of the placements that suit what an enrolment shows
+-- the shown columns of the placements that match an enrolment
 abbrev suited : Row → Trees → Row → List Row
 suited params trees q = map picked (filter (suits params q) (map keyed (trees 7)))
 
@@ -116,7 +116,7 @@ module _ (params : Row) (trees : Trees) where
       ∙ flat_map_same_on _ (λ r. suited params trees (keyless r)) one_suited (trees 2)
       ∙ sym (flat_map-map (suited params trees) keyless (trees 2))
 
--- those that suit an enrolment, of the placements that a table holds
+-- the placements of a table that match an enrolment
 one_placed : (student : ℕ) (trees : Trees) (placed : List PlacedRow)
     → IsPermutation (map keyed (trees 7)) (map placed_columns placed) → (e : EnrolRow)
     → IsPermutation (suited (Int (pos student) ∷ []) trees (enrol_columns e))
@@ -134,14 +134,14 @@ one_placed student trees placed same e =
     (λ i p. equal_pairs e.student student p.exam e.exam i) in
     subst (IsPermutation _) typed kept
 
--- none suits another student's
-hers_alone : (student : ℕ) (placed : List PlacedRow) (enrols : List EnrolRow)
+-- no placement matches an enrolment of another student
+only_rows_of_student : (student : ℕ) (placed : List PlacedRow) (enrols : List EnrolRow)
     → flat_map (λ e. map placed_columns (filter (λ p. (e.student == student) && (p.exam == e.exam))
     placed)) enrols
     ≡ map placed_columns (flat_map (λ e. filter (λ p. p.exam == e.exam) placed)
     (filter (λ e. e.student == student) enrols))
-hers_alone student placed [] = refl
-hers_alone student placed (e ∷ enrols) =
+only_rows_of_student student placed [] = refl
+only_rows_of_student student placed (e ∷ enrols) =
     sym (map-flat_map placed_columns
     (λ x. filter (λ p. (x.student == student) && (p.exam == x.exam))
     placed) (e ∷ enrols))
@@ -165,7 +165,7 @@ hers_alone student placed (e ∷ enrols) =
     go [] = refl
     go (x ∷ es) = one (x.student == student) x _ _ (go es)
 
-pub placements_of_read : (db : Database) (student : ℕ) (t : Tables) → Stands db t
+pub placements_of_read : (db : Database) (student : ℕ) (t : Tables) → HoldsTables db t
     → (found : List PlacedRow)
     → IsReadOf placed_columns 3 (Int (pos student) ∷ []) placements_of_query db.trees found
     → IsPermutation (placed_of student t) found × Rises (λ (x : PlacedRow). x.exam ∷ []) found
@@ -177,7 +177,7 @@ placements_of_read db student t stands found is =
     let rows : IsPermutation (map (eval_all columns)
     (matches db.trees tests (inner 2 (inner 7 end)) (params ∷ [])))
     (map placed_columns (placed_of student t)) =
-    rw (all_suited params db.trees, sym (hers_alone student t.placed t.enrol))
+    rw (all_suited params db.trees, sym (only_rows_of_student student t.placed t.enrol))
     (IsPermutation-trans _ _ _ stored
     (rw (flat_map-map (suited params db.trees) enrol_columns t.enrol) typed)) in
     read placement_of placed_columns 3 (λ x. refl) (λ x. refl) (inner 2 (inner 7 end)) tests columns

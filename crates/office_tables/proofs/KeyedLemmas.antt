@@ -1,4 +1,4 @@
--- What statements on a table whose first column is the row's number make of it, whatever the table.
+-- The effect of statements on any table that has the row's number as its first column.
 use Rattle.std.proofs.Common.{◌≡◌, ℕ, pos, List, [], ◌∷◌, map, filter, not, ◌==◌, true, Ok, Some, slice_get, refl, ap, ◌∙◌}
 use Rattle.sqlite_schema.specs.declared.schema.Keys.TheVariants.{Enforced}
 use Rattle.sqlite_schema.specs.declared.schema.Table.{Table}

@@ -1,4 +1,4 @@
--- What a text that lists a table tells of it.
+-- What a table holds, according to a text that lists it.
 use Rattle.std.proofs.Common.{◌≡◌, ◌≢◌, ◌≤◌, ◌<◌, ◌+◌, ℕ, zero, suc, arith, List, [], ◌∷◌, map, length, get_or, Option, Some, None, Result, Ok, Err, refl, sym, ap, ap₂, subst, ◌∙◌, IsTrue, IsPermutation, IfOk, IfErr, OnOk}
 use Rattle.std.specs.List.{AllByRecursion}
 use Rattle.std.specs.Prelude.{Vec, IfSome}
@@ -90,7 +90,7 @@ pub same_map : {X Y : Type 0} (f g : X → Y) (xs : List X) → AllByRecursion (
 same_map f g [] h = refl
 same_map f g (x ∷ xs) h = ap₂ (λ y ys. y ∷ ys) h.0 (same_map f g xs h.1)
 
--- ---- from what is listed to what is stored
+-- ---- from listed rows to stored rows
 
 ids_adopted : (stored rows : List Row) → IsPermutation (map (only_column 0) stored) rows
     → HasRowids rows → HasRowids stored
@@ -138,7 +138,7 @@ module _ (width : ℕ) (show : Row → Row) (terms : List Term) (stored rows : L
       (all-map (λ r. width ≤ length r) (listed terms) stored
       (all_weaker _ (λ r. width ≤ length (listed terms r)) (λ r k. k.wide) stored whole))
 
--- a row that is of no record that fits
+-- no record that fits has this row
 pub unread : {X : Type 0} (fits : X → Type 0) (row_of : X → Row) (width : ℕ) (rows : List Row)
     (i : ℕ) (d : Row) → i < length rows
     → (width ≤ length (get_or rows i d) → (x : X) → fits x
@@ -155,7 +155,7 @@ unread {X} fits row_of width rows i d below refused wide made fit same =
     (all_from_map Made (columns_from 0 width) rows here) below in
     refused (all-get_or (λ r. width ≤ length r) rows i d wide below) it.0 it.1 it.2
 
--- where numbers come once, those of the rows that a text lists rise
+-- if the rows' numbers are distinct, those of the rows that a text lists rise
 pub listed_rise : (width tree : ℕ) (show : Row → Row) (terms : List Term) (trees : Trees)
     (rows : List Row)
     → AllByRecursion (λ r. IsListed width show r (listed terms r)) (trees tree)
@@ -170,7 +170,7 @@ listed_rise width tree show terms trees rows whole answer once =
     (rising_from_sorted terms width a.0 a.3
     (subst (λ l. HasRowids (map (only_column width) l)) a.1 ids))
 
--- what was read of the rows that a text lists is what the table holds
+-- the table holds the records that were read of the rows that a text lists
 pub adopted : {X : Type 0} (fits : X → Type 0) (row_of : X → Row) (width : ℕ) (show : Row → Row)
     (terms : List Term) (stored rows : List Row)
     → AllByRecursion (λ r. IsListed width show r (listed terms r)) stored
@@ -201,7 +201,7 @@ own_column : (width at : ℕ) (row : Row) → at < width
     → column (columns_from 0 width row) at ≡ column row at
 own_column width at row low = from_column 0 width at row low ∙ ap (column row) (omega arith)
 
--- if a column of what is listed is the row's number, it rises in the records that are read
+-- if a listed column is the row's number, it rises in the records that are read
 pub read_rises : {X : Type 0} (fits : X → Type 0) (row_of : X → Row) (width at : ℕ) → at < width
     → (terms : List Term) (stored rows : List Row)
     → ((r : Row) → column (listed terms r) at ≡ column (listed terms r) width)

@@ -1,4 +1,4 @@
--- A query that answers was asked of an open store.
+-- If a query is answered, the store was open.
 use Rattle.std.proofs.Common.{ℕ, List, Some, None, Option, IsTrue, codes, sym, subst, refl, Result, Ok, Err, OnErr}
 use Rattle.sqlite_value.specs.Order.{Row}
 use Rattle.sqlite_schema.specs.declared.command.Returning.{Returning}
@@ -8,7 +8,7 @@ use Rattle.sqlite.specs.State.{State, Shown, ShowsRows}
 use Rattle.sqlite.proofs.Callers.{IsPlain}
 use Rattle.sqlite_tied.specs.Compute.{everything}
 use Rattle.office_schema.specs.Schema.{office_schema}
-use Rattle.office_tables.specs.Standing.{Stands}
+use Rattle.office_tables.specs.TablesHeld.{HoldsTables}
 use Rattle.office_tables.specs.Tables.{Tables}
 
 open_rows : (old new : State) (sql : List ℕ) (c : Compiled) (params : Row) (rows : List Row)
@@ -29,7 +29,7 @@ pub look_plain : IsPlain (understood office_schema look_text)
 unfolding understood everything
 look_plain = (refl, refl)
 
-pub look_plain_in : (old : State) (t : Tables) → Stands old.now t
+pub look_plain_in : (old : State) (t : Tables) → HoldsTables old.now t
     → IsPlain (understood old.now.schema look_text)
 look_plain_in old t stands =
     subst (λ s. IsPlain (understood s look_text)) (sym stands.schema) look_plain

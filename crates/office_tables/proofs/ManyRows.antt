@@ -1,4 +1,4 @@
--- What a statement that inserts many rows makes of its table, whatever the table.
+-- The effect of a statement that inserts many rows, for any table.
 use Rattle.std.proofs.Common.{◌≡◌, ◌+◌, ◌*◌, ◌/◌, ◌<◌, ◌≢◌, ℕ, zero, suc, List, [], ◌∷◌, ◌++◌, map, length, take, drop, reverse, flat_map, slice_index_or, slice_get, Some, Bool, true, false, ◌&&◌, Ok, refl, sym, ap, ap₂, subst, ◌∙◌, arith, append_assoc, length-append, suc-mul, zero-mul, drop-drop, take-append-drop}
 use Rattle.std.specs.Fn.{Called, Mut}
 use Rattle.std.specs.Array.{IsMapOf, list_steps}
@@ -47,7 +47,7 @@ abbrev pub next_params : ℕ → ℕ → List Term
 next_params zero at = []
 next_params (suc w) at = col 0 at ∷ next_params w (suc at)
 
--- a row that gets its number by the table, and has the next w parameters
+-- a row that gets its number from the table, and has the next w parameters
 abbrev pub numberless : ℕ → ℕ → List Term
 numberless w at = lit Null ∷ next_params w at
 
@@ -98,8 +98,8 @@ AddsRows {X} columns source show w v terms =
     (λ t. t.tree ≢ base.tree → new.now.trees t.tree ≡ old.now.trees t.tree) office_schema.tables
     × Holds show (map columns (reverse rows ++ held)) (new.now.trees base.tree)
 
--- what is known of a table's rows: their columns, what a statement gives the table of each, and
--- how the table shows what it stores
+-- the facts about a table's rows: their columns, what a statement gives the table of each, and how
+-- the table shows what it stores
 module _ {X : Type 0} (columns source : X → Row) (show : Row → Row) (w v : ℕ)
     (terms : ℕ → List Term)
     (wide : (x : X) → length (columns x) ≡ w)
@@ -188,7 +188,7 @@ module _ {X : Type 0} (columns source : X → Row) (show : Row → Row) (w v : �
         kept [] = refl
         kept (x ∷ xs) = ap₂ (λ y ys. y ∷ ys) (cast x) (kept xs)
 
--- the same of rows that get their numbers by the table
+-- the same for rows that get their numbers from the table
 module _ {X : Type 0} (columns : X → Row) (w : ℕ) (wide : (x : X) → length (columns x) ≡ w) where
   abbrev pub sourced : X → Row
   sourced x = Null ∷ columns x
@@ -231,7 +231,7 @@ flat_params {A} {B} g row_of columns f xs ys n one long is =
         ∙ ap₂ (λ a b. a ++ b) (at 0 x y (omega arith))
         (go xs ys (omega (arith, same)) (λ i d e lt. at (suc i) d e (omega (arith, lt))))
 
--- a function that takes each row of an array may be called at each in turn
+-- a function that takes each row of an array may be called on each in turn
 pub takes_each : {X F : Type 0} (R : F → X → F → Type 0) (P : X → Type 0) (xs : List X) (f : F)
     → All P xs → CallableAtEachTurn list_steps R (λ _ x. P x) xs f
 takes_each {X} R P xs f each = record {
@@ -246,7 +246,7 @@ takes_each {X} R P xs f each = record {
 
 -- ---- by chunks
 
--- what holds of all rows holds of those of each chunk
+-- a fact about all rows is true of the rows of each chunk
 pub all_in_chunks : {A : Type 0} (P : A → Type 0) (n k : ℕ) (xs : List A) → All P xs
     → All (All P) (first_chunks n k xs)
 all_in_chunks P n zero xs each = All-nil (All P)
@@ -259,7 +259,7 @@ after_append : {A : Type 0} (f : A → Tables → Tables) (xs ys : List A) (t : 
 after_append f [] ys t = refl
 after_append f (x ∷ xs) ys t = after_append f xs ys (f x t)
 
--- the chunks, and then what is left, are all
+-- the chunks and the rest are all rows
 pub by_chunks : {A : Type 0} (f : A → Tables → Tables) (n k : ℕ) (xs : List A) (t : Tables)
     → after_all f (drop (k * n) xs) (after_all (after_all f) (first_chunks n k xs) t)
     ≡ after_all f xs t

@@ -1,4 +1,4 @@
--- What the rows of the table meta tell of it.
+-- The table meta, according to the rows found.
 use Rattle.std.proofs.Common.{◌≡◌, ◌≢◌, List, [], ◌∷◌, map, length, get_or, Option, Some, None, refl, sym, ap, subst, ◌∙◌, IsTrue, IsPermutation, arith}
 use Rattle.std.specs.List.{AllByRecursion}
 use Rattle.std.proofs.lemmas.List.Sorted.{IsPermutation-sym, IsPermutation-trans, length_permutation}
@@ -32,7 +32,7 @@ first_alone [] x long first = absurd (omega (arith, long))
 first_alone (y ∷ []) x long first = ap (λ v. v ∷ []) (sym first)
 first_alone (y ∷ z ∷ xs) x long first = absurd (omega (arith, long))
 
--- the row that stands alone has the number 0
+-- the only row has the number 0
 rowids_of_one : (version : Version) (stored : List Row) (m : Meta)
     → IsPermutation (map keyed stored) (meta_columns version m ∷ [])
     → HasRowids stored

@@ -1,4 +1,4 @@
--- What each statement on the table meta means, and what it makes of the tables.
+-- The meaning of each statement on the table meta, and its effect.
 use Rattle.std.proofs.Common.{◌≡◌, ℕ, pos, List, [], ◌∷◌, map, codes, true, Ok, refl, ◌∙◌}
 use Rattle.sqlite_trees.specs.Tree.{put_row}
 use Rattle.sqlite_value.specs.declared.value.Value.TheVariants.{Null, Int, Blob}
@@ -16,7 +16,7 @@ use Rattle.office_schema.specs.Schema.{office_schema, meta_table}
 use Rattle.office_tables.specs.declared.version.Version.TheVariants.{Two}
 use Rattle.office_tables.specs.Schema.{IsBlank}
 use Rattle.office_tables.specs.Tables.{Tables, Meta, empty_tables}
-use Rattle.office_tables.specs.Standing.{Stands}
+use Rattle.office_tables.specs.TablesHeld.{HoldsTables}
 use Rattle.office_tables.specs.Meta.{flag, meta_columns}
 use Rattle.office_tables.specs.Stored.{keyed, keyless}
 use Rattle.office_tables.proofs.Casts.{cast_int, cast_null}
@@ -41,10 +41,10 @@ insert_plain : IsPlain (understood office_schema insert_text)
 unfolding understood everything
 insert_plain = (refl, refl)
 
-pub added : (old new : State) (row : Meta) (count : ℕ) (t : Tables) → Stands old.now t
+pub added : (old new : State) (row : Meta) (count : ℕ) (t : Tables) → HoldsTables old.now t
     → Executes insert_text (Int (pos (flag row.published)) ∷ Blob row.instance ∷ [])
     old new (Ok count)
-    → Stands new.now (record t { meta = row ∷ t.meta })
+    → HoldsTables new.now (record t { meta = row ∷ t.meta })
 added old new row count t stands h =
     let done = inserts insert_text _ old new count office_schema stands.schema insert_plain
     0 meta_table refl insert_terms 5 insert_is (λ taken news. refl) h in
@@ -74,8 +74,8 @@ pub delete_plain : IsPlain (understood office_schema delete_text)
 unfolding understood everything
 delete_plain = (refl, refl)
 
-pub deleted : (old new : State) (count : ℕ) (t : Tables) → Stands old.now t
-    → Executes delete_text [] old new (Ok count) → Stands new.now (record t { meta = [] })
+pub deleted : (old new : State) (count : ℕ) (t : Tables) → HoldsTables old.now t
+    → Executes delete_text [] old new (Ok count) → HoldsTables new.now (record t { meta = [] })
 deleted old new count t stands h =
     let done = deletes delete_text [] old new count office_schema stands.schema delete_plain
     0 meta_table refl _ delete_is (λ taken news. refl) h in
@@ -87,9 +87,9 @@ deleted old new count t stands h =
     meta_changed old.now new.now t stands done.1 [] is.tables
     (holds_none keyed (new.now.trees 0) rows)
 
--- tables with no row hold none
+-- tables without rows hold none
 pub blank_stands : (db : Database) → IsBlank office_schema db
-    → Stands db (record empty_tables { meta = [] })
+    → HoldsTables db (record empty_tables { meta = [] })
 blank_stands db blank = record {
   schema = blank.schema_is;
   meta = holds_none keyed _ (blank.rows.0);

@@ -33,7 +33,7 @@ use Rattle.office_tables.specs.Meta.{meta_columns}
 use Rattle.office_tables.specs.Migrating.{IsWidened, without_nights}
 use Rattle.office_tables.specs.Schema.{HasRows, schema_10}
 use Rattle.office_tables.specs.ShareStudent.{share_student_columns, night_share_columns}
-use Rattle.office_tables.specs.Standing.{Stands, StandsBefore}
+use Rattle.office_tables.specs.TablesHeld.{HoldsTables, HoldsOldTables}
 use Rattle.office_tables.specs.Stored.{Holds, keyed, keyless}
 use Rattle.office_tables.specs.Tables.{Tables}
 use Rattle.office_tables.proofs.AskLemmas.{unmapped}
@@ -200,7 +200,7 @@ module _ (t : Tables) (a b c d : State) (wide : IsWidened t a.now)
     (drafts : OneChanged 15 (map (λ (r : DraftRow). amounts r.no) t.draft) b.now c.now)
     (shares : OneChanged 16 (map (λ (r : StudentShareRow). amounts r.student) t.share_student)
     c.now d.now) where
-  assembled : Stands d.now (record t { meta = [] })
+  assembled : HoldsTables d.now (record t { meta = [] })
   assembled =
       let rows = wide.widened.rows in
       let one = cleared.others in
@@ -252,10 +252,10 @@ module _ (t : Tables) (a b c d : State) (wide : IsWidened t a.now)
             (share_nights t.share_student before.night_share) shares.holds;
       }
 
--- the three statements make version 2 of all but the row about the office
+-- the three statements migrate all rows but the one about the office
 pub nights_filled : (t : Tables) (a b c d : State) (first second third : ℕ) → IsWidened t a.now
     → Executes delete_text [] a b (Ok first) → Executes fill_drafts_text [] b c (Ok second)
-    → Executes fill_shares_text [] c d (Ok third) → Stands d.now (record t { meta = [] })
+    → Executes fill_shares_text [] c d (Ok third) → HoldsTables d.now (record t { meta = [] })
 nights_filled t a b c d first second third wide h k l =
     let rows = wide.widened.rows in
     let before = wide.stands in
@@ -278,8 +278,8 @@ nights_filled t a b c d first second third wide h k l =
     ∙ one.others.1.1.1.1.1.1.1.1.1.1.1.0 (omega arith) ∙ rows.1.1.1.1.1.1.1.1.1.1.1.0) l in
     assembled t a b c d wide one two three
 
--- what the two CREATEs begin with
-pub begins : (db : Database) (t : Tables) → StandsBefore db t
+-- the state before the two CREATEs
+pub begins : (db : Database) (t : Tables) → HoldsOldTables db t
     → HasRows schema_10 (without_nights db.trees) db
 begins db t before =
     subst (λ s. HasRows s (without_nights db.trees) db) (sym ten)

@@ -1,4 +1,4 @@
--- Rows of two tables that go by the same numbers, as the rows of one list.
+-- Rows of two tables with the same numbers, as the rows of one list.
 use Rattle.std.proofs.Common.{◌≡◌, ◌≢◌, inl, inr, ◌<ℤ◌, ℕ, ℤ, pos, List, [], ◌∷◌, map, Option, Some, None, refl, sym, ap, ap₂, subst, ◌∙◌, arith, IsPermutation}
 use Rattle.std.specs.List.{AllByRecursion}
 use Rattle.std.specs.Prelude.{Vec, IfSome}
@@ -134,7 +134,7 @@ later_columns (v ∷ vs) = vs
 
 module _ {X : Type 0} (fits : X → Type 0) (shown columns_of nights_of : X → Row)
     (number night : X → ℕ) (splits : Splits fits shown columns_of nights_of number night) where
-  -- without the first column they are what is stored
+  -- without the first column they are the stored rows
   bare_holds : (stored : List Row) (rows : List X) → Holds with_no_night (map shown rows) stored
       → Holds keyed (map columns_of rows) stored
   bare_holds stored rows holds = record {
@@ -166,7 +166,7 @@ module _ {X : Type 0} (fits : X → Type 0) (shown columns_of nights_of : X → 
           ap (λ (r : Row). column r 0) (sym (splits.shown_is x)) ∙ all.0 in
           (let e = same_amount in cc, go xs all.1)
 
-  -- and with it, what they are without it
+  -- with a first column of 0 they are the rows shown
   shown_holds : (stored : List Row) (rows : List X) → Holds keyed (map columns_of rows) stored
       → AllByRecursion (λ x. night x ≡ 0) rows → Holds with_no_night (map shown rows) stored
   shown_holds stored rows holds none = record {
@@ -188,11 +188,18 @@ module _ {X : Type 0} (fits : X → Type 0) (shown columns_of nights_of : X → 
           (ap (λ n. Int (pos n) ∷ columns_of x) (sym all.0) ∙ sym (splits.shown_is x))
           (each xs all.1)
 
-  -- any rows are those of some without an amount
-  bare_rows : (rows : List X) → map columns_of (map splits.bare rows) ≡ map columns_of rows
+  -- rows with an amount of 0 have the columns of any rows
+  pub bare_rows : (rows : List X) → map columns_of (map splits.bare rows) ≡ map columns_of rows
   bare_rows rows =
       map-map columns_of splits.bare rows
       ∙ map_agree (λ x. columns_of (splits.bare x)) columns_of splits.bare_same rows
+
+  pub bare_shown : (stored : List Row) (rows : List X) → Holds keyed (map columns_of rows) stored
+      → Holds with_no_night (map shown (map splits.bare rows)) stored
+  bare_shown stored rows holds =
+      shown_holds stored (map splits.bare rows)
+      (subst (λ l. Holds keyed l stored) (sym (bare_rows rows)) holds)
+      (all-map (λ x. night x ≡ 0) splits.bare rows (all_of _ splits.bare_night rows))
 
   bare_fit : (rows : List X) → AllByRecursion fits rows → AllByRecursion fits (map splits.bare rows)
   bare_fit [] all = tt
@@ -203,10 +210,7 @@ module _ {X : Type 0} (fits : X → Type 0) (shown columns_of nights_of : X → 
       → Holds with_no_night (map shown rows) stored → ⊥)
       → (rows : List X) → AllByRecursion fits rows → Holds keyed (map columns_of rows) stored → ⊥
   unread stored none rows fit holds =
-      none (map splits.bare rows) (bare_fit rows fit)
-      (shown_holds stored (map splits.bare rows)
-      (subst (λ l. Holds keyed l stored) (sym (bare_rows rows)) holds)
-      (all-map (λ x. night x ≡ 0) splits.bare rows (all_of _ splits.bare_night rows)))
+      none (map splits.bare rows) (bare_fit rows fit) (bare_shown stored rows holds)
 
   apart : (stored nights_stored : List Row) (rows : List X) (nights : List NightRow)
       → Holds keyed (map columns_of rows) stored

@@ -1,4 +1,4 @@
--- What is read of two tables whose rows go by the same numbers.
+-- The rows that queries read from two tables, if the rows of both have the same numbers.
 use Rattle.std.proofs.Common.{◌≡◌, ◌≢◌, inl, inr, ℕ, pos, List, [], ◌∷◌, ◌++◌, map, filter, flat_map, Bool, true, false, cond, ◌&&◌, ◌==◌, refl, sym, ap, subst, ◌∙◌, arith, IsPermutation}
 use Rattle.std.specs.List.{AllByRecursion}
 use Rattle.std.proofs.lemmas.Bool.Decides.{nat_tests}
@@ -82,7 +82,7 @@ module _ {X : Type 0} (key : X → ℕ) where
 module _ {X : Type 0} (key : X → ℕ) (columns_of nights_of shown_of : X → Row)
     (first : (x : X) → column (columns_of x) 0 ≡ Int (pos (key x)))
     (params : Row) (one two : ℕ) (tests terms : List Term) (picked : Row → Row → Row)
-    -- what is tested and shown of two stored rows is so of their columns
+    -- the tests and the shown columns of two stored rows depend only on their columns
     (same_test : (r s : Row)
     → both_pass params tests r s ≡ both_pass params tests (keyed r) (keyed s))
     (same_shown : (r s : Row) → eval_all terms (params ∷ r ∷ s ∷ []) ≡ picked (keyed r) (keyed s))
@@ -90,7 +90,7 @@ module _ {X : Type 0} (key : X → ℕ) (columns_of nights_of shown_of : X → R
     (tested : (x y : X) → both_pass params tests (columns_of x) (nights_of y)
     ≡ (t x && (key y == key x)))
     (whole : (x : X) → picked (columns_of x) (nights_of x) ≡ shown_of x) where
-  -- what is shown of those that suit the columns of a first row
+  -- the columns shown of the rows that match a first row
   abbrev suited : Trees → Row → List Row
   suited trees q = map (picked q) (filter (both_pass params tests q) (map keyed (trees two)))
 
@@ -133,7 +133,7 @@ module _ {X : Type 0} (key : X → ℕ) (columns_of nights_of shown_of : X → R
       (λ i y. tested x y i) in
       subst (IsPermutation _) typed kept
 
-  -- what a SELECT shows of both tables is the rows that pass
+  -- a SELECT from both tables shows the rows that pass
   pub joined_shown : (trees : Trees) (xs : List X) → Holds keyed (map columns_of xs) (trees one)
       → Holds keyed (map nights_of xs) (trees two)
       → IsPermutation

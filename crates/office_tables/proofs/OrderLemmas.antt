@@ -1,5 +1,5 @@
 -- Rows in the order of ORDER BY, as records in the order of their numbers.
-use Rattle.std.proofs.Common.{◌≡◌, ◌≤◌, ℕ, zero, suc, ◌+◌, ◌<◌, ◌⊎◌, inl, inr, pos, Bool, List, [], ◌∷◌, map, filter, length, get_or, nat_cmp, int_cmp, Ordering, Less, is_lt, refl, sym, ap, ap₂, subst, ◌∙◌, arith, IsPermutation}
+use Rattle.std.proofs.Common.{◌≡◌, ◌≤◌, ℕ, zero, suc, ◌+◌, ◌<◌, ◌⊎◌, inl, inr, pos, Bool, false, List, [], ◌∷◌, map, filter, length, get_or, nat_cmp, int_cmp, Ordering, Less, is_lt, refl, sym, ap, ap₂, subst, subst₂, ◌∙◌, arith, IsPermutation}
 use Rattle.std.specs.Prelude.{slice_index_or, IsSortedByKey}
 use Rattle.std.specs.List.{AllByRecursion}
 use Rattle.std.specs.Ordering.{ordering_then, on}
@@ -94,7 +94,7 @@ sort_is shown by x y ns ms p q =
     (sorted_by shown by y ∙ q)
     ∙ by_numbers shown by ns ms (as_many by _ ns p) (as_many by _ ms q)
 
--- the records that rise strictly have no other order in which they rise
+-- records that rise strictly don't rise in any other order
 pub only_order : {R : Type 0} (key : R → List ℕ) (xs ys : List R) → StrictlyRises key xs
     → IsPermutation xs ys → Rises key ys → ys ≡ xs
 only_order key xs ys strict same up =
@@ -111,7 +111,23 @@ two_less a b c d (inl low) = grind (arith, nat_tests)
 two_less a b c d (inr same) =
     let here = same.0 in let next = same.1 in grind (arith, nat_tests)
 
--- what rises is the one list of its rows that does so strictly
+-- lists with the same numbers, in the same order, both rise or neither does
+pub rise_alike : {R : Type 0} (key : R → List ℕ) (xs ys : List R) → map key xs ≡ map key ys
+    → Rises key xs → Rises key ys
+rise_alike {R} key xs ys same up =
+    λ k d low within.
+    let long : length xs ≡ length ys =
+    sym (length-map xs key) ∙ ap length same ∙ length-map ys key in
+    subst₂ (λ m n. is_lt (numbers_cmp m n) ≡ false) (at (k + 1) d (omega (arith, long)) within)
+    (at k d (omega (arith, long)) (omega arith)) (up k d low (omega (arith, long)))
+  where
+    at : (k : ℕ) (d : R) → k < length xs → k < length ys
+        → key (get_or xs k d) ≡ key (get_or ys k d)
+    at k d here there =
+        sym (get_or-map key xs k d [] here) ∙ ap (λ l. get_or l k []) same
+        ∙ get_or-map key ys k d [] there
+
+-- a list that rises is the one list of its rows that rises strictly
 pub in_this_order : {R : Type 0} (Before : R → R → Type 0) (key : R → List ℕ)
     → ((x y : R) → Before x y → numbers_cmp (key x) (key y) ≡ Less)
     → (rows found : List R) → IsPermutation rows found × Rises key found
@@ -123,7 +139,7 @@ in_this_order Before key less rows found is ordered same up =
 
 -- ---- from matches to records
 
--- records that show what their rows show are read where the rows are
+-- if records are read of rows, so are the typed rows that the records show
 pub typed : {R X : Type 0} (row_of : X → Row) (row : R → X) (width : ℕ) (params : Row) (q : Query)
     (trees : Trees) (records : List R)
     → IsReadOf (λ r. row_of (row r)) width params q trees records
@@ -139,7 +155,7 @@ module _ {R : Type 0} (record_of : Row → R) (row_of : R → Row) (width : ℕ)
   itself : (xs : List R) → map record_of (map row_of xs) ≡ xs
   itself xs = map-map record_of row_of xs ∙ id_map (λ x. record_of (row_of x)) back xs
 
-  -- where the matches show these typed rows, the records are those, and they rise
+  -- if the matches show these typed rows, the records are those, and they rise
   pub read : (trees : Trees) (params : Row) (xs records : List R)
       → IsPermutation (map (eval_all shown) (matches trees where_ from (params ∷ [])))
       (map row_of xs)
@@ -171,7 +187,7 @@ module _ {R : Type 0} (record_of : Row → R) (row_of : R → Row) (width : ℕ)
       ∙ a.3 k [] low (omega arith) in
       (subst (IsPermutation xs) (sym is) u.2, subst (Rises key) (sym is) up)
 
--- where the matches show these typed rows, those of an answer do
+-- if the matches show these typed rows, the rows of an answer show them too
 pub columns_shown : {R : Type 0} (row_of : R → Row) (width : ℕ)
     (whole : (x : R) → columns_from 0 width (row_of x) ≡ row_of x)
     (long : (x : R) → width ≤ length (row_of x)) (from : Join) (where_ shown : List Term)
@@ -196,7 +212,7 @@ columns_shown row_of width whole long from where_ shown order trees params xs ro
 
 -- ---- from a table to matches
 
--- of a table that shows these typed rows, those that pass a test show the typed rows that pass it
+-- if a table shows these typed rows, those that pass a test show the typed rows that pass it
 passed : {R : Type 0} (row_of : R → Row) (show : Row → Row) (sees : Row → Row) (pick : Row → Row)
     (picks : (r : Row) → sees r ≡ pick (show r)) (picked : (x : R) → pick (row_of x) ≡ row_of x)
     (pass test : Row → Bool) (tests : (r : Row) → pass r ≡ test (show r))
@@ -219,7 +235,7 @@ passed row_of show sees pick picks picked pass test tests p tested stored xs h =
     map-map pick row_of _ ∙ map_agree _ row_of picked _ in
     rw (sym shows, sym rows) (IsPermutation-map pick _ _ kept)
 
--- the same of a text about one table
+-- the same for a text about one table
 pub table_shown : {R : Type 0} (row_of : R → Row) (show pick : Row → Row) (params : Row)
     (tree : ℕ) (where_ shown : List Term)
     (picks : (r : Row) → eval_all shown (params ∷ r ∷ []) ≡ pick (show r))

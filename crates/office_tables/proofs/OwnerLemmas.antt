@@ -1,4 +1,4 @@
--- What each statement on the table owner means, and what it makes of the tables.
+-- The meaning of each statement on the table owner, and its effect.
 use Rattle.std.proofs.Common.{◌≡◌, ℕ, pos, List, [], ◌∷◌, map, filter, not, ◌==◌, codes, true, Ok, refl, ap, ◌∙◌}
 use Rattle.sqlite_trees.specs.Tree.{put_row}
 use Rattle.sqlite_value.specs.declared.value.Value.TheVariants.{Null, Int}
@@ -14,7 +14,7 @@ use Rattle.sqlite_tied.specs.Compute.{everything}
 use Rattle.office_tables.specs.declared.owner.OwnerRow.{OwnerRow}
 use Rattle.office_schema.specs.Schema.{office_schema, owner_table}
 use Rattle.office_tables.specs.Tables.{Tables}
-use Rattle.office_tables.specs.Standing.{Stands}
+use Rattle.office_tables.specs.TablesHeld.{HoldsTables}
 use Rattle.office_tables.specs.Stored.{keyed}
 use Rattle.office_tables.specs.Owner.{owner_columns}
 use Rattle.office_tables.proofs.Casts.{cast_int, cast_null}
@@ -39,9 +39,9 @@ insert_plain : IsPlain (understood office_schema insert_text)
 unfolding understood everything
 insert_plain = (refl, refl)
 
-pub added : (old new : State) (row : OwnerRow) (count : ℕ) (t : Tables) → Stands old.now t
+pub added : (old new : State) (row : OwnerRow) (count : ℕ) (t : Tables) → HoldsTables old.now t
     → Executes insert_text (owner_columns row) old new (Ok count)
-    → Stands new.now (record t { owner = row ∷ t.owner })
+    → HoldsTables new.now (record t { owner = row ∷ t.owner })
 added old new row count t stands h =
     let done = inserts insert_text _ old new count office_schema stands.schema insert_plain
     1 owner_table refl insert_terms 3 insert_is (λ taken news. refl) h in
@@ -69,9 +69,9 @@ delete_plain : IsPlain (understood office_schema delete_text)
 unfolding understood everything
 delete_plain = (refl, refl)
 
-pub deleted : (old new : State) (exam : ℕ) (count : ℕ) (t : Tables) → Stands old.now t
+pub deleted : (old new : State) (exam : ℕ) (count : ℕ) (t : Tables) → HoldsTables old.now t
     → Executes delete_text (Int (pos exam) ∷ []) old new (Ok count)
-    → Stands new.now (record t { owner = filter (λ r. not (r.exam == exam)) t.owner })
+    → HoldsTables new.now (record t { owner = filter (λ r. not (r.exam == exam)) t.owner })
 deleted old new exam count t stands h =
     let params = Int (pos exam) ∷ [] in
     let done = deletes delete_text params old new count office_schema stands.schema delete_plain

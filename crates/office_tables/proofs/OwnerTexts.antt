@@ -1,4 +1,4 @@
--- What is read of the table of owners.
+-- The rows that queries read from the table of owners.
 use Rattle.std.proofs.Common.{◌≡◌, ℕ, pos, List, [], ◌∷◌, filter, ◌==◌, codes, refl, IsPermutation}
 use Rattle.sqlite_value.specs.declared.value.Value.TheVariants.{Int}
 use Rattle.sqlite_value.specs.Order.{Row, column}
@@ -11,7 +11,7 @@ use Rattle.office_schema.specs.Schema.{office_schema}
 use Rattle.office_tables.specs.Asking.{asks, IsReadOf, Means}
 use Rattle.office_tables.specs.declared.owner.OwnerRow.{OwnerRow}
 use Rattle.office_tables.specs.Tables.{Tables}
-use Rattle.office_tables.specs.Standing.{Stands}
+use Rattle.office_tables.specs.TablesHeld.{HoldsTables}
 use Rattle.office_tables.specs.Stored.{keyed}
 use Rattle.office_tables.specs.Owner.{owner_columns}
 use Rattle.office_tables.proofs.OrderLemmas.{read, rising, table_shown}
@@ -42,7 +42,7 @@ picked row = column row 0 ∷ column row 1 ∷ []
 shown_is : (r : Row) → column r 0 ∷ column r 2 ∷ [] ≡ picked (keyed r)
 shown_is r = rw (column_later r 0) refl
 
-pub owners_of_read : (db : Database) (exam : ℕ) (t : Tables) → Stands db t → (found : List OwnerRow)
+pub owners_of_read : (db : Database) (exam : ℕ) (t : Tables) → HoldsTables db t → (found : List OwnerRow)
     → IsReadOf owner_columns 2 (Int (pos exam) ∷ []) owners_of_query db.trees found
     → IsPermutation (filter (λ r. r.exam == exam) t.owner) found
 owners_of_read db exam t stands found is =

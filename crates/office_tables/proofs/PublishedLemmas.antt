@@ -1,4 +1,4 @@
--- What each statement on the tables of the publication means, and what it makes of the tables.
+-- The meaning of each statement on the tables of the publication, and its effect.
 use Rattle.std.proofs.Common.{◌≡◌, ℕ, suc, pos, List, [], ◌∷◌, ◌++◌, map, filter, not, ◌==◌, ◌&&◌, codes, drop, flat_map, length, reverse, true, Ok, refl, sym, ap, subst, ◌∙◌}
 use Rattle.sqlite_sql.specs.Ops.{binary, is_true}
 use Rattle.sqlite_sql.specs.declared.ops.BinaryOp.TheVariants.{Compare}
@@ -23,7 +23,7 @@ use Rattle.office_tables.specs.declared.seat.InsertSeat.{InsertSeat}
 use Rattle.office_tables.specs.declared.seat.SeatRow.{SeatRow}
 use Rattle.office_schema.specs.Schema.{office_schema, placed_table, seat_table}
 use Rattle.office_tables.specs.Tables.{Tables}
-use Rattle.office_tables.specs.Standing.{Stands}
+use Rattle.office_tables.specs.TablesHeld.{HoldsTables}
 use Rattle.office_tables.specs.Stored.{keyed, keyless}
 use Rattle.office_tables.specs.Placed.{placed_columns, with_placement}
 use Rattle.office_tables.specs.Seat.{seat_columns, with_seat}
@@ -53,9 +53,9 @@ unfolding understood everything
 insert_placement_plain = (refl, refl)
 
 pub placement_added : (old new : State) (row : PlacedRow) (count : ℕ) (t : Tables)
-    → Stands old.now t
+    → HoldsTables old.now t
     → Executes insert_placement_text (placed_columns row) old new (Ok count)
-    → Stands new.now (record t { placed = row ∷ t.placed })
+    → HoldsTables new.now (record t { placed = row ∷ t.placed })
 placement_added old new row count t stands h =
     let done = inserts insert_placement_text _ old new count office_schema stands.schema
     insert_placement_plain 5 placed_table refl insert_placement_terms 4 insert_placement_is
@@ -96,9 +96,9 @@ unfolding understood everything
 insert_placements_plain = (refl, refl)
 
 pub placements_added : (old new : State) (its : List InsertPlacement) → length its ≡ 16
-    → (count : ℕ) (t : Tables) → Stands old.now t
+    → (count : ℕ) (t : Tables) → HoldsTables old.now t
     → Executes insert_placements_text (flat_map placed_columns (map (λ it. it.row) its)) old new (Ok count)
-    → Stands new.now (after_all (λ it. with_placement it.row) its t)
+    → HoldsTables new.now (after_all (λ it. with_placement it.row) its t)
 placements_added old new its long count t stands h =
     let rows : List PlacedRow = map (λ it. it.row) its in
     let done = added_rows placed_columns keyed_row keyed 3 4 keyed_terms
@@ -111,7 +111,7 @@ placements_added old new its long count t stands h =
     (λ row. rw (cast_null, cast_int row.exam, cast_int row.period, cast_int row.room) refl)
     old new rows t.placed (length-map its (λ it. it.row) ∙ long) count stands.schema
     stands.placed h in
-    subst (Stands new.now) (sym (placements_put its t))
+    subst (HoldsTables new.now) (sym (placements_put its t))
     (placed_changed old.now new.now t stands done.0 (reverse rows ++ t.placed) done.1 done.2)
 
 -- ---- DELETE FROM placed WHERE exam = ?1
@@ -128,9 +128,9 @@ delete_exam_plain : IsPlain (understood office_schema delete_exam_text)
 unfolding understood everything
 delete_exam_plain = (refl, refl)
 
-pub placement_deleted : (old new : State) (exam : ℕ) (count : ℕ) (t : Tables) → Stands old.now t
+pub placement_deleted : (old new : State) (exam : ℕ) (count : ℕ) (t : Tables) → HoldsTables old.now t
     → Executes delete_exam_text (Int (pos exam) ∷ []) old new (Ok count)
-    → Stands new.now (record t { placed = filter (λ r. not (r.exam == exam)) t.placed })
+    → HoldsTables new.now (record t { placed = filter (λ r. not (r.exam == exam)) t.placed })
 placement_deleted old new exam count t stands h =
     let params = Int (pos exam) ∷ [] in
     let done = deletes delete_exam_text params old new count office_schema stands.schema
@@ -165,9 +165,9 @@ delete_placement_plain : IsPlain (understood office_schema delete_placement_text
 unfolding understood everything
 delete_placement_plain = (refl, refl)
 
-pub placement_cleared : (old new : State) (count : ℕ) (t : Tables) → Stands old.now t
+pub placement_cleared : (old new : State) (count : ℕ) (t : Tables) → HoldsTables old.now t
     → Executes delete_placement_text [] old new (Ok count)
-    → Stands new.now (record t { placed = [] })
+    → HoldsTables new.now (record t { placed = [] })
 placement_cleared old new count t stands h =
     let done = deletes delete_placement_text [] old new count office_schema stands.schema
     delete_placement_plain 5 placed_table refl _ delete_placement_is (λ taken news. refl) h in
@@ -197,9 +197,9 @@ insert_seat_plain : IsPlain (understood office_schema insert_seat_text)
 unfolding understood everything
 insert_seat_plain = (refl, refl)
 
-pub seat_added : (old new : State) (row : SeatRow) (count : ℕ) (t : Tables) → Stands old.now t
+pub seat_added : (old new : State) (row : SeatRow) (count : ℕ) (t : Tables) → HoldsTables old.now t
     → Executes insert_seat_text (seat_columns row) old new (Ok count)
-    → Stands new.now (record t { seat = row ∷ t.seat })
+    → HoldsTables new.now (record t { seat = row ∷ t.seat })
 seat_added old new row count t stands h =
     let done = inserts insert_seat_text _ old new count office_schema stands.schema
     insert_seat_plain 6 seat_table refl insert_seat_terms 6 insert_seat_is
@@ -239,9 +239,9 @@ unfolding understood everything
 insert_seats_plain = (refl, refl)
 
 pub seats_added : (old new : State) (its : List InsertSeat) → length its ≡ 16
-    → (count : ℕ) (t : Tables) → Stands old.now t
+    → (count : ℕ) (t : Tables) → HoldsTables old.now t
     → Executes insert_seats_text (flat_map seat_columns (map (λ it. it.row) its)) old new (Ok count)
-    → Stands new.now (after_all (λ it. with_seat it.row) its t)
+    → HoldsTables new.now (after_all (λ it. with_seat it.row) its t)
 seats_added old new its long count t stands h =
     let rows : List SeatRow = map (λ it. it.row) its in
     let done = added_numberless seat_columns 5 (λ row. refl) insert_seats_text 16 6 seat_table
@@ -250,7 +250,7 @@ seats_added old new its long count t stands h =
     (λ row. rw (cast_null, cast_int row.student, cast_int row.exam, cast_int row.period, cast_int row.room, cast_int row.seat) refl)
     old new rows t.seat (length-map its (λ it. it.row) ∙ long) count stands.schema
     stands.seat h in
-    subst (Stands new.now) (sym (seats_put its t))
+    subst (HoldsTables new.now) (sym (seats_put its t))
     (seat_changed old.now new.now t stands done.0 (reverse rows ++ t.seat) done.1 done.2)
 
 -- ---- DELETE FROM seat WHERE student = ?1
@@ -268,9 +268,9 @@ unfolding understood everything
 delete_student_seats_plain = (refl, refl)
 
 pub student_seats_deleted : (old new : State) (number : ℕ) (count : ℕ) (t : Tables)
-    → Stands old.now t
+    → HoldsTables old.now t
     → Executes delete_student_seats_text (Int (pos number) ∷ []) old new (Ok count)
-    → Stands new.now (record t { seat = filter (λ r. not (r.student == number)) t.seat })
+    → HoldsTables new.now (record t { seat = filter (λ r. not (r.student == number)) t.seat })
 student_seats_deleted old new number count t stands h =
     let params = Int (pos number) ∷ [] in
     let done = deletes delete_student_seats_text params old new count office_schema stands.schema

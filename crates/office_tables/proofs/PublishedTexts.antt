@@ -1,4 +1,4 @@
--- What is read of the tables of the publication.
+-- The rows that queries read from the tables of the publication.
 use Rattle.std.proofs.Common.{◌≡◌, ℕ, pos, List, [], ◌∷◌, map, filter, true, ◌&&◌, ◌==◌, codes, refl, ap, subst, IsPermutation}
 use Rattle.sqlite_sql.specs.declared.ops.BinaryOp.TheVariants.{Compare}
 use Rattle.sqlite_sql.specs.declared.ops.CompareOp.TheVariants.{Eq}
@@ -16,7 +16,7 @@ use Rattle.office_tables.specs.Asking.{asks, IsReadOf, Means}
 use Rattle.office_tables.specs.declared.placed.PlacedRow.{PlacedRow}
 use Rattle.office_tables.specs.declared.seat.SeatRow.{SeatRow}
 use Rattle.office_tables.specs.Tables.{Tables}
-use Rattle.office_tables.specs.Standing.{Stands}
+use Rattle.office_tables.specs.TablesHeld.{HoldsTables}
 use Rattle.office_tables.specs.Stored.{keyed, keyless}
 use Rattle.office_tables.specs.Placed.{placed_columns}
 use Rattle.office_tables.specs.Seat.{seat_columns}
@@ -51,7 +51,7 @@ placements_means = record {
   plain = (refl, refl);
 }
 
-pub placements_read : (db : Database) (t : Tables) → Stands db t → (found : List PlacedRow)
+pub placements_read : (db : Database) (t : Tables) → HoldsTables db t → (found : List PlacedRow)
     → IsReadOf placed_columns 3 [] placements_query db.trees found
     → IsPermutation t.placed found × Rises (λ (x : PlacedRow). x.exam ∷ []) found
 placements_read db t stands found is =
@@ -99,7 +99,7 @@ seats_means = record {
   plain = (refl, refl);
 }
 
-pub seats_read : (db : Database) (t : Tables) → Stands db t → (found : List SeatRow)
+pub seats_read : (db : Database) (t : Tables) → HoldsTables db t → (found : List SeatRow)
     → IsReadOf seat_columns 5 [] seats_query db.trees found
     → IsPermutation t.seat found × Rises (λ (x : SeatRow). x.exam ∷ x.student ∷ []) found
 seats_read db t stands found is =
@@ -130,7 +130,7 @@ seats_of_means = record {
   plain = (refl, refl);
 }
 
-pub seats_of_read : (db : Database) (number : ℕ) (t : Tables) → Stands db t → (found : List SeatRow)
+pub seats_of_read : (db : Database) (number : ℕ) (t : Tables) → HoldsTables db t → (found : List SeatRow)
     → IsReadOf seat_columns 5 (Int (pos number) ∷ []) seats_of_query db.trees found
     → IsPermutation (filter (λ r. r.student == number) t.seat) found
     × Rises (λ (x : SeatRow). x.exam ∷ []) found

@@ -1,4 +1,4 @@
--- What a query over one table answers, and what a DELETE by such a query leaves.
+-- The answer of a query over one table, and the rows that a DELETE by such a query leaves.
 use Rattle.std.proofs.Common.{◌≡◌, inl, inr, ℕ, ℤ, suc, pos, List, [], ◌∷◌, ◌++◌, map, filter, flat_map, drop, not, Bool, true, false, cond, ◌&&◌, ◌||◌, ◌==◌, ◌^◌, Some, None, refl, sym, ap, ap₂, subst, ◌∙◌, arith, Ordering, Less, Equal, Greater, is_eq, int_cmp}
 use Rattle.std.specs.List.{list_any, list_all}
 use Rattle.std.specs.Prelude.{IsPermutation, nat_le, unwrap_or}
@@ -111,7 +111,7 @@ column_later [] at = refl
 column_later (v ∷ []) at = refl
 column_later (v ∷ w ∷ row) at = refl
 
--- a test of stored rows that is one of what they show keeps what passes it
+-- a test of stored rows that depends on what they show keeps the rows that pass it
 pub shown_filter : {X : Type 0} (show : Row → Row) (row_of : X → Row) (test : Row → Bool)
     (shown_test : Row → Bool) (p : X → Bool)
     → ((r : Row) → test r ≡ shown_test (show r)) → ((x : X) → shown_test (row_of x) ≡ p x)
@@ -172,7 +172,7 @@ same_integer a b h = grind (arith, ints, nat_tests)
 abbrev id_of : Row → ℤ
 id_of r = id_in (rowid r)
 
--- what a DELETE leaves, where the query gives the rowids of the rows that pass a test
+-- the rows that a DELETE leaves, if the query gives the rowids of the rows that pass a test
 pub left_of : (test : Row → Bool) (stored rows : List Row) → HasRowids stored
     → IsPermutation (map (λ r. column r 0 ∷ []) (filter test stored)) rows
     → without_all stored (ids_of rows) ≡ filter (λ r. not (test r)) stored
@@ -227,7 +227,7 @@ truth_back false = refl
 same_number : (m n : ℕ) → is_eq (int_cmp (pos m) (pos n)) ≡ (m == n)
 same_number m n = grind (arith, nat_tests)
 
--- SQL's = on two numbers, alone in a WHERE
+-- SQL's = on two numbers, as the only test of a WHERE
 pub equal_numbers : (m n : ℕ)
     → (is_true (binary (Compare Eq Binary) (Int (pos m)) (Int (pos n))) && true) ≡ (m == n)
 unfolding binary
@@ -235,7 +235,7 @@ equal_numbers m n =
     and_true _ ∙ rw (value_cmp-Int (pos m) (pos n))
     (truth_back (is_eq (int_cmp (pos m) (pos n))) ∙ same_number m n)
 
--- the same of two, one after the other
+-- the same for two tests, one after the other
 pub equal_pairs : (m n k l : ℕ)
     → (is_true (binary (Compare Eq Binary) (Int (pos m)) (Int (pos n)))
     && (is_true (binary (Compare Eq Binary) (Int (pos k)) (Int (pos l))) && true))

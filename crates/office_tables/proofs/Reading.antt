@@ -1,4 +1,4 @@
--- What a reader leaves.
+-- The effect of a reader.
 use Rattle.std.proofs.Common.{inl, inr, ℕ, List, Some, None, Ok, Err, Result, OnOk, Option, subst, ◌∙◌}
 use Rattle.sqlite_value.specs.Order.{Row}
 use Rattle.sqlite.specs.declared.error.Error.{Error}

@@ -1,4 +1,4 @@
--- Rows that are read as records, and rows that are no record's.
+-- Rows that are read as records, and rows that are not those of a record.
 use Rattle.std.proofs.Common.{◌≡◌, ◌≢◌, ℕ, ◌+◌, List, [], ◌∷◌, ◌++◌, map, take, get_or, ap, sym, pos, ◌^◌, ◌<◌, ◌≤◌, length, Result, Ok, Err, ◌∙◌, arith, IfErr}
 use Rattle.std.proofs.lemmas.List.{map-append, take_more}
 use Rattle.std.specs.Result.{IsErrAnd}
@@ -17,7 +17,7 @@ IsWide v = (n : ℕ) × (v ≡ Int (pos n))
 abbrev pub IsNarrow : Value → Type 0
 IsNarrow v = (n : ℕ) × (v ≡ Int (pos n)) × (n < 2 ^ 32)
 
--- where a column does not read, and each record would have one that does
+-- if a column can't be read, but each record has one that can, the row is that of no record
 pub refuses : {T : Type 0} (row : Row) (row_of : T → Row) (Fits : T → Type 0) (width at : ℕ)
     → at < width
     → (Readable : Value → Type 0)
@@ -30,7 +30,7 @@ refuses row row_of Fits width at below Readable reads (Ok x) e is unread = absur
 refuses row row_of Fits width at below Readable reads (Err y) e is unread =
     λ other wide made fits same. unread (λ k. other (is ∙ k)) (omega arith) (reads made fits same)
 
--- what is read of one row more
+-- the records read of one more row
 pub one_read : {T : Type 0} (row_of : T → Row) (shown : Row → Row) (made : List T) (rows : List Row)
     (at : ℕ) (d : Row)
     (x : T) (more : List T) → at < length rows → more ≡ made ++ x ∷ []

@@ -1,4 +1,4 @@
--- Numbers of rows that rise, and numbers of which none comes twice.
+-- Numbers of rows that rise, and numbers that are distinct.
 use Rattle.std.proofs.Common.{◌≡◌, ◌≢◌, ◌≤◌, ◌<ℤ◌, ℕ, zero, suc, ℤ, List, [], ◌∷◌, ◌++◌, map, take, drop, length, Option, Some, None, Ordering, Less, Equal, Greater, is_lt, int_cmp, add-one, false, refl, sym, ap, ap₂, subst, ◌∙◌, IsSorted, arith}
 use Rattle.std.specs.List.{AllByRecursion}
 use Rattle.std.specs.Ordering.{ordering_then}
@@ -24,7 +24,7 @@ use Rattle.office_tables.specs.Listings.{ordered_by}
 use Rattle.office_tables.specs.Stored.{HasRowids}
 use Rattle.office_tables.proofs.OrderLemmas.{shown_column}
 
--- one column alone
+-- only one column
 abbrev pub only_column : ℕ → Row → Row
 only_column at row = column row at ∷ []
 
@@ -45,7 +45,7 @@ later_too a b c p q = grind (arith, ints)
 not_less : (a b : ℤ) → is_lt (int_cmp b a) ≡ false → a ≢ b → a <ℤ b
 not_less a b low apart = grind (arith, ints, nat_tests)
 
--- ---- from numbers that rise to numbers that come once
+-- ---- numbers that rise are distinct
 
 apart_from : (at : ℕ) (a : Row) (n : ℤ) → column a at ≡ Int n → (rows : List Row)
     (numbers : List ℤ) → map (λ r. column r at) rows ≡ map Int numbers
@@ -76,7 +76,7 @@ pub rowids_from_rising : (at : ℕ) (rows : List Row) → ColumnRises at rows
     → HasRowids (map (only_column at) rows)
 rowids_from_rising at rows h = rowids_of at rows h.0 h.1 h.2
 
--- ---- from sorted rows, whose numbers come once, to numbers that rise
+-- ---- sorted rows with distinct numbers have numbers that rise
 
 then_equal : (o : Ordering) → ordering_then o Equal ≡ o
 then_equal Less = refl
@@ -130,7 +130,7 @@ module _ (shown : List Term) (at : ℕ) where
         (first_below x (id_in v) is envs rest.0 sorted rest.1 rest.2 once.apart.0, rest.2),
       )
 
--- ---- a row more
+-- ---- one more row
 
 -- the last of the numbers, or there is none
 abbrev pub EndsWith : Option ℤ → List ℤ → Type 0
@@ -181,7 +181,7 @@ split (m ∷ numbers) (n ∷ all) v h =
     let same : m ≡ n = same_int m n (ap (λ (l : Row). column l 0) h) in
     (rest.0, rest.1, ap₂ (λ x xs. x ∷ xs) (sym same) rest.2)
 
--- where a row has no number above the last, no more rows make the numbers rise
+-- if a row has no number greater than the last, the numbers don't rise with this row
 pub none_more : (at : ℕ) (rows : List Row) (row : Row) (numbers : List ℤ) (last : Option ℤ)
     → map (λ r. column r at) rows ≡ map Int numbers → EndsWith last numbers
     → IsNext (column row at) last None → ColumnRises at (rows ++ row ∷ []) → ⊥
@@ -211,7 +211,7 @@ rising-take at i rows h = (
   ascending-take i h.0 h.2,
 )
 
--- a column that is not there is no number
+-- a column beyond the end of a row is NULL
 pub past : (row : Row) (at : ℕ) → length row ≤ at → column row at ≡ Null
 past [] at h = refl
 past (v ∷ row) zero h = absurd (omega (arith, h))

@@ -1,4 +1,4 @@
--- Tables that one database has hold the same drafts and the same shares of students.
+-- Tables that one database holds have the same drafts and the same shares of students.
 use Rattle.std.proofs.Common.{◌≡◌, ◌≢◌, ℕ, pos, List, [], ◌∷◌, map, filter, flat_map, Bool, true, false, ◌&&◌, ◌==◌, refl, sym, ap, ap₂, subst, ◌∙◌, IsPermutation}
 use Rattle.std.specs.List.{AllByRecursion}
 use Rattle.std.proofs.lemmas.List.Sorted.{IsPermutation-map, IsPermutation-sym, IsPermutation-trans}
@@ -14,7 +14,7 @@ use Rattle.office_tables.specs.declared.version.Version.{Version}
 use Rattle.office_tables.specs.declared.version.Version.TheVariants.{One, Two}
 use Rattle.office_tables.specs.Draft.{draft_columns, draft_shown, night_draft_columns}
 use Rattle.office_tables.specs.ShareStudent.{night_share_columns, share_shown, share_student_columns}
-use Rattle.office_tables.specs.Standing.{StandsIn}
+use Rattle.office_tables.specs.TablesHeld.{HoldsTablesIn}
 use Rattle.office_tables.specs.Stored.{Holds, keyed}
 use Rattle.office_tables.specs.Tables.{Tables}
 use Rattle.office_tables.proofs.NightTexts.{paired}
@@ -52,13 +52,13 @@ module _ {X : Type 0} (record_of : Row → X) (shown : X → Row)
   shown_back : (xs : List X) → map record_of (map shown xs) ≡ xs
   shown_back xs = map-map record_of shown xs ∙ id_map (λ x. record_of (shown x)) back xs
 
-  -- rows that are shown alike are the same
+  -- rows that show the same columns are the same
   alike : (xs ys : List X) → IsPermutation (map shown xs) (map shown ys) → IsPermutation xs ys
   alike xs ys same =
       subst (λ l. IsPermutation l ys) (shown_back xs)
       (subst (IsPermutation _) (shown_back ys) (IsPermutation-map record_of _ _ same))
 
-  -- the same where nothing is over night
+  -- the same if each amount over night is 0
   alike_before : (columns_of : X → Row) (night : X → ℕ)
       → ((x : X) → shown x ≡ Int (pos (night x)) ∷ columns_of x) → (xs ys : List X)
       → AllByRecursion (λ x. night x ≡ 0) xs → AllByRecursion (λ x. night x ≡ 0) ys
@@ -75,7 +75,7 @@ module _ {X : Type 0} (record_of : Row → X) (shown : X → Row)
           ap₂ (λ r rs. r ∷ rs) (ap (λ n. Int (pos n) ∷ columns_of z) (sym all.0) ∙ sym (is z))
           (each zs all.1)
 
-  -- the same where the second table has the amounts
+  -- the same if the second table has the amounts
   module _ (columns_of nights_of : X → Row) (key : X → ℕ)
       (first : (x : X) → column (columns_of x) 0 ≡ Int (pos (key x)))
       (tested : (x y : X) → is_same (column (nights_of y) 0) (column (columns_of x) 0)
@@ -101,7 +101,7 @@ module _ {X : Type 0} (record_of : Row → X) (shown : X → Row)
         ∙ ap (map (λ x. column (nights_of x) 1 ∷ columns_of x)) (every (λ _. true) xs (λ x. refl))
         ∙ map_agree (λ x. column (nights_of x) 1 ∷ columns_of x) shown whole xs
 
-    alike_now : (stored nights_stored : List Row) (xs ys : List X)
+    pub alike_now : (stored nights_stored : List Row) (xs ys : List X)
         → Holds keyed (map columns_of xs) stored → Holds keyed (map columns_of ys) stored
         → Holds keyed (map nights_of xs) nights_stored
         → Holds keyed (map nights_of ys) nights_stored
@@ -123,8 +123,8 @@ stored_alike one two stored p q =
 
 -- ---- drafts, and shares of students
 
-pub same_drafts : (version : Version) (db : Database) (t u : Tables) → StandsIn version db t
-    → StandsIn version db u → IsPermutation t.draft u.draft
+pub same_drafts : (version : Version) (db : Database) (t u : Tables) → HoldsTablesIn version db t
+    → HoldsTablesIn version db u → IsPermutation t.draft u.draft
 same_drafts One db t u p q =
     alike_before draft_of draft_shown (λ x. refl) draft_columns (λ (r : DraftRow). r.night)
     (λ x. refl) t.draft u.draft p.night_draft q.night_draft
@@ -135,7 +135,7 @@ same_drafts Two db t u p q =
     t.draft u.draft p.draft q.draft p.night_draft q.night_draft
 
 pub same_student_shares : (version : Version) (db : Database) (t u : Tables)
-    → StandsIn version db t → StandsIn version db u → IsPermutation t.share_student u.share_student
+    → HoldsTablesIn version db t → HoldsTablesIn version db u → IsPermutation t.share_student u.share_student
 same_student_shares One db t u p q =
     alike_before student_share_of share_shown (λ x. refl) share_student_columns
     (λ (r : StudentShareRow). r.night)

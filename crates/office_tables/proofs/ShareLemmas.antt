@@ -1,4 +1,4 @@
--- What each statement on the tables of shares means, and what it makes of the tables.
+-- The meaning of each statement on the tables of shares, and its effect.
 use Rattle.std.proofs.Common.{◌≡◌, ℕ, pos, List, [], ◌∷◌, ◌++◌, map, filter, not, ◌==◌, codes, flat_map, length, reverse, true, Ok, arith, refl, sym, subst, ◌∙◌}
 use Rattle.std.proofs.lemmas.List.{length-map}
 use Rattle.sqlite_trees.specs.Tree.{put_row}
@@ -19,7 +19,7 @@ use Rattle.office_tables.specs.declared.share_part.InsertPartShare.{InsertPartSh
 use Rattle.office_tables.specs.declared.share_part.PartShareRow.{PartShareRow}
 use Rattle.office_schema.specs.Schema.{office_schema, share_student_table, share_part_table, night_share_table}
 use Rattle.office_tables.specs.Tables.{Tables}
-use Rattle.office_tables.specs.Standing.{Stands}
+use Rattle.office_tables.specs.TablesHeld.{HoldsTables}
 use Rattle.office_tables.specs.Stored.{Holds, keyed, keyless}
 use Rattle.office_tables.specs.ShareStudent.{share_student_columns, night_share_columns}
 use Rattle.office_tables.specs.SharePart.{share_part_columns, with_part_share}
@@ -92,17 +92,17 @@ insert_night_share_plain : IsPlain (understood office_schema insert_night_share_
 unfolding understood everything
 insert_night_share_plain = (refl, refl)
 
--- what is in the second table stays beside a change of the first
-nights_beside : (old mid : Database) (t : Tables) → Stands old t → Others 11 old.trees mid.trees
+-- a change of the first table leaves the second unchanged
+nights_beside : (old mid : Database) (t : Tables) → HoldsTables old t → Others 11 old.trees mid.trees
     → Holds keyed (map night_share_columns t.share_student) (mid.trees 16)
 nights_beside old mid t stands others =
     still keyed _ _ _ (others.1.1.1.1.1.1.1.1.1.1.1.0 (omega arith)) stands.night_share
 
 pub student_share_added : (old mid new : State) (row : StudentShareRow) (first second : ℕ)
-    (t : Tables) → Stands old.now t
+    (t : Tables) → HoldsTables old.now t
     → Executes insert_student_share_text (share_student_columns row) old mid (Ok first)
     → Executes insert_night_share_text (night_share_columns row) mid new (Ok second)
-    → Stands new.now (record t { share_student = row ∷ t.share_student })
+    → HoldsTables new.now (record t { share_student = row ∷ t.share_student })
 student_share_added old mid new row first second t stands h k =
     let one =
     student_costs_added old mid row first t.share_student stands.schema stands.share_student
@@ -140,10 +140,10 @@ unfolding understood everything
 delete_night_share_plain = (refl, refl)
 
 pub student_share_deleted : (old mid new : State) (number : ℕ) (first second : ℕ) (t : Tables)
-    → Stands old.now t
+    → HoldsTables old.now t
     → Executes delete_student_share_text (Int (pos number) ∷ []) old mid (Ok first)
     → Executes delete_night_share_text (Int (pos number) ∷ []) mid new (Ok second)
-    → Stands new.now (record t {
+    → HoldsTables new.now (record t {
       share_student = filter (λ r. not (r.student == number))
           t.share_student;
     })
@@ -180,9 +180,9 @@ unfolding understood everything
 insert_part_share_plain = (refl, refl)
 
 pub part_share_added : (old new : State) (row : PartShareRow) (count : ℕ) (t : Tables)
-    → Stands old.now t
+    → HoldsTables old.now t
     → Executes insert_part_share_text (share_part_columns row) old new (Ok count)
-    → Stands new.now (record t { share_part = row ∷ t.share_part })
+    → HoldsTables new.now (record t { share_part = row ∷ t.share_part })
 part_share_added old new row count t stands h =
     let done = inserts insert_part_share_text _ old new count office_schema stands.schema
     insert_part_share_plain 8 share_part_table refl insert_part_share_terms 5 insert_part_share_is
@@ -222,10 +222,10 @@ unfolding understood everything
 insert_part_shares_plain = (refl, refl)
 
 pub part_shares_added : (old new : State) (its : List InsertPartShare) → length its ≡ 16
-    → (count : ℕ) (t : Tables) → Stands old.now t
+    → (count : ℕ) (t : Tables) → HoldsTables old.now t
     → Executes insert_part_shares_text (flat_map share_part_columns (map (λ it. it.row) its)) old new
     (Ok count)
-    → Stands new.now (after_all (λ it. with_part_share it.row) its t)
+    → HoldsTables new.now (after_all (λ it. with_part_share it.row) its t)
 part_shares_added old new its long count t stands h =
     let rows : List PartShareRow = map (λ it. it.row) its in
     let done = added_numberless share_part_columns 4 (λ row. refl) insert_part_shares_text 16 8
@@ -240,7 +240,7 @@ part_shares_added old new its long count t stands h =
     ) refl)
     old new rows t.share_part (length-map its (λ it. it.row) ∙ long) count stands.schema
     stands.share_part h in
-    subst (Stands new.now) (sym (part_shares_put its t))
+    subst (HoldsTables new.now) (sym (part_shares_put its t))
     (share_part_changed old.now new.now t stands done.0 (reverse rows ++ t.share_part) done.1
     done.2)
 
@@ -258,9 +258,9 @@ delete_part_share_plain : IsPlain (understood office_schema delete_part_share_te
 unfolding understood everything
 delete_part_share_plain = (refl, refl)
 
-pub part_share_cleared : (old new : State) (count : ℕ) (t : Tables) → Stands old.now t
+pub part_share_cleared : (old new : State) (count : ℕ) (t : Tables) → HoldsTables old.now t
     → Executes delete_part_share_text [] old new (Ok count)
-    → Stands new.now (record t { share_part = [] })
+    → HoldsTables new.now (record t { share_part = [] })
 part_share_cleared old new count t stands h =
     let done = deletes delete_part_share_text [] old new count office_schema stands.schema
     delete_part_share_plain 8 share_part_table refl _ delete_part_share_is (λ taken news. refl) h in

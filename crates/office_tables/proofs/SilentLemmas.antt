@@ -113,7 +113,7 @@ planned_returns s p plan is =
           ∙ ap (λ (it : List Name × (Command × Option Returning)). Ok it.1.1) (ok_is means.2),
     )
 
--- what a text is compiled to returns what its statement does
+-- a compiled text has the RETURNING of its statement
 compiled_returns : (s : Schema) (sql : List ℕ) (c : Compiled) → compiled s sql ≡ Ok c
     → (p : Parsed) × (first sql ≡ Ok p) × (a : ℕ)
     × (returning_by s a p.statement ≡ Ok c.returning)
@@ -143,7 +143,7 @@ either : (listing : Bool) (x y : Checked Compiled) (c : Compiled)
 either true x y c is = inl (selected x c is)
 either false x y c is = inr is
 
--- what is understood of a text was compiled under some schema
+-- a text that is understood was compiled under some schema
 understood_compiled : (s : Schema) (sql : List ℕ) (c : Compiled) → understood s sql ≡ Ok c
     → (t : Schema) × (compiled t sql ≡ Ok c)
 unfolding understood

@@ -1,4 +1,4 @@
--- What each statement on the table slot means, and what it makes of the tables.
+-- The meaning of each statement on the table slot, and its effect.
 use Rattle.std.proofs.Common.{◌≡◌, ℕ, pos, List, [], ◌∷◌, map, filter, not, ◌==◌, ◌&&◌, ◌++◌, codes, flat_map, length, reverse, true, Ok, refl, sym, ap, subst, ◌∙◌}
 use Rattle.sqlite_sql.specs.Ops.{binary, is_true}
 use Rattle.sqlite_sql.specs.declared.ops.BinaryOp.TheVariants.{Compare}
@@ -21,7 +21,7 @@ use Rattle.office_tables.specs.declared.slot.InsertSlot.{InsertSlot}
 use Rattle.office_tables.specs.declared.slot.SlotRow.{SlotRow}
 use Rattle.office_schema.specs.Schema.{office_schema, slot_table}
 use Rattle.office_tables.specs.Tables.{Tables}
-use Rattle.office_tables.specs.Standing.{Stands}
+use Rattle.office_tables.specs.TablesHeld.{HoldsTables}
 use Rattle.office_tables.specs.Stored.{keyless}
 use Rattle.office_tables.specs.Slot.{slot_columns, with_slot}
 use Rattle.office_tables.proofs.AlterationLemmas.{slots_put}
@@ -48,9 +48,9 @@ insert_plain : IsPlain (understood office_schema insert_text)
 unfolding understood everything
 insert_plain = (refl, refl)
 
-pub added : (old new : State) (row : SlotRow) (count : ℕ) (t : Tables) → Stands old.now t
+pub added : (old new : State) (row : SlotRow) (count : ℕ) (t : Tables) → HoldsTables old.now t
     → Executes insert_text (slot_columns row) old new (Ok count)
-    → Stands new.now (record t { slot = row ∷ t.slot })
+    → HoldsTables new.now (record t { slot = row ∷ t.slot })
 added old new row count t stands h =
     let done = inserts insert_text _ old new count office_schema stands.schema insert_plain
     4 slot_table refl insert_terms 5 insert_is (λ taken news. refl) h in
@@ -81,9 +81,9 @@ unfolding understood everything
 insert_many_plain = (refl, refl)
 
 pub added_many : (old new : State) (its : List InsertSlot) → length its ≡ 16
-    → (count : ℕ) (t : Tables) → Stands old.now t
+    → (count : ℕ) (t : Tables) → HoldsTables old.now t
     → Executes insert_many_text (flat_map slot_columns (map (λ it. it.row) its)) old new (Ok count)
-    → Stands new.now (after_all (λ it. with_slot it.row) its t)
+    → HoldsTables new.now (after_all (λ it. with_slot it.row) its t)
 added_many old new its long count t stands h =
     let rows : List SlotRow = map (λ it. it.row) its in
     let done = added_numberless slot_columns 4 (λ row. refl) insert_many_text 16 4 slot_table
@@ -92,7 +92,7 @@ added_many old new its long count t stands h =
     (λ row. rw (cast_null, cast_int row.draft, cast_int row.exam, cast_int row.period, cast_int row.room) refl)
     old new rows t.slot (length-map its (λ it. it.row) ∙ long) count stands.schema
     stands.slot h in
-    subst (Stands new.now) (sym (slots_put its t))
+    subst (HoldsTables new.now) (sym (slots_put its t))
     (slot_changed old.now new.now t stands done.0 (reverse rows ++ t.slot) done.1 done.2)
 
 -- ---- DELETE WHERE draft = ?1
@@ -109,9 +109,9 @@ delete_draft_plain : IsPlain (understood office_schema delete_draft_text)
 unfolding understood everything
 delete_draft_plain = (refl, refl)
 
-pub delete_draftd : (old new : State) (draft : ℕ) (count : ℕ) (t : Tables) → Stands old.now t
+pub delete_draftd : (old new : State) (draft : ℕ) (count : ℕ) (t : Tables) → HoldsTables old.now t
     → Executes delete_draft_text (Int (pos draft) ∷ []) old new (Ok count)
-    → Stands new.now (record t { slot = filter (λ r. not (r.draft == draft)) t.slot })
+    → HoldsTables new.now (record t { slot = filter (λ r. not (r.draft == draft)) t.slot })
 delete_draftd old new draft count t stands h =
     let params = Int (pos draft) ∷ [] in
     let done = deletes delete_draft_text params old new count office_schema stands.schema
@@ -147,9 +147,9 @@ delete_plain : IsPlain (understood office_schema delete_text)
 unfolding understood everything
 delete_plain = (refl, refl)
 
-pub deleted : (old new : State) (draft : ℕ) (exam : ℕ) (count : ℕ) (t : Tables) → Stands old.now t
+pub deleted : (old new : State) (draft : ℕ) (exam : ℕ) (count : ℕ) (t : Tables) → HoldsTables old.now t
     → Executes delete_text (Int (pos draft) ∷ Int (pos exam) ∷ []) old new (Ok count)
-    → Stands new.now
+    → HoldsTables new.now
     (record t { slot = filter (λ r. not ((r.draft == draft) && (r.exam == exam))) t.slot })
 deleted old new draft exam count t stands h =
     let params = Int (pos draft) ∷ Int (pos exam) ∷ [] in

@@ -1,4 +1,4 @@
--- The rows of drafts and of students' shares lie in two tables.
+-- The rows of drafts and of students' shares are in two tables.
 use Rattle.std.proofs.Common.{refl}
 use Rattle.office_tables.specs.declared.draft.DraftRow.{DraftRow}
 use Rattle.office_tables.specs.declared.share_student.StudentShareRow.{StudentShareRow}

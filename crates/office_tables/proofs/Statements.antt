@@ -1,4 +1,4 @@
--- What a statement of a known shape does, whatever its table.
+-- The effect of a statement of a known form, for any table.
 use Rattle.std.proofs.Common.{◌≡◌, ◌/◌, ◌⊎◌, inl, inr, ℕ, List, [], ◌∷◌, ◌++◌, length, slice_get, false, Some, None, Ok, Err, Result, sym, ap, subst, subst₂, ◌∙◌, append-nil}
 use Rattle.sqlite_trees.specs.Tree.{Trees}
 use Rattle.sqlite_schema.specs.declared.schema.Table.{Table}
@@ -27,7 +27,7 @@ use Rattle.sqlite.specs.Rows.{Written}
 use Rattle.sqlite.specs.State.{State, mode_of, Writes, Executes, Shown}
 use Rattle.sqlite.proofs.Callers.{IsPlain, command_of, statement_of, runs_as, reads_as, one_step}
 
--- a part that gave a value did not stop on the way
+-- a step that returned a value did not stop
 pub went : {B E R : Type 0} {b : B} {Stops : E → Type 0}
     → ((stop : E) × Stops stop × (Ok b ≡ Err stop)) ⊎ R → R
 went (inl stopped) = absurd (let e = stopped.2 in cc)
@@ -84,7 +84,7 @@ module _ (sql : List ℕ) (params : Row) (old new : State) (count : ℕ) (schema
             (sym trees ∙ sym (ap (λ (d : Database). d.trees) now)) applied,
       )
 
-  -- the same of rows that a query gives
+  -- the same for rows that a query gives
   pub inserts_from : (q : Query) → command_of (understood schema sql)
       ≡ Insert at (source.Query (record { lets = []; body = q }))
       → ((taken news : List Row) → works schema Enforced 0 base.tree taken news ≡ [])
@@ -158,7 +158,7 @@ module _ (sql : List ℕ) (params : Row) (old new : State) (count : ℕ) (schema
             (sym trees ∙ sym (ap (λ (d : Database). d.trees) now)) applied,
       )
 
--- a query of known meaning answers by it
+-- a query of known meaning returns an answer of that query
 pub selects : (sql : List ℕ) (params : Row) (old new : State) (schema : Schema)
     → old.now.schema ≡ schema → IsPlain (understood schema sql)
     → (q : Query) (names : List (List ℕ))

@@ -1,4 +1,4 @@
--- What the rows of a table show, after rows are put in or taken out.
+-- The rows that a table shows after rows are inserted or deleted.
 use Rattle.std.proofs.Common.{◌≡◌, ◌≢◌, inl, inr, ℕ, pos, List, [], ◌∷◌, map, filter, Bool, true, false, ◌||◌, Ordering, Less, Equal, Greater, is_eq, refl, sym, ap, ◌∙◌, IsTrue}
 use Rattle.std.specs.List.{AllByRecursion}
 use Rattle.std.specs.Prelude.{IsPermutation}
@@ -18,7 +18,7 @@ use Rattle.sqlite_value.proofs.OrderLemmas.{value_cmp_total}
 use Rattle.sqlite_rules.specs.Lists.{Has}
 use Rattle.sqlite_rules.proofs.ListLemmas.{all_has}
 
--- a row under a free rowid is one more
+-- a row with a free rowid is added to the others
 pub put_free : (new : Row) (rows : List Row) → is_taken rows new ≡ false
     → IsPermutation (put_row new rows) (new ∷ rows)
 put_free new [] free = IsPermutation-refl _
@@ -38,7 +38,7 @@ or_false : (a b : Bool) → (a || b) ≡ false → (a ≡ false) × (b ≡ false
 or_false true b h = absurd (cc)
 or_false false b h = (refl, h)
 
--- ---- rowids of which none comes twice
+-- ---- distinct rowids
 
 abbrev Apart : List Row → Type 0
 Apart = IsAscending (λ a b. rowid a ≢ rowid b)
@@ -100,7 +100,13 @@ holds_more show rows stored new row is int fresh h =
           (rw is (IsPermutation-cons row _ _ h.same));
     }
 
--- the numbers of the rows of a table that are its keys come once
+-- the table shows the same rows in any other order
+pub holds_moved : (show : Row → Row) (rows others stored : List Row) → IsPermutation rows others
+    → Holds show rows stored → Holds show others stored
+holds_moved show rows others stored same h =
+    record { rowids = h.rowids; same = IsPermutation-trans _ _ _ h.same same }
+
+-- the keys of a table's rows are distinct, if they are the rows' numbers
 pub keys_once : {X : Type 0} (row_of : X → Row) (key : X → ℕ)
     → ((x : X) → column (row_of x) 0 ≡ Int (pos (key x))) → (xs : List X) (stored : List Row)
     → Holds keyed (map row_of xs) stored → IsAscending (λ a b. key a ≢ key b) xs
@@ -114,7 +120,7 @@ keys_once row_of key first xs stored holds =
     (λ a b apart same. apart (first a ∙ ap (λ n. Int (pos n)) same ∙ sym (first b))) xs
     (ascending_from_map (λ a b. rowid a ≢ rowid b) row_of xs typed.apart)
 
--- numbers that come once do so in any order
+-- distinct numbers are distinct in any order
 pub once_moved : (ns ms : List ℕ) → IsPermutation ns ms → IsAscending (λ a b. a ≢ b) ns
     → IsAscending (λ a b. a ≢ b) ms
 once_moved ns ms same up =

@@ -10,16 +10,16 @@ use Rattle.sqlite.proofs.StateLemmas.{survives_then}
 use Rattle.sqlite_trees.specs.Tree.{Trees}
 use Rattle.office_schema.specs.Schema.{office_schema}
 use Rattle.office_tables.specs.Alterations.{Changed, HoldsChanged}
-use Rattle.office_tables.specs.Standing.{Stands}
+use Rattle.office_tables.specs.TablesHeld.{HoldsTables}
 use Rattle.office_tables.specs.Steps.{Within, Makes}
 use Rattle.office_tables.specs.Tables.{Tables}
 
--- the trees of tables that stand hold these tables
-trees_hold : (db : Database) (found : Trees) (t : Tables) → found ≡ db.trees → Stands db t
-    → Stands (record { schema = office_schema; trees = found }) t
+-- the trees of a database that holds these tables hold them too, under the office's schema
+trees_hold : (db : Database) (found : Trees) (t : Tables) → found ≡ db.trees → HoldsTables db t
+    → HoldsTables (record { schema = office_schema; trees = found }) t
 trees_hold db found t is held =
-    subst (λ s. Stands (record { schema = s; trees = found }) t) held.schema
-    (subst (λ trees. Stands (record { schema = db.schema; trees = trees }) t) (sym is) held)
+    subst (λ s. HoldsTables (record { schema = s; trees = found }) t) held.schema
+    (subst (λ trees. HoldsTables (record { schema = db.schema; trees = trees }) t) (sym is) held)
 
 module _ {S : Type 0} (g : Ghosts S) (old begun last end : Held S)
     (begins : begun ≡ record old { in_transaction = true })
@@ -49,10 +49,10 @@ module _ {S : Type 0} (g : Ghosts S) (old begun last end : Held S)
         was_open = was_open before done.1.was_open;
         is_open = done.1.is_open;
         committed = done.1.now_is ∙ sym done.1.committed_is;
-        makes = λ t h. subst (λ db. Stands db (f t)) (sym done.1.now_is) (made.1 t h);
+        makes = λ t h. subst (λ db. HoldsTables db (f t)) (sym done.1.now_is) (made.1 t h);
       }) (ok clean)
 
-  -- a crash leaves what it left before the transaction
+  -- a crash leaves what it would have left before the transaction
   inside_survives : Survives (state g old) (state g last) (λ _. ⊥)
   inside_survives =
       let inside = (subst (λ h. Within (state g h) (state g last)) begins within).survives in

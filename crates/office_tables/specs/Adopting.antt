@@ -1,4 +1,4 @@
--- What is found in the tables when an office is taken over.
+-- The rows found in the tables of an existing file.
 use Rattle.std.specs.Prelude.{◌≡◌, ◌⊎◌, List, [], ◌∷◌, map, Option, Some, None, Vec}
 use Rattle.std.specs.List.{AllByRecursion}
 use Rattle.std.specs.declared.alloc.Global.{Global}
@@ -29,11 +29,11 @@ use Rattle.office_tables.specs.Seat.{seat_columns, FitsSeat}
 use Rattle.office_tables.specs.SharePart.{share_part_columns, FitsPartShare}
 use Rattle.office_tables.specs.ShareStudent.{share_student_columns, night_share_columns, FitsStudentShare}
 use Rattle.office_tables.specs.Slot.{slot_columns, FitsSlot}
-use Rattle.office_tables.specs.Standing.{StandsIn}
+use Rattle.office_tables.specs.TablesHeld.{HoldsTablesIn}
 use Rattle.office_tables.specs.Stored.{keyed, keyless, Holds}
 use Rattle.office_tables.specs.Tables.{Tables, Meta, Batch}
 
--- the tables of an office, whose numbers the program's types hold
+-- the tables of an office, with numbers that fit the program's types
 pub record AreReadable (t : Tables) : Type 0 where
   pub row : Meta
   pub meta : t.meta ≡ row ∷ []
@@ -49,13 +49,13 @@ pub record AreReadable (t : Tables) : Type 0 where
 
 -- the database doesn't hold the rows of an office in this version
 abbrev pub IsForeignIn : Version → Database → Type 0
-IsForeignIn version db = (t : Tables) → AreReadable t → StandsIn version db t → ⊥
+IsForeignIn version db = (t : Tables) → AreReadable t → HoldsTablesIn version db t → ⊥
 
 -- it doesn't hold them in either version
 abbrev pub IsForeign : Database → Type 0
 IsForeign db = (version : Version) → IsForeignIn version db
 
--- what was found of the session is what its three tables hold
+-- the three tables of the session hold the rows found
 pub record HoldsSession (version : Version) (db : Database) (found : FoundSession) : Type 0 where
   pub meta : Holds keyed (meta_columns version (meta_from found.meta) ∷ []) (db.trees 0)
   pub owner : Holds keyed (map owner_columns found.owners.items) (db.trees 1)
@@ -73,12 +73,12 @@ HaveShares version db =
     HaveRows version share_student_columns night_share_columns
     (λ (r : StudentShareRow). r.night) (db.trees 11) (db.trees 16)
 
--- the tables of drafts hold what was found
+-- the tables of drafts hold the rows found
 pub record HoldsDrafts (version : Version) (db : Database) (found : FoundDrafts) : Type 0 where
   pub draft : HaveDrafts version db found.drafts.items
   pub slot : Holds keyless (map slot_columns found.slots.items) (db.trees 5)
 
--- the tables of a publication hold what was found
+-- the tables of a publication hold the rows found
 pub record HoldsPublication (version : Version) (db : Database) (found : FoundPublication)
     : Type 0 where
   pub placed : Holds keyed (map placed_columns found.placements.items) (db.trees 7)
@@ -86,22 +86,22 @@ pub record HoldsPublication (version : Version) (db : Database) (found : FoundPu
   pub share_student : HaveShares version db found.student_shares.items
   pub share_part : Holds keyless (map share_part_columns found.part_shares.items) (db.trees 12)
 
--- it is what the tables hold, or none, and the file is no office's
+-- `Some`: the tables hold the rows found. `None`: the database holds no office of this version
 abbrev pub IsFoundSession : Version → Database → Option FoundSession → Type 0
 IsFoundSession version db (Some found) = HoldsSession version db found
 IsFoundSession version db None = IsForeignIn version db
 
--- the same of the drafts
+-- the same for the drafts
 abbrev pub IsFoundDrafts : Version → Database → Option FoundDrafts → Type 0
 IsFoundDrafts version db (Some found) = HoldsDrafts version db found
 IsFoundDrafts version db None = IsForeignIn version db
 
--- they hold what was found; or the database stands for no such tables
+-- the same for the publication
 abbrev pub IsFoundPublication : Version → Database → Option FoundPublication → Type 0
 IsFoundPublication version db (Some found) = HoldsPublication version db found
 IsFoundPublication version db None = IsForeignIn version db
 
--- what was found, with the bytes of the batches
+-- the tables with the rows found and with these batches
 abbrev pub tables_of : Found → List Batch → Tables
 tables_of found batches = record {
   meta = meta_from found.meta ∷ [];
@@ -121,25 +121,25 @@ tables_of found batches = record {
 abbrev pub IsAdopted : Database → Option Found → Type 0
 IsAdopted db (Some found) =
     (batches : List Batch) × (map counts_of batches ≡ found.batches.items)
-    × StandsIn found.version db (tables_of found batches)
+    × HoldsTablesIn found.version db (tables_of found batches)
 IsAdopted db None = IsForeign db
 
 -- ---- parts together
 
--- what the three tables gave, together; none where one of them gave nothing
+-- `Some`: what all three tables gave. `None`: one of them gave nothing
 abbrev pub IsSession : Option MetaRow → Option (Vec OwnerRow Global) → Option (Vec EnrolRow Global)
     → Option FoundSession → Type 0
 IsSession meta owners enrols (Some found) =
     (meta ≡ Some found.meta) × (owners ≡ Some found.owners) × (enrols ≡ Some found.enrols)
 IsSession meta owners enrols None = (meta ≡ None) ⊎ ((owners ≡ None) ⊎ (enrols ≡ None))
 
--- what the two tables gave, together; none where one of them gave nothing
+-- `Some`: what both tables gave. `None`: one of them gave nothing
 abbrev pub IsDrafts : Option (Vec DraftRow Global) → Option (Vec SlotRow Global)
     → Option FoundDrafts → Type 0
 IsDrafts drafts slots (Some found) = (drafts ≡ Some found.drafts) × (slots ≡ Some found.slots)
 IsDrafts drafts slots None = (drafts ≡ None) ⊎ (slots ≡ None)
 
--- what is found of a publication is found in all four tables
+-- `Some`: what all four tables gave. `None`: one of them gave nothing
 abbrev pub HasAllOfPublication : Option (Vec PlacedRow Global) → Option (Vec SeatRow Global)
     → Option (Vec StudentShareRow Global) → Option (Vec PartShareRow Global)
     → Option FoundPublication → Type 0
@@ -149,7 +149,7 @@ HasAllOfPublication placements seats students parts (Some found) =
 HasAllOfPublication placements seats students parts None =
     (placements ≡ None) ⊎ ((seats ≡ None) ⊎ ((students ≡ None) ⊎ (parts ≡ None)))
 
--- all parts together; none where one of them gave nothing
+-- `Some`: all parts together. `None`: one of them gave nothing
 abbrev pub IsWhole : Version → Option FoundSession → Option FoundDrafts → Option FoundPublication
     → Option (Vec BatchCountsRow Global) → Option Found → Type 0
 IsWhole version session drafts publication batches (Some found) =

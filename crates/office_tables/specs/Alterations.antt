@@ -1,22 +1,22 @@
--- What a transaction makes of the tables.
+-- The effect of a transaction on the tables.
 use Rattle.std.specs.Prelude.{◌≡◌, IsTrue, List, [], ◌∷◌, Option, None, Some}
 use Rattle.sqlite.specs.State.{State}
 use Rattle.sqlite_trees.specs.Tree.{Trees}
 use Rattle.office_schema.specs.Schema.{office_schema}
 use Rattle.office_tables.specs.Tables.{Tables}
-use Rattle.office_tables.specs.Standing.{Stands}
+use Rattle.office_tables.specs.TablesHeld.{HoldsTables}
 
--- the database was open and is open; the tables have changed so, and the change is committed
+-- the database was open and still is; the tables have this change, and it is committed
 pub record Changed (f : Tables → Tables) (old new : State) : Type 0 where
   pub was_open : IsTrue old.is_open
   pub is_open : IsTrue new.is_open
   pub committed : new.now ≡ new.committed
-  pub makes : (t : Tables) → Stands old.now t → Stands new.now (f t)
+  pub makes : (t : Tables) → HoldsTables old.now t → HoldsTables new.now (f t)
 
--- trees of a file that a crash leaves: they hold the tables after this change
+-- the trees of a file after a crash: they hold the tables after this change
 abbrev pub HoldsChanged : (Tables → Tables) → State → Trees → Type 0
 HoldsChanged f old found =
-    (t : Tables) → Stands old.now t → Stands (record { schema = office_schema; trees = found }) (f t)
+    (t : Tables) → HoldsTables old.now t → HoldsTables (record { schema = office_schema; trees = found }) (f t)
 
 -- the database is as the last commit left it
 pub record Undone (old new : State) : Type 0 where

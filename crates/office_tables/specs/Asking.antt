@@ -1,4 +1,4 @@
--- What the text of a query asks, and what a reader gives of it.
+-- The query that a text means, and the records that a reader returns of its answer.
 use Rattle.std.specs.Prelude.{◌≡◌, ℕ, negsuc, pos, map, false, List, [], None, Ok, Err, Result}
 use Rattle.sqlite_resolve.specs.declared.compiled.Compiled.{Compiled}
 use Rattle.sqlite_resolve.specs.declared.error.CompileError.{CompileError}
@@ -28,19 +28,19 @@ asks from where_ shown order = record {
   offset = lit (Int (pos 0));
 }
 
--- what is understood of a text is this query
+-- the compiled text is this query
 abbrev pub Selects : Query → List (List ℕ) → Result Compiled CompileError → Type 0
 Selects q names (Ok c) = c.command ≡ Select (record { lets = []; body = q }) names
 Selects q names (Err e) = ⊥
 
--- under this schema the text is this query
+-- under this schema the text means this query
 pub record Means (schema : Schema) (q : Query) (sql : List ℕ) : Type 0 where
   pub names : List (List ℕ)
   pub selects : Selects q names (understood schema sql)
   pub unlisted : reads_listing schema sql ≡ false
   pub plain : IsPlain (understood schema sql)
 
--- the records show the rows of an answer, in its order: so many columns of each
+-- the records show the rows of an answer, in its order: the first `width` columns of each
 abbrev pub IsReadOf : {R : Type 0} → (R → Row) → ℕ → Row → Query → Trees → List R → Type 0
 IsReadOf columns_of width params q trees records =
     (rows : List Row) × (map columns_of records ≡ map (columns_from 0 width) rows)

@@ -1,5 +1,5 @@
--- The table batch: its columns, what statements make of it, its rows with and without their bytes,
--- and what is found of them.
+-- The table batch: its columns, the effect of statements on it, its rows with and without their
+-- bytes, and which of them are found.
 use Rattle.std.specs.Prelude.{◌≡◌, pos, List, [], ◌∷◌, map, Option, None, Some, Vec}
 use Rattle.std.specs.List.{AllByRecursion}
 use Rattle.std.specs.declared.alloc.Global.{Global}
@@ -22,7 +22,7 @@ batch_columns r =
 abbrev pub with_batch : Batch → Tables → Tables
 with_batch row t = record t { batch = row ∷ t.batch }
 
--- a batch, of the program's row
+-- the batch of the program's row
 abbrev pub batch_from : BatchRow → Batch
 batch_from r = record {
   no = r.no;
@@ -45,11 +45,12 @@ counts_columns r =
 abbrev pub FitsCounts : BatchCountsRow → Type 0
 FitsCounts r = IsNarrow r.no × IsNarrow r.added × IsNarrow r.dropped × IsNarrow r.unchanged
 
--- the same of the batch with its bytes
+-- the same for the batch with its bytes
 abbrev pub FitsBatch : Batch → Type 0
 FitsBatch r = FitsCounts (counts_of r)
 
--- the table holds batches, and this is found of each but its bytes; or it holds none that fit
+-- `Some`: the table holds batches, and these are their numbers and counts. `None`: it holds no
+-- batches that fit
 abbrev pub IsFoundBatches : Database → Option (Vec BatchCountsRow Global) → Type 0
 IsFoundBatches db (Some found) =
     (batches : List Batch) × (map counts_of batches ≡ found.items)

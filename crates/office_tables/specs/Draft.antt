@@ -1,5 +1,5 @@
--- The tables draft and night_draft: their columns, what statements make of them, which rows fit,
--- and their penalties.
+-- The tables draft and night_draft: their columns, the effect of statements on them, which rows
+-- fit, and their penalties.
 use Rattle.std.specs.Prelude.{◌==◌, ℕ, pos, [], ◌∷◌, filter, not}
 use Rattle.sqlite_value.specs.declared.value.Value.TheVariants.{Int}
 use Rattle.sqlite_value.specs.Order.{Row}

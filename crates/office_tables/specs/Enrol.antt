@@ -1,4 +1,4 @@
--- The table enrol: its columns, what statements make of it, which rows fit, and their order.
+-- The table enrol: its columns, the effect of statements on it, which rows fit, and their order.
 use Rattle.std.specs.Prelude.{◌<◌, ◌==◌, ◌&&◌, ℕ, pos, List, [], ◌∷◌, ◌++◌, reverse, filter, not}
 use Rattle.sqlite_value.specs.declared.value.Value.TheVariants.{Int}
 use Rattle.sqlite_value.specs.Order.{Row}
@@ -20,7 +20,7 @@ abbrev pub without_enrol : ℕ → ℕ → Tables → Tables
 without_enrol student exam t =
     record t { enrol = filter (λ r. not ((r.student == student) && (r.exam == exam))) t.enrol }
 
--- with these enrolments, put in one after another
+-- with these enrolments, added one after another
 abbrev pub with_enrols : List EnrolRow → Tables → Tables
 with_enrols rows t = record t { enrol = reverse rows ++ t.enrol }
 
@@ -28,6 +28,6 @@ with_enrols rows t = record t { enrol = reverse rows ++ t.enrol }
 abbrev pub FitsEnrol : EnrolRow → Type 0
 FitsEnrol r = IsNarrow r.student × IsNarrow r.exam
 
--- one student's rows, by exam; no two are level
-abbrev pub HerEnrolsRise : List EnrolRow → Type 0
-HerEnrolsRise = IsAscending (λ (a b : EnrolRow). a.exam < b.exam)
+-- one student's rows, by exam, strictly ascending
+abbrev pub StudentEnrolsRise : List EnrolRow → Type 0
+StudentEnrolsRise = IsAscending (λ (a b : EnrolRow). a.exam < b.exam)

@@ -1,4 +1,4 @@
--- What a reader finds and leaves if only the version of a database's schema is known.
+-- What a reader finds, and its effect, if only the version of a database's schema is known.
 use Rattle.std.specs.Prelude.{◌≡◌, false, List, map, None, Some, Option, Result, Vec, IfOk, OnOk}
 use Rattle.std.specs.List.{AllByRecursion}
 use Rattle.std.specs.declared.alloc.Global.{Global}
@@ -13,31 +13,31 @@ use Rattle.office_tables.specs.Readers.{Keeps}
 use Rattle.office_tables.specs.Stored.{Holds}
 use Rattle.office_tables.specs.Versions.{schema_of}
 
--- it has the tables of this version, and their rows obey them
+-- the database has the tables of this version, and their rows obey them
 pub record HasTables (version : Version) (s : State) : Type 0 where
   pub schema : s.now.schema ≡ schema_of version
   pub live : IsLive s
 
--- on a clean disk, of a database with the tables, what is answered is so
+-- on a clean disk, if the database has the tables, the value of an `Ok` has this relation to it
 abbrev pub Finds : {S X : Type 0} → Version → Ghosts S → (Database → X → Type 0)
     → Held S → Held S → Result X Error → Type 0
 Finds version store is old new result =
     HasCleanDisk (state store new) → HasTables version (state store old)
     → IfOk result (is (state store old).now)
 
--- and an Ok leaves everything as it was
+-- likewise, an `Ok` leaves everything unchanged
 abbrev pub Leaves : {S X : Type 0} → Version → Ghosts S → Held S → Held S → Result X Error → Type 0
 Leaves version store old new result =
     HasCleanDisk (state store new) → HasTables version (state store old)
     → OnOk result (IsUnchanged (state store old) (state store new))
 
--- whatever is answered
+-- the effect, whatever the result
 pub record Looks (version : Version) (old new : State) : Type 0 where
   pub kept : HasCleanDisk new → HasTables version old → Keeps old new
   pub mode : old.in_transaction ≡ false → new.in_transaction ≡ false
   pub survives : Survives old new (λ _. HasTables version old → ⊥)
 
--- the table holds what was found; or it holds no typed rows that fit
+-- `Some`: the table holds the rows found. `None`: it holds no typed rows that fit
 abbrev pub IsFound : {X : Type 0} → (X → Type 0) → (X → Row) → (Row → Row) → List Row
     → Option (Vec X Global) → Type 0
 IsFound fits row_of show stored (Some found) = Holds show (map row_of found.items) stored

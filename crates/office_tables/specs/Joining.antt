@@ -1,9 +1,12 @@
--- What is found of two tables whose rows have the same numbers.
+-- The rows found in two tables if the rows of both have the same numbers.
 use Rattle.std.specs.Prelude.{◌≡◌, ◌≢◌, ℕ, pos, List, [], ◌∷◌, map, Option, Some, None, IfSome, Vec}
 use Rattle.std.specs.List.{AllByRecursion}
 use Rattle.std.specs.declared.alloc.Global.{Global}
+use Rattle.sqlite.specs.Query.{Query}
+use Rattle.sqlite_trees.specs.Tree.{Trees}
 use Rattle.sqlite_value.specs.declared.value.Value.TheVariants.{Int}
 use Rattle.sqlite_value.specs.Order.{Row, column}
+use Rattle.office_tables.specs.Asking.{IsReadOf}
 use Rattle.office_tables.specs.declared.nights.NightRow.{NightRow}
 use Rattle.office_tables.specs.declared.version.Version.{Version}
 use Rattle.office_tables.specs.Finders.{IsFound}
@@ -35,20 +38,30 @@ IsJoined columns_of nights_of number (Some rows) None found = found ≡ None
 IsJoined columns_of nights_of number (Some rows) (Some nights) found =
     AreJoined columns_of nights_of number rows.items nights.items found
 
--- the rows of a table of nights, in the order of their numbers
+-- the rows of a table of amounts over night, in the order of their numbers
 abbrev pub AreNights : List Row → Option (Vec NightRow Global) → Type 0
 AreNights stored found =
     IsFound FitsNight night_columns keyed stored found
     × IfSome found (λ nights. ColumnRises 0 (map night_columns nights.items))
 
--- the rows joined with those of a table of nights
+-- the rows joined with those of a table of amounts over night
 abbrev pub IsJoinedWith : {X : Type 0} → (X → Row) → (X → Row) → (X → ℕ) → Option (Vec X Global)
     → List Row → Option (Vec X Global) → Type 0
 IsJoinedWith columns_of nights_of number rows stored found =
     (nights : Option (Vec NightRow Global)) × AreNights stored nights
     × IsJoined columns_of nights_of number rows nights found
 
--- the rows are stored in two tables, and in version 1 in one
+-- the rows of the first query's answer, in its order, with the amounts of the second's
+pub record IsReadWith {X : Type 0} (shown columns_of nights_of : X → Row) (width : ℕ)
+    (q nights_q : Query) (trees : Trees) (found : List X) : Type 0 where
+  pub rows : List X
+  pub nights : List NightRow
+  pub first : IsReadOf shown width [] q trees rows
+  pub second : IsReadOf night_columns 2 [] nights_q trees nights
+  pub columns : map columns_of found ≡ map columns_of rows
+  pub amounts : map nights_of found ≡ map night_columns nights
+
+-- the rows are stored in two tables; in version 1 in one
 pub record HaveRows {X : Type 0} (version : Version) (columns_of nights_of : X → Row)
     (night : X → ℕ) (stored nights_stored : List Row) (rows : List X) : Type 0 where
   pub first : Holds keyed (map columns_of rows) stored

@@ -22,8 +22,8 @@ pub mod Selections
 pub mod SharePart
 pub mod ShareStudent
 pub mod Slot
-pub mod Standing
 pub mod Steps
 pub mod Stored
 pub mod Tables
+pub mod TablesHeld
 pub mod Versions

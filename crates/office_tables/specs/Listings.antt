@@ -1,4 +1,4 @@
--- What the text of a query lists of a table.
+-- The rows of a table that a query's text lists.
 use Rattle.std.specs.Prelude.{◌≡◌, ℕ, ◌<◌, ◌≤◌, List, [], ◌∷◌, length, slice_index_or}
 use Rattle.std.specs.List.{AllByRecursion}
 use Rattle.sqlite_trees.specs.Tree.{rowid}
@@ -24,7 +24,7 @@ one_table tree where_ shown order = asks (inner tree end) where_ shown order
 abbrev pub Lists : Version → ℕ → List Term → List (Term × Key) → List ℕ → Type 0
 Lists version tree shown order = Means (schema_of version) (one_table tree [] shown order)
 
--- what a SELECT shows of a row: the value of each of its terms
+-- the columns that a SELECT shows of a row: the values of its terms
 abbrev pub listed : List Term → Row → Row
 listed shown row = eval_all shown ([] ∷ row ∷ [])
 
@@ -46,7 +46,7 @@ pub record ListsTable (version : Version) (width tree : ℕ) (show : Row → Row
   pub whole : (db : Database) → db.schema ≡ schema_of version → IsDatabase db
       → AllByRecursion (λ r. IsListed width show r (listed terms r)) (db.trees tree)
 
--- it lists them so, and one of these columns is the row's number
+-- the text lists the whole table so, and one of these columns is the row's number
 pub record ListsKeyed (version : Version) (at width tree : ℕ) (show : Row → Row) (sql : List ℕ)
     : Type 0 where
   pub table : ListsTable version width tree show sql

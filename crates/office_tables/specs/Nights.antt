@@ -10,7 +10,7 @@ use Rattle.office_tables.specs.declared.version.Version.TheVariants.{One, Two}
 use Rattle.office_tables.specs.Records.{IsNarrow}
 use Rattle.office_tables.specs.Stored.{Holds, keyed}
 
--- the columns of a table of nights: the number of a draft or a student, and the amount
+-- the columns of a table of amounts over night: the number of a draft or a student, and the amount
 abbrev pub night_columns : NightRow → Row
 night_columns r = Int (pos r.number) ∷ Int (pos r.night) ∷ []
 
@@ -22,7 +22,7 @@ FitsNight r = IsNarrow r.number
 abbrev pub with_no_night : Row → Row
 with_no_night row = Int (pos 0) ∷ keyed row
 
--- the table of nights has these rows; in version 1 there is none, and each amount is 0
+-- the table of amounts over night has these rows; in version 1 there is none, and each amount is 0
 abbrev pub HoldsNights : {X : Type 0} → Version → (X → Row) → (X → ℕ) → List X → List Row → Type 0
 HoldsNights One nights_of night rows stored = AllByRecursion (λ x. night x ≡ 0) rows
 HoldsNights Two nights_of night rows stored = Holds keyed (map nights_of rows) stored

@@ -1,4 +1,4 @@
--- The table owner: its columns, what statements make of it, and which rows fit.
+-- The table owner: its columns, the effect of statements on it, and which rows fit.
 use Rattle.std.specs.Prelude.{◌==◌, ℕ, pos, [], ◌∷◌, filter, not}
 use Rattle.sqlite_value.specs.declared.value.Value.TheVariants.{Int}
 use Rattle.sqlite_value.specs.Order.{Row}

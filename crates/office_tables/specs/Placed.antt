@@ -1,5 +1,5 @@
--- The table placed: its columns, what statements make of it, which rows fit, those of one student,
--- and their order.
+-- The table placed: its columns, the effect of statements on it, which rows fit, those of one
+-- student, and their order.
 use Rattle.std.specs.Prelude.{◌<◌, ◌==◌, ℕ, pos, List, [], ◌∷◌, filter, flat_map, not}
 use Rattle.sqlite_value.specs.declared.value.Value.TheVariants.{Int}
 use Rattle.sqlite_value.specs.Order.{Row}
@@ -34,6 +34,6 @@ placed_of student t =
     flat_map (λ e. filter (λ p. p.exam == e.exam) t.placed)
     (filter (λ e. e.student == student) t.enrol)
 
--- by exam; no two are level
+-- by exam, strictly ascending
 abbrev pub PlacementsRise : List PlacedRow → Type 0
 PlacementsRise = IsAscending (λ (a b : PlacedRow). a.exam < b.exam)

@@ -1,61 +1,62 @@
--- What a reader leaves of a connection where the tables stand.
+-- The effect of a reader on a connection to a database with the tables.
 use Rattle.std.specs.Prelude.{◌≡◌, ◌⊎◌, false, IsTrue, IfOk, OnOk, Result}
 use Rattle.sqlite.specs.declared.error.Error.{Error}
 use Rattle.sqlite.specs.Held.{Held, state}
 use Rattle.sqlite.specs.State.{State, HasCleanDisk, IsUnchanged}
 use Rattle.sqlite.specs.Store.{Ghosts}
 use Rattle.office_tables.specs.Tables.{Tables}
-use Rattle.office_tables.specs.Standing.{StandsIn}
+use Rattle.office_tables.specs.TablesHeld.{HoldsTablesIn}
 use Rattle.office_tables.specs.declared.version.Version.{Version}
 use Rattle.office_tables.specs.declared.version.Version.TheVariants.{Two}
 
--- it leaves the database as it is, or where it failed as the last commit left it
+-- the database is unchanged, or as the last commit left it
 pub record Keeps (old new : State) : Type 0 where
   pub was_open : IsTrue new.is_open → IsTrue old.is_open
   pub now : IsTrue new.is_open → (new.now ≡ old.now) ⊎ (new.now ≡ old.committed)
   pub committed : IsTrue new.is_open → new.committed ≡ old.committed
   pub mode : old.in_transaction ≡ false → new.in_transaction ≡ false
 
--- of a connection: on a clean disk, what answers Ok was open
+-- on a clean disk, a connection that answers `Ok` was open
 abbrev pub AnswersOpen : {S X : Type 0} → Ghosts S → Held S → Held S → Result X Error → Type 0
 AnswersOpen store old new result =
     HasCleanDisk (state store new) → OnOk result (IsTrue (state store old).is_open)
 
--- and what is open afterwards was
+-- on a clean disk, a connection that is open afterwards was open before
 abbrev pub OpensNone : {S : Type 0} → Ghosts S → Held S → Held S → Type 0
 OpensNone store old new =
     HasCleanDisk (state store new)
     → IsTrue (state store new).is_open → IsTrue (state store old).is_open
 
--- the same of a connection: on a clean disk, if the database has the tables of this version
+-- on a clean disk, if the database has the tables of this version, the value of an `Ok` has this
+-- relation to their rows
 abbrev pub ReadsIn : {S X : Type 0} → Version → Ghosts S → (Tables → X → Type 0)
     → Held S → Held S → Result X Error → Type 0
 ReadsIn version store is old new result =
-    HasCleanDisk (state store new) → (t : Tables) → StandsIn version (state store old).now t
+    HasCleanDisk (state store new) → (t : Tables) → HoldsTablesIn version (state store old).now t
     → IfOk result (is t)
 
--- and an Ok leaves everything as it was
+-- likewise, an `Ok` leaves everything unchanged
 abbrev pub LeavesAllIn : {S X : Type 0} → Version → Ghosts S
     → Held S → Held S → Result X Error → Type 0
 LeavesAllIn version store old new result =
-    HasCleanDisk (state store new) → (t : Tables) → StandsIn version (state store old).now t
+    HasCleanDisk (state store new) → (t : Tables) → HoldsTablesIn version (state store old).now t
     → OnOk result (IsUnchanged (state store old) (state store new))
 
--- and an Err does but for what was not committed
+-- likewise, whatever the result, the database is unchanged, or as the last commit left it
 abbrev pub LeavesCommittedIn : {S : Type 0} → Version → Ghosts S → Held S → Held S → Type 0
 LeavesCommittedIn version store old new =
-    HasCleanDisk (state store new) → (t : Tables) → StandsIn version (state store old).now t
+    HasCleanDisk (state store new) → (t : Tables) → HoldsTablesIn version (state store old).now t
     → Keeps (state store old) (state store new)
 
--- in version 2: what is answered is so
+-- in version 2, the value of an `Ok` has this relation to the rows of the tables
 abbrev pub Reads : {S X : Type 0} → Ghosts S → (Tables → X → Type 0)
     → Held S → Held S → Result X Error → Type 0
 Reads = ReadsIn Two
 
--- an Ok leaves everything as it was
+-- in version 2, an `Ok` leaves everything unchanged
 abbrev pub LeavesAll : {S X : Type 0} → Ghosts S → Held S → Held S → Result X Error → Type 0
 LeavesAll = LeavesAllIn Two
 
--- and an Err does but for what was not committed
+-- in version 2, whatever the result, the database is unchanged, or as the last commit left it
 abbrev pub LeavesCommitted : {S : Type 0} → Ghosts S → Held S → Held S → Type 0
 LeavesCommitted = LeavesCommittedIn Two

@@ -1,4 +1,4 @@
--- How the schema comes about, table by table.
+-- The schema after each new table.
 use Rattle.std.specs.Prelude.{◌≡◌, []}
 use Rattle.std.specs.List.{AllByRecursion}
 use Rattle.sqlite_schema.specs.declared.schema.Schema.{Schema}
@@ -64,6 +64,6 @@ pub record HasRows (schema : Schema) (trees : Trees) (db : Database) : Type 0 wh
   pub schema_is : db.schema ≡ schema
   pub rows : AllByRecursion (λ t. db.trees t.tree ≡ trees t.tree) schema.tables
 
--- the tables of this schema, with no row, and no others
+-- the tables of this schema, without rows, and no other tables
 abbrev pub IsBlank : Schema → Database → Type 0
 IsBlank schema = HasRows schema (λ _. [])

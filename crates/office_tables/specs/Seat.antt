@@ -1,4 +1,4 @@
--- The table seat: its columns, what statements make of it, which rows fit, and their orders.
+-- The table seat: its columns, the effect of statements on it, which rows fit, and their orders.
 use Rattle.std.specs.Prelude.{◌≡◌, ◌<◌, ◌⊎◌, ◌==◌, ℕ, pos, List, [], ◌∷◌, filter, not}
 use Rattle.sqlite_value.specs.declared.value.Value.TheVariants.{Int}
 use Rattle.sqlite_value.specs.Order.{Row}
@@ -27,12 +27,12 @@ abbrev pub FitsSeat : SeatRow → Type 0
 FitsSeat r =
     IsNarrow r.student × IsNarrow r.exam × IsNarrow r.period × IsNarrow r.room × IsNarrow r.seat
 
--- by exam, and in an exam by student; no two are level
+-- by exam, and in an exam by student, strictly ascending
 abbrev pub SeatsRise : List SeatRow → Type 0
 SeatsRise =
     IsAscending (λ (a b : SeatRow).
     (a.exam < b.exam) ⊎ ((a.exam ≡ b.exam) × (a.student < b.student)))
 
--- one student's seats, by exam; no two are level
-abbrev pub HerSeatsRise : List SeatRow → Type 0
-HerSeatsRise = IsAscending (λ (a b : SeatRow). a.exam < b.exam)
+-- one student's seats, by exam, strictly ascending
+abbrev pub StudentSeatsRise : List SeatRow → Type 0
+StudentSeatsRise = IsAscending (λ (a b : SeatRow). a.exam < b.exam)

@@ -1,5 +1,5 @@
--- The table share_part: its columns, what statements make of it, which rows fit, their order and
--- their amounts.
+-- The table share_part: its columns, the effect of statements on it, which rows fit, their order
+-- and their amounts.
 use Rattle.std.specs.Prelude.{◌≡◌, ◌<◌, ◌⊎◌, pos, List, [], ◌∷◌}
 use Rattle.sqlite_value.specs.declared.value.Value.TheVariants.{Int}
 use Rattle.sqlite_value.specs.Order.{Row}
@@ -22,11 +22,11 @@ with_part_share row t = record t { share_part = row ∷ t.share_part }
 abbrev pub no_part_shares : Tables → Tables
 no_part_shares t = record t { share_part = [] }
 
--- the kind and the number of a share have 32 bits; what it adds may have 64
+-- the kind and the number of a share have 32 bits; its amounts may have 64
 abbrev pub FitsPartShare : PartShareRow → Type 0
 FitsPartShare r = IsNarrow r.kind × IsNarrow r.no
 
--- by kind, and in a kind by number; no two are level
+-- by kind, and in a kind by number, strictly ascending
 abbrev pub PartSharesRise : List PartShareRow → Type 0
 PartSharesRise =
     IsAscending (λ (a b : PartShareRow). (a.kind < b.kind) ⊎ ((a.kind ≡ b.kind) × (a.no < b.no)))

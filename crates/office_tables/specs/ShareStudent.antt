@@ -1,5 +1,5 @@
--- The tables share_student and night_share: their columns, what statements make of them, which rows
--- fit, their order and their amounts.
+-- The tables share_student and night_share: their columns, the effect of statements on them, which
+-- rows fit, their order and their amounts.
 use Rattle.std.specs.Prelude.{◌<◌, ◌==◌, ℕ, pos, List, [], ◌∷◌, filter, not}
 use Rattle.sqlite_value.specs.declared.value.Value.TheVariants.{Int}
 use Rattle.sqlite_value.specs.Order.{Row}
@@ -31,11 +31,11 @@ abbrev pub without_student_share : ℕ → Tables → Tables
 without_student_share student t =
     record t { share_student = filter (λ r. not (r.student == student)) t.share_student }
 
--- the student's number has 32 bits; what she adds may have 64
+-- the student's number has 32 bits; the amounts may have 64
 abbrev pub FitsStudentShare : StudentShareRow → Type 0
 FitsStudentShare r = IsNarrow r.student
 
--- by student; no two are level
+-- by student, strictly ascending
 abbrev pub StudentSharesRise : List StudentShareRow → Type 0
 StudentSharesRise = IsAscending (λ (a b : StudentShareRow). a.student < b.student)
 

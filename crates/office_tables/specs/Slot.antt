@@ -1,4 +1,4 @@
--- The table slot: its columns, what statements make of it, and which rows fit.
+-- The table slot: its columns, the effect of statements on it, and which rows fit.
 use Rattle.std.specs.Prelude.{◌==◌, ◌&&◌, ℕ, pos, List, [], ◌∷◌, ◌++◌, reverse, filter, not}
 use Rattle.sqlite_value.specs.declared.value.Value.TheVariants.{Int}
 use Rattle.sqlite_value.specs.Order.{Row}
@@ -14,7 +14,7 @@ slot_columns r = Int (pos r.draft) ∷ Int (pos r.exam) ∷ Int (pos r.period) �
 abbrev pub with_slot : SlotRow → Tables → Tables
 with_slot row t = record t { slot = row ∷ t.slot }
 
--- without any place of this draft's
+-- without any place of this draft
 abbrev pub without_slots : ℕ → Tables → Tables
 without_slots draft t = record t { slot = filter (λ r. not (r.draft == draft)) t.slot }
 
@@ -23,7 +23,7 @@ abbrev pub without_slot : ℕ → ℕ → Tables → Tables
 without_slot draft exam t =
     record t { slot = filter (λ r. not ((r.draft == draft) && (r.exam == exam))) t.slot }
 
--- with these places, put in one after another
+-- with these places, added one after another
 abbrev pub with_slots : List SlotRow → Tables → Tables
 with_slots rows t = record t { slot = reverse rows ++ t.slot }
 

@@ -14,7 +14,7 @@ pub record Meta : Type 0 where
   pub published : Bool
   pub instance : List ℕ
 
--- a batch that was accepted, with its answer
+-- an accepted batch, with its answer
 pub record Batch : Type 0 where
   pub no : ℕ
   pub bytes : List ℕ

@@ -1,4 +1,4 @@
-// An office's tables, taken over from a database that may be any.
+// The tables of an office, read from a database with any contents.
 ghost use Rattle.std.specs.Prelude.{◌≡◌, ◌⊎◌, false, IfOk, IsSome, IsTrue, OnOk};
 ghost use Rattle.sqlite.specs.Held.{state};
 ghost use Rattle.sqlite.specs.State.{HasCleanDisk, IsUnchanged, Survives};
@@ -21,9 +21,9 @@ use crate::version::{Version, version_of};
 use sqlite::{Alter, Connection, Error};
 use std::alloc::Global;
 
-/// The rows of an office and the version of its file; of each batch all but its bytes, which
-/// `batch_of` reads. `None`: the database doesn't hold the rows of an office. `Err`: a statement
-/// failed or memory was refused.
+/// Returns the rows of an office and the version of its file; the batches are without their bytes,
+/// which `batch_of` reads. `None`: the database doesn't hold the rows of an office. `Err`: a
+/// statement failed, or memory ran out.
 pub fn adopt_tables<S: Alter>(
     alloc: Global,
     conn: &mut Connection<S>,
@@ -33,7 +33,7 @@ pub fn adopt_tables<S: Alter>(
     ensures same { HasCleanDisk (state S.Store conn.new)
         → OnOk result ((conn.new ≡ conn.old)
         ⊎ IsUnchanged (state S.Store conn.old) (state S.Store conn.new)) }
-    // Rows that were found were read from a database that is open.
+    // If rows are found, the database is open.
     ensures open { HasCleanDisk (state S.Store conn.new)
         → IfOk result (λ found. IsSome found → IsTrue (state S.Store conn.new).is_open) }
     ensures kept { HasCleanDisk (state S.Store conn.new)
@@ -63,7 +63,7 @@ fn adopt_rows<S: Alter>(
     Ok(whole_of(version, session, drafts, publication, batches))
 }
 
-// The session's part.
+// Returns the rows of the session. `None`: the database holds no office of this version.
 fn find_session<S: Alter>(
     alloc: Global,
     conn: &mut Connection<S>,
@@ -79,7 +79,7 @@ fn find_session<S: Alter>(
     Ok(session_of(meta, owners, enrols))
 }
 
-// The drafts' part.
+// Returns the rows of the drafts. `None`: the database holds no office of this version.
 fn find_drafts<S: Alter>(
     alloc: Global,
     conn: &mut Connection<S>,
@@ -94,7 +94,7 @@ fn find_drafts<S: Alter>(
     Ok(drafts_of(drafts, slots))
 }
 
-// The publication's part.
+// Returns the rows of the publication. `None`: the database holds no office of this version.
 fn find_publication<S: Alter>(
     alloc: Global,
     conn: &mut Connection<S>,

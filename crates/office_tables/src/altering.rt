@@ -1,4 +1,4 @@
-// Whole transactions: all of an alteration of the tables is made, or nothing.
+// Whole transactions: an alteration of the tables is made completely, or not at all.
 ghost use Rattle.std.specs.Prelude.{◌≡◌, false, OnErr, OnOk};
 ghost use Rattle.sqlite.specs.Held.{state};
 ghost use Rattle.sqlite.specs.State.{HasCleanDisk, Survives};
@@ -8,14 +8,14 @@ ghost use Rattle.office_tables.specs.Tables.{Tables};
 
 use sqlite::{Alter, Connection, Error, Transaction};
 
-/// What a transaction makes of the tables.
+/// A change that a transaction makes to the tables.
 pub trait Alteration {
     ghost alteration: { Self → Tables → Tables };
 
     // The file can hold its numbers.
     ghost fits: { Self → Type 0 };
 
-    /// Makes it inside a transaction.
+    /// Makes the change inside a transaction.
     fn apply<S: Alter>(&self, tx: &mut Transaction<'_, S>) -> Result<(), Error>
         requires fits { fits self.now }
         ensures same_reference { tx.new.conn.ghost_name ≡ tx.old.conn.ghost_name }
@@ -24,7 +24,7 @@ pub trait Alteration {
         ensures within { Within (state S.Store tx.old.conn.now) (state S.Store tx.new.conn.now) };
 }
 
-/// Makes the alteration in a transaction of its own, or leaves the tables as they were.
+/// Makes the alteration in a transaction of its own. On `Err` the tables are as they were.
 pub fn transact<S: Alter, A: Alteration>(
     conn: &mut Connection<S>,
     alteration: &A,
@@ -35,7 +35,7 @@ pub fn transact<S: Alter, A: Alteration>(
         (Changed (A.alteration alteration.now) (state S.Store conn.old) (state S.Store conn.new)) }
     ensures undone { HasCleanDisk (state S.Store conn.new)
         → OnErr result (Undone (state S.Store conn.old) (state S.Store conn.new)) }
-    // A crash leaves what it left before, or the tables after the change.
+    // A crash leaves what it would have left before, or the tables after the change.
     ensures survives { Survives (state S.Store conn.old) (state S.Store conn.new)
         (HoldsChanged (A.alteration alteration.now) (state S.Store conn.old)) }
     ensures rests { conn.new.in_transaction ≡ false }
@@ -64,7 +64,7 @@ impl<A: Alteration, B: Alteration> Alteration for Both<A, B> {
     }
 }
 
-/// Each of some alterations, in their order.
+/// Alterations, one after another in their order.
 #[derive(Clone, Copy)]
 pub struct Each<'a, A> {
     pub alterations: &'a [A],

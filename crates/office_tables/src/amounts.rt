@@ -1,8 +1,8 @@
-// Penalties as SQLite keeps them: its integers have a sign.
+// Penalties as SQLite stores them: its integers are signed.
 ghost use Rattle.std.specs.Prelude.{◌≡◌, pos};
 ghost use Rattle.office_tables.specs.Amounts.{IsStorable};
 
-// A penalty, which is below 2^62.
+// Returns a penalty, which is below 2^62, as a signed number.
 pub(crate) fn signed(amount: u64) -> i64
     requires { IsStorable amount }
     ensures { result ≡ pos amount }

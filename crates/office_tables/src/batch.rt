@@ -1,4 +1,4 @@
-// Batches of changes of enrolments that were accepted.
+// Accepted batches of changes of enrolments.
 ghost use Rattle.std.specs.Prelude.{◌≡◌, ◌==◌, false, filter, map, option_to_list};
 ghost use Rattle.sqlite.specs.Held.{state};
 ghost use Rattle.sqlite.specs.State.{Survives};
@@ -17,7 +17,7 @@ use crate::streaming::stream;
 use sqlite::{Alter, Connection, Error, Row, Transaction, params};
 use std::alloc::Global;
 
-/// A batch of changes of enrolments that was accepted, with what its lines did.
+/// An accepted batch of changes of enrolments, with the counts of what its lines did.
 #[derive(Drop)]
 pub struct BatchRow {
     pub no: u32,
@@ -27,7 +27,7 @@ pub struct BatchRow {
     pub unchanged: u32,
 }
 
-/// The same without its bytes.
+/// A batch without its bytes.
 #[derive(Clone, Copy, Debug, PartialEq, Eq)]
 pub struct BatchCountsRow {
     pub no: u32,
@@ -36,7 +36,7 @@ pub struct BatchCountsRow {
     pub unchanged: u32,
 }
 
-// The table of batches.
+// Creates the table of batches.
 pub(crate) fn create_batch<S: Alter>(tx: &mut Transaction<'_, S>) -> Result<(), Error>
     ensures same_reference { tx.new.conn.ghost_name ≡ tx.old.conn.ghost_name }
     ensures makes { Grows S.Store (IsBlank schema_9) (IsBlank schema_10)
@@ -90,7 +90,7 @@ impl Record for BatchCountsRow {
     }
 }
 
-/// Keeps a batch, with what its lines did.
+/// Adds a batch, with the counts of what its lines did.
 #[derive(Clone, Copy)]
 pub struct InsertBatch<'a> {
     pub no: u32,
@@ -126,7 +126,7 @@ impl Alteration for InsertBatch<'_> {
     }
 }
 
-/// The kept batch of a number, if there is one, in a file of either version.
+/// Returns the stored batch of a number, if there is one, in a file of either version.
 pub fn batch_of<S: Alter>(
     alloc: Global,
     conn: &mut Connection<S>,
@@ -151,7 +151,7 @@ pub fn batch_of<S: Alter>(
     Ok(found.pop())
 }
 
-// All batches but their bytes, or that a row is of none.
+// Returns all batches without their bytes. `None`: the table doesn't hold batches.
 pub(crate) fn adopt_batches<S: Alter>(
     alloc: Global,
     conn: &mut Connection<S>,

@@ -1,9 +1,9 @@
-// All twelve tables, and the row that an office without a session has.
+// All twelve tables, and the row of an office without a session.
 ghost use Rattle.std.specs.Prelude.{◌≡◌, ◌↔◌, IsTrue};
 ghost use Rattle.sqlite.specs.Held.{state};
 ghost use Rattle.office_tables.specs.Schema.{no_schema, schema_3, schema_5, schema_9, IsBlank};
 ghost use Rattle.office_tables.specs.Steps.{Grows, Within};
-ghost use Rattle.office_tables.specs.Standing.{Stands};
+ghost use Rattle.office_tables.specs.TablesHeld.{HoldsTables};
 ghost use Rattle.office_tables.specs.Tables.{empty_tables};
 
 use crate::altering::Alteration;
@@ -19,7 +19,7 @@ use crate::share_student::{create_night_share, create_share_student};
 use crate::slot::create_slot;
 use sqlite::{Alter, Connection, Error, Transaction};
 
-/// Whether the database has no table, no index and no view.
+/// Returns whether the database has no table, no index and no view.
 pub fn is_bare<S: Alter>(conn: &Connection<S>) -> bool
     ensures { IsTrue result ↔ ((state S.Store conn.now).now.schema ≡ no_schema) }
 {
@@ -27,10 +27,10 @@ pub fn is_bare<S: Alter>(conn: &Connection<S>) -> bool
     schema.tables.is_empty() && schema.indexes.is_empty() && schema.views.is_empty()
 }
 
-/// Makes the tables, which then stand for the office without a session.
+/// Creates the tables, with the rows of an office without a session.
 pub fn create_tables<S: Alter>(tx: &mut Transaction<'_, S>) -> Result<(), Error>
     ensures same_reference { tx.new.conn.ghost_name ≡ tx.old.conn.ghost_name }
-    ensures makes { Grows S.Store (IsBlank no_schema) (λ db. Stands db empty_tables)
+    ensures makes { Grows S.Store (IsBlank no_schema) (λ db. HoldsTables db empty_tables)
         tx.old.conn.now tx.new.conn.now result }
     ensures within { Within (state S.Store tx.old.conn.now) (state S.Store tx.new.conn.now) }
 {
@@ -40,7 +40,7 @@ pub fn create_tables<S: Alter>(tx: &mut Transaction<'_, S>) -> Result<(), Error>
     create_last_tables(tx)
 }
 
-// The tables of the session and its students.
+// Creates the tables of the session and its students.
 fn create_session_tables<S: Alter>(tx: &mut Transaction<'_, S>) -> Result<(), Error>
     ensures same_reference { tx.new.conn.ghost_name ≡ tx.old.conn.ghost_name }
     ensures makes { Grows S.Store (IsBlank no_schema) (IsBlank schema_3)
@@ -52,7 +52,7 @@ fn create_session_tables<S: Alter>(tx: &mut Transaction<'_, S>) -> Result<(), Er
     create_enrol(tx)
 }
 
-// The tables of drafts.
+// Creates the tables of drafts.
 fn create_draft_tables<S: Alter>(tx: &mut Transaction<'_, S>) -> Result<(), Error>
     ensures same_reference { tx.new.conn.ghost_name ≡ tx.old.conn.ghost_name }
     ensures makes { Grows S.Store (IsBlank schema_3) (IsBlank schema_5)
@@ -63,7 +63,7 @@ fn create_draft_tables<S: Alter>(tx: &mut Transaction<'_, S>) -> Result<(), Erro
     create_slot(tx)
 }
 
-// The tables of the publication.
+// Creates the tables of the publication.
 fn create_publication_tables<S: Alter>(tx: &mut Transaction<'_, S>) -> Result<(), Error>
     ensures same_reference { tx.new.conn.ghost_name ≡ tx.old.conn.ghost_name }
     ensures makes { Grows S.Store (IsBlank schema_5) (IsBlank schema_9)
@@ -76,10 +76,10 @@ fn create_publication_tables<S: Alter>(tx: &mut Transaction<'_, S>) -> Result<()
     create_share_part(tx)
 }
 
-// The tables of batches and of what is over night, and the one row about the office.
+// Creates the tables of batches and of amounts over night, and the one row about the office.
 fn create_last_tables<S: Alter>(tx: &mut Transaction<'_, S>) -> Result<(), Error>
     ensures same_reference { tx.new.conn.ghost_name ≡ tx.old.conn.ghost_name }
-    ensures makes { Grows S.Store (IsBlank schema_9) (λ db. Stands db empty_tables)
+    ensures makes { Grows S.Store (IsBlank schema_9) (λ db. HoldsTables db empty_tables)
         tx.old.conn.now tx.new.conn.now result }
     ensures within { Within (state S.Store tx.old.conn.now) (state S.Store tx.new.conn.now) }
 {

@@ -34,7 +34,7 @@ pub struct DraftRow {
     pub night: u64,
 }
 
-// The table of drafts.
+// Creates the table of drafts.
 pub(crate) fn create_draft<S: Alter>(tx: &mut Transaction<'_, S>) -> Result<(), Error>
     ensures same_reference { tx.new.conn.ghost_name ≡ tx.old.conn.ghost_name }
     ensures makes { Grows S.Store (IsBlank schema_3) (IsBlank schema_4)
@@ -50,7 +50,7 @@ pub(crate) fn create_draft<S: Alter>(tx: &mut Transaction<'_, S>) -> Result<(), 
     )
 }
 
-// The first table that version 2 adds: what drafts cost over night.
+// Creates the first table that version 2 adds: the amounts over night of drafts.
 pub(crate) fn create_night_draft<S: Alter>(tx: &mut Transaction<'_, S>) -> Result<(), Error>
     ensures same_reference { tx.new.conn.ghost_name ≡ tx.old.conn.ghost_name }
     ensures makes { (trees : Trees) → trees 15 ≡ []
@@ -135,7 +135,7 @@ impl Alteration for InsertDraft {
     }
 }
 
-// Its columns in the first table.
+// Returns the columns of a draft in the first table.
 fn stored_columns(row: DraftRow) -> [ValueRef<'static>; 8]
     requires amounts { AreAmounts row }
     ensures { bound result ≡ draft_columns row }
@@ -152,7 +152,7 @@ fn stored_columns(row: DraftRow) -> [ValueRef<'static>; 8]
     ]
 }
 
-// Its columns in the second table.
+// Returns the columns of a draft in the second table.
 fn night_columns(row: DraftRow) -> [ValueRef<'static>; 2]
     requires amounts { AreAmounts row }
     ensures { bound result ≡ night_draft_columns row }
@@ -163,7 +163,7 @@ fn night_columns(row: DraftRow) -> [ValueRef<'static>; 2]
     ]
 }
 
-/// Takes a draft out.
+/// Deletes a draft.
 #[derive(Clone, Copy)]
 pub struct DeleteDraft {
     pub no: u32,
@@ -184,7 +184,7 @@ impl Alteration for DeleteDraft {
     }
 }
 
-/// Takes all drafts out.
+/// Deletes all drafts.
 #[derive(Clone, Copy)]
 pub struct DeleteDrafts;
 
@@ -199,7 +199,7 @@ impl Alteration for DeleteDrafts {
     }
 }
 
-// All drafts of a file of this version. `None`: its tables don't hold drafts.
+// Returns all drafts of a file of this version. `None`: its tables don't hold drafts.
 pub(crate) fn adopt_drafts<S: Alter>(
     alloc: Global,
     conn: &mut Connection<S>,

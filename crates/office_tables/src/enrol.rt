@@ -1,11 +1,11 @@
-// Who sits which exam.
+// Enrolments of students in exams.
 ghost use Rattle.std.specs.Prelude.{◌≡◌, ◌==◌, false, filter, IfSome, IsPermutation, IsSome};
 ghost use Rattle.std.specs.List.{AllByRecursion};
 ghost use Rattle.sqlite.specs.Held.{state};
 ghost use Rattle.sqlite.specs.State.{Survives};
 ghost use Rattle.sqlite.specs.Values.{bound};
 ghost use Rattle.office_tables.specs.declared.version.Version.{Version};
-ghost use Rattle.office_tables.specs.Enrol.{enrol_columns, with_enrol, without_enrol, FitsEnrol, HerEnrolsRise};
+ghost use Rattle.office_tables.specs.Enrol.{enrol_columns, with_enrol, without_enrol, FitsEnrol, StudentEnrolsRise};
 ghost use Rattle.office_tables.specs.Finders.{Finds, IsFound, Leaves, Looks};
 ghost use Rattle.office_tables.specs.Schema.{schema_2, schema_3, IsBlank};
 ghost use Rattle.office_tables.specs.Selections.{IsInOrder};
@@ -22,14 +22,14 @@ use sqlite::{Alter, Connection, Error, Row, Transaction, params};
 use sqlite_value::value::ValueRef;
 use std::alloc::Global;
 
-/// A student sits an exam.
+/// The enrolment of a student in an exam.
 #[derive(Clone, Copy, Debug, PartialEq, Eq)]
 pub struct EnrolRow {
     pub student: u32,
     pub exam: u32,
 }
 
-// The table of enrolments.
+// Creates the table of enrolments.
 pub(crate) fn create_enrol<S: Alter>(tx: &mut Transaction<'_, S>) -> Result<(), Error>
     ensures same_reference { tx.new.conn.ghost_name ≡ tx.old.conn.ghost_name }
     ensures makes { Grows S.Store (IsBlank schema_2) (IsBlank schema_3)
@@ -61,7 +61,7 @@ impl Record for EnrolRow {
     }
 }
 
-/// Adds a pair.
+/// Adds an enrolment.
 #[derive(Clone, Copy)]
 pub struct InsertEnrol {
     pub row: EnrolRow,
@@ -81,7 +81,7 @@ impl Alteration for InsertEnrol {
     }
 }
 
-/// Adds thirty-two pairs by one statement.
+/// Adds thirty-two enrolments with one statement.
 impl Alteration for [InsertEnrol; 32] {
     ghost use Rattle.office_tables.specs.Alterations.{after_all};
 
@@ -108,7 +108,7 @@ fn columns(it: InsertEnrol) -> [ValueRef<'static>; 2]
     [number(it.row.student), number(it.row.exam)]
 }
 
-/// Adds pairs, one after another: thirty-two by a statement, and what is left one by one.
+/// Adds enrolments in their order: thirty-two with each statement, and the rest one by one.
 #[derive(Clone, Copy)]
 pub struct InsertEnrols<'a> {
     pub rows: &'a [InsertEnrol],
@@ -133,7 +133,7 @@ impl Alteration for InsertEnrols<'_> {
     }
 }
 
-/// Takes a pair of a student and an exam out.
+/// Deletes the enrolment of a student in an exam.
 #[derive(Clone, Copy)]
 pub struct DeleteEnrol {
     pub student: u32,
@@ -154,7 +154,7 @@ impl Alteration for DeleteEnrol {
     }
 }
 
-/// The exams that a student is enrolled in, by exam.
+/// Returns a student's enrolments, by exam.
 pub fn enrols_of<S: Alter>(
     alloc: Global,
     conn: &mut Connection<S>,
@@ -164,7 +164,7 @@ pub fn enrols_of<S: Alter>(
         (λ t found. IsPermutation (filter (λ r. r.student == student) t.enrol) found.items)
         conn.old conn.new result }
     ensures in_order { Reads S.Store
-        (λ t found. IsInOrder HerEnrolsRise (filter (λ r. r.student == student) t.enrol)
+        (λ t found. IsInOrder StudentEnrolsRise (filter (λ r. r.student == student) t.enrol)
         found.items) conn.old conn.new result }
     ensures open { AnswersOpen S.Store conn.old conn.new result }
     ensures was_open { OpensNone S.Store conn.old conn.new }
@@ -179,7 +179,7 @@ pub fn enrols_of<S: Alter>(
     }
 }
 
-/// The same, or `None`: a row of hers has an exam's number of more than 32 bits.
+/// Returns the same. `None`: one of these rows has an exam's number of more than 32 bits.
 pub fn find_enrols_of<S: Alter>(
     alloc: Global,
     conn: &mut Connection<S>,
@@ -191,7 +191,7 @@ pub fn find_enrols_of<S: Alter>(
         conn.old conn.new result }
     ensures in_order { Reads S.Store
         (λ t found. IfSome found
-        (λ rows. IsInOrder HerEnrolsRise (filter (λ r. r.student == student) t.enrol)
+        (λ rows. IsInOrder StudentEnrolsRise (filter (λ r. r.student == student) t.enrol)
         rows.items)) conn.old conn.new result }
     ensures found { Reads S.Store
         (λ t found. AllByRecursion FitsEnrol (filter (λ r. r.student == student) t.enrol)
@@ -211,7 +211,7 @@ pub fn find_enrols_of<S: Alter>(
     )
 }
 
-// All enrolments, or that a row is of none.
+// Returns all enrolments. `None`: the table doesn't hold enrolments.
 pub(crate) fn adopt_enrols<S: Alter>(
     alloc: Global,
     conn: &mut Connection<S>,

@@ -1,4 +1,4 @@
-// What is found in the tables when an office is taken over.
+// The rows found in the tables of an existing file.
 use crate::batch::BatchCountsRow;
 use crate::draft::DraftRow;
 use crate::enrol::EnrolRow;
@@ -11,7 +11,7 @@ use crate::share_student::StudentShareRow;
 use crate::slot::SlotRow;
 use crate::version::Version;
 
-/// All rows of the tables of a version, in any order; of the batches all but their bytes. In
+/// All rows of the tables of a version, in any order; the batches are without their bytes. In
 /// version 1 each amount over night is 0.
 #[derive(Drop)]
 pub struct Found {
@@ -28,7 +28,7 @@ pub struct Found {
     pub batches: Vec<BatchCountsRow>,
 }
 
-// The part that the session has of them.
+// The rows of the session.
 #[derive(Drop)]
 pub(crate) struct FoundSession {
     pub meta: MetaRow,
@@ -36,14 +36,14 @@ pub(crate) struct FoundSession {
     pub enrols: Vec<EnrolRow>,
 }
 
-// The part that the drafts have.
+// The rows of the drafts.
 #[derive(Drop)]
 pub(crate) struct FoundDrafts {
     pub drafts: Vec<DraftRow>,
     pub slots: Vec<SlotRow>,
 }
 
-// The part that the publication has.
+// The rows of the publication.
 #[derive(Drop)]
 pub(crate) struct FoundPublication {
     pub placements: Vec<PlacedRow>,

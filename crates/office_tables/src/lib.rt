@@ -1,5 +1,5 @@
-//! The twelve tables of an office's SQLite file, each with a file of its own: a value for each
-//! statement that changes it, a function for each that reads.
+//! The twelve tables of an office's SQLite file: a type for each statement that changes them, and a
+//! function for each query.
 #![tactic(auto)]
 
 mod adopting;

@@ -1,4 +1,4 @@
-// Whole tables, read from a database of which only the schema is known.
+// Whole tables, read from a database if only its schema is known.
 ghost use Rattle.std.specs.Prelude.{◌≡◌, ◌↔◌, ℕ, List, [], map, IfOk, IfSome, IsTrue};
 ghost use Rattle.sqlite.specs.Held.{state};
 ghost use Rattle.sqlite.specs.Query.{IsAnswer};
@@ -15,9 +15,9 @@ use sqlite::types::ValueRef;
 use sqlite::{Alter, Connection, Error, ErrorCode, Row};
 use std::alloc::Global;
 
-// A whole table by a text that lists it, with each row's number behind its columns and in the order
-// of these. None says that a row is of no record, that two rows have one number or that one is no
-// number.
+// Returns a whole table, by a text that lists it: each row's number comes after its columns, and
+// the rows are in the order of these numbers. `None`: a row is not a record, two rows have the same
+// number, or a row's number is not an integer.
 pub(crate) fn read_table<S: Alter, R: Record + Drop>(
     alloc: Global,
     conn: &mut Connection<S>,
@@ -47,7 +47,7 @@ pub(crate) fn read_table<S: Alter, R: Record + Drop>(
     read_each(alloc, &rows)
 }
 
-// The rows that a text lists.
+// Returns the rows that a text lists.
 pub(crate) fn list_rows<S: Alter>(conn: &mut Connection<S>, sql: &str) -> Result<Vec<Row>, Error>
     ensures rows { (version : Version) (tree : ℕ) (shown : List Term) (order : List (Term × Key))
         → Lists version tree shown order sql.now
@@ -64,7 +64,7 @@ pub(crate) fn list_rows<S: Alter>(conn: &mut Connection<S>, sql: &str) -> Result
     conn.query_all(sql, &[])
 }
 
-// Each row as a record.
+// Returns each row as a record. `None`: a row is not a record.
 fn read_each<R: Record + Drop>(alloc: Global, rows: &[Row]) -> Result<Option<Vec<R>>, Error>
     ensures { IfOk result (IsRead R.fits R.columns_of R.WIDTH rows.now) }
 {
@@ -92,7 +92,7 @@ pub(crate) fn is_out_of_memory(error: Error) -> bool
     }
 }
 
-// Whether a column holds numbers, each above the one before.
+// Returns whether a column holds numbers, each greater than the one before.
 fn numbers_rise(rows: &[Row], at: usize) -> bool
     ensures { IsTrue result ↔ ColumnRises at rows.now }
 {
@@ -106,7 +106,7 @@ fn numbers_rise(rows: &[Row], at: usize) -> bool
     true
 }
 
-// The number in a column, where it is above the last.
+// Returns the number in a column, if it is greater than the last.
 fn next_number(row: &Row, at: usize, last: Option<i64>) -> Option<i64>
     ensures { IsNext (column row.now at) last result }
 {

@@ -1,4 +1,4 @@
-// The office's one row.
+// The one row about the office.
 ghost use Rattle.std.specs.Prelude.{◌≡◌, ◌↔◌, ◌<◌, length, pos, option_map, IfErr, IfOk, IsTrue};
 ghost use Rattle.sqlite_value.specs.declared.value.Value.TheVariants.{Blob, Int};
 ghost use Rattle.sqlite_value.specs.Order.{column};
@@ -16,14 +16,14 @@ use crate::version::Version;
 use sqlite::{Alter, Connection, Error, ErrorCode, Row, Transaction, params};
 
 /// The row about the office: whether there is a publication, and the canonical text of the
-/// instance, or nothing before a load.
+/// instance, which is empty before a load.
 #[derive(Drop)]
 pub struct MetaRow {
     pub published: bool,
     pub instance: Vec<u8>,
 }
 
-// The table of the office.
+// Creates the table of the row about the office.
 pub(crate) fn create_meta<S: Alter>(tx: &mut Transaction<'_, S>) -> Result<(), Error>
     ensures same_reference { tx.new.conn.ghost_name ≡ tx.old.conn.ghost_name }
     ensures makes { Grows S.Store (IsBlank no_schema) (IsBlank schema_1)
@@ -38,7 +38,7 @@ pub(crate) fn create_meta<S: Alter>(tx: &mut Transaction<'_, S>) -> Result<(), E
     )
 }
 
-/// Puts the row in.
+/// Inserts the row.
 #[derive(Clone, Copy)]
 pub struct InsertMeta<'a> {
     pub published: bool,
@@ -59,14 +59,14 @@ impl Alteration for InsertMeta<'_> {
     }
 }
 
-// SQLite has no type for it.
+// Returns a boolean as a number, because SQLite has no type for it.
 fn flag_of(is: bool) -> u32
     ensures { result ≡ flag is }
 {
     if is { 1 } else { 0 }
 }
 
-/// Takes the row out.
+/// Deletes the row.
 #[derive(Clone, Copy)]
 pub struct DeleteMeta;
 
@@ -80,7 +80,7 @@ impl Alteration for DeleteMeta {
     }
 }
 
-// The row as it is found when an office is taken over, where the table holds it alone.
+// Returns the row about the office, if it is the only row of the table.
 pub(crate) fn adopt_meta<S: Alter>(
     conn: &mut Connection<S>,
     version: Version,
@@ -97,7 +97,7 @@ pub(crate) fn adopt_meta<S: Alter>(
     read_meta(&rows[0], version)
 }
 
-// The row, if it is one of this version under the key 0.
+// Returns the row, if it has this version and the key 0.
 fn read_meta(row: &Row, version: Version) -> Result<Option<MetaRow>, Error>
     ensures ok { IfOk result (IsReadMeta version row.now) }
     ensures memory { IfErr result (λ e. e ≡ Error.SqliteFailure ErrorCode.OutOfMemory) }

@@ -1,9 +1,9 @@
-// From version 1 of a file to version 2.
+// The migration of a file from version 1 to version 2.
 ghost use Rattle.std.specs.Prelude.{◌≡◌, [], ◌∷◌};
 ghost use Rattle.sqlite.specs.Held.{state};
 ghost use Rattle.office_tables.specs.Meta.{no_meta};
 ghost use Rattle.office_tables.specs.Migrating.{IsWidened};
-ghost use Rattle.office_tables.specs.Standing.{Stands, StandsBefore};
+ghost use Rattle.office_tables.specs.TablesHeld.{HoldsTables, HoldsOldTables};
 ghost use Rattle.office_tables.specs.Steps.{Grows, Within};
 ghost use Rattle.office_tables.specs.Tables.{Tables};
 
@@ -14,8 +14,8 @@ use crate::running::run;
 use crate::share_student::create_night_share;
 use sqlite::{Alter, Error, Transaction};
 
-/// Brings the tables of version 1, with this row about the office, to version 2. The rows stay the
-/// same, and each amount over night is 0.
+/// Migrates the tables from version 1, with this row about the office, to version 2. The rows stay
+/// the same, and each amount over night is 0.
 pub fn migrate<S: Alter>(
     tx: &mut Transaction<'_, S>,
     published: bool,
@@ -24,7 +24,7 @@ pub fn migrate<S: Alter>(
     ensures same_reference { tx.new.conn.ghost_name ≡ tx.old.conn.ghost_name }
     ensures makes { (t : Tables)
         → t.meta ≡ record { published = published; instance = instance.now } ∷ []
-        → Grows S.Store (λ db. StandsBefore db t) (λ db. Stands db t)
+        → Grows S.Store (λ db. HoldsOldTables db t) (λ db. HoldsTables db t)
         tx.old.conn.now tx.new.conn.now result }
     ensures within { Within (state S.Store tx.old.conn.now) (state S.Store tx.new.conn.now) }
 {
@@ -41,7 +41,7 @@ pub fn migrate<S: Alter>(
 // Deletes the row of version 1, and inserts an amount of 0 for each draft and each student's share.
 fn fill_nights<S: Alter>(tx: &mut Transaction<'_, S>) -> Result<(), Error>
     ensures same_reference { tx.new.conn.ghost_name ≡ tx.old.conn.ghost_name }
-    ensures makes { (t : Tables) → Grows S.Store (IsWidened t) (λ db. Stands db (no_meta t))
+    ensures makes { (t : Tables) → Grows S.Store (IsWidened t) (λ db. HoldsTables db (no_meta t))
         tx.old.conn.now tx.new.conn.now result }
     ensures within { Within (state S.Store tx.old.conn.now) (state S.Store tx.new.conn.now) }
 {

@@ -1,17 +1,23 @@
 // Amounts over night of drafts and students: in version 2 they have tables of their own.
-ghost use Rattle.std.specs.Prelude.{◌≡◌, ℕ, IfOk};
+ghost use Rattle.std.specs.Prelude.{◌≡◌, false, ℕ, IfOk};
 ghost use Rattle.sqlite.specs.Held.{state};
+ghost use Rattle.sqlite.specs.Query.{Query};
+ghost use Rattle.sqlite.specs.State.{Survives};
 ghost use Rattle.sqlite_value.specs.Order.{Row as Columns};
+ghost use Rattle.office_schema.specs.Schema.{office_schema};
+ghost use Rattle.office_tables.specs.Asking.{Means};
 ghost use Rattle.office_tables.specs.declared.version.Version.{Version};
 ghost use Rattle.office_tables.specs.declared.version.Version.TheVariants.{Two};
 ghost use Rattle.office_tables.specs.Finders.{Finds, Leaves, Looks};
 ghost use Rattle.office_tables.specs.Listings.{ListsKeyed};
-ghost use Rattle.office_tables.specs.Joining.{AreFound, AreJoined, HaveRows, IsJoined, IsJoinedWith, Splits};
+ghost use Rattle.office_tables.specs.Joining.{AreFound, AreJoined, HaveRows, IsJoined, IsJoinedWith, IsReadWith, Splits};
 ghost use Rattle.office_tables.specs.Nights.{night_columns, with_no_night, FitsNight};
+ghost use Rattle.office_tables.specs.Readers.{AnswersOpen, LeavesAll, LeavesCommitted, OpensNone, Reads};
 ghost use Rattle.office_tables.specs.Stored.{keyed};
 
 use crate::listing::read_table;
 use crate::records::Record;
+use crate::streaming::stream;
 use crate::version::Version;
 use sqlite::{Alter, Connection, Error, Row};
 use std::alloc::Global;
@@ -61,8 +67,8 @@ pub(crate) trait HasNight: Copy {
             ≡ night_columns (record { number = number_in self.now; night = night }) };
 }
 
-// The rows of a table, whose text lists 0 as each amount over night. In version 2 the amounts come
-// from the second table. `None`: the tables hold no such rows.
+// Returns the rows of a table; its text lists 0 as each amount over night. In version 2 the amounts
+// come from the second table. `None`: the tables hold no such rows.
 pub(crate) fn adopt_with_nights<S: Alter, R: Record + HasNight + Drop>(
     alloc: Global,
     conn: &mut Connection<S>,
@@ -93,7 +99,41 @@ pub(crate) fn adopt_with_nights<S: Alter, R: Record + HasNight + Drop>(
     }
 }
 
-// Rows of the first table with the amounts that this text lists from the second.
+// Returns the rows that the first text lists, with the amounts over night that the second lists in
+// the same order; the first lists 0 as each amount. `InvalidQuery`: their numbers differ.
+pub(crate) fn stream_with_nights<S: Alter, R: Record + HasNight + Drop>(
+    alloc: Global,
+    conn: &mut Connection<S>,
+    rows_sql: &str,
+    nights_sql: &str,
+) -> Result<Vec<R>, Error>
+    ensures shown { (q nights_q : Query) → Means office_schema q rows_sql.now
+        → Means office_schema nights_q nights_sql.now
+        → Reads S.Store (λ _ found. IsReadWith R.columns_of R.columns_in_first R.columns_in_second
+        R.WIDTH q nights_q (state S.Store conn.old).now.trees found.items)
+        conn.old conn.new result }
+    ensures open { AnswersOpen S.Store conn.old conn.new result }
+    ensures was_open { OpensNone S.Store conn.old conn.new }
+    ensures same { (q nights_q : Query) → Means office_schema q rows_sql.now
+        → Means office_schema nights_q nights_sql.now
+        → LeavesAll S.Store conn.old conn.new result }
+    ensures kept { (q nights_q : Query) → Means office_schema q rows_sql.now
+        → Means office_schema nights_q nights_sql.now
+        → LeavesCommitted S.Store conn.old conn.new }
+    ensures mode { conn.old.in_transaction ≡ false → conn.new.in_transaction ≡ false }
+    ensures survives { (q nights_q : Query) → Means office_schema q rows_sql.now
+        → Means office_schema nights_q nights_sql.now
+        → Survives (state S.Store conn.old) (state S.Store conn.new) (λ _. ⊥) }
+{
+    let rows = stream(alloc, conn, rows_sql, &[])?;
+    let nights = stream(alloc, conn, nights_sql, &[])?;
+    match with_nights(alloc, &rows, &nights)? {
+        Some(found) => Ok(found),
+        None => Err(Error::InvalidQuery),
+    }
+}
+
+// Adds to rows of the first table the amounts that this text lists from the second.
 fn add_nights<S: Alter, R: HasNight + Drop>(
     alloc: Global,
     conn: &mut Connection<S>,
@@ -113,7 +153,7 @@ fn add_nights<S: Alter, R: HasNight + Drop>(
     joined(alloc, rows, nights)
 }
 
-// Joins both lists, if there are two.
+// Joins both lists. `None`: one of them is `None`, or they have different numbers.
 fn joined<R: HasNight + Drop>(
     alloc: Global,
     rows: Option<Vec<R>>,
@@ -131,7 +171,7 @@ fn joined<R: HasNight + Drop>(
     with_nights(alloc, &rows, &nights)
 }
 
-// The rows with their amounts over night. `None`: the two lists have different numbers.
+// Returns the rows with their amounts over night. `None`: the two lists have different numbers.
 fn with_nights<R: HasNight + Drop>(
     alloc: Global,
     rows: &[R],

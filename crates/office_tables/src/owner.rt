@@ -1,4 +1,4 @@
-// Who owns which exam.
+// Owners of exams.
 ghost use Rattle.std.specs.Prelude.{◌≡◌, ◌==◌, false, filter, IsPermutation};
 ghost use Rattle.sqlite.specs.Held.{state};
 ghost use Rattle.sqlite.specs.State.{Survives};
@@ -18,14 +18,14 @@ use crate::streaming::stream;
 use sqlite::{Alter, Connection, Error, Row, Transaction, params};
 use std::alloc::Global;
 
-/// Who owns an exam: a department, 1 to 999.
+/// The owner of an exam: a department, 1 to 999.
 #[derive(Clone, Copy, Debug, PartialEq, Eq)]
 pub struct OwnerRow {
     pub exam: u32,
     pub dept: u32,
 }
 
-// The table of owners.
+// Creates the table of owners.
 pub(crate) fn create_owner<S: Alter>(tx: &mut Transaction<'_, S>) -> Result<(), Error>
     ensures same_reference { tx.new.conn.ghost_name ≡ tx.old.conn.ghost_name }
     ensures makes { Grows S.Store (IsBlank schema_1) (IsBlank schema_2)
@@ -76,7 +76,7 @@ impl Alteration for InsertOwner {
     }
 }
 
-/// Takes an exam's owner away.
+/// Deletes an exam's owner.
 #[derive(Clone, Copy)]
 pub struct DeleteOwner {
     pub exam: u32,
@@ -92,7 +92,7 @@ impl Alteration for DeleteOwner {
     }
 }
 
-/// An exam's owner: one row, or none.
+/// Returns an exam's owner: one row, or none.
 pub fn owners_of<S: Alter>(
     alloc: Global,
     conn: &mut Connection<S>,
@@ -116,7 +116,7 @@ pub fn owners_of<S: Alter>(
     )
 }
 
-// All owners, or that a row is of none.
+// Returns all owners. `None`: the table doesn't hold owners.
 pub(crate) fn adopt_owners<S: Alter>(
     alloc: Global,
     conn: &mut Connection<S>,

@@ -1,4 +1,4 @@
-// Where exams stand in the publication.
+// Placements of exams in the publication.
 ghost use Rattle.std.specs.Prelude.{◌≡◌, false, IsPermutation};
 ghost use Rattle.sqlite.specs.Held.{state};
 ghost use Rattle.sqlite.specs.State.{Survives};
@@ -21,7 +21,7 @@ use sqlite::{Alter, Connection, Error, Row, Transaction, params};
 use sqlite_value::value::ValueRef;
 use std::alloc::Global;
 
-/// Where an exam stands in the publication.
+/// The placement of an exam in the publication.
 #[derive(Clone, Copy, Debug, PartialEq, Eq)]
 pub struct PlacedRow {
     pub exam: u32,
@@ -29,7 +29,7 @@ pub struct PlacedRow {
     pub room: u32,
 }
 
-// The table of published placements.
+// Creates the table of published placements.
 pub(crate) fn create_placed<S: Alter>(tx: &mut Transaction<'_, S>) -> Result<(), Error>
     ensures same_reference { tx.new.conn.ghost_name ≡ tx.old.conn.ghost_name }
     ensures makes { Grows S.Store (IsBlank schema_5) (IsBlank schema_6)
@@ -82,7 +82,7 @@ impl Alteration for InsertPlacement {
     }
 }
 
-/// Adds sixteen placements by one statement.
+/// Adds sixteen placements with one statement.
 impl Alteration for [InsertPlacement; 16] {
     ghost use Rattle.office_tables.specs.Alterations.{after_all};
 
@@ -113,7 +113,7 @@ fn columns(it: InsertPlacement) -> [ValueRef<'static>; 3]
     ]
 }
 
-/// Adds placements, one after another: sixteen by a statement, and what is left one by one.
+/// Adds placements in their order: sixteen with each statement, and the rest one by one.
 #[derive(Clone, Copy)]
 pub struct InsertPlacements<'a> {
     pub rows: &'a [InsertPlacement],
@@ -138,7 +138,7 @@ impl Alteration for InsertPlacements<'_> {
     }
 }
 
-/// Takes an exam's placement out.
+/// Deletes an exam's placement.
 #[derive(Clone, Copy)]
 pub struct DeletePlacement {
     pub exam: u32,
@@ -154,7 +154,7 @@ impl Alteration for DeletePlacement {
     }
 }
 
-/// Takes all placements out.
+/// Deletes all placements.
 #[derive(Clone, Copy)]
 pub struct DeletePlacements;
 
@@ -168,7 +168,7 @@ impl Alteration for DeletePlacements {
     }
 }
 
-/// All published placements, by exam.
+/// Returns all published placements, by exam.
 pub fn placements<S: Alter>(
     alloc: Global,
     conn: &mut Connection<S>,
@@ -192,7 +192,7 @@ pub fn placements<S: Alter>(
     )
 }
 
-/// The published placements of the exams that a student is enrolled in, by exam.
+/// Returns the published placements of the exams that a student is enrolled in, by exam.
 pub fn placements_of<S: Alter>(
     alloc: Global,
     conn: &mut Connection<S>,
@@ -219,7 +219,7 @@ pub fn placements_of<S: Alter>(
     )
 }
 
-// All published placements, or that a row is of none.
+// Returns all published placements. `None`: the table doesn't hold placements.
 pub(crate) fn adopt_placements<S: Alter>(
     alloc: Global,
     conn: &mut Connection<S>,

@@ -5,18 +5,18 @@ ghost use Rattle.office_tables.specs.Records.{columns_from};
 
 use sqlite::{Error, ErrorCode, Row};
 
-// A record that a row is read as.
+// A type of record that rows are read as.
 pub(crate) trait Record: Sized {
     ghost WIDTH: { ℕ };
 
     ghost columns_of: { Self → Columns };
 
-    // Its numbers are those of its type.
+    // Its numbers fit the program's types.
     ghost fits: { Self → Type 0 };
 
     const WIDTH: usize;
 
-    // An error says that a column holds no such number, or that memory is refused.
+    // `Err`: a column doesn't hold such a number, or memory ran out.
     fn read(row: &Row) -> Result<Self, Error>
         ensures columns { IfOk result (λ made. columns_of made ≡ columns_from 0 WIDTH row.now) }
         ensures refused { IfErr result (λ e. e ≢ Error.SqliteFailure ErrorCode.OutOfMemory

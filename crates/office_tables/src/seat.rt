@@ -1,4 +1,4 @@
-// Who is seated where.
+// Seats of students.
 ghost use Rattle.std.specs.Prelude.{◌≡◌, ◌==◌, false, filter, IsPermutation};
 ghost use Rattle.sqlite.specs.Held.{state};
 ghost use Rattle.sqlite.specs.State.{Survives};
@@ -6,7 +6,7 @@ ghost use Rattle.sqlite.specs.Values.{bound};
 ghost use Rattle.office_tables.specs.declared.version.Version.{Version};
 ghost use Rattle.office_tables.specs.Finders.{Finds, IsFound, Leaves, Looks};
 ghost use Rattle.office_tables.specs.Schema.{schema_6, schema_7, IsBlank};
-ghost use Rattle.office_tables.specs.Seat.{seat_columns, with_seat, without_student_seats, FitsSeat, HerSeatsRise, SeatsRise};
+ghost use Rattle.office_tables.specs.Seat.{seat_columns, with_seat, without_student_seats, FitsSeat, StudentSeatsRise, SeatsRise};
 ghost use Rattle.office_tables.specs.Selections.{IsInOrder};
 ghost use Rattle.office_tables.specs.Steps.{Grows, Within};
 ghost use Rattle.office_tables.specs.Readers.{AnswersOpen, LeavesAll, LeavesCommitted, OpensNone, Reads};
@@ -21,7 +21,7 @@ use sqlite::{Alter, Connection, Error, Row, Transaction, params};
 use sqlite_value::value::ValueRef;
 use std::alloc::Global;
 
-/// A published seat; seats count from 1 in each room and period.
+/// A published seat; seats are numbered from 1 in each room and period.
 #[derive(Clone, Copy, Debug, PartialEq, Eq)]
 pub struct SeatRow {
     pub student: u32,
@@ -31,7 +31,7 @@ pub struct SeatRow {
     pub seat: u32,
 }
 
-// The table of seats.
+// Creates the table of seats.
 pub(crate) fn create_seat<S: Alter>(tx: &mut Transaction<'_, S>) -> Result<(), Error>
     ensures same_reference { tx.new.conn.ghost_name ≡ tx.old.conn.ghost_name }
     ensures makes { Grows S.Store (IsBlank schema_6) (IsBlank schema_7)
@@ -87,7 +87,7 @@ impl Alteration for InsertSeat {
     }
 }
 
-/// Adds sixteen seats by one statement.
+/// Adds sixteen seats with one statement.
 impl Alteration for [InsertSeat; 16] {
     ghost use Rattle.office_tables.specs.Alterations.{after_all};
 
@@ -120,7 +120,7 @@ fn columns(it: InsertSeat) -> [ValueRef<'static>; 5]
     ]
 }
 
-/// Adds seats, one after another: sixteen by a statement, and what is left one by one.
+/// Adds seats in their order: sixteen with each statement, and the rest one by one.
 #[derive(Clone, Copy)]
 pub struct InsertSeats<'a> {
     pub rows: &'a [InsertSeat],
@@ -145,7 +145,7 @@ impl Alteration for InsertSeats<'_> {
     }
 }
 
-/// Takes a student's seats out.
+/// Deletes a student's seats.
 #[derive(Clone, Copy)]
 pub struct DeleteStudentSeats {
     pub student: u32,
@@ -165,7 +165,7 @@ impl Alteration for DeleteStudentSeats {
     }
 }
 
-/// All seats, by exam and then by student.
+/// Returns all seats, by exam and then by student.
 pub fn seats<S: Alter>(alloc: Global, conn: &mut Connection<S>) -> Result<Vec<SeatRow>, Error>
     ensures rows { Reads S.Store (λ t found. IsPermutation t.seat found.items)
         conn.old conn.new result }
@@ -186,7 +186,7 @@ pub fn seats<S: Alter>(alloc: Global, conn: &mut Connection<S>) -> Result<Vec<Se
     )
 }
 
-/// A student's seats, by exam.
+/// Returns a student's seats, by exam.
 pub fn seats_of<S: Alter>(
     alloc: Global,
     conn: &mut Connection<S>,
@@ -196,7 +196,7 @@ pub fn seats_of<S: Alter>(
         (λ t found. IsPermutation (filter (λ r. r.student == student) t.seat) found.items)
         conn.old conn.new result }
     ensures in_order { Reads S.Store
-        (λ t found. IsInOrder HerSeatsRise (filter (λ r. r.student == student) t.seat) found.items)
+        (λ t found. IsInOrder StudentSeatsRise (filter (λ r. r.student == student) t.seat) found.items)
         conn.old conn.new result }
     ensures open { AnswersOpen S.Store conn.old conn.new result }
     ensures was_open { OpensNone S.Store conn.old conn.new }
@@ -213,7 +213,7 @@ pub fn seats_of<S: Alter>(
     )
 }
 
-// All seats, or that a row is of none.
+// Returns all seats. `None`: the table doesn't hold seats.
 pub(crate) fn adopt_seats<S: Alter>(
     alloc: Global,
     conn: &mut Connection<S>,

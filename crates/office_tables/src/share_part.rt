@@ -1,4 +1,4 @@
-// What exams, periods and rooms have of the penalty of the publication.
+// Shares of exams, periods and rooms in the penalty of the publication.
 ghost use Rattle.std.specs.Prelude.{◌≡◌, false, IsPermutation};
 ghost use Rattle.sqlite.specs.Held.{state};
 ghost use Rattle.sqlite.specs.State.{Survives};
@@ -31,7 +31,7 @@ pub struct PartShareRow {
     pub mixed: u64,
 }
 
-// The table of shares of exams, periods and rooms.
+// Creates the table of shares of exams, periods and rooms.
 pub(crate) fn create_share_part<S: Alter>(tx: &mut Transaction<'_, S>) -> Result<(), Error>
     ensures same_reference { tx.new.conn.ghost_name ≡ tx.old.conn.ghost_name }
     ensures makes { Grows S.Store (IsBlank schema_8) (IsBlank schema_9)
@@ -85,7 +85,7 @@ impl Alteration for InsertPartShare {
     }
 }
 
-/// Adds sixteen such shares by one statement.
+/// Adds sixteen such shares with one statement.
 impl Alteration for [InsertPartShare; 16] {
     ghost use Rattle.std.specs.Prelude.{All};
     ghost use Rattle.office_tables.specs.Alterations.{after_all};
@@ -119,7 +119,7 @@ fn columns(it: InsertPartShare) -> [ValueRef<'static>; 4]
     ]
 }
 
-/// Adds such shares, one after another: sixteen by a statement, and what is left one by one.
+/// Adds such shares in their order: sixteen with each statement, and the rest one by one.
 #[derive(Clone, Copy)]
 pub struct InsertPartShares<'a> {
     pub rows: &'a [InsertPartShare],
@@ -145,7 +145,7 @@ impl Alteration for InsertPartShares<'_> {
     }
 }
 
-/// Takes all shares of exams, periods and rooms out.
+/// Deletes all shares of exams, periods and rooms.
 #[derive(Clone, Copy)]
 pub struct DeletePartShares;
 
@@ -159,7 +159,7 @@ impl Alteration for DeletePartShares {
     }
 }
 
-/// All shares of exams, periods and rooms, by kind and then by number.
+/// Returns all shares of exams, periods and rooms, by kind and then by number.
 pub fn part_shares<S: Alter>(
     alloc: Global,
     conn: &mut Connection<S>,
@@ -183,7 +183,7 @@ pub fn part_shares<S: Alter>(
     )
 }
 
-// All shares of exams, periods and rooms, or that a row is of none.
+// Returns all shares of exams, periods and rooms. `None`: the table doesn't hold such shares.
 pub(crate) fn adopt_part_shares<S: Alter>(
     alloc: Global,
     conn: &mut Connection<S>,

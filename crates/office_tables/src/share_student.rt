@@ -1,4 +1,4 @@
-// What students have of the penalty of the publication. The part over night is in a table of its
+// Shares of students in the penalty of the publication. The part over night is in a table of its
 // own.
 ghost use Rattle.std.specs.Prelude.{◌≡◌, ◌==◌, [], false, filter, IsPermutation};
 ghost use Rattle.sqlite.specs.Held.{state};
@@ -16,7 +16,7 @@ ghost use Rattle.office_tables.specs.Readers.{AnswersOpen, LeavesAll, LeavesComm
 
 use crate::altering::Alteration;
 use crate::amounts::signed;
-use crate::nights::{HasNight, adopt_with_nights};
+use crate::nights::{HasNight, adopt_with_nights, stream_with_nights};
 use crate::records::Record;
 use crate::running::run;
 use crate::streaming::stream;
@@ -25,7 +25,7 @@ use sqlite::types::ValueRef;
 use sqlite::{Alter, Connection, Error, Row, Transaction, params};
 use std::alloc::Global;
 
-/// What a candidate's seats cost her.
+/// The share of a candidate: what their seats cost them.
 #[derive(Clone, Copy, Debug, PartialEq, Eq)]
 pub struct StudentShareRow {
     pub student: u32,
@@ -35,7 +35,7 @@ pub struct StudentShareRow {
     pub night: u64,
 }
 
-// The table of candidates' shares.
+// Creates the table of candidates' shares.
 pub(crate) fn create_share_student<S: Alter>(tx: &mut Transaction<'_, S>) -> Result<(), Error>
     ensures same_reference { tx.new.conn.ghost_name ≡ tx.old.conn.ghost_name }
     ensures makes { Grows S.Store (IsBlank schema_7) (IsBlank schema_8)
@@ -50,7 +50,7 @@ pub(crate) fn create_share_student<S: Alter>(tx: &mut Transaction<'_, S>) -> Res
     )
 }
 
-// The second table that version 2 adds: what candidates' seats cost over night.
+// Creates the second table that version 2 adds: the amounts over night of candidates' shares.
 pub(crate) fn create_night_share<S: Alter>(tx: &mut Transaction<'_, S>) -> Result<(), Error>
     ensures same_reference { tx.new.conn.ghost_name ≡ tx.old.conn.ghost_name }
     ensures makes { (trees : Trees) → trees 16 ≡ []
@@ -131,7 +131,7 @@ impl Alteration for InsertStudentShare {
     }
 }
 
-// Its columns in the first table.
+// Returns the columns of a share in the first table.
 fn student_columns(row: StudentShareRow) -> [ValueRef<'static>; 4]
     requires amounts { AreStudentAmounts row }
     ensures { bound result ≡ share_student_columns row }
@@ -144,7 +144,7 @@ fn student_columns(row: StudentShareRow) -> [ValueRef<'static>; 4]
     ]
 }
 
-// Its columns in the second table.
+// Returns the columns of a share in the second table.
 fn night_columns(row: StudentShareRow) -> [ValueRef<'static>; 2]
     requires amounts { AreStudentAmounts row }
     ensures { bound result ≡ night_share_columns row }
@@ -155,7 +155,7 @@ fn night_columns(row: StudentShareRow) -> [ValueRef<'static>; 2]
     ]
 }
 
-/// Takes a student's share out.
+/// Deletes a student's share.
 #[derive(Clone, Copy)]
 pub struct DeleteStudentShare {
     pub student: u32,
@@ -180,7 +180,7 @@ impl Alteration for DeleteStudentShare {
     }
 }
 
-/// All students' shares, by student.
+/// Returns all students' shares, by student.
 pub fn student_shares<S: Alter>(
     alloc: Global,
     conn: &mut Connection<S>,
@@ -197,17 +197,15 @@ pub fn student_shares<S: Alter>(
     ensures mode { conn.old.in_transaction ≡ false → conn.new.in_transaction ≡ false }
     ensures survives { Survives (state S.Store conn.old) (state S.Store conn.new) (λ _. ⊥) }
 {
-    stream(
+    stream_with_nights(
         alloc,
         conn,
-        "SELECT night, share_student.student, in_row, in_day, spread FROM share_student, \
-         night_share WHERE night_share.student = share_student.student ORDER BY \
-         share_student.student",
-        &[],
+        "SELECT 0, student, in_row, in_day, spread FROM share_student ORDER BY student",
+        "SELECT student, night FROM night_share ORDER BY student",
     )
 }
 
-/// A student's share: one row, or none.
+/// Returns a student's share: one row, or none.
 pub fn student_shares_of<S: Alter>(
     alloc: Global,
     conn: &mut Connection<S>,
@@ -233,7 +231,7 @@ pub fn student_shares_of<S: Alter>(
     )
 }
 
-// All shares of students in a file of this version. `None`: its tables don't hold shares.
+// Returns all shares of students in a file of this version. `None`: its tables don't hold shares.
 pub(crate) fn adopt_student_shares<S: Alter>(
     alloc: Global,
     conn: &mut Connection<S>,

@@ -1,4 +1,4 @@
-// Where exams stand in drafts.
+// Placements of exams in drafts.
 ghost use Rattle.std.specs.Prelude.{◌≡◌};
 ghost use Rattle.sqlite.specs.Held.{state};
 ghost use Rattle.sqlite.specs.Values.{bound};
@@ -17,7 +17,7 @@ use sqlite::{Alter, Connection, Error, Row, Transaction, params};
 use sqlite_value::value::ValueRef;
 use std::alloc::Global;
 
-/// Where an exam stands in a draft.
+/// The placement of an exam in a draft.
 #[derive(Clone, Copy, Debug, PartialEq, Eq)]
 pub struct SlotRow {
     pub draft: u32,
@@ -26,7 +26,7 @@ pub struct SlotRow {
     pub room: u32,
 }
 
-// The table of placements in drafts.
+// Creates the table of placements in drafts.
 pub(crate) fn create_slot<S: Alter>(tx: &mut Transaction<'_, S>) -> Result<(), Error>
     ensures same_reference { tx.new.conn.ghost_name ≡ tx.old.conn.ghost_name }
     ensures makes { Grows S.Store (IsBlank schema_4) (IsBlank schema_5)
@@ -80,7 +80,7 @@ impl Alteration for InsertSlot {
     }
 }
 
-/// Adds sixteen placements by one statement.
+/// Adds sixteen placements with one statement.
 impl Alteration for [InsertSlot; 16] {
     ghost use Rattle.office_tables.specs.Alterations.{after_all};
 
@@ -112,7 +112,7 @@ fn columns(it: InsertSlot) -> [ValueRef<'static>; 4]
     ]
 }
 
-/// Adds placements, one after another: sixteen by a statement, and what is left one by one.
+/// Adds placements in their order: sixteen with each statement, and the rest one by one.
 #[derive(Clone, Copy)]
 pub struct InsertSlots<'a> {
     pub rows: &'a [InsertSlot],
@@ -137,7 +137,7 @@ impl Alteration for InsertSlots<'_> {
     }
 }
 
-/// Takes all placements of a draft out.
+/// Deletes all placements of a draft.
 #[derive(Clone, Copy)]
 pub struct DeleteSlots {
     pub draft: u32,
@@ -153,7 +153,7 @@ impl Alteration for DeleteSlots {
     }
 }
 
-/// Takes an exam's placement in a draft out.
+/// Deletes an exam's placement in a draft.
 #[derive(Clone, Copy)]
 pub struct DeleteSlot {
     pub draft: u32,
@@ -174,7 +174,7 @@ impl Alteration for DeleteSlot {
     }
 }
 
-// All placements in drafts, or that a row is of none.
+// Returns all placements in drafts. `None`: the table doesn't hold placements.
 pub(crate) fn adopt_slots<S: Alter>(
     alloc: Global,
     conn: &mut Connection<S>,

@@ -1,4 +1,4 @@
-// What a query answers, as records.
+// The rows of a query's answer, as records.
 ghost use Rattle.std.specs.Prelude.{◌≡◌, ◌∷◌, ◌++◌, [], false, List, IfOk, OnOk};
 ghost use Rattle.sqlite.specs.Given.{IsPlain};
 ghost use Rattle.sqlite.specs.Held.{state};
@@ -18,7 +18,7 @@ use sqlite::types::ValueRef;
 use sqlite::{Alter, Connection, Error, Row};
 use std::alloc::Global;
 
-// The records of a query's rows.
+// Returns the records of a query's rows.
 pub(crate) fn stream<S: Alter, R: Record + Drop>(
     alloc: Global,
     conn: &mut Connection<S>,
@@ -47,8 +47,8 @@ pub(crate) fn stream<S: Alter, R: Record + Drop>(
     }
 }
 
-// The records of a query's rows, of which it holds one row at a time. None says that a row is of no
-// record.
+// Returns the records of a query's rows; only one row at a time is in memory. `None`: a row is not
+// a record.
 pub(crate) fn stream_found<S: Alter, R: Record + Drop>(
     alloc: Global,
     conn: &mut Connection<S>,
@@ -83,7 +83,7 @@ pub(crate) fn stream_found<S: Alter, R: Record + Drop>(
     Err(Error::InvalidQuery)
 }
 
-// What was found, and one row more.
+// Adds the record of one more row. `None`: a row is not a record.
 fn with_row<R: Record + Drop>(found: Option<Vec<R>>, row: &Row) -> Result<Option<Vec<R>>, Error>
     ensures { (rows : List Columns) → IsGathered R.fits R.columns_of R.WIDTH rows found
         → IfOk result (IsGathered R.fits R.columns_of R.WIDTH (rows ++ row.now ∷ [])) }

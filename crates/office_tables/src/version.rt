@@ -14,7 +14,7 @@ pub enum Version {
 }
 
 impl Version {
-    // The number in the table meta.
+    // Returns the number of the version in the table meta.
     pub(crate) fn number(self) -> u64
         ensures { result ≡ number_of self }
     {
@@ -25,7 +25,7 @@ impl Version {
     }
 }
 
-// The version of a schema. `None`: it isn't the schema of an office.
+// Returns the version of a schema. `None`: it isn't the schema of an office.
 pub(crate) fn version_of(alloc: Global, schema: &Schema) -> Result<Option<Version>, AllocError>
     ensures { IfOk result (IsVersionOf schema.now) }
 {

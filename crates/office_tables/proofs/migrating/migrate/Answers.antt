@@ -3,7 +3,7 @@ use Rattle.std.proofs.lemmas.Result.{on_ok_weaker}
 use Rattle.sqlite.specs.Held.{state}
 use Rattle.office_tables.specs.Migrating.{without_nights}
 use Rattle.office_tables.specs.Schema.{HasRows}
-use Rattle.office_tables.specs.Standing.{Stands}
+use Rattle.office_tables.specs.TablesHeld.{HoldsTables}
 use Rattle.office_tables.proofs.Creates.{whole}
 use Rattle.office_tables.proofs.Inside.{clean_before}
 use Rattle.office_tables.proofs.MigrateLemmas.{begins}
@@ -26,7 +26,7 @@ returns-clause-makes g c t is clean inside =
     on_ok_weaker c.apply.result
     (λ last. (
       last.0,
-      λ before. subst (λ l. Stands at_4.now (record t { meta = l })) (sym is)
+      λ before. subst (λ l. HoldsTables at_4.now (record t { meta = l })) (sym is)
           (last.1 _ (step_3.1 (record {
             before = at_0.now;
             stands = before;

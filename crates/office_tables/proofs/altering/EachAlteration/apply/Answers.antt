@@ -2,7 +2,7 @@ use Rattle.std.proofs.Common.{refl, sym, subst, ap, ◌∙◌}
 use Rattle.std.proofs.lemmas.List.{take_all}
 use Rattle.sqlite.specs.Held.{state}
 use Rattle.office_tables.specs.Alterations.{after_all}
-use Rattle.office_tables.specs.Standing.{Stands}
+use Rattle.office_tables.specs.TablesHeld.{HoldsTables}
 use Rattle.office_tables.proofs.Inside.{within_then, within_same, clean_before, after_more}
 use Rattle.office_tables.proofs.altering.EachAlteration.apply.Goals as goal
 
@@ -22,7 +22,7 @@ loop-alteration-preserved g c =
           let first = c.loop-alteration.invariant.makes clean_mid inside in
           let then = c.in_ok-apply.ensures.makes clean first.0 in (
             then.0,
-            λ t h. subst (Stands new.now)
+            λ t h. subst (HoldsTables new.now)
                 (sym (after_more g.A.Alteration.alteration c.args.self.now.alterations.now
                 c.loop-alteration.alteration-index c.alteration-item.result t
                 c.loop-alteration-test.true c.alteration-item.is))
@@ -46,7 +46,7 @@ pub returns-clause-makes : goal.returns-clause-makes
 returns-clause-makes g c clean inside =
     let made = c.loop-alteration.invariant.makes clean inside in (
       made.0,
-      λ t h. subst (Stands (state g.S.Store c.loop-alteration.tx.conn.now).now)
+      λ t h. subst (HoldsTables (state g.S.Store c.loop-alteration.tx.conn.now).now)
           (ap (λ l. after_all g.A.Alteration.alteration l t)
           (take_all c.loop-alteration.alteration-index c.args.self.now.alterations.now
           c.loop-alteration-test.false))

@@ -5,7 +5,7 @@ use Rattle.std.proofs.lemmas.Result.{on_ok_weaker}
 use Rattle.sqlite.specs.Held.{state}
 use Rattle.office_tables.specs.SharePart.{with_part_share, ArePartAmounts}
 use Rattle.office_tables.specs.declared.share_part.InsertPartShare.{InsertPartShare}
-use Rattle.office_tables.specs.Standing.{Stands}
+use Rattle.office_tables.specs.TablesHeld.{HoldsTables}
 use Rattle.office_tables.proofs.ManyRows.{all_in_chunks, by_chunks}
 use Rattle.office_tables.proofs.share_part.InsertPartSharesAlteration.apply.Goals as goal
 
@@ -26,7 +26,7 @@ returns-clause-makes g c clean inside =
     let cut = c.as_chunks.ensures in
     on_ok_weaker c.apply.result (λ made. (
       made.0,
-      λ t h. subst (Stands (state g.S.Store c.apply.new.tx.conn.now).now)
+      λ t h. subst (HoldsTables (state g.S.Store c.apply.new.tx.conn.now).now)
           (rw (cut.front, cut.back)
           (by_chunks (λ it. with_part_share it.row) 16 (length rows / 16) rows t))
           (made.1 t h),

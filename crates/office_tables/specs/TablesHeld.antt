@@ -20,9 +20,9 @@ use Rattle.office_tables.specs.Stored.{Holds, keyed, keyless}
 use Rattle.office_tables.specs.Tables.{Tables}
 use Rattle.office_tables.specs.Versions.{schema_of}
 
--- the database has the tables of this version, and they hold these rows; what drafts and students
--- have over night is in the last two, and 0 in version 1
-pub record StandsIn (version : Version) (db : Database) (t : Tables) : Type 0 where
+-- the database has the tables of this version, and they hold these rows; the amounts over night of
+-- drafts and students are in the last two tables, and are 0 in version 1
+pub record HoldsTablesIn (version : Version) (db : Database) (t : Tables) : Type 0 where
   pub schema : db.schema ≡ schema_of version
   pub meta : Holds keyed (map (meta_columns version) t.meta) (db.trees 0)
   pub owner : Holds keyed (map owner_columns t.owner) (db.trees 1)
@@ -41,9 +41,9 @@ pub record StandsIn (version : Version) (db : Database) (t : Tables) : Type 0 wh
       (db.trees 16)
 
 -- version 2: the database has the twelve tables, and they hold these rows
-abbrev pub Stands : Database → Tables → Type 0
-Stands = StandsIn Two
+abbrev pub HoldsTables : Database → Tables → Type 0
+HoldsTables = HoldsTablesIn Two
 
--- version 1: the database has ten tables, they hold these rows, and no amount is over night
-abbrev pub StandsBefore : Database → Tables → Type 0
-StandsBefore = StandsIn One
+-- version 1: the database has ten tables, they hold these rows, and each amount over night is 0
+abbrev pub HoldsOldTables : Database → Tables → Type 0
+HoldsOldTables = HoldsTablesIn One
