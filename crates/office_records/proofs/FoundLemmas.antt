@@ -13,7 +13,6 @@ use Rattle.office_tables.specs.declared.share_part.PartShareRow.{PartShareRow}
 use Rattle.office_tables.specs.declared.seat.SeatRow.{SeatRow}
 use Rattle.office_tables.specs.declared.share_student.StudentShareRow.{StudentShareRow}
 use Rattle.office_model.specs.Office.{IsPublication, Publication}
-use Rattle.office_records.specs.Found.{ArePublication}
 use Rattle.office_records.specs.Publications.{ArePublicationRows, stored_seat}
 use Rattle.office_records.specs.FoundPublications.{ArePlaces, ArePublished, HasPlacesAndSeats, publication}
 use Rattle.office_records.specs.SharesStored.{AreShared}
@@ -43,12 +42,12 @@ module _ (I : Session) (mark : Bool) (places : List PlacedRow) (seats : List Sea
       → ArePublished I published → ⊥
 
   -- no other publication of the session has them
-  abbrev pub HasAlone : Option Publication → Type 0
+  abbrev HasAlone : Option Publication → Type 0
   HasAlone own =
       (published : Option Publication) → ArePublicationRows mark places seats published
       → ArePublished I published → own ≡ published
 
-  -- ---- unmarked
+  -- ---- nothing is published
 
   module _ (unmarked : mark ≡ false) where
     pub nothing_has_them : (r : Result Found RecordFault) → OnErr r (places ≡ [] → seats ≡ [] → ⊥)
@@ -61,7 +60,7 @@ module _ (I : Session) (mark : Bool) (places : List PlacedRow) (seats : List Sea
             bad (no_rows places are.stands.placed) (no_rows seats are.stands.seat)
         each bad (Some p) are is = true≢false (sym are.marked ∙ unmarked)
 
-  -- ---- marked
+  -- ---- something is published
 
   module _ (marked : mark ≡ true) where
     marked_none : ArePublicationRows mark places seats None → ⊥
@@ -109,19 +108,11 @@ module _ (I : Session) (mark : Bool) (places : List PlacedRow) (seats : List Sea
 
 -- ---- with shares
 
-module _ (I : Session) (mark : Bool) (places : List PlacedRow) (seats : List SeatRow)
-    (students : List StudentShareRow) (parts : List PartShareRow) where
-  -- no publication, present or missing, has these rows and shares
-  abbrev pub IsNone : Type 0
-  IsNone =
-      (published : Option Publication)
-      → ArePublication I mark places seats students parts published → ⊥
-
-  module _ (own : Option Publication) (alone : HasAlone I mark places seats own) where
-    pub no_such_shares : (AreShared I own students parts → ⊥) → IsNone
-    no_such_shares none published are =
-        none (subst (λ o. AreShared I o students parts) (sym (alone published are.rows are.is))
-        are.shared)
+-- a fact about two lists holds for equal lists
+pub of_same : {X Y : Type 0} (P : List X → List Y → Type 0) {xs us : List X} {ys vs : List Y}
+    → xs ≡ us → ys ≡ vs → P xs ys → P us vs
+of_same P {us = us} {ys = ys} same other p =
+    subst (λ l. P us l) other (subst (λ l. P l ys) same p)
 
 -- if nothing is published, there is no share
 pub no_shares : (I : Session) (students : List StudentShareRow) (parts : List PartShareRow)

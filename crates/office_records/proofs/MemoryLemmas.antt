@@ -18,7 +18,7 @@ use Rattle.office_files.specs.CanonicalText.{canonical_instance}
 use Rattle.office_files.specs.InstanceText.{instance_in}
 use Rattle.office_files.proofs.CanonicalInstance.{instance_same}
 use Rattle.office_tables.specs.Tables.{Tables, Meta}
-use Rattle.office_tables.specs.Standing.{StandsIn}
+use Rattle.office_tables.specs.TablesHeld.{HoldsTablesIn}
 use Rattle.office_tables.specs.declared.version.Version.{Version}
 use Rattle.office_tables.specs.declared.version.Version.TheVariants.{Two}
 use Rattle.office_tables.specs.Stored.{Holds, keyed, keyless}
@@ -145,8 +145,8 @@ same_enrolments I E F e f p =
 
 -- ---- both
 
-module _ (version : Version) (db : Database) (p q : Tables) (held : StandsIn version db p)
-    (held2 : StandsIn version db q) where
+module _ (version : Version) (db : Database) (p q : Tables) (held : HoldsTablesIn version db p)
+    (held2 : HoldsTablesIn version db q) where
   metas : IsPermutation p.meta q.meta
   metas = same_rows keyed (meta_columns version) meta_back (meta_is version) p.meta q.meta
       (db.trees 0) held.meta held2.meta

@@ -1,11 +1,12 @@
 -- Strictly rising rows have no other rising order.
-use Rattle.std.proofs.Common.{◌≡◌, ℕ, ◌+◌, ◌<◌, ◌≤◌, ◌⊎◌, inl, inr, List, [], ◌∷◌, ◌++◌, map, Less, Equal, Ordering, nat_cmp, refl, sym, ◌∙◌, ap, arith}
+use Rattle.std.proofs.Common.{◌≡◌, ℕ, ◌+◌, ◌<◌, ◌≤◌, ◌⊎◌, inl, inr, List, [], ◌∷◌, ◌++◌, map, length, get_or, false, is_lt, Less, Equal, Greater, Ordering, nat_cmp, refl, sym, ◌∙◌, ap, ap₂, arith}
 use Rattle.std.specs.List.{AllByRecursion}
 use Rattle.std.specs.List.Sorted.{IsSortedByKey}
 use Rattle.std.specs.Ordering.{ordering_then}
 use Rattle.std.specs.Prelude.{IsPermutation}
 use Rattle.std.proofs.lemmas.Bool.Decides.{nat_tests}
 use Rattle.std.proofs.lemmas.Cmp.{nat_cmp_total, on_total, then_total}
+use Rattle.std.proofs.lemmas.List.{get_or-map, length-map}
 use Rattle.std.proofs.lemmas.List.Sorted.{IsPermutation-sym, IsPermutation-trans}
 use Rattle.sqlite_trees.specs.Tree.{IsAscending}
 use Rattle.sqlite_keyed.proofs.ListLemmas.{ascending-append, ascending-map, ascending_weaker}
@@ -24,6 +25,9 @@ use Rattle.office_records.specs.PartShares.{part_rows, plain_rows, room_rows}
 
 less_is : (m n : ℕ) → m < n → nat_cmp m n ≡ Less
 less_is m n h = grind (arith, nat_tests)
+
+greater_is : (m n : ℕ) → m < n → nat_cmp n m ≡ Greater
+greater_is m n h = grind (arith, nat_tests)
 
 module _ {X : Type 0} (key : X → ℕ) where
   -- the order of rising rows is the only rising one
@@ -69,6 +73,15 @@ module _ {X : Type 0} (key : X → ℕ × ℕ) where
 
 -- ---- seats
 
+abbrev pub own_row : SeatRow → publish.SeatRow
+own_row row = record {
+  student = row.student;
+  exam = row.exam;
+  period = row.period;
+  room = row.room;
+  seat = row.seat;
+}
+
 abbrev pub seat_key : SeatRow → ℕ × ℕ
 seat_key row = (row.exam, row.student)
 
@@ -78,6 +91,28 @@ pub seats_rise : (own : List publish.SeatRow) → RowsInOrder own
 seats_rise own order =
     ascending-map (λ x y. PairBefore (seat_key x) (seat_key y)) stored_seat own
     (chain_from_index RowBefore own order)
+
+not_less : (x y : ℕ × ℕ) → PairBefore x y → is_lt (pair_cmp y x) ≡ false
+not_less x y (inl less) =
+    ap (λ o. is_lt (ordering_then o (nat_cmp y.1 x.1))) (greater_is x.0 y.0 less)
+not_less x y (inr tie) =
+    ap (λ n. is_lt (ordering_then (nat_cmp y.0 n) (nat_cmp y.1 x.1))) tie.0
+    ∙ ap (λ o. is_lt (ordering_then o (nat_cmp y.1 x.1)))
+    (let same : nat_cmp y.0 y.0 ≡ Equal = grind (arith, nat_tests) in same)
+    ∙ ap is_lt (greater_is x.1 y.1 tie.1)
+
+-- so they are sorted
+pub seats_sorted : (own : List publish.SeatRow) → RowsInOrder own
+    → IsSortedByKey seat_key pair_cmp (map stored_seat own)
+seats_sorted own order k d least within =
+    let long = length-map own stored_seat in
+    let second : k + 1 < length own = omega (arith, long, within) in
+    let before = order k (k + 1) (own_row d) (omega arith) second in
+    ap₂ (λ (x y : SeatRow). is_lt (pair_cmp (seat_key x) (seat_key y)))
+    (get_or-map stored_seat own (k + 1) (own_row d) d second)
+    (get_or-map stored_seat own k (own_row d) d (omega (arith, second)))
+    ∙ not_less (seat_key (stored_seat (get_or own k (own_row d))))
+    (seat_key (stored_seat (get_or own (k + 1) (own_row d)))) before
 
 -- ---- parts of shares
 

@@ -13,7 +13,7 @@ module _ {X : Type 0} (p : X → Bool) where
       ap (λ b. cond b (x ∷ filter p xs) (filter p xs)) {y = false} (h 0 x (omega arith))
       ∙ none_pass xs (λ k d lt. h (suc k) d (omega (arith, lt)))
 
-  -- one does
+  -- some element passes: at least one is left
   pub one_passes : (xs : List X) → list_any p xs ≡ true → 1 ≤ length (filter p xs)
   one_passes [] h = absurd (cc)
   one_passes (x ∷ xs) h = go (p x) h (one_passes xs)
@@ -24,7 +24,7 @@ module _ {X : Type 0} (p : X → Bool) where
       go true h more = omega arith
       go false h more = more h
 
-  -- some element passes
+  -- at least one is left: some element passes
   pub found_one : (xs : List X) → 1 ≤ length (filter p xs) → list_any p xs ≡ true
   found_one [] h = absurd (omega (arith, h))
   found_one (x ∷ xs) h = go (p x) h (found_one xs)
@@ -34,12 +34,12 @@ module _ {X : Type 0} (p : X → Bool) where
       go true h more = refl
       go false h more = more h
 
-  -- the one at a place does
+  -- the element at an index passes
   pub passes_at : (xs : List X) (k : ℕ) (d : X) → k < length xs → p (get_or xs k d) ≡ true
       → 1 ≤ length (filter p xs)
   passes_at xs k d lt h = one_passes xs (list_any_at p xs k d lt h)
 
-  -- all do
+  -- all elements pass
   pub each_passes : (xs : List X) → list_all p xs ≡ true → All (λ x. p x ≡ true) xs
   each_passes xs h k d lt = go (p (get_or xs k d)) refl
     where
@@ -54,7 +54,7 @@ module _ {X : Type 0} (p : X → Bool) where
       ap (λ b. b && list_all p xs) {y = true} (h 0 x (omega arith))
       ∙ all_pass xs (λ k d lt. h (suc k) d (omega (arith, lt)))
 
-  -- two do
+  -- two elements pass
   pub two_pass : (xs : List X) (j i : ℕ) (d : X) → j < i → i < length xs
       → p (get_or xs j d) ≡ true → p (get_or xs i d) ≡ true → 2 ≤ length (filter p xs)
   two_pass [] j i d below lt e f = absurd (omega (arith, lt))

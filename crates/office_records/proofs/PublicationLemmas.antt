@@ -29,7 +29,7 @@ use Rattle.office_records.specs.TableRows.{enrol_row}
 use Rattle.office_records.proofs.MemoryLemmas.{same_enrolments}
 
 module _ (I : Session) (rows : List SeatRow) (T : Placing) (are : ArePublishedRows I rows T) where
-  -- the enrolments that the rows are
+  -- the enrolments of the rows
   abbrev pub enrolled : Enrolled
   enrolled = enrolled_in (length I.exams) rows
 
@@ -72,7 +72,7 @@ module _ (I : Session) (rows : List SeatRow) (T : Placing) (are : ArePublishedRo
 
   module _ (pairs : List EnrolRow) (is : pairs ≡ map seat_pair rows) (E : Enrolled)
       (found : AreEnrolRows I pairs E) where
-    -- enrolments with those pairs are the enrolments that the rows are
+    -- enrolments with those pairs are the enrolments of the rows
     same_as_rows : AreEnrolled I enrolled → E ≡ enrolled
     same_as_rows known =
         same_enrolments I E enrolled found.enrolled known

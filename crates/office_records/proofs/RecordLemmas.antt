@@ -17,7 +17,7 @@ use Rattle.office_records.specs.FoundBatches.{AreBatchRows, AreFoundBatches}
 use Rattle.office_records.specs.Found.{AreOwners, ArePublication, IsSessionRow, IsUnloaded}
 use Rattle.office_model.specs.Office.{OfficeState, Publication, Records, AreKept, AreRecords, IsOffice, IsPublication}
 use Rattle.office_records.specs.FoundPublications.{ArePublished}
-use Rattle.office_records.specs.Memory.{memory_of}
+use Rattle.office_records.specs.Memory.{memory_of, published_in}
 use Rattle.office_records.specs.Representation.{IsSound, TablesRepresentOffice, TablesRepresentRecords}
 use Rattle.office_records.specs.TableRows.{meta_row}
 use Rattle.office_records.proofs.BatchRowLemmas.{batch_rows, batches_kept, batches_stand}
@@ -61,7 +61,7 @@ module _ (found : Found) (batches : List Batch) where
   abbrev pub t : Tables
   t = tables_of found batches
 
-  -- the rows of a publication and its shares, with the mark
+  -- the rows of a publication and its shares, with the flag whether something is published
   abbrev pub IsPublished : Session → Option Publication → Type 0
   IsPublished I published =
       ArePublication I found.meta.published found.placements.items found.seats.items
@@ -79,10 +79,10 @@ module _ (found : Found) (batches : List Batch) where
 
   pub nothing_loaded : IsUnloaded found → AreFoundBatches found.batches.items batches
       → (office : OfficeState) × TablesRepresentOffice t office × IsSound t office × IsOffice office
-      × (memory_of office ≡ None)
+      × (memory_of office ≡ None) × (published_in office ≡ None)
   nothing_loaded is these =
       let none = no_batches batches (these.rows ∙ is.batches) in
-      (None, subst (λ l. tables_of found l ≡ empty_tables) (sym none) is.tables, tt, tt, refl)
+      (None, subst (λ l. tables_of found l ≡ empty_tables) (sym none) is.tables, tt, tt, refl, refl)
 
   -- ---- from the rows to the office
 
@@ -98,29 +98,29 @@ module _ (found : Found) (batches : List Batch) where
       → (owner_of : ℕ → ℕ) × AreOwners I found.owners.items owner_of
       → AreEnrolRows I found.enrols.items E
       → (draft : ℕ → Option Placing) × AreDrafts I E found.drafts.items found.slots.items draft
-      → (published : Option Publication) × IsPublished I published
+      → (published : Option Publication) → IsPublished I published
       → AreBatchRows found.batches.items → AreFoundBatches found.batches.items batches
       → (office : OfficeState) × TablesRepresentOffice t office × IsSound t office × IsOffice office
-      × (memory_of office ≡ Some (I, E))
-  office_of I E session owners enrols drafts published kept these = (
+      × (memory_of office ≡ Some (I, E)) × (published_in office ≡ published)
+  office_of I E session owners enrols drafts published are kept these = (
     Some (record {
       session = I;
       owner_of = owners.0;
       enrolments = E;
       draft = drafts.0;
-      published = published.0;
+      published = published;
       batches = map kept_batch batches;
     }),
     record {
-      meta = ap (λ m. m ∷ []) (row_is I session published.0 published.1.rows.marked);
+      meta = ap (λ m. m ∷ []) (row_is I session published are.rows.marked);
       owner = owners.1.rows;
       enrol = enrols.rows;
       draft = drafts.1.rows;
       slot = drafts.1.slots;
-      published = published.1.rows.stands;
+      published = are.rows.stands;
       batches = batches_stand found.batches.items batches kept these.rows;
     },
-    record { scored = drafts.1.scored; shared = published.1.shared },
+    record { scored = drafts.1.scored; shared = are.shared },
     record {
       session = session.session;
       enrolled = enrols.enrolled;
@@ -128,9 +128,10 @@ module _ (found : Found) (batches : List Batch) where
       owned = owners.1.owned;
       numbered = drafts.1.numbered;
       drafts = drafts.1.fits;
-      publication = is_published I published.0 published.1.is;
+      publication = is_published I published are.is;
       batches = batches_kept found.batches.items batches kept these;
     },
+    refl,
     refl,
   )
 

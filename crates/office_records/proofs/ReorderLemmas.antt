@@ -12,7 +12,7 @@ module _ {X : Type 0} where
   there x y xs zero within is other = absurd (other is)
   there x y xs (suc k) within is other = (k, omega arith, is)
 
-  -- as many values, and each of those that differ
+  -- the same number of values, and of those that differ
   pub reordered : (ys xs : List X) → length xs ≡ length ys → AllPairs (λ x y. x ≢ y) ys
       → All (Contains xs) ys → IsPermutation xs ys
   reordered [] xs long apart inside =

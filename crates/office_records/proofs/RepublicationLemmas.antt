@@ -45,7 +45,7 @@ both_some [] (q ∷ qs) h = cc
 both_some (r ∷ rs) [] h = cc
 both_some (r ∷ rs) (q ∷ qs) h = refl
 
--- rows that agree in all that they say are the same
+-- rows with equal fields are equal
 equal_row : (r q : SeatRow) → same_row r q ≡ true → r ≡ q
 equal_row r q h =
     let a = and_parts (eqb r.student q.student) _ h in

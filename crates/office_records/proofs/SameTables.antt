@@ -11,7 +11,7 @@ use Rattle.sqlite_trees.proofs.ListLemmas.{IsPermutation-filter, all-permutation
 use Rattle.office_tables.specs.Batch.{FitsBatch, batch_columns}
 use Rattle.office_tables.specs.Tables.{Tables, Meta, empty_tables}
 use Rattle.office_tables.specs.Stored.{Holds, keyed, keyless}
-use Rattle.office_tables.specs.Standing.{Stands, StandsIn}
+use Rattle.office_tables.specs.TablesHeld.{HoldsTables, HoldsTablesIn}
 use Rattle.office_tables.specs.declared.version.Version.{Version}
 use Rattle.office_tables.specs.declared.version.Version.TheVariants.{Two}
 use Rattle.office_tables.proofs.SameRows.{same_drafts, same_student_shares}
@@ -28,8 +28,8 @@ use Rattle.office_tables.specs.declared.owner.OwnerRow.{OwnerRow}
 use Rattle.office_tables.specs.declared.draft.DraftRow.{DraftRow}
 use Rattle.office_tables.specs.declared.slot.SlotRow.{SlotRow}
 use Rattle.office_model.specs.Office.{OfficeState, Records}
-use Rattle.office_tables.proofs.RecordsBack.{owner_of, enrol_of, draft_of, slot_of, placement_of}
-use Rattle.office_tables.proofs.RecordsBack.{seat_of, student_share_of, part_share_of, batch_of}
+use Rattle.office_tables.proofs.RecordsBack.{owner_of, enrol_of, slot_of, placement_of}
+use Rattle.office_tables.proofs.RecordsBack.{seat_of, part_share_of, batch_of}
 use Rattle.office_records.specs.Representation.{IsScoredRow, IsSound, TablesRepresentOffice, TablesRepresentRecords}
 use Rattle.office_records.specs.TableRows.{some_dept, once}
 use Rattle.office_records.proofs.MemoryLemmas.{same_rows, same_one, meta_back, meta_is}
@@ -75,7 +75,7 @@ none_held show row xs ys stored p q none =
 
 -- ---- the tables
 
--- ten empty tables, but for the one row about the office
+-- ten tables, empty except for the row about the office
 pub all_empty : (t : Tables) → t.meta ≡ empty_tables.meta → t.owner ≡ [] → t.enrol ≡ []
     → t.draft ≡ [] → t.slot ≡ [] → t.placed ≡ [] → t.seat ≡ [] → t.share_student ≡ []
     → t.share_part ≡ [] → t.batch ≡ [] → t ≡ empty_tables
@@ -92,8 +92,8 @@ all_empty t m o e d s p z x y b = λ i. record {
   batch = b i;
 }
 
-module _ (version : Version) (db : Database) (t u : Tables) (p : StandsIn version db t)
-    (q : StandsIn version db u) where
+module _ (version : Version) (db : Database) (t u : Tables) (p : HoldsTablesIn version db t)
+    (q : HoldsTablesIn version db u) where
   metas : IsPermutation t.meta u.meta
   metas = same_rows keyed (meta_columns version) meta_back (meta_is version) _ _ _ p.meta q.meta
 
@@ -187,7 +187,7 @@ module _ (version : Version) (db : Database) (t u : Tables) (p : StandsIn versio
   same_stands_in None h = empty h
   same_stands_in (Some r) h = loaded r h
 
-  -- and are as sound
+  -- if one is sound, the other is
   pub same_sound_in : (o : OfficeState) → IsSound t o → IsSound u o
   same_sound_in None h = tt
   same_sound_in (Some r) h = record {
@@ -200,10 +200,10 @@ module _ (version : Version) (db : Database) (t u : Tables) (p : StandsIn versio
   }
 
 -- the same of version 2
-pub same_stands : (db : Database) (t u : Tables) → Stands db t → Stands db u → (o : OfficeState)
+pub same_stands : (db : Database) (t u : Tables) → HoldsTables db t → HoldsTables db u → (o : OfficeState)
     → TablesRepresentOffice t o → TablesRepresentOffice u o
 same_stands = same_stands_in Two
 
-pub same_sound : (db : Database) (t u : Tables) → Stands db t → Stands db u → (o : OfficeState)
+pub same_sound : (db : Database) (t u : Tables) → HoldsTables db t → HoldsTables db u → (o : OfficeState)
     → IsSound t o → IsSound u o
 same_sound = same_sound_in Two

@@ -7,16 +7,7 @@ use Rattle.exam_publish.specs.declared.seat_row.SeatRow as publish
 use Rattle.exam_publish.specs.Rows.{AreNumbered, RowsInOrder}
 use Rattle.office_tables.specs.declared.seat.SeatRow.{SeatRow}
 use Rattle.office_records.specs.Publications.{stored_seat}
-use Rattle.office_records.proofs.OrderLemmas.{one_order_of_pairs, pair_cmp, seat_key, seats_rise}
-
-abbrev own_row : SeatRow → publish.SeatRow
-own_row row = record {
-  student = row.student;
-  exam = row.exam;
-  period = row.period;
-  room = row.room;
-  seat = row.seat;
-}
+use Rattle.office_records.proofs.OrderLemmas.{one_order_of_pairs, own_row, pair_cmp, seat_key, seats_rise, seats_sorted}
 
 back : (own : List publish.SeatRow) → map own_row (map stored_seat own) ≡ own
 back [] = refl
@@ -52,3 +43,11 @@ pub sorted_seats : (found sorted : List SeatRow) (own : List publish.SeatRow) �
 sorted_seats found sorted own order same moved up =
     one_order_of_pairs seat_key found (map stored_seat own) sorted (seats_rise own order) same moved
     up
+
+-- rows are those of one list of seats in order
+pub one_in_order : (found : List SeatRow) (own others : List publish.SeatRow) → RowsInOrder own
+    → RowsInOrder others → IsPermutation found (map stored_seat own)
+    → IsPermutation found (map stored_seat others) → own ≡ others
+one_in_order found own others order up same also =
+    same_seats own others
+    (sym (sorted_seats found (map stored_seat others) own order same also (seats_sorted others up)))

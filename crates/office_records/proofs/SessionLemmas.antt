@@ -13,7 +13,7 @@ pub row_read : (m : Meta) (I : Session) → IsSessionRow m I
 row_read m I is =
     ap instance_in is.text ∙ read_back I is.session
 
--- a text without a reading is in no session's row
+-- no session's row has an invalid text
 pub no_row : (m : Meta) (I : Session) (fault : FileFault) → instance_in m.instance ≡ Err fault
     → IsSessionRow m I → ⊥
 no_row m I fault faulty is = let read = row_read m I is in absurd cc

@@ -49,7 +49,7 @@ share_at rows shares all same i d within =
           ∙ ap (λ l. get_or l i d) same,
     )
 
--- a row that is no share within the limits
+-- a row whose share is beyond the limits
 pub no_share_at : (rows : List StudentShareRow) (shares : List Share) → All IsShare shares
     → map student_share_row shares ≡ rows → (i : ℕ) (d : StudentShareRow) → i < length rows
     → ((share : Share) → IsShare share → student_share_row share ≡ get_or rows i d → ⊥) → ⊥

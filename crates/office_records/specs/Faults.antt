@@ -6,12 +6,12 @@ use Rattle.office_model.specs.declared.fault.StoreFault.TheVariants.{Store, BadS
 use Rattle.office_records.specs.declared.fault.RecordFault.{RecordFault}
 use Rattle.office_records.specs.declared.fault.RecordFault.TheVariants.{NoMemory, BadRows}
 
--- out of memory is no fault of the rows
+-- out of memory is `Store`; rows without records are a wrong schema
 abbrev pub store_fault : RecordFault → StoreFault
 store_fault NoMemory = Store
 store_fault BadRows = BadSchema
 
--- a stored text with a fault is no session's; out of memory is no fault of the text
+-- a faulty stored text is a wrong row; out of memory is not
 abbrev pub text_fault : FaultKind → RecordFault
 text_fault kind.NoMemory = NoMemory
 text_fault fault = BadRows

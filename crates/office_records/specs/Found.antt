@@ -58,7 +58,8 @@ pub record AreDrafts (I : Session) (E : Enrolled) (found : List DraftRow) (place
   pub scored : AllByRecursion
       (λ row. (T : Placing) → draft row.no ≡ Some T → parts_of row ≡ track I E T) found
 
--- these rows, with their mark, are the publication of this session, and its shares
+-- these rows, with the flag whether something is published, are the session's publication and its
+-- shares
 pub record ArePublication (I : Session) (mark : Bool) (places : List PlacedRow)
     (seats : List SeatRow) (students : List StudentShareRow) (parts : List PartShareRow)
     (published : Option Publication) : Type 0 where

@@ -23,8 +23,8 @@ publication T rows = record { timetable = T; rows = rows }
 abbrev pub publication_from : Option (Placing × Vec publish.SeatRow Global) → Option Publication
 publication_from found = option_map (λ p. publication p.0 p.1.items) found
 
--- each exam has a place, each row is at its exam's place and has its own seat in the room; the
--- rules are not judged
+-- each exam has a place, and each row is at its exam's place and has its own seat in the room; this
+-- says nothing of the rules
 pub record HasPlacesAndSeats (I : Session) (p : Publication) : Type 0 where
   pub rows : ArePublishedRows I p.rows p.timetable
   pub seated : AreSeated I p.rows
@@ -40,7 +40,7 @@ ArePublished I published = IfSome published (IsPublication I)
 
 -- ---- parts of one
 
--- a place as a draft's, of draft 0
+-- a published place as a row of draft 0
 abbrev pub placed_slot : PlacedRow → SlotRow
 placed_slot row = record { draft = 0; exam = row.exam; period = row.period; room = row.room }
 
@@ -55,11 +55,11 @@ pub record IsSeatedRow (I : Session) (T : Placing) (row : publish.SeatRow) : Typ
   pub at_exam : IsAtExam T row
   pub seat : HasSeat I row
 
--- whether two rows are of one seat in one period
+-- whether two rows have the same seat in the same period
 abbrev pub is_same_seat : publish.SeatRow → publish.SeatRow → Bool
 is_same_seat row other =
     (row.period == other.period) && ((row.room == other.room) && (row.seat == other.seat))
 
--- the pair that a seat is
+-- the enrolment of a seat
 abbrev pub seat_pair : publish.SeatRow → EnrolRow
 seat_pair row = record { student = row.student; exam = row.exam }

@@ -1,8 +1,8 @@
--- An office's part in memory.
+-- The part of an office that is kept in memory.
 use Rattle.std.specs.Prelude.{◌≡◌, length, Option, Some, None, option_map}
 use Rattle.exam_model.specs.Enrolments.{Enrolled}
 use Rattle.exam_model.specs.Instance.{Session}
-use Rattle.office_model.specs.Office.{OfficeState}
+use Rattle.office_model.specs.Office.{OfficeState, Publication}
 
 -- the session and its live enrolments
 abbrev pub Memory : Type 0
@@ -12,7 +12,12 @@ Memory = Option (Session × Enrolled)
 abbrev pub memory_of : OfficeState → Memory
 memory_of office = option_map (λ r. (r.session, r.enrolments)) office
 
--- they speak of one number of exams
+-- the session and the enrolments have the same number of exams
 abbrev pub AreTogether : Memory → Type 0
 AreTogether None = Unit {0}
 AreTogether (Some kept) = length kept.1 ≡ length kept.0.exams
+
+-- an office's publication, if it has one
+abbrev pub published_in : OfficeState → Option Publication
+published_in None = None
+published_in (Some r) = r.published

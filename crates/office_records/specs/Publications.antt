@@ -39,7 +39,7 @@ pub record RowsRepresentPublication (places : List PlacedRow) (seats : List Seat
   pub placed : IsPermutation places (placed_rows published)
   pub seat : IsPermutation seats (map stored_seat (publication_rows published))
 
--- the same, with a mark that says whether there is a publication
+-- the same, with a flag that says whether there is a publication
 pub record ArePublicationRows (mark : Bool) (places : List PlacedRow) (seats : List SeatRow)
     (published : Option Publication) : Type 0 where
   pub marked : mark ≡ is_some published

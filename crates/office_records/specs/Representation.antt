@@ -6,7 +6,7 @@ use Rattle.exam_model.specs.Pairs.{pairs_of}
 use Rattle.exam_model.specs.Timetable.{Placing}
 use Rattle.exam_score.specs.Penalty.{Penalty}
 use Rattle.exam_score.specs.Track.{track}
-use Rattle.office_tables.specs.Standing as tables
+use Rattle.office_tables.specs.TablesHeld as tables
 use Rattle.office_tables.specs.Batch.{FitsBatch}
 use Rattle.office_tables.specs.Tables.{Tables, Batch, empty_tables}
 use Rattle.office_tables.specs.declared.draft.DraftRow.{DraftRow}
@@ -74,7 +74,7 @@ IsSound t (Some r) = AreSound t r
 -- the database's tables represent this office in this version, and are sound
 pub record RepresentsOfficeIn (version : Version) (db : Database) (o : OfficeState) : Type 0 where
   pub held : Tables
-  pub tables : tables.StandsIn version db held
+  pub tables : tables.HoldsTablesIn version db held
   pub stands : TablesRepresentOffice held o
   pub sound : IsSound held o
   pub office : IsOffice o

@@ -34,7 +34,7 @@ student_share_rows I (Some p) = map student_share_row (student_shares I p.rows)
 
 -- ---- rows that were found
 
--- these rows are those shares
+-- these rows are those of these shares
 pub record AreSharesOf (students : List StudentShareRow) (parts : List PartShareRow)
     (shares : Sharing) : Type 0 where
   pub of_students : IsPermutation students (map student_share_row shares.students)

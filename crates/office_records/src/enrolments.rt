@@ -9,7 +9,7 @@ use exam_model::{Enrolments, ExamNo, Instance, ModelFault, StudentNo};
 use office_tables::EnrolRow;
 use std::alloc::Global;
 
-// Returns the enrolments of a session's exams with these rows. `BadRows`: there are none.
+// Returns the enrolments of a session's exams with these rows. `BadRows`: no enrolments have them.
 pub(crate) fn enrolments_of(
     alloc: Global,
     instance: &Instance,

@@ -1,9 +1,9 @@
-// Why rows are no records.
+// Why rows don't represent records.
 use office_files::{FaultKind, FileFault};
 use office_model::StoreFault;
 use std::alloc::AllocError;
 
-/// Why rows are no records.
+/// Why rows don't represent records.
 #[derive(Clone, Copy, Debug, PartialEq, Eq)]
 pub enum RecordFault {
     /// Out of memory.

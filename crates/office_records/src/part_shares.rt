@@ -106,7 +106,7 @@ pub(crate) fn parts_in_order(
     Ok(sorted)
 }
 
-// Returns the shares of rows of a kind, by their numbers. `BadRows`: the rows are no such shares.
+// Returns the shares of rows of a kind, by their numbers. `BadRows`: no shares have these rows.
 pub(crate) fn plain_shares(
     alloc: Global,
     rows: &[PartShareRow],
@@ -127,7 +127,7 @@ pub(crate) fn plain_shares(
     Ok(shares)
 }
 
-// Returns the shares of rows of rooms, by their numbers. `BadRows`: the rows are no such shares.
+// Returns the shares of rows of rooms, by their numbers. `BadRows`: no shares have these rows.
 pub(crate) fn room_shares(
     alloc: Global,
     rows: &[PartShareRow],

@@ -18,10 +18,10 @@ use exam_publish::{PublishFault, numbers_identify, permit};
 use office_tables::{EnrolRow, PlacedRow, SeatRow, SlotRow};
 use std::alloc::{AllocError, Global};
 
-/// Returns the publication of a session that these rows and their mark represent; `None` if there
-/// are no rows. [`check_publication`] judges whether it breaks a rule. `BadRows`: they represent
-/// none.
-pub fn publication_of(
+// Returns the publication of a session with these rows, by the flag whether something is
+// published; `None` if there are no rows. `check_publication` checks that it breaks no rule.
+// `BadRows`: no publication has these rows.
+pub(crate) fn publication_of(
     alloc: Global,
     instance: &Instance,
     mark: bool,
@@ -69,8 +69,8 @@ fn no_publication(
     }
 }
 
-/// Returns the timetable with these places. `BadRows`: there is none.
-pub fn timetable_at(
+// Returns the timetable with these places. `BadRows`: no timetable has them.
+pub(crate) fn timetable_at(
     alloc: Global,
     instance: &Instance,
     places: &[PlacedRow],
@@ -84,14 +84,14 @@ pub fn timetable_at(
     Ok(timetable)
 }
 
-// Returns the places as those of draft 0.
+// Returns the published places as rows of draft 0.
 fn slots_of(alloc: Global, places: &[PlacedRow]) -> Result<Vec<SlotRow>, AllocError>
     ensures { IfOk result (λ slots. slots.items ≡ map placed_slot places.now) }
 {
     places.iter().map(|row| placed_slot(*row)).collect(alloc)
 }
 
-// Returns a place as one of draft 0.
+// Returns a published place as a row of draft 0.
 fn placed_slot(row: PlacedRow) -> SlotRow
     ensures { result ≡ placed_slot row }
 {
@@ -103,9 +103,9 @@ fn placed_slot(row: PlacedRow) -> SlotRow
     }
 }
 
-/// Returns `Ok` if a timetable and its seats are a publication: no hard rule is broken with the
-/// enrolments that the rows represent; else `BadRows`.
-pub fn check_publication(
+// Returns `Ok` if a timetable and its seats are a publication: no hard rule is broken with the
+// enrolments that the rows represent; else `BadRows`.
+pub(crate) fn check_publication(
     alloc: Global,
     instance: &Instance,
     timetable: &Timetable,

@@ -1,12 +1,13 @@
 // The records that rows represent.
-ghost use Rattle.std.specs.Prelude.{◌≡◌, ◌↔◌, IfErr, IfOk, IsTrue, List, map};
+ghost use Rattle.std.specs.Prelude.{◌≡◌, ◌↔◌, IfErr, IfOk, IfSome, IsTrue, List, map};
 ghost use Rattle.office_tables.specs.Adopting.{tables_of};
 ghost use Rattle.office_tables.specs.Batch.{counts_of};
 ghost use Rattle.office_tables.specs.Tables.{Batch};
 ghost use Rattle.office_model.specs.Office.{IsOffice, OfficeState};
 ghost use Rattle.office_records.specs.Found.{HasNoPublication, IsUnloaded};
 ghost use Rattle.office_records.specs.FoundBatches.{AreFoundBatches};
-ghost use Rattle.office_records.specs.Memory.{AreTogether, memory_of};
+ghost use Rattle.office_records.specs.FoundPublications.{AreFound, publication_from};
+ghost use Rattle.office_records.specs.Memory.{AreTogether, memory_of, published_in};
 ghost use Rattle.office_records.specs.Representation.{IsSound, TablesRepresentOffice};
 
 use crate::batches::check_batches;
@@ -14,37 +15,56 @@ use crate::drafts::check_drafts;
 use crate::enrolments::enrolments_of;
 use crate::fault::RecordFault;
 use crate::owners::check_owners;
-use crate::published::check_published;
+use crate::published::published_of;
 use crate::session::session_of;
-use exam_model::{Enrolments, Instance};
+use exam_model::{Enrolments, Instance, Timetable};
+use exam_publish::SeatRow;
 use office_tables::Found;
 use std::alloc::Global;
 
-/// Returns the part kept in memory of the office that the rows represent, in either version of the
-/// file, if its batches are within the limit of a text's bytes. `BadRows`: they represent no
-/// office, for any lengths of the batches.
-pub fn kept_of(alloc: Global, found: &Found) -> Result<Option<(Instance, Enrolments)>, RecordFault>
+/// The part of an office that is kept in memory.
+#[derive(Drop)]
+pub struct Kept {
+    /// The session and its live enrolments, once there is one.
+    pub session: Option<(Instance, Enrolments)>,
+    /// The published timetable with its seat rows, by exam and then by student, if there is one.
+    pub published: Option<(Timetable, Vec<SeatRow>)>,
+}
+
+/// Returns what is kept in memory of the office that the rows represent, in either version of the
+/// file, if its batches are no longer than a text may be. `BadRows`: the rows represent no office,
+/// whatever the lengths of the batches.
+pub fn kept_of(alloc: Global, found: &Found) -> Result<Kept, RecordFault>
     ensures are { IfOk result (λ kept. (batches : List Batch)
         → AreFoundBatches found.now.batches.items batches
         → (office : OfficeState) × TablesRepresentOffice (tables_of found.now batches) office
         × IsSound (tables_of found.now batches) office × IsOffice office
-        × (memory_of office ≡ kept)) }
-    ensures together { IfOk result AreTogether }
+        × (memory_of office ≡ kept.session)
+        × (published_in office ≡ publication_from kept.published)) }
+    ensures together { IfOk result (λ kept. AreTogether kept.session) }
+    ensures published { IfOk result (λ kept. IfSome kept.session
+        (λ session. AreFound session.0 (publication_from kept.published))) }
     ensures none { IfErr result (λ e. e ≡ RecordFault.BadRows → (batches : List Batch)
         → map counts_of batches ≡ found.now.batches.items → (office : OfficeState)
         → TablesRepresentOffice (tables_of found.now batches) office
         → IsSound (tables_of found.now batches) office → IsOffice office → ⊥) }
 {
     if is_unloaded(found) {
-        return Ok(None);
+        return Ok(Kept {
+            session: None,
+            published: None,
+        });
     }
     let instance = session_of(alloc, &found.meta)?;
     check_owners(alloc, &instance, &found.owners)?;
     let enrolments = enrolments_of(alloc, &instance, &found.enrols)?;
     check_drafts(alloc, &instance, &enrolments, &found.drafts, &found.slots)?;
-    check_published(alloc, &instance, found)?;
+    let published = published_of(alloc, &instance, found)?;
     check_batches(&found.batches)?;
-    Ok(Some((instance, enrolments)))
+    Ok(Kept {
+        session: Some((instance, enrolments)),
+        published,
+    })
 }
 
 // Returns whether the tables are those before a load.

@@ -27,8 +27,8 @@ pub fn text_of(alloc: Global, instance: &Instance) -> Result<Vec<u8>, RecordFaul
     }
 }
 
-// Returns the session of this row, whether it has a publication or not. `BadRows`: it is the row of
-// none.
+// Returns the session of this row, whether it has a publication or not. `BadRows`: no session has
+// this row.
 pub(crate) fn session_of(alloc: Global, row: &MetaRow) -> Result<Instance, RecordFault>
     ensures is { IfOk result (IsSessionRow (meta_from row.now)) }
     ensures none { IfErr result (λ e. e ≡ RecordFault.BadRows

@@ -57,7 +57,7 @@ fn are_same(
     students == own_students && parts == own_parts
 }
 
-/// Returns the shares of a session's publication with these rows. `BadRows`: there are none.
+/// Returns the shares of a session's publication with these rows. `BadRows`: no shares have them.
 pub fn shares_of(
     alloc: Global,
     instance: &Instance,

@@ -9,8 +9,8 @@ use exam_model::{ExamNo, Instance, PeriodNo, Place, RoomNo, Timetable};
 use office_tables::SlotRow;
 use std::alloc::Global;
 
-/// Returns the timetable of a draft with these places, which are among those of others. `BadRows`:
-/// there is none.
+/// Returns the timetable of a draft from its rows among those of all drafts. `BadRows`: no
+/// timetable has these rows.
 pub fn timetable_of(
     alloc: Global,
     instance: &Instance,

@@ -9,6 +9,7 @@ use Rattle.office_tables.specs.Tables.{Batch}
 use Rattle.office_tables.specs.declared.found.Found.{Found}
 use Rattle.office_records.specs.Found.{AreDrafts, AreEnrolRows, AreOwners, IsUnloaded}
 use Rattle.office_records.specs.FoundBatches.{AreBatchRows}
+use Rattle.office_records.specs.FoundPublications.{publication_from}
 use Rattle.office_model.specs.Office.{OfficeState, Records, AreRecords, IsOffice}
 use Rattle.office_records.specs.Representation.{IsSound, TablesRepresentOffice, TablesRepresentRecords}
 use Rattle.office_records.specs.declared.fault.RecordFault.{RecordFault}
@@ -86,13 +87,13 @@ returns-in_err-check_drafts-clause-none c =
     (subst (λ rows. AreDrafts I E found.drafts.items rows r.draft) (sym c.deref-4.ensures.value)
     (draft_rows found batches r stands sound is I c.in_ok-instance.ensures.is E enrolled))))
 
-pub returns-in_err-check_published-clause-none : goal.returns-in_err-check_published-clause-none
-returns-in_err-check_published-clause-none c =
+pub returns-in_err-published-clause-none : goal.returns-in_err-published-clause-none
+returns-in_err-published-clause-none c =
     let found = c.args.found.now in
-    let none = c.in_err-check_published.ensures.none in
-    refused found c.is_unloaded.result c.in_err-check_published.field-0.0
-    c.from_residual-in_err-check_published.result c.is_unloaded.ensures c.if-is_unloaded.false
-    c.from_residual-in_err-check_published.ensures.1
+    let none = c.in_err-published.ensures.none in
+    refused found c.is_unloaded.result c.in_err-published.field-0.0
+    c.from_residual-in_err-published.result c.is_unloaded.ensures c.if-is_unloaded.false
+    c.from_residual-in_err-published.ensures.1
     (λ bad batches same r stands sound is. none bad r.published
     (published_rows found batches r stands sound is c.in_ok-instance.instance
     c.in_ok-instance.ensures.is))
@@ -121,7 +122,7 @@ returns-clause-are c batches these =
     c.deref-4.ensures.value
     (subst (λ rows. (draft : ℕ → Option Placing) × AreDrafts I E rows c.deref-4.result.now draft)
     c.deref-3.ensures.value c.in_ok-check_drafts.ensures.are))
-    c.in_ok-check_published.ensures.are
+    (publication_from c.in_ok-published.published) c.in_ok-published.ensures.are
     (subst AreBatchRows c.deref-5.ensures.value c.in_ok-check_batches.ensures.are) these
 
 pub returns-clause-together : goal.returns-clause-together
