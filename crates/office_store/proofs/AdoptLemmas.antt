@@ -1,4 +1,4 @@
--- What a reader leaves that looks at all tables, and what their migration makes of them.
+-- What reading all tables leaves unchanged, and what the migration makes of the tables.
 use Rattle.std.proofs.Common.{◌≡◌, ◌≢◌, ◌⊎◌, inl, inr, false, List, [], ◌∷◌, map, length, IsTrue}
 use Rattle.std.proofs.Common.{ap, refl, sym, ◌∙◌, arith, subst}
 use Rattle.std.specs.Prelude.{All, AllPairs, IfErr, Result}
@@ -16,7 +16,7 @@ use Rattle.office_tables.specs.Adopting.{tables_of}
 use Rattle.office_tables.specs.Batch.{counts_of, batch_columns}
 use Rattle.office_tables.specs.Readers.{Keeps}
 use Rattle.office_tables.specs.Tables.{Batch, Tables}
-use Rattle.office_tables.specs.Standing.{Stands, StandsIn}
+use Rattle.office_tables.specs.TablesHeld.{HoldsTables, HoldsTablesIn}
 use Rattle.office_tables.specs.Versions.{schema_of}
 use Rattle.office_tables.specs.declared.found.Found.{Found}
 use Rattle.office_tables.specs.declared.version.Version.{Version}
@@ -56,14 +56,14 @@ unchanged_then a b c first second = (
 )
 
 module _ {S : Type 0} (g : Ghosts S) (old mid : Held S) where
-  -- tables that stood still do
+  -- the tables from before are still there
   pub held_still : (version : Version) (t : Tables)
       → (mid ≡ old) ⊎ IsUnchanged (state g old) (state g mid)
-      → StandsIn version (state g old).now t → StandsIn version (state g mid).now t
+      → HoldsTablesIn version (state g old).now t → HoldsTablesIn version (state g mid).now t
   held_still version t (inl same) held =
-      subst (λ h. StandsIn version (state g h).now t) (sym same) held
+      subst (λ h. HoldsTablesIn version (state g h).now t) (sym same) held
   held_still version t (inr still) held =
-      subst (λ db. StandsIn version db t) (sym still.0.now_is) held
+      subst (λ db. HoldsTablesIn version db t) (sym still.0.now_is) held
 
   -- what changes nothing keeps all
   pub kept_by : (mid ≡ old) ⊎ IsUnchanged (state g old) (state g mid)
@@ -91,7 +91,7 @@ module _ {S : Type 0} (g : Ghosts S) (old mid : Held S) where
     same_then (inr first) second =
         inr (unchanged_then (state g old) (state g mid) (state g new) first second)
 
-    -- what one leaves, and then another
+    -- what one reader leaves, and then another
     pub both_same : (mid ≡ old) ⊎ IsUnchanged (state g old) (state g mid)
         → (new ≡ mid) ⊎ IsUnchanged (state g mid) (state g new)
         → (new ≡ old) ⊎ IsUnchanged (state g old) (state g new)
@@ -120,7 +120,7 @@ differ is =
     = ap (λ (s : Schema). length s.tables) is in
     omega (long, arith)
 
--- a database has one version
+-- a database has only one version
 pub one_version : (db : Database) (v w : Version) → db.schema ≡ schema_of v
     → db.schema ≡ schema_of w → v ≡ w
 one_version db One One a b = refl
@@ -130,7 +130,7 @@ one_version db Two One a b = absurd (differ (sym b ∙ a))
 
 -- ---- an office that is found
 
--- numbers of which none comes twice, two by two
+-- ascending numbers are different, two by two
 two_by_two : {X : Type 0} (R : X → X → Type 0) (xs : List X) → IsAscending R xs → AllPairs R xs
 two_by_two R [] up = λ i j d before within. absurd (omega (arith, within))
 two_by_two R (x ∷ xs) up =
@@ -138,7 +138,7 @@ two_by_two R (x ∷ xs) up =
 
 module _ (db : Database) (found : Found) (batches : List Batch)
     (rows : map counts_of batches ≡ found.batches.items)
-    (held : StandsIn found.version db (tables_of found batches)) where
+    (held : HoldsTablesIn found.version db (tables_of found batches)) where
   pub found_batches : All IsShort batches → AreFoundBatches found.batches.items batches
   found_batches short = record {
     rows = rows;
@@ -148,7 +148,7 @@ module _ (db : Database) (found : Found) (batches : List Batch)
     short = short;
   }
 
-  -- what stands for an office is among the tables that were found
+  -- the tables that were found represent each office that the database represents
   module _ (o : OfficeState) (there : HoldsOffice db o) where
     kept : RepresentsOfficeIn found.version db o
     kept = subst (λ version. RepresentsOfficeIn version db o)
@@ -159,8 +159,8 @@ module _ (db : Database) (found : Found) (batches : List Batch)
         same_stands_in found.version db kept.held (tables_of found batches) kept.tables held o
         kept.stands
 
-    -- where those tables are in version 2, they represent it
-    pub kept_after : (new : Database) → Stands new (tables_of found batches)
+    -- tables of version 2 with the same rows represent this office
+    pub kept_after : (new : Database) → HoldsTables new (tables_of found batches)
         → RepresentsOffice new o
     kept_after new stands = record {
       held = tables_of found batches;
@@ -175,12 +175,12 @@ module _ (db : Database) (found : Found) (batches : List Batch)
     pub none_long : All IsShort batches
     none_long = stored_short (tables_of found batches) o same_office kept.office
 
-    -- no night has a weight in it if the tables are of version 1
+    -- tables of version 1 have no weight for exams over night
     weighs : WeighsNoNight found.version (memory_of o)
     weighs = subst (λ version. WeighsNoNight version (memory_of o))
         (one_version db there.0 found.version there.1.tables.schema held.schema) there.2
 
-    -- nor in what is kept in memory of the tables that were found
+    -- nor has the memory of the tables that were found
     pub none_weighed : (memory : Memory) → (AreFoundBatches found.batches.items batches
         → (office : OfficeState) × TablesRepresentOffice (tables_of found batches) office
         × IsSound (tables_of found batches) office × IsOffice office
@@ -206,7 +206,7 @@ module _ (db : Database) (found : Found) (batches : List Batch)
         kept.sound)
         kept.office
 
--- what was read had been committed
+-- all was committed before the reading
 pub undone_reading : (a b : State) → (IsTrue a.is_open → a.now ≡ a.committed) → Keeps a b
     → Undone a b
 undone_reading a b settled keeps = record {
@@ -218,7 +218,7 @@ undone_reading a b settled keeps = record {
   committed = keeps.committed;
 }
 
--- what failed afterwards leaves what was committed
+-- a later failure leaves what was committed
 pub undone_after : {S : Type 0} (g : Ghosts S) (old mid new : Held S)
     → (mid ≡ old) ⊎ IsUnchanged (state g old) (state g mid) → Undone (state g mid) (state g new)
     → Undone (state g old) (state g new)
@@ -232,7 +232,7 @@ undone_after g old mid new (inr still) undone = record {
 
 -- an office that was found is represented by its tables in version 2
 pub taken_over : (old new : Database) (found : Found) (memory : OfficeMemory)
-    (is : IsFoundOffice old found memory) → Stands new (tables_of found is.batches)
+    (is : IsFoundOffice old found memory) → HoldsTables new (tables_of found is.batches)
     → DatabaseUpgraded old new
 taken_over old new found memory is stands = record {
   office = is.office;
@@ -250,8 +250,8 @@ module _ {S : Type 0} (g : Ghosts S) (old mid new : Held S) (found : Found) (mem
     (same : HasCleanDisk (state g mid) → (mid ≡ old) ⊎ IsUnchanged (state g old) (state g mid))
     (is : HasCleanDisk (state g mid) → IsFoundOffice (state g old).now found memory) where
   migrated : HasCleanDisk (state g new) → (trees : Trees) → found.version ≡ One
-      → ((batches : List Batch) → StandsIn found.version (state g mid).now (tables_of found batches)
-      → Stands (found_in trees) (tables_of found batches))
+      → ((batches : List Batch) → HoldsTablesIn found.version (state g mid).now (tables_of found batches)
+      → HoldsTables (found_in trees) (tables_of found batches))
       → MayMigrate (state g old) result trees
   migrated clean_new trees before stands =
       let clean_mid = clean clean_new in
@@ -267,26 +267,26 @@ module _ {S : Type 0} (g : Ghosts S) (old mid new : Held S) (found : Found) (mem
 
   pub may_migrate : Survives (state g old) (state g mid) (λ _. ⊥)
       → Survives (state g mid) (state g new) (λ trees. (found.version ≡ One)
-      × ((batches : List Batch) → StandsIn found.version (state g mid).now (tables_of found batches)
-      → Stands (found_in trees) (tables_of found batches)))
+      × ((batches : List Batch) → HoldsTablesIn found.version (state g mid).now (tables_of found batches)
+      → HoldsTables (found_in trees) (tables_of found batches)))
       → Survives (state g old) (state g new) (MayMigrate (state g old) result)
   may_migrate read brought =
       survives_then (state g old) (state g mid) (state g new) (λ _. ⊥) _
       (MayMigrate (state g old) result) (λ _ trees none. absurd none)
       (λ clean_new trees made. migrated clean_new trees made.0 made.1) read brought
 
--- ---- a database that was at rest
+-- ---- a database without an open transaction
 
 module _ {S : Type 0} (g : Ghosts S) (old new : Held S)
     (same : (new ≡ old) ⊎ IsUnchanged (state g old) (state g new)) where
-  -- what was open is
+  -- an open database is still open
   pub open_still : IsTrue (state g old).is_open → IsTrue (state g new).is_open
   open_still opened = elim same [
     | inl is ↦ subst (λ h. IsTrue (state g h).is_open) (sym is) opened
     | inr still ↦ still.0.is_open
   ]
 
-  -- and all that was written is committed
+  -- and all is committed
   pub awake_still : (IsTrue (state g old).is_open → (state g old).now ≡ (state g old).committed)
       → IsTrue (state g new).is_open → IsCommitted (state g new)
   awake_still settled opened = elim same [

@@ -1,11 +1,10 @@
 -- The drafts of an office that is found.
-use Rattle.std.proofs.Common.{◌≡◌, ℕ, List, Option, Some, None, refl, sym, ◌∙◌, ap, subst}
+use Rattle.std.proofs.Common.{◌≡◌, ℕ, List, Option, Some, None, sym, subst}
 use Rattle.std.specs.Prelude.{IfSome}
-use Rattle.exam_model.specs.Enrolments.{Enrolled}
-use Rattle.exam_model.specs.Instance.{Session}
 use Rattle.office_tables.specs.Tables.{Tables}
 use Rattle.office_model.specs.Office.{AreRecords, IsOffice, OfficeState, Records}
 use Rattle.office_records.specs.Found.{AreDrafts}
+use Rattle.office_records.specs.FoundPublications.{AreFound, publication_from}
 use Rattle.office_records.specs.Memory.{AreTogether, Memory, memory_of}
 use Rattle.office_records.specs.Representation.{IsSound, TablesRepresentOffice, TablesRepresentRecords}
 use Rattle.office_store.specs.Memory.{AreNoDrafts, AreSuited, IsDraftOf, IsTogether, draft_at, scored_draft}
@@ -23,7 +22,7 @@ drafts_stored t r stands is sound = record {
   scored = sound.scored;
 }
 
--- what is made of its rows are its drafts
+-- the drafts that are made of an office's rows are its drafts
 pub found_drafts : (t : Tables) (o : OfficeState) → TablesRepresentOffice t o → IsSound t o
     → IsOffice o
     → (kept : Memory) → memory_of o ≡ kept → (drafts : List (Option Draft))
@@ -47,9 +46,12 @@ drafts_stand t (Some r) stands sound is kept memory none loaded =
     r.enrolments r.draft is.session is.enrolled.set (drafts_stored t r stands is sound)
 
 pub found_together : (n : OfficeMemory) → AreTogether n.kept
-    → IfSome n.kept (λ k. AreSuited k.0 n.drafts) → IsTogether n
-found_together n exams suited = record {
+    → IfSome n.kept (λ k. AreSuited k.0 n.drafts)
+    → IfSome n.kept (λ k. AreFound k.0 (publication_from n.published)) → IsTogether n
+found_together n exams suited found = record {
   exams = exams;
   drafts = λ I E kept.
       subst (λ (k : Memory). IfSome k (λ k. AreSuited k.0 n.drafts)) kept suited;
+  published = λ I E kept.
+      subst (λ (k : Memory). IfSome k (λ k. AreFound k.0 (publication_from n.published))) kept found;
 }

@@ -1,5 +1,5 @@
 -- A batch that is accepted.
-use Rattle.std.proofs.Common.{◌≡◌, ◌≢◌, ◌≤◌, ◌+◌, ◌<◌, ℕ, suc, true, false, List, [], ◌∷◌, map, reverse, length}
+use Rattle.std.proofs.Common.{◌≡◌, ◌≢◌, ◌≤◌, ◌+◌, ◌<◌, ℕ, true, false, List, [], ◌∷◌, map, reverse, length}
 use Rattle.std.proofs.Common.{filter, not, if◌then◌else◌, Some, None, Result, Ok, Err, refl, sym, ◌∙◌, ap, subst, arith}
 use Rattle.std.specs.Prelude.{◌==◌, ◌&&◌, IfSome, nat_lt}
 use Rattle.std.proofs.lemmas.Bool.Decides.{nat_tests}
@@ -16,7 +16,7 @@ use Rattle.office_tables.specs.Draft.{no_drafts, with_draft}
 use Rattle.office_tables.specs.Batch.{with_batch}
 use Rattle.office_tables.specs.Enrol.{with_enrol, without_enrol}
 use Rattle.office_tables.specs.Tables.{Batch, Tables}
-use Rattle.office_tables.specs.Standing.{Stands}
+use Rattle.office_tables.specs.TablesHeld.{HoldsTables}
 use Rattle.office_tables.specs.declared.draft.InsertDraft.{InsertDraft}
 use Rattle.office_tables.specs.declared.draft.DraftRow.{DraftRow}
 use Rattle.office_tables.specs.declared.enrol.EnrolRow.{EnrolRow}
@@ -28,7 +28,7 @@ use Rattle.office_enrolment.proofs.KeptLemmas.{Ascend, they_ascend}
 use Rattle.office_enrolment.proofs.LineLemmas.{accepted, all_after, line_again, line_ascends}
 use Rattle.office_enrolment.proofs.OfficeLemmas.{as_office}
 use Rattle.office_model.specs.BatchLines.{acts, after_change, after_changes, no_counts}
-use Rattle.office_model.specs.Batches.{batch_enrolled, kept_in, batch_numbered, newly_enrolled}
+use Rattle.office_model.specs.Batches.{batch_enrolled, batch_of_number, batch_numbered, newly_enrolled}
 use Rattle.office_model.specs.Office.{AreRecords, IsOffice, OfficeState, Records}
 use Rattle.office_model.specs.declared.counts.Counts.{Counts}
 use Rattle.office_model.specs.declared.fault.StoreFault.{StoreFault}
@@ -40,13 +40,14 @@ use Rattle.office_records.specs.Representation.{RepresentsOffice, IsSound, Table
 use Rattle.office_records.specs.TableRows.{enrol_row, stored_batch}
 use Rattle.office_records.proofs.BatchPutLemmas.{batch_sound, batch_stands, drafts_moved}
 use Rattle.office_store.specs.NewBatches.{AreDraftsWith, Enrols, IsNewFor, drafts_after, line_put, new_batch_put}
-use Rattle.office_store.specs.Memory.{AreRescored, IsMemoryOf, IsRenewed}
+use Rattle.office_store.specs.Memory.{AreRescored, AreScored, IsMemoryOf, IsRenewed}
 use Rattle.office_store.specs.Running.{IsFault}
 use Rattle.office_store.specs.declared.memory.OfficeMemory.{OfficeMemory}
 use Rattle.office_store.specs.declared.new_batch.NewBatch.{NewBatch}
 use Rattle.office_store.specs.declared.new_batch.PutLine.{PutLine}
 use Rattle.office_store.proofs.AllDraftLemmas.{drafts_stored}
 use Rattle.office_store.proofs.CommandLemmas.{Denies, Moves, Remembers}
+use Rattle.office_store.proofs.NewBatchLemmas.{memory_scored}
 use Rattle.office_store.proofs.RememberingLemmas.{after_lines, next_is}
 use Rattle.office_store.proofs.RunLemmas.{kept_of}
 
@@ -76,7 +77,7 @@ lines_made (it ∷ rest) t =
     ap (after_all (λ (it : PutLine). line_put it.change) rest) (line_is it.change t)
     ∙ lines_made rest (record t { enrol = after_row enrol_rows it.change t.enrol })
 
--- and the drafts and the batch
+-- the lines, the drafts and the batch
 all_made : (lines : List PutLine) (drafts : List InsertDraft) (row : Batch) (t : Tables)
     → with_batch row (after_all (λ (it : InsertDraft). with_draft it.row) drafts
     (no_drafts (after_all (λ (it : PutLine). line_put it.change) lines t)))
@@ -89,7 +90,7 @@ all_made lines drafts row t =
     ∙ ap (λ (l : List DraftRow).
     batch_put (map (λ (it : PutLine). it.change) lines) l row t) (append-nil _)
 
--- what is made of lists that are these is made of a new batch
+-- writes with the same lists are those of the new batch
 pub batch_made : (number : ℕ) (bytes : List ℕ) (new : NewBatch) (lines : List PutLine)
     (drafts : List InsertDraft) → lines ≡ new.lines.items → drafts ≡ new.drafts.items
     → new.lines.items ≢ [] → (t : Tables)
@@ -113,7 +114,7 @@ batch_made number bytes new lines drafts a b some t =
     all_anew [] anew old some = absurd (some refl)
     all_anew (it ∷ its) anew old some = refl
 
--- where no line acts, the batch alone is put in
+-- if no line acts, only the batch is written
 pub idle_made : (number : ℕ) (bytes : List ℕ) (new : NewBatch) → new.lines.items ≡ []
     → (t : Tables)
     → with_batch (stored_batch (record { no = number; bytes = bytes; counts = new.counts })) t
@@ -123,7 +124,7 @@ idle_made number bytes new none t =
     (drafts_after its (map (λ (it : InsertDraft). it.row) new.drafts.items) t.draft)
     (stored_batch (record { no = number; bytes = bytes; counts = new.counts })) t) none)
 
--- what a line puts in
+-- what a line writes
 pub line_comes : (change : Change) (row : EnrolRow) → change.add ≡ true
     → row ≡ enrol_row (pair_of change) → (t : Tables) → with_enrol row t ≡ line_put change t
 line_comes change row add is t =
@@ -138,7 +139,7 @@ line_goes change s e drop who what t =
     ∙ sym (ap (λ b. if b then with_enrol (enrol_row (pair_of change)) t
     else without_enrol change.student change.exam t) drop)
 
--- ---- where no line acts
+-- ---- no line acts
 
 -- the enrolments stay
 idle_lines : (changes : List Change) (E : Enrolled) → Ascend E → acting changes E ≡ []
@@ -160,7 +161,7 @@ idle_batch changes E done is judged none =
     all_after changes E no_counts done (accepted changes E done judged).1
     ∙ idle_lines changes E (they_ascend E is) none
 
--- the drafts after the lines are those of the office: anew, or as they stand
+-- the drafts after the lines are those of the office, rescored or as they were
 left_drafts : (r : Records) (t : Tables) (changes : List Change) (done : Counts × Enrolled)
     → AreRecords r → TablesRepresentRecords t r → IsSound t (Some r)
     → after_batch changes r.enrolments ≡ Ok done → (its : List PutLine) (anew : List DraftRow)
@@ -181,7 +182,7 @@ left_drafts r t changes done is stands sound judged (it ∷ its) anew lines scor
           (IsPermutation-reverse anew) again.are;
     }
 
--- ---- what the command gives
+-- ---- what the command returns
 
 module _ (number : ℕ) (bytes : List ℕ) (changes : List Change)
     (spelled : batch_in bytes ≡ Ok changes) where
@@ -205,13 +206,13 @@ module _ (number : ℕ) (bytes : List ℕ) (changes : List Change)
   -- ---- the command, by what is in memory and the database that is read
 
   module _ (I : Session) (E : Enrolled) (a : Database) (m : OfficeMemory) where
-    -- what is put in is what the command puts in, whatever the records are that stand there
+    -- the writes are those of the command, whatever records the database represents
     abbrev pub Comes : Result NewBatch StoreFault → Type 0
     Comes result = (r : Records) → RepresentsOffice a (Some r) → memory_of (Some r) ≡ Some (I, E)
         → IsMemoryOf (Some r) m → Enrols changes r result
 
     module _ (at_hand : m.kept ≡ Some (I, E))
-        (is_new : (o : OfficeState) → RepresentsOffice a o → kept_in o number ≡ None) where
+        (is_new : (o : OfficeState) → RepresentsOffice a o → batch_of_number o number ≡ None) where
       pub enrol_denied : (e : StoreFault) → Comes (Err e)
           → Denies (batch_enrolled number bytes) e a m
       enrol_denied e comes o kept is =
@@ -253,8 +254,8 @@ module _ (number : ℕ) (bytes : List ℕ) (changes : List Change)
           again = left_drafts r here.held changes (done r) here.office here.stands here.sound
               made.after new.lines.items rows made.lines made.drafts
 
-          enrolled_kept : ((t : Tables) → Stands a t
-              → Stands b (new_batch_put number bytes new t))
+          enrolled_kept : ((t : Tables) → HoldsTables a t
+              → HoldsTables b (new_batch_put number bytes new t))
               → RepresentsOffice b (Some (keeping.records_with_batch number bytes r (done r)))
           enrolled_kept makes = record {
             held = new_batch_put number bytes new here.held;
@@ -276,7 +277,7 @@ module _ (number : ℕ) (bytes : List ℕ) (changes : List Change)
           }
 
         pub enrol_moves : Comes (Ok new)
-            → ((t : Tables) → Stands a t → Stands b (new_batch_put number bytes new t))
+            → ((t : Tables) → HoldsTables a t → HoldsTables b (new_batch_put number bytes new t))
             → Moves (batch_enrolled number bytes) new.counts a b m
         enrol_moves comes makes o kept is =
             let of = kept_of o I E (is.session ∙ at_hand) in
@@ -291,19 +292,21 @@ module _ (number : ℕ) (bytes : List ℕ) (changes : List Change)
             )
 
         pub enrol_remembers : Comes (Ok new) → (n : OfficeMemory) → n.batches ≡ m.batches + 1
-            → IsRenewed I E new.enrolments new.rescored m n
-            → IfSome new.enrolments (λ F. AreRescored I F m.drafts new.rescored)
+            → n.published ≡ m.published → IsRenewed I E new.enrolments new.rescored m n
+            → (AreScored I E m.drafts
+            → IfSome new.enrolments (λ F. AreRescored I F m.drafts new.rescored))
             → Remembers (batch_enrolled number bytes) new.counts a m n
-        enrol_remembers comes n batches renewed rescored o kept is next is_next =
+        enrol_remembers comes n batches published renewed rescored o kept is next is_next =
             let of = kept_of o I E (is.session ∙ at_hand) in
             let r = of.records in
             let s = keeping.records_with_batch number bytes r (done r) in
             let here = subst (RepresentsOffice a) of.is kept in
             let memory = subst (λ o. IsMemoryOf o m) of.is is in
-            let made = comes r here
-            (subst (λ o. memory_of o ≡ Some (I, E)) of.is (is.session ∙ at_hand)) memory in
+            let kept_too = subst (λ o. memory_of o ≡ Some (I, E)) of.is (is.session ∙ at_hand) in
+            let made = comes r here kept_too memory in
             let more : length s.batches ≡ length r.batches + 1 = omega arith in
             subst (λ o. IsMemoryOf o n)
             (next_is (ap (batch_enrolled number bytes) (sym of.is) ∙ is_next) (gives r here made))
-            (after_lines r s m n I E at_hand new.rescored memory refl refl more batches
-            new.enrolments refl renewed rescored)
+            (after_lines r s m n I E at_hand new.rescored memory refl refl more batches refl
+            published
+            new.enrolments refl renewed (rescored (memory_scored r m I E memory kept_too)))

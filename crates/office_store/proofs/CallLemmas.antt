@@ -1,5 +1,5 @@
--- What a command on a draft gives, by whether there is one.
-use Rattle.std.proofs.Common.{◌≡◌, ◌⊎◌, ◌≤◌, inl, inr, ℕ, Bool, true, false, not, List, [], ◌∷◌, map, Option, Some, None, option_map, Result, Ok, Err, refl, sym, subst, ap, ◌∙◌, arith}
+-- What a command on a draft returns, by whether the draft exists.
+use Rattle.std.proofs.Common.{◌≡◌, ◌⊎◌, ◌≤◌, inl, inr, ℕ, Bool, true, false, List, [], ◌∷◌, map, Option, Some, None, option_map, Result, Ok, Err, refl, sym, subst, ap, ◌∙◌, arith}
 use Rattle.std.specs.Prelude.{is_some}
 use Rattle.std.proofs.lemmas.Bool.Decides.{nat_tests}
 use Rattle.sqlite.specs.Effect.{Database}
@@ -14,7 +14,7 @@ use Rattle.office_tables.specs.Alterations.{after_all}
 use Rattle.office_tables.specs.Draft.{with_draft}
 use Rattle.office_tables.specs.Slot.{with_slot}
 use Rattle.office_tables.specs.Tables.{Tables}
-use Rattle.office_tables.specs.Standing.{Stands}
+use Rattle.office_tables.specs.TablesHeld.{HoldsTables}
 use Rattle.office_tables.specs.declared.draft.DraftRow.{DraftRow}
 use Rattle.office_tables.specs.declared.slot.SlotRow.{SlotRow}
 use Rattle.office_tables.specs.declared.slot.InsertSlot.{InsertSlot}
@@ -39,7 +39,7 @@ use Rattle.office_store.proofs.RunLemmas.{IsKeptOf, kept_of}
 
 -- ---- what is in memory
 
--- the records, where something is in memory
+-- the records, if something is in memory
 pub record HasRecords (o : OfficeState) : Type 0 where
   pub records : Records
   pub is : o ≡ Some records
@@ -50,12 +50,12 @@ has_records None m e some =
     absurd (let is : is_some m.kept ≡ false = ap is_some (sym e.session) in cc)
 has_records (Some r) m e some = record { records = r; is = refl }
 
--- where nothing is there
+-- nothing is there
 nothing : {X : Type 0} (o : Option X) → is_some o ≡ false → o ≡ None
 nothing None e = refl
 nothing (Some x) e = absurd cc
 
--- ---- what is asked for is there, or not
+-- ---- what a command needs is there, or not
 
 pub goes_on : {A B F : Type 0} (f : F) (o : Option A) (x : Result B F) → is_some o ≡ true
     → (else_err f o >>= λ _. x) ≡ x
@@ -67,7 +67,7 @@ pub refused : {A B F : Type 0} (f : F) (o : Option A) (k : A → Result B F) →
 refused f None k h = refl
 refused f (Some y) k h = absurd cc
 
--- ---- a draft is dropped
+-- ---- a draft is deleted
 
 pub dropped_none : (r : Records) (d : ℕ) → is_some (r.draft d) ≡ false
     → draft_dropped d (Some r) ≡ Err NoDraft
@@ -97,7 +97,7 @@ module _ (r : Records) (d : ℕ) (bytes : List ℕ) where
       ≡ Ok (live_penalty r T, Some (record r { draft = set_at d (Some T) r.draft }))
   made in_range free T first = rw (sym in_range, free, first) refl
 
--- a text is refused for a fault of the file
+-- a text is refused only for a fault of the file
 first_fault : (bytes : List ℕ) (I : Session) (e : StoreFault) → first_timetable bytes I ≡ Err e
     → (f : FileFault) × (e ≡ Refused (File f))
 first_fault [] I e h = absurd cc
@@ -108,7 +108,7 @@ first_fault (b ∷ bytes) I e h = go (solution_in I (b ∷ bytes)) h
     go (Ok T) h = absurd cc
     go (Err f) h = (f, cc)
 
--- its own refusal, or out of memory
+-- the command's own refusal, or out of memory
 pub made_fault : (gives : CommandResult ℕ) (bytes : List ℕ) (I : Session) (e : StoreFault)
     → (first_timetable bytes I ≡ Err e → gives ≡ Err e)
     → (e ≡ Store) ⊎ (first_timetable bytes I ≡ Err e) → IsFault gives e
@@ -120,7 +120,7 @@ made_fault gives bytes I e refuses (inr is) =
 in_range : (d : ℕ) → true ≡ is_draft_number d → (1 ≤ d) × (d ≤ 8)
 in_range d e = (grind (arith, nat_tests, e), grind (arith, nat_tests, e))
 
--- it begins so in the office of which this is in memory
+-- the draft begins so in the office with this memory
 pub begins_in : (o : OfficeState) (I : Session) (E : Enrolled) (of : IsKeptOf o I E) (d : ℕ)
     (bytes : List ℕ) (begun : Draft) (slots rows : List SlotRow) → rows ≡ slots
     → Begins d bytes I E begun slots
@@ -130,12 +130,12 @@ begins_in o I E of d bytes begun slots rows same begins =
     (subst (λ E. Begins d bytes I E begun rows) (sym of.enrolments)
     (subst (Begins d bytes I E begun) (sym same) begins))
 
--- what stands then, and what is answered
+-- the office after the command, and the result
 pub begun_kept : (a b : Database) (r : Records) (d : ℕ) (bytes : List ℕ) (begun : Draft)
     (row : DraftRow) (slots : List SlotRow)
     (begins : Begins d bytes r.session r.enrolments begun slots) → row.no ≡ d
     → parts_of row ≡ begun.parts → true ≡ is_draft_number d → is_some (r.draft d) ≡ false
-    → RepresentsOffice a (Some r) → ((t : Tables) → Stands a t → Stands b (draft_put row slots t))
+    → RepresentsOffice a (Some r) → ((t : Tables) → HoldsTables a t → HoldsTables b (draft_put row slots t))
     → RepresentsOffice b (Some (record r { draft = set_at d (Some begun.timetable) r.draft }))
 begun_kept a b r d bytes begun row slots begins number parts numbered free kept makes =
     let within = in_range d numbered in
@@ -159,7 +159,7 @@ mapped f None = refl
 mapped f (Some x) = refl
 
 module _ (d : ℕ) (a : Database) (m : OfficeMemory) where
-  -- whether a draft is there, by what is in memory
+  -- whether a draft exists, by what is in memory
   there : (b : Bool) → b ≡ is_some (draft_at m.drafts d) → (o : OfficeState) → IsMemoryOf o m
       → (r : Records) → o ≡ Some r → is_some (r.draft d) ≡ b
   there b tells o is r same =
@@ -176,7 +176,7 @@ module _ (d : ℕ) (a : Database) (m : OfficeMemory) where
       ∙ dropped_none of.records d (there false empty o is of.records of.is)
 
   pub drop_moves : (b : Database) → is_some m.kept ≡ true → true ≡ is_some (draft_at m.drafts d)
-      → ((t : Tables) → Stands a t → Stands b (draft_removed d t))
+      → ((t : Tables) → HoldsTables a t → HoldsTables b (draft_removed d t))
       → Moves (draft_dropped d) tt a b m
   drop_moves b loaded some makes o kept is =
       let of = has_records o m is loaded in (
@@ -235,12 +235,12 @@ module _ (d : ℕ) (a : Database) (m : OfficeMemory) where
               begins_in o I E of d text begun (put_rows slots) (put_rows placed) (ap put_rows same) begins
 
           pub made_moves : (b : Database) (row : DraftRow) → row.no ≡ d → parts_of row ≡ begun.parts
-              → ((t : Tables) → Stands a t → Stands b
+              → ((t : Tables) → HoldsTables a t → HoldsTables b
               (after_all (λ (it : InsertSlot). with_slot it.row) placed (with_draft row t)))
               → Moves (draft_made d text) total a b m
           made_moves b row number parts comes o kept is =
-              let makes : (t : Tables) → Stands a t → Stands b (draft_put row (put_rows placed) t)
-              = λ t h. subst (Stands b) (slots_put placed (with_draft row t)) (comes t h) in
+              let makes : (t : Tables) → HoldsTables a t → HoldsTables b (draft_put row (put_rows placed) t)
+              = λ t h. subst (HoldsTables b) (slots_put placed (with_draft row t)) (comes t h) in
               let of = kept_of o I E (is.session ∙ at_hand) in
               let free = there false empty o is of.records of.is in (
                 _,

@@ -1,5 +1,5 @@
--- Placements that changed are written in place of those that they differ from: all placements are
--- then the new ones.
+-- Changed placements are written in place of those that they differ from: all placements are then
+-- the new ones.
 use Rattle.std.proofs.Common.{◌≡◌, ℕ, ◌+◌, ◌<◌, ◌≤◌, zero, suc, ◌&&◌, Bool, true, false, cond, not, eqb, List, [], ◌∷◌, ◌++◌}
 use Rattle.std.proofs.Common.{filter, length, drop, get_or, Some, None, refl, sym, ◌∙◌, ap, ap₂, subst, arith, eqb-true}
 use Rattle.std.specs.Prelude.{◌||◌, IsPermutation, slice_get}
@@ -19,7 +19,7 @@ use Rattle.office_store.specs.ChangedPlacements.{placements_without}
 
 -- ---- row by row
 
--- the next placement has changed, or is where it was
+-- the next placement has changed, or is at the same index as before
 next_row : (rows others : List PlacedRow) (i : ℕ) (row d : PlacedRow) → i < length rows
     → row ≡ get_or rows i d
     → changed_rows (drop i rows) (drop i others)
@@ -42,7 +42,7 @@ next_row (r ∷ rows) [] (suc i) row d within is =
 next_row (r ∷ rows) (o ∷ others) (suc i) row d within is =
     next_row rows others i row d (omega (arith, within)) is
 
--- what is listed so far, with the next placement if it has changed
+-- the list so far, with the next placement if it has changed
 pub next_changed : (rows others changed : List PlacedRow) (i : ℕ) (d : PlacedRow)
     → i < length rows
     → changed ++ changed_rows (drop i rows) (drop i others) ≡ changed_rows rows others
@@ -113,7 +113,7 @@ no_more (row ∷ rows) (other ∷ others) n none =
     go false first more =
         both_false (eqb row.exam n) (has_number (exams_of (changed_rows rows others)) n) first more
 
--- an exam without a placement takes none away
+-- an exam without a placement deletes none
 none_less : (n : ℕ) (gone : List ℕ) (rows : List PlacedRow) → has_number (exams_of rows) n ≡ false
     → placements_without (n ∷ gone) rows ≡ placements_without gone rows
 none_less n gone [] none = refl
@@ -126,7 +126,7 @@ none_less n gone (row ∷ rows) none =
     here : (eqb n row.exam || has_number gone row.exam) ≡ has_number gone row.exam
     here = ap (λ b. b || has_number gone row.exam) (eqb_turned n row.exam ∙ parts.0)
 
--- a placement whose exam's placement goes
+-- a placement is deleted if its exam's placement is
 gone_first : (row : PlacedRow) (gone : List ℕ) (rows : List PlacedRow)
     → has_number (exams_of rows) row.exam ≡ false
     → placements_without (row.exam ∷ gone) (row ∷ rows) ≡ placements_without gone rows
@@ -152,7 +152,7 @@ stays_first row gone rows none =
 abbrev pub gone_of : List PlacedRow → List PlacedRow → List ℕ
 gone_of rows before = exams_of (changed_rows before rows)
 
--- what changed comes, and what it differs from goes
+-- the changed placements are inserted, and those that they differ from are deleted
 changed_put : (rows before : List PlacedRow) → AreOwnExams before
     → IsPermutation (changed_rows rows before ++ placements_without (gone_of rows before) before)
     rows
@@ -189,7 +189,7 @@ changed_put (r ∷ rows) (b ∷ before) own =
         (sym (gone_first b (exams_of go_away) before own.0))
         (IsPermutation-cons r _ _ more)
 
--- the same of stored placements in any order
+-- the same for stored placements in any order
 pub stored_put : (rows before stored : List PlacedRow) → AreOwnExams before
     → IsPermutation stored before
     → IsPermutation (changed_rows rows before ++ placements_without (gone_of rows before) stored)
@@ -207,7 +207,7 @@ stored_put rows before stored own are =
 abbrev at : ℕ → List PlacedRow → List PlacedRow
 at n rows = filter (λ row. eqb row.exam n) rows
 
--- each exam has one at most
+-- each exam has at most one placement
 abbrev IsSingle : List PlacedRow → Type 0
 IsSingle rows = (n : ℕ) → length (at n rows) ≤ 1
 

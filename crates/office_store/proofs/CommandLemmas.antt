@@ -1,4 +1,4 @@
--- A command of an office, by what it makes of whatever office stands there.
+-- A command of an office, by what it makes of any office that a database represents.
 use Rattle.std.proofs.Common.{◌≡◌, Ok, Err, Result, None, ap, sym, subst, ◌∙◌, IsTrue}
 use Rattle.sqlite.specs.Effect.{Database}
 use Rattle.sqlite.specs.Held.{Held, state}
@@ -18,39 +18,39 @@ use Rattle.office_store.proofs.ReadLemmas.{does_now}
 use Rattle.office_store.proofs.RunLemmas.{at_hand, nothing_kept, now_still}
 use Rattle.office_store.proofs.RunLemmas.{still_then, still_undone}
 
--- where an office stands and this is in memory of it, the command gives this, and leads to another
+-- for each represented office with this memory, the command returns this and leads to another
 abbrev pub Moves : {A : Type 0} → (OfficeState → CommandResult A) → A → Database → Database
     → OfficeMemory → Type 0
 Moves command x a b m = (o : OfficeState) → RepresentsOffice a o → IsMemoryOf o m
     → (new : OfficeState) × (command o ≡ Ok (x, new)) × RepresentsOffice b new
 
--- there it is refused so
+-- for each represented office with this memory, the command is refused with this fault
 abbrev pub Denies : {A : Type 0} → (OfficeState → CommandResult A) → StoreFault → Database
     → OfficeMemory
     → Type 0
 Denies command fault a m = (o : OfficeState) → RepresentsOffice a o → IsMemoryOf o m
     → IsFault (command o) fault
 
--- where this is in memory before the command, that is in memory of the office after it
+-- this memory of the office before the command becomes that memory of the office after it
 abbrev pub Remembers : {A : Type 0} → (OfficeState → CommandResult A) → A → Database → OfficeMemory
     → OfficeMemory → Type 0
 Remembers command x a m n = (o : OfficeState) → RepresentsOffice a o → IsMemoryOf o m
     → (new : OfficeState) → command o ≡ Ok (x, new) → IsMemoryOf new n
 
--- what is told of an office that stays is shown
+-- the right value of an office that stays is a right outcome
 pub shown : {A : Type 0} (says : A) (o : OfficeState) (Stays : OfficeState → Type 0)
     (result : Result A StoreFault) → ReturnsValue says result → Stays o
     → QueryOutcome says o Stays result
 shown says o Stays (Ok x) is here = (is, here)
 shown says o Stays (Err fault) is here = (is, here)
 
--- from the connection before a look at the file, by which nothing changes, to the one behind it,
--- which is at hand
+-- from the connection before a check of the file, which changes nothing, to the one after it, which
+-- the office has in memory
 module _ {S : Type 0} (g : Ghosts S) (before mid inside : Held S)
     (m : OfficeMemory) (view : inside ≡ mid) (rest : MatchesMemory (state g inside) m)
     (all_committed : HasCleanDisk (state g mid) → IsCommitted (state g mid))
     (still : HasCleanDisk (state g mid) → StateUnchanged (state g before) (state g mid)) where
-  -- the office that stood there does, and its session is in memory
+  -- the office from before the check is still represented, and its session is in memory
   there : HasCleanDisk (state g mid) → (o : OfficeState) → Represents (state g before) o
       → RepresentsOffice (state g mid).now o × IsMemoryOf o m
   there clean o now =
@@ -61,7 +61,7 @@ module _ {S : Type 0} (g : Ghosts S) (before mid inside : Held S)
             (all_committed clean).0 here,
       )
 
-  -- what is answered is what the office says
+  -- the result is the office's value
   pub tells : {A : Type 0} (says : OfficeState → A) (result : Result A StoreFault)
       → (HasCleanDisk (state g mid) → (o : OfficeState) → RepresentsOffice (state g mid).now o
       → IsMemoryOf o m → ReturnsValue (says o) result)
@@ -110,7 +110,7 @@ module _ {S A : Type 0} (g : Ghosts S) (command : OfficeState → CommandResult 
       there.1 in
       (moved.0, moved.1, λ _. moved.2)
 
--- what is awake is so inside
+-- what is committed is committed inside the office
 pub awake_inside : {S : Type 0} (g : Ghosts S) (start inside : Held S) → inside ≡ start
     → (HasCleanDisk (state g start) → IsCommitted (state g start))
     → HasCleanDisk (state g inside) → IsCommitted (state g inside)
@@ -118,7 +118,7 @@ awake_inside g start inside view all_committed clean =
     subst (λ h. IsCommitted (state g h)) (sym view)
     (all_committed (subst (λ h. HasCleanDisk (state g h)) view clean))
 
--- a command that is refused by what is read on from there
+-- a command that is refused after further reading
 pub refuses_on : {S A : Type 0} (g : Ghosts S) (command : OfficeState → CommandResult A)
     (start inside after : Held S) (m : OfficeMemory) → inside ≡ start
     → MatchesMemory (state g inside) m
@@ -137,14 +137,14 @@ refuses_on g command start inside after m view rest all_committed clean still fa
       now_still (state g inside) (state g after) o (still k) stood,
     )
 
--- the office that stood there does, where a look says that nothing has changed
+-- the office stays if a check of the file changed nothing
 pub stays_by : {S : Type 0} (g : Ghosts S) (before mid : Held S)
     → (HasCleanDisk (state g mid) → StateUnchanged (state g before) (state g mid))
     → HasCleanDisk (state g mid) → (o : OfficeState) → Represents (state g before) o
     → Represents (state g mid) o
 stays_by g before mid still clean o = now_still (state g before) (state g mid) o (still clean)
 
--- a refusal by what is read on from there has changed nothing either
+-- a refusal after further reading has changed nothing either
 pub stays_on : {S A : Type 0} (g : Ghosts S) (start inside after : Held S) → inside ≡ start
     → (HasCleanDisk (state g after) → StateUnchanged (state g inside) (state g after))
     → (result : Result A StoreFault) → StaysOnErr g start after result
@@ -152,7 +152,7 @@ stays_on g start inside after view still (Ok x) clean = tt
 stays_on g start inside after view still (Err fault) clean =
     subst (λ h. StateUnchanged (state g h) (state g after)) view (still clean)
 
--- nor has a transaction that failed behind the look
+-- a transaction that failed after the check has changed nothing either
 pub stays_undone : {S A : Type 0} (g : Ghosts S) (before mid inside after : Held S) → inside ≡ mid
     → (HasCleanDisk (state g mid) → StateUnchanged (state g before) (state g mid))
     → (HasCleanDisk (state g mid) → IsCommitted (state g mid))
@@ -166,7 +166,7 @@ stays_undone g before mid inside after view still all_committed clean undone (Er
     (still_undone (state g mid) (state g after) (λ _. (all_committed was).1)
     (subst (λ h. Undone (state g h) (state g after)) view (undone is_clean)))
 
--- a command that a look at the file precedes
+-- a command after a check of the file
 pub runs_then : {S A : Type 0} (g : Ghosts S) (command : OfficeState → CommandResult A)
     (before mid after : Held S) (result : Result A StoreFault)
     → (HasCleanDisk (state g mid) → StateUnchanged (state g before) (state g mid))
@@ -185,7 +185,7 @@ stays_then g before mid after (Err fault) still clean stays is_clean =
     still_then (state g before) (state g mid) (state g after) (still (clean is_clean))
     (stays is_clean)
 
--- and what is said of each office that stands there
+-- a fact about each represented office holds inside the office
 pub seen : {S : Type 0} (g : Ghosts S) (mid inside : Held S) → inside ≡ mid
     → (P : OfficeState → Type 0)
     → (HasCleanDisk (state g mid) → (o : OfficeState) → RepresentsOffice (state g mid).now o → P o)
@@ -195,7 +195,7 @@ seen g mid inside view P tells clean o kept =
     tells (subst (λ h. HasCleanDisk (state g h)) view clean) o
     (subst (λ h. RepresentsOffice (state g h).now o) view kept)
 
--- what is in memory afterwards is of the new office
+-- the memory afterwards is that of the new office
 pub rests : {A : Type 0} (command : OfficeState → CommandResult A) (a b : State)
     (m n : OfficeMemory)
     (x : A) → MatchesMemory a m → (HasCleanDisk b → HasCleanDisk a)
@@ -207,7 +207,7 @@ rests command a b m n x rest clean opened moves remembers is_clean _ =
     let moved = moves is_clean here.0 here.1 here.2 in
     (moved.0, moved.2, remembers is_clean here.0 here.1 here.2 moved.0 moved.1)
 
--- ---- where there is no session
+-- ---- there is no session
 
 pub not_loaded : {A : Type 0} (command : OfficeState → CommandResult A) (a : Database)
     (m : OfficeMemory)

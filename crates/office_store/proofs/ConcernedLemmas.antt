@@ -1,4 +1,4 @@
--- The pairs of the students who sit an exam of an edit, one student's after another's.
+-- The pairs of the students of an edited exam, one student after another.
 use Rattle.std.specs.List.{AllByRecursion, flat_map}
 use Rattle.std.proofs.Common.{◌≡◌, ℕ, ◌+◌, ◌<◌, ◌≤◌, inl, inr, Bool, true, false, true≢false, cond, ◌||◌, eqb, List, [], ◌∷◌, ◌++◌, length, take, filter, get_or, All, Some, IsPermutation, refl, sym, ◌∙◌, ap, ap₂, subst, arith, append_assoc, length-append, length-take}
 use Rattle.std.proofs.lemmas.Bool.Decides.{nat_tests}
@@ -19,7 +19,7 @@ use Rattle.office_store.specs.Folding.{pairs_of_students, students_of_exams}
 
 -- ---- tests on lists
 
--- what passes one of two tests that exclude each other
+-- the elements that pass one of two tests that exclude each other
 apart : {X : Type 0} (f g : X → Bool) (xs : List X) → ((x : X) → f x ≡ true → g x ≡ false)
     → IsPermutation (filter (λ x. f x || g x) xs) (filter f xs ++ filter g xs)
 apart f g [] other = IsPermutation-refl []
@@ -46,7 +46,7 @@ none_pass : {X : Type 0} (xs : List X) → filter (λ _. false) xs ≡ []
 none_pass [] = refl
 none_pass (x ∷ xs) = none_pass xs
 
--- a number below all of a list is not in it
+-- a number below all numbers of a list is not in it
 not_above : (c s : ℕ) (ss : List ℕ) → AllByRecursion (λ t. c < t) ss → eqb c s ≡ true
     → has_number ss s ≡ false
 not_above c s [] above is = refl
@@ -56,11 +56,11 @@ not_above c s (t ∷ ss) above is =
 
 -- ---- the pairs of students
 
--- the pairs of one student, among others
+-- the pairs of one student among others
 abbrev pub pairs_of_student : List Pair → ℕ → List Pair
 pairs_of_student pairs s = filter (λ p. eqb p.student s) pairs
 
--- in whatever order pairs are, those of some students are each student's
+-- whatever their order, the pairs of some students are the pairs of each student
 pub gathered : (pairs : List Pair) (ss : List ℕ) → IsChain (λ x y. x < y) ss
     → IsPermutation (filter (λ p. has_number ss p.student) pairs)
     (flat_map (pairs_of_student pairs) ss)
@@ -91,7 +91,7 @@ module _ (E : Enrolled) (known : AreEnrolments E)
       subst (IsPermutation (filter (λ p. has_number ss p.student) (pairs_of E))) (each_own ss)
       (gathered (pairs_of E) ss h)
 
-  -- no more than there are
+  -- they are no more than all pairs
   pub students_few : (ss : List ℕ) → IsAscending ss → length (pairs_of_students E ss) ≤ 200000
   students_few ss h =
       let moved = length_permutation _ _ (of_students ss (chain_from_ascending ss h)) in
@@ -107,7 +107,7 @@ module _ (E : Enrolled) (known : AreEnrolments E)
           elim (t x) as (λ b. length (cond b (x ∷ filter t xs) (filter t xs)) ≤ length (x ∷ xs))
           [ true ↦ omega arith | false ↦ omega arith ]
 
-  -- those who sit an edited exam
+  -- the students of an edited exam
   who_sits : (exams : List ℕ) (s : ℕ)
       → sits_among E exams s ≡ has_number (flat_map (students E) exams) s
   who_sits [] s = refl
@@ -125,7 +125,7 @@ module _ (E : Enrolled) (known : AreEnrolments E)
       (pairs_of E)))
       (of_students (students_of_exams E exams) (chain_from_ascending _ h))
 
--- ---- a student's exams are taken in
+-- ---- the fold takes a student's exams
 
 pub each_append : {X : Type 0} (P : X → Type 0) (xs ys : List X) → AllByRecursion P xs
     → AllByRecursion P ys → AllByRecursion P (xs ++ ys)
@@ -155,7 +155,7 @@ each_earlier exams i d lt up =
     taken k c within =
         get_or-take i exams k c within ∙ get_or_default exams k c 0 (omega (arith, within, lt))
 
--- the pairs so far, and those of the open student so far: an exam more can follow
+-- after the pairs so far and some of the current student's exams, the next exam can follow
 pub can_follow : (fold : Folded) (pairs : List Pair) (s : ℕ) (exams : List ℕ) (i d : ℕ)
     → i < length exams → IsAscending exams → All (λ p. p.student < s) pairs
     → RepresentsPairs fold (pairs ++ pairs_sat (Some s) (take i exams))
@@ -192,7 +192,7 @@ has_room fold pairs s exams i lt few h =
     pair_sat : ℕ → ℕ → Pair
     pair_sat s e = record { exam = e; student = s }
 
--- one more is taken in
+-- the fold takes one more
 pub one_more : (fold : Folded) (pairs : List Pair) (s : ℕ) (exams : List ℕ) (i d : ℕ)
     → i < length exams
     → RepresentsPairs fold ((pairs ++ pairs_sat (Some s) (take i exams))

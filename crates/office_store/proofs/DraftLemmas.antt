@@ -1,4 +1,4 @@
--- A draft that is put in, or taken out.
+-- A draft that is inserted or deleted.
 use Rattle.std.proofs.Common.{◌≡◌, ℕ, ◌+◌, ◌≤◌, Bool, true, false, cond, not, eqb, List, [], ◌∷◌, ◌++◌, map, filter, reverse, Option, Some, None, refl, sym, ◌∙◌, ap, subst, arith, length, take, get_or, ◌<◌}
 use Rattle.std.specs.Prelude.{IsPermutation, is_some}
 use Rattle.std.specs.List.{AllByRecursion}
@@ -13,7 +13,7 @@ use Rattle.exam_model.specs.Timetable.{Placing}
 use Rattle.exam_terms.specs.declared.place.Place.{Place}
 use Rattle.exam_score.specs.Track.{track}
 use Rattle.office_tables.specs.Tables.{Tables}
-use Rattle.office_tables.specs.Standing.{Stands}
+use Rattle.office_tables.specs.TablesHeld.{HoldsTables}
 use Rattle.office_tables.specs.declared.draft.DraftRow.{DraftRow}
 use Rattle.office_tables.specs.declared.slot.SlotRow.{SlotRow}
 use Rattle.office_store.specs.Changes.{draft_put, draft_removed}
@@ -27,7 +27,7 @@ use Rattle.office_records.proofs.MemoryLemmas.{same_one}
 
 -- ---- the rows of one draft
 
--- the places of a draft are of that draft
+-- the rows of a draft's places have its number
 pub slots_are : (d n k : ℕ) (b : Bool) → eqb d n ≡ b → (T : Placing)
     → slots_at n (slots_from d k T) ≡ cond b (slots_from d k T) []
 slots_are d n k true e [] = refl
@@ -50,7 +50,7 @@ map_none : {A B : Type 0} (f : A → B) (xs : List A) → map f xs ≡ [] → xs
 map_none f [] e = refl
 map_none f (x ∷ xs) e = absurd cc
 
--- what holds of each element that fails a test, where none passes
+-- each element that fails a test has a property, if no element passes
 none_pass : {X : Type 0} (p : X → Bool) (P Q : X → Type 0) → ((x : X) → P x → p x ≡ false → Q x)
     → (xs : List X) → filter p xs ≡ [] → AllByRecursion P xs → AllByRecursion Q xs
 none_pass p P Q h [] e a = tt
@@ -64,7 +64,7 @@ none_pass p P Q h (x ∷ xs) e a = go (p x) refl e (λ rest. none_pass p P Q h x
 pub some_is : {X : Type 0} (x y : X) → Some x ≡ Some y → x ≡ y
 some_is x y e = cc
 
--- ---- a draft is put in
+-- ---- a draft is inserted
 
 module _ (t : Tables) (r : Records) (d : ℕ) (T : Placing) (row : DraftRow) (slots : List SlotRow)
     (number_is : row.no ≡ d) (are : slots ≡ slots_from d 0 T) (h : TablesRepresentRecords t r)
@@ -90,7 +90,7 @@ module _ (t : Tables) (r : Records) (d : ℕ) (T : Placing) (row : DraftRow) (sl
       fails
       ∙ h.draft n
 
-  -- the slots of a draft, in any order, before those that were there
+  -- the slots of a draft, in any order, in front of the slots before
   made_rows : (n : ℕ) → IsPermutation (slots_at n (reverse slots ++ t.slot))
       (slots_at n (slots_from d 0 T) ++ slots_at n t.slot)
   made_rows n =
@@ -166,7 +166,7 @@ pub made_kept : (a b : Database) (r : Records) (d : ℕ) (T : Placing) (row : Dr
     (slots : List SlotRow) → row.no ≡ d → slots ≡ slots_from d 0 T
     → parts_of row ≡ track r.session r.enrolments T
     → r.draft d ≡ None → 1 ≤ d → d ≤ 8 → Fits r.session r.enrolments T → RepresentsOffice a (Some r)
-    → ((t : Tables) → Stands a t → Stands b (draft_put row slots t))
+    → ((t : Tables) → HoldsTables a t → HoldsTables b (draft_put row slots t))
     → RepresentsOffice b (Some (record r { draft = set_at d (Some T) r.draft }))
 made_kept a b r d T row slots number_is are scored free low high fits kept makes = record {
   held = draft_put row slots kept.held;
@@ -176,7 +176,7 @@ made_kept a b r d T row slots number_is are scored free low high fits kept makes
   office = made_records r d T low high fits kept.office;
 }
 
--- ---- a draft is taken out
+-- ---- a draft is deleted
 
 module _ (t : Tables) (r : Records) (d : ℕ) (h : TablesRepresentRecords t r) where
   left_draft : (n : ℕ) (b : Bool) → eqb n d ≡ b
@@ -225,7 +225,7 @@ left_sound t r d sound = record {
     other x k e S f = k S (sym (ap (λ b. cond b None (r.draft x.no)) e) ∙ f)
 
 pub left_kept : (a b : Database) (r : Records) (d : ℕ) → RepresentsOffice a (Some r)
-    → ((t : Tables) → Stands a t → Stands b (draft_removed d t))
+    → ((t : Tables) → HoldsTables a t → HoldsTables b (draft_removed d t))
     → RepresentsOffice b (Some (record r { draft = set_at d None r.draft }))
 left_kept a b r d kept makes = record {
   held = draft_removed d kept.held;
@@ -258,7 +258,7 @@ draft_read t (Some r) d rows stands p =
     (subst (λ l. IsPermutation l (map (λ (r : DraftRow). r.no) rows)) (stands.draft d)
     (IsPermutation-map (λ (r : DraftRow). r.no) _ _ p))
 
--- ---- the rows that are put in
+-- ---- the rows that are inserted
 
 slots-push : (d k : ℕ) (T : Placing) (o : Option Place)
     → slots_from d k (T ++ o ∷ []) ≡ slots_from d k T ++ slots_from d (k + length T) (o ∷ [])
@@ -278,7 +278,7 @@ slots_more d e T o lt is =
     (let l = length-take e T in omega arith)
     ∙ ap (λ x. slots_from d 0 (take e T) ++ slots_from d e (x ∷ [])) is
 
--- a row of a place's two numbers
+-- the row of a place's two numbers
 pub same_row : (d e : ℕ) (at : Place) (period room : ℕ) → period ≡ at.period → room ≡ at.room
     → slot_row d e (record { period = period; room = room }) ≡ slot_row d e at
 same_row d e at period room p r =

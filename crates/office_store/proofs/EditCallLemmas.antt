@@ -1,4 +1,4 @@
--- What an edit of a draft gives, and what is stored of it.
+-- What an edit of a draft returns, and what is stored of it.
 use Rattle.std.proofs.Common.{◌≡◌, ◌≤◌, ℕ, List, Option, Some, None, Result, Ok, Err, refl, sym, ◌∙◌, ap, subst, ◌⊎◌, inl, inr}
 use Rattle.std.proofs.Common.{map}
 use Rattle.std.specs.Prelude.{IsSome}
@@ -16,7 +16,7 @@ use Rattle.exam_draft.specs.declared.edit.Edit.{Edit}
 use Rattle.office_tables.specs.Alterations.{after_all}
 use Rattle.office_tables.specs.Draft.{with_draft, without_draft}
 use Rattle.office_tables.specs.Tables.{Tables}
-use Rattle.office_tables.specs.Standing.{Stands}
+use Rattle.office_tables.specs.TablesHeld.{HoldsTables}
 use Rattle.office_tables.specs.declared.altering.Both.{Both}
 use Rattle.office_tables.specs.declared.draft.DraftRow.{DraftRow}
 use Rattle.office_tables.specs.declared.slot.DeleteSlot.{DeleteSlot}
@@ -45,7 +45,7 @@ use Rattle.office_store.proofs.RememberingLemmas.{next_is, one_changed}
 use Rattle.office_store.proofs.RunLemmas.{nothing_kept}
 use Rattle.office_store.proofs.SlotLemmas.{all_moved, move_made}
 
--- ---- a draft that is there
+-- ---- a draft that exists
 
 -- a draft in memory of these records
 pub record IsThere (r : Records) (d : ℕ) (draft : Draft) : Type 0 where
@@ -71,7 +71,7 @@ there_of d r draft h = go (r.draft d) refl
             → scored_by r.session r.enrolments T ≡ draft
         here e = cc
 
--- where there is none
+-- there is no draft
 pub not_there : (d : ℕ) (change : Edit) (r : Records) → scored_draft d (Some r) ≡ None
     → draft_edited d change (Some r) ≡ Err NoDraft
 not_there d change r h = go (r.draft d) refl
@@ -80,7 +80,7 @@ not_there d change r h = go (r.draft d) refl
     go None is = rw is refl
     go (Some T) is = absurd (let some = rw is at h in cc)
 
--- ---- what the command gives
+-- ---- what the command returns
 
 pub edit_gives : (d : ℕ) (change : Edit) (r : Records) (T new : Placing) → r.draft d ≡ Some T
     → edited r.session r.enrolments T change ≡ Ok new
@@ -113,7 +113,7 @@ edit_refused d change r T e there (inr is) =
     own (Err f) BadSchema is gives = absurd cc
     own x e is gives = gives
 
--- ---- a draft that is judged
+-- ---- an edit that is legal
 
 module _ (r : Records) (I : Session) (E : Enrolled)
     (here : memory_of (Some r) ≡ Some (I, E)) where
@@ -129,7 +129,7 @@ module _ (r : Records) (I : Session) (E : Enrolled)
     scored = there.scored;
   }
 
-  -- it is refused
+  -- the edit is refused
   pub is_refused : (d : ℕ) (change : Edit) (draft : Draft) (e : StoreFault) → IsThere r d draft
       → (e ≡ Store) ⊎ (named (λ f. Refused (refusal.Edit f))
       (edited I E draft.timetable change) ≡ Err e)
@@ -139,7 +139,7 @@ module _ (r : Records) (I : Session) (E : Enrolled)
       (subst (λ (p : Session × Enrolled). IsRefusal (edited p.0 p.1 draft.timetable change) e)
       (sym both) refused)
 
-  -- an edit of these records is one of what is at hand
+  -- an edit of the memory is one of these records
   pub edit_at_hand : (d : ℕ) (change : Edit) (judged : Judged) → IsJudged d change r judged
       → judged.exams.items ≡ edited_exams change
       → IsEditedAt I E judged.draft.now.timetable (edited_exams change) judged.new → IsEditOf I E judged
@@ -163,21 +163,21 @@ module _ (r : Records) (I : Session) (E : Enrolled)
     scored = scored ∙ sym (ap (λ (p : Session × Enrolled). track p.0 p.1 judged.new) both);
   }
 
--- a failed statement, or memory that was refused, is no word on the draft
+-- a failed statement, or out of memory, is not a refusal of the draft
 pub only_failed : (d : ℕ) (change : Edit) (o : OfficeState) (e : StoreFault) → e ≡ Store
     → IsFault (draft_edited d change o) e
 only_failed d change o e is = subst (IsFault (draft_edited d change o)) (sym is) tt
 
 -- ---- what is stored
 
--- what is stored is what the command gives
+-- what is stored is what the command makes
 pub record IsStored (b : Database) (o : OfficeState) (d : ℕ) (change : Edit) (total : ℕ)
     : Type 0 where
   pub office : OfficeState
   pub gives : draft_edited d change o ≡ Ok (total, office)
   pub kept : RepresentsOffice b office
 
--- what the command gives of an office
+-- what the command makes of an office
 edited_gives : (o : OfficeState) (d : ℕ) (change : Edit) (new : Draft) (total : ℕ)
     (of : IsEdited d change o new) → total ≡ total_of new.parts
     → draft_edited d change o
@@ -193,7 +193,7 @@ pub edit_stored : (a b : Database) (o : OfficeState) (d : ℕ) (change : Edit)
     (new : Draft) (row : DraftRow) (total : ℕ) (exams : List ℕ)
     (of : IsEdited d change o new) → row.no ≡ d → parts_of row ≡ new.parts
     → total ≡ total_of new.parts → exams ≡ edited_exams change → RepresentsOffice a o
-    → ((t : Tables) → Stands a t → Stands b (edit_put row new.timetable exams t))
+    → ((t : Tables) → HoldsTables a t → HoldsTables b (edit_put row new.timetable exams t))
     → IsStored b o d change total
 edit_stored a b o d change new row total exams of number parts is_total are kept makes = record {
   office = Some (record of.records { draft = set_at d (Some new.timetable) of.records.draft });
@@ -203,29 +203,29 @@ edit_stored a b o d change new row total exams of number parts is_total are kept
       (edit_kept a b of.records of.old new.timetable row change
       (ap of.records.draft number ∙ of.draft)
       of.edits (parts ∙ of.scored) of.fits (subst (RepresentsOffice a) of.is kept)
-      (subst (λ l. (t : Tables) → Stands a t → Stands b (edit_put row new.timetable l t)) are
+      (subst (λ l. (t : Tables) → HoldsTables a t → HoldsTables b (edit_put row new.timetable l t)) are
       makes));
 }
 
 -- ---- the calls that edit
 
--- the transaction makes of the office what the command does
+-- the transaction changes the office as the command does
 pub edit_moves : (a b : Database) (m : OfficeMemory) (d : ℕ) (change : Edit) (new : Draft)
     (row : DraftRow) (total : ℕ) (places : List (Both DeleteSlot (Option InsertSlot)))
     → ((o : OfficeState) → RepresentsOffice a o → IsMemoryOf o m → IsEdited d change o new)
     → row.no ≡ d → parts_of row ≡ new.parts → total ≡ total_of new.parts
     → places ≡ map (new_place d new.timetable) (edited_exams change)
-    → ((t : Tables) → Stands a t
-    → Stands b (after_all move_made places (with_draft row (without_draft d t))))
+    → ((t : Tables) → HoldsTables a t
+    → HoldsTables b (after_all move_made places (with_draft row (without_draft d t))))
     → Moves (draft_edited d change) total a b m
 edit_moves a b m d change new row total places edits number parts is_total put comes o kept is =
     let exams = edited_exams change in
-    let makes : (t : Tables) → Stands a t → Stands b (edit_put row new.timetable exams t)
+    let makes : (t : Tables) → HoldsTables a t → HoldsTables b (edit_put row new.timetable exams t)
     = λ t h. subst
-    (λ n. Stands b (slots_put n new.timetable exams (with_draft row (without_draft n t))))
+    (λ n. HoldsTables b (slots_put n new.timetable exams (with_draft row (without_draft n t))))
     (sym number)
     (let u = with_draft row (without_draft d t) in
-    subst (Stands b)
+    subst (HoldsTables b)
     (ap (λ l. after_all move_made l u) put ∙ all_moved d new.timetable exams u) (comes t h)) in
     let stored =
     edit_stored a b o d change new row total exams (edits o kept is) number parts is_total refl kept
@@ -251,7 +251,7 @@ edit_remembers a m n d change new total edits is_total puts o kept is next gives
 
 -- ---- by what is in memory
 
--- what is in memory tells of whatever office stands there
+-- what is in memory decides for each office that is represented
 pub edits_in_memory : (m : OfficeMemory) (I : Session) (E : Enrolled) → m.kept ≡ Some (I, E)
     → (d : ℕ) (change : Edit) (result : Result EditedDraft StoreFault)
     → (o : OfficeState) → IsMemoryOf o m

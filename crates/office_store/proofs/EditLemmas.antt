@@ -16,7 +16,7 @@ use Rattle.exam_score.specs.Changes.{DiffersAtMost}
 use Rattle.exam_score.specs.Track.{track}
 use Rattle.exam_draft.specs.Edits.{exam_exists, place_exists, is_placed, unless_broken}
 use Rattle.office_tables.specs.Tables.{Tables}
-use Rattle.office_tables.specs.Standing.{Stands}
+use Rattle.office_tables.specs.TablesHeld.{HoldsTables}
 use Rattle.office_tables.specs.Draft.{with_draft, without_draft}
 use Rattle.office_tables.specs.declared.draft.DraftRow.{DraftRow}
 use Rattle.office_store.specs.Changes.{edit_put}
@@ -33,12 +33,12 @@ use Rattle.office_store.proofs.SlotLemmas.{only_slots, others_as_before, places_
 
 -- ---- what an edit changes
 
--- the exams exist, and the others stand where they stood
+-- the exams exist, and all others keep their places
 pub record Touches (exams : List ℕ) (old new : Placing) (count : ℕ) : Type 0 where
   pub exist : AllByRecursion (λ e. e < count) exams
   pub others : DiffersAtMost exams old new
 
--- what went on was not refused
+-- a sequence that went on was not refused
 goes_on : {B F : Type 0} (b : Bool) (f : F) (x : Result B F) (y : B)
     → (unless b f >>= (λ _. x)) ≡ Ok y → (b ≡ true) × (x ≡ Ok y)
 goes_on true f x y h = (refl, h)
@@ -97,7 +97,7 @@ touched I E T new (edit.Clear e) h =
       others = subst (DiffersAtMost (e ∷ []) T) is (one_differs T e None);
     }
 
--- ---- the tables after it
+-- ---- the tables after the edit
 
 module _ (t : Tables) (r : Records) (T new : Placing) (row : DraftRow) (exams : List ℕ)
     (h : TablesRepresentRecords t r) (there : r.draft row.no ≡ Some T) where
@@ -180,12 +180,12 @@ module _ (t : Tables) (r : Records) (T new : Placing) (row : DraftRow) (exams : 
       other : (x : DraftRow) → IsScoredRow r x → eqb x.no row.no ≡ false → IsScoredRow after x
       other x k e S f = k S (sym (ap (λ b. cond b (Some new) (r.draft x.no)) e) ∙ f)
 
--- the database stands for the office with the edited draft
+-- the database represents the office with the edited draft
 pub edit_kept : (a b : Database) (r : Records) (T new : Placing) (row : DraftRow) (change : Edit)
     → r.draft row.no ≡ Some T → edited r.session r.enrolments T change ≡ Ok new
     → parts_of row ≡ track r.session r.enrolments new → Fits r.session r.enrolments new
     → RepresentsOffice a (Some r)
-    → ((t : Tables) → Stands a t → Stands b (edit_put row new (edited_exams change) t))
+    → ((t : Tables) → HoldsTables a t → HoldsTables b (edit_put row new (edited_exams change) t))
     → RepresentsOffice b (Some (record r { draft = set_at row.no (Some new) r.draft }))
 edit_kept a b r T new row change there made scored fits kept makes =
     let before = kept.office.drafts row.no T there in

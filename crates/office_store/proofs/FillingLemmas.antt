@@ -1,7 +1,7 @@
 -- Drafts that are made number by number, and their rows.
-use Rattle.std.proofs.Common.{◌≡◌, ◌≢◌, ℕ, zero, suc, ◌+◌, ◌<◌, ◌≤◌, Bool, true, false, eqb, ltb, cond, List, [], ◌∷◌, ◌++◌, filter, get_or, length, map, set, Option, Some, None, option_map, refl, sym, ◌∙◌, ap, subst, arith}
+use Rattle.std.proofs.Common.{◌≡◌, ℕ, zero, suc, ◌+◌, ◌<◌, ◌≤◌, Bool, true, false, eqb, ltb, cond, List, [], ◌∷◌, ◌++◌, get_or, length, map, set, Option, Some, None, option_map, refl, sym, ◌∙◌, ap, subst, arith}
 use Rattle.std.specs.List.{AllByRecursion}
-use Rattle.std.specs.Prelude.{is_some}
+use Rattle.std.specs.Prelude.{IfSome, is_some}
 use Rattle.std.proofs.lemmas.Bool.{ltb-false, ltb-true}
 use Rattle.std.proofs.lemmas.Bool.Decides.{nat_tests}
 use Rattle.std.proofs.lemmas.List.{append-nil, get_or-set_same, get_or-set_other, length-set, map-append}
@@ -10,20 +10,20 @@ use Rattle.sqlite_trees.proofs.ListLemmas.{all-append}
 use Rattle.exam_model.specs.Enrolments.{Enrolled}
 use Rattle.exam_model.specs.Instance.{Session}
 use Rattle.exam_model.specs.Timetable.{Placing}
+use Rattle.exam_score.specs.Track.{track}
 use Rattle.office_tables.specs.Draft.{AreAmounts}
 use Rattle.office_tables.specs.declared.draft.DraftRow.{DraftRow}
 use Rattle.office_tables.specs.declared.draft.InsertDraft.{InsertDraft}
 use Rattle.office_tables.specs.declared.slot.SlotRow.{SlotRow}
-use Rattle.office_model.specs.Office.{AreRecords, Records}
 use Rattle.office_records.specs.Found.{AreDrafts}
-use Rattle.office_records.specs.Representation.{RepresentsOffice, parts_of}
+use Rattle.office_records.specs.Representation.{parts_of}
 use Rattle.office_records.specs.TableRows.{drafts_at, once}
-use Rattle.office_store.specs.Memory.{AreDraftRows, draft_at, scored_by}
+use Rattle.office_store.specs.Memory.{AreDraftRows, AreScored, draft_at, scored_by}
 use Rattle.office_store.specs.declared.memory.Draft.{Draft}
 
 -- ---- drafts of the first numbers
 
--- these are the drafts of the smaller numbers, and there is none of others
+-- these are the drafts of the smaller numbers; the other numbers have none
 pub record AreMade (made : List (Option Draft)) (n : ℕ) (drafts : ℕ → Option Draft) : Type 0 where
   pub done : (d : ℕ) → d < n → draft_at made d ≡ drafts d
   pub rest : (d : ℕ) → n ≤ d → draft_at made d ≡ None
@@ -37,7 +37,7 @@ none_made made drafts none size = record {
   size = size;
 }
 
--- none is numbered 0
+-- no draft has number 0
 pub zero_made : (I : Session) (E : Enrolled) (rows : List DraftRow) (slots : List SlotRow)
     (draft : ℕ → Option Placing) → AreDrafts I E rows slots draft → (made : List (Option Draft))
     → ((d : ℕ) → draft_at made d ≡ None) → length made ≡ 9
@@ -54,7 +54,7 @@ zero_made I E rows slots draft are made none size = record {
     go d low (Some T) is =
         absurd (let numbered = (are.numbered d (ap is_some is)).0 in omega (arith, low, numbered))
 
--- nor is one numbered beyond 8
+-- no draft has a number above 8
 pub none_beyond : (I : Session) (E : Enrolled) (rows : List DraftRow) (slots : List SlotRow)
     (draft : ℕ → Option Placing) → AreDrafts I E rows slots draft → (d : ℕ) → 9 ≤ d
     → option_map (scored_by I E) (draft d) ≡ None
@@ -98,6 +98,17 @@ all_made made n drafts are none d = go (ltb d n) refl
     go true is = are.done d (ltb-true d n is)
     go false is =
         let high = ltb-false d n is in are.rest d high ∙ sym (none d high)
+
+-- a draft of scored ones, if there is one
+pub draft_scored : (I : Session) (E : Enrolled) (drafts : List (Option Draft)) (d : ℕ)
+    → AreScored I E drafts
+    → IfSome (draft_at drafts d) (λ draft. draft.parts ≡ track I E draft.timetable)
+draft_scored I E drafts d scored = go (draft_at drafts d) refl
+  where
+    go : (x : Option Draft) → draft_at drafts d ≡ x
+        → IfSome x (λ draft. draft.parts ≡ track I E draft.timetable)
+    go None at = tt
+    go (Some draft) at = scored d draft at
 
 -- ---- elements of a list
 

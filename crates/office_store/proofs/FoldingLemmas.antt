@@ -1,4 +1,4 @@
--- What is folded of the rows of an edit's students.
+-- The fold of the rows of an edit's students.
 use Rattle.std.proofs.Common.{filter, eqb, IsPermutation, IfOk, Vec, ◌≡◌, ℕ, suc, ◌+◌, ◌<◌, ◌≤◌, inl, inr, Bool, true, false, true≢false, IsTrue, get_or, add-one, List, [], ◌∷◌, ◌++◌, length, map, All, Option, Some, Result, Ok, Err, refl, sym, ◌∙◌, ap, ap₂, subst, arith, append_assoc, length-append}
 use Rattle.std.specs.Prelude.{◌↔◌, IfSome, IsSome, nat_lt, ok_or}
 use Rattle.std.specs.declared.alloc.Global.{Global}
@@ -27,11 +27,11 @@ use Rattle.exam_score.proofs.ConcernedLemmas.{edit_is, track_is}
 use Rattle.office_model.specs.declared.fault.StoreFault.TheVariants.{BadSchema}
 use Rattle.office_records.specs.Representation.{RepresentsOffice}
 use Rattle.office_records.proofs.ReadableLemmas.{are_readable}
-use Rattle.office_tables.specs.Enrol.{FitsEnrol, HerEnrolsRise}
+use Rattle.office_tables.specs.Enrol.{FitsEnrol, StudentEnrolsRise}
 use Rattle.office_tables.specs.Readers.{LeavesCommitted, OpensNone}
 use Rattle.office_tables.specs.Selections.{IsInOrder}
 use Rattle.office_tables.specs.Tables.{Tables}
-use Rattle.office_tables.specs.Standing.{Stands}
+use Rattle.office_tables.specs.TablesHeld.{HoldsTables}
 use Rattle.office_tables.specs.declared.enrol.EnrolRow.{EnrolRow}
 use Rattle.office_store.specs.FoldReads.{HadEnrolments, HasRead, RowsUnchanged}
 use Rattle.office_store.specs.Folding.{CanTake, HasTaken, IsEditOf, pairs_of_students, students_of_exams}
@@ -42,7 +42,7 @@ use Rattle.office_store.proofs.ConcernedLemmas.{concerned, each_append, students
 use Rattle.office_store.proofs.LeavingLemmas.{survives_on, survives_same}
 use Rattle.office_store.proofs.ViewLemmas.{exams_back, own_pairs, rows_read, sat_rise}
 
--- ---- a connection that reads on
+-- ---- a connection that reads once more
 
 module _ {S : Type 0} (store : Ghosts S) where
   pub read_nothing : (a : Held S) → HasRead store a a
@@ -87,13 +87,13 @@ module _ {S : Type 0} (store : Ghosts S) where
 
   module _ (a b c : Held S) (first : HasRead store a b) (same : RowsUnchanged store a b)
       (next : HasRead store b c) where
-    -- the tables stand there still
-    tables_on : HasCleanDisk (state store c) → (t : Tables) → Stands (state store a).now t
+    -- the tables are still there
+    tables_on : HasCleanDisk (state store c) → (t : Tables) → HoldsTables (state store a).now t
         → IsTrue (state store a).is_open
-        → IsUnchanged (state store a) (state store b) × Stands (state store b).now t
+        → IsUnchanged (state store a) (state store b) × HoldsTables (state store b).now t
     tables_on clean t stands is =
         let mid = same (next.clean clean) t stands is in
-        (mid, subst (λ db. Stands db t) (sym mid.0.now_is) stands)
+        (mid, subst (λ db. HoldsTables db t) (sym mid.0.now_is) stands)
 
     opened : HasCleanDisk (state store c) → IsTrue (state store c).is_open
         → IsTrue (state store a).is_open
@@ -139,7 +139,7 @@ module _ {S : Type 0} (store : Ghosts S) where
           last.2 ∙ mid.0.2,
         )
 
-    -- the office that stood there stands before the next call
+    -- the office is still represented before the next call
     pub had_on : (E : Enrolled) → HadEnrolments store a c E → HadEnrolments store b c E
     had_on E had =
         let mid = tables_on had.clean had.kept.held had.kept.tables had.opened in
@@ -151,7 +151,7 @@ module _ {S : Type 0} (store : Ghosts S) where
           enrolments = had.enrolments;
         }
 
-    -- and before it
+    -- and was represented before the first
     pub had_before : (E : Enrolled) → HadEnrolments store a c E → HadEnrolments store a b E
     had_before E had = record {
       clean = next.clean had.clean;
@@ -164,7 +164,7 @@ module _ {S : Type 0} (store : Ghosts S) where
   pub are_known : (a b : Held S) (E : Enrolled) → HadEnrolments store a b E → AreEnrolments E
   are_known a b E had = subst AreEnrolments had.enrolments had.kept.office.enrolled.set
 
--- ---- students one after the other
+-- ---- students, one after another
 
 module _ {S : Type 0} (store : Ghosts S) (all : List ℕ) where
   pub first_taken : (a : Held S) (fold : Folded) → RepresentsPairs fold []
@@ -268,7 +268,7 @@ module _ {S : Type 0} (store : Ghosts S) (all : List ℕ) where
       (adds ∙ ap (λ (xs : List ℕ). count + length xs) (one ∙ sym other)) few stands before
       (λ E had. other ∙ are E had)
 
-  -- over a clean disk there are no more pairs than an office has
+  -- over a clean disk there are no more pairs than an office can have
   pub not_more : (a b c : Held S) (fold : Folded) (count : ℕ) (rest : List ℕ) (s : ℕ)
       (others exams : List ℕ) (taken : HasTaken store a b fold count all rest)
       → rest ≡ s ∷ others → IsAscending all → (E : Enrolled) → HadEnrolments store a c E
@@ -302,7 +302,7 @@ module _ {S : Type 0} (store : Ghosts S) (all : List ℕ) where
       sym (append-nil taken.pairs) ∙ ap (λ l. taken.pairs ++ pairs_of_students E l) (sym is)
       ∙ taken.are E had
 
--- the others rise too
+-- the rest ascends too
 pub rise_on : (rest : List ℕ) (s : ℕ) (others : List ℕ) → rest ≡ s ∷ others → IsAscending rest
     → IsAscending others
 rise_on rest s others is up =
@@ -322,7 +322,7 @@ chain_from_next R trans (x ∷ y ∷ xs) next =
     let first : R x y = next 0 x (omega arith) in
     ((first, each_weaker (R y) (R x) (λ z h. trans x y z first h) xs rest.0), rest)
 
--- of a smaller exam
+-- rows of smaller exams
 abbrev IsSooner : EnrolRow → EnrolRow → Type 0
 IsSooner x y = x.exam < y.exam
 
@@ -386,7 +386,7 @@ candidate_are_of s rows exams is =
     (All-from_recursion (λ (row : EnrolRow). row.student ≡ s) (map (candidate_enrol_row s) exams)
     (each_of_candidate s exams))
 
--- rows of hers are those of their exams
+-- the student's rows are those of their exams
 pub candidate_back : (s : ℕ) (rows : List EnrolRow) → All (λ (row : EnrolRow). row.student ≡ s) rows
     → rows ≡ map (candidate_enrol_row s) (map (λ (row : EnrolRow). row.exam) rows)
 candidate_back s rows all = each rows (recursion_from_All
@@ -409,17 +409,17 @@ pub up_of : (s : ℕ) (rows : List EnrolRow) (exams : List ℕ) → rows
     → IsAscending exams → IsAscending (map (λ (row : EnrolRow). row.exam) rows)
 up_of s rows exams is up = subst IsAscending (sym (exams_are s rows exams is)) up
 
--- what an answer holds it holds still, where that is less
+-- a result satisfies a weaker condition too
 pub ok_weaker : {A F : Type 0} (P Q : A → Type 0) (r : Result A F) → ((x : A) → P x → Q x)
     → IfOk r P → IfOk r Q
 ok_weaker P Q (Ok x) less h = less x h
 ok_weaker P Q (Err e) less h = tt
 
--- the rows that are read of a student are those of her exams
+-- the rows that are read of a student are those of the student's exams
 pub rows_had : {S : Type 0} (store : Ghosts S) (a b : Held S) (E : Enrolled)
     → HadEnrolments store a b E → (s n : ℕ) → n ≡ s → (found : List EnrolRow)
-    → (HasCleanDisk (state store b) → (t : Tables) → Stands (state store a).now t
-    → IsInOrder HerEnrolsRise (filter (λ (x : EnrolRow). eqb x.student n) t.enrol) found)
+    → (HasCleanDisk (state store b) → (t : Tables) → HoldsTables (state store a).now t
+    → IsInOrder StudentEnrolsRise (filter (λ (x : EnrolRow). eqb x.student n) t.enrol) found)
     → found ≡ map (candidate_enrol_row s) (exams_sat E s)
 rows_had store a b E had s n is found order =
     subst (λ E. found ≡ map (candidate_enrol_row s) (exams_sat E s)) had.enrolments
@@ -427,10 +427,10 @@ rows_had store a b E had s n is found order =
     (rows_read had.kept.held had.records n found had.kept.stands had.kept.office
     (order had.clean had.kept.held had.kept.tables)))
 
--- her rows have a reading
+-- the student's rows are valid
 pub rows_fit : {S : Type 0} (store : Ghosts S) (a b : Held S) (E : Enrolled)
     → HadEnrolments store a b E → (n : ℕ) (found : Option (Vec EnrolRow Global))
-    → (HasCleanDisk (state store b) → (t : Tables) → Stands (state store a).now t
+    → (HasCleanDisk (state store b) → (t : Tables) → HoldsTables (state store a).now t
     → AllByRecursion FitsEnrol (filter (λ (x : EnrolRow). eqb x.student n) t.enrol) → IsSome found)
     → IsSome found
 rows_fit store a b E had n found reads =
@@ -449,7 +449,7 @@ sat_up E s = ascending_from_chain (exams_sat E s) (chained (exams_sat E s) (sat_
     chained [] h = tt
     chained (x ∷ xs) h = (h.0, chained xs h.1)
 
--- ---- what the fold gives
+-- ---- the result of the fold
 
 pub returned_after : {S : Type 0} (store : Ghosts S) (a b : Held S) (fold : Folded) (I : Session)
     (E : Enrolled) (judged : Judged) (edited sizes : List ℕ) (r : Option Penalty)

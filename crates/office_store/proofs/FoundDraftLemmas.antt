@@ -2,10 +2,8 @@
 use Rattle.std.proofs.Common.{◌≡◌, ℕ, ◌<◌, ◌≤◌, ◌^◌, Bool, true, false, cond, eqb, List, [], ◌∷◌, filter, map, Option, Some, None, option_map, refl, sym, ◌∙◌, ap, subst, arith}
 use Rattle.std.specs.List.{AllByRecursion, find}
 use Rattle.std.specs.Prelude.{IfErr, IfNone, IfSome, IsErrAnd, IsPermutation, is_some, ok_or, Result, Ok, Err}
-use Rattle.std.proofs.lemmas.Bool.Decides.{nat_tests}
 use Rattle.sqlite_trees.proofs.ListLemmas.{all-filter}
 use Rattle.exam_model.specs.Enrolments.{AreEnrolments, Enrolled}
-use Rattle.exam_model.specs.Fits.{Fits, Suits}
 use Rattle.exam_model.specs.Instance.{IsInstance, Session}
 use Rattle.exam_model.specs.Timetable.{Placing}
 use Rattle.exam_score.specs.Penalty.{Penalty, total_of}
@@ -18,14 +16,14 @@ use Rattle.office_model.specs.declared.fault.StoreFault.TheVariants.{BadSchema}
 use Rattle.office_records.specs.Faults.{store_fault}
 use Rattle.office_records.specs.Found.{AreDrafts, AreSlots}
 use Rattle.office_records.specs.Representation.{parts_of}
-use Rattle.office_records.specs.TableRows.{drafts_at, once, slot_rows, slots_at}
+use Rattle.office_records.specs.TableRows.{once, slot_rows, slots_at}
 use Rattle.office_records.specs.declared.fault.RecordFault.{RecordFault}
 use Rattle.office_records.specs.declared.fault.RecordFault.TheVariants.{NoMemory, BadRows}
 use Rattle.office_records.proofs.SlotLemmas.{same_timetable}
 use Rattle.office_records.specs.Memory.{Memory}
 use Rattle.office_store.specs.Memory.{AreNoDrafts, scored_by}
 
--- ---- the first that passes
+-- ---- the first element that passes
 
 none_found : {X : Type 0} (p : X → Bool) (xs : List X) → find p xs ≡ None → filter p xs ≡ []
 none_found p [] e = refl
@@ -57,7 +55,7 @@ module _ (I : Session) (E : Enrolled) (rows : List DraftRow) (slots : List SlotR
   abbrev is_own : DraftRow → Bool
   is_own row = eqb row.no d
 
-  -- it has no row
+  -- the draft has no row
   pub no_draft : find is_own rows ≡ None → draft d ≡ None
   no_draft none = go (draft d) (sym (are.rows d)
       ∙ ap (map (λ (row : DraftRow). row.no)) (none_found is_own rows none))
@@ -66,7 +64,7 @@ module _ (I : Session) (E : Enrolled) (rows : List DraftRow) (slots : List SlotR
       go None e = refl
       go (Some T) e = absurd cc
 
-  -- it has a row
+  -- the draft has a row
   pub record IsRowOf (row : DraftRow) : Type 0 where
     pub timetable : Placing
     pub there : draft d ≡ Some timetable
@@ -110,7 +108,7 @@ module _ (I : Session) (E : Enrolled) (rows : List DraftRow) (slots : List SlotR
             };
           }
 
-  -- what is made of its rows is the draft
+  -- the draft that is made of its rows
   pub made_of : (row : DraftRow) → find is_own rows ≡ Some row → (T : Placing) (P : Penalty)
       → AreSlots I d slots T → P ≡ parts_of row
       → Some (record { timetable = T; parts = P }) ≡ option_map (scored_by I E) (draft d)
@@ -121,7 +119,7 @@ module _ (I : Session) (E : Enrolled) (rows : List DraftRow) (slots : List SlotR
       ∙ ap (λ S. Some (record { timetable = S; parts = track I E of.timetable })) same
       ∙ sym (ap (option_map (scored_by I E)) of.there)
 
-  -- its penalty is small
+  -- its penalty is below 2^62
   pub small_of : IsInstance I → AreEnrolments E → (row : DraftRow) → find is_own rows ≡ Some row
       → 2 ^ 62 ≤ total_of (parts_of row) → ⊥
   small_of known enrolled row some large =
@@ -133,7 +131,7 @@ module _ (I : Session) (E : Enrolled) (rows : List DraftRow) (slots : List SlotR
 
 -- ---- faults
 
--- only rows that are wrong are a wrong schema
+-- only invalid rows are refused as a wrong schema
 pub meaning : {X Q : Type 0} (r : Result X StoreFault) (fault : RecordFault)
     → IsErrAnd r (λ e. e ≡ store_fault fault) → (fault ≡ BadRows → Q)
     → IfErr r (λ e. e ≡ BadSchema → Q)
@@ -144,7 +142,7 @@ meaning (Err e) fault is h = λ bad. h (named fault (sym is ∙ bad))
     named NoMemory e = absurd cc
     named BadRows e = refl
 
--- what is said of a value that there is, or isn't
+-- a fact about a value that exists, or doesn't
 pub some_of : {X : Type 0} (x : Option X) (f : StoreFault) (y z : X) → ok_or x f ≡ Ok y
     → IfSome x (λ q. q ≡ z) → y ≡ z
 some_of None f y z ok is = absurd cc
@@ -155,7 +153,7 @@ pub none_of : {X Q : Type 0} (x : Option X) (f e : StoreFault) → ok_or x f ≡
 none_of None f e err is = is
 none_of (Some q) f e err is = absurd cc
 
--- rows that are no drafts of the session, if there is one
+-- no drafts of the session, if there is one, have these rows
 pub bad_of : {X : Type 0} (r : Result X StoreFault) (kept : Memory) (I : Session) (E : Enrolled)
     (rows read : List DraftRow) (slots places : List SlotRow) → kept ≡ Some (I, E) → read ≡ rows
     → places ≡ slots → IfErr r (λ e. e ≡ BadSchema → AreNoDrafts I read places)

@@ -1,5 +1,5 @@
 -- What is in memory of an office, by the rows of its tables.
-use Rattle.std.proofs.Common.{◌≡◌, ℕ, Bool, true, false, List, [], ◌∷◌, Option, None, Some, length, option_map, refl, sym, ◌∙◌, ap, subst, arith}
+use Rattle.std.proofs.Common.{◌≡◌, ℕ, Bool, true, false, Option, None, Some, length, option_map, refl, sym, ◌∙◌, ap, subst, arith}
 use Rattle.std.specs.Prelude.{IsPermutation, is_some}
 use Rattle.std.proofs.lemmas.List.{length-map}
 use Rattle.std.proofs.lemmas.List.Sorted.{length_permutation}
@@ -10,14 +10,14 @@ use Rattle.exam_model.specs.Timetable.{Placing}
 use Rattle.office_tables.specs.Tables.{Tables}
 use Rattle.office_model.specs.Office.{OfficeState, Records, AreRecords}
 use Rattle.office_records.specs.Found.{AreSlots}
-use Rattle.office_records.specs.Memory.{memory_of}
+use Rattle.office_records.specs.Memory.{memory_of, published_in}
 use Rattle.office_records.specs.Representation.{RepresentsOffice, TablesRepresentOffice, TablesRepresentRecords}
 use Rattle.office_records.specs.TableRows.{once, slot_rows, slots_at, stored_batch}
 use Rattle.office_records.proofs.MemoryLemmas.{same_memory}
+use Rattle.office_records.proofs.SamePublication.{same_published}
 use Rattle.office_records.proofs.SameTables.{same_stands}
 use Rattle.office_records.proofs.SlotLemmas.{same_timetable}
 use Rattle.office_store.specs.Memory.{IsMemoryOf, batch_count, scored_by, scored_draft}
-use Rattle.office_store.specs.declared.memory.Draft.{Draft}
 use Rattle.office_store.specs.declared.memory.OfficeMemory.{OfficeMemory}
 
 -- ---- the number of batches
@@ -31,7 +31,7 @@ counted t (Some r) stands =
     let kept = length-map r.batches stored_batch in
     omega (arith, stored, kept)
 
--- the offices that a database stands for keep one number of batches
+-- all offices that a database represents keep the same number of batches
 same_count : (db : Database) (o p : OfficeState) → RepresentsOffice db o → RepresentsOffice db p
     → batch_count o ≡ batch_count p
 same_count db o p a b =
@@ -50,7 +50,7 @@ one_there false false d e = refl
 module _ (t : Tables) (r s : Records) (d : ℕ) (a : TablesRepresentRecords t r)
     (b : TablesRepresentRecords t s)
     (of : AreRecords r) (also : AreRecords s) (session : r.session ≡ s.session) where
-  -- a draft's places are those of one timetable
+  -- a draft's places are those of only one timetable
   slots_of : (q : Records) (I : Session) → q.session ≡ I → TablesRepresentRecords t q → AreRecords q
       → (T : Placing) → q.draft d ≡ Some T → AreSlots I d t.slot T
   slots_of q I same stands records T is =
@@ -86,7 +86,7 @@ both_same r s d memory draft =
     ap (λ (p : Session × Enrolled). option_map (scored_by p.0 p.1) (r.draft d)) both
     ∙ ap (option_map (scored_by s.session s.enrolments)) draft
 
--- the offices that a database represents have the same drafts
+-- all offices that a database represents have the same drafts
 same_drafts : (db : Database) (o p : OfficeState) → RepresentsOffice db o → RepresentsOffice db p
     → (d : ℕ)
     → memory_of o ≡ memory_of p → scored_draft d o ≡ scored_draft d p
@@ -99,9 +99,22 @@ same_drafts db (Some r) (Some s) a b d memory =
     both_same r s d memory
     (same_placing b.held r s d stands b.stands a.office b.office session)
 
+-- ---- what is published
+
+-- all offices that a database represents have the same publication
+one_published : (db : Database) (o p : OfficeState) → RepresentsOffice db o
+    → RepresentsOffice db p → memory_of o ≡ memory_of p → published_in o ≡ published_in p
+one_published db None None a b memory = refl
+one_published db None (Some s) a b memory = absurd cc
+one_published db (Some r) None a b memory = absurd cc
+one_published db (Some r) (Some s) a b memory =
+    let stands = same_stands db a.held b.held a.tables b.tables (Some r) a.stands in
+    let session : r.session ≡ s.session = ap (λ (p : Session × Enrolled). p.0) (some_is memory) in
+    same_published b.held r s stands b.stands a.office b.office session
+
 -- ---- all that is in memory
 
--- what is in memory of one office that a database represents is so of each
+-- the memory of one office that a database represents is the memory of each
 pub same_in_memory : (db : Database) (o p : OfficeState) → RepresentsOffice db o
     → RepresentsOffice db p
     → (m : OfficeMemory) → IsMemoryOf o m → IsMemoryOf p m
@@ -111,4 +124,5 @@ same_in_memory db o p a b m is =
       session = sym memory ∙ is.session;
       batches = sym (same_count db o p a b) ∙ is.batches;
       drafts = λ d. is.drafts d ∙ same_drafts db o p a b d memory;
+      published = sym (one_published db o p a b memory) ∙ is.published;
     }

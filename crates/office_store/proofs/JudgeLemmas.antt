@@ -1,4 +1,4 @@
--- The breaches of a draft, by the draft that is shown.
+-- The breaches of a draft that the office shows.
 use Rattle.std.proofs.Common.{◌≡◌, ℕ, List, Option, Some, None, Ok, Err, refl, sym, ◌∙◌, ap, subst}
 use Rattle.std.specs.Prelude.{is_some, unwrap_or}
 use Rattle.exam_model.specs.Enrolments.{Enrolled}
@@ -19,7 +19,7 @@ use Rattle.office_store.specs.declared.memory.Draft.{Draft}
 use Rattle.office_store.specs.declared.memory.OfficeMemory.{OfficeMemory}
 use Rattle.office_store.proofs.StoredLemmas.{in_memory_shown, none_in_memory_shown}
 
--- what is judged of what is shown
+-- the breaches of what is shown
 abbrev judgement : Session × Enrolled → CommandResult (Placing × Penalty)
     → CommandResult (List Breach)
 judgement s (Ok shown) = Ok (breaches_of s.0 s.1 shown.0.0, shown.1)
@@ -37,7 +37,7 @@ judges d (Some r) s is =
     subst (λ s. draft_judged d (Some r) ≡ judgement s (draft_shown d (Some r)))
     (ap (λ m. unwrap_or m s) is) (at_draft d r (r.draft d) refl)
 
--- where a draft is shown, its breaches are these
+-- if a draft is shown, these are its breaches
 pub judged : (d : ℕ) (o : OfficeState) (I : Session) (E : Enrolled) (T : Placing) (P : Penalty)
     (found : List Breach) → memory_of o ≡ Some (I, E) → found ≡ breaches_of I E T
     → CommandOutcome (draft_shown d o) o (λ new. new ≡ o) (Ok (T, P))

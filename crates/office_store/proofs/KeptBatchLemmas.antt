@@ -14,7 +14,7 @@ use Rattle.office_tables.specs.declared.batch.BatchRow.{BatchRow}
 use Rattle.exam_terms.specs.Refusing.{◌>>=◌, unless}
 use Rattle.exam_model.specs.declared.change.Change.{Change}
 use Rattle.office_batches.specs.BatchText.{batch_in}
-use Rattle.office_model.specs.Batches.{batch_enrolled, kept_in, batch_numbered, same_bytes}
+use Rattle.office_model.specs.Batches.{batch_enrolled, batch_of_number, batch_numbered, same_bytes}
 use Rattle.office_model.specs.Commands.{CommandResult}
 use Rattle.office_model.specs.declared.counts.Counts.{Counts}
 use Rattle.office_model.specs.declared.fault.StoreFault.TheVariants.{BatchDiffers}
@@ -37,7 +37,7 @@ none_under number b is (c ∷ kept) apart =
     (filter (λ (c : KeptBatch). eqb c.no number) kept)) differs
     ∙ none_under number b is kept apart.1
 
--- the batches of a number are the one that is found under it
+-- the batches with a number are the one that is found under it
 one_under : (number : ℕ) (kept : List KeptBatch)
     → IsChain (λ (b c : KeptBatch). b.no ≢ c.no) kept
     → filter (λ (b : KeptBatch). eqb b.no number) kept ≡ option_to_list (batch_numbered number kept)
@@ -57,7 +57,7 @@ few_under None = omega arith
 few_under (Some b) = omega arith
 
 module _ (t : Tables) (r : Records) (stands : TablesRepresentRecords t r) (is : AreRecords r) where
-  -- the stored batch of a number is the office's
+  -- the stored batch with a number is the office's
   stored_under : (number : ℕ) → filter (λ (b : Batch). eqb b.no number) t.batch
       ≡ map stored_batch (option_to_list (batch_numbered number r.batches))
   stored_under number =
@@ -74,15 +74,15 @@ module _ (t : Tables) (r : Records) (stands : TablesRepresentRecords t r) (is : 
 pub batch_read : (t : Tables) (o : OfficeState) (number : ℕ) (found : Option BatchRow)
     → TablesRepresentOffice t o → IsOffice o
     → filter (λ (b : Batch). eqb b.no number) t.batch ≡ map batch_from (option_to_list found)
-    → IsRowOf (kept_in o number) found
+    → IsRowOf (batch_of_number o number) found
 batch_read t None number found stands is row =
     sym row ∙ ap (λ (u : Tables). filter (λ (b : Batch). eqb b.no number) u.batch) stands
 batch_read t (Some r) number found stands is row = sym row ∙ stored_under t r stands is number
 
--- no row is of no batch
-pub no_row_of : (o : OfficeState) (number : ℕ) → IsRowOf (kept_in o number) None
-    → kept_in o number ≡ None
-no_row_of o number is = go (kept_in o number) is
+-- no row means no batch
+pub no_row_of : (o : OfficeState) (number : ℕ) → IsRowOf (batch_of_number o number) None
+    → batch_of_number o number ≡ None
+no_row_of o number is = go (batch_of_number o number) is
   where
     go : (kept : Option KeptBatch) → IsRowOf kept None → kept ≡ None
     go None none = refl
@@ -103,9 +103,9 @@ again k r bytes =
       | false ↦ (refl, refl)
     ]
 
--- it is answered as at first
+-- a kept batch returns its first counts
 pub again_does : (o : OfficeState) (number : ℕ) (bytes : List ℕ) (changes : List Change)
-    (row : BatchRow) → batch_in bytes ≡ Ok changes → IsRowOf (kept_in o number) (Some row)
+    (row : BatchRow) → batch_in bytes ≡ Ok changes → IsRowOf (batch_of_number o number) (Some row)
     → CommandOutcome (batch_enrolled number bytes o) o (λ new. new ≡ o)
     (first_counts (batch_from row) bytes)
 again_does None number bytes changes row spelled is = absurd cc
@@ -142,7 +142,7 @@ twice : (b : Bool) → not (not b) ≡ b
 twice true = refl
 twice false = refl
 
--- what a test of two texts tells
+-- the result of a comparison of two texts
 pub returned_same : (xs bs ys : List ℕ) (other : Bool) → other ≡ not (pointwise nat_eq xs ys)
     → xs ≡ bs → same_bytes bs ys ≡ not other
 returned_same xs bs ys other tested is =

@@ -1,4 +1,4 @@
--- What a later opening may find after calls, one after the other.
+-- What a later opening may find after calls, one after another.
 use Rattle.std.proofs.Common.{◌≡◌, ◌∙◌, [], ◌∷◌, Ok, Err, Result, IsTrue, arith, false, inl, inr, refl, sym, subst, true}
 use Rattle.std.specs.Prelude.{IfErr}
 use Rattle.std.specs.Result.{IsErrAnd}
@@ -12,7 +12,7 @@ use Rattle.sqlite.proofs.StateLemmas.{survives_then, survives_weaker}
 use Rattle.sqlite_trees.specs.Tree.{Trees}
 use Rattle.office_tables.specs.Alterations.{HoldsChanged, Undone}
 use Rattle.office_tables.specs.Schema.{IsBlank, no_schema}
-use Rattle.office_tables.specs.Standing.{Stands, StandsBefore}
+use Rattle.office_tables.specs.TablesHeld.{HoldsTables, HoldsOldTables}
 use Rattle.office_tables.specs.Steps.{Leads, Within}
 use Rattle.office_tables.specs.Tables.{Meta, Tables, empty_tables}
 use Rattle.office_model.specs.Commands.{CommandResult}
@@ -28,7 +28,7 @@ use Rattle.office_store.specs.declared.memory.OfficeMemory.{OfficeMemory}
 use Rattle.office_store.proofs.CommandLemmas.{Moves}
 use Rattle.office_store.proofs.RunLemmas.{made_on}
 
--- ---- where nothing is committed
+-- ---- nothing is committed
 
 pub survives_same : (a : State) → Survives a a (λ _. ⊥)
 survives_same a = record {
@@ -47,7 +47,7 @@ survives_on a b c = survives_then a b c _ _ _ (λ _ db none. none) (λ _ db none
 pub survives_more : (a b : State) (P : Trees → Type 0) → Survives a b (λ _. ⊥) → Survives a b P
 survives_more a b P = survives_weaker a b _ P (λ _ db none. absurd none)
 
--- a call of which a connection is seen inside an office
+-- a call on the connection inside an office
 pub survives_at : {S : Type 0} (g : Ghosts S) (start inside after : Held S) (P : Trees → Type 0)
     → inside ≡ start → Survives (state g inside) (state g after) P
     → Survives (state g start) (state g after) P
@@ -56,7 +56,7 @@ survives_at g start inside after P view =
 
 -- ---- a command
 
--- what a later opening may find after it
+-- what a later opening may find after a command
 abbrev pub SurvivesNext : {S A : Type 0} → Ghosts S → (OfficeState → CommandResult A) → Held S
     → Held S
     → Result A StoreFault → Type 0
@@ -78,7 +78,7 @@ next_before command before mid still found next =
       holds = next.holds;
     }
 
--- a command that a reader precedes
+-- a command after a reader
 pub survives_next : {S A : Type 0} (g : Ghosts S) (command : OfficeState → CommandResult A)
     (before mid after : Held S) (result : Result A StoreFault)
     → Survives (state g before) (state g mid) (λ _. ⊥)
@@ -94,7 +94,7 @@ survives_next g command before mid after result read still clean =
       next_before command (state g before) (state g mid) (still (clean k)) found may.1,
     )) read
 
--- a failed statement is no refusal by name
+-- a failed statement is not a refusal with a named fault
 pub is_failed : {A : Type 0} (result : Result A StoreFault) → IsErrAnd result (λ e. e ≡ Store)
     → IfErr result (λ e. e ≡ Store)
 is_failed (Ok x) is = tt
@@ -139,7 +139,7 @@ module _ {S A : Type 0} (g : Ghosts S) (command : OfficeState → CommandResult 
       (λ clean db changed. (unrefused, next_held clean db changed)) read
       (survives_at g mid inside after (HoldsChanged f (state g inside)) view put)
 
--- a transaction on what was read is one on what stood there before
+-- a transaction on what was read is one on what the tables held before
 pub changed_on : {S : Type 0} (g : Ghosts S) (a b c : Held S)
     → Survives (state g a) (state g b) (λ _. ⊥) → RowsUnchanged g a b
     → (HasCleanDisk (state g a) → IsTrue (state g a).is_open) → (make : Tables → Tables)
@@ -153,20 +153,20 @@ changed_on g a b c read same opened make put =
     made_on g a b (found_in found) same mid (opened (omega (arith, read.clean, mid))) make changed)
     read put
 
--- ---- an office that is made
+-- ---- a new office
 
-trees_stand : (db : Database) (found : Trees) (t : Tables) → found ≡ db.trees → Stands db t
-    → Stands (found_in found) t
+trees_stand : (db : Database) (found : Trees) (t : Tables) → found ≡ db.trees → HoldsTables db t
+    → HoldsTables (found_in found) t
 trees_stand db found t is held =
-    subst (λ s. Stands (record { schema = s; trees = found }) t) held.schema
-    (subst (λ trees. Stands (record { schema = db.schema; trees = trees }) t) (sym is) held)
+    subst (λ s. HoldsTables (record { schema = s; trees = found }) t) held.schema
+    (subst (λ trees. HoldsTables (record { schema = db.schema; trees = trees }) t) (sym is) held)
 
--- a transaction that leads from such a database to tables that stand
+-- a transaction that leads from such a database to valid tables
 module _ {S : Type 0} (g : Ghosts S) (P : Tables → Database → Type 0)
     (old begun last end : Held S) (begins : begun ≡ record old { in_transaction = true })
     (within : Within (state g begun) (state g last))
     (makes : HasCleanDisk (state g last) → IsTrue begun.in_transaction → (t : Tables)
-    → Leads (P t) (λ db. Stands db t) (state g begun) (state g last))
+    → Leads (P t) (λ db. HoldsTables db t) (state g begun) (state g last))
     (survives : Survives (state g last) (state g end) (λ db. db ≡ (state g last).now.trees)) where
   begun_survives : Survives (state g old) (state g last) (λ _. ⊥)
   begun_survives =
@@ -181,18 +181,18 @@ module _ {S : Type 0} (g : Ghosts S) (P : Tables → Database → Type 0)
       }
 
   made_in : HasCleanDisk (state g end) → (t : Tables) → P t (state g old).now
-      → Stands (state g last).now t
+      → HoldsTables (state g last).now t
   made_in clean t =
       (subst (λ h. IsTrue h.in_transaction → (t : Tables)
-      → Leads (P t) (λ db. Stands db t) (state g h) (state g last)) begins
+      → Leads (P t) (λ db. HoldsTables db t) (state g h) (state g last)) begins
       (makes (omega (arith, survives.clean, clean))) refl t).1
 
   pub tables_survive : Survives (state g old) (state g end)
-      (λ found. (t : Tables) → P t (state g old).now → Stands (found_in found) t)
+      (λ found. (t : Tables) → P t (state g old).now → HoldsTables (found_in found) t)
   tables_survive =
       survives_then (state g old) (state g last) (state g end) (λ _. ⊥)
       (λ db. db ≡ (state g last).now.trees)
-      (λ found. (t : Tables) → P t (state g old).now → Stands (found_in found) t)
+      (λ found. (t : Tables) → P t (state g old).now → HoldsTables (found_in found) t)
       (λ _ db none. absurd none)
       (λ clean found is t before. trees_stand (state g last).now found t is
       (made_in clean t before))
@@ -201,7 +201,7 @@ module _ {S : Type 0} (g : Ghosts S) (P : Tables → Database → Type 0)
   inside : HasCleanDisk (state g last) → IsTrue (state g last).in_transaction
   inside clean =
       (subst (λ h. IsTrue h.in_transaction → (t : Tables)
-      → Leads (P t) (λ db. Stands db t) (state g h) (state g last)) begins (makes clean) refl
+      → Leads (P t) (λ db. HoldsTables db t) (state g h) (state g last)) begins (makes clean) refl
       empty_tables).0
 
   begun_kept : HasCleanDisk (state g last) → KeepsCommit (state g old) (state g last)
@@ -209,12 +209,12 @@ module _ {S : Type 0} (g : Ghosts S) (P : Tables → Database → Type 0)
       let kept = (subst (λ h. Within (state g h) (state g last)) begins within).kept clean in
       record { was_open = kept.was_open; committed = kept.committed }
 
-  -- once it is committed
+  -- after its commit
   pub turned : (HasCleanDisk (state g end) → IsTrue (state g last).in_transaction
       × Shows (state g last) (state g end) (state g last).now (state g last).now false
       × KeepsCounts (state g last) (state g end) × ((state g end).marks ≡ []))
       → HasCleanDisk (state g end) → (t : Tables)
-      → Turned (P t) (λ db. Stands db t) (state g old) (state g end)
+      → Turned (P t) (λ db. HoldsTables db t) (state g old) (state g end)
   turned ok clean t =
       let done = (ok clean).1 in
       let before : HasCleanDisk (state g last) = omega (arith, survives.clean, clean) in
@@ -222,10 +222,10 @@ module _ {S : Type 0} (g : Ghosts S) (P : Tables → Database → Type 0)
         was_open = (begun_kept before).was_open done.was_open;
         is_open = done.is_open;
         committed = done.now_is ∙ sym done.committed_is;
-        leads = λ held. subst (λ db. Stands db t) (sym done.now_is) (made_in clean t held);
+        leads = λ held. subst (λ db. HoldsTables db t) (sym done.now_is) (made_in clean t held);
       }
 
-  -- or if that fails
+  -- or after its failure
   pub unturned : (e : Error) → FailsToCommit (state g last) (state g end) e
       → HasCleanDisk (state g end) → Undone (state g old) (state g end)
   unturned e (inl fails) clean =
@@ -241,26 +241,26 @@ module _ {S : Type 0} (g : Ghosts S) (P : Tables → Database → Type 0)
       let before : HasCleanDisk (state g last) = omega (arith, survives.clean, clean) in
       absurd (let never : true ≡ false = sym (inside before) ∙ outside.1 in cc)
 
--- what a transaction makes of a bare database
+-- what a transaction makes of a database without tables
 abbrev pub MakesEmpty : Tables → Database → Type 0
 MakesEmpty t db = (t ≡ empty_tables) × IsBlank no_schema db
 
--- and of tables of version 1 with this row about the office
+-- what a transaction makes of tables of version 1 with this row about the office
 abbrev pub MakesLater : Meta → Tables → Database → Type 0
-MakesLater row t db = (t.meta ≡ row ∷ []) × StandsBefore db t
+MakesLater row t db = (t.meta ≡ row ∷ []) × HoldsOldTables db t
 
 module _ {S : Type 0} (g : Ghosts S) (old last : Held S) where
-  makes_empty : Leads (IsBlank no_schema) (λ db. Stands db empty_tables) (state g old)
+  makes_empty : Leads (IsBlank no_schema) (λ db. HoldsTables db empty_tables) (state g old)
       (state g last) → (t : Tables)
-      → Leads (MakesEmpty t) (λ db. Stands db t) (state g old) (state g last)
+      → Leads (MakesEmpty t) (λ db. HoldsTables db t) (state g old) (state g last)
   makes_empty leads t = (
     leads.0,
-    λ before. subst (Stands (state g last).now) (sym before.0) (leads.1 before.1),
+    λ before. subst (HoldsTables (state g last).now) (sym before.0) (leads.1 before.1),
   )
 
   makes_later : (row : Meta) → ((t : Tables) → t.meta ≡ row ∷ []
-      → Leads (λ db. StandsBefore db t) (λ db. Stands db t) (state g old) (state g last))
-      → (t : Tables) → Leads (MakesLater row t) (λ db. Stands db t) (state g old) (state g last)
+      → Leads (λ db. HoldsOldTables db t) (λ db. HoldsTables db t) (state g old) (state g last))
+      → (t : Tables) → Leads (MakesLater row t) (λ db. HoldsTables db t) (state g old) (state g last)
   makes_later row leads t = (
     (leads (record empty_tables { meta = row ∷ [] }) refl).0,
     λ before. (leads t before.0).1 before.1,
@@ -272,9 +272,9 @@ module _ {S : Type 0} (g : Ghosts S) (old begun last end : Held S)
     (within : Within (state g begun) (state g last))
     (survives : Survives (state g last) (state g end) (λ db. db ≡ (state g last).now.trees)) where
   pub made_survive : (HasCleanDisk (state g last) → IsTrue begun.in_transaction
-      → Leads (IsBlank no_schema) (λ db. Stands db empty_tables) (state g begun) (state g last))
+      → Leads (IsBlank no_schema) (λ db. HoldsTables db empty_tables) (state g begun) (state g last))
       → Survives (state g old) (state g end)
-      (λ found. IsBlank no_schema (state g old).now → Stands (found_in found) empty_tables)
+      (λ found. IsBlank no_schema (state g old).now → HoldsTables (found_in found) empty_tables)
   made_survive makes =
       survives_weaker (state g old) (state g end) _ _
       (λ _ found all blank. all empty_tables (refl, blank))
@@ -283,13 +283,13 @@ module _ {S : Type 0} (g : Ghosts S) (old begun last end : Held S)
 
   module _ (row : Meta) (makes : (t : Tables) → t.meta ≡ row ∷ []
       → HasCleanDisk (state g last) → IsTrue begun.in_transaction
-      → Leads (λ db. StandsBefore db t) (λ db. Stands db t) (state g begun) (state g last)) where
+      → Leads (λ db. HoldsOldTables db t) (λ db. HoldsTables db t) (state g begun) (state g last)) where
     all_later : HasCleanDisk (state g last) → IsTrue begun.in_transaction → (t : Tables)
-        → Leads (MakesLater row t) (λ db. Stands db t) (state g begun) (state g last)
+        → Leads (MakesLater row t) (λ db. HoldsTables db t) (state g begun) (state g last)
     all_later clean inside = makes_later g begun last row (λ t is. makes t is clean inside)
 
     pub migrated_survive : Survives (state g old) (state g end) (λ found. (t : Tables)
-        → t.meta ≡ row ∷ [] → StandsBefore (state g old).now t → Stands (found_in found) t)
+        → t.meta ≡ row ∷ [] → HoldsOldTables (state g old).now t → HoldsTables (found_in found) t)
     migrated_survive =
         survives_weaker (state g old) (state g end) _ _
         (λ _ found all t is before. all t (is, before))
@@ -299,7 +299,7 @@ module _ {S : Type 0} (g : Ghosts S) (old begun last end : Held S)
         × Shows (state g last) (state g end) (state g last).now (state g last).now false
         × KeepsCounts (state g last) (state g end) × ((state g end).marks ≡ []))
         → HasCleanDisk (state g end) → (t : Tables) → t.meta ≡ row ∷ []
-        → Turned (λ db. StandsBefore db t) (λ db. Stands db t) (state g old) (state g end)
+        → Turned (λ db. HoldsOldTables db t) (λ db. HoldsTables db t) (state g old) (state g end)
     migrated_turned ok clean t is =
         let all = turned g (MakesLater row) old begun last end begins within all_later survives ok
         clean t in
@@ -323,7 +323,7 @@ pub may_make : {S : Type 0} (g : Ghosts S) (old new : Held S)
     (result : Result (Held S) (StoreFault × Held S)) → (state g old).now.schema ≡ no_schema
     → IfErr result (λ e. e.0 ≡ Store)
     → Survives (state g old) (state g new)
-    (λ found. IsBlank no_schema (state g old).now → Stands (found_in found) empty_tables)
+    (λ found. IsBlank no_schema (state g old).now → HoldsTables (found_in found) empty_tables)
     → Survives (state g old) (state g new) (MayMake (state g old) result)
 may_make g old new result bare unrefused =
     survives_weaker (state g old) (state g new) _ (MayMake (state g old) result) (λ _ found makes. (

@@ -1,4 +1,4 @@
--- A session that is put in.
+-- A session that is loaded.
 use Rattle.std.proofs.Common.{◌≡◌, ℕ, ◌+◌, ◌<◌, List, [], ◌∷◌, ◌++◌, map, length, take, get_or, Some, None, refl, sym, ◌∙◌, ap, arith, subst, reverse, true, false}
 use Rattle.std.specs.Prelude.{IsPermutation, is_some, is_none, Ok, Err}
 use Rattle.std.proofs.lemmas.List.{append-nil, append_assoc, map-append, take_more, length-take, length-map}
@@ -15,7 +15,7 @@ use Rattle.office_tables.specs.Alterations.{after_all}
 use Rattle.office_tables.specs.Meta.{no_meta, with_meta}
 use Rattle.office_tables.specs.Enrol.{with_enrol}
 use Rattle.office_tables.specs.Tables.{Tables, empty_tables}
-use Rattle.office_tables.specs.Standing.{Stands}
+use Rattle.office_tables.specs.TablesHeld.{HoldsTables}
 use Rattle.office_tables.specs.declared.enrol.InsertEnrol.{InsertEnrol}
 use Rattle.office_tables.specs.declared.enrol.EnrolRow.{EnrolRow}
 use Rattle.office_tables.proofs.AlterationLemmas.{enrols_put}
@@ -29,6 +29,7 @@ use Rattle.office_store.specs.Memory.{IsMemoryOf, draft_at}
 use Rattle.office_store.specs.declared.memory.OfficeMemory.{OfficeMemory}
 use Rattle.office_store.proofs.CommandLemmas.{Denies, Moves, Remembers}
 use Rattle.office_store.proofs.RememberingLemmas.{next_is}
+use Rattle.office_records.specs.FoundPublications.{publication_from}
 use Rattle.office_records.specs.Representation.{TablesRepresentRecords, RepresentsOffice}
 use Rattle.office_records.specs.TableRows.{enrol_row}
 
@@ -89,13 +90,13 @@ module _ (I : Session) (E : Enrolled) (text : List ℕ) (rows : List EnrolRow)
     batches = record { same = IsPermutation-refl []; fit = tt };
   }
 
-  -- the database stands for the office with that session alone
+  -- the database represents the office with only that session
   session_kept : (a b : Database) → RepresentsOffice a None
-      → ((t : Tables) → Stands a t → Stands b (session_put text rows t))
+      → ((t : Tables) → HoldsTables a t → HoldsTables b (session_put text rows t))
       → IsInstance I → AreEnrolled I E → RepresentsOffice b (Some (fresh (I, E)))
   session_kept a b kept makes is are = record {
     held = session_put text rows empty_tables;
-    tables = makes empty_tables (subst (Stands a) kept.stands kept.tables);
+    tables = makes empty_tables (subst (HoldsTables a) kept.stands kept.tables);
     stands = session_stands;
     sound = record {
       scored = tt;
@@ -142,7 +143,7 @@ pub load_denied : (text : List ℕ) (s : Session × Enrolled) (a : Database) (m 
     → instance_in text ≡ Ok s → is_some m.kept ≡ true → Denies (loaded text) Loaded a m
 load_denied text s a m read some o kept is = loaded_again text s o read (some_kept m o is some)
 
--- rows that are put in are those that were made
+-- the rows that are inserted are those that were made
 pub same_pairs : (its made : List InsertEnrol) (E : Enrolled) → its ≡ made
     → IsPermutation (map (λ (it : InsertEnrol). it.row) made) (map enrol_row (pairs_of E))
     → IsPermutation (map (λ (it : InsertEnrol). it.row) its) (map enrol_row (pairs_of E))
@@ -157,15 +158,15 @@ pub load_moves : (text : List ℕ) (I : Session) (E : Enrolled) (counts : loadin
     → IsPermutation (map (λ (it : InsertEnrol). it.row) its) (map enrol_row (pairs_of E))
     → IsInstance I
     → AreEnrolled I E → is_some m.kept ≡ false
-    → ((t : Tables) → Stands a t → Stands b (after_all (λ (it : InsertEnrol). with_enrol it.row) its
+    → ((t : Tables) → HoldsTables a t → HoldsTables b (after_all (λ (it : InsertEnrol). with_enrol it.row) its
     (with_meta false stored (no_meta t))))
     → Moves (loaded text) counts a b m
 load_moves text I E counts stored its a b m read counted is_text are_rows is are empty comes o kept
     held =
     let none = none_kept m o held empty in
     let rows = map (λ (it : InsertEnrol). it.row) its in
-    let makes : (t : Tables) → Stands a t → Stands b (session_put stored rows t)
-    = λ t h. subst (Stands b) (enrols_put its (with_meta false stored (no_meta t))) (comes t h) in (
+    let makes : (t : Tables) → HoldsTables a t → HoldsTables b (session_put stored rows t)
+    = λ t h. subst (HoldsTables b) (enrols_put its (with_meta false stored (no_meta t))) (comes t h) in (
       Some (fresh (I, E)),
       ap (loaded text) none ∙ loaded_first text (I, E) read
           ∙ ap (λ k. Ok (k, Some (fresh (I, E)))) (sym counted),
@@ -176,9 +177,14 @@ load_moves text I E counts stored its a b m read counted is_text are_rows is are
 pub load_remembers : (text : List ℕ) (I : Session) (E : Enrolled) (counts : loading.Loaded)
     (a : Database) (m n : OfficeMemory) → instance_in text ≡ Ok (I, E)
     → counts ≡ loaded_of (I, E) → is_some m.kept ≡ false → n.kept ≡ Some (I, E) → n.batches ≡ 0
-    → ((d : ℕ) → draft_at n.drafts d ≡ None) → Remembers (loaded text) counts a m n
-load_remembers text I E counts a m n read counted empty kept batches drafts o here is new gives =
+    → ((d : ℕ) → draft_at n.drafts d ≡ None) → n.published ≡ None → Remembers (loaded text) counts a m n
+load_remembers text I E counts a m n read counted empty kept batches drafts published o here is new gives =
     subst (λ o. IsMemoryOf o n)
     (next_is (ap (loaded text) (sym (none_kept m o is empty)) ∙ gives)
     (loaded_first text (I, E) read))
-    (record { session = sym kept; batches = sym batches; drafts = drafts })
+    (record {
+      session = sym kept;
+      batches = sym batches;
+      drafts = drafts;
+      published = sym (ap publication_from published);
+    })

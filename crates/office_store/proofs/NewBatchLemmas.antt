@@ -6,15 +6,18 @@ use Rattle.std.proofs.lemmas.Bool.Decides.{nat_tests}
 use Rattle.sqlite.specs.Effect.{Database}
 use Rattle.sqlite_trees.proofs.ListLemmas.{all_weaker}
 use Rattle.exam_terms.specs.Refusing.{◌>>=◌, unless}
-use Rattle.exam_model.specs.Enrolments.{Enrolled, pair_count}
+use Rattle.exam_model.specs.Enrolments.{AreEnrolments, Enrolled, has_number, pair_count}
 use Rattle.exam_model.specs.Instance.{Session}
 use Rattle.exam_model.specs.Timetable.{Placing}
 use Rattle.exam_model.specs.declared.change.Change.{Change}
 use Rattle.exam_draft.specs.declared.fault.EditFault.TheVariants.{NoSuch}
+use Rattle.exam_score.specs.Rescoring.{OthersUnchanged}
+use Rattle.exam_score.specs.Track.{track}
 use Rattle.office_tables.specs.declared.draft.DraftRow.{DraftRow}
-use Rattle.office_enrolment.specs.AfterBatch.{Refuses, after_batch, latest, names_exam}
+use Rattle.office_enrolment.specs.AfterBatch.{Refuses, acting, after_batch, latest, names_exam}
 use Rattle.office_enrolment.specs.Keeping.{batch_stored}
 use Rattle.office_enrolment.proofs.OfficeLemmas.{as_office}
+use Rattle.office_enrolment.proofs.OthersLemmas.{others_after}
 use Rattle.office_model.specs.BatchLines.{after_change, counted, enrolled, no_counts}
 use Rattle.office_model.specs.Batches.{newly_enrolled}
 use Rattle.office_model.specs.Commands.{CommandResult}
@@ -23,16 +26,17 @@ use Rattle.office_model.specs.declared.counts.Counts.{Counts}
 use Rattle.office_model.specs.declared.fault.Refusal.TheVariants as refusal
 use Rattle.office_model.specs.declared.fault.StoreFault.{StoreFault}
 use Rattle.office_model.specs.declared.fault.StoreFault.TheVariants.{Refused, TooMany}
+use Rattle.office_records.specs.Memory.{memory_of}
 use Rattle.office_records.specs.Representation.{RepresentsOffice}
 use Rattle.office_records.specs.TableRows.{once}
-use Rattle.office_store.specs.Memory.{AreDraftRows, AreRescored, IsMemoryOf, draft_at, rescored, scored_by}
-use Rattle.office_store.specs.NewBatches.{AreDraftsWith}
+use Rattle.office_store.specs.Memory.{AreDraftRows, AreRescored, AreScored, IsMemoryOf, draft_at, rescored, scored_by}
+use Rattle.office_store.specs.NewBatches.{AreDraftsWith, students_of}
 use Rattle.office_store.specs.Running.{IsFault}
 use Rattle.office_store.specs.declared.memory.Draft.{Draft}
 use Rattle.office_store.specs.declared.memory.OfficeMemory.{OfficeMemory}
 use Rattle.office_store.proofs.RememberingLemmas.{twice}
 
--- lines are refused for too many pairs alone
+-- lines are refused only for too many pairs
 lines_fault : (changes : List Change) (E : Enrolled) (n : Counts) (fault : StoreFault)
     → enrolled changes E n ≡ Err fault → fault ≡ TooMany
 lines_fault [] E n fault is = absurd (cc is)
@@ -68,7 +72,7 @@ module _ (number : ℕ) (bytes : List ℕ) (changes : List Change) (r : Records)
       as_office number bytes changes r exams
       ∙ ap (λ (j : Result (Counts × Enrolled) StoreFault). j >>= batch_stored number bytes r) is
 
-  -- its lines refuse it, or memory
+  -- the batch is refused for its lines, or memory runs out
   pub lines_refuse : (fault : StoreFault) → Refuses (after_batch changes r.enrolments) fault
       → IsFault gives fault
   lines_refuse fault (inr memory) = subst (IsFault gives) (sym memory) tt
@@ -86,7 +90,7 @@ module _ (number : ℕ) (bytes : List ℕ) (changes : List Change) (r : Records)
       let none : nat_lt (length r.batches) 10000 ≡ false = grind (arith, nat_tests, full) in
       judged_so (Ok done) is ∙ rw none refl
 
--- what is at hand are the records' enrolments
+-- the enrolments in memory are those of the records
 pub same_enrolled : (r : Records) (I : Session) (E : Enrolled)
     → ◌≡◌ {A = Option (Session × Enrolled)} (Some (r.session, r.enrolments)) (Some (I, E))
     → (r.session ≡ I) × (r.enrolments ≡ E)
@@ -98,9 +102,24 @@ same_enrolled r I E is = (
     some_is : {X : Type 0} {x y : X} → Some x ≡ Some y → x ≡ y
     some_is e = cc
 
+-- the drafts in memory have their penalties by the enrolments in memory
+pub memory_scored : (r : Records) (m : OfficeMemory) (I : Session) (E : Enrolled)
+    → IsMemoryOf (Some r) m → memory_of (Some r) ≡ Some (I, E) → AreScored I E m.drafts
+memory_scored r m I E is kept d draft at =
+    let same = same_enrolled r I E kept in
+    scored_parts (r.draft d) (sym (is.drafts d) ∙ at)
+    ∙ (λ i. track (same.0 i) (same.1 i) draft.timetable)
+  where
+    scored_parts : (x : Option Placing) → option_map (scored_by r.session r.enrolments) x ≡ Some draft
+        → draft.parts ≡ track r.session r.enrolments draft.timetable
+    scored_parts None none = absurd cc
+    scored_parts (Some T) some =
+        let is : scored_by r.session r.enrolments T ≡ draft = cc some in
+        subst (λ (y : Draft). y.parts ≡ track r.session r.enrolments y.timetable) is refl
+
 -- ---- enrolments that a batch made, or left
 
--- they are of as many exams
+-- they are of the same number of exams
 pub latest_exams : (made : Option Enrolled) (E : Enrolled) (n : ℕ)
     → IfSome made (λ F. length F ≡ n) → length E ≡ n → length (latest made E) ≡ n
 latest_exams (Some F) E n new old = new
@@ -110,6 +129,15 @@ pub made_exams : (made : Option Enrolled) (E : Enrolled) (n : ℕ) → length (l
     → IfSome made (λ F. length F ≡ n)
 made_exams (Some F) E n is = is
 made_exams None E n is = tt
+
+-- only the students of acting lines sit other exams
+pub made_others : (changes : List Change) (E : Enrolled) (made : Option Enrolled) (counts : Counts)
+    (lines : List Change) → AreEnrolments E → after_batch changes E ≡ Ok (counts, latest made E)
+    → lines ≡ acting changes E → IfSome made (OthersUnchanged (students_of lines) E)
+made_others changes E (Some F) counts lines known is are = λ s e other.
+    others_after changes E (counts, F) known is s e
+    (subst (λ (l : List Change). has_number (students_of l) s ≡ false) are other)
+made_others changes E None counts lines known is are = tt
 
 -- ---- drafts with other enrolments
 
@@ -149,7 +177,7 @@ rows_anew db r m F made rows kept is exams scored are = record {
         → draft_at made d ≡ Some (scored_by r.session F T)
     at d T there = made_at d ∙ ap (option_map (scored_by r.session F)) there
 
--- the drafts with those that were made
+-- the drafts in memory are the rescored ones, if the batch made any
 pub latest_drafts : (db : Database) (r : Records) (m : OfficeMemory) (I : Session)
     (made : Option Enrolled) (drafts : List (Option Draft)) (rows : List DraftRow)
     → RepresentsOffice db (Some r) → IsMemoryOf (Some r) m → r.session ≡ I
@@ -162,7 +190,7 @@ latest_drafts db r m I (Some F) drafts rows kept is same exams scored are some =
     (subst (λ J. AreRescored J F m.drafts drafts) (sym same) scored) are
 latest_drafts db r m I None drafts rows kept is same exams scored are some = absurd (some refl)
 
--- ---- lists that are put in
+-- ---- lists that are written
 
 pub taken_back : {X Y : Type 0} (put : X → Y) (row : Y → X) → ((x : X) → row (put x) ≡ x)
     → (xs : List X) → map row (map put xs) ≡ xs

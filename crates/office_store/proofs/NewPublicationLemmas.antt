@@ -1,9 +1,11 @@
--- What is put in where a draft is published.
+-- The writes of a publication.
 use Rattle.std.proofs.Common.{◌≡◌, ◌≢◌, ℕ, zero, suc, ◌+◌, ◌-◌, ◌<◌, ◌≤◌, List, length}
-use Rattle.std.proofs.Common.{Some, None, Result, Ok, Err, refl, sym, ◌∙◌, ap, subst, arith}
-use Rattle.std.specs.Prelude.{IfErr, IfOk, IsPermutation, slice_get, slice_index}
+use Rattle.std.proofs.Common.{Some, None, Ok, Err, refl, sym, ◌∙◌, ap, subst, arith}
+use Rattle.std.specs.Prelude.{IsPermutation, Vec, slice_get, slice_index}
+use Rattle.std.specs.declared.alloc.Global.{Global}
 use Rattle.std.proofs.lemmas.Option.{get_or_from_slice_get, slice_get_within}
 use Rattle.std.proofs.lemmas.List.FromFn.{length-map-range_with_len}
+use Rattle.std.proofs.lemmas.List.Sorted.{IsPermutation-refl}
 use Rattle.exam_model.specs.Enrolments.{Enrolled, IsAscending}
 use Rattle.exam_model.specs.Instance.{IsInstance, Session}
 use Rattle.exam_model.specs.Pairs.{pairs_of}
@@ -23,6 +25,7 @@ use Rattle.office_model.specs.Publishing.{draft_published, publication_rows}
 use Rattle.office_model.specs.declared.fault.Refusal.TheVariants as refusal
 use Rattle.office_model.specs.declared.fault.StoreFault.{StoreFault}
 use Rattle.office_model.specs.declared.fault.StoreFault.TheVariants.{Refused, Store}
+use Rattle.office_records.specs.FoundPublications.{publication}
 use Rattle.office_records.specs.Memory.{memory_of}
 use Rattle.office_records.specs.Publications.{placed_rows}
 use Rattle.office_records.specs.PartShares.{HasFewParts}
@@ -80,7 +83,7 @@ same_session r I E memory = ap (λ (p : Session × Enrolled). p.0) both
 
 -- ---- refusals
 
--- a failed statement, or memory that was refused, is no word on the draft
+-- a failed statement, or out of memory, is not a refusal of the draft
 pub only_failed : (d : ℕ) (r : Records) (e : StoreFault) → e ≡ Store → Publishes d r (Err e)
 only_failed d r e is = subst (IsFault (draft_published d (Some r))) (sym is) tt
 
@@ -115,21 +118,21 @@ module _ (d : ℕ) (r : Records) (I : Session) (E : Enrolled) (T : Placing)
           subst (IsFault (draft_published d (Some r))) (sym (refused (λ e. absurd cc)))
           (refused_so d r T (Broken b) there is)
 
-  -- ---- what is put in
+  -- ---- the writes
 
-  pub publishes : (before : List PlacedRow) (old rows : List SeatRow) (penalty : ℕ)
-      (result : Result NewPublication StoreFault) → publish_refusal I E T ≡ None
-      → IsPermutation before (placed_rows r.published)
-      → old ≡ publication_rows r.published → rows ≡ seat_rows (pairs_of E) T old
-      → penalty ≡ total_of (track I E T) → IfOk result (AreInserted I T before old rows penalty)
-      → IfErr result (λ e. e ≡ Store) → Publishes d r result
-  publishes before old rows penalty (Ok new) permitted were was are costs put err = record {
+  pub publishes : (before : List PlacedRow) (old : List SeatRow) (rows : Vec SeatRow Global)
+      (penalty : ℕ) (new : NewPublication) (U : Placing) → publish_refusal I E T ≡ None
+      → before ≡ placed_rows r.published → old ≡ publication_rows r.published
+      → rows.items ≡ seat_rows (pairs_of E) T old → penalty ≡ total_of (track I E T)
+      → AreInserted I T before old rows.items penalty new → U ≡ T
+      → Publishes d r (Ok (new, (U, rows)))
+  publishes before old rows penalty new U permitted were was are costs put same = record {
     timetable = T;
     draft = there;
     permitted = subst (λ (p : Session × Enrolled). publish_refusal p.0 p.1 T ≡ None) (sym both)
         permitted;
     before = before;
-    were = were;
+    were = subst (IsPermutation before) were (IsPermutation-refl before);
     put = subst (λ (p : Session × Enrolled). AreInserted p.0 T before (publication_rows r.published)
         (seat_rows (pairs_of p.1) T (publication_rows r.published))
         (total_of (track p.0 p.1 T)) new)
@@ -138,7 +141,10 @@ module _ (d : ℕ) (r : Records) (I : Session) (E : Enrolled) (T : Placing)
         (seat_rows (pairs_of E) T (publication_rows r.published)) n new) costs
         (subst (λ l. AreInserted I T before (publication_rows r.published) l penalty new)
         (are ∙ ap (seat_rows (pairs_of E) T) was)
-        (subst (λ l. AreInserted I T before l rows penalty new) was put)));
+        (subst (λ l. AreInserted I T before l rows.items penalty new) was put)));
+    made = ap (λ S. Some (publication S rows.items)) same
+        ∙ ap (λ l. Some (publication T l))
+        (are ∙ ap (seat_rows (pairs_of E) T) was
+        ∙ ap (λ (p : Session × Enrolled).
+        seat_rows (pairs_of p.1) T (publication_rows r.published)) (sym both));
   }
-  publishes before old rows penalty (Err e) permitted were was are costs put err =
-      subst (IsFault (draft_published d (Some r))) (sym err) tt

@@ -1,4 +1,4 @@
--- The office that a database stands for when it is opened, by whether it has a table.
+-- The office that a database represents when it is opened, by whether it has a table.
 use Rattle.std.proofs.Common.{◌≡◌, ◌∙◌, ◌⊎◌, None, ap, arith, inl, inr, length, sym, Bool, true, false}
 use Rattle.std.proofs.Common.{Err, IfErr, IfOk, Ok, Result}
 use Rattle.std.specs.Prelude.{IsTrue}
@@ -27,19 +27,19 @@ has_some Two bare =
     = ap (λ (s : Schema). length s.tables) bare in
     omega (none, arith)
 
--- with no table, it represents only the office before its load
+-- without a table, the database represents only the office before its load
 pub before_load : (db : Database) (there : OfficeState) → db.schema ≡ no_schema
     → IsOfficeOf db there → there ≡ None
 before_load db there bare (inl is) = is.1
 before_load db there bare (inr held) =
     absurd (has_some held.0 (sym held.1.tables.schema ∙ bare))
 
--- the tables of version 2 are those of one of the two
+-- tables in version 2 are those of one of the two kinds
 pub kept_holds : (db : Database) (there : OfficeState) → RepresentsOffice db there
     → HoldsOffice db there
 kept_holds db there kept = (Two, kept, tt)
 
--- with tables, they represent it
+-- with tables, the database represents it
 pub holds : (db : Database) (there : OfficeState) → (db.schema ≡ no_schema → ⊥)
     → IsOfficeOf db there → HoldsOffice db there
 holds db there tables (inl is) = absurd (tables is.0)
@@ -55,13 +55,13 @@ pub if_ok : {A E : Type 0} (result : Result A E) (P Q T : A → Type 0)
 if_ok (Ok a) P Q T follows p q = follows a p q
 if_ok (Err e) P Q T follows p q = tt
 
--- and of an Err
+-- the same for an Err
 pub if_err : {A E : Type 0} (result : Result A E) (P Q T : E → Type 0)
     → ((e : E) → P e → Q e → T e) → IfErr result P → IfErr result Q → IfErr result T
 if_err (Ok a) P Q T follows p q = tt
 if_err (Err e) P Q T follows p q = follows e p q
 
--- a fault of the database is the store's, or what a wrong schema says
+-- a fault of the database is `Store` or `BadSchema`
 pub or_none : {fault : StoreFault} {P : Type 0} → IsOfDatabase fault → (fault ≡ BadSchema → P)
     → (fault ≡ Store) ⊎ P
 or_none (inl is) says = inl is

@@ -6,7 +6,7 @@ use Rattle.std.proofs.lemmas.List.Sorted.{IsPermutation-map, length_permutation}
 use Rattle.sqlite.specs.Effect.{Database}
 use Rattle.office_tables.specs.Alterations.{after_some}
 use Rattle.office_tables.specs.Tables.{Tables}
-use Rattle.office_tables.specs.Standing.{Stands}
+use Rattle.office_tables.specs.TablesHeld.{HoldsTables}
 use Rattle.office_tables.specs.Owner.{without_owner, with_owner}
 use Rattle.office_tables.specs.declared.owner.InsertOwner.{InsertOwner}
 use Rattle.office_tables.specs.declared.owner.OwnerRow.{OwnerRow}
@@ -89,7 +89,7 @@ module _ (t : Tables) (r : Records) (e d : ℕ) (h : TablesRepresentRecords t r)
     batches = h.batches;
   }
 
--- what is put in is the owner, or nothing
+-- the owner is inserted, or nothing
 abbrev pub comes : Option InsertOwner → Tables → Tables
 comes new t = after_some (λ (it : InsertOwner). with_owner it.row) new t
 
@@ -104,7 +104,7 @@ owner_made e d t = go (eqb d 0)
     go true = refl
     go false = refl
 
--- the parts that are stored for drafts are as before
+-- the stored rows of drafts are as before
 owner_sound : (t : Tables) (r : Records) (e d : ℕ) (b : Bool) → IsSound t (Some r)
     → IsSound (cond b (without_owner e t)
     (with_owner (record { exam = e; dept = d }) (without_owner e t)))
@@ -112,9 +112,9 @@ owner_sound : (t : Tables) (r : Records) (e d : ℕ) (b : Bool) → IsSound t (S
 owner_sound t r e d true h = record { scored = h.scored; shared = h.shared }
 owner_sound t r e d false h = record { scored = h.scored; shared = h.shared }
 
--- the database stands for the office with that owner
+-- the database represents the office with that owner
 pub owner_kept : (a b : Database) (r : Records) (e d : ℕ) → RepresentsOffice a (Some r)
-    → ((t : Tables) → Stands a t → Stands b (owner_put e d t))
+    → ((t : Tables) → HoldsTables a t → HoldsTables b (owner_put e d t))
     → e < length r.session.exams → d ≤ 999
     → RepresentsOffice b (Some (record r { owner_of = set_at e d r.owner_of }))
 owner_kept a b r e d kept makes exists few = record {
@@ -125,7 +125,7 @@ owner_kept a b r e d kept makes exists few = record {
   office = owner_records r e d exists few kept.office;
 }
 
--- what the command gives, where there is such an exam and where there is not
+-- what the command returns, by whether there is such an exam
 pub owned_there : (r : Records) (e d : ℕ) → e < length r.session.exams
     → owned e d (Some r) ≡ Ok (tt, Some (record r { owner_of = set_at e d r.owner_of }))
 owned_there r e d exists =
@@ -144,18 +144,18 @@ module _ (a : Database) (m : OfficeMemory) (I : Session) (E : Enrolled)
     (at_hand : m.kept ≡ Some (I, E)) (e d : ℕ) where
   pub owner_moves : (b : Database) → e < length I.exams → d ≤ 999 → (n : ℕ) → n ≡ e
       → (new : Option InsertOwner) → new ≡ new_owner n d
-      → ((t : Tables) → Stands a t → Stands b (comes new (without_owner n t)))
+      → ((t : Tables) → HoldsTables a t → HoldsTables b (comes new (without_owner n t)))
       → Moves (owned e d) tt a b m
   owner_moves b exists few n same new is_new comes_in o kept is =
-      let makes : (t : Tables) → Stands a t → Stands b (owner_put n d t)
-      = λ t h. subst (Stands b)
+      let makes : (t : Tables) → HoldsTables a t → HoldsTables b (owner_put n d t)
+      = λ t h. subst (HoldsTables b)
       (ap (λ x. comes x (without_owner n t)) is_new ∙ owner_made n d t) (comes_in t h) in
       let of = kept_of o I E (is.session ∙ at_hand) in
       let there = subst (λ I. e < length I.exams) (sym of.session) exists in (
         _,
         ap (owned e d) of.is ∙ owned_there of.records e d there,
         owner_kept a b of.records e d (subst (RepresentsOffice a) of.is kept)
-            (subst (λ n. (t : Tables) → Stands a t → Stands b (owner_put n d t)) same makes) there
+            (subst (λ n. (t : Tables) → HoldsTables a t → HoldsTables b (owner_put n d t)) same makes) there
             few,
       )
 
@@ -167,7 +167,7 @@ module _ (a : Database) (m : OfficeMemory) (I : Session) (E : Enrolled)
       subst (λ o. IsMemoryOf o m)
       (next_is (ap (owned e d) (sym of.is) ∙ gives) (owned_there r e d there))
       (all_stays r (record r { owner_of = set_at e d r.owner_of }) m
-      (subst (λ o. IsMemoryOf o m) of.is is) refl refl refl refl)
+      (subst (λ o. IsMemoryOf o m) of.is is) refl refl refl refl refl)
 
   pub no_exam_denied : length I.exams ≤ e → Denies (owned e d) (Refused (Edit NoSuch)) a m
   no_exam_denied none o kept is =

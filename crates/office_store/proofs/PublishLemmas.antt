@@ -1,4 +1,4 @@
--- A publication that is put in.
+-- A publication that is written.
 use Rattle.std.proofs.Common.{◌≡◌, ℕ, true, not, eqb, List, [], ◌∷◌, ◌++◌}
 use Rattle.std.proofs.Common.{map, filter, reverse, Option, Some, None, Result, Ok, Err, refl}
 use Rattle.std.proofs.Common.{sym, ◌∙◌, ap, ap₂, subst, arith}
@@ -12,22 +12,20 @@ use Rattle.std.proofs.lemmas.List.Sorted.{IsPermutation-append, IsPermutation-re
 use Rattle.std.proofs.lemmas.List.Sorted.{length_permutation}
 use Rattle.std.proofs.lemmas.List.Sorted.{IsPermutation-reverse, IsPermutation-sym, IsPermutation-trans}
 use Rattle.sqlite.specs.Effect.{Database}
-use Rattle.sqlite.specs.Held.{Held, state}
-use Rattle.sqlite.specs.State.{HasCleanDisk}
-use Rattle.sqlite.specs.Store.{Ghosts}
 use Rattle.exam_model.specs.Enrolments.{Enrolled, has_number}
 use Rattle.exam_model.specs.Fits.{Fits}
 use Rattle.exam_model.specs.Instance.{Session}
 use Rattle.exam_model.specs.Timetable.{Placing}
 use Rattle.exam_publish.specs.Changed.{changed_students}
 use Rattle.exam_publish.specs.Permit.{publish_refusal}
+use Rattle.exam_publish.specs.declared.seat_row.SeatRow.{SeatRow}
 use Rattle.office_tables.specs.Alterations.{after_all}
 use Rattle.office_tables.specs.SharePart.{no_part_shares, with_part_share}
 use Rattle.office_tables.specs.Placed.{with_placement, without_placement}
 use Rattle.office_tables.specs.Seat.{with_seat, without_student_seats}
 use Rattle.office_tables.specs.ShareStudent.{with_student_share, without_student_share}
 use Rattle.office_tables.specs.Tables.{Meta, Tables}
-use Rattle.office_tables.specs.Standing.{Stands}
+use Rattle.office_tables.specs.TablesHeld.{HoldsTables}
 use Rattle.office_tables.proofs.AlterationLemmas.{part_shares_put, placements_gone, placements_put, seats_put}
 use Rattle.office_tables.proofs.AlterationLemmas.{student_seats_gone, student_shares_gone}
 use Rattle.office_tables.proofs.AlterationLemmas.{student_shares_put}
@@ -60,19 +58,18 @@ use Rattle.office_store.specs.PublicationChanges.{publication_put, shares_put}
 use Rattle.office_store.specs.NewPublications.{AreInserted, IsInserted, Publishes}
 use Rattle.office_store.specs.NewPublications.{InsertsOrRefuses, mark_text}
 use Rattle.office_store.specs.RowPuts.{place_gone, placement_put}
-use Rattle.office_store.specs.Memory.{IsMemoryOf, scored_draft}
-use Rattle.office_store.specs.Running.{IsCommitted, StateUnchanged}
+use Rattle.office_store.specs.Memory.{HasPublished, IsMemoryOf, scored_draft}
 use Rattle.office_store.specs.declared.memory.OfficeMemory.{OfficeMemory}
 use Rattle.office_store.specs.declared.new_publication.NewPublication.{NewPublication}
 use Rattle.office_store.proofs.ChangedPlacementLemmas.{AreOwnExams, own_exams, stored_put}
 use Rattle.office_store.proofs.CommandLemmas.{Moves, Remembers}
-use Rattle.office_store.proofs.RememberingLemmas.{all_stays, next_is}
+use Rattle.office_store.proofs.RememberingLemmas.{next_is, published_changed}
 use Rattle.office_store.proofs.NewBatchLemmas.{taken_back}
 use Rattle.office_store.proofs.RunLemmas.{nothing_kept}
 
 -- ---- what the parts of the transaction make of the tables, one after the other
 
--- a candidate is among those whose rows go
+-- whether a candidate is among those whose rows are deleted
 among : {X : Type 0} (student : X → ℕ) (s : ℕ) (its : List X)
     → list_any (λ it. eqb s (student it)) its ≡ has_number (map student its) s
 among student s [] = refl
@@ -193,7 +190,7 @@ module _ (gone : List DeleteStudentShare) (students : List InsertStudentShare)
   all_shares : (t : Tables) → parts_made (students_made t) ≡ shares_said t
   all_shares t = ap parts_made (students_are t) ∙ parts_are (students_said t)
 
--- what is made of lists that are these is made of a new publication
+-- writes with the same lists are those of the new publication
 pub places_made : (new : NewPublication) (away : List DeletePlacement) (ps : List InsertPlacement)
     (gone : List DeleteStudentSeats) (ss : List InsertSeat)
     → away ≡ new.places_gone.items → ps ≡ new.placements.items
@@ -218,14 +215,14 @@ pub shares_made : (new : NewPublication) (gone : List DeleteStudentShare)
 shares_made new gone students parts a b c t =
     all_shares gone students parts t ∙ (λ i. shares_said (a i) (b i) (c i) t)
 
--- ---- the rows that are put in
+-- ---- the rows that are inserted
 
--- rows that are put in, one after the other
+-- rows that are inserted, one after the other
 put_in : {X : Type 0} (rows xs : List X) → rows ≡ xs → IsPermutation (reverse rows) xs
 put_in rows xs is =
     subst (IsPermutation (reverse rows)) is (IsPermutation-sym _ _ (IsPermutation-reverse rows))
 
--- rows that come in front of those that are left where these candidates' rows are gone
+-- inserted rows in front of the rows that are left after a delete
 put_over : {X : Type 0} (left : List ℕ → List X) (gone who : List ℕ) (rows xs : List X)
     → gone ≡ who → rows ≡ xs → IsPermutation (reverse rows ++ left gone) (xs ++ left who)
 put_over left gone who rows xs same is =
@@ -238,7 +235,7 @@ own_of : (published : Option Publication) (before : List PlacedRow)
 own_of None before were = own_exams [] before were
 own_of (Some p) before were = own_exams p.timetable before were
 
--- the placements afterwards are those of the timetable: some stay, some go and some come
+-- the placements afterwards are those of the timetable: unchanged ones and inserted ones
 placed_in : (published : Option Publication) (rows before placed : List PlacedRow)
     (gone : List DeletePlacement) (put : List InsertPlacement)
     → gone ≡ map place_gone (changed_rows before rows)
@@ -258,7 +255,7 @@ placed_in published rows before placed gone put away come were are =
     (changed_rows rows before)))
     (stored_put rows before placed (own_of published before were) are)
 
--- the row about the office says afterwards that something is published of the session, whether it
+-- afterwards the row about the office says that something is published of the session, whether it
 -- is written or says so already
 meta_in : (I : Session) (published : Option Publication) (before : List PlacedRow)
     (text : Option (Vec ℕ Global)) → IsPermutation before (placed_rows published)
@@ -347,11 +344,11 @@ module _ (r : Records) (T : Placing) (is : AreRecords r) (fits : Fits r.session 
       };
     }
 
-  -- the database stands for the office with the publication
+  -- the database represents the office with the publication
   published_kept : (a b : Database) (before : List PlacedRow)
       → IsPermutation before (placed_rows r.published) → (penalty : ℕ) (new : NewPublication)
       → AreInserted r.session T before (publication_rows r.published) new_one.rows penalty new
-      → RepresentsOffice a (Some r) → ((t : Tables) → Stands a t → Stands b (publication_put new t))
+      → RepresentsOffice a (Some r) → ((t : Tables) → HoldsTables a t → HoldsTables b (publication_put new t))
       → RepresentsOffice b (Some (record r { published = Some new_one }))
   published_kept a b before were penalty new put kept makes = record {
     held = publication_put new kept.held;
@@ -361,7 +358,7 @@ module _ (r : Records) (T : Placing) (is : AreRecords r) (fits : Fits r.session 
     office = published_records r T is fits permitted;
   }
 
--- ---- what the command gives
+-- ---- what the command returns
 
 publish_gives : (d : ℕ) (r : Records) (T : Placing) → r.draft d ≡ Some T
     → publish_refusal r.session r.enrolments T ≡ None
@@ -377,15 +374,17 @@ publish_gives d r T there permitted = rw (there, permitted) refl
 
 -- ---- the calls that publish
 
--- what is put in for these records is put in for their office
-in_office : (d : ℕ) (r : Records) (result : Result NewPublication StoreFault)
+-- the writes for an office's records are those for the office
+in_office : (d : ℕ) (r : Records)
+    (result : Result (NewPublication × (Placing × Vec SeatRow Global)) StoreFault)
     → Publishes d r result → InsertsOrRefuses d (Some r) result
 in_office d r (Ok new) puts = record { records = r; is = refl; put = puts }
 in_office d r (Err fault) refused = refused
 
--- what is in memory tells of whatever office stands there
+-- what is in memory decides for each office that is represented
 pub puts_in_memory : (m : OfficeMemory) (I : Session) (E : Enrolled) → m.kept ≡ Some (I, E)
-    → (d : ℕ) (result : Result NewPublication StoreFault) (o : OfficeState) → IsMemoryOf o m
+    → (d : ℕ) (result : Result (NewPublication × (Placing × Vec SeatRow Global)) StoreFault)
+    (o : OfficeState) → IsMemoryOf o m
     → ((r : Records) → o ≡ Some r → memory_of (Some r) ≡ Some (I, E) → IsMemoryOf (Some r) m
     → Publishes d r result)
     → InsertsOrRefuses d o result
@@ -398,7 +397,7 @@ pub none_published : (m : OfficeMemory) → m.kept ≡ None → (d : ℕ) (o : O
     → IsMemoryOf o m → draft_published d o ≡ Err NotLoaded
 none_published m none d o is = ap (draft_published d) (nothing_kept o (is.session ∙ none))
 
--- there is no such draft
+-- no draft has this number
 pub no_such_draft : (d : ℕ) (r : Records) → scored_draft d (Some r) ≡ None
     → draft_published d (Some r) ≡ Err NoDraft
 no_such_draft d r none = go (r.draft d) refl
@@ -407,52 +406,38 @@ no_such_draft d r none = go (r.draft d) refl
     go None is = rw is refl
     go (Some T) is = absurd (let some = rw is at none in cc)
 
-module _ {S : Type 0} (g : Ghosts S) (first mid inside : Held S) (view : inside ≡ mid)
-    (d : ℕ) where
-  -- the transaction makes of the office what the command does
-  pub publication_moves : (b : Database) (m : OfficeMemory) (new : NewPublication)
-      → (HasCleanDisk (state g mid) → StateUnchanged (state g first) (state g mid))
-      → (HasCleanDisk (state g mid) → IsCommitted (state g mid))
-      → (HasCleanDisk (state g mid) → (o : OfficeState) → RepresentsOffice (state g first).now o
-      → IsInserted d o new)
-      → HasCleanDisk (state g inside)
-      → ((t : Tables) → Stands (state g inside).now t
-      → Stands b (publication_put new t))
-      → Moves (draft_published d) new.counts (state g inside).now b m
-  publication_moves b m new still opened puts clean makes o kept is =
-      let here = subst (λ h. HasCleanDisk (state g h)) view clean in
-      let there = subst (λ h. RepresentsOffice (state g h).now o) view kept in
-      let was = subst (λ db. RepresentsOffice db o) (still here (opened here).0).1 there in
-      let of = puts here o was in
-      let r = of.records in
-      let put = of.put in
-      let T = put.timetable in
-      let held = subst (RepresentsOffice (state g inside).now) of.is kept in
-      let fits = held.office.drafts d T put.draft in (
-        Some (record r { published = Some (published_as r T) }),
-        ap (draft_published d) of.is ∙ publish_gives d r T put.draft put.permitted
-            ∙ ap (λ n. Ok (n, Some (record r { published = Some (published_as r T) })))
-            (sym put.put.counts),
-        published_kept r T held.office fits put.permitted (state g inside).now
-            b put.before put.were _ new put.put held makes,
-      )
+-- the transaction changes the office as the command does
+pub publication_moves : (d : ℕ) (a b : Database) (m : OfficeMemory) (new : NewPublication)
+    (published : Placing × Vec SeatRow Global)
+    → ((o : OfficeState) → IsMemoryOf o m → IsInserted d o new published)
+    → ((t : Tables) → HoldsTables a t → HoldsTables b (publication_put new t))
+    → Moves (draft_published d) new.counts a b m
+publication_moves d a b m new published puts makes o kept is =
+    let of = puts o is in
+    let r = of.records in
+    let put = of.put in
+    let T = put.timetable in
+    let held = subst (RepresentsOffice a) of.is kept in
+    let fits = held.office.drafts d T put.draft in (
+      Some (record r { published = Some (published_as r T) }),
+      ap (draft_published d) of.is ∙ publish_gives d r T put.draft put.permitted
+          ∙ ap (λ n. Ok (n, Some (record r { published = Some (published_as r T) })))
+          (sym put.put.counts),
+      published_kept r T held.office fits put.permitted a b put.before put.were _ new put.put held
+          makes,
+    )
 
-  pub publication_remembers : (m : OfficeMemory) (new : NewPublication)
-      → (HasCleanDisk (state g mid) → StateUnchanged (state g first) (state g mid))
-      → (HasCleanDisk (state g mid) → IsCommitted (state g mid))
-      → (HasCleanDisk (state g mid) → (o : OfficeState) → RepresentsOffice (state g first).now o
-      → IsInserted d o new)
-      → HasCleanDisk (state g inside)
-      → Remembers (draft_published d) new.counts (state g inside).now m m
-  publication_remembers m new still opened puts clean o kept is next gives =
-      let here = subst (λ h. HasCleanDisk (state g h)) view clean in
-      let there = subst (λ h. RepresentsOffice (state g h).now o) view kept in
-      let was = subst (λ db. RepresentsOffice db o) (still here (opened here).0).1 there in
-      let of = puts here o was in
-      let r = of.records in
-      let put = of.put in
-      subst (λ o. IsMemoryOf o m)
-      (next_is (ap (draft_published d) (sym of.is) ∙ gives)
-      (publish_gives d r put.timetable put.draft put.permitted))
-      (all_stays r (record r { published = Some (published_as r put.timetable) }) m
-      (subst (λ o. IsMemoryOf o m) of.is is) refl refl refl refl)
+-- what is in memory afterwards is of the office after the command
+pub publication_remembers : (d : ℕ) (a : Database) (m n : OfficeMemory) (new : NewPublication)
+    (published : Placing × Vec SeatRow Global)
+    → ((o : OfficeState) → IsMemoryOf o m → IsInserted d o new published)
+    → HasPublished published m n → Remembers (draft_published d) new.counts a m n
+publication_remembers d a m n new published puts has o kept is next gives =
+    let of = puts o is in
+    let r = of.records in
+    let put = of.put in
+    subst (λ o. IsMemoryOf o n)
+    (next_is (ap (draft_published d) (sym of.is) ∙ gives)
+    (publish_gives d r put.timetable put.draft put.permitted))
+    (published_changed r m n published (published_as r put.timetable)
+    (subst (λ o. IsMemoryOf o m) of.is is) has put.made)

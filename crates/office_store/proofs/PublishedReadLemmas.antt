@@ -1,7 +1,7 @@
--- What the rows that are read say of what is published.
-use Rattle.std.proofs.Common.{◌≡◌, ◌↔◌, ℕ, ◌≤◌, Bool, true, false, List, [], ◌∷◌, ◌++◌, Option, Some}
-use Rattle.std.proofs.Common.{None, Ok, Err, Result, refl, sym, ◌∙◌, ap, subst, map, length, arith}
-use Rattle.std.specs.Prelude.{IfOk, IsErrAnd, IsPermutation, IsTrue, Vec, is_some, option_map}
+-- What memory and the rows of shares mean for the publication.
+use Rattle.std.proofs.Common.{◌≡◌, ℕ, ◌≤◌, List, [], ◌∷◌, ◌++◌, Option, Some}
+use Rattle.std.proofs.Common.{None, Ok, Err, Result, refl, sym, ◌∙◌, ap, subst, length, arith}
+use Rattle.std.specs.Prelude.{IfOk, IsErrAnd, IsPermutation, Vec, option_map}
 use Rattle.std.specs.declared.alloc.Global.{Global}
 use Rattle.std.proofs.lemmas.List.{nil_from_length}
 use Rattle.std.proofs.lemmas.List.FromFn.{length-map-range_with_len}
@@ -10,55 +10,36 @@ use Rattle.std.proofs.lemmas.List.Sorted.{length_permutation}
 use Rattle.exam_model.specs.Enrolments.{Enrolled}
 use Rattle.exam_model.specs.Instance.{Session, IsInstance}
 use Rattle.exam_model.specs.Timetable.{Placing}
-use Rattle.exam_publish.specs.Permit.{IsComplete}
 use Rattle.exam_publish.specs.Shares.{Sharing, exam_shares, shares_of}
 use Rattle.exam_publish.proofs.AddUpLemmas.{adds_up}
 use Rattle.sqlite.specs.Effect.{Database}
 use Rattle.office_tables.specs.Tables.{Tables}
 use Rattle.office_tables.specs.declared.share_part.PartShareRow.{PartShareRow}
-use Rattle.office_tables.specs.declared.placed.PlacedRow.{PlacedRow}
-use Rattle.office_tables.specs.declared.seat.SeatRow.{SeatRow}
 use Rattle.office_tables.specs.declared.share_student.StudentShareRow.{StudentShareRow}
 use Rattle.office_model.specs.Office.{AreRecords, IsOffice, IsPublication, OfficeState}
 use Rattle.office_model.specs.Office.{Publication, Records}
-use Rattle.office_model.specs.Publishing.{publication_rows}
 use Rattle.office_model.specs.declared.fault.StoreFault.{StoreFault}
 use Rattle.office_records.specs.Memory.{Memory, memory_of}
 use Rattle.office_records.specs.Faults.{store_fault}
-use Rattle.office_records.specs.Publications.{ArePublicationRows, RowsRepresentPublication}
-use Rattle.office_records.specs.FoundPublications.{ArePlaces, ArePublished, publication_from}
-use Rattle.office_records.specs.Publications.{placed_from, placed_rows, stored_seat}
 use Rattle.office_records.specs.SharesStored.{AreShared}
 use Rattle.office_records.specs.PartShares.{part_rows, plain_rows}
 use Rattle.office_records.specs.Representation.{RepresentsOffice, IsSound, TablesRepresentOffice}
-use Rattle.office_records.proofs.PlacedRowLemmas.{same_places}
 use Rattle.office_records.proofs.ReadableLemmas.{are_numbered}
 use Rattle.office_records.specs.declared.fault.RecordFault.{RecordFault}
 use Rattle.office_records.specs.declared.fault.RecordFault.TheVariants.{BadRows, NoMemory}
 use Rattle.exam_publish.specs.declared.seat_row.SeatRow as publish
-use Rattle.office_store.specs.Publications.{AddUpIn, Shown, StoredAddUp, plain}
+use Rattle.office_records.specs.FoundPublications.{publication, publication_from}
+use Rattle.office_store.specs.Memory.{IsMemoryOf}
+use Rattle.office_store.specs.declared.memory.OfficeMemory.{OfficeMemory}
+use Rattle.office_store.specs.Publications.{AddUpIn, StoredAddUp}
 use Rattle.office_store.specs.Publications.{publication_shown, shares_in, timetable_shown}
-use Rattle.office_store.specs.OfficeRows.{AreShareRowsOf, part_rows_in, published_in}
+use Rattle.office_records.specs.Memory.{published_in}
+use Rattle.office_store.specs.OfficeRows.{AreShareRowsOf, part_rows_in}
 use Rattle.office_store.specs.OfficeRows.{student_rows_in}
 use Rattle.office_store.specs.Running.{QueryOutcome, ReturnsValue}
 use Rattle.office_store.proofs.RunLemmas.{kept_of, nothing_kept}
 
 -- ---- the rows of each table
-
-pub placed_read : (t : Tables) (o : OfficeState) (rows : List PlacedRow) → TablesRepresentOffice t o
-    → IsPermutation t.placed rows → IsPermutation rows (placed_rows (published_in o))
-placed_read t None rows stands p =
-    IsPermutation-sym _ _ (subst (λ (t : Tables). IsPermutation t.placed rows) stands p)
-placed_read t (Some r) rows stands p =
-    IsPermutation-trans _ _ _ (IsPermutation-sym _ _ p) stands.published.placed
-
-pub seats_read : (t : Tables) (o : OfficeState) (rows : List SeatRow) → TablesRepresentOffice t o
-    → IsPermutation t.seat rows
-    → IsPermutation rows (map stored_seat (publication_rows (published_in o)))
-seats_read t None rows stands p =
-    IsPermutation-sym _ _ (subst (λ (t : Tables). IsPermutation t.seat rows) stands p)
-seats_read t (Some r) rows stands p =
-    IsPermutation-trans _ _ _ (IsPermutation-sym _ _ p) stands.published.seat
 
 pub student_shares_read : (t : Tables) (o : OfficeState) (rows : List StudentShareRow)
     → TablesRepresentOffice t o → IsSound t o → IsPermutation t.share_student rows
@@ -76,37 +57,11 @@ part_shares_read t None rows stands sound p =
 part_shares_read t (Some r) rows stands sound p =
     IsPermutation-trans _ _ _ (IsPermutation-sym _ _ p) sound.shared.of_parts
 
--- ---- what the rows tell
+-- ---- what the rows mean
 
--- the records of what is at hand, where the rows are theirs
+-- the records of the memory, if the rows are theirs
 module _ (o : OfficeState) (I : Session) (E : Enrolled) (m : Memory)
-    (kept_in : m ≡ Some (I, E)) where
-  pub published_returned : (office : IsOffice o) → memory_of o ≡ m → (places : List PlacedRow)
-      (seats : List SeatRow) → RowsRepresentPublication places seats (published_in o)
-      → (result : Result (Option Shown) StoreFault)
-      → ((r : Records) → AreRecords r → r.session ≡ I
-      → RowsRepresentPublication places seats r.published
-      → ReturnsValue (publication_shown (Some r)) result)
-      → ReturnsValue (publication_shown o) result
-  published_returned office is places seats rows result meaning =
-      let of = kept_of o I E (is ∙ kept_in) in
-      subst (λ o. ReturnsValue (publication_shown o) result) (sym of.is)
-      (meaning of.records (subst IsOffice of.is office) of.session
-      (subst (λ o. RowsRepresentPublication places seats (published_in o)) of.is rows))
-
-  pub places_returned : (office : IsOffice o) → memory_of o ≡ m → (places : List PlacedRow)
-      → IsPermutation places (placed_rows (published_in o))
-      → (result : Result (Option Placing) StoreFault)
-      → ((r : Records) → AreRecords r → r.session ≡ I
-      → IsPermutation places (placed_rows r.published)
-      → ReturnsValue (timetable_shown (Some r)) result)
-      → ReturnsValue (timetable_shown o) result
-  places_returned office is places rows result meaning =
-      let of = kept_of o I E (is ∙ kept_in) in
-      subst (λ o. ReturnsValue (timetable_shown o) result) (sym of.is)
-      (meaning of.records (subst IsOffice of.is office) of.session
-      (subst (λ o. IsPermutation places (placed_rows (published_in o))) of.is rows))
-
+    (kept_is : m ≡ Some (I, E)) where
   pub shares_returned : (office : IsOffice o) → memory_of o ≡ m → (students : List StudentShareRow)
       (parts : List PartShareRow) → AreShareRowsOf o students parts
       → (result : Result (Option Sharing) StoreFault)
@@ -114,103 +69,17 @@ module _ (o : OfficeState) (I : Session) (E : Enrolled) (m : Memory)
       → AreShared r.session r.published students parts → ReturnsValue (shares_in (Some r)) result)
       → ReturnsValue (shares_in o) result
   shares_returned office is students parts rows result meaning =
-      let of = kept_of o I E (is ∙ kept_in) in
+      let of = kept_of o I E (is ∙ kept_is) in
       let theirs = subst (λ o. AreShareRowsOf o students parts) of.is rows in
       subst (λ o. ReturnsValue (shares_in o) result) (sym of.is)
       (meaning of.records (subst IsOffice of.is office) of.session
       (record { of_students = theirs.of_students; of_parts = theirs.of_parts }))
 
--- where there is no session, nothing is published
-pub none_published : (o : OfficeState) (m : Memory) → m ≡ None → memory_of o ≡ m
-    → None ≡ publication_shown o
-none_published o m none is = sym (ap publication_shown (nothing_kept o (is ∙ none)))
-
-pub none_placed : (o : OfficeState) (m : Memory) → m ≡ None → memory_of o ≡ m
-    → None ≡ timetable_shown o
-none_placed o m none is = sym (ap timetable_shown (nothing_kept o (is ∙ none)))
-
+-- without a session there are no shares
 pub none_shared : (o : OfficeState) (m : Memory) → m ≡ None → memory_of o ≡ m → None ≡ shares_in o
 none_shared o m none is = sym (ap shares_in (nothing_kept o (is ∙ none)))
 
--- ---- whether something is published
-
--- a publication has a place
-has_place : (T : Placing) → 1 ≤ length T → IsComplete T → 1 ≤ length (placed_from 0 T)
-has_place [] some complete = absurd (omega (arith, some))
-has_place (None ∷ T) some complete = absurd (let is = complete 0 (omega arith) in cc)
-has_place (Some at ∷ T) some complete = omega arith
-
-mark_of : (published : Option Publication) (I : Session) → IsInstance I
-    → ((p : Publication) → published ≡ Some p → IsPublication I p) → (n : ℕ)
-    → n ≡ length (placed_rows published) → (mark : Bool) → (IsTrue mark ↔ (1 ≤ n))
-    → mark ≡ is_some published
-mark_of None I known is n long false tells = refl
-mark_of None I known is n long true tells =
-    absurd (let one = tells.0 refl in omega (arith, one, long))
-mark_of (Some p) I known is n long true tells = refl
-mark_of (Some p) I known is n long false tells =
-    let rows = (is p refl).rows in
-    let some = has_place p.timetable
-    (omega (arith, rows.exams, known.limits.counts)) rows.complete in
-    let no = tells.1 (omega (arith, some, long)) in
-    absurd cc
-
--- the rows with their mark
-pub marked_rows : (r : Records) → AreRecords r → (places : List PlacedRow) (seats : List SeatRow)
-    → RowsRepresentPublication places seats r.published → (mark : Bool)
-    → (IsTrue mark ↔ (1 ≤ length places))
-    → ArePublicationRows mark places seats r.published
-marked_rows r is places seats rows mark tells = record {
-  marked = mark_of r.published r.session is.session is.publication (length places)
-      (sym (length_permutation _ _ rows.placed)) mark tells;
-  stands = rows;
-}
-
--- what is published is a publication
-pub are_published : (I : Session) (published : Option Publication)
-    → ((p : Publication) → published ≡ Some p → IsPublication I p) → ArePublished I published
-are_published I None each = tt
-are_published I (Some p) each = each p refl
-
--- what was found is what is shown
-found_shown : (r : Records) (found : Option (Placing × Vec publish.SeatRow Global))
-    → publication_from found ≡ r.published
-    → option_map (λ (p : Placing × Vec publish.SeatRow Global). (p.0, p.1.items)) found
-    ≡ publication_shown (Some r)
-found_shown r found is =
-    go found ∙ ap (λ published. publication_shown (Some (record r { published = published }))) is
-  where
-    go : (found : Option (Placing × Vec publish.SeatRow Global))
-        → option_map (λ (p : Placing × Vec publish.SeatRow Global). (p.0, p.1.items)) found
-        ≡ publication_shown (Some (record r { published = publication_from found }))
-    go None = refl
-    go (Some p) = refl
-
--- rows that only what is published has, with their mark
-module _ (I : Session) (places : List PlacedRow) (seats : List SeatRow) (mark : Bool)
-    (marks : IsTrue mark ↔ (1 ≤ length places)) (r : Records) (is : AreRecords r)
-    (same : r.session ≡ I) (rows : RowsRepresentPublication places seats r.published) where
-  pub returned_found : (found : Option (Placing × Vec publish.SeatRow Global))
-      → ((published : Option Publication) → ArePublicationRows mark places seats published
-      → ArePublished I published → publication_from found ≡ published)
-      → option_map (λ (p : Placing × Vec publish.SeatRow Global). (p.0, p.1.items)) found
-      ≡ publication_shown (Some r)
-  returned_found found only =
-      found_shown r found
-      (only r.published (marked_rows r is places seats rows mark marks)
-      (subst (λ I. ArePublished I r.published) same
-      (are_published r.session r.published is.publication)))
-
-  -- they aren't bad
-  pub found_good : ((published : Option Publication)
-      → ArePublicationRows mark places seats published
-      → ArePublished I published → ⊥) → ⊥
-  found_good none =
-      none r.published (marked_rows r is places seats rows mark marks)
-      (subst (λ I. ArePublished I r.published) same
-      (are_published r.session r.published is.publication))
-
--- a fault in rows that aren't bad is out of memory
+-- a refusal of valid rows means out of memory
 pub returned_fault : {A : Type 0} (says : A) (result : Result A StoreFault) (fault : RecordFault)
     → IsErrAnd result (λ e. e ≡ store_fault fault) → (fault ≡ BadRows → ⊥)
     → ReturnsValue says result
@@ -218,70 +87,57 @@ returned_fault says (Ok x) fault is good = absurd is
 returned_fault says (Err e) NoMemory is good = is
 returned_fault says (Err e) BadRows is good = absurd (good refl)
 
-pub plain_fault : {F : Type 0} (result : Result (Option (Placing × Vec publish.SeatRow Global)) F)
-    (P : F → Type 0) → IsErrAnd result P → IsErrAnd (plain result) P
-plain_fault (Ok x) P is = is
-plain_fault (Err e) P is = is
+-- ---- what is in memory
 
--- ---- the places alone
-
--- the places of a publication
-places_of : (r : Records) (I : Session) → r.session ≡ I → (p : Publication)
-    → IsPublication r.session p → (places : List PlacedRow)
-    → IsPermutation places (placed_rows (Some p)) → ArePlaces I places p.timetable
-places_of r I same p is places rows =
-    subst (λ J. ArePlaces J places p.timetable) same
-    (record { exams = is.rows.exams; places = is.rows.places; rows = rows })
-
-pub places_none : (r : Records) → AreRecords r → (places : List PlacedRow)
-    → IsPermutation places (placed_rows r.published) → length places ≡ 0
-    → ReturnsValue (timetable_shown (Some r)) (Ok None)
-places_none r is places rows none = go r.published is.publication rows
+-- the office shows the publication in memory
+pub published_shown : (o : OfficeState) (m : OfficeMemory) → IsMemoryOf o m → (T : Placing)
+    (rows : Vec publish.SeatRow Global) → m.published ≡ Some (T, rows) → (U : Placing)
+    (copy : Vec publish.SeatRow Global) → U ≡ T → copy.items ≡ rows.items
+    → ReturnsValue (publication_shown o) (Ok (Some (U, copy.items)))
+published_shown o m is T rows at U copy same also =
+    ap (λ S. Some (S, copy.items)) same ∙ ap (λ l. Some (T, l)) also
+    ∙ shown_in o (publication T rows.items) (is.published ∙ ap publication_from at)
   where
-    go : (published : Option Publication)
-        → ((p : Publication) → published ≡ Some p → IsPublication r.session p)
-        → IsPermutation places (placed_rows published)
-        → None ≡ timetable_shown (Some (record r { published = published }))
-    go None each rows = refl
-    go (Some p) each rows =
-        let known = (each p refl).rows in
-        let limits = is.session.limits.counts in
-        let some = has_place p.timetable (omega (arith, known.exams, limits)) known.complete in
-        let long = length_permutation _ _ rows in
-        absurd (omega (arith, long, none, some))
+    shown_in : (o : OfficeState) (p : Publication) → published_in o ≡ Some p
+        → Some (p.timetable, p.rows) ≡ publication_shown o
+    shown_in None p there = absurd cc
+    shown_in (Some r) p there =
+        ap (λ published. publication_shown (Some (record r { published = published }))) (sym there)
 
-pub places_some : (r : Records) (I : Session) → AreRecords r → r.session ≡ I
-    → (places : List PlacedRow) → IsPermutation places (placed_rows r.published)
-    → 1 ≤ length places → (T : Placing) → ArePlaces I places T
-    → ReturnsValue (timetable_shown (Some r)) (Ok (Some T))
-places_some r I is same places rows some T found = go r.published is.publication rows
+pub none_shown : (o : OfficeState) (m : OfficeMemory) → IsMemoryOf o m → m.published ≡ None
+    → None ≡ publication_shown o
+none_shown o m is at = none_in o (is.published ∙ ap publication_from at)
   where
-    go : (published : Option Publication)
-        → ((p : Publication) → published ≡ Some p → IsPublication r.session p)
-        → IsPermutation places (placed_rows published)
-        → Some T ≡ timetable_shown (Some (record r { published = published }))
-    go None each rows =
-        absurd (let long = length_permutation _ _ rows in omega (arith, long, some))
-    go (Some p) each rows =
-        ap Some (same_places I places T p.timetable found
-        (places_of r I same p (each p refl) places rows))
+    none_in : (o : OfficeState) → published_in o ≡ None → None ≡ publication_shown o
+    none_in None there = refl
+    none_in (Some r) there =
+        ap (λ published. publication_shown (Some (record r { published = published }))) (sym there)
 
--- they aren't bad
-pub places_good : (r : Records) (I : Session) → AreRecords r → r.session ≡ I
-    → (places : List PlacedRow) → IsPermutation places (placed_rows r.published)
-    → 1 ≤ length places → ((T : Placing) → ArePlaces I places T → ⊥) → ⊥
-places_good r I is same places rows some bad = go r.published is.publication rows
+-- or only its timetable
+pub places_shown : (o : OfficeState) (m : OfficeMemory) → IsMemoryOf o m → (T : Placing)
+    (rows : Vec publish.SeatRow Global) → m.published ≡ Some (T, rows) → (U : Placing) → U ≡ T
+    → ReturnsValue (timetable_shown o) (Ok (Some U))
+places_shown o m is T rows at U same =
+    ap Some same ∙ shown_in o (publication T rows.items) (is.published ∙ ap publication_from at)
   where
-    go : (published : Option Publication)
-        → ((p : Publication) → published ≡ Some p → IsPublication r.session p)
-        → IsPermutation places (placed_rows published) → ⊥
-    go None each rows = let long = length_permutation _ _ rows in omega (arith, long, some)
-    go (Some p) each rows =
-        bad p.timetable (places_of r I same p (each p refl) places rows)
+    shown_in : (o : OfficeState) (p : Publication) → published_in o ≡ Some p
+        → Some p.timetable ≡ timetable_shown o
+    shown_in None p there = absurd cc
+    shown_in (Some r) p there =
+        ap (λ published. timetable_shown (Some (record r { published = published }))) (sym there)
+
+pub none_placed : (o : OfficeState) (m : OfficeMemory) → IsMemoryOf o m → m.published ≡ None
+    → None ≡ timetable_shown o
+none_placed o m is at = none_in o (is.published ∙ ap publication_from at)
+  where
+    none_in : (o : OfficeState) → published_in o ≡ None → None ≡ timetable_shown o
+    none_in None there = refl
+    none_in (Some r) there =
+        ap (λ published. timetable_shown (Some (record r { published = published }))) (sym there)
 
 -- ---- the shares
 
--- a publication has shares of parts
+-- a publication has shares of exams, periods and rooms
 has_part : (I : Session) (p : Publication) → IsInstance I
     → part_rows (shares_of I p.rows p.timetable) ≡ [] → ⊥
 has_part I p known none =
@@ -330,7 +186,7 @@ shares_some r I is same students parts shared some shares only =
     meaning None = refl
     meaning (Some p) = refl
 
--- an office whose rows of shares are some has published something
+-- an office with rows of shares has a publication
 pub shares_good : (r : Records) (I : Session) → AreRecords r → r.session ≡ I
     → (students : List StudentShareRow) (parts : List PartShareRow)
     → AreShared r.session r.published students parts → 1 ≤ length parts
@@ -388,7 +244,7 @@ stored_add_up d (Some r) kept = go r.published kept.office.publication kept.soun
               (are_numbered r.session p known),
         )
 
--- what is answered adds up
+-- the shares that are returned add up
 pub adds_up_in : (o : OfficeState) (Stays : OfficeState → Type 0)
     (result : Result (Option Sharing) StoreFault) → IsOffice o
     → QueryOutcome (shares_in o) o Stays result

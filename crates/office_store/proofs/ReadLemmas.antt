@@ -1,4 +1,4 @@
--- What the rows that are read say of an office.
+-- What the rows that are read mean for an office.
 use Rattle.std.proofs.Common.{◌≡◌, ℕ, List, [], ◌∷◌, Some, None, Ok, Err, Result, refl, sym, ap, subst}
 use Rattle.std.specs.Prelude.{IsErrAnd, IsPermutation}
 use Rattle.std.proofs.lemmas.List.Sorted.{IsPermutation-sym, IsPermutation-trans}
@@ -19,7 +19,7 @@ use Rattle.office_records.specs.Faults.{store_fault}
 use Rattle.office_store.specs.Running.{CommandOutcome, IsFault}
 use Rattle.office_store.proofs.DraftLemmas.{some_is}
 
--- the rows of its places that are read are those of its timetable
+-- the rows of a draft's places that are read are those of its timetable
 pub places_read : (t : Tables) (o : OfficeState) (d : ℕ) (rows : List SlotRow)
     → TablesRepresentOffice t o
     → IsPermutation (slots_at d t.slot) rows → IsPermutation rows (slot_rows d (draft_in d o))
@@ -34,7 +34,7 @@ no_row x xs e = absurd cc
 pub same_head : {X : Type 0} (x y : X) → x ∷ [] ≡ y ∷ [] → x ≡ y
 same_head x y e = cc
 
--- a fault in rows that are those of an office is out of memory
+-- a refusal of an office's valid rows means out of memory
 pub fault_of : {A : Type 0} (gives : CommandResult A) (o : OfficeState) (r : Result A StoreFault)
     (f : RecordFault) → IsErrAnd r (λ e. e ≡ store_fault f) → (f ≡ BadRows → ⊥)
     → CommandOutcome gives o (λ new. new ≡ o) r
@@ -43,7 +43,7 @@ fault_of gives o (Err e) NoMemory is not_bad =
     subst (λ e. IsFault gives e × (o ≡ o)) (sym is) (tt, refl)
 fault_of gives o (Err e) BadRows is not_bad = absurd (not_bad refl)
 
--- where the office stays, it stands after the call as before
+-- if the command leaves the office unchanged, the office after the call is the one before
 pub does_now : {A : Type 0} (gives : CommandResult A) (o : OfficeState)
     (Stays : OfficeState → Type 0)
     (r : Result A StoreFault) → CommandOutcome gives o (λ new. new ≡ o) r → Stays o
@@ -53,7 +53,7 @@ does_now gives o Stays (Err e) does here = (does.0, here)
 
 -- ---- the session
 
--- what is at hand is what the office shows
+-- the session in memory is what the office shows
 pub session_returned : (o : OfficeState) (I : Session) (E : Enrolled) → memory_of o ≡ Some (I, E)
     → session_shown o ≡ Ok ((I, E), o)
 session_returned None I E here = absurd cc

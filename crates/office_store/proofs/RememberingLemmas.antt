@@ -1,18 +1,21 @@
 -- What is in memory after a command.
-use Rattle.std.proofs.Common.{◌≡◌, ℕ, ◌+◌, ◌≢◌, Bool, true, false, cond, eqb, List, length, Option, Some, None, Result, Ok, option_map, refl, sym, ◌∙◌, ap, subst, arith}
-use Rattle.std.specs.Prelude.{IfSome}
+use Rattle.std.proofs.Common.{◌≡◌, ℕ, ◌+◌, Bool, true, false, cond, eqb, List, length, Option, Some, None, Result, Ok, option_map, refl, sym, ◌∙◌, ap, arith}
+use Rattle.std.specs.Prelude.{IfSome, Vec}
+use Rattle.std.specs.declared.alloc.Global.{Global}
 use Rattle.std.proofs.lemmas.Bool.Decides.{nat_tests}
 use Rattle.exam_model.specs.Enrolments.{Enrolled}
 use Rattle.exam_model.specs.Instance.{Session}
 use Rattle.exam_model.specs.Timetable.{Placing}
+use Rattle.exam_publish.specs.declared.seat_row.SeatRow.{SeatRow}
 use Rattle.office_enrolment.specs.AfterBatch.{latest}
-use Rattle.office_model.specs.Office.{OfficeState, Records, set_at}
+use Rattle.office_model.specs.Office.{OfficeState, Publication, Records, set_at}
 use Rattle.office_model.specs.declared.fault.StoreFault.{StoreFault}
-use Rattle.office_store.specs.Memory.{AreRescored, HasPut, IsMemoryOf, IsRenewed, draft_at, rescored, scored_by}
+use Rattle.office_records.specs.FoundPublications.{publication_from}
+use Rattle.office_store.specs.Memory.{AreRescored, HasPublished, HasPut, IsMemoryOf, IsRenewed, draft_at, rescored, scored_by}
 use Rattle.office_store.specs.declared.memory.Draft.{Draft}
 use Rattle.office_store.specs.declared.memory.OfficeMemory.{OfficeMemory}
 
--- a command leads to one office
+-- a command leads to only one office
 pub next_is : {A : Type 0} {x y : A} {o p : OfficeState}
     {gives : Result (A × OfficeState) StoreFault}
     → gives ≡ Ok (x, o) → gives ≡ Ok (y, p) → p ≡ o
@@ -21,7 +24,7 @@ next_is {A} one other = ap (λ (p : A × OfficeState). p.1) (ok_is (sym other �
     ok_is : {X : Type 0} {x y : X} → ◌≡◌ {A = Result X StoreFault} (Ok x) (Ok y) → x ≡ y
     ok_is e = cc
 
--- one draft is put in place of another
+-- one draft replaces another
 pub one_changed : (r : Records) (m n : OfficeMemory) (d : ℕ) (x : Option Placing)
     → IsMemoryOf (Some r) m → HasPut d (option_map (scored_by r.session r.enrolments) x) m n
     → IsMemoryOf (Some (record r { draft = set_at d x r.draft })) n
@@ -29,6 +32,7 @@ one_changed r m n d x is put = record {
   session = is.session ∙ sym put.kept;
   batches = is.batches ∙ sym put.batches;
   drafts = λ e. go e (eqb e d) refl;
+  published = is.published ∙ ap publication_from (sym put.published);
 }
   where
     go : (e : ℕ) (b : Bool) → eqb e d ≡ b → draft_at n.drafts e
@@ -40,11 +44,23 @@ one_changed r m n d x is put = record {
         put.others e (λ here. let there : eqb e d ≡ true = grind (arith, nat_tests, here) in cc)
         ∙ is.drafts e
 
--- the session, the batches and the drafts stay
+-- a publication replaces the one before
+pub published_changed : (r : Records) (m n : OfficeMemory) (new : Placing × Vec SeatRow Global)
+    (p : Publication) → IsMemoryOf (Some r) m → HasPublished new m n
+    → publication_from (Some new) ≡ Some p
+    → IsMemoryOf (Some (record r { published = Some p })) n
+published_changed r m n new p is has made = record {
+  session = is.session ∙ sym has.kept;
+  batches = is.batches ∙ sym has.batches;
+  drafts = λ d. ap (λ l. draft_at l d) has.drafts ∙ is.drafts d;
+  published = sym made ∙ ap publication_from (sym has.published);
+}
+
+-- the session, the batches, the drafts and the publication stay
 pub all_stays : (r s : Records) (m : OfficeMemory) → IsMemoryOf (Some r) m
     → s.session ≡ r.session → s.enrolments ≡ r.enrolments → s.batches ≡ r.batches
-    → s.draft ≡ r.draft → IsMemoryOf (Some s) m
-all_stays r s m is session enrolments batches drafts = record {
+    → s.draft ≡ r.draft → s.published ≡ r.published → IsMemoryOf (Some s) m
+all_stays r s m is session enrolments batches drafts published = record {
   session = ap (λ I. Some (I, s.enrolments)) session ∙ ap (λ E. Some (r.session, E)) enrolments
       ∙ is.session;
   batches = ap length batches ∙ is.batches;
@@ -53,6 +69,7 @@ all_stays r s m is session enrolments batches drafts = record {
       ∙ ap (λ E. option_map (scored_by r.session E) (s.draft d)) enrolments
       ∙ ap (λ (f : ℕ → Option Placing). option_map (scored_by r.session r.enrolments) (f d))
       drafts);
+  published = published ∙ is.published;
 }
 
 -- ---- a batch
@@ -65,7 +82,8 @@ twice I J E F (Some T) = refl
 module _ (r s : Records) (m n : OfficeMemory) (I : Session) (E : Enrolled)
     (kept : m.kept ≡ Some (I, E)) (drafts : List (Option Draft)) (is : IsMemoryOf (Some r) m)
     (session : s.session ≡ r.session) (same : s.draft ≡ r.draft)
-    (count : length s.batches ≡ length r.batches + 1) (batches : n.batches ≡ m.batches + 1) where
+    (count : length s.batches ≡ length r.batches + 1) (batches : n.batches ≡ m.batches + 1)
+    (published : s.published ≡ r.published) (stays : n.published ≡ m.published) where
   both : ◌≡◌ {A = Session × Enrolled} (r.session, r.enrolments) (I, E)
   both = some_is (is.session ∙ kept)
     where
@@ -78,7 +96,10 @@ module _ (r s : Records) (m n : OfficeMemory) (I : Session) (E : Enrolled)
   one_more : length s.batches ≡ n.batches
   one_more = let old = is.batches in omega (arith, count, batches, old)
 
-  -- other enrolments
+  still_published : s.published ≡ publication_from n.published
+  still_published = published ∙ is.published ∙ ap publication_from (sym stays)
+
+  -- the enrolments change
   made : (F : Enrolled) → s.enrolments ≡ F → n.kept ≡ Some (I, F) → n.drafts ≡ drafts
       → AreRescored I F m.drafts drafts → IsMemoryOf (Some s) n
   made F enrolled now anew scored = record {
@@ -91,9 +112,10 @@ module _ (r s : Records) (m n : OfficeMemory) (I : Session) (E : Enrolled)
         ∙ sym (ap (λ J. option_map (scored_by J s.enrolments) (s.draft d)) session_is
         ∙ ap (λ G. option_map (scored_by I G) (s.draft d)) enrolled
         ∙ ap (λ (f : ℕ → Option Placing). option_map (scored_by I F) (f d)) same);
+    published = still_published;
   }
 
-  -- the same
+  -- the enrolments stay
   left : s.enrolments ≡ r.enrolments → n.kept ≡ Some (I, E) → n.drafts ≡ m.drafts
       → IsMemoryOf (Some s) n
   left enrolled now old = record {
@@ -105,6 +127,7 @@ module _ (r s : Records) (m n : OfficeMemory) (I : Session) (E : Enrolled)
         ∙ ap (λ G. option_map (scored_by r.session G) (s.draft d)) enrolled
         ∙ ap (λ (f : ℕ → Option Placing). option_map (scored_by r.session r.enrolments) (f d))
         same);
+    published = still_published;
   }
 
   pub after_lines : (F : Option Enrolled) → s.enrolments ≡ latest F r.enrolments

@@ -8,7 +8,7 @@ use Rattle.sqlite.specs.State.{State, HasCleanDisk, IsUnchanged}
 use Rattle.sqlite.specs.Store.{Ghosts}
 use Rattle.office_tables.specs.Readers.{Keeps}
 use Rattle.office_tables.specs.Tables.{Tables}
-use Rattle.office_tables.specs.Standing.{Stands}
+use Rattle.office_tables.specs.TablesHeld.{HoldsTables}
 use Rattle.office_model.specs.Office.{OfficeState, Records}
 use Rattle.office_records.specs.Memory.{memory_of}
 use Rattle.office_store.specs.FoldReads.{HasRead, RowsUnchanged}
@@ -27,7 +27,7 @@ now_still a b o still now opened =
     let is = still opened in
     subst (λ db. RepresentsOffice db o) (sym is.1) (now is.0)
 
--- one call behind another
+-- one call after another
 pub still_then : (a b c : State) → StateUnchanged a b → StateUnchanged b c → StateUnchanged a c
 still_then a b c first next opened =
     let late = next opened in
@@ -41,7 +41,7 @@ rest_still a b m clean still rest is_clean opened =
     let here = rest (clean is_clean) is.0 in
     (here.0, subst (λ db. RepresentsOffice db here.0) (sym is.1) here.1, here.2)
 
--- a reader that failed, where all that was written was committed
+-- a reader that failed, if all was committed before
 pub still_kept : (a b : State) → (IsTrue a.is_open → a.now ≡ a.committed) → Keeps a b
     → StateUnchanged a b
 still_kept a b settled kept opened =
@@ -67,7 +67,7 @@ pub nothing_kept : (o : OfficeState) → memory_of o ≡ None → o ≡ None
 nothing_kept None h = refl
 nothing_kept (Some r) h = absurd cc
 
--- the records of which this is in memory
+-- the records of an office with this session and these enrolments in memory
 pub record IsKeptOf (o : OfficeState) (I : Session) (E : Enrolled) : Type 0 where
   pub records : Records
   pub is : o ≡ Some records
@@ -87,15 +87,15 @@ kept_of (Some r) I E h = record {
     some_is : {X : Type 0} {x y : X} → Some x ≡ Some y → x ≡ y
     some_is e = cc
 
--- ---- a reader of one table, which opens no store
+-- ---- a reader of one table, which doesn't open a closed store
 
--- all that was written had been committed
+-- all was committed before
 module _ (a b : State) (m : OfficeMemory) (rest : MatchesMemory a m)
     (clean : HasCleanDisk b → HasCleanDisk a)
     (settled : IsTrue a.is_open → a.now ≡ a.committed) where
-  -- it leaves the tables, or what was committed
+  -- the reader leaves the tables, or what was committed
   module _ (was_open : HasCleanDisk b → IsTrue b.is_open → IsTrue a.is_open)
-      (reads : HasCleanDisk b → (t : Tables) → Stands a.now t → Keeps a b) where
+      (reads : HasCleanDisk b → (t : Tables) → HoldsTables a.now t → Keeps a b) where
     pub still_read : HasCleanDisk b → StateUnchanged a b
     still_read is_clean opened =
         let here = rest (clean is_clean) (was_open is_clean opened) in
@@ -104,15 +104,15 @@ module _ (a b : State) (m : OfficeMemory) (rest : MatchesMemory a m)
     pub rest_read : MatchesMemory b m
     rest_read = rest_still a b m clean still_read rest
 
-  -- it has answered: what stands now stood before
+  -- the reader succeeded: the office after it is the office before it
   pub kept_read : (HasCleanDisk b → IsTrue a.is_open)
-      → (HasCleanDisk b → (t : Tables) → Stands a.now t → IsUnchanged a b)
+      → (HasCleanDisk b → (t : Tables) → HoldsTables a.now t → IsUnchanged a b)
       → HasCleanDisk b → (o : OfficeState) → RepresentsOffice b.now o → RepresentsOffice a.now o
   kept_read was_open same is_clean o =
       let here = rest (clean is_clean) (was_open is_clean) in
       subst (λ db. RepresentsOffice db o) (same is_clean here.1.held here.1.tables).0.now_is
 
--- ---- readers that had answered, and then a transaction that failed
+-- ---- readers that succeeded, and then a transaction that failed
 
 module _ {S : Type 0} (g : Ghosts S) (a b c : Held S) (m : OfficeMemory)
     (rest : MatchesMemory (state g a) m)
@@ -129,15 +129,15 @@ module _ {S : Type 0} (g : Ghosts S) (a b c : Held S) (m : OfficeMemory)
       let kept = same mid here.1.held here.1.tables was in
       (was, back.now opened ∙ kept.0.committed_is ∙ sym (settled was))
 
-  -- what is in memory is still the office's
+  -- the memory is still the office's
   pub rest_failed : MatchesMemory (state g c) m
   rest_failed =
       rest_still (state g a) (state g c) m (λ k. read.clean (clean k)) still_failed rest
 
--- what a transaction makes of what was read, it makes of what stood there before
+-- a transaction that changes the tables after the readers changes those before them
 pub made_on : {S : Type 0} (g : Ghosts S) (a b : Held S) (c : Database) → RowsUnchanged g a b
     → HasCleanDisk (state g b) → IsTrue (state g a).is_open → (make : Tables → Tables)
-    → ((t : Tables) → Stands (state g b).now t → Stands c (make t))
-    → (t : Tables) → Stands (state g a).now t → Stands c (make t)
+    → ((t : Tables) → HoldsTables (state g b).now t → HoldsTables c (make t))
+    → (t : Tables) → HoldsTables (state g a).now t → HoldsTables c (make t)
 made_on g a b c same clean opened make makes t held =
-    makes t (subst (λ db. Stands db t) (sym (same clean t held opened).0.now_is) held)
+    makes t (subst (λ db. HoldsTables db t) (sym (same clean t held opened).0.now_is) held)

@@ -1,4 +1,4 @@
--- Whether the store is shut, by what becomes of a statement.
+-- Whether the store is closed, by the result of a statement.
 use Rattle.std.proofs.Common.{◌≡◌, ◌∙◌, ℕ, Bool, true, false, List, [], Option, Some, None, Result, Ok}
 use Rattle.std.proofs.Common.{Err, IfErr, IfOk, IsTrue, inl, inr, refl, subst, sym}
 use Rattle.std.specs.Prelude.{MatchBool}
@@ -20,7 +20,7 @@ not_true : (b : Bool) → (IsTrue b → ⊥) → b ≡ false
 not_true true never = absurd (never refl)
 not_true false never = refl
 
--- what is not open before is not open afterwards
+-- a store that was closed before is closed afterwards
 shut_on : (a b : State) → (IsTrue b.is_open → IsTrue a.is_open) → IsShut a → IsShut b
 shut_on a b was_open shut = not_true b.is_open
     (λ opened. let never : true ≡ false = sym (was_open opened) ∙ shut in absurd cc)
@@ -41,7 +41,7 @@ no_statement a sql params (inr (c, understood, inl (long, is))) = absurd cc
 no_statement a sql params (inr (c, understood, inr (inl (count, is)))) = absurd cc
 no_statement a sql params (inr (c, understood, inr (inr (formats, is)))) = absurd cc
 
--- a statement that is refused with Closed met a store that is shut
+-- a statement that is refused with `Closed` met a closed store
 pub shut_by_closed : (sql : List ℕ) (params : Row) (a b : State) (e : Error)
     → e ≡ SqliteFailure Closed → IsNotRun a b sql params e → IsShut b
 unfolding IsNotRun
@@ -65,11 +65,11 @@ module _ (a b : State) (settled : IsTrue a.is_open → a.now ≡ a.committed) (s
   still_by (Ok s) x y opened = (x.1.0.was_open, x.1.0.now_is)
   still_by (Err e) x y opened = still_not_run [] e (y []) opened
 
-  -- asking changes nothing
+  -- the statement changes nothing
   pub still_asked : HasCleanDisk b → StateUnchanged a b
   still_asked clean = still_by asked (took clean) (refused clean)
 
-  -- a statement that was taken met an open store
+  -- a statement that succeeded met an open store
   awake_by : (r : Result Outline Error) → IfOk r (λ s. (s.text ≡ sql) × IsUnchanged a b)
       → None ≡ result_err r → IsCommitted b
   awake_by (Ok s) x is =

@@ -1,4 +1,4 @@
--- The rows of places that stand elsewhere after an edit.
+-- The rows of exams whose places an edit changes.
 use Rattle.std.proofs.Common.{◌≡◌, ◌≢◌, ℕ, zero, suc, ◌+◌, ◌<◌, Bool, true, false, cond, not, eqb, ◌&&◌, ◌||◌, List, [], ◌∷◌, filter, map, set, Option, Some, None, refl, sym, ◌∙◌, ap, subst, arith, length, inl, inr}
 use Rattle.std.specs.Prelude.{IsPermutation}
 use Rattle.std.specs.List.{AllByRecursion}
@@ -38,7 +38,7 @@ filter_swap p q (x ∷ xs) = elim (cases_Bool (p x)) [
   ]
 ]
 
--- ---- the places of a timetable but one
+-- ---- the places of a timetable except one
 
 abbrev is_slot : ℕ → ℕ → SlotRow → Bool
 is_slot d e s = eqb s.draft d && eqb s.exam e
@@ -46,7 +46,7 @@ is_slot d e s = eqb s.draft d && eqb s.exam e
 abbrev but_slot : ℕ → ℕ → List SlotRow → List SlotRow
 but_slot d e rows = filter (λ s. not (is_slot d e s)) rows
 
--- a row that is another's, or the exam's own, in front of others
+-- a row of another draft or exam, or the exam's own row, in front of others
 stays : (d e : ℕ) (s : SlotRow) (rows : List SlotRow) → is_slot d e s ≡ false
     → but_slot d e (s ∷ rows) ≡ s ∷ but_slot d e rows
 stays d e s rows f =
@@ -63,7 +63,7 @@ not_of_exam d e k differ = grind (arith, nat_tests, differ)
 of_exam : (d e k : ℕ) → k ≡ e → (eqb d d && eqb k e) ≡ true
 of_exam d e k same = grind (arith, nat_tests, same)
 
--- an exam below has no place among them
+-- a smaller exam has no place among them
 none_below : (d e k : ℕ) (T : Placing) → e < k → but_slot d e (slots_from d k T) ≡ slots_from d k T
 none_below d e k [] below = refl
 none_below d e k (None ∷ T) below = none_below d e (k + 1) T (omega arith)
@@ -71,7 +71,7 @@ none_below d e k (Some at ∷ T) below =
     stays d e (slot_row d k at) _ (not_of_exam d e k (omega arith))
     ∙ ap (λ l. slot_row d k at ∷ l) (none_below d e (k + 1) T (omega arith))
 
--- what is left is the timetable without the exam's place
+-- the rest is the timetable without the exam's place
 left_places : (d e k i : ℕ) (T : Placing) → k + i ≡ e
     → but_slot d e (slots_from d k T) ≡ slots_from d k (set T i None)
 left_places d e k i [] is = refl
@@ -84,7 +84,7 @@ left_places d e k (suc i) (Some at ∷ T) is =
     stays d e (slot_row d k at) _ (not_of_exam d e k (omega arith))
     ∙ ap (λ l. slot_row d k at ∷ l) (left_places d e (k + 1) i T (omega arith))
 
--- a place more
+-- one place more
 one_place : (d e k i : ℕ) (at : Place) (T : Placing) → k + i ≡ e → i < length T
     → IsPermutation (slot_row d e at ∷ slots_from d k (set T i None))
     (slots_from d k (set T i (Some at)))
@@ -102,7 +102,7 @@ one_place d e k (suc i) at (Some b ∷ T) is lt =
     (IsPermutation-cons (slot_row d k b) _ _
     (one_place d e (k + 1) i at T (omega arith) (omega arith)))
 
--- ---- one exam stands elsewhere
+-- ---- one exam has another place
 
 module _ (d e : ℕ) where
   other_draft : (n : ℕ) → eqb n d ≡ false → (s : SlotRow) → eqb s.draft n ≡ true
@@ -137,7 +137,7 @@ module _ (d e : ℕ) where
         (left_places d e 0 e T (omega arith))
         (IsPermutation-filter (λ s. not (is_slot d e s)) _ _ stands))
 
-    -- the draft's are those of the timetable where the exam stands there
+    -- the draft's places are those of the timetable with the exam's new place
     pub own_put : (o : Option Place) → e < length T
         → IsPermutation (slots_at d (slot_put d e o t).slot) (slots_from d 0 (set T e o))
     own_put None lt = left_there
@@ -149,13 +149,13 @@ module _ (d e : ℕ) where
         (IsPermutation-cons (slot_row d e at) _ _ left_there)
         (one_place d e 0 e at T (omega arith) lt))
 
--- only places have changed
+-- only the table of places has changed
 only_slot : (d e : ℕ) (o : Option Place) (t : Tables)
     → slot_put d e o t ≡ record t { slot = (slot_put d e o t).slot }
 only_slot d e None t = refl
 only_slot d e (Some at) t = refl
 
--- ---- some exams stand elsewhere
+-- ---- some exams have other places
 
 module _ (d : ℕ) (new : Placing) where
   pub only_slots : (exams : List ℕ) (t : Tables)
@@ -173,7 +173,7 @@ module _ (d : ℕ) (new : Placing) where
       others_as_before n f exams (slot_put d e (place_of new e) t)
       ∙ others_put d e n f (place_of new e) t
 
-  -- those that are left differ from the new timetable at the rest of the exams
+  -- after one exam is moved, only the rest of the exams can differ from the new timetable
   fewer : (e : ℕ) (exams : List ℕ) (T : Placing) → e < length T → DiffersAtMost (e ∷ exams) T new
       → DiffersAtMost exams (set T e (place_of new e)) new
   fewer e exams T lt differs x none = go (eqb e x) refl
@@ -200,9 +200,9 @@ module _ (d : ℕ) (new : Placing) where
       (subst (λ n. AllByRecursion (λ x. x < n) exams) (sym same) exist.1)
       (fewer e exams T exist.0 differs) (own_put d e T t stands o exist.0)
 
--- ---- what a transaction puts in
+-- ---- what a transaction writes
 
--- what one exam's part of it makes of the tables
+-- what one exam's part of the transaction makes of the tables
 abbrev pub move_made : Both DeleteSlot (Option InsertSlot) → Tables → Tables
 move_made it t =
     after_some (λ (new : InsertSlot). with_slot new.row) it.second

@@ -7,7 +7,7 @@ use Rattle.sqlite.specs.State.{HasCleanDisk}
 use Rattle.sqlite.specs.Store.{Ghosts}
 use Rattle.office_tables.specs.Steps.{Changes, Makes, Within}
 use Rattle.office_tables.specs.Tables.{Tables}
-use Rattle.office_tables.specs.Standing.{Stands}
+use Rattle.office_tables.specs.TablesHeld.{HoldsTables}
 use Rattle.office_tables.proofs.Inside.{clean_before, makes_then}
 
 pub changes_then : {S : Type 0} (g : Ghosts S) (f h : Tables → Tables) (a b c : Held S)
@@ -19,10 +19,10 @@ changes_then g f h a b c r first within next clean inside =
     on_ok_weaker r (λ last. makes_then f h (state g a) (state g b) (state g c) made last)
     (next clean made.0)
 
--- the change by another name
+-- the change of an equal function
 pub changes_as : {S : Type 0} (g : Ghosts S) (f k : Tables → Tables) (a c : Held S)
     (r : Result (Unit {0}) Error)
-    → ((t : Tables) → Stands (state g c).now (f t) → Stands (state g c).now (k t))
+    → ((t : Tables) → HoldsTables (state g c).now (f t) → HoldsTables (state g c).now (k t))
     → Changes g f a c r → Changes g k a c r
 changes_as g f k a c r same makes clean inside =
     on_ok_weaker r (λ last. (last.0, λ t stands. same t (last.1 t stands))) (makes clean inside)

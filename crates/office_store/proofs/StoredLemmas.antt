@@ -1,4 +1,4 @@
--- A draft that is shown as it is in memory.
+-- A draft that is shown from memory.
 use Rattle.std.proofs.Common.{◌≡◌, ℕ, true, false, Option, Some, None, Result, Ok, Err, refl, sym, ◌∙◌, ap}
 use Rattle.std.specs.Prelude.{is_some}
 use Rattle.exam_model.specs.Timetable.{Placing}
@@ -20,7 +20,7 @@ shown_so : (r : Records) (d : ℕ) (T : Placing) → r.draft d ≡ Some T
     → draft_shown d (Some r) ≡ Ok ((T, track r.session r.enrolments T), Some r)
 shown_so r d T is = rw is refl
 
--- it is what is shown
+-- the draft is what the office shows
 pub in_memory_shown : (m : OfficeMemory) (d : ℕ) (o : OfficeState) → IsMemoryOf o m
     → (draft : Draft) → draft_at m.drafts d ≡ Some draft → (T : Placing) → T ≡ draft.timetable
     → CommandOutcome (draft_shown d o) o (λ new. new ≡ o) (Ok (T, draft.parts))
@@ -40,7 +40,7 @@ not_shown_so : (r : Records) (d : ℕ) (t : Option Placing) → r.draft d ≡ t 
 not_shown_so r d None is none = rw is refl
 not_shown_so r d (Some T) is none = absurd cc
 
--- there is none
+-- there is no draft
 pub none_scored : (r : Records) (d : ℕ) → scored_draft d (Some r) ≡ None
     → is_some (r.draft d) ≡ false
 none_scored r d none = go (r.draft d) refl
@@ -58,7 +58,7 @@ none_in_memory_shown m d (Some r) is loaded none =
 
 -- ---- its penalty
 
--- of what is shown of a draft, the penalty
+-- the penalty of the draft that the office shows
 abbrev priced : Result ((Placing × Penalty) × OfficeState) StoreFault
     → Result (Penalty × OfficeState) StoreFault
 priced shown = shown >>= λ found. Ok (found.0.1, found.1)

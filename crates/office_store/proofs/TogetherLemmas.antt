@@ -1,15 +1,26 @@
 -- What is in memory fits together, whatever the disk returns.
 use Rattle.std.proofs.Common.{◌≡◌, ℕ, ◌<◌, ◌≤◌, Bool, true, false, eqb, List, length, set, Option, Some, None, option_map, refl, sym, ◌∙◌, ap, subst, arith}
-use Rattle.std.specs.Prelude.{IfSome, nat_le}
+use Rattle.std.specs.Prelude.{IfSome, Vec, nat_le}
+use Rattle.std.specs.declared.alloc.Global.{Global}
 use Rattle.std.proofs.lemmas.Bool.Decides.{nat_tests}
 use Rattle.std.proofs.lemmas.List.{get_or-set_same, get_or-set_other}
 use Rattle.exam_model.specs.Enrolments.{Enrolled}
 use Rattle.exam_model.specs.Fits.{Fits, Suits}
 use Rattle.exam_model.specs.Instance.{Session}
+use Rattle.exam_model.specs.Timetable.{Placing}
+use Rattle.exam_publish.specs.Seats.{AreSeated}
+use Rattle.exam_publish.specs.declared.seat_row.SeatRow.{SeatRow}
+use Rattle.office_model.specs.Office.{Publication}
+use Rattle.office_model.specs.Publishing.{publication_rows}
+use Rattle.office_records.specs.FoundPublications.{AreFound, publication_from}
 use Rattle.office_records.specs.Memory.{AreTogether}
-use Rattle.office_store.specs.Memory.{AreRescored, AreSuited, HasPut, IsRenewed, IsTogether, draft_at, rescored}
+use Rattle.office_store.specs.Memory.{AreSuited, HasPublished, HasPut, IsRenewed, IsTogether, draft_at}
 use Rattle.office_store.specs.declared.memory.Draft.{Draft}
 use Rattle.office_store.specs.declared.memory.OfficeMemory.{OfficeMemory}
+
+-- a timetable with its seats
+abbrev Publishing : Type 0
+Publishing = Placing × Vec SeatRow Global
 
 some_is : {X : Type 0} {x y : X} → Some x ≡ Some y → x ≡ y
 some_is e = cc
@@ -40,20 +51,25 @@ one_suited I drafts n x suited within suits d draft at = go (eqb d n) refl
         (λ here. let there : eqb d n ≡ true = grind (arith, nat_tests, here) in cc)) ∙ at)
 
 pub loaded_together : (I : Session) (E : Enrolled) (n : OfficeMemory) → n.kept ≡ Some (I, E)
-    → length E ≡ length I.exams → ((d : ℕ) → draft_at n.drafts d ≡ None) → IsTogether n
-loaded_together I E n kept exams none = record {
+    → length E ≡ length I.exams → ((d : ℕ) → draft_at n.drafts d ≡ None) → n.published ≡ None
+    → IsTogether n
+loaded_together I E n kept exams none unpublished = record {
   exams = subst AreTogether (sym kept) exams;
   drafts = λ J F is d draft at. absurd (no_one (none d) at);
+  published = λ J F is.
+      subst (λ (p : Option Publishing). AreFound J (publication_from p)) (sym unpublished) tt;
 }
 
 pub unloaded_together : (n : OfficeMemory) → n.kept ≡ None
-    → ((d : ℕ) → draft_at n.drafts d ≡ None) → IsTogether n
-unloaded_together n kept none = record {
+    → ((d : ℕ) → draft_at n.drafts d ≡ None) → n.published ≡ None → IsTogether n
+unloaded_together n kept none unpublished = record {
   exams = subst AreTogether (sym kept) tt;
   drafts = λ J F is d draft at. absurd (no_one (none d) at);
+  published = λ J F is.
+      subst (λ (p : Option Publishing). AreFound J (publication_from p)) (sym unpublished) tt;
 }
 
--- ---- a draft, or none, is put in
+-- ---- a draft, or none, is put under a number
 
 module _ (d : ℕ) (m n : OfficeMemory) (x : Option Draft) (together : IsTogether m)
     (suits : (I : Session) (E : Enrolled) → m.kept ≡ Some (I, E)
@@ -75,6 +91,9 @@ module _ (d : ℕ) (m n : OfficeMemory) (x : Option Draft) (together : IsTogethe
   put_in put = record {
     exams = subst AreTogether (sym put.kept) together.exams;
     drafts = λ I E kept e draft at. at_number put I E kept e (eqb e d) refl draft at;
+    published = λ I E kept.
+        subst (λ (p : Option Publishing). AreFound I (publication_from p)) (sym put.published)
+        (together.published I E (sym put.kept ∙ kept));
   }
 
   pub publication_writes : (d ≤ 8 → HasPut d x m n) → (8 < d → n ≡ m) → IsTogether n
@@ -84,7 +103,7 @@ module _ (d : ℕ) (m n : OfficeMemory) (x : Option Draft) (together : IsTogethe
       go true is = put_in (within (grind (arith, nat_tests, is)))
       go false is = subst IsTogether (sym (beyond (grind (arith, nat_tests, is)))) together
 
--- a draft is gone
+-- a draft is deleted
 pub none_together : (d : ℕ) (m n : OfficeMemory) → IsTogether m → (d ≤ 8 → HasPut d None m n)
     → (8 < d → n ≡ m) → IsTogether n
 none_together d m n together = publication_writes d m n None together (λ I E kept. tt)
@@ -95,7 +114,7 @@ pub draft_together : (d : ℕ) (m n : OfficeMemory) (draft : Draft) → IsTogeth
     → (d ≤ 8 → HasPut d (Some draft) m n) → (8 < d → n ≡ m) → IsTogether n
 draft_together d m n draft together suits = publication_writes d m n (Some draft) together suits
 
--- what fits these enrolments is a timetable of the session
+-- a timetable that fits these enrolments is one of the session
 pub suits_of : (m : OfficeMemory) (I : Session) (E : Enrolled) (draft : Draft)
     → m.kept ≡ Some (I, E) → Fits I E draft.timetable
     → (J : Session) (F : Enrolled) → m.kept ≡ Some (J, F) → Suits J draft.timetable
@@ -103,6 +122,31 @@ suits_of m I E draft kept fits J F other =
     subst (λ (K : Session). Suits K draft.timetable)
     (ap (λ (p : Session × Enrolled). p.0) (some_is (sym kept ∙ other)))
     (record { exams = fits.timetable; places = fits.places })
+
+-- ---- a publication
+
+pub published_together : (m n : OfficeMemory) (new : Publishing) → IsTogether m
+    → HasPublished new m n
+    → ((I : Session) (E : Enrolled) → m.kept ≡ Some (I, E) → AreFound I (publication_from (Some new)))
+    → IsTogether n
+published_together m n new together has found = record {
+  exams = subst AreTogether (sym has.kept) together.exams;
+  drafts = λ I E kept. subst (AreSuited I) (sym has.drafts)
+      (together.drafts I E (sym has.kept ∙ kept));
+  published = λ I E kept.
+      subst (λ (p : Option Publishing). AreFound I (publication_from p)) (sym has.published)
+      (found I E (sym has.kept ∙ kept));
+}
+
+-- the published rows have seats; also if nothing is published
+pub published_seats : (I : Session) (p : Option Publication) → AreFound I p
+    → AreSeated I (publication_rows p)
+published_seats I None found = record {
+  in_order = λ j k row before no. absurd (omega (arith, no));
+  within = λ k row no. absurd (omega (arith, no));
+  own = λ j k row before no. absurd (omega (arith, no));
+}
+published_seats I (Some p) found = found.seated
 
 -- ---- a draft in memory
 
@@ -119,33 +163,30 @@ fits_in m together I E kept d draft at =
 
 -- ---- a batch
 
--- rescored drafts have the timetables that they had
-rescored_suit : (I : Session) (F : Enrolled) (old new : List (Option Draft)) → AreSuited I old
-    → AreRescored I F old new → AreSuited I new
-rescored_suit I F old new suited scored d draft at =
-    go (draft_at old d) refl (sym (scored d) ∙ at)
-  where
-    go : (x : Option Draft) → draft_at old d ≡ x → option_map (rescored I F) x ≡ Some draft
-        → Suits I draft.timetable
-    go None is made = absurd cc
-    go (Some before) is made =
-        subst (λ (y : Draft). Suits I y.timetable) (some_is made) (suited d before is)
-
 pub renewed_together : (m n : OfficeMemory) (I : Session) (E : Enrolled) → m.kept ≡ Some (I, E)
     → IsTogether m → (F : Option Enrolled) (drafts : List (Option Draft))
-    → IsRenewed I E F drafts m n → IfSome F (λ F. length F ≡ length I.exams)
-    → IfSome F (λ F. AreRescored I F m.drafts drafts) → IsTogether n
-renewed_together m n I E kept together None drafts renewed exams scored = record {
+    → IsRenewed I E F drafts m n → n.published ≡ m.published
+    → IfSome F (λ F. length F ≡ length I.exams)
+    → AreSuited I drafts → IsTogether n
+renewed_together m n I E kept together None drafts renewed stays exams suited = record {
   exams = subst AreTogether (kept ∙ sym renewed.0) together.exams;
   drafts = λ J G is. subst (AreSuited J) (sym renewed.1)
       (together.drafts J G (kept ∙ sym renewed.0 ∙ is));
+  published = λ J G is.
+      subst (λ (p : Option Publishing). AreFound J (publication_from p)) (sym stays)
+      (together.published J G (kept ∙ sym renewed.0 ∙ is));
 }
-renewed_together m n I E kept together (Some F) drafts renewed exams scored = record {
+renewed_together m n I E kept together (Some F) drafts renewed stays exams suited = record {
   exams = subst AreTogether (sym renewed.0) exams;
   drafts = λ J G is.
       let session : I ≡ J
       = ap (λ (p : Session × Enrolled). p.0) (some_is (sym renewed.0 ∙ is)) in
       subst (λ K. AreSuited K n.drafts) session
-      (subst (AreSuited I) (sym renewed.1)
-      (rescored_suit I F m.drafts drafts (together.drafts I E kept) scored));
+      (subst (AreSuited I) (sym renewed.1) suited);
+  published = λ J G is.
+      let session : I ≡ J
+      = ap (λ (p : Session × Enrolled). p.0) (some_is (sym renewed.0 ∙ is)) in
+      subst (λ (p : Option Publishing). AreFound J (publication_from p)) (sym stays)
+      (subst (λ K. AreFound K (publication_from m.published)) session
+      (together.published I E kept));
 }

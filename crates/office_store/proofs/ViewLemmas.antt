@@ -19,7 +19,7 @@ use Rattle.exam_model.specs.Pairs.{Pair, pairs_at, pairs_from, pairs_of}
 use Rattle.exam_model.specs.Timetable.{Placing, place_of}
 use Rattle.exam_model.proofs.SumLemmas.{IsChain}
 use Rattle.exam_publish.proofs.ListLemmas.{chain_from_ascending}
-use Rattle.office_tables.specs.Enrol.{HerEnrolsRise}
+use Rattle.office_tables.specs.Enrol.{StudentEnrolsRise}
 use Rattle.office_tables.specs.Selections.{IsInOrder}
 use Rattle.office_tables.specs.Placed.{PlacementsRise, placed_of}
 use Rattle.office_tables.specs.Tables.{Tables}
@@ -31,7 +31,7 @@ use Rattle.office_model.specs.ViewRows.{AreOfPublication, places_in}
 use Rattle.office_records.specs.Publications.{placed_from, placed_row, placed_rows}
 use Rattle.office_records.specs.Representation.{TablesRepresentOffice}
 use Rattle.office_records.specs.TableRows.{enrol_row, once}
-use Rattle.office_store.specs.OfficeRows.{published_in}
+use Rattle.office_records.specs.Memory.{published_in}
 use Rattle.office_store.specs.Viewing.{exams_in, candidate_enrol_row, place_in_row}
 use Rattle.std.specs.Prelude.{◌^◌, All}
 use Rattle.std.proofs.Common.{inl, inr}
@@ -49,7 +49,7 @@ use Rattle.exam_publish.specs.declared.seat_row.SeatRow as publish
 use Rattle.exam_publish.proofs.AddUpLemmas.{adds_up}
 use Rattle.exam_publish.proofs.ListLemmas.{any_map, chain_ascending, chain_filter, has_ascending}
 use Rattle.exam_publish.proofs.ShareLemmas.{published_small}
-use Rattle.office_tables.specs.Seat.{HerSeatsRise}
+use Rattle.office_tables.specs.Seat.{StudentSeatsRise}
 use Rattle.office_tables.specs.declared.seat.SeatRow.{SeatRow}
 use Rattle.office_tables.specs.declared.share_student.StudentShareRow.{StudentShareRow}
 use Rattle.office_model.specs.Office.{IsPublication}
@@ -70,7 +70,7 @@ use Rattle.office_records.specs.Memory.{Memory, memory_of}
 use Rattle.office_store.proofs.RunLemmas.{nothing_kept}
 use Rattle.office_store.specs.Viewing.{AreCandidateRows, no_share, share_in_row}
 
--- ---- a number in ascending numbers
+-- ---- a number among ascending numbers
 
 none_above : (c : ℕ) (ss : List ℕ) → AllByRecursion (λ t. c < t) ss
     → filter (λ t. eqb t c) ss ≡ []
@@ -80,7 +80,7 @@ none_above c (t ∷ ss) a =
     ap (λ b. cond b (t ∷ filter (λ t. eqb t c) ss) (filter (λ t. eqb t c) ss)) other
     ∙ none_above c ss a.1
 
--- it is there once, or not at all
+-- the number is there once, or not at all
 pub found_once : (c : ℕ) (ss : List ℕ) → IsChain (λ x y. x < y) ss
     → filter (λ s. eqb s c) ss ≡ once (has_number ss c) c
 found_once c [] h = refl
@@ -95,9 +95,9 @@ found_once c (s ∷ ss) h = go (eqb s c) refl (found_once c ss h.1)
         ∙ ap (λ n. n ∷ []) same
     go false e more = more
 
--- ---- her exams
+-- ---- a candidate's exams
 
--- the exams from a number on where she is enrolled
+-- the exams from k on in which a candidate is enrolled
 abbrev exams_from : ℕ → Enrolled → ℕ → List ℕ
 exams_from k [] c = []
 exams_from k (ss ∷ E) c = once (has_number ss c) k ++ exams_from (k + 1) E c
@@ -135,7 +135,7 @@ sat_from D (ss ∷ E) c =
 sat_is : (E : Enrolled) (c : ℕ) → exams_sat E c ≡ exams_from 0 E c
 sat_is E c = sat_from [] E c
 
--- they rise
+-- they ascend
 from_least : (m k : ℕ) (E : Enrolled) (c : ℕ) → m ≤ k
     → AllByRecursion (λ e. m ≤ e) (exams_from k E c)
 from_least m k [] c low = tt
@@ -162,7 +162,7 @@ exams_rise k (ss ∷ E) c = go (has_number ss c) (exams_rise (k + 1) E c)
 pub sat_rise : (E : Enrolled) (c : ℕ) → IsAscending (λ x y. x < y) (exams_sat E c)
 sat_rise E c = subst (IsAscending (λ x y. x < y)) (sym (sat_is E c)) (exams_rise 0 E c)
 
--- ---- the rows of her enrolments
+-- ---- the rows of a candidate's enrolments
 
 one_exam : (c k : ℕ) (ss : List ℕ)
     → filter (λ (r : EnrolRow). eqb r.student c) (map enrol_row (pairs_at k ss))
@@ -210,7 +210,7 @@ each_chain (ss ∷ E) h = (
 )
 
 rows_rise : (c : ℕ) (es : List ℕ) → IsAscending (λ x y. x < y) es
-    → HerEnrolsRise (map (candidate_enrol_row c) es)
+    → StudentEnrolsRise (map (candidate_enrol_row c) es)
 rows_rise c [] h = tt
 rows_rise c (e ∷ es) h = (each es h.0, rows_rise c es h.1)
   where
@@ -228,7 +228,7 @@ exams_back c (e ∷ es) = ap (λ l. e ∷ l) (exams_back c es)
 abbrev row_pair : EnrolRow → Pair
 row_pair r = record { exam = r.exam; student = r.student }
 
--- what is stored of her enrolments is that of her exams
+-- the stored enrolments of a candidate are those of the candidate's exams
 candidate_enrolments : (t : Tables) (r : Records) (c : ℕ) → TablesRepresentOffice t (Some r)
     → AreRecords r
     → IsPermutation (filter (λ (x : EnrolRow). eqb x.student c) t.enrol)
@@ -242,7 +242,7 @@ candidate_enrolments t r c stands is =
 pub rows_read : (t : Tables) (r : Records) (c : ℕ) (found : List EnrolRow)
     → TablesRepresentOffice t (Some r)
     → AreRecords r
-    → IsInOrder HerEnrolsRise (filter (λ (x : EnrolRow). eqb x.student c) t.enrol) found
+    → IsInOrder StudentEnrolsRise (filter (λ (x : EnrolRow). eqb x.student c) t.enrol) found
     → found ≡ map (candidate_enrol_row c) (exams_sat r.enrolments c)
 rows_read t r c found stands is order =
     order (map (candidate_enrol_row c) (exams_sat r.enrolments c))
@@ -252,7 +252,7 @@ rows_read t r c found stands is order =
 pub enrols_read : (t : Tables) (o : OfficeState) (c : ℕ) (found : List EnrolRow)
     → TablesRepresentOffice t o
     → IsOffice o
-    → IsInOrder HerEnrolsRise (filter (λ (x : EnrolRow). eqb x.student c) t.enrol) found
+    → IsInOrder StudentEnrolsRise (filter (λ (x : EnrolRow). eqb x.student c) t.enrol) found
     → map (λ (r : EnrolRow). r.exam) found ≡ exams_in c o
 enrols_read t None c found stands is order =
     ap (map (λ (r : EnrolRow). r.exam))
@@ -263,7 +263,7 @@ enrols_read t (Some r) c found stands is order =
     ap (map (λ (r : EnrolRow). r.exam)) (rows_read t r c found stands is order)
     ∙ exams_back c (exams_sat r.enrolments c)
 
--- her pairs are those of her exams
+-- the pairs of a candidate are those of the candidate's exams
 pairs_back : (ps : List Pair) → map row_pair (map enrol_row ps) ≡ ps
 pairs_back [] = refl
 pairs_back (p ∷ ps) = ap (λ l. p ∷ l) (pairs_back ps)
@@ -284,7 +284,7 @@ abbrev one_or_none : Option PlacedRow → List PlacedRow
 one_or_none None = []
 one_or_none (Some row) = row ∷ []
 
--- the row of an exam, if it is published anywhere
+-- the row of an exam, if it has a published place
 abbrev row_for : Option Publication → ℕ → Option PlacedRow
 row_for published e = option_map (placed_row e) (published_place published e)
 
@@ -400,7 +400,7 @@ places_read t (Some r) c found stands is order =
     (places_rise r.published (exams_sat r.enrolments c) (sat_rise r.enrolments c)))
     ∙ places_back r.published (exams_sat r.enrolments c)
 
--- ---- her seats
+-- ---- a candidate's seats
 
 own_rows : (c : ℕ) (rows : List publish.SeatRow)
     → AllByRecursion (λ (row : publish.SeatRow). row.student ≡ c) (rows_of c rows)
@@ -428,13 +428,13 @@ before_all c row (next ∷ rows) own all before =
 
 candidate_rise : (c : ℕ) (rows : List publish.SeatRow) → IsChain RowBefore rows
     → AllByRecursion (λ (row : publish.SeatRow). row.student ≡ c) rows
-    → HerSeatsRise (map stored_seat rows)
+    → StudentSeatsRise (map stored_seat rows)
 candidate_rise c [] order own = tt
 candidate_rise c (row ∷ rows) order own =
     (before_all c row rows own.0 own.1 order.0, candidate_rise c rows order.1 own.1)
 
 candidate_seats_rise : (r : Records) (c : ℕ) → AreRecords r → (published : Option Publication)
-    → r.published ≡ published → HerSeatsRise
+    → r.published ≡ published → StudentSeatsRise
     (map stored_seat (rows_of c (publication_rows published)))
 candidate_seats_rise r c is None e = tt
 candidate_seats_rise r c is (Some p) e =
@@ -446,7 +446,7 @@ candidate_seats_rise r c is (Some p) e =
 pub candidate_seats_read : (t : Tables) (o : OfficeState) (c : ℕ) (found : List SeatRow)
     → TablesRepresentOffice t o
     → IsOffice o
-    → IsInOrder HerSeatsRise (filter (λ (x : SeatRow). eqb x.student c) t.seat) found
+    → IsInOrder StudentSeatsRise (filter (λ (x : SeatRow). eqb x.student c) t.seat) found
     → found ≡ map stored_seat (rows_of c (publication_rows (published_in o)))
 candidate_seats_read t None c found stands is order =
     order [] (subst (λ (t : Tables).
@@ -459,7 +459,7 @@ candidate_seats_read t (Some r) c found stands is order =
     (IsPermutation-filter (λ (x : SeatRow). eqb x.student c) _ _ stands.published.seat))
     (candidate_seats_rise r c is r.published refl)
 
--- ---- her share
+-- ---- a candidate's share
 
 pub candidate_shares_read : (t : Tables) (o : OfficeState) (c : ℕ) (found : List StudentShareRow)
     → TablesRepresentOffice t o → IsSound t o
@@ -474,7 +474,7 @@ candidate_shares_read t (Some r) c found stands sound p =
     (IsPermutation-filter (λ (x : StudentShareRow). eqb x.student c) _ _
     (IsPermutation-sym _ _ sound.shared.of_students)) p
 
--- without a row she has none
+-- a candidate without a row has no seats
 no_rows : (c : ℕ) (rows : List publish.SeatRow)
     → list_any (λ (row : publish.SeatRow). eqb row.student c) rows ≡ false → rows_of c rows ≡ []
 no_rows c [] none = refl
@@ -488,7 +488,7 @@ no_rows c (row ∷ rows) none = go (eqb row.student c) (no_rows c rows) none
     go true more e = absurd cc
     go false more e = more e
 
--- her share, by the row that is stored of it; nothing where there is none
+-- a candidate's share, by its stored row; nothing without a row
 pub data IsHerShare (shares : List StudentShareRow) (share : PersonalPenalty) : Type 0 where
   none : shares ≡ [] → share ≡ no_share → IsHerShare shares share
   one : (row : StudentShareRow) → shares ≡ row ∷ [] → share_in_row row ≡ share
@@ -571,7 +571,7 @@ candidate_share_in r c is shares same = go r.published refl same
     go None e same = none (same_few [] shares (omega arith) same) refl
     go (Some p) e same = own_share r.session p c (small_shares_of r p is e) shares same
 
--- in any office it is what her seats cost her
+-- in each office it is the penalty of the candidate's view
 pub candidate_share_of : (o : OfficeState) (c : ℕ) → IsOffice o → (shares : List StudentShareRow)
     → IsPermutation (filter (λ (x : StudentShareRow). eqb x.student c) (student_rows_in o)) shares
     → IsHerShare shares (shown_penalty (view_of c o))
@@ -580,7 +580,7 @@ candidate_share_of (Some r) c is shares same = candidate_share_in r c is shares 
 
 -- ---- what the rows show
 
--- her rows are at the published places of their exams
+-- the candidate's seat rows are at the published places of their exams
 candidate_placed : (r : Records) (c : ℕ) → AreRecords r
     → All (λ (row : publish.SeatRow). published_place r.published row.exam ≡ Some (row_place row))
     (rows_of c (publication_rows r.published))
@@ -617,7 +617,7 @@ module _ (r : Records) (I : Session) (c : ℕ) (is : AreRecords r) (same : r.ses
   abbrev candidate_seat_rows : List publish.SeatRow
   candidate_seat_rows = rows_of c (publication_rows r.published)
 
-  -- no seat is beyond a limit
+  -- no number of a seat row is above its limit
   pub not_bad : ((own : List publish.SeatRow) → AreNumbered own → map stored_seat own ≡ seats → ⊥)
       → ⊥
   not_bad nobody = nobody candidate_seat_rows (candidate_numbered r c is) (sym own_rows.of_seats)
@@ -643,9 +643,9 @@ module _ (r : Records) (I : Session) (c : ℕ) (is : AreRecords r) (same : r.ses
       shown r.published published
       ∙ (λ i. shown_exams (view_from (sym same i) (candidate_exams i) r.published (own_is i)))
 
--- ---- what is told
+-- ---- the result
 
--- her share is read of its row
+-- a candidate's share is read from their row
 pub personal_returned : (shares rows : List StudentShareRow) (share : PersonalPenalty)
     (result : Result PersonalPenalty StoreFault) → rows ≡ shares → IsHerShare shares share
     → (rows ≡ [] → result ≡ Ok no_share)
@@ -667,7 +667,7 @@ penalty_returned shares rows share result same own_rows nothing one_row =
     subst (ReturnsValue share)
     (sym (personal_returned shares rows share result same own_rows nothing one_row)) refl
 
--- what is told of these lists is told of equal ones
+-- a result for these lists is one for equal lists
 pub returned_of_same : (I : Session) (rows : List ViewRow) (enrolled exams : List ℕ)
     (at places : List (ℕ × Place)) (own seats : List publish.SeatRow)
     → enrolled ≡ exams → at ≡ places → own ≡ seats
@@ -710,7 +710,7 @@ nothing_returned o m empty memory c meaning exams =
     subst (λ (o : OfficeState). ReturnsValue (shown_exams (view_of c o)) meaning)
     (sym (nothing_kept o (memory ∙ empty))) exams
 
--- a fault stays one where a list is told
+-- a fault stays one if the result is read as a list
 pub listed_fault : {X F : Type 0} (result : Result (Vec X Global) F) (P : F → Type 0)
     → IsErrAnd result P → IsErrAnd (listed result) P
 listed_fault (Ok found) P is = is

@@ -1,4 +1,4 @@
--- What an edit makes of a draft, before it is put in.
+-- What an edit makes of a draft, before it is written.
 use Rattle.std.specs.Prelude.{◌≡◌, ℕ, Result, Ok, Err, Some}
 use Rattle.exam_draft.specs.Edits.{edited}
 use Rattle.exam_draft.specs.declared.edit.Edit.{Edit}
@@ -13,18 +13,18 @@ use Rattle.office_store.specs.declared.editing.EditedDraft.{EditedDraft}
 use Rattle.office_store.specs.declared.editing.Judged.{Judged}
 use Rattle.office_store.specs.declared.memory.Draft.{Draft}
 
--- the draft of these records, judged
+-- the edit of a draft of these records is legal and gives this timetable
 pub record IsJudged (d : ℕ) (change : Edit) (r : Records) (judged : Judged) : Type 0 where
   pub draft : r.draft d ≡ Some judged.draft.now.timetable
   pub edits : edited r.session r.enrolments judged.draft.now.timetable change ≡ Ok judged.new
   pub scored : judged.draft.now.parts ≡ track r.session r.enrolments judged.draft.now.timetable
 
--- it was judged, or it is the command's own refusal
+-- the edit is legal with this result, or is refused with the command's own refusal
 abbrev pub Judges : ℕ → Edit → Records → Result Judged StoreFault → Type 0
 Judges d change r (Ok judged) = IsJudged d change r judged
 Judges d change r (Err fault) = IsFault (draft_edited d change (Some r)) fault
 
--- what the edit makes of a draft of this office
+-- the draft that the edit makes in this office
 pub record IsEdited (d : ℕ) (change : Edit) (office : OfficeState) (new : Draft) : Type 0 where
   pub records : Records
   pub is : office ≡ Some records
@@ -34,7 +34,7 @@ pub record IsEdited (d : ℕ) (change : Edit) (office : OfficeState) (new : Draf
   pub fits : Fits records.session records.enrolments new.timetable
   pub scored : new.parts ≡ track records.session records.enrolments new.timetable
 
--- that, or the command's own refusal
+-- the draft that the edit makes, or the command's own refusal
 abbrev pub Edits : ℕ → Edit → OfficeState → Result EditedDraft StoreFault → Type 0
 Edits d change office (Ok new) = IsEdited d change office new.draft
 Edits d change office (Err fault) = IsFault (draft_edited d change office) fault

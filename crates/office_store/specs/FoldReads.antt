@@ -1,4 +1,4 @@
--- What a connection that reads rows, some after others, leaves as it was.
+-- What a connection leaves unchanged if it only reads rows, with one or several statements.
 use Rattle.std.specs.Prelude.{◌≡◌, IsTrue, false, Some}
 use Rattle.sqlite.specs.Held.{Held, state}
 use Rattle.sqlite.specs.State.{HasCleanDisk, IsUnchanged, Survives}
@@ -8,9 +8,9 @@ use Rattle.office_model.specs.Office.{Records}
 use Rattle.office_records.specs.Representation.{RepresentsOffice}
 use Rattle.office_tables.specs.Readers.{LeavesCommitted, OpensNone}
 use Rattle.office_tables.specs.Tables.{Tables}
-use Rattle.office_tables.specs.Standing.{Stands}
+use Rattle.office_tables.specs.TablesHeld.{HoldsTables}
 
--- whatever is answered: nothing is changed, but for what was not committed
+-- whatever the result: nothing is changed except what was not committed
 pub record HasRead {S : Type 0} (store : Ghosts S) (old new : Held S) : Type 0 where
   pub clean : HasCleanDisk (state store new) → HasCleanDisk (state store old)
   pub survives : Survives (state store old) (state store new) (λ _. ⊥)
@@ -18,13 +18,13 @@ pub record HasRead {S : Type 0} (store : Ghosts S) (old new : Held S) : Type 0 w
   pub kept : LeavesCommitted store old new
   pub mode : old.in_transaction ≡ false → new.in_transaction ≡ false
 
--- over a clean disk, if the tables are an office's, everything is as it was
+-- over a clean disk, if the tables are those of an office, everything is as it was
 abbrev pub RowsUnchanged : {S : Type 0} → Ghosts S → Held S → Held S → Type 0
 RowsUnchanged store old new =
-    HasCleanDisk (state store new) → (t : Tables) → Stands (state store old).now t
+    HasCleanDisk (state store new) → (t : Tables) → HoldsTables (state store old).now t
     → IsTrue (state store old).is_open → IsUnchanged (state store old) (state store new)
 
--- over a clean disk, an office with these enrolments stood there, in a file that was open
+-- over a clean disk, the open file represented an office with these enrolments
 pub record HadEnrolments {S : Type 0} (store : Ghosts S) (old new : Held S) (E : Enrolled)
     : Type 0 where
   pub clean : HasCleanDisk (state store new)

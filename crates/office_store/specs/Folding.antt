@@ -1,4 +1,4 @@
--- What an edit makes of a draft's penalty, by rows that are read of the file.
+-- The penalty after an edit, calculated from rows that are read from the file.
 use Rattle.std.specs.Prelude.{◌≡◌, ℕ, ◌+◌, ◌<◌, ◌≤◌, List, ◌++◌, length, flat_map, All, Some}
 use Rattle.sqlite.specs.Held.{Held}
 use Rattle.sqlite.specs.Store.{Ghosts}
@@ -17,24 +17,24 @@ use Rattle.office_store.specs.FoldReads.{HadEnrolments}
 
 -- ---- the students of an edit
 
--- who sits one of these exams, ascending, each once
+-- the students of these exams, ascending, each once
 abbrev pub students_of_exams : Enrolled → List ℕ → List ℕ
 students_of_exams E exams = ascending (flat_map (students E) exams)
 
--- the pairs of these students, one student's after another's, and each one's by exam
+-- the pairs of these students, one student after another, each student's pairs by exam
 abbrev pub pairs_of_students : Enrolled → List ℕ → List Pair
 pairs_of_students E all = flat_map (λ s. pairs_sat (Some s) (exams_sat E s)) all
 
 -- ---- a fold
 
--- it took so many pairs, all of them of smaller students, and has room for so many more
+-- the fold has taken pairs of smaller students only, and has room for n more
 pub record CanTake (fold : Folded) (student more : ℕ) : Type 0 where
   pub pairs : List Pair
   pub stands : RepresentsPairs fold pairs
   pub few : length pairs + more ≤ MAX_PAIRS
   pub below : All (λ p. p.student < student) pairs
 
--- it took so many pairs: over a clean disk they are those of the students before these
+-- the fold has taken `count` pairs; over a clean disk they are those of the students before these
 pub record HasTaken {S : Type 0} (store : Ghosts S) (old new : Held S) (fold : Folded) (count : ℕ)
     (all rest : List ℕ) : Type 0 where
   pub pairs : List Pair
@@ -45,9 +45,9 @@ pub record HasTaken {S : Type 0} (store : Ghosts S) (old new : Held S) (fold : F
   pub are : (E : Enrolled) → HadEnrolments store old new E
       → pairs ++ pairs_of_students E rest ≡ pairs_of_students E all
 
--- ---- an edit that was judged
+-- ---- a legal edit
 
--- what is said of it holds for these enrolments
+-- the edit and its earlier penalty are right for these enrolments
 pub record IsEditOf (I : Session) (E : Enrolled) (judged : Judged) : Type 0 where
   pub fits : Fits I E judged.new
   pub others : DiffersAtMost judged.exams.items judged.draft.now.timetable judged.new

@@ -1,4 +1,4 @@
--- What is judged of a draft.
+-- The breaches of a draft.
 use Rattle.std.specs.Prelude.{ℕ, List, Vec, Result, Ok, Err}
 use Rattle.std.specs.declared.alloc.Global.{Global}
 use Rattle.exam_terms.specs.Refusing.{◌>>=◌}
@@ -14,7 +14,7 @@ draft_judged d office = do
   found ← draft_in_session d office
   Ok (breaches_of found.0.0.0 found.0.0.1 found.0.1, found.1)
 
--- the list of what was found
+-- the result as a plain list
 abbrev pub listed : {X F : Type 0} → Result (Vec X Global) F → Result (List X) F
 listed (Ok found) = Ok found.items
 listed (Err fault) = Err fault

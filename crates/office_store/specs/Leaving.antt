@@ -15,7 +15,7 @@ use Rattle.office_records.specs.Representation.{RepresentsOffice}
 use Rattle.office_store.specs.Opening.{DatabaseUpgraded}
 use Rattle.office_store.specs.Running.{IsCommitted}
 
--- the database of a file in which these trees are found, under the office's schema
+-- the database of a file with these trees and the office's schema
 abbrev pub found_in : Trees → Database
 found_in found = record { schema = office_schema; trees = found }
 
@@ -31,41 +31,41 @@ pub record HoldsNext {A : Type 0} (command : OfficeState → CommandResult A) (o
   pub does : command office ≡ Ok (answer, next)
   pub holds : RepresentsOffice (found_in found) next
 
--- what a command may commit, unless it is refused by name: the next office
+-- what a command may commit unless it is refused with a named fault: the next office
 abbrev pub MayCommit : {A : Type 0} → (OfficeState → CommandResult A) → State → Result A StoreFault
     → Trees
     → Type 0
 MayCommit command old result found =
     IfErr result (λ e. e ≡ Store) × HoldsNext command old found
 
--- what a call leaves behind that may commit such trees: an Ok says that the database is open and
--- that all is committed, and a later opening may find what it might have found before, or them
+-- what the file holds after a call that may commit such trees: on an Ok the database is open and
+-- all is committed; a later opening may find what it might have found before, or such trees
 pub record Leaves {A E : Type 0} (may : Trees → Type 0) (old new : State) (result : Result A E)
     : Type 0 where
   pub all_committed : HasCleanDisk new → OnOk result (IsCommitted new)
   pub survives : Survives old new may
 
--- what a command leaves behind
+-- what the file holds after a command
 abbrev pub LeavesNext : {S A : Type 0} → Ghosts S → (OfficeState → CommandResult A) → Held S
     → Held S
     → Result A StoreFault → Type 0
 LeavesNext store command old new result =
     Leaves (MayCommit command (state store old) result) (state store old) (state store new) result
 
--- the connection in an opened office, or that which a refusal hands back
+-- the connection of an opened office, or the one that a refusal returns
 abbrev pub connection_of : {S : Type 0} → Result (Held S) (StoreFault × Held S) → Held S
 connection_of (Ok office) = office
 connection_of (Err refused) = refused.1
 
--- what making an office may commit where there was no table, unless that is refused by name: the
--- tables without a session
+-- what making an office may commit if there was no table, unless it is refused with a named fault:
+-- the tables without a session
 abbrev pub MayMake : {S : Type 0} → State → Result (Held S) (StoreFault × Held S) → Trees → Type 0
 MayMake old result found =
     (old.now.schema ≡ no_schema) × IfErr result (λ refused. refused.0 ≡ Store)
     × RepresentsOffice (found_in found) None
 
--- what taking an office over may commit where its tables are of version 1, unless that is refused by
--- name: the same office in version 2
+-- what opening an existing office may commit if its tables are of version 1, unless it is refused
+-- with a named fault: the same office in version 2
 abbrev pub MayMigrate : {S : Type 0} → State → Result (Held S) (StoreFault × Held S) → Trees
     → Type 0
 MayMigrate old result found =

@@ -1,4 +1,4 @@
--- What is put in where a batch is accepted.
+-- The writes of an accepted batch.
 use Rattle.std.specs.Prelude.{◌≡◌, ◌≢◌, ◌<◌, ℕ, if◌then◌else◌, List, [], ◌∷◌, length, map, reverse, Option, option_to_list, Result, Ok, Err}
 use Rattle.exam_terms.specs.Refusing.{◌>>=◌, unless}
 use Rattle.exam_terms.specs.declared.limits.TheConstants.{MAX_BATCHES}
@@ -24,7 +24,7 @@ use Rattle.office_store.specs.Running.{IsFault}
 use Rattle.office_store.specs.declared.new_batch.NewBatch.{NewBatch}
 use Rattle.office_store.specs.declared.new_batch.PutLine.{PutLine}
 
--- a line's row comes, or goes
+-- the tables after a line's row is inserted or deleted
 abbrev pub line_put : Change → Tables → Tables
 line_put change t =
     if change.add then with_enrol (enrol_row (pair_of change)) t
@@ -34,12 +34,16 @@ line_put change t =
 abbrev pub put_line : Change → PutLine
 put_line change = record { change = change }
 
+-- the student of each line
+abbrev pub students_of : List Change → List ℕ
+students_of lines = map (λ line. line.student) lines
+
 -- these rows are an office's drafts with other enrolments
 pub record AreDraftsWith (r : Records) (E : Enrolled) (drafts : List DraftRow) : Type 0 where
   pub slots : List SlotRow
   pub are : AreDrafts r.session E drafts slots r.draft
 
--- what these lines make of an office's enrolments, with the lines that act and, where there are any,
+-- the batch makes these enrolments of an office's, with the lines that act and, if there are any,
 -- the rows of all drafts with the enrolments after them; there is room for one batch more
 pub record IsNewFor (changes : List Change) (r : Records) (new : NewBatch) : Type 0 where
   pub after : after_batch changes r.enrolments
@@ -49,7 +53,7 @@ pub record IsNewFor (changes : List Change) (r : Records) (new : NewBatch) : Typ
   pub drafts : new.lines.items ≢ []
       → AreDraftsWith r (latest new.enrolments r.enrolments) (map (λ it. it.row) new.drafts.items)
 
--- that, or the refusal of such a batch, whatever its number and its bytes
+-- the writes of such a batch, or its refusal, whatever its number and its bytes
 abbrev pub Enrols : List Change → Records → Result NewBatch StoreFault → Type 0
 Enrols changes r (Ok new) = IsNewFor changes r new
 Enrols changes r (Err fault) =
@@ -60,19 +64,19 @@ abbrev pub IsRowOf : Option KeptBatch → Option BatchRow → Type 0
 IsRowOf kept found =
     map batch_from (option_to_list found) ≡ map stored_batch (option_to_list kept)
 
--- the rows of the drafts after such lines: new ones, or, if no line acts, those that are there
+-- the rows of the drafts after such lines: new ones, or, if no line acts, the old ones
 abbrev pub drafts_after : List PutLine → List DraftRow → List DraftRow → List DraftRow
 drafts_after [] anew rows = rows
 drafts_after (line ∷ lines) anew rows = reverse anew
 
--- the lines that act, the drafts after them, and the batch
+-- the tables after the acting lines, the drafts and the batch are written
 abbrev pub new_batch_put : ℕ → List ℕ → NewBatch → Tables → Tables
 new_batch_put number bytes new t =
     batch_put (map (λ it. it.change) new.lines.items)
     (drafts_after new.lines.items (map (λ it. it.row) new.drafts.items) t.draft)
     (stored_batch (record { no = number; bytes = bytes; counts = new.counts })) t
 
--- a batch that is kept is answered as at first, if it has these bytes
+-- the first counts of a kept batch, if it has these bytes
 abbrev pub first_counts : Batch → List ℕ → Result Counts StoreFault
 first_counts b bytes = do
   _ ← unless (same_bytes b.bytes bytes) BatchDiffers

@@ -1,4 +1,4 @@
--- A draft as it begins.
+-- A new draft.
 use Rattle.std.specs.Prelude.{◌≡◌, ℕ, List, Ok}
 use Rattle.exam_model.specs.Enrolments.{Enrolled}
 use Rattle.exam_model.specs.Fits.{Fits}
@@ -9,7 +9,7 @@ use Rattle.office_records.specs.TableRows.{slots_from}
 use Rattle.office_model.specs.DraftCommands.{first_timetable}
 use Rattle.office_store.specs.declared.memory.Draft.{Draft}
 
--- the draft d begins so, and its places have these rows
+-- the draft d begins with this timetable and penalty, and its places have these rows
 pub record Begins (d : ℕ) (bytes : List ℕ) (I : Session) (E : Enrolled) (begun : Draft)
     (slots : List SlotRow) : Type 0 where
   pub first : first_timetable bytes I ≡ Ok begun.timetable

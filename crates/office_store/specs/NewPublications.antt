@@ -1,6 +1,7 @@
--- What is put in where a draft is published.
+-- The writes of a publication.
 use Rattle.std.specs.Prelude.{◌≡◌, ℕ, List, [], ◌∷◌, map, length, All, IsPermutation}
-use Rattle.std.specs.Prelude.{Option, Some, None, option_map, Result, Ok, Err}
+use Rattle.std.specs.Prelude.{Option, Some, None, option_map, Result, Ok, Err, Vec}
+use Rattle.std.specs.declared.alloc.Global.{Global}
 use Rattle.exam_model.specs.Instance.{Session}
 use Rattle.exam_model.specs.Timetable.{Placing}
 use Rattle.exam_publish.specs.Changed.{changed_students}
@@ -14,6 +15,7 @@ use Rattle.office_model.specs.Office.{OfficeState, Records}
 use Rattle.office_model.specs.Publishing.{draft_published, published_as, publication_rows}
 use Rattle.office_model.specs.DraftCommands.{live_penalty}
 use Rattle.office_model.specs.declared.fault.StoreFault.{StoreFault}
+use Rattle.office_records.specs.FoundPublications.{publication_from}
 use Rattle.office_records.specs.Publications.{placed_from, placed_rows, stored_seat}
 use Rattle.office_records.specs.SeatsStored.{seat_rows_of}
 use Rattle.office_records.specs.SharesStored.{share_rows_of, student_share_row}
@@ -24,16 +26,16 @@ use Rattle.office_store.specs.Running.{IsFault}
 use Rattle.office_store.specs.declared.new_publication.NewPublication.{NewPublication}
 use Rattle.office_store.specs.RowPuts.{place_gone, placement_put, deleted_candidate_seats, seat_put, deleted_share, student_share_put, part_share_put}
 
--- ---- a publication that is put in
+-- ---- the writes
 
 -- the text of the row about the office, if no placement was published before
 abbrev pub mark_text : Session → List PlacedRow → Option (List ℕ)
 mark_text I [] = Some (session_text I)
 mark_text I (row ∷ before) = None
 
--- this timetable in place of the placements before, of which only those that differ go and come; of
--- the candidates' seats and shares only those whose seats differ, which go and come; and what is
--- answered
+-- the writes that replace the placements before by this timetable: only placements that differ are
+-- deleted and inserted, and the seats and shares of only those candidates whose seats differ; with
+-- the counts that the call returns
 pub record AreInserted (I : Session) (T : Placing) (before : List PlacedRow)
     (old rows : List SeatRow)
     (penalty : ℕ) (new : NewPublication) : Type 0 where
@@ -51,15 +53,16 @@ pub record AreInserted (I : Session) (T : Placing) (before : List PlacedRow)
   pub counts : new.counts
       ≡ record { changed = length (changed_students old rows); penalty = penalty }
 
--- amounts that the tables take
+-- amounts that fit the tables' columns
 pub record AreSmallShares (new : NewPublication) : Type 0 where
   pub students : All (λ it. AreStudentAmounts it.row) new.students.items
   pub parts : All (λ it. ArePartAmounts it.row) new.parts.items
 
 -- ---- by an office's records
 
--- what the command puts in, of a draft that fits and may be published
-pub record IsInsertedFor (d : ℕ) (r : Records) (new : NewPublication) : Type 0 where
+-- the command's writes for a draft that fits and may be published, and the new publication
+pub record IsInsertedFor (d : ℕ) (r : Records) (new : NewPublication)
+    (published : Placing × Vec SeatRow Global) : Type 0 where
   pub timetable : Placing
   pub draft : r.draft d ≡ Some timetable
   pub permitted : publish_refusal r.session r.enrolments timetable ≡ None
@@ -67,19 +70,23 @@ pub record IsInsertedFor (d : ℕ) (r : Records) (new : NewPublication) : Type 0
   pub were : IsPermutation before (placed_rows r.published)
   pub put : AreInserted r.session timetable before (publication_rows r.published)
       (published_as r timetable).rows (live_penalty r timetable) new
+  pub made : publication_from (Some published) ≡ Some (published_as r timetable)
 
--- that, or the command's own refusal
-abbrev pub Publishes : ℕ → Records → Result NewPublication StoreFault → Type 0
-Publishes d r (Ok new) = IsInsertedFor d r new
+-- the writes, or the command's own refusal
+abbrev pub Publishes : ℕ → Records
+    → Result (NewPublication × (Placing × Vec SeatRow Global)) StoreFault → Type 0
+Publishes d r (Ok new) = IsInsertedFor d r new.0 new.1
 Publishes d r (Err fault) = IsFault (draft_published d (Some r)) fault
 
--- what the command puts in of an office
-pub record IsInserted (d : ℕ) (office : OfficeState) (new : NewPublication) : Type 0 where
+-- the command's writes for an office, and its new publication
+pub record IsInserted (d : ℕ) (office : OfficeState) (new : NewPublication)
+    (published : Placing × Vec SeatRow Global) : Type 0 where
   pub records : Records
   pub is : office ≡ Some records
-  pub put : IsInsertedFor d records new
+  pub put : IsInsertedFor d records new published
 
--- that, or the command's own refusal
-abbrev pub InsertsOrRefuses : ℕ → OfficeState → Result NewPublication StoreFault → Type 0
-InsertsOrRefuses d office (Ok new) = IsInserted d office new
+-- the writes, or the command's own refusal
+abbrev pub InsertsOrRefuses : ℕ → OfficeState
+    → Result (NewPublication × (Placing × Vec SeatRow Global)) StoreFault → Type 0
+InsertsOrRefuses d office (Ok new) = IsInserted d office new.0 new.1
 InsertsOrRefuses d office (Err fault) = IsFault (draft_published d office) fault

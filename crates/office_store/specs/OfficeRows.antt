@@ -1,30 +1,23 @@
--- What the rows that are read say of an office.
-use Rattle.std.specs.Prelude.{List, [], Option, Some, None, Result, Ok, Err, IsPermutation}
+-- What the rows that are read mean for an office.
+use Rattle.std.specs.Prelude.{List, [], Some, None, Result, Ok, Err, IsPermutation}
 use Rattle.std.specs.Borrow.{Bor}
 use Rattle.office_tables.specs.declared.share_part.PartShareRow.{PartShareRow}
 use Rattle.office_tables.specs.declared.share_student.StudentShareRow.{StudentShareRow}
-use Rattle.office_model.specs.Office.{OfficeState, Publication}
+use Rattle.office_model.specs.Office.{OfficeState}
 use Rattle.office_records.specs.SharesStored.{student_share_rows}
 use Rattle.office_records.specs.PartShares.{part_share_rows}
 
--- ---- what is published
-
--- what an office has published, if it has
-abbrev pub published_in : OfficeState → Option Publication
-published_in None = None
-published_in (Some r) = r.published
-
--- the rows of the shares of what it has published
+-- the rows of the candidates' shares of an office's publication
 abbrev pub student_rows_in : OfficeState → List StudentShareRow
 student_rows_in None = []
 student_rows_in (Some r) = student_share_rows r.session r.published
 
--- the share rows of exams, periods and rooms in an office; none where nothing is loaded
+-- the share rows of exams, periods and rooms of an office; none if nothing is loaded
 abbrev pub part_rows_in : OfficeState → List PartShareRow
 part_rows_in None = []
 part_rows_in (Some r) = part_share_rows r.session r.published
 
--- the rows that an office has of those shares
+-- an office has these rows of shares
 pub record AreShareRowsOf (office : OfficeState) (students : List StudentShareRow)
     (parts : List PartShareRow) : Type 0 where
   pub of_students : IsPermutation students (student_rows_in office)

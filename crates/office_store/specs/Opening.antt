@@ -4,7 +4,7 @@ use Rattle.sqlite.specs.Effect.{Database}
 use Rattle.office_tables.specs.Adopting.{tables_of}
 use Rattle.office_tables.specs.Batch.{counts_of}
 use Rattle.office_tables.specs.Schema.{no_schema}
-use Rattle.office_tables.specs.Standing.{StandsIn}
+use Rattle.office_tables.specs.TablesHeld.{HoldsTablesIn}
 use Rattle.office_tables.specs.Tables.{Batch}
 use Rattle.office_tables.specs.declared.found.Found.{Found}
 use Rattle.office_tables.specs.declared.version.Version.{Version}
@@ -15,13 +15,13 @@ use Rattle.office_records.specs.Representation.{RepresentsOffice, RepresentsOffi
 use Rattle.office_store.specs.Memory.{IsMemoryOf}
 use Rattle.office_store.specs.declared.memory.OfficeMemory.{OfficeMemory}
 
--- in version 1 there is no weight on what is over night
+-- in version 1 the weight of exams over night is 0
 abbrev pub WeighsNoNight : Version → Memory → Type 0
 WeighsNoNight One (Some (I, E)) = I.weights.night ≡ 0
 WeighsNoNight One None = Unit {0}
 WeighsNoNight Two memory = Unit {0}
 
--- the database represents this office in one of the two versions, and is sound
+-- the database represents this office in one of the two versions
 abbrev pub HoldsOffice : Database → OfficeState → Type 0
 HoldsOffice db office =
     (version : Version) × RepresentsOfficeIn version db office
@@ -31,18 +31,18 @@ HoldsOffice db office =
 abbrev pub IsOfficeOf : Database → OfficeState → Type 0
 IsOfficeOf db office = ((db.schema ≡ no_schema) × (office ≡ None)) ⊎ HoldsOffice db office
 
--- what was found in a database, with the bytes of its batches, represents an office, and this is in
--- memory of it
+-- the tables that were found, with the bytes of their batches, represent an office, and this is its
+-- memory
 pub record IsFoundOffice (db : Database) (found : Found) (memory : OfficeMemory) : Type 0 where
   pub batches : List Batch
   pub counted : map counts_of batches ≡ found.batches.items
-  pub tables : StandsIn found.version db (tables_of found batches)
+  pub tables : HoldsTablesIn found.version db (tables_of found batches)
   pub office : OfficeState
   pub kept : RepresentsOfficeIn found.version db office
   pub weighs : WeighsNoNight found.version (memory_of office)
   pub in_memory : IsMemoryOf office memory
 
--- a database represented an office, and the other represents it in version 2
+-- the old database represented an office, and the new one represents it in version 2
 pub record DatabaseUpgraded (old new : Database) : Type 0 where
   pub office : OfficeState
   pub stood : HoldsOffice old office

@@ -1,4 +1,4 @@
--- What a draft costs.
+-- The penalty of a draft.
 use Rattle.std.specs.Prelude.{ℕ, Ok}
 use Rattle.exam_terms.specs.Refusing.{◌>>=◌}
 use Rattle.exam_score.specs.Penalty.{Penalty}

@@ -1,4 +1,4 @@
--- What a publication that is put in makes of the tables.
+-- What a publication changes in the tables.
 use Rattle.std.specs.Prelude.{◌++◌, ℕ, List, map, reverse, true, [], ◌∷◌, Option, None, Some, Vec}
 use Rattle.std.specs.declared.alloc.Global.{Global}
 use Rattle.office_tables.specs.Tables.{Meta, Tables}
@@ -7,7 +7,7 @@ use Rattle.office_records.specs.SharesStored.{share_rows_without}
 use Rattle.office_store.specs.ChangedPlacements.{placements_without}
 use Rattle.office_store.specs.declared.new_publication.NewPublication.{NewPublication}
 
--- the row about the office: something is published of the session with this text; or the row stays
+-- the row about the office: something is published of the session with this text; or the old row
 abbrev pub meta_after : Option (Vec ℕ Global) → List Meta → List Meta
 meta_after None meta = meta
 meta_after (Some text) meta = record { published = true; instance = text.items } ∷ []
@@ -16,8 +16,8 @@ meta_after (Some text) meta = record { published = true; instance = text.items }
 abbrev pub mark_put : Option (Vec ℕ Global) → Tables → Tables
 mark_put text t = record t { meta = meta_after text t.meta }
 
--- the row about the office is written, if there is a text for it; of the placements and of the
--- candidates' seats some go and some come
+-- the row about the office is written, if there is a text for it; some placements and some
+-- candidates' seats are deleted and inserted
 abbrev pub places_put : NewPublication → Tables → Tables
 places_put new t = record t {
   meta = meta_after new.text t.meta;
@@ -27,7 +27,8 @@ places_put new t = record t {
       ++ seat_rows_without (map (λ it. it.student) new.deleted_seats.items) t.seat;
 }
 
--- of the candidates' shares some go and some come; all of exams, periods and rooms are put in again
+-- some candidates' shares are deleted and inserted; all shares of exams, periods and rooms are
+-- replaced
 abbrev pub shares_put : NewPublication → Tables → Tables
 shares_put new t = record t {
   share_student = reverse (map (λ it. it.row) new.students.items)
@@ -35,6 +36,6 @@ shares_put new t = record t {
   share_part = reverse (map (λ it. it.row) new.parts.items);
 }
 
--- a publication in place of another, with its shares
+-- the tables after a publication replaces another, with its shares
 abbrev pub publication_put : NewPublication → Tables → Tables
 publication_put new t = shares_put new (places_put new t)

@@ -13,17 +13,17 @@ use Rattle.office_tables.specs.declared.share_part.PartShareRow.{PartShareRow}
 use Rattle.office_tables.specs.declared.share_student.StudentShareRow.{StudentShareRow}
 use Rattle.office_records.specs.SharesStored.{AreSharesOf}
 
--- where each exam stands, and who sits where
+-- the place of each exam, and the seats
 abbrev pub Shown : Type 0
 Shown = Placing × List SeatRow
 
--- of the publication, if there is one
+-- the places and seats of the publication, if there is one
 abbrev pub publication_shown : OfficeState → Option Shown
 publication_shown office =
     option_map (λ (found : Session × Publication). (found.1.timetable, found.1.rows))
     (publication_in office)
 
--- where each exam stands in it, if there is one
+-- the place of each exam in the publication, if there is one
 abbrev pub timetable_shown : OfficeState → Option Placing
 timetable_shown office =
     option_map (λ (found : Session × Publication). found.1.timetable) (publication_in office)
@@ -34,20 +34,20 @@ shares_in office =
     option_map (λ (found : Session × Publication). shares_of found.0 found.1.rows found.1.timetable)
     (publication_in office)
 
--- the rows of what was read as a plain list
+-- the result with its rows as a plain list
 abbrev pub plain : {F : Type 0} → Result (Option (Placing × Vec SeatRow Global)) F
     → Result (Option Shown) F
 plain (Ok found) = Ok (option_map (λ p. (p.0, p.1.items)) found)
 plain (Err fault) = Err fault
 
--- the shares are the penalty of the publication, with the enrolments that it was made with
+-- the shares add up to the penalty of the publication, by the enrolments of the publication
 abbrev pub AddUpIn : OfficeState → Option Sharing → Type 0
 AddUpIn office None = Unit {0}
 AddUpIn office (Some shares) =
     (found : Session × Publication) × (publication_in office ≡ Some found)
     × AddUpTo (track found.0 (published_enrolments found.0 found.1) found.1.timetable) shares
 
--- where something is published, the stored rows are shares that together are its penalty
+-- if something is published, the stored rows are shares that add up to its penalty
 abbrev pub StoredAddUp : OfficeState → List StudentShareRow → List PartShareRow → Type 0
 StoredAddUp office students parts =
     IfSome (publication_in office) (λ (found : Session × Publication).

@@ -12,30 +12,30 @@ use Rattle.office_tables.specs.declared.share_student.DeleteStudentShare.{Delete
 use Rattle.office_tables.specs.declared.share_part.InsertPartShare.{InsertPartShare}
 use Rattle.office_tables.specs.declared.share_student.InsertStudentShare.{InsertStudentShare}
 
--- the row of an exam's published place is taken out
+-- the delete of an exam's published place
 abbrev pub place_gone : PlacedRow → DeletePlacement
 place_gone row = record { exam = row.exam }
 
--- the row of a published place is put in
+-- the insert of a published place
 abbrev pub placement_put : PlacedRow → InsertPlacement
 placement_put row = record { row = row }
 
--- a candidate's seats are taken out
+-- the delete of a candidate's seats
 abbrev pub deleted_candidate_seats : ℕ → DeleteStudentSeats
 deleted_candidate_seats student = record { student = student }
 
--- the row of a seat is put in
+-- the insert of a seat
 abbrev pub seat_put : stored.SeatRow → InsertSeat
 seat_put row = record { row = row }
 
--- a candidate's share is taken out
+-- the delete of a candidate's share
 abbrev pub deleted_share : ℕ → DeleteStudentShare
 deleted_share student = record { student = student }
 
--- the row of a candidate's share is put in
+-- the insert of a candidate's share
 abbrev pub student_share_put : StudentShareRow → InsertStudentShare
 student_share_put row = record { row = row }
 
--- the row of an exam's, a period's or a room's share is put in
+-- the insert of an exam's, a period's or a room's share
 abbrev pub part_share_put : PartShareRow → InsertPartShare
 part_share_put row = record { row = row }

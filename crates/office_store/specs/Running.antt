@@ -1,4 +1,4 @@
--- What a call of the office makes of the office that its file represents.
+-- What a call does to the office that its file represents.
 use Rattle.std.specs.Prelude.{◌≡◌, IsTrue, OnErr, Result, Ok, Err}
 use Rattle.sqlite.specs.Held.{Held, state}
 use Rattle.sqlite.specs.State.{State, HasCleanDisk}
@@ -15,20 +15,21 @@ use Rattle.office_store.specs.declared.memory.OfficeMemory.{OfficeMemory}
 abbrev pub Represents : State → OfficeState → Type 0
 Represents s office = IsTrue s.is_open → RepresentsOffice s.now office
 
--- the command's own refusal, or a failed statement; an honest store never answers BadSchema
+-- the command's own refusal, or a failed statement; an office that was opened never answers
+-- BadSchema
 abbrev pub IsFault : {A : Type 0} → CommandResult A → StoreFault → Type 0
 IsFault gives Store = Unit {0}
 IsFault gives BadSchema = ⊥
 IsFault gives fault = gives ≡ Err fault
 
--- it gave what the command gives and the tables represent that office, or it was refused and they
--- represent the old one
+-- the call returned the command's value and the tables represent the new office, or it was refused
+-- and they represent the old one
 abbrev pub CommandOutcome : {A : Type 0} → CommandResult A → OfficeState → (OfficeState → Type 0)
     → Result A StoreFault → Type 0
 CommandOutcome gives old Stays (Ok x) = (new : OfficeState) × (gives ≡ Ok (x, new)) × Stays new
 CommandOutcome gives old Stays (Err fault) = IsFault gives fault × Stays old
 
--- a changing command, over a disk that returns what was written
+-- the outcome of a changing command, if the disk returns what was written
 abbrev pub CommandRan : {S A : Type 0} → Ghosts S → (OfficeState → CommandResult A) → Held S
     → Held S
     → Result A StoreFault → Type 0
@@ -36,18 +37,18 @@ CommandRan store command old new result =
     HasCleanDisk (state store new) → (office : OfficeState) → Represents (state store old) office
     → CommandOutcome (command office) office (Represents (state store new)) result
 
--- the answer is what the office says, or a statement failed
+-- the call returned this value, or a statement failed
 abbrev pub ReturnsValue : {A : Type 0} → A → Result A StoreFault → Type 0
 ReturnsValue says (Ok x) = x ≡ says
 ReturnsValue says (Err fault) = fault ≡ Store
 
--- a call that only reads answers what the office says, or a statement failed; the office stays
+-- a call that only reads returned this value, or a statement failed; the office stays
 abbrev pub QueryOutcome : {A : Type 0} → A → OfficeState → (OfficeState → Type 0)
     → Result A StoreFault → Type 0
 QueryOutcome says office Stays (Ok x) = (x ≡ says) × Stays office
 QueryOutcome says office Stays (Err fault) = (fault ≡ Store) × Stays office
 
--- the same, over a disk that returns what was written
+-- the same, if the disk returns what was written
 abbrev pub QueryReturned : {S A : Type 0} → Ghosts S → (OfficeState → A) → Held S → Held S
     → Result A StoreFault → Type 0
 QueryReturned store says old new result =
@@ -62,18 +63,18 @@ MatchesMemory s memory =
     HasCleanDisk s → IsTrue s.is_open
     → (office : OfficeState) × RepresentsOffice s.now office × IsMemoryOf office memory
 
--- ---- a look at the file
+-- ---- the file after a call
 
--- nothing has changed
+-- if the store is open now, it was open before and its database is unchanged
 abbrev pub StateUnchanged : State → State → Type 0
 StateUnchanged old new = IsTrue new.is_open → IsTrue old.is_open × (new.now ≡ old.now)
 
--- over a disk that returns what was written, a refusal has changed nothing
+-- if the disk returns what was written, a refusal has changed nothing
 abbrev pub StaysOnErr : {S A : Type 0} → Ghosts S → Held S → Held S → Result A StoreFault → Type 0
 StaysOnErr store old new result =
     HasCleanDisk (state store new) → OnErr result
     (StateUnchanged (state store old) (state store new))
 
--- it is open, and all that was written is committed
+-- the store is open, and all that was written is committed
 abbrev pub IsCommitted : State → Type 0
 IsCommitted s = IsTrue s.is_open × (s.now ≡ s.committed)

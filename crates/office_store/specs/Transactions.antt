@@ -3,7 +3,7 @@ use Rattle.std.specs.Prelude.{◌≡◌, IsTrue}
 use Rattle.sqlite.specs.Effect.{Database}
 use Rattle.sqlite.specs.State.{State}
 
--- the database was open and is open; the transaction leads from the one to the other, and is
+-- the database was open and is open, the transaction leads from the old to the new, and is
 -- committed
 pub record Turned (P Q : Database → Type 0) (old new : State) : Type 0 where
   pub was_open : IsTrue old.is_open

@@ -12,22 +12,22 @@ use Rattle.office_model.specs.Office.{OfficeState}
 use Rattle.office_model.specs.Publishing.{publication_rows}
 use Rattle.office_model.specs.ViewRows.{places_in}
 use Rattle.office_records.specs.Publications.{stored_seat}
-use Rattle.office_store.specs.OfficeRows.{published_in}
+use Rattle.office_records.specs.Memory.{published_in}
 
--- the exams where she is enrolled, ascending
+-- the exams in which a candidate is enrolled, ascending
 abbrev pub exams_in : ℕ → OfficeState → List ℕ
 exams_in c None = []
 exams_in c (Some r) = exams_sat r.enrolments c
 
--- the row of her enrolment in an exam
+-- the row of a candidate's enrolment in an exam
 abbrev pub candidate_enrol_row : ℕ → ℕ → EnrolRow
 candidate_enrol_row c e = record { student = c; exam = e }
 
--- an exam beside its place
+-- an exam with its place
 abbrev pub place_in_row : PlacedRow → ℕ × Place
 place_in_row row = (row.exam, record { period = row.period; room = row.room })
 
--- what a row says of a share
+-- the share in a row
 abbrev pub share_in_row : StudentShareRow → PersonalPenalty
 share_in_row row = record {
   row = row.in_row;
@@ -36,11 +36,11 @@ share_in_row row = record {
   night = row.night;
 }
 
--- nothing, where she has no row of a share
+-- the share of a candidate without a row: nothing
 abbrev pub no_share : PersonalPenalty
 no_share = record { row = 0; day = 0; spread = 0; night = 0 }
 
--- her enrolments and the published places of these exams, and her seats
+-- a candidate's enrolments, the published places of these exams, and the candidate's seats
 pub record AreCandidateRows (office : OfficeState) (c : ℕ) (enrols : List EnrolRow)
     (places : List PlacedRow) (seats : List SeatRow) : Type 0 where
   pub of_enrols : map (λ row. row.exam) enrols ≡ exams_in c office

@@ -1,4 +1,4 @@
-// A database that holds an office, taken over.
+// Opening a database that already holds an office.
 ghost use Rattle.std.specs.Prelude.{◌≡◌, ◌⊎◌, false, IfErr, IfOk, IsTrue, List, OnErr, OnOk};
 ghost use Rattle.sqlite.specs.Held.{state};
 ghost use Rattle.sqlite.specs.State.{HasCleanDisk, IsUnchanged, Survives};
@@ -6,7 +6,7 @@ ghost use Rattle.office_schema.specs.Schema.{office_schema};
 ghost use Rattle.office_tables.specs.Adopting.{tables_of};
 ghost use Rattle.office_tables.specs.Alterations.{Undone};
 ghost use Rattle.office_tables.specs.Readers.{Keeps};
-ghost use Rattle.office_tables.specs.Standing.{Stands, StandsIn};
+ghost use Rattle.office_tables.specs.TablesHeld.{HoldsTables, HoldsTablesIn};
 ghost use Rattle.office_tables.specs.Tables.{Batch};
 ghost use Rattle.office_model.specs.Office.{OfficeState};
 ghost use Rattle.office_store.specs.Faults.{IsOfDatabase};
@@ -29,10 +29,10 @@ use sqlite::{Alter, Connection};
 use std::alloc::Global;
 
 impl<S: Alter> Office<S> {
-    /// Takes over a database that holds an office; tables of version 1 become those of version 2,
-    /// with nothing over night. `BadSchema`: the tables are not those of an office, or what they
-    /// hold is not what it should be. `Store`: a statement failed, memory was refused, or a
-    /// transaction is open. A refusal hands the connection back; nothing changes.
+    /// Opens a database that holds an office, and migrates tables of version 1 to version 2, with
+    /// weight 0 for exams over night. `BadSchema`: the tables are not those of an office, or their
+    /// rows are invalid. `Store`: a statement failed, memory ran out, or a transaction is open. A
+    /// refusal returns the connection; nothing changes.
     pub fn adopt(
         alloc: Global,
         conn: Connection<S>,
@@ -40,11 +40,11 @@ impl<S: Alter> Office<S> {
         // The tables represented an office, and now they represent it in version 2.
         ensures adopted { IfOk result (λ office. HasCleanDisk (state S.Store office)
             → DatabaseUpgraded (state S.Store conn).now (state S.Store office).now) }
-        // In version 2 nothing has changed.
+        // If they were of version 2, nothing has changed.
         ensures same { IfOk result (λ office. HasCleanDisk (state S.Store office)
             → (state S.Store conn).now.schema ≡ office_schema
             → (office ≡ conn) ⊎ IsUnchanged (state S.Store conn) (state S.Store office)) }
-        // They represent none, in either version. `Store` says nothing of them.
+        // On `BadSchema` they represent no office, in either version.
         ensures no_office { IfErr result (λ e. e.0 ≡ StoreFault.BadSchema
             → HasCleanDisk (state S.Store e.1)
             → (o : OfficeState) → HoldsOffice (state S.Store conn).now o → ⊥) }
@@ -63,7 +63,7 @@ impl<S: Alter> Office<S> {
             return Err((StoreFault::Store, conn));
         }
         let mut conn = conn;
-        let (found, memory) = match kept_in(alloc, &mut conn) {
+        let (found, memory) = match found_office(alloc, &mut conn) {
             Ok(kept) => kept,
             Err(fault) => return Err((fault, conn)),
         };
@@ -75,8 +75,8 @@ impl<S: Alter> Office<S> {
 }
 
 // Returns the tables, and what is kept in memory of the office that they represent. `BadSchema`:
-// they represent none.
-fn kept_in<S: Alter>(
+// they represent no office.
+fn found_office<S: Alter>(
     alloc: Global,
     conn: &mut Connection<S>,
 ) -> Result<(Found, OfficeMemory), StoreFault>
@@ -102,18 +102,20 @@ fn kept_in<S: Alter>(
         Err(_) => return Err(StoreFault::Store),
     };
     let kept = kept_of(alloc, &found)?;
-    check_weight(found.version, &kept)?;
+    check_weight(found.version, &kept.session)?;
     check_bytes(alloc, conn, &found.batches)?;
-    let drafts = drafts_found(alloc, &kept, &found)?;
+    let drafts = drafts_found(alloc, &kept.session, &found)?;
     let memory = OfficeMemory {
-        kept,
+        kept: kept.session,
         batches: found.batches.len(),
         drafts,
+        published: kept.published,
     };
     Ok((found, memory))
 }
 
-// Whether no weight is on what is over night, if the tables are of version 1. `BadSchema`: one is.
+// Checks that tables of version 1 have weight 0 for exams over night. `BadSchema`: they have
+// another.
 fn check_weight(version: Version, kept: &Option<(Instance, Enrolments)>) -> Result<(), StoreFault>
     ensures are { OnOk result (WeighsNoNight version kept.now) }
     ensures none { OnErr result (WeighsNoNight version kept.now → ⊥) }
@@ -127,12 +129,12 @@ fn check_weight(version: Version, kept: &Option<(Instance, Enrolments)>) -> Resu
     }
 }
 
-// Makes version 2 of the tables that were found, if they are of version 1.
+// Migrates the tables to version 2 if they are of version 1.
 fn bring_up<S: Alter>(conn: &mut Connection<S>, found: &Found) -> Result<(), Failed>
     requires rests { conn.old.in_transaction ≡ false }
     ensures tables { HasCleanDisk (state S.Store conn.new) → (batches : List Batch)
-        → StandsIn found.now.version (state S.Store conn.old).now (tables_of found.now batches)
-        → OnOk result (Stands (state S.Store conn.new).now (tables_of found.now batches)) }
+        → HoldsTablesIn found.now.version (state S.Store conn.old).now (tables_of found.now batches)
+        → OnOk result (HoldsTables (state S.Store conn.new).now (tables_of found.now batches)) }
     ensures same { found.now.version ≡ Version.Two → OnOk result (conn.new ≡ conn.old) }
     ensures all_committed { HasCleanDisk (state S.Store conn.new)
         → IsCommitted (state S.Store conn.old)
@@ -143,8 +145,8 @@ fn bring_up<S: Alter>(conn: &mut Connection<S>, found: &Found) -> Result<(), Fai
     ensures clean { HasCleanDisk (state S.Store conn.new) → HasCleanDisk (state S.Store conn.old) }
     ensures survives { Survives (state S.Store conn.old) (state S.Store conn.new) (λ trees.
         (found.now.version ≡ Version.One) × ((batches : List Batch)
-        → StandsIn found.now.version (state S.Store conn.old).now (tables_of found.now batches)
-        → Stands (found_in trees) (tables_of found.now batches))) }
+        → HoldsTablesIn found.now.version (state S.Store conn.old).now (tables_of found.now batches)
+        → HoldsTables (found_in trees) (tables_of found.now batches))) }
 {
     match found.version {
         Version::One => migrate_tables(conn, found.meta.published, &found.meta.instance),

@@ -1,4 +1,4 @@
-// A candidate's share, by the row that is read.
+// A candidate's share of the penalty, by the row that is read.
 ghost use Rattle.std.specs.Prelude.{◌≡◌, ◌<◌, ◌^◌, [], ◌∷◌, Ok, Some};
 ghost use Rattle.exam_score.specs.Penalty.{personal_total};
 ghost use Rattle.office_store.specs.Viewing.{no_share, share_in_row};
@@ -8,8 +8,8 @@ use exam_score::PersonalParts;
 use office_model::StoreFault;
 use office_tables::StudentShareRow;
 
-// The share by the candidate's row; nothing if there is none. `BadSchema`: there are two rows, or
-// one that no share has.
+// Returns the share in a candidate's row; all amounts are 0 if there is no row. `BadSchema`: there
+// are two rows, or the row's amounts are too large for a share.
 pub(crate) fn personal_in(rows: &[StudentShareRow]) -> Result<PersonalParts, StoreFault>
     ensures none { rows.now ≡ [] → result ≡ Ok no_share }
     ensures one { (row : ShareRow) → rows.now ≡ row ∷ []

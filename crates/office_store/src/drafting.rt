@@ -25,9 +25,10 @@ use sqlite::Alter;
 use std::alloc::{AllocError, Global};
 
 impl<S: Alter> Office<S> {
-    /// Makes a draft, 1 to 8, and answers its penalty. No exam is placed if the text is empty,
-    /// else it is the timetable of a solution file, with or without breaches. `NotLoaded`; then
-    /// `NoDraft`: not 1 to 8; then `DraftTaken`; then `Refused`: the file is faulty.
+    /// Makes a draft with a number from 1 to 8, and returns its penalty. An empty text places no
+    /// exam; any other text is a solution file, whose timetable may have breaches. `NotLoaded`;
+    /// then `NoDraft`: the number is not from 1 to 8; then `DraftTaken`; then `Refused`: the file
+    /// is faulty.
     pub fn new_draft(&mut self, alloc: Global, number: u32, text: &[u8]) -> Result<u64, StoreFault>
         ensures runs { CommandRan S.Store (draft_made number text.now) self.old self.new result }
         // Whatever the refusal, the tables are as they were.
@@ -61,7 +62,7 @@ impl<S: Alter> Office<S> {
         Ok(parts.total())
     }
 
-    /// Takes a draft out. `NotLoaded`, then `NoDraft`: there is none of this number.
+    /// Deletes a draft. `NotLoaded`, then `NoDraft`: no draft has this number.
     pub fn drop_draft(&mut self, number: u32) -> Result<(), StoreFault>
         ensures runs { CommandRan S.Store (draft_dropped number) self.old self.new result }
         // Whatever the refusal, the tables are as they were.
@@ -94,7 +95,7 @@ fn is_draft_number(number: u32) -> bool
     (1..=MAX_DRAFTS).contains(&number)
 }
 
-// A draft as it begins, and the rows of its places.
+// Returns a new draft, and the rows of its places.
 fn begin(
     alloc: Global,
     number: u32,
@@ -132,7 +133,7 @@ fn first_timetable(alloc: Global, instance: &Instance, text: &[u8]) -> Result<Ti
     }
 }
 
-// The rows of the placed exams, by exam.
+// Returns the rows of the placed exams, by exam.
 fn slot_rows(
     alloc: Global,
     draft: u32,

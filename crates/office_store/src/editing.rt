@@ -1,4 +1,4 @@
-// Drafts are edited.
+// Edits of drafts.
 ghost use Rattle.std.specs.Prelude.{◌≡◌, ◌⊎◌, ◌<◌, ℕ, length, map, All, Err, IfErr, IfOk, Ok, OnOk, Some};
 ghost use Rattle.sqlite.specs.Held.{state};
 ghost use Rattle.sqlite.specs.State.{HasCleanDisk};
@@ -31,7 +31,7 @@ use office_tables::{Both, DeleteDraft, DeleteSlot, Each, InsertDraft, InsertSlot
 use sqlite::{Alter, Connection};
 use std::alloc::{AllocError, Global};
 
-// A draft before an edit, and its timetable after it.
+// A draft before an edit, its timetable after the edit, and the edited exams.
 #[derive(Drop)]
 pub(crate) struct Judged<'a> {
     pub(crate) draft: &'a Draft,
@@ -39,7 +39,7 @@ pub(crate) struct Judged<'a> {
     pub(crate) exams: Vec<ExamNo>,
 }
 
-// A draft after an edit, and the places that the edited exams lose and get.
+// A draft after an edit, and the writes of the edited exams' places.
 #[derive(Drop)]
 pub(crate) struct EditedDraft {
     pub(crate) draft: Draft,
@@ -47,7 +47,7 @@ pub(crate) struct EditedDraft {
 }
 
 impl<S: Alter> Office<S> {
-    /// Edits a draft, and answers its penalty. `NotLoaded`, `NoDraft`: there is none of this
+    /// Edits a draft, and returns its penalty. `NotLoaded`, then `NoDraft`: no draft has this
     /// number, then `Refused` with the edit's own fault.
     pub fn edit(&mut self, alloc: Global, number: u32, edit: Edit) -> Result<u64, StoreFault>
         ensures runs { CommandRan S.Store (draft_edited number edit) self.old self.new result }
@@ -59,7 +59,7 @@ impl<S: Alter> Office<S> {
         ensures leaves { LeavesNext S.Store (draft_edited number edit) self.old self.new result }
     {
         self.look()?;
-        let _at_rest = self.conn.is_autocommit(); // read for what it says of the last commit
+        let _at_rest = self.conn.is_autocommit(); // its contract says that all is committed
         let new = edited_draft(alloc, &mut self.conn, &self.memory, number, edit)?;
         let EditedDraft { draft, places } = new;
         let parts = draft.parts;
@@ -118,7 +118,7 @@ fn edited_draft<S: Alter>(
     Ok(EditedDraft { draft, places })
 }
 
-// Returns a draft of the session in memory before an edit and after it.
+// Returns a draft of the session in memory with its timetable after an edit.
 fn judged_draft<'a>(
     alloc: Global,
     instance: &Instance,
@@ -139,7 +139,7 @@ fn judged_draft<'a>(
     Ok(Judged { draft, new, exams })
 }
 
-// The timetable after an edit, or the edit's own refusal.
+// Returns the timetable after an edit, or the edit's own refusal.
 fn new_timetable(
     alloc: Global,
     instance: &Instance,
@@ -161,7 +161,7 @@ fn new_timetable(
     }
 }
 
-// The alterations by which these exams lose their places in the draft and get those of the new
+// Returns the writes that replace the places of these exams in a draft by those of the new
 // timetable.
 fn new_places(
     alloc: Global,
@@ -179,7 +179,7 @@ fn new_places(
     Ok(places)
 }
 
-// An exam's place in a draft goes, and another comes, if there is one.
+// The writes that delete an exam's place in a draft and insert the new one, if there is one.
 pub(crate) type Moved = Both<DeleteSlot, Option<InsertSlot>>;
 
 fn moved(draft: u32, exam: ExamNo, place: Option<Place>) -> Moved

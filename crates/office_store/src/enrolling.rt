@@ -1,10 +1,10 @@
-// Batches of changes of enrolments are carried out.
+// Batches of changes of enrolments.
 ghost use Rattle.std.specs.Prelude.{◌≡◌, ◌≤◌, IfOk, None, Ok, OnOk};
 ghost use Rattle.sqlite.specs.Held.{state};
 ghost use Rattle.sqlite.specs.State.{HasCleanDisk, Survives};
 ghost use Rattle.exam_terms.specs.declared.limits.TheConstants.{MAX_BATCH};
 ghost use Rattle.office_batches.specs.BatchText.{batch_in};
-ghost use Rattle.office_model.specs.Batches.{batch_enrolled, kept_in};
+ghost use Rattle.office_model.specs.Batches.{batch_enrolled, batch_of_number};
 ghost use Rattle.office_model.specs.Office.{OfficeState};
 ghost use Rattle.office_records.specs.Representation.{RepresentsOffice};
 ghost use Rattle.office_store.specs.NewBatches.{IsRowOf, first_counts};
@@ -24,12 +24,13 @@ use sqlite::Alter;
 use std::alloc::Global;
 
 impl<S: Alter> Office<S> {
-    /// Carries out a batch of changes of enrolments, its lines in file order, and answers what they
-    /// did; if one acts all drafts are scored again, and what is published stays. A batch acts
-    /// once: the same bytes under a number that is kept are answered as at first. `Refused`: the
-    /// file is faulty; then `NotLoaded`; then `BatchDiffers`: other bytes are kept under the
-    /// number; then `Refused`: a line names an exam that isn't there; then `TooMany`: at some line
-    /// there would be more than 200,000 pairs, or there are 10,000 batches.
+    /// Carries out a batch of changes of enrolments, line by line, and returns how many pairs were
+    /// added, dropped and left unchanged. If a line changes the enrolments, all drafts are scored
+    /// again; the publication stays. A batch is carried out once: the same bytes under a kept
+    /// number return the counts of the first time. `Refused`: the file is faulty; then `NotLoaded`;
+    /// then `BatchDiffers`: other bytes are kept under the number; then `Refused`: a line names an
+    /// exam that isn't there; then `TooMany`: after some line there would be more than 200,000
+    /// pairs, or 10,000 batches are kept.
     pub fn enrol_batch(
         &mut self,
         alloc: Global,
@@ -43,7 +44,7 @@ impl<S: Alter> Office<S> {
         ensures stays { StaysOnErr S.Store self.old self.new result }
         ensures clean { HasCleanDisk (state S.Store self.new)
             → HasCleanDisk (state S.Store self.old) }
-        // On `Ok` the database is open, and what it did is committed.
+        // On `Ok` the database is open, and the batch is committed.
         ensures leaves { LeavesNext S.Store (batch_enrolled number text.now)
             self.old self.new result }
     {
@@ -69,7 +70,8 @@ impl<S: Alter> Office<S> {
         requires number { number ≤ MAX_BATCH }
         requires spelled { batch_in text.now ≡ Ok changes.now }
         requires is_new { HasCleanDisk (state S.Store self.old) → (office : OfficeState)
-            → RepresentsOffice (state S.Store self.old).now office → kept_in office number ≡ None }
+            → RepresentsOffice (state S.Store self.old).now office
+            → batch_of_number office number ≡ None }
         requires all_committed { HasCleanDisk (state S.Store self.old)
             → IsCommitted (state S.Store self.old) }
         ensures runs { CommandRan S.Store
@@ -82,7 +84,7 @@ impl<S: Alter> Office<S> {
     {
         lines_are_counted();
         batch_leaves_an_office();
-        let _at_rest = self.conn.is_autocommit(); // read for what it says of the last commit
+        let _at_rest = self.conn.is_autocommit(); // its contract says that all is committed
         let memory = &self.memory;
         let Some((instance, enrolments)) = &memory.kept else {
             return Err(StoreFault::NotLoaded);
@@ -94,11 +96,11 @@ impl<S: Alter> Office<S> {
         Ok(counts)
     }
 
-    // The batch that is kept under a number, if there is one.
+    // Returns the batch that is kept under a number, if there is one.
     fn kept_batch(&mut self, alloc: Global, number: u32) -> Result<Option<BatchRow>, Failed>
         ensures row { HasCleanDisk (state S.Store self.new) → (office : OfficeState)
             → RepresentsOffice (state S.Store self.new).now office
-            → IfOk result (IsRowOf (kept_in office number)) }
+            → IfOk result (IsRowOf (batch_of_number office number)) }
         ensures unchanged { HasCleanDisk (state S.Store self.new)
             → StateUnchanged (state S.Store self.old) (state S.Store self.new) }
         ensures all_committed { HasCleanDisk (state S.Store self.new)
@@ -107,13 +109,13 @@ impl<S: Alter> Office<S> {
             → HasCleanDisk (state S.Store self.old) }
         ensures survives { Survives (state S.Store self.old) (state S.Store self.new) (λ _. ⊥) }
     {
-        let _at_rest = self.conn.is_autocommit(); // read for what it says of the last commit
+        let _at_rest = self.conn.is_autocommit(); // its contract says that all is committed
         let row = batch_of(alloc, &mut self.conn, number)?;
         Ok(row)
     }
 }
 
-// What a kept batch was answered, if it had these bytes.
+// Returns the counts of a kept batch. `BatchDiffers`: its bytes are not these.
 fn first_answer(row: &BatchRow, text: &[u8]) -> Result<Counts, StoreFault>
     ensures { result ≡ first_counts (batch_from row.now) text.now }
 {

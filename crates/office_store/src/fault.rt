@@ -2,7 +2,7 @@
 use office_model::StoreFault;
 use sqlite::Error;
 
-// A statement failed; nothing has changed.
+// The fault of a statement that failed; nothing has changed.
 #[derive(Clone, Copy)]
 pub(crate) struct Failed;
 

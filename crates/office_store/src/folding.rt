@@ -1,4 +1,4 @@
-// The penalty after an edit, by the file's rows of the students who sit an edited exam.
+// The penalty after an edit, calculated from the file's rows of the students of the edited exams.
 ghost use Rattle.std.specs.Prelude.{◌≡◌, ℕ, ◌+◌, ◌<◌, ◌≤◌, ◌++◌, ◌↔◌, [], List, All, IfErr, IfOk, IsTrue, OnOk, Some, length, map};
 ghost use Rattle.exam_terms.specs.declared.limits.TheConstants.{MAX_PAIRS};
 ghost use Rattle.exam_model.specs.Changes.{exams_sat};
@@ -23,7 +23,7 @@ use office_tables::{EnrolRow, find_enrols_of};
 use sqlite::{Alter, Connection};
 use std::alloc::{AllocError, Global};
 
-// The penalty after an edit. The rows of one student are kept at a time.
+// Returns the penalty after an edit. Only one student's rows are in memory at a time.
 pub(crate) fn penalty_after<S: Alter>(
     alloc: Global,
     conn: &mut Connection<S>,
@@ -53,7 +53,7 @@ pub(crate) fn penalty_after<S: Alter>(
         .ok_or(StoreFault::BadSchema)
 }
 
-// The students who sit one of these exams, ascending, each once.
+// Returns the students of these exams, ascending, each once.
 fn students_of_exams(
     alloc: Global,
     enrolments: &Enrolments,
@@ -69,7 +69,7 @@ fn students_of_exams(
     Ok(in_order(found))
 }
 
-// Takes in what the file has of these students, one after the other.
+// Adds the pairs that the file has of these students, one student after the other.
 fn fold_students<'a, S: Alter>(
     alloc: Global,
     conn: &mut Connection<S>,
@@ -100,7 +100,7 @@ fn fold_students<'a, S: Alter>(
     Ok(fold)
 }
 
-// So many pairs and these. `BadSchema`: there are more than an office has.
+// Returns the count with these pairs added. `BadSchema`: there are more than an office can have.
 fn count_more(count: usize, exams: &[ExamNo]) -> Result<usize, StoreFault>
     requires few { count ≤ MAX_PAIRS }
     ensures ok { IfOk result (λ more. (more ≡ count + length exams.now) × (more ≤ MAX_PAIRS)) }
@@ -113,7 +113,7 @@ fn count_more(count: usize, exams: &[ExamNo]) -> Result<usize, StoreFault>
     Ok(count + exams.len())
 }
 
-// Takes in a student's exams.
+// Adds a student's exams.
 fn fold_exams(fold: &mut EditFold, student: StudentNo, exams: &[ExamNo]) -> Result<(), AllocError>
     requires room { CanTake fold.old student (length exams.now) }
     requires ascending { IsAscending exams.now }
@@ -128,8 +128,8 @@ fn fold_exams(fold: &mut EditFold, student: StudentNo, exams: &[ExamNo]) -> Resu
     Ok(())
 }
 
-// The exams that the file has of a student, ascending. `BadSchema`: a row of hers has no reading,
-// or they are out of order.
+// Returns the exams that the file has of a student, ascending. `BadSchema`: a row of the student's
+// is invalid, or the exams are out of order.
 fn read_exams<S: Alter>(
     alloc: Global,
     conn: &mut Connection<S>,
@@ -152,7 +152,8 @@ fn read_exams<S: Alter>(
     exams_in_order(alloc, student, &rows)
 }
 
-// The exams of a student's rows. `BadSchema`: one is another student's, or they don't ascend.
+// Returns the exams of a student's rows. `BadSchema`: a row is another student's, or the exams
+// don't ascend.
 fn exams_in_order(
     alloc: Global,
     student: StudentNo,
@@ -174,14 +175,14 @@ fn exams_in_order(
     Ok(exams)
 }
 
-// Whether the rows are this student's.
+// Returns whether all rows are this student's.
 fn are_of_candidate(student: StudentNo, rows: &[EnrolRow]) -> bool
     ensures { IsTrue result ↔ All (λ row. row.student ≡ student) rows.now }
 {
     rows.iter().all(|row| row.student == student.get())
 }
 
-// Whether each row's exam is smaller than the next one's.
+// Returns whether each row's exam is smaller than the next one's.
 fn are_in_order(rows: &[EnrolRow]) -> bool
     ensures { IsTrue result ↔ IsAscending (map (λ row. row.exam) rows.now) }
 {

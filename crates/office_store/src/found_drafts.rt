@@ -1,4 +1,4 @@
-// The drafts of a database that is taken over.
+// The drafts of a database that already holds an office.
 ghost use Rattle.std.specs.Prelude.{◌≡◌, ◌==◌, ◌≤◌, ◌^◌, ℕ, IfErr, IfNone, IfOk, IfSome, None};
 ghost use Rattle.std.specs.List.{find};
 ghost use Rattle.exam_model.specs.Fits.{Suits};
@@ -15,7 +15,7 @@ use office_records::timetable_of;
 use office_tables::{DraftRow, Found, SlotRow};
 use std::alloc::Global;
 
-// Returns the drafts of the session, if there is one. `BadSchema`: their rows are no office's.
+// Returns the drafts of the session, if there is one. `BadSchema`: no office has such rows.
 pub(crate) fn drafts_found(
     alloc: Global,
     kept: &Option<(Instance, Enrolments)>,
@@ -92,7 +92,7 @@ fn row_of(rows: &[DraftRow], number: u32) -> Option<DraftRow>
     None
 }
 
-// The parts that a row stores, unless their total reaches 2^62, as no penalty does.
+// Returns the parts in a row. `None`: their total is 2^62 or more, which no penalty is.
 fn parts_in(row: &DraftRow) -> Option<Parts>
     ensures some { IfSome result (λ parts. parts ≡ parts_of row.now) }
     ensures none { IfNone result (2 ^ 62 ≤ total_of (parts_of row.now)) }

@@ -1,4 +1,4 @@
-// The bytes of the kept batches, one batch after the other.
+// The bytes of the kept batches, read one batch after the other.
 ghost use Rattle.std.specs.Prelude.{◌≡◌, ◌⊎◌, ◌==◌, All, IfErr, OnErr, OnOk, false, filter, map};
 ghost use Rattle.std.specs.List.{AllByRecursion};
 ghost use Rattle.std.specs.Prelude.{option_to_list};
@@ -6,7 +6,7 @@ ghost use Rattle.sqlite.specs.Held.{state};
 ghost use Rattle.sqlite.specs.State.{HasCleanDisk, IsUnchanged, Survives};
 ghost use Rattle.office_tables.specs.Batch.{batch_from, counts_of};
 ghost use Rattle.office_tables.specs.Readers.{LeavesCommittedIn};
-ghost use Rattle.office_tables.specs.Standing.{StandsIn};
+ghost use Rattle.office_tables.specs.TablesHeld.{HoldsTablesIn};
 ghost use Rattle.office_tables.specs.Tables.{Tables};
 ghost use Rattle.office_tables.specs.declared.version.Version.{Version};
 ghost use Rattle.office_records.specs.FoundBatches.{IsShort};
@@ -18,22 +18,22 @@ use office_tables::{BatchCountsRow, BatchRow, batch_of};
 use sqlite::{Alter, Connection};
 use std::alloc::Global;
 
-// Whether none of the batches, which have these rows in a file of either version, is longer than a
-// text may be. `BadSchema`: one is. The bytes of one batch are in memory at a time.
+// Checks that none of the batches with these rows, in a file of either version, is longer than a
+// text may be. `BadSchema`: one is. The bytes of only one batch are in memory at a time.
 pub(crate) fn check_bytes<S: Alter>(
     alloc: Global,
     conn: &mut Connection<S>,
     batches: &[BatchCountsRow],
 ) -> Result<(), StoreFault>
     ensures short { HasCleanDisk (state S.Store conn.new) → (version : Version) (t : Tables)
-        → StandsIn version (state S.Store conn.old).now t → map counts_of t.batch ≡ batches.now
+        → HoldsTablesIn version (state S.Store conn.old).now t → map counts_of t.batch ≡ batches.now
         → OnOk result (All IsShort t.batch) }
     ensures long { HasCleanDisk (state S.Store conn.new) → (version : Version) (t : Tables)
-        → StandsIn version (state S.Store conn.old).now t
+        → HoldsTablesIn version (state S.Store conn.old).now t
         → IfErr result (λ e. e ≡ StoreFault.BadSchema → All IsShort t.batch → ⊥) }
     ensures fault { IfErr result IsOfDatabase }
     ensures same { HasCleanDisk (state S.Store conn.new) → (version : Version) (t : Tables)
-        → StandsIn version (state S.Store conn.old).now t → OnOk result ((conn.new ≡ conn.old)
+        → HoldsTablesIn version (state S.Store conn.old).now t → OnOk result ((conn.new ≡ conn.old)
         ⊎ IsUnchanged (state S.Store conn.old) (state S.Store conn.new)) }
     ensures kept { (version : Version) → LeavesCommittedIn version S.Store conn.old conn.new }
     ensures mode { conn.old.in_transaction ≡ false → conn.new.in_transaction ≡ false }
@@ -46,18 +46,18 @@ pub(crate) fn check_bytes<S: Alter>(
     Ok(())
 }
 
-// Whether the batch of a number, if there is one, is no longer than a text may be. `BadSchema`: it
-// is.
+// Checks that the batch with a number, if there is one, is no longer than a text may be.
+// `BadSchema`: it is longer.
 fn check_batch<S: Alter>(alloc: Global, conn: &mut Connection<S>, no: u32) -> Result<(), StoreFault>
     ensures short { HasCleanDisk (state S.Store conn.new) → (version : Version) (t : Tables)
-        → StandsIn version (state S.Store conn.old).now t
+        → HoldsTablesIn version (state S.Store conn.old).now t
         → OnOk result (AllByRecursion IsShort (filter (λ b. b.no == no) t.batch)) }
     ensures long { HasCleanDisk (state S.Store conn.new) → (version : Version) (t : Tables)
-        → StandsIn version (state S.Store conn.old).now t
+        → HoldsTablesIn version (state S.Store conn.old).now t
         → IfErr result (λ e. e ≡ StoreFault.BadSchema → All IsShort t.batch → ⊥) }
     ensures fault { IfErr result IsOfDatabase }
     ensures same { HasCleanDisk (state S.Store conn.new) → (version : Version) (t : Tables)
-        → StandsIn version (state S.Store conn.old).now t
+        → HoldsTablesIn version (state S.Store conn.old).now t
         → OnOk result (IsUnchanged (state S.Store conn.old) (state S.Store conn.new)) }
     ensures kept { (version : Version) → LeavesCommittedIn version S.Store conn.old conn.new }
     ensures mode { conn.old.in_transaction ≡ false → conn.new.in_transaction ≡ false }
@@ -71,7 +71,7 @@ fn check_batch<S: Alter>(alloc: Global, conn: &mut Connection<S>, no: u32) -> Re
     check_length(&found)
 }
 
-// Whether a batch, if there is one, is no longer than a text may be. `BadSchema`: it is.
+// Checks that a batch, if there is one, is no longer than a text may be. `BadSchema`: it is longer.
 fn check_length(found: &Option<BatchRow>) -> Result<(), StoreFault>
     ensures short { OnOk result
         (AllByRecursion IsShort (map batch_from (option_to_list found.now))) }

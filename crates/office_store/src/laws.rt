@@ -10,15 +10,15 @@ ghost use Rattle.office_store.specs.Running.{IsCommitted};
 
 use sqlite::Alter;
 
-/// Of tables that represent an office with a publication, the rows of shares are, together, its
-/// penalty, with the enrolments that were published: in all, and part by part.
+/// If tables represent an office with a publication, their rows of shares add up to its penalty by
+/// the enrolments of the publication, in total and part by part.
 pub fn stored_shares_add_up()
     ensures { (db : Database) (office : OfficeState) (kept : RepresentsOffice db office)
         → StoredAddUp office kept.held.share_student kept.held.share_part }
 {}
 
-/// Of a store that is open, with all that was written committed, as after an Ok, a later opening
-/// finds what is there now, and nothing else.
+/// If a store is open and all is committed, as after an `Ok`, then a later opening finds exactly
+/// what is there now.
 pub fn awake_store_leaves_its_tables<S: Alter>()
     ensures { (conn : Held S) (found : Trees) → IsCommitted (state S.Store conn)
         → (state S.Store conn).may_leave found → found ≡ (state S.Store conn).now.trees }

@@ -1,4 +1,4 @@
-// The session is loaded once.
+// Loading the session, once.
 ghost use Rattle.std.specs.Prelude.{◌≡◌, ◌++◌, IfErr, IfOk, IsPermutation, OnOk, map};
 ghost use Rattle.sqlite.specs.Held.{state};
 ghost use Rattle.sqlite.specs.State.{HasCleanDisk};
@@ -26,9 +26,9 @@ impl<S: Alter> Office<S> {
     /// faulty; then `Loaded`: there is a session already.
     pub fn load(&mut self, alloc: Global, text: &[u8]) -> Result<Loaded, StoreFault>
         ensures runs { CommandRan S.Store (loaded text.now) self.old self.new result }
-        // Over any disk it is how much the text spells.
+        // On any disk: returns the counts of the session in the text.
         ensures counts { IfOk result (SpellsSession text.now) }
-        // Over any disk a text that is refused has the fault first that is named.
+        // On any disk: `Refused` names the first fault of the text.
         ensures first { IfErr result (NamesFirstFault text.now) }
         // Whatever the refusal, the tables are as they were.
         ensures stays { StaysOnErr S.Store self.old self.new result }
@@ -81,7 +81,7 @@ fn counts_of(instance: &Instance, enrolments: &Enrolments) -> Loaded
     }
 }
 
-// The rows of the pairs, by student and then by exam: in this order they fill the pages of the file.
+// Returns the rows of the pairs, by student and then by exam, the order of the table in the file.
 fn enrol_rows(alloc: Global, enrolments: &Enrolments) -> Result<Vec<InsertEnrol>, AllocError>
     ensures { IfOk result (λ rows. IsPermutation (map (λ it. it.row) rows.items)
         (map enrol_row (pairs_of enrolments.now))) }

@@ -1,13 +1,20 @@
 // What an office keeps in memory of its tables.
-ghost use Rattle.std.specs.Prelude.{◌≡◌, ◌+◌, ◌≤◌, ◌<◌, ℕ, IfNone, IfSome, None, Some, is_some, length};
+ghost use Rattle.std.specs.Prelude.{◌≡◌, ◌+◌, ◌≤◌, ◌<◌, ℕ, IfNone, IfOk, IfSome, None, Some, is_some, length};
 ghost use Rattle.exam_terms.specs.declared.limits.TheConstants.{MAX_BATCHES, MAX_DRAFTS};
 ghost use Rattle.exam_model.specs.Enrolments.{Enrolled};
 ghost use Rattle.exam_model.specs.Instance.{Session};
-ghost use Rattle.office_store.specs.Memory.{HasPut, IsRenewed, draft_at};
+ghost use Rattle.office_model.specs.Publishing.{publication_rows};
+ghost use Rattle.office_records.specs.FoundPublications.{publication_from};
+ghost use Rattle.office_records.specs.Publications.{placed_rows};
+ghost use Rattle.office_store.specs.Memory.{HasPublished, HasPut, IsRenewed, draft_at};
 
 use exam_model::{Enrolments, Instance, Timetable};
+use exam_publish::SeatRow;
 use exam_score::Parts;
 use exam_terms::limits::MAX_DRAFTS;
+use office_records::placement_rows;
+use office_tables::PlacedRow;
+use std::alloc::{AllocError, Global};
 
 // A draft with its penalty.
 #[derive(Drop)]
@@ -16,20 +23,22 @@ pub(crate) struct Draft {
     pub(crate) parts: Parts,
 }
 
-// The numbers that a draft may have, and 0, which none has.
+// The number of indexes of drafts: 0, which no draft has, and 1 to 8.
 pub(crate) const NUMBERS: usize = MAX_DRAFTS as usize + 1;
 
-// The drafts, each under its number.
+// The drafts, each at its number's index.
 pub(crate) type Drafts = [Option<Draft>; NUMBERS];
 
-// What the tables hold of the session, the batches and the drafts.
+// What the tables hold of the session, the batches, the drafts and the publication.
 #[derive(Drop)]
 pub(crate) struct OfficeMemory {
     // The session and its live enrolments, once there is one.
     pub(crate) kept: Option<(Instance, Enrolments)>,
-    // How many batches it keeps.
+    // How many batches the office keeps.
     pub(crate) batches: usize,
     pub(crate) drafts: Drafts,
+    // The published timetable with its seat rows, by exam and then by student, if there is one.
+    pub(crate) published: Option<(Timetable, Vec<SeatRow>)>,
 }
 
 impl OfficeMemory {
@@ -38,11 +47,13 @@ impl OfficeMemory {
         ensures kept { result.kept ≡ None }
         ensures batches { result.batches ≡ 0 }
         ensures drafts { (d : ℕ) → draft_at result.drafts d ≡ None }
+        ensures published { result.published ≡ None }
     {
         OfficeMemory {
             kept: None,
             batches: 0,
             drafts: no_drafts(),
+            published: None,
         }
     }
 
@@ -51,11 +62,13 @@ impl OfficeMemory {
         ensures kept { result.kept ≡ Some (instance, enrolments) }
         ensures batches { result.batches ≡ 0 }
         ensures drafts { (d : ℕ) → draft_at result.drafts d ≡ None }
+        ensures published { result.published ≡ None }
     {
         OfficeMemory {
             kept: Some((instance, enrolments)),
             batches: 0,
             drafts: no_drafts(),
+            published: None,
         }
     }
 
@@ -87,12 +100,41 @@ impl OfficeMemory {
         }
     }
 
-    // Keeps one batch more, and what it made of the enrolments and the drafts, if a line acted.
+    // Replaces the publication by a timetable with its seat rows.
+    pub(crate) fn publish(&mut self, published: (Timetable, Vec<SeatRow>))
+        ensures { HasPublished published self.old self.new }
+    {
+        self.published = Some(published);
+    }
+
+    // Returns the seat rows of the publication; none if nothing is published.
+    pub(crate) fn published_rows(&self) -> &[SeatRow]
+        ensures { result.now ≡ publication_rows (publication_from self.now.published) }
+    {
+        match &self.published {
+            Some((_, rows)) => rows,
+            None => &[],
+        }
+    }
+
+    // Returns the placement rows of the publication, by exam; none if nothing is published.
+    pub(crate) fn published_places(&self, alloc: Global) -> Result<Vec<PlacedRow>, AllocError>
+        ensures { IfOk result
+            (λ rows. rows.items ≡ placed_rows (publication_from self.now.published)) }
+    {
+        match &self.published {
+            Some((timetable, _)) => placement_rows(alloc, timetable),
+            None => Ok(Vec::new(alloc)),
+        }
+    }
+
+    // Counts one batch more, and replaces the enrolments and the drafts if a line changed them.
     pub(crate) fn renew(&mut self, enrolments: Option<Enrolments>, drafts: Drafts)
         requires room { self.old.batches < MAX_BATCHES }
         ensures batches { self.new.batches ≡ self.old.batches + 1 }
         ensures renewed { (I : Session) (E : Enrolled) → self.old.kept ≡ Some (I, E)
             → IsRenewed I E enrolments drafts self.old self.new }
+        ensures published { self.new.published ≡ self.old.published }
     {
         self.batches += 1;
         let Some(enrolments) = enrolments else {

@@ -1,22 +1,23 @@
-// What is put in for an accepted batch.
+// The writes of an accepted batch.
 ghost use Rattle.std.specs.Prelude.{◌≡◌, ◌<◌, ◌≤◌, All, IfErr, IfOk, IfSome, IsTrue, OnErr, OnOk, Some};
 ghost use Rattle.std.specs.Prelude.{false, length, map};
 ghost use Rattle.sqlite.specs.Effect.{Database};
 ghost use Rattle.sqlite.specs.Held.{state};
 ghost use Rattle.sqlite.specs.State.{HasCleanDisk, Survives};
 ghost use Rattle.exam_terms.specs.declared.limits.TheConstants.{MAX_BATCHES, TEXT_BYTES};
+ghost use Rattle.exam_score.specs.Rescoring.{OthersUnchanged};
 ghost use Rattle.office_tables.specs.Alterations.{Changed, HoldsChanged, Undone};
 ghost use Rattle.office_tables.specs.Draft.{AreAmounts};
 ghost use Rattle.office_model.specs.Office.{Records};
 ghost use Rattle.office_records.specs.Memory.{memory_of};
 ghost use Rattle.office_records.specs.Representation.{RepresentsOffice};
-ghost use Rattle.office_store.specs.Memory.{AreRescored, AreSuited, IsMemoryOf};
-ghost use Rattle.office_store.specs.NewBatches.{Enrols, new_batch_put, put_line};
+ghost use Rattle.office_store.specs.Memory.{AreRescored, AreScored, AreSuited, IsMemoryOf};
+ghost use Rattle.office_store.specs.NewBatches.{Enrols, new_batch_put, put_line, students_of};
 
 use crate::fault::Failed;
 use crate::memory::{Drafts, OfficeMemory, no_drafts};
 use crate::rescoring::{rescored_drafts, rows_put};
-use exam_model::{Change, Enrolments, Instance};
+use exam_model::{Change, Enrolments, Instance, StudentNo};
 use exam_terms::limits::MAX_BATCHES;
 use office_enrolment::{AfterBatch, after_batch};
 use office_model::{Counts, StoreFault};
@@ -27,9 +28,9 @@ use office_tables::{
 use sqlite::{Alter, Connection, Error, Transaction};
 use std::alloc::{AllocError, Global};
 
-// What a batch makes: the enrolments after it, what its lines did, those that act, and all drafts
-// rescored, with their rows. If no line acts, the enrolments and the drafts stay as they are, and
-// none are here.
+// What a batch changes: the enrolments after it, its counts, its acting lines (those that change
+// the enrolments), and all drafts rescored, with their rows. If no line acts, `enrolments` is
+// `None`, `lines` is empty, and the enrolments and the drafts stay as they are.
 #[derive(Drop)]
 pub(crate) struct NewBatch {
     pub(crate) enrolments: Option<Enrolments>,
@@ -39,8 +40,8 @@ pub(crate) struct NewBatch {
     pub(crate) rescored: Drafts,
 }
 
-// Returns the writes of a batch of the session in memory, whose number isn't kept. Its lines are
-// judged first, then whether there is room.
+// Returns the writes of a batch whose number isn't kept, for the session in memory. The lines are
+// checked first, then whether there is room for one batch more.
 pub(crate) fn new_batch(
     alloc: Global,
     instance: &Instance,
@@ -57,15 +58,18 @@ pub(crate) fn new_batch(
     ensures room { OnOk result (memory.now.batches < MAX_BATCHES) }
     ensures exams { IfOk result (λ new.
         IfSome new.enrolments (λ E. length E ≡ length instance.now.exams)) }
-    ensures rescored { IfOk result (λ new. IfSome new.enrolments
+    ensures suited { IfOk result (λ new. AreSuited instance.now new.rescored) }
+    ensures rescored { AreScored instance.now enrolments.now memory.now.drafts
+        → IfOk result (λ new. IfSome new.enrolments
         (λ E. AreRescored instance.now E memory.now.drafts new.rescored)) }
     ensures small { IfOk result (λ new. All (λ it. AreAmounts it.row) new.drafts.items) }
 {
+    let _kept = enrolments.pairs(); // read for the order of the students
     let made = after_batch(alloc, enrolments, changes)?;
     if memory.batches >= MAX_BATCHES as usize {
         return Err(StoreFault::TooMany);
     }
-    let rescored = drafts_after(alloc, instance, &made, &memory.drafts)?;
+    let rescored = drafts_after(alloc, instance, enrolments, &made, &memory.drafts)?;
     let drafts = rows_put(alloc, &rescored)?;
     let lines = lines_put(alloc, &made.acting)?;
     Ok(NewBatch {
@@ -81,21 +85,34 @@ pub(crate) fn new_batch(
 fn drafts_after(
     alloc: Global,
     instance: &Instance,
+    before: &Enrolments,
     made: &AfterBatch,
     drafts: &Drafts,
 ) -> Result<Drafts, AllocError>
+    requires before { length before.now ≡ length instance.now.exams }
     requires exams { IfSome made.now.enrolments (λ E. length E ≡ length instance.now.exams) }
+    requires others { IfSome made.now.enrolments
+        (OthersUnchanged (students_of made.now.acting.items) before.now) }
     requires suited { AreSuited instance.now drafts.now }
-    ensures { IfOk result (λ after. IfSome made.now.enrolments
-        (λ E. AreRescored instance.now E drafts.now after)) }
+    ensures suited { IfOk result (AreSuited instance.now) }
+    ensures rescored { AreScored instance.now before.now drafts.now → IfOk result
+        (λ after. IfSome made.now.enrolments (λ E. AreRescored instance.now E drafts.now after)) }
 {
-    match &made.enrolments {
-        Some(enrolments) => rescored_drafts(alloc, instance, enrolments, drafts),
-        None => Ok(no_drafts()),
-    }
+    let Some(after) = &made.enrolments else {
+        return Ok(no_drafts());
+    };
+    let students = students_of(alloc, &made.acting)?;
+    rescored_drafts(alloc, instance, before, after, &students, drafts)
 }
 
-// Puts in a batch, with the lines that act and, if there are any, all drafts again.
+// Returns the student of each line.
+fn students_of(alloc: Global, lines: &[Change]) -> Result<Vec<StudentNo>, AllocError>
+    ensures { IfOk result (λ students. students.items ≡ students_of lines.now) }
+{
+    lines.iter().map(|line| line.student).collect(alloc)
+}
+
+// Writes a batch, its acting lines and, if there are any, all drafts again.
 pub(crate) fn put_batch<S: Alter>(
     conn: &mut Connection<S>,
     new: &NewBatch,
@@ -154,7 +171,7 @@ fn lines_put(alloc: Global, changes: &[Change]) -> Result<Vec<PutLine>, AllocErr
         .collect(alloc)
 }
 
-// A line that acts: its pair comes, or goes.
+// A line that acts: it inserts or deletes its pair.
 #[derive(Clone, Copy)]
 pub(crate) struct PutLine {
     pub(crate) change: Change,

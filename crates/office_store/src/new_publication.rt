@@ -1,82 +1,72 @@
-// What is put in for a publication.
+// The writes of a publication.
 ghost use Rattle.std.specs.Prelude.{◌≡◌, ℕ, All, IfErr, IfOk, None, OnOk, Some, length, map};
-ghost use Rattle.sqlite.specs.Held.{state};
-ghost use Rattle.sqlite.specs.State.{HasCleanDisk};
-ghost use Rattle.exam_model.specs.Enrolments.{IsAscending};
+ghost use Rattle.exam_model.specs.Enrolments.{Enrolled, IsAscending};
 ghost use Rattle.exam_model.specs.Fits.{Fits};
+ghost use Rattle.exam_model.specs.Instance.{Session};
 ghost use Rattle.exam_publish.specs.AddUp.{AreSmall};
 ghost use Rattle.exam_publish.specs.Changed.{changed_students};
 ghost use Rattle.exam_publish.specs.Permit.{publish_refusal};
 ghost use Rattle.exam_publish.specs.Rows.{ArePublishedRows, RowsInOrder};
-ghost use Rattle.exam_publish.specs.Seats.{AreSeated};
 ghost use Rattle.exam_score.specs.Penalty.{total_of};
-ghost use Rattle.office_model.specs.Office.{AreRecords, OfficeState, Records};
-ghost use Rattle.office_model.specs.Publishing.{draft_published, publication_rows};
+ghost use Rattle.office_model.specs.Office.{OfficeState, Records};
+ghost use Rattle.office_model.specs.Publishing.{draft_published};
+ghost use Rattle.office_records.specs.FoundPublications.{AreFound, publication_from};
 ghost use Rattle.office_records.specs.Memory.{memory_of};
-ghost use Rattle.office_records.specs.Publications.{RowsRepresentPublication, stored_seat};
+ghost use Rattle.office_records.specs.Publications.{stored_seat};
 ghost use Rattle.office_records.specs.SeatsStored.{seat_rows_of};
 ghost use Rattle.office_records.specs.SharesStored.{share_rows_of};
 ghost use Rattle.office_records.specs.PartShares.{HasFewParts, part_rows};
 ghost use Rattle.office_records.specs.SharesStored.{student_share_row};
-ghost use Rattle.office_records.specs.Representation.{RepresentsOffice};
-ghost use Rattle.office_store.specs.FoldReads.{HasRead, RowsUnchanged};
-ghost use Rattle.office_store.specs.Judging.{listed};
 ghost use Rattle.office_store.specs.Memory.{IsMemoryOf, IsTogether};
 ghost use Rattle.office_store.specs.NewPublications.{AreInserted, AreSmallShares, InsertsOrRefuses};
 ghost use Rattle.office_store.specs.RowPuts.{deleted_candidate_seats, part_share_put};
 ghost use Rattle.office_store.specs.RowPuts.{seat_put, deleted_share, student_share_put};
-ghost use Rattle.office_store.specs.Running.{IsCommitted, IsFault, ReturnsValue};
+ghost use Rattle.office_store.specs.Running.{IsFault};
 ghost use Rattle.office_tables.specs.SharePart.{ArePartAmounts};
 ghost use Rattle.office_tables.specs.ShareStudent.{AreStudentAmounts};
 
 use crate::memory::{Draft, OfficeMemory};
-use crate::publications::published_of;
-use crate::published_rows::{PublishedRows, read_published};
 use crate::rewritten_places::{mark_text, placements_put, places_gone};
-use exam_model::{Enrolments, Instance, StudentNo};
-use exam_publish::{SeatRow, Shares, changed, permit, seats, shares};
+use exam_model::{Enrolments, Instance, StudentNo, Timetable};
+use exam_publish::{SeatRow, Shares, changed, numbers_identify, permit, seats, shares};
 use office_model::{Published, StoreFault};
 use office_records::{changed_seat_rows, changed_share_rows, part_share_rows, placement_rows};
 use office_tables::{
     DeletePlacement, DeleteStudentSeats, DeleteStudentShare, InsertPartShare, InsertPlacement,
     InsertSeat, InsertStudentShare, PlacedRow,
 };
-use sqlite::{Alter, Connection};
 use std::alloc::{AllocError, Global};
 
-// All that a publication puts in, and what is answered.
+// All writes of a publication, and the counts that the call returns.
 #[derive(Drop)]
 pub(crate) struct NewPublication {
-    // The text of the row about the office, if the row doesn't say yet that something is published.
+    // The text of the row about the office, if the row doesn't yet say that something is published.
     pub(crate) text: Option<Vec<u8>>,
-    // Placements that differ from those before: the old ones, and the new.
+    // The placements that differ from those before: the old ones and the new ones.
     pub(crate) places_gone: Vec<DeletePlacement>,
     pub(crate) placements: Vec<InsertPlacement>,
-    // Seats of candidates whose seat rows differ from those before: the old ones, and the new.
+    // The seats of the candidates whose seat rows differ from those before: old ones and new ones.
     pub(crate) deleted_seats: Vec<DeleteStudentSeats>,
     pub(crate) seats: Vec<InsertSeat>,
-    // Shares of these candidates, likewise.
+    // The shares of the same candidates.
     pub(crate) deleted_shares: Vec<DeleteStudentShare>,
     pub(crate) students: Vec<InsertStudentShare>,
     pub(crate) parts: Vec<InsertPartShare>,
     pub(crate) counts: Published,
 }
 
-// Returns the writes of a publication of a draft in memory. What is published is read once the
-// draft may be.
-pub(crate) fn new_publication<S: Alter>(
+// Returns the writes of the publication of a draft in memory, and the new publication.
+pub(crate) fn new_publication(
     alloc: Global,
-    conn: &mut Connection<S>,
     memory: &OfficeMemory,
     number: u32,
-) -> Result<NewPublication, StoreFault>
+) -> Result<(NewPublication, (Timetable, Vec<SeatRow>)), StoreFault>
     requires together { IsTogether memory.now }
-    ensures publishes { HasCleanDisk (state S.Store conn.new) → IsCommitted (state S.Store conn.old)
-        → (office : OfficeState) → RepresentsOffice (state S.Store conn.old).now office
-        → IsMemoryOf office memory.now → InsertsOrRefuses number office result }
-    ensures small { IfOk result AreSmallShares }
-    ensures read { HasRead S.Store conn.old conn.new }
-    ensures same { OnOk result (RowsUnchanged S.Store conn.old conn.new) }
+    ensures publishes { (office : OfficeState) → IsMemoryOf office memory.now
+        → InsertsOrRefuses number office result }
+    ensures found { IfOk result (λ new. (I : Session) (E : Enrolled)
+        → memory.now.kept ≡ Some (I, E) → AreFound I (publication_from (Some new.1))) }
+    ensures small { IfOk result (λ new. AreSmallShares new.0) }
 {
     let Some((instance, enrolments)) = &memory.kept else {
         return Err(StoreFault::NotLoaded);
@@ -85,13 +75,16 @@ pub(crate) fn new_publication<S: Alter>(
         return Err(StoreFault::NoDraft);
     };
     check_permit(alloc, instance, enrolments, draft)?;
-    let published = read_published(alloc, conn)?;
-    let old = old_seats(alloc, instance, &published)?;
-    let rows = seats(alloc, instance, enrolments, &draft.timetable, &old)?;
-    publication_writes(alloc, instance, draft, &published.placements, &old, &rows)
+    let old = memory.published_rows();
+    let rows = seats(alloc, instance, enrolments, &draft.timetable, old)?;
+    numbers_identify(&rows);
+    let before = memory.published_places(alloc)?;
+    let writes = publication_writes(alloc, instance, draft, &before, old, &rows)?;
+    let timetable = draft.timetable.copy(alloc)?;
+    Ok((writes, (timetable, rows)))
 }
 
-// Whether a draft of the session in memory may be published.
+// Checks that a draft of the session in memory may be published.
 fn check_permit(
     alloc: Global,
     instance: &Instance,
@@ -111,24 +104,7 @@ fn check_permit(
     }
 }
 
-// The seat rows that were published before; none if nothing was.
-fn old_seats(
-    alloc: Global,
-    instance: &Instance,
-    found: &PublishedRows,
-) -> Result<Vec<SeatRow>, StoreFault>
-    ensures are { (r : Records) → AreRecords r → r.session ≡ instance.now
-        → RowsRepresentPublication found.now.placements.items found.now.seats.items r.published
-        → ReturnsValue (publication_rows r.published) (listed result) }
-    ensures seated { IfOk result (λ rows. AreSeated instance.now rows.items) }
-{
-    match published_of(alloc, instance, found)? {
-        Some((_, rows)) => Ok(rows),
-        None => Ok(Vec::new(alloc)),
-    }
-}
-
-// The writes of a draft with these seats, in place of the placements before and of old seats.
+// Returns the writes that replace the placements before and the old seats by those of a draft.
 fn publication_writes(
     alloc: Global,
     instance: &Instance,
@@ -174,8 +150,8 @@ fn publication_writes(
     })
 }
 
-// The candidates whose seats and shares are written: all whose seat rows differ from those before,
-// if only by their places.
+// Returns the candidates whose seats and shares are written: all whose seat rows differ from those
+// before, even if only their places differ.
 fn rewritten(alloc: Global, old: &[SeatRow], rows: &[SeatRow]) -> Result<Vec<StudentNo>, AllocError>
     requires old_in_order { RowsInOrder old.now }
     requires new_in_order { RowsInOrder rows.now }
@@ -186,7 +162,7 @@ fn rewritten(alloc: Global, old: &[SeatRow], rows: &[SeatRow]) -> Result<Vec<Stu
     changed(alloc, old, rows)
 }
 
-// How many candidates these are.
+// Returns how many candidates these are.
 fn count_of(candidates: &[StudentNo]) -> u32
     requires { IsAscending candidates.now }
     ensures { result ≡ length candidates.now }

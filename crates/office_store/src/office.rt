@@ -1,4 +1,4 @@
-// The office, and how it comes to its file.
+// The office, and how its file is created and read.
 ghost use Rattle.std.specs.Prelude.{◌≡◌, ◌≢◌, ◌⊎◌, IfErr, IfOk, None, OnOk};
 ghost use Rattle.sqlite.specs.Held.{state};
 ghost use Rattle.sqlite.specs.State.{HasCleanDisk, Survives};
@@ -16,8 +16,8 @@ use office_tables::{is_bare, look};
 use sqlite::{Alter, Connection};
 use std::marker::Model;
 
-/// An examination office in one SQLite database. Contracts see the connection; over a disk that
-/// returns what was written, its tables represent an office.
+/// An examination office in one SQLite database. Contracts see the connection; if the disk returns
+/// what was written, its tables represent an office.
 #[derive(Drop)]
 pub struct Office<S: Alter> {
     pub(crate) conn: Connection<S>,
@@ -37,23 +37,23 @@ impl<S: Alter> Model for Office<S> {
     ghost view = { λ o. o.conn };
 
     // While the store is open, its tables represent an office, and in memory are that office's
-    // session, enrolments and drafts, each with its penalty, and the number of its kept batches.
-    // Over any disk the drafts in memory are timetables of the session in memory.
+    // session, enrolments, drafts with their penalties, publication, and number of kept batches. On
+    // any disk the drafts and the publication in memory are of the exams of the session in memory.
     ghost invariant = { λ o. (o.conn.in_transaction ≡ false)
         × MatchesMemory (state S.Store o.conn) o.memory × IsTogether o.memory };
 }
 
 impl<S: Alter> Office<S> {
-    /// Makes the tables of an office in a database that has none. `BadSchema`: there are tables,
-    /// indexes or views. `Store`: a statement failed, or a transaction is open. A refusal hands the
-    /// connection back.
+    /// Makes the tables of an office in a database without tables. `BadSchema`: there are tables,
+    /// indexes or views. `Store`: a statement failed, or a transaction is open. A refusal returns
+    /// the connection.
     pub fn create(conn: Connection<S>) -> Result<Office<S>, (StoreFault, Connection<S>)>
         // The tables represent the office without a session.
         ensures made { IfOk result (λ office. HasCleanDisk (state S.Store office)
             → RepresentsOffice (state S.Store office).now None) }
-        // There were none.
+        // The database had no tables.
         ensures bare { IfOk result (λ _. (state S.Store conn).now.schema ≡ no_schema) }
-        // There was one, and the connection comes back as it was.
+        // The database had a table, and the connection is returned as it was.
         ensures not_bare { IfErr result (λ e. e.0 ≡ StoreFault.BadSchema
             → ((state S.Store conn).now.schema ≢ no_schema) × (e.1 ≡ conn)) }
         // Only `Store` or `BadSchema`.
@@ -62,7 +62,7 @@ impl<S: Alter> Office<S> {
         ensures undone { IfErr result (λ e. (e.1 ≡ conn) ⊎ (HasCleanDisk (state S.Store e.1)
             → Undone (state S.Store conn) (state S.Store e.1))) }
         // On `Ok` the database is open, and all is committed.
-        // A later opening may find what it might have found before, or, unless there were tables,
+        // A later opening may find what it might have found before, or, if there were no tables,
         // those of the office without a session.
         ensures leaves { Leaves (MayMake (state S.Store conn) result) (state S.Store conn)
             (state S.Store (connection_of result)) result }
@@ -83,7 +83,7 @@ impl<S: Alter> Office<S> {
         }
     }
 
-    /// Looks whether the file can still be read; memory and the file then agree.
+    /// Checks that the file can still be read. On `Ok` memory and the file agree.
     pub fn look(&mut self) -> Result<(), StoreFault>
         ensures all_committed { HasCleanDisk (state S.Store self.new)
             → OnOk result (IsCommitted (state S.Store self.new)) }
@@ -94,14 +94,14 @@ impl<S: Alter> Office<S> {
             → HasCleanDisk (state S.Store self.old) }
         ensures survives { Survives (state S.Store self.old) (state S.Store self.new) (λ _. ⊥) }
     {
-        let _at_rest = self.conn.is_autocommit(); // read for what it says of the last commit
+        let _at_rest = self.conn.is_autocommit(); // its contract says that all is committed
         match look(&mut self.conn) {
             Ok(()) => Ok(()),
             Err(_) => Err(StoreFault::Store),
         }
     }
 
-    /// Gives the connection back, with its tables.
+    /// Returns the connection, with its tables.
     pub fn release(self) -> Connection<S>
         ensures { result ≡ self }
     {

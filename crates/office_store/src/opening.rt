@@ -1,4 +1,4 @@
-// A database that holds an office or nothing, opened.
+// Opening a database that holds an office or nothing.
 ghost use Rattle.std.specs.Prelude.{◌≡◌, ◌⊎◌, ◌↔◌, IfErr, IfOk, IsTrue};
 ghost use Rattle.sqlite.specs.Held.{state};
 ghost use Rattle.sqlite.specs.State.{HasCleanDisk};
@@ -18,23 +18,24 @@ use sqlite::{Alter, Connection};
 use std::alloc::{AllocError, Global};
 
 impl<S: Alter> Office<S> {
-    /// The office of a database: a new one if there is no table, index or view; tables of version 1
-    /// become those of version 2. `BadSchema`: what is there is no office. `Store`: a statement
-    /// failed, memory was refused, or a transaction is open. A refusal hands the connection back.
+    /// Opens the office of a database: a new one if there is no table, index or view; tables of
+    /// version 1 are migrated to version 2. `BadSchema`: there are tables, but not those of an
+    /// office. `Store`: a statement failed, memory ran out, or a transaction is open. A refusal
+    /// returns the connection.
     pub fn open(
         alloc: Global,
         conn: Connection<S>,
     ) -> Result<Office<S>, (StoreFault, Connection<S>)>
-        // The office that the database represents is the one that is found, in version 2.
+        // The tables represent the office that the database represented before, in version 2.
         ensures found { IfOk result (λ office. HasCleanDisk (state S.Store office)
             → (there : OfficeState) → IsOfficeOf (state S.Store conn).now there
             → Represents (state S.Store office) there) }
-        // It represented one.
+        // The database represented an office.
         ensures stood { IfOk result (λ office. HasCleanDisk (state S.Store office)
             → (there : OfficeState) × IsOfficeOf (state S.Store conn).now there) }
         // Only `Store` or `BadSchema`.
         ensures fault { IfErr result (λ e. IsOfDatabase e.0) }
-        // But for Store, it represents none.
+        // On `BadSchema` the database represents no office.
         ensures refused { IfErr result (λ e. HasCleanDisk (state S.Store e.1)
             → (e.0 ≡ StoreFault.Store) ⊎ ((there : OfficeState)
             → IsOfficeOf (state S.Store conn).now there → ⊥)) }
@@ -55,7 +56,7 @@ impl<S: Alter> Office<S> {
     }
 }
 
-/// Whether the tables of a database are those of version 1, which opening brings to version 2.
+/// Returns whether the tables of a database are of version 1, which opening migrates to version 2.
 pub fn is_of_version_1<S: Alter>(alloc: Global, conn: &Connection<S>) -> Result<bool, AllocError>
     ensures { IfOk result
         (λ is. IsTrue is ↔ ((state S.Store conn.now).now.schema ≡ schema_before)) }

@@ -1,4 +1,4 @@
-// Who owns an exam.
+// The owner of an exam.
 ghost use Rattle.std.specs.Prelude.{◌≡◌, ◌≤◌, IfOk, OnOk, map};
 ghost use Rattle.sqlite.specs.Held.{state};
 ghost use Rattle.sqlite.specs.State.{HasCleanDisk, Survives};
@@ -21,8 +21,8 @@ use sqlite::Alter;
 use std::alloc::Global;
 
 impl<S: Alter> Office<S> {
-    /// Makes a department, 1 to 999, the owner of an exam; 0 takes the owner away. `NotLoaded`:
-    /// there is no session; then `Refused` with `NoSuch`: there is no such exam.
+    /// Makes a department, 1 to 999, the owner of an exam; 0 removes the owner. `NotLoaded`: there
+    /// is no session; then `Refused` with `NoSuch`: there is no such exam.
     pub fn set_owner(&mut self, exam: ExamNo, dept: u32) -> Result<(), StoreFault>
         requires dept { dept ≤ MAX_DEPARTMENT }
         ensures runs { CommandRan S.Store (owned exam dept) self.old self.new result }
@@ -49,13 +49,13 @@ impl<S: Alter> Office<S> {
         Ok(())
     }
 
-    /// The department that owns an exam; 0 for one that nobody owns or that isn't there.
+    /// Returns the department that owns an exam; 0 if the exam has no owner or doesn't exist.
     pub fn owner(&mut self, alloc: Global, exam: ExamNo) -> Result<u32, StoreFault>
         ensures reads { QueryReturned S.Store (owner_in exam) self.old self.new result }
         // While it is open, the database is as it was, row by row.
         ensures unchanged { HasCleanDisk (state S.Store self.new)
             → StateUnchanged (state S.Store self.old) (state S.Store self.new) }
-        // Memory and the file then agree.
+        // On `Ok` memory and the file agree.
         ensures all_committed { HasCleanDisk (state S.Store self.new)
             → OnOk result (IsCommitted (state S.Store self.new)) }
         ensures clean { HasCleanDisk (state S.Store self.new)
@@ -70,7 +70,7 @@ impl<S: Alter> Office<S> {
         }
     }
 
-    // The rows of an exam's owner: one, or none.
+    // Returns the rows of an exam's owner: one, or none.
     fn owners(&mut self, alloc: Global, exam: ExamNo) -> Result<Vec<OwnerRow>, Failed>
         ensures rows { HasCleanDisk (state S.Store self.new) → (office : OfficeState)
             → Represents (state S.Store self.old) office
@@ -87,13 +87,13 @@ impl<S: Alter> Office<S> {
             → HasCleanDisk (state S.Store self.old) }
         ensures survives { Survives (state S.Store self.old) (state S.Store self.new) (λ _. ⊥) }
     {
-        let _at_rest = self.conn.is_autocommit(); // read for what it says of the last commit
+        let _at_rest = self.conn.is_autocommit(); // its contract says that all is committed
         let rows = owners_of(alloc, &mut self.conn, exam.get())?;
         Ok(rows)
     }
 }
 
-// The row of an exam's owner; a department 0 is none.
+// Returns the row of an exam's owner; department 0 gives none.
 fn new_owner(exam: u32, dept: u32) -> Option<InsertOwner>
     ensures { result ≡ new_owner exam dept }
 {

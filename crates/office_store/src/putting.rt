@@ -1,4 +1,4 @@
-// A publication is put in, all of it or nothing.
+// Writing a publication, all of it or nothing.
 ghost use Rattle.std.specs.Prelude.{◌≡◌, false, OnErr, OnOk};
 ghost use Rattle.sqlite.specs.Held.{state};
 ghost use Rattle.sqlite.specs.State.{HasCleanDisk, Survives};
@@ -16,7 +16,7 @@ use office_tables::{
 };
 use sqlite::{Alter, Connection, Error, Transaction};
 
-// Puts a publication in place of another.
+// Replaces the present publication by a new one.
 pub(crate) fn put_publication<S: Alter>(
     conn: &mut Connection<S>,
     new: &NewPublication,
@@ -47,8 +47,8 @@ impl Alteration for NewPublication {
     }
 }
 
-// Writes the row about the office, if it changes, and the placements and the seats of candidates
-// that go and come: first all seats that go, so that each is free for its next candidate.
+// Writes the row about the office, if it changes, and the changed placements and candidates' seats:
+// first it deletes all old seats, so that each is free for its next candidate.
 fn put_places<S: Alter>(tx: &mut Transaction<'_, S>, new: &NewPublication) -> Result<(), Error>
     ensures same_reference { tx.new.conn.ghost_name ≡ tx.old.conn.ghost_name }
     ensures makes { Changes S.Store (places_put new.now) tx.old.conn.now tx.new.conn.now result }
@@ -92,7 +92,7 @@ fn put_mark<S: Alter>(tx: &mut Transaction<'_, S>, text: &Option<Vec<u8>>) -> Re
     meta.apply(tx)
 }
 
-// Writes the shares of candidates that go and come, and all other shares.
+// Writes the candidates' changed shares, and all shares of exams, periods and rooms.
 fn put_shares<S: Alter>(tx: &mut Transaction<'_, S>, new: &NewPublication) -> Result<(), Error>
     requires small { AreSmallShares new.now }
     ensures same_reference { tx.new.conn.ghost_name ≡ tx.old.conn.ghost_name }

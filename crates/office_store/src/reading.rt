@@ -1,4 +1,4 @@
-// What is shown of the office: its session, and its drafts.
+// What the office shows of its session and its drafts.
 ghost use Rattle.std.specs.Prelude.{◌≡◌, IfErr, IfOk, IsTrue, OnOk, length};
 ghost use Rattle.sqlite.specs.Held.{state};
 ghost use Rattle.sqlite.specs.State.{HasCleanDisk, Survives};
@@ -20,9 +20,9 @@ use sqlite::Alter;
 use std::alloc::Global;
 
 impl<S: Alter> Office<S> {
-    /// The session with its live enrolments, as they are in memory. While the file can be read it
-    /// says the same; that it can, an Ok of `draft`, `owner` or `look` says. `NotLoaded`: there is
-    /// none yet.
+    /// Returns the session with its live enrolments, from memory. The file has the same session
+    /// while it can be read; an `Ok` of `draft`, `owner` or `look` confirms that it can.
+    /// `NotLoaded`: there is no session yet.
     pub fn session(&self) -> Result<(&Instance, &Enrolments), StoreFault>
         // While the store is open, these are the session and its present enrolments.
         ensures shown { HasCleanDisk (state S.Store self.now)
@@ -38,14 +38,14 @@ impl<S: Alter> Office<S> {
         }
     }
 
-    /// A draft's timetable with its penalty. `NotLoaded`, then `NoDraft`: there is none of
-    /// this number.
+    /// Returns a draft's timetable with its penalty. `NotLoaded`, then `NoDraft`: no draft has this
+    /// number.
     pub fn draft(&mut self, alloc: Global, number: u32) -> Result<(Timetable, Parts), StoreFault>
         ensures runs { CommandRan S.Store (draft_shown number) self.old self.new result }
         // While it is open, the database is as it was, row by row.
         ensures unchanged { HasCleanDisk (state S.Store self.new)
             → StateUnchanged (state S.Store self.old) (state S.Store self.new) }
-        // Memory and the file then agree.
+        // On `Ok` memory and the file agree.
         ensures all_committed { HasCleanDisk (state S.Store self.new)
             → OnOk result (IsCommitted (state S.Store self.new)) }
         ensures clean { HasCleanDisk (state S.Store self.new)
@@ -63,13 +63,13 @@ impl<S: Alter> Office<S> {
         Ok((timetable, draft.parts))
     }
 
-    /// What a draft costs. `NotLoaded`, then `NoDraft`: there is none of this number.
+    /// Returns the penalty of a draft. `NotLoaded`, then `NoDraft`: no draft has this number.
     pub fn penalty(&mut self, number: u32) -> Result<Parts, StoreFault>
         ensures runs { CommandRan S.Store (draft_priced number) self.old self.new result }
         // While it is open, the database is as it was, row by row.
         ensures unchanged { HasCleanDisk (state S.Store self.new)
             → StateUnchanged (state S.Store self.old) (state S.Store self.new) }
-        // Memory and the file then agree.
+        // On `Ok` memory and the file agree.
         ensures all_committed { HasCleanDisk (state S.Store self.new)
             → OnOk result (IsCommitted (state S.Store self.new)) }
         ensures clean { HasCleanDisk (state S.Store self.new)
@@ -86,14 +86,14 @@ impl<S: Alter> Office<S> {
         Ok(draft.parts)
     }
 
-    /// All breaches of a draft, in their order. `NotLoaded`, then `NoDraft`: there is none of this
-    /// number.
+    /// Returns all breaches of a draft, in their order. `NotLoaded`, then `NoDraft`: no draft has
+    /// this number.
     pub fn breaches(&mut self, alloc: Global, number: u32) -> Result<Vec<Breach>, StoreFault>
         ensures runs { CommandRan S.Store (draft_judged number) self.old self.new (listed result) }
         // While it is open, the database is as it was, row by row.
         ensures unchanged { HasCleanDisk (state S.Store self.new)
             → StateUnchanged (state S.Store self.old) (state S.Store self.new) }
-        // Memory and the file then agree.
+        // On `Ok` memory and the file agree.
         ensures all_committed { HasCleanDisk (state S.Store self.new)
             → OnOk result (IsCommitted (state S.Store self.new)) }
         ensures clean { HasCleanDisk (state S.Store self.new)

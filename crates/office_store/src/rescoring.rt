@@ -1,53 +1,71 @@
-// The drafts in memory with other enrolments.
+// The drafts in memory, rescored after a change of enrolments.
 ghost use Rattle.std.specs.Prelude.{◌≡◌, ◌++◌, [], ◌∷◌, All, IfOk, IfSome, None, OnOk, Some, length, map, option_map};
-ghost use Rattle.exam_model.specs.Fits.{Fits};
+ghost use Rattle.exam_model.specs.Fits.{Suits};
+ghost use Rattle.exam_score.specs.Rescoring.{OthersUnchanged};
+ghost use Rattle.exam_score.specs.Track.{track};
 ghost use Rattle.office_tables.specs.Draft.{AreAmounts};
 ghost use Rattle.office_tables.specs.declared.draft.DraftRow.{DraftRow};
 ghost use Rattle.office_records.specs.Representation.{parts_of};
-ghost use Rattle.office_store.specs.Memory.{AreDraftRows, AreRescored, AreSuited, rescored};
+ghost use Rattle.office_store.specs.Memory.{AreDraftRows, AreRescored, AreScored, AreSuited, rescored};
 
 use crate::memory::{Draft, Drafts, NUMBERS, no_drafts};
-use exam_model::{Enrolments, Instance};
-use exam_score::score;
+use exam_model::{Enrolments, Instance, StudentNo};
+use exam_score::rescore;
 use office_records::draft_row;
 use office_tables::InsertDraft;
 use std::alloc::{AllocError, Global};
 
-// Returns the drafts with their penalties by these enrolments.
+// Returns the drafts with their penalties by the enrolments after a change, if they have those by
+// the enrolments before it. The list has every student whose exams changed.
 pub(crate) fn rescored_drafts(
     alloc: Global,
     instance: &Instance,
-    enrolments: &Enrolments,
+    before: &Enrolments,
+    after: &Enrolments,
+    students: &[StudentNo],
     drafts: &Drafts,
 ) -> Result<Drafts, AllocError>
-    requires exams { length enrolments.now ≡ length instance.now.exams }
+    requires before { length before.now ≡ length instance.now.exams }
+    requires after { length after.now ≡ length instance.now.exams }
+    requires others { OthersUnchanged students.now before.now after.now }
     requires suited { AreSuited instance.now drafts.now }
-    ensures { IfOk result (AreRescored instance.now enrolments.now drafts.now) }
+    ensures suited { IfOk result (AreSuited instance.now) }
+    ensures rescored { AreScored instance.now before.now drafts.now
+        → IfOk result (AreRescored instance.now after.now drafts.now) }
 {
     let mut made = no_drafts();
     'numbers: for number in 0..NUMBERS {
-        made[number] = rescored(alloc, instance, enrolments, &drafts[number])?;
+        let draft = &drafts[number];
+        made[number] = rescored(alloc, instance, before, after, students, draft)?;
     }
     Ok(made)
 }
 
-// Returns a draft, if there is one, with its penalty by these enrolments.
+// Returns a draft, if there is one, with its penalty by the enrolments after a change.
 fn rescored(
     alloc: Global,
     instance: &Instance,
-    enrolments: &Enrolments,
+    before: &Enrolments,
+    after: &Enrolments,
+    students: &[StudentNo],
     draft: &Option<Draft>,
 ) -> Result<Option<Draft>, AllocError>
-    requires fits { IfSome draft.now (λ draft.
-        Fits instance.now enrolments.now draft.timetable) }
-    ensures { IfOk result
-        (λ made. made ≡ option_map (rescored instance.now enrolments.now) draft.now) }
+    requires before { length before.now ≡ length instance.now.exams }
+    requires after { length after.now ≡ length instance.now.exams }
+    requires others { OthersUnchanged students.now before.now after.now }
+    requires suits { IfSome draft.now (λ draft. Suits instance.now draft.timetable) }
+    ensures suits { IfOk result (λ made.
+        IfSome made (λ draft. Suits instance.now draft.timetable)) }
+    ensures rescored { IfSome draft.now
+        (λ draft. draft.parts ≡ track instance.now before.now draft.timetable)
+        → IfOk result (λ made. made ≡ option_map (rescored instance.now after.now) draft.now) }
 {
     let Some(draft) = draft else {
         return Ok(None);
     };
     let timetable = draft.timetable.copy(alloc)?;
-    let parts = score(alloc, instance, enrolments, &timetable)?;
+    let old = draft.parts;
+    let parts = rescore(alloc, instance, before, after, students, &timetable, old)?;
     Ok(Some(Draft { timetable, parts }))
 }
 

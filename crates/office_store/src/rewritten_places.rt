@@ -9,8 +9,8 @@ use office_records::{RecordFault, text_of};
 use office_tables::{DeletePlacement, InsertPlacement, PlacedRow};
 use std::alloc::{AllocError, Global};
 
-// Returns the text of the row about the office. `None`: something was published before, and the
-// row says so already.
+// Returns the text of the row about the office. `None`: something is already published, and the row
+// says so.
 pub(crate) fn mark_text(
     alloc: Global,
     instance: &Instance,
@@ -27,7 +27,7 @@ pub(crate) fn mark_text(
     Ok(Some(text))
 }
 
-// Returns which placements go: those before that the new ones differ from.
+// Returns the deletions of the placements before that the new ones differ from.
 pub(crate) fn places_gone(
     alloc: Global,
     rows: &[PlacedRow],
@@ -42,7 +42,7 @@ pub(crate) fn places_gone(
         .collect(alloc)
 }
 
-// Returns which placements come: those that differ from the ones before.
+// Returns the insertions of the placements that differ from those before.
 pub(crate) fn placements_put(
     alloc: Global,
     rows: &[PlacedRow],

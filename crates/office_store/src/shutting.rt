@@ -1,4 +1,4 @@
-// Whether a failure of the disk has shut the store.
+// Whether a disk failure has closed the store.
 ghost use Rattle.std.specs.Prelude.{◌≡◌, IfErr, IfOk, MatchBool, None, Some};
 ghost use Rattle.sqlite.specs.Held.{state};
 ghost use Rattle.sqlite.specs.State.{HasCleanDisk, Survives};
@@ -10,8 +10,8 @@ use office_model::StoreFault;
 use sqlite::{Alter, Error, ErrorCode};
 
 impl<S: Alter> Office<S> {
-    /// Returns whether a failure of the disk has shut the store: then each call that needs the file
-    /// fails until it is opened again. `Err`: the store didn't say, because memory ran out.
+    /// Returns whether a disk failure has closed the store; then each call that needs the file
+    /// fails until the office is opened again. `Err`: unknown, because memory ran out.
     pub fn is_shut(&mut self) -> Result<bool, StoreFault>
         ensures shut { HasCleanDisk (state S.Store self.new) → IfOk result (λ is_shut.
             MatchBool is_shut (IsShut (state S.Store self.new))
@@ -23,13 +23,13 @@ impl<S: Alter> Office<S> {
             → HasCleanDisk (state S.Store self.old) }
         ensures survives { Survives (state S.Store self.old) (state S.Store self.new) (λ _. ⊥) }
     {
-        let _at_rest = self.conn.is_autocommit(); // read for what it says of the last commit
-        // The empty statement does nothing, and a store that is shut refuses it too.
+        let _at_rest = self.conn.is_autocommit(); // its contract says that all is committed
+        // The empty statement does nothing; only a closed store refuses it as `Closed`.
         is_shut_by(self.conn.prepare("").err())
     }
 }
 
-// Whether a store is shut that took a statement that does nothing, or refused it so.
+// Returns whether the store is closed, by the error of a statement that does nothing, or none.
 fn is_shut_by(refused: Option<Error>) -> Result<bool, StoreFault>
     ensures shut { IfOk result (λ is_shut. MatchBool is_shut
         (refused ≡ Some (Error.SqliteFailure ErrorCode.Closed)) (refused ≡ None)) }

@@ -4,7 +4,7 @@ ghost use Rattle.sqlite.specs.Held.{state};
 ghost use Rattle.sqlite.specs.State.{HasCleanDisk, Survives};
 ghost use Rattle.office_tables.specs.Alterations.{Changed, HoldsChanged, Undone};
 ghost use Rattle.office_tables.specs.Schema.{no_schema, IsBlank};
-ghost use Rattle.office_tables.specs.Standing.{Stands, StandsBefore};
+ghost use Rattle.office_tables.specs.TablesHeld.{HoldsTables, HoldsOldTables};
 ghost use Rattle.office_tables.specs.Tables.{Tables, empty_tables};
 ghost use Rattle.office_store.specs.Leaving.{found_in};
 ghost use Rattle.office_store.specs.Transactions.{Turned};
@@ -17,14 +17,14 @@ use sqlite::{Alter, Connection};
 pub(crate) fn make_tables<S: Alter>(conn: &mut Connection<S>) -> Result<(), Failed>
     requires rests { conn.old.in_transaction ≡ false }
     ensures done { HasCleanDisk (state S.Store conn.new) → OnOk result (Turned (IsBlank no_schema)
-        (λ db. Stands db empty_tables) (state S.Store conn.old) (state S.Store conn.new)) }
+        (λ db. HoldsTables db empty_tables) (state S.Store conn.old) (state S.Store conn.new)) }
     ensures undone { HasCleanDisk (state S.Store conn.new)
         → OnErr result (Undone (state S.Store conn.old) (state S.Store conn.new)) }
     ensures rests { conn.new.in_transaction ≡ false }
     ensures clean { HasCleanDisk (state S.Store conn.new) → HasCleanDisk (state S.Store conn.old) }
     ensures survives { Survives (state S.Store conn.old) (state S.Store conn.new)
         (λ found. IsBlank no_schema (state S.Store conn.old).now
-        → Stands (found_in found) empty_tables) }
+        → HoldsTables (found_in found) empty_tables) }
 {
     let mut tx = conn.transaction();
     create_tables(&mut tx)?;
@@ -32,7 +32,7 @@ pub(crate) fn make_tables<S: Alter>(conn: &mut Connection<S>) -> Result<(), Fail
     Ok(())
 }
 
-// Makes version 2 of tables of version 1, which have this row about the office.
+// Migrates tables of version 1, which have this row about the office, to version 2.
 pub(crate) fn migrate_tables<S: Alter>(
     conn: &mut Connection<S>,
     published: bool,
@@ -41,7 +41,7 @@ pub(crate) fn migrate_tables<S: Alter>(
     requires rests { conn.old.in_transaction ≡ false }
     ensures done { HasCleanDisk (state S.Store conn.new) → (t : Tables)
         → t.meta ≡ record { published = published; instance = instance.now } ∷ []
-        → OnOk result (Turned (λ db. StandsBefore db t) (λ db. Stands db t)
+        → OnOk result (Turned (λ db. HoldsOldTables db t) (λ db. HoldsTables db t)
         (state S.Store conn.old) (state S.Store conn.new)) }
     ensures undone { HasCleanDisk (state S.Store conn.new)
         → OnErr result (Undone (state S.Store conn.old) (state S.Store conn.new)) }
@@ -50,7 +50,7 @@ pub(crate) fn migrate_tables<S: Alter>(
     ensures survives { Survives (state S.Store conn.old) (state S.Store conn.new)
         (λ found. (t : Tables)
         → t.meta ≡ record { published = published; instance = instance.now } ∷ []
-        → StandsBefore (state S.Store conn.old).now t → Stands (found_in found) t) }
+        → HoldsOldTables (state S.Store conn.old).now t → HoldsTables (found_in found) t) }
 {
     let mut tx = conn.transaction();
     migrate(&mut tx, published, instance)?;

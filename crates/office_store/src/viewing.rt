@@ -11,7 +11,8 @@ ghost use Rattle.office_model.specs.Views.{view_of};
 ghost use Rattle.office_records.specs.Publications.{stored_seat};
 ghost use Rattle.office_records.specs.Representation.{RepresentsOffice};
 ghost use Rattle.office_store.specs.Judging.{listed};
-ghost use Rattle.office_store.specs.OfficeRows.{published_in, student_rows_in};
+ghost use Rattle.office_records.specs.Memory.{published_in};
+ghost use Rattle.office_store.specs.OfficeRows.{student_rows_in};
 ghost use Rattle.office_store.specs.Running.{IsCommitted, StateUnchanged, QueryReturned, ReturnsValue};
 ghost use Rattle.office_store.specs.Viewing.{AreCandidateRows, exams_in, place_in_row};
 
@@ -29,7 +30,7 @@ use office_tables::{
 use sqlite::Alter;
 use std::alloc::{AllocError, Global};
 
-// The rows of a candidate's enrolments, of the places of these exams, and of her seats.
+// The rows of a candidate's enrolments, of the places of these exams, and of their seats.
 #[derive(Drop)]
 struct CandidateRows {
     enrols: Vec<EnrolRow>,
@@ -38,8 +39,8 @@ struct CandidateRows {
 }
 
 impl<S: Alter> Office<S> {
-    /// What a candidate is shown: the exams of her enrolments and of her seats, and what her seats
-    /// cost her. Nothing of anybody else's is read. Before a load there is nothing to show.
+    /// Returns a candidate's view: the exams of their enrolments and seats, and their share of the
+    /// penalty. No other candidate's rows are read. Before a load the view is empty.
     pub fn candidate_view(
         &mut self,
         alloc: Global,
@@ -50,7 +51,7 @@ impl<S: Alter> Office<S> {
         // While it is open, the database is as it was, row by row.
         ensures unchanged { HasCleanDisk (state S.Store self.new)
             → StateUnchanged (state S.Store self.old) (state S.Store self.new) }
-        // Memory and the file then agree.
+        // On `Ok` memory and the file agree.
         ensures all_committed { HasCleanDisk (state S.Store self.new)
             → OnOk result (IsCommitted (state S.Store self.new)) }
         ensures clean { HasCleanDisk (state S.Store self.new)
@@ -62,8 +63,8 @@ impl<S: Alter> Office<S> {
         Ok(CandidateView::new(student, exams, personal))
     }
 
-    /// One of a candidate's exams, by only her enrolments, places and seats. Nothing of anybody
-    /// else's is read. `None`: it is none of hers, or nothing is loaded.
+    /// Returns one exam of a candidate's view, from only their enrolments, places and seats.
+    /// `None`: the exam isn't in their view, or nothing is loaded.
     pub fn candidate_exam(
         &mut self,
         alloc: Global,
@@ -76,7 +77,7 @@ impl<S: Alter> Office<S> {
         // While it is open, the database is as it was, row by row.
         ensures unchanged { HasCleanDisk (state S.Store self.new)
             → StateUnchanged (state S.Store self.old) (state S.Store self.new) }
-        // Memory and the file then agree.
+        // On `Ok` memory and the file agree.
         ensures all_committed { HasCleanDisk (state S.Store self.new)
             → OnOk result (IsCommitted (state S.Store self.new)) }
         ensures clean { HasCleanDisk (state S.Store self.new)
@@ -87,7 +88,7 @@ impl<S: Alter> Office<S> {
         Ok(row_of(&rows, exam))
     }
 
-    /// What a candidate's seats cost her, by only her share. Nothing of anybody else's is read.
+    /// Returns a candidate's share of the penalty, from only their own row.
     pub fn candidate_penalty(
         &mut self,
         alloc: Global,
@@ -98,7 +99,7 @@ impl<S: Alter> Office<S> {
         // While it is open, the database is as it was, row by row.
         ensures unchanged { HasCleanDisk (state S.Store self.new)
             → StateUnchanged (state S.Store self.old) (state S.Store self.new) }
-        // Memory and the file then agree.
+        // On `Ok` memory and the file agree.
         ensures all_committed { HasCleanDisk (state S.Store self.new)
             → OnOk result (IsCommitted (state S.Store self.new)) }
         ensures clean { HasCleanDisk (state S.Store self.new)
@@ -109,7 +110,7 @@ impl<S: Alter> Office<S> {
         personal_in(&rows)
     }
 
-    // All exams of a candidate, as she is shown them; none if nothing is loaded.
+    // Returns all exams of a candidate's view; none if nothing is loaded.
     fn candidate_exams(
         &mut self,
         alloc: Global,
@@ -132,7 +133,7 @@ impl<S: Alter> Office<S> {
         exams_from(alloc, instance, &found)
     }
 
-    // What the tables hold of a candidate, her share apart.
+    // Returns all rows of a candidate except their share.
     fn candidate_rows(&mut self, alloc: Global, student: StudentNo) -> Result<CandidateRows, Failed>
         ensures rows { HasCleanDisk (state S.Store self.new) → (office : OfficeState)
             → RepresentsOffice (state S.Store self.new).now office
@@ -172,7 +173,7 @@ impl<S: Alter> Office<S> {
             → HasCleanDisk (state S.Store self.old) }
         ensures survives { Survives (state S.Store self.old) (state S.Store self.new) (λ _. ⊥) }
     {
-        let _at_rest = self.conn.is_autocommit(); // read for what it says of the last commit
+        let _at_rest = self.conn.is_autocommit(); // its contract says that all is committed
         let rows = enrols_of(alloc, &mut self.conn, student.get())?;
         Ok(rows)
     }
@@ -194,7 +195,7 @@ impl<S: Alter> Office<S> {
             → HasCleanDisk (state S.Store self.old) }
         ensures survives { Survives (state S.Store self.old) (state S.Store self.new) (λ _. ⊥) }
     {
-        let _at_rest = self.conn.is_autocommit(); // read for what it says of the last commit
+        let _at_rest = self.conn.is_autocommit(); // its contract says that all is committed
         let rows = placements_of(alloc, &mut self.conn, student.get())?;
         Ok(rows)
     }
@@ -212,7 +213,7 @@ impl<S: Alter> Office<S> {
             → HasCleanDisk (state S.Store self.old) }
         ensures survives { Survives (state S.Store self.old) (state S.Store self.new) (λ _. ⊥) }
     {
-        let _at_rest = self.conn.is_autocommit(); // read for what it says of the last commit
+        let _at_rest = self.conn.is_autocommit(); // its contract says that all is committed
         let rows = seats_of(alloc, &mut self.conn, student.get())?;
         Ok(rows)
     }
@@ -234,13 +235,13 @@ impl<S: Alter> Office<S> {
             → HasCleanDisk (state S.Store self.old) }
         ensures survives { Survives (state S.Store self.old) (state S.Store self.new) (λ _. ⊥) }
     {
-        let _at_rest = self.conn.is_autocommit(); // read for what it says of the last commit
+        let _at_rest = self.conn.is_autocommit(); // its contract says that all is committed
         let rows = student_shares_of(alloc, &mut self.conn, student.get())?;
         Ok(rows)
     }
 }
 
-// The exams that these rows show of the session in memory, whoever's they are.
+// Returns the exams that these rows show of the session in memory; the student can be anyone.
 fn exams_from(
     alloc: Global,
     instance: &Instance,
@@ -258,7 +259,7 @@ fn exams_from(
     Ok(rows)
 }
 
-// The row of this exam, if there is one.
+// Returns the row of this exam, if there is one.
 fn row_of(rows: &[ViewRow], exam: ExamNo) -> Option<ViewRow>
     ensures { result ≡ find (λ row. row.exam == exam) rows.now }
 {
@@ -270,7 +271,7 @@ fn row_of(rows: &[ViewRow], exam: ExamNo) -> Option<ViewRow>
     None
 }
 
-// The exams of these rows.
+// Returns the exams of these rows.
 pub(crate) fn exams_of(alloc: Global, rows: &[EnrolRow]) -> Result<Vec<ExamNo>, AllocError>
     ensures { IfOk result (λ exams. exams.items ≡ map (λ row. row.exam) rows.now) }
 {

@@ -1,10 +1,9 @@
-use Rattle.std.proofs.Common.{◌≡◌, [], ◌∷◌, ap, refl, rules, subst, sym}
+use Rattle.std.proofs.Common.{◌≡◌, [], ◌∷◌, ap, rules, subst, sym}
 use Rattle.std.proofs.lemmas.Result.{on_ok_weaker}
 use Rattle.sqlite.specs.Held.{state}
 use Rattle.sqlite.proofs.StateLemmas.{survives_weaker}
 use Rattle.office_tables.specs.Adopting.{tables_of}
-use Rattle.office_tables.specs.Standing.{StandsIn}
-use Rattle.office_tables.specs.Tables.{Meta}
+use Rattle.office_tables.specs.TablesHeld.{HoldsTablesIn}
 use Rattle.office_tables.specs.declared.version.Version.TheVariants.{One}
 use Rattle.office_store.proofs.adopting.bring_up.Goals as goal
 
@@ -15,7 +14,7 @@ returns-in-One-clause-tables g c clean batches held =
     let one : found.version ≡ One = search rules in
     on_ok_weaker c.migrate_tables.result
     (λ turned. turned.leads
-    (subst (λ version. StandsIn version (state g.S.Store c.args.conn.now).now t) one held))
+    (subst (λ version. HoldsTablesIn version (state g.S.Store c.args.conn.now).now t) one held))
     (c.migrate_tables.ensures.done clean t
     (ap (λ text. record { published = found.meta.published; instance = text } ∷ [])
     (sym c.deref.ensures.value)))
@@ -39,6 +38,6 @@ returns-in-One-clause-survives g c =
       λ batches held. made (tables_of found batches)
           (ap (λ text. record { published = found.meta.published; instance = text } ∷ [])
           (sym c.deref.ensures.value))
-          (subst (λ version. StandsIn version old.now (tables_of found batches)) one held),
+          (subst (λ version. HoldsTablesIn version old.now (tables_of found batches)) one held),
     ))
     c.migrate_tables.ensures.survives

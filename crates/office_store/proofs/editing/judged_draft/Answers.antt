@@ -1,4 +1,4 @@
-use Rattle.std.proofs.Common.{rules, ◌≡◌, Err, Ok, subst, sym}
+use Rattle.std.proofs.Common.{rules, ◌≡◌, Err, subst, sym}
 use Rattle.office_store.specs.Editing.{Judges}
 use Rattle.office_store.proofs.EditCallLemmas.{is_judged, is_refused, there_of}
 use Rattle.office_store.proofs.editing.judged_draft.Goals as goal

@@ -3,7 +3,7 @@ use Rattle.exam_model.specs.Pairs.{Pair}
 use Rattle.exam_score.specs.Folds.{IsFoldOf, RepresentsPairs, pairs_sat}
 use Rattle.office_store.proofs.folding.fold_exams.Given as goal
 
--- her exams so far are taken in
+-- the student's exams so far are taken
 abbrev pub invariant-loop-exam : goal.invariant-loop-exam
 invariant-loop-exam l = record {
   stands : (pairs : List Pair) → RepresentsPairs l.fn.fold pairs

@@ -5,7 +5,7 @@ use Rattle.office_store.specs.FoldReads.{HasRead, RowsUnchanged}
 use Rattle.office_store.specs.Folding.{HasTaken}
 use Rattle.office_store.proofs.folding.fold_students.Given as goal
 
--- the students before the rest are taken in
+-- the students before the rest are taken
 abbrev pub invariant-each : goal.invariant-each
 invariant-each g l = record {
   taken : HasTaken g.S.Store l.fn.conn l.conn l.fold l.count l.students l.rest;

@@ -24,7 +24,7 @@ returns-clause-fault g c E had =
     (λ k t h. some_is _ _ _ c.in-Some.is (c.in-Ok.ensures.in_order k t h)) in
     c.exams_in_order.ensures.fault (exams_sat E s) (c.deref.ensures.value ∙ rows) (sat_up E s)
 
--- over a clean disk her rows have a reading
+-- over a clean disk the student's rows are valid
 pub returns-in_default-found-clause-fault : goal.returns-in_default-found-clause-fault
 returns-in_default-found-clause-fault g c E had =
     let read = rows_fit g.S.Store c.args.conn.now c.find_enrols_of.new.conn E had c.get.result

@@ -10,7 +10,7 @@ use Rattle.office_model.specs.declared.fault.StoreFault.TheVariants.{BadSchema}
 use Rattle.office_records.specs.FoundBatches.{IsShort}
 use Rattle.office_store.proofs.kept_bytes.check_batch.Goals as goal
 
--- what is refused for what is not so
+-- a refusal for a property that doesn't hold
 refused : {X P Q : Type 0} (r : Result X StoreFault) → (Q → P) → OnErr r (P → ⊥)
     → IfErr r (λ e. e ≡ BadSchema → Q → ⊥)
 refused (Ok x) f not = tt

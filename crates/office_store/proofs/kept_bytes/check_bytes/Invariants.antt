@@ -3,7 +3,7 @@ use Rattle.std.specs.List.{AllByRecursion}
 use Rattle.sqlite.specs.Held.{state}
 use Rattle.sqlite.specs.State.{HasCleanDisk, IsUnchanged, Survives}
 use Rattle.office_tables.specs.Tables.{Tables}
-use Rattle.office_tables.specs.Standing.{StandsIn}
+use Rattle.office_tables.specs.TablesHeld.{HoldsTablesIn}
 use Rattle.office_tables.specs.declared.version.Version.{Version}
 use Rattle.office_tables.specs.declared.batch.BatchCountsRow.{BatchCountsRow}
 use Rattle.office_records.specs.FoundBatches.{IsShort}
@@ -17,9 +17,9 @@ invariant-batches g l =
       clean : HasCleanDisk now → HasCleanDisk old;
       survives : Survives old now (λ _. ⊥);
       mode : l.fn.conn.in_transaction ≡ false → l.conn.in_transaction ≡ false;
-      same : HasCleanDisk now → (version : Version) (t : Tables) → StandsIn version old.now t
+      same : HasCleanDisk now → (version : Version) (t : Tables) → HoldsTablesIn version old.now t
           → (l.conn ≡ l.fn.conn) ⊎ IsUnchanged old now;
-      short : HasCleanDisk now → (version : Version) (t : Tables) → StandsIn version old.now t
+      short : HasCleanDisk now → (version : Version) (t : Tables) → HoldsTablesIn version old.now t
           → All (λ (row : BatchCountsRow).
           AllByRecursion IsShort (filter (λ b. b.no == row.no) t.batch))
           (take l.row-index l.batches);

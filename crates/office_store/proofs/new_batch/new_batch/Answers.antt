@@ -4,7 +4,7 @@ use Rattle.office_enrolment.specs.AfterBatch.{Refuses, acting, after_batch, late
 use Rattle.office_enrolment.proofs.OfficeLemmas.{exams_after}
 use Rattle.office_store.specs.NewBatches.{Enrols, put_line}
 use Rattle.office_store.specs.declared.new_batch.PutLine.{PutLine}
-use Rattle.office_store.proofs.NewBatchLemmas.{latest_drafts, lines_refuse, made_exams, no_room}
+use Rattle.office_store.proofs.NewBatchLemmas.{latest_drafts, lines_refuse, made_exams, made_others, memory_scored, no_room}
 use Rattle.office_store.proofs.NewBatchLemmas.{same_enrolled, taken_back}
 use Rattle.office_store.proofs.new_batch.new_batch.Goals as goal
 
@@ -30,9 +30,13 @@ returns-then-memory-clause-enrols c db r kept memory is_memory number bytes =
 
 pub drafts_after-requires : goal.drafts_after-requires
 drafts_after-requires c = record {
+  before = c.requires.exams;
   exams = made_exams c.in_ok-made.made.enrolments c.args.enrolments.now _
       (exams_after c.args.changes.now c.args.enrolments.now _ c.in_ok-made.ensures.ok
       ∙ c.requires.exams);
+  others = made_others c.args.changes.now c.args.enrolments.now c.in_ok-made.made.enrolments
+      c.in_ok-made.made.counts c.in_ok-made.made.acting.items c.pairs-kept.ensures.kept
+      c.in_ok-made.ensures.ok c.in_ok-made.ensures.acting;
   suited = c.requires.suited;
 }
 
@@ -57,7 +61,10 @@ returns-clause-enrols c db r kept memory is_memory =
           (made_exams made.enrolments c.args.enrolments.now _
           (exams_after changes c.args.enrolments.now _ c.in_ok-made.ensures.ok
           ∙ c.requires.exams))
-          c.in_ok-rescored.ensures c.in_ok-drafts.ensures.rows
+          (c.in_ok-rescored.ensures.rescored
+          (memory_scored r c.args.memory.now c.args.instance.now c.args.enrolments.now is_memory
+          memory))
+          c.in_ok-drafts.ensures.rows
           (λ none. some (c.in_ok-lines.ensures
           ∙ ap (map put_line) (c.deref.ensures.value ∙ c.in_ok-made.ensures.copied.0 none)));
     }

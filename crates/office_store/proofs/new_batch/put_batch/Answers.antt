@@ -2,7 +2,7 @@ use Rattle.std.proofs.Common.{ap, arith, length, subst, ◌≡◌}
 use Rattle.std.proofs.lemmas.List.{nil_from_length}
 use Rattle.std.proofs.lemmas.Bool.Decides.{nat_tests}
 use Rattle.sqlite.specs.Held.{state}
-use Rattle.office_tables.specs.Standing.{Stands}
+use Rattle.office_tables.specs.TablesHeld.{HoldsTables}
 use Rattle.office_store.proofs.BatchPuttingLemmas.{batch_made, idle_made}
 use Rattle.sqlite.proofs.StateLemmas.{survives_weaker}
 use Rattle.office_tables.specs.Alterations.{HoldsChanged}
@@ -18,7 +18,7 @@ returns-clause-done g c clean =
       was_open = done.was_open;
       is_open = done.is_open;
       committed = done.committed;
-      makes = λ t held. subst (Stands db)
+      makes = λ t held. subst (HoldsTables db)
           (batch_made c.args.number c.args.text.now c.args.new.now _ _ c.deref-2.ensures.value
           c.deref.ensures.value
           (λ none. grind (arith, nat_tests, c.if-is_empty.ensures, ap length none)) t)
@@ -33,7 +33,7 @@ returns-in_err-transact-clause-survives g c =
     survives_weaker (state g.S.Store c.args.conn.now) (state g.S.Store c.transact.new.conn) _
     (HoldsChanged (new_batch_put c.args.number c.args.text.now c.args.new.now)
     (state g.S.Store c.args.conn.now))
-    (λ _ found changed t held. subst (Stands (found_in found))
+    (λ _ found changed t held. subst (HoldsTables (found_in found))
     (idle_made c.args.number c.args.text.now c.args.new.now none t) (changed t held))
     c.transact.ensures.survives
 
@@ -45,7 +45,7 @@ returns-then-is_empty-clause-survives g c =
     survives_weaker (state g.S.Store c.args.conn.now) (state g.S.Store c.transact.new.conn) _
     (HoldsChanged (new_batch_put c.args.number c.args.text.now c.args.new.now)
     (state g.S.Store c.args.conn.now))
-    (λ _ found changed t held. subst (Stands (found_in found))
+    (λ _ found changed t held. subst (HoldsTables (found_in found))
     (idle_made c.args.number c.args.text.now c.args.new.now none t) (changed t held))
     c.transact.ensures.survives
 
@@ -54,7 +54,7 @@ returns-in_err-transact-2-clause-survives g c =
     survives_weaker (state g.S.Store c.args.conn.now) (state g.S.Store c.transact-2.new.conn) _
     (HoldsChanged (new_batch_put c.args.number c.args.text.now c.args.new.now)
     (state g.S.Store c.args.conn.now))
-    (λ _ found changed t held. subst (Stands (found_in found))
+    (λ _ found changed t held. subst (HoldsTables (found_in found))
     (batch_made c.args.number c.args.text.now c.args.new.now _ _ c.deref-2.ensures.value
     c.deref.ensures.value
     (λ none. grind (arith, nat_tests, c.if-is_empty.ensures, ap length none)) t) (changed t held))
@@ -65,7 +65,7 @@ returns-clause-survives g c =
     survives_weaker (state g.S.Store c.args.conn.now) (state g.S.Store c.transact-2.new.conn) _
     (HoldsChanged (new_batch_put c.args.number c.args.text.now c.args.new.now)
     (state g.S.Store c.args.conn.now))
-    (λ _ found changed t held. subst (Stands (found_in found))
+    (λ _ found changed t held. subst (HoldsTables (found_in found))
     (batch_made c.args.number c.args.text.now c.args.new.now _ _ c.deref-2.ensures.value
     c.deref.ensures.value
     (λ none. grind (arith, nat_tests, c.if-is_empty.ensures, ap length none)) t) (changed t held))

@@ -1,6 +1,6 @@
 use Rattle.std.proofs.Common.{Ok, subst}
 use Rattle.sqlite.specs.Held.{state}
-use Rattle.office_tables.specs.Standing.{Stands}
+use Rattle.office_tables.specs.TablesHeld.{HoldsTables}
 use Rattle.office_store.specs.PublicationChanges.{places_put}
 use Rattle.office_store.proofs.PublishLemmas.{places_made}
 use Rattle.office_store.proofs.StepLemmas.{changes_as, changes_then}
@@ -11,7 +11,7 @@ returns-clause-makes g c =
     let new = c.args.new.now in
     changes_as g.S.Store _ (places_put new) c.args.tx.now.conn.now c.apply-2.new.tx.conn.now
     c.apply-2.result
-    (λ t. subst (Stands (state g.S.Store c.apply-2.new.tx.conn.now).now) (places_made new _ _ _ _
+    (λ t. subst (HoldsTables (state g.S.Store c.apply-2.new.tx.conn.now).now) (places_made new _ _ _ _
     c.deref.ensures.value c.deref-2.ensures.value c.deref-3.ensures.value c.deref-4.ensures.value t))
     (changes_then g.S.Store _ _ c.args.tx.now.conn.now c.apply.new.tx.conn.now
     c.apply-2.new.tx.conn.now c.apply-2.result

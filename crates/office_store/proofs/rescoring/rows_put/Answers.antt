@@ -1,4 +1,4 @@
-use Rattle.std.proofs.Common.{None, ap, arith, map, subst, sym}
+use Rattle.std.proofs.Common.{None, arith, map, subst, sym}
 use Rattle.std.specs.List.{AllByRecursion}
 use Rattle.std.proofs.lemmas.List.Elements.{All-from_recursion}
 use Rattle.office_tables.specs.Draft.{AreAmounts}

@@ -3,7 +3,7 @@ use Rattle.sqlite.specs.Held.{state}
 use Rattle.sqlite.specs.State.{Survives}
 use Rattle.office_store.proofs.LeavingLemmas.{made_survive}
 use Rattle.office_tables.specs.Schema.{IsBlank, no_schema}
-use Rattle.office_tables.specs.Standing.{Stands}
+use Rattle.office_tables.specs.TablesHeld.{HoldsTables}
 use Rattle.office_tables.specs.Tables.{empty_tables}
 use Rattle.office_store.specs.Leaving.{found_in}
 use Rattle.office_store.proofs.transactions.make_tables.Goals as goal
@@ -13,7 +13,7 @@ returns-in_err-commit-clause-survives g c =
     let old = c.args.conn.now in
     let same : c.commit.new.self.0 ≡ c.conn-2-1.given.0 = search rules in
     subst (λ h. Survives (state g.S.Store old) (state g.S.Store h)
-    (λ found. IsBlank no_schema (state g.S.Store old).now → Stands (found_in found) empty_tables))
+    (λ found. IsBlank no_schema (state g.S.Store old).now → HoldsTables (found_in found) empty_tables))
     same
     (made_survive g.S.Store old c.transaction-tx.result.conn.now c.create_tables.new.tx.conn.now
     c.commit.new.self.0 c.transaction-tx.ensures.begun c.create_tables.ensures.within
@@ -24,7 +24,7 @@ returns-clause-survives g c =
     let old = c.args.conn.now in
     let same : c.commit.new.self.0 ≡ c.conn-2-1.given.0 = search rules in
     subst (λ h. Survives (state g.S.Store old) (state g.S.Store h)
-    (λ found. IsBlank no_schema (state g.S.Store old).now → Stands (found_in found) empty_tables))
+    (λ found. IsBlank no_schema (state g.S.Store old).now → HoldsTables (found_in found) empty_tables))
     same
     (made_survive g.S.Store old c.transaction-tx.result.conn.now c.create_tables.new.tx.conn.now
     c.commit.new.self.0 c.transaction-tx.ensures.begun c.create_tables.ensures.within

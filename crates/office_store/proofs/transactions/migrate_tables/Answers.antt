@@ -3,7 +3,7 @@ use Rattle.sqlite.specs.Held.{state}
 use Rattle.sqlite.specs.State.{HasCleanDisk, Survives}
 use Rattle.office_store.proofs.LeavingLemmas.{migrated_survive, migrated_turned, migrated_undone}
 use Rattle.office_tables.specs.Alterations.{Undone}
-use Rattle.office_tables.specs.Standing.{Stands, StandsBefore}
+use Rattle.office_tables.specs.TablesHeld.{HoldsTables, HoldsOldTables}
 use Rattle.office_tables.specs.Tables.{Meta, Tables}
 use Rattle.office_tables.proofs.LookLemmas.{on_err}
 use Rattle.office_store.specs.Leaving.{found_in}
@@ -16,7 +16,7 @@ returns-in_err-commit-clause-survives g c =
     let row : Meta = record { published = c.args.published; instance = c.args.instance.now } in
     let same : c.commit.new.self.0 ≡ c.conn-2-1.given.0 = search rules in
     subst (λ h. Survives (state g.S.Store old) (state g.S.Store h) (λ found. (t : Tables)
-    → t.meta ≡ row ∷ [] → StandsBefore (state g.S.Store old).now t → Stands (found_in found) t))
+    → t.meta ≡ row ∷ [] → HoldsOldTables (state g.S.Store old).now t → HoldsTables (found_in found) t))
     same
     (migrated_survive g.S.Store old c.transaction-tx.result.conn.now c.migrate.new.tx.conn.now
     c.commit.new.self.0 c.transaction-tx.ensures.begun c.migrate.ensures.within
@@ -28,7 +28,7 @@ returns-clause-survives g c =
     let row : Meta = record { published = c.args.published; instance = c.args.instance.now } in
     let same : c.commit.new.self.0 ≡ c.conn-2-1.given.0 = search rules in
     subst (λ h. Survives (state g.S.Store old) (state g.S.Store h) (λ found. (t : Tables)
-    → t.meta ≡ row ∷ [] → StandsBefore (state g.S.Store old).now t → Stands (found_in found) t))
+    → t.meta ≡ row ∷ [] → HoldsOldTables (state g.S.Store old).now t → HoldsTables (found_in found) t))
     same
     (migrated_survive g.S.Store old c.transaction-tx.result.conn.now c.migrate.new.tx.conn.now
     c.commit.new.self.0 c.transaction-tx.ensures.begun c.migrate.ensures.within
@@ -40,7 +40,7 @@ returns-clause-done g c =
     let row : Meta = record { published = c.args.published; instance = c.args.instance.now } in
     let same : c.commit.new.self.0 ≡ c.conn-2-1.given.0 = search rules in
     subst (λ h. HasCleanDisk (state g.S.Store h) → (t : Tables) → t.meta ≡ row ∷ []
-    → Turned (λ db. StandsBefore db t) (λ db. Stands db t) (state g.S.Store old) (state g.S.Store h))
+    → Turned (λ db. HoldsOldTables db t) (λ db. HoldsTables db t) (state g.S.Store old) (state g.S.Store h))
     same
     (migrated_turned g.S.Store old c.transaction-tx.result.conn.now c.migrate.new.tx.conn.now
     c.commit.new.self.0 c.transaction-tx.ensures.begun c.migrate.ensures.within

@@ -1,8 +1,8 @@
 use Rattle.std.proofs.Common.{◌≡◌, ◌⊎◌, inr, refl, Bool, Err, Ok, true, false, not, rules, subst, sym}
 use Rattle.office_model.specs.declared.fault.StoreFault.TheVariants.{Store}
 use Rattle.sqlite.specs.Held.{state}
-use Rattle.sqlite.specs.State.{HasCleanDisk, IsUnchanged}
-use Rattle.office_tables.specs.declared.version.Version.TheVariants.{One, Two}
+use Rattle.sqlite.specs.State.{IsUnchanged}
+use Rattle.office_tables.specs.declared.version.Version.TheVariants.{Two}
 use Rattle.office_store.proofs.AdoptLemmas.{awake_still, held_still, may_migrate, one_version}
 use Rattle.office_store.proofs.AdoptLemmas.{taken_over, undone_after, undone_reading}
 use Rattle.office_store.proofs.LeavingLemmas.{survives_more, survives_same}
@@ -26,7 +26,7 @@ returns-in-Ok-bring_up-clause-adopted g c clean =
     let is = c.in-Ok.ensures.kept clean_mid in
     taken_over (state g.S.Store old).now _ _ _ is
     (c.in-Ok-bring_up.ensures.tables clean is.batches
-    (held_still g.S.Store old c.kept_in.new.conn _ _ (c.in-Ok.ensures.same clean_mid) is.tables))
+    (held_still g.S.Store old c.found_office.new.conn _ _ (c.in-Ok.ensures.same clean_mid) is.tables))
 
 pub invariant_of-result : goal.invariant_of-result
 invariant_of-result g c = (
@@ -37,7 +37,7 @@ invariant_of-result g c = (
       let is = c.in-Ok.ensures.kept clean_mid in
       let taken = taken_over (state g.S.Store old).now _ _ _ is
       (c.in-Ok-bring_up.ensures.tables clean is.batches
-      (held_still g.S.Store old c.kept_in.new.conn _ _ (c.in-Ok.ensures.same clean_mid) is.tables))
+      (held_still g.S.Store old c.found_office.new.conn _ _ (c.in-Ok.ensures.same clean_mid) is.tables))
       in
       (is.office, taken.stands is.office (_, is.kept, is.weighs), is.in_memory),
   c.in-Ok.ensures.together,
@@ -57,34 +57,34 @@ returns-in-Ok-bring_up-clause-leaves g c = record {
   all_committed = λ clean.
       let clean_mid = c.bring_up.ensures.clean clean in
       c.in-Ok-bring_up.ensures.all_committed clean
-      (awake_still g.S.Store c.args.conn c.kept_in.new.conn (c.in-Ok.ensures.same clean_mid)
+      (awake_still g.S.Store c.args.conn c.found_office.new.conn (c.in-Ok.ensures.same clean_mid)
       (c.is_autocommit.ensures.settled c.if-not-is_autocommit.false)
       (c.in-Ok.ensures.open clean_mid));
-  survives = may_migrate g.S.Store c.args.conn c.kept_in.new.conn c.bring_up.new.conn _ _
+  survives = may_migrate g.S.Store c.args.conn c.found_office.new.conn c.bring_up.new.conn _ _
       (Ok c.bring_up.new.conn) tt
       c.bring_up.ensures.clean c.in-Ok.ensures.same c.in-Ok.ensures.kept
-      c.kept_in.ensures.survives c.bring_up.ensures.survives;
+      c.found_office.ensures.survives c.bring_up.ensures.survives;
 }
 
 pub returns-clause-leaves : goal.returns-clause-leaves
 returns-clause-leaves g c = record {
   all_committed = search rules;
-  survives = may_migrate g.S.Store c.args.conn c.kept_in.new.conn c.bring_up.new.conn _ _
+  survives = may_migrate g.S.Store c.args.conn c.found_office.new.conn c.bring_up.new.conn _ _
       (Err (Store, c.bring_up.new.conn)) refl
       c.bring_up.ensures.clean c.in-Ok.ensures.same c.in-Ok.ensures.kept
-      c.kept_in.ensures.survives c.bring_up.ensures.survives;
+      c.found_office.ensures.survives c.bring_up.ensures.survives;
 }
 
 pub returns-clause-undone : goal.returns-clause-undone
 returns-clause-undone g c =
-    inr (λ clean. undone_after g.S.Store c.args.conn c.kept_in.new.conn c.bring_up.new.conn
+    inr (λ clean. undone_after g.S.Store c.args.conn c.found_office.new.conn c.bring_up.new.conn
     (c.in-Ok.ensures.same (c.bring_up.ensures.clean clean)) (c.in-Err-bring_up.ensures.undone clean))
 
 pub returns-in-Err-clause-leaves : goal.returns-in-Err-clause-leaves
 returns-in-Err-clause-leaves g c = record {
   all_committed = search rules;
-  survives = survives_more (state g.S.Store c.args.conn) (state g.S.Store c.kept_in.new.conn) _
-      c.kept_in.ensures.survives;
+  survives = survives_more (state g.S.Store c.args.conn) (state g.S.Store c.found_office.new.conn) _
+      c.found_office.ensures.survives;
 }
 
 pub returns-in-Err-clause-no_office : goal.returns-in-Err-clause-no_office
@@ -92,7 +92,7 @@ returns-in-Err-clause-no_office g c bad clean o holds = c.in-Err.ensures.none cl
 
 pub returns-in-Err-clause-undone : goal.returns-in-Err-clause-undone
 returns-in-Err-clause-undone g c =
-    inr (λ clean. undone_reading (state g.S.Store c.args.conn) (state g.S.Store c.kept_in.new.conn)
+    inr (λ clean. undone_reading (state g.S.Store c.args.conn) (state g.S.Store c.found_office.new.conn)
     (c.is_autocommit.ensures.settled c.if-not-is_autocommit.false) (c.in-Err.ensures.keeps clean))
 
 pub returns-then-not-is_autocommit-clause-leaves

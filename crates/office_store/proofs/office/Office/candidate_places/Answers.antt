@@ -1,7 +1,7 @@
 use Rattle.std.proofs.Common.{◌≡◌, ap, arith, map, not, subst, ◌∙◌}
 use Rattle.sqlite.specs.Held.{state}
 use Rattle.office_model.specs.ViewRows.{places_in}
-use Rattle.office_store.specs.OfficeRows.{published_in}
+use Rattle.office_records.specs.Memory.{published_in}
 use Rattle.office_store.specs.Viewing.{exams_in, place_in_row}
 use Rattle.office_store.proofs.RunLemmas.{kept_read, rest_read}
 use Rattle.office_store.proofs.ViewLemmas.{places_read}

@@ -3,7 +3,7 @@ use Rattle.sqlite.specs.Held.{state}
 use Rattle.exam_publish.specs.Changed.{rows_of}
 use Rattle.office_model.specs.Publishing.{publication_rows}
 use Rattle.office_records.specs.Publications.{stored_seat}
-use Rattle.office_store.specs.OfficeRows.{published_in}
+use Rattle.office_records.specs.Memory.{published_in}
 use Rattle.office_store.proofs.RunLemmas.{kept_read, rest_read}
 use Rattle.office_store.proofs.ViewLemmas.{candidate_seats_read}
 use Rattle.office_store.proofs.LeavingLemmas.{survives_at}

@@ -1,8 +1,9 @@
-use Rattle.std.proofs.Common.{rules, refl, sym, Err, None, Ok, ◌≡◌}
+use Rattle.std.proofs.Common.{rules, refl, sym, ap, Err, None, Ok, ◌≡◌}
 use Rattle.office_tables.specs.Tables.{empty_tables}
 use Rattle.sqlite.specs.Held.{state}
 use Rattle.office_store.proofs.LeavingLemmas.{survives_more, survives_same, may_make}
 use Rattle.office_tables.specs.Schema.{no_schema}
+use Rattle.office_records.specs.FoundPublications.{publication_from}
 use Rattle.office_model.specs.declared.fault.StoreFault.TheVariants.{Store}
 use Rattle.office_store.proofs.TogetherLemmas.{unloaded_together}
 use Rattle.office_store.proofs.office.Office.create.Goals as goal
@@ -23,9 +24,11 @@ invariant_of-result g c = (
       session = sym c.new.ensures.kept;
       batches = sym c.new.ensures.batches;
       drafts = c.new.ensures.drafts;
+      published = sym (ap publication_from c.new.ensures.published);
     },
   ),
-  unloaded_together c.new.result c.new.ensures.kept c.new.ensures.drafts,
+  unloaded_together c.new.result c.new.ensures.kept c.new.ensures.drafts
+      c.new.ensures.published,
 )
 
 pub returns-in-Ok-clause-made : goal.returns-in-Ok-clause-made

@@ -1,7 +1,7 @@
 use Rattle.std.proofs.Common.{◌≡◌, ◌∙◌, Ok, Some, None, ap, rules, sym, subst}
 use Rattle.std.proofs.lemmas.Result.{on_err_weaker}
 use Rattle.sqlite.specs.Held.{state}
-use Rattle.office_model.specs.Batches.{batch_enrolled, kept_in}
+use Rattle.office_model.specs.Batches.{batch_enrolled, batch_of_number}
 use Rattle.office_store.specs.NewBatches.{IsRowOf}
 use Rattle.office_store.specs.Running.{CommandOutcome, Represents}
 use Rattle.office_store.proofs.CommandLemmas.{stays_by}
@@ -24,10 +24,10 @@ returns-in-Some-clause-runs g c clean o now =
     (subst (CommandOutcome (batch_enrolled c.args.number c.args.text.now o) o (λ new. new ≡ o))
     (sym c.first_answer.ensures)
     (again_does o c.args.number c.args.text.now _ c.in-Some.row c.in-Ok.ensures.exact
-    (subst (IsRowOf (kept_in o c.args.number)) found (c.in_ok-kept.ensures.row clean o here))))
+    (subst (IsRowOf (batch_of_number o c.args.number)) found (c.in_ok-kept.ensures.row clean o here))))
     (λ _. here)
 
--- one that isn't
+-- a number that isn't kept
 pub returns-clause-runs : goal.returns-clause-runs
 returns-clause-runs g c clean o now =
     c.enrol_new.ensures.runs clean o
@@ -50,7 +50,7 @@ enrol_new-requires g c = record {
   is_new = λ clean o kept.
       let none : c.in_ok-kept.kept ≡ None = search rules in
       no_row_of o c.args.number
-      (subst (IsRowOf (kept_in o c.args.number)) none (c.in_ok-kept.ensures.row clean o kept));
+      (subst (IsRowOf (batch_of_number o c.args.number)) none (c.in_ok-kept.ensures.row clean o kept));
   all_committed = λ clean. c.in_ok-kept.ensures.all_committed clean;
 }
 

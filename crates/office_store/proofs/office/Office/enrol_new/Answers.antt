@@ -1,13 +1,12 @@
-use Rattle.std.proofs.Common.{rules, ◌≡◌, Err, None, Ok, ap, arith, not, refl, sym, subst, ◌∙◌}
-use Rattle.std.proofs.lemmas.Result.{err_from_is_err_and}
+use Rattle.std.proofs.Common.{rules, ◌≡◌, Err, None, Ok, arith, refl, sym, subst}
 use Rattle.sqlite.specs.Held.{state}
-use Rattle.office_model.specs.Batches.{batch_enrolled, kept_in}
+use Rattle.office_model.specs.Batches.{batch_enrolled, batch_of_number}
 use Rattle.office_model.specs.declared.fault.StoreFault.TheVariants.{NotLoaded}
 use Rattle.office_store.specs.NewBatches.{new_batch_put}
 use Rattle.office_store.specs.Running.{CommandRan}
 use Rattle.office_records.specs.Memory.{AreTogether}
 use Rattle.office_store.proofs.BatchPuttingLemmas.{enrol_denied, enrol_moves, enrol_remembers}
-use Rattle.office_store.proofs.CommandLemmas.{awake_inside, not_loaded, refuses, rests}
+use Rattle.office_store.proofs.CommandLemmas.{not_loaded, refuses, rests}
 use Rattle.office_store.proofs.CommandLemmas.{runs, seen}
 use Rattle.office_store.proofs.TogetherLemmas.{renewed_together}
 use Rattle.office_store.proofs.LeavingLemmas.{survives_more, survives_same}
@@ -53,7 +52,7 @@ returns-clause-runs g c =
     new.counts c.put_batch.ensures.clean
     (λ k. enrol_moves number text changes c.requires.spelled c.in-Some.instance
     c.in-Some.enrolments (state g.S.Store inside).now c.self.inside.memory c.in-Some.is
-    (seen g.S.Store start inside c.self.view_is (λ o. kept_in o number ≡ None)
+    (seen g.S.Store start inside c.self.view_is (λ o. batch_of_number o number ≡ None)
     c.requires.is_new (c.put_batch.ensures.clean k))
     c.requires.number
     (λ E done is.
@@ -84,7 +83,7 @@ invariant_of-self-2 g c =
           c.put_batch.ensures.clean (λ k. (c.in_ok-put_batch.ensures.done k).was_open)
           (λ k. enrol_moves number text changes c.requires.spelled I E
           (state g.S.Store inside).now c.self.inside.memory c.in-Some.is
-          (seen g.S.Store start inside c.self.view_is (λ o. kept_in o number ≡ None)
+          (seen g.S.Store start inside c.self.view_is (λ o. batch_of_number o number ≡ None)
           c.requires.is_new (c.put_batch.ensures.clean k))
           c.requires.number
           (λ E done is.
@@ -98,7 +97,7 @@ invariant_of-self-2 g c =
           (c.in_ok-put_batch.ensures.done k).makes)
           (λ k. enrol_remembers number text changes c.requires.spelled I E
           (state g.S.Store inside).now c.self.inside.memory c.in-Some.is
-          (seen g.S.Store start inside c.self.view_is (λ o. kept_in o number ≡ None)
+          (seen g.S.Store start inside c.self.view_is (λ o. batch_of_number o number ≡ None)
           c.requires.is_new (c.put_batch.ensures.clean k))
           c.requires.number
           (λ E done is.
@@ -109,10 +108,11 @@ invariant_of-self-2 g c =
           c.batch_leaves_an_office.ensures number text old after counts c.requires.number is gives)
           (state g.S.Store after).now new
           (λ r here is memory. c.in_ok-new.ensures.enrols _ r here is memory)
-          c.renew.new.self c.renew.ensures.batches renewed c.in_ok-new.ensures.rescored),
+          c.renew.new.self c.renew.ensures.batches c.renew.ensures.published renewed
+          c.in_ok-new.ensures.rescored),
       renewed_together c.self.inside.memory c.renew.new.self I E c.in-Some.is c.self.invariant.2
-          new.enrolments new.rescored renewed c.in_ok-new.ensures.exams
-          c.in_ok-new.ensures.rescored,
+          new.enrolments new.rescored renewed c.renew.ensures.published c.in_ok-new.ensures.exams
+          c.in_ok-new.ensures.suited,
     )
 
 pub new_batch-requires : goal.new_batch-requires
@@ -157,7 +157,7 @@ returns-in_err-put_batch-clause-leaves g c = record {
       (new_batch_put number text new) new.counts c.put_batch.ensures.survives
       (λ k found changed. enrol_moves number text changes c.requires.spelled c.in-Some.instance
       c.in-Some.enrolments (state g.S.Store inside).now c.self.inside.memory c.in-Some.is
-      (seen g.S.Store start inside c.self.view_is (λ o. kept_in o number ≡ None)
+      (seen g.S.Store start inside c.self.view_is (λ o. batch_of_number o number ≡ None)
       c.requires.is_new (c.put_batch.ensures.clean k))
       c.requires.number
       (λ E done is.
@@ -186,7 +186,7 @@ returns-clause-leaves g c = record {
       (new_batch_put number text new) new.counts c.put_batch.ensures.survives
       (λ k found changed. enrol_moves number text changes c.requires.spelled c.in-Some.instance
       c.in-Some.enrolments (state g.S.Store inside).now c.self.inside.memory c.in-Some.is
-      (seen g.S.Store start inside c.self.view_is (λ o. kept_in o number ≡ None)
+      (seen g.S.Store start inside c.self.view_is (λ o. batch_of_number o number ≡ None)
       c.requires.is_new (c.put_batch.ensures.clean k))
       c.requires.number
       (λ E done is.

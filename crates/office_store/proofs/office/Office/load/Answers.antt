@@ -58,12 +58,14 @@ invariant_of-self-2 g c =
           (λ k. load_remembers c.args.text.now I E c.counts_of-loaded.result _
           c.self.inside.memory c.of_session.result c.in-Ok.ensures.exact
           c.counts_of-loaded.ensures.counts no c.of_session.ensures.kept
-          c.of_session.ensures.batches c.of_session.ensures.drafts),
+          c.of_session.ensures.batches c.of_session.ensures.drafts
+          c.of_session.ensures.published),
       loaded_together I E c.of_session.result c.of_session.ensures.kept
-          (as_many c.args.text.now I E c.in-Ok.ensures.reading) c.of_session.ensures.drafts,
+          (as_many c.args.text.now I E c.in-Ok.ensures.reading) c.of_session.ensures.drafts
+          c.of_session.ensures.published,
     )
 
--- what was read is what the text spells
+-- what was read is the session of the text
 pub returns-clause-counts : goal.returns-clause-counts
 returns-clause-counts g c = (
   (c.in-Ok.read.0, c.in-Ok.read.1),

@@ -13,26 +13,26 @@ returns-then-is_bare-clause-found g c = if_ok c.create.result _ _ _
     subst (RepresentsOffice _) (sym (before_load _ there bare is)) (made clean))
     c.create.ensures.made c.create.ensures.bare
 
--- the office that was there is still there
+-- the office from before is still there
 pub returns-else-is_bare-clause-found : goal.returns-else-is_bare-clause-found
 returns-else-is_bare-clause-found g c = if_ok c.adopt.result _ _ _
     (λ office adopted _ clean there is stays. (adopted clean).stands there
     (holds _ there (fails _ _ c.is_bare.ensures.1 c.if-is_bare.false) is))
     c.adopt.ensures.adopted c.adopt.ensures.adopted
 
--- what was opened had no table
+-- the database had no table
 pub returns-then-is_bare-clause-stood : goal.returns-then-is_bare-clause-stood
 returns-then-is_bare-clause-stood g c = if_ok c.create.result _ _ _
     (λ office made bare clean. (None, inl (bare, refl)))
     c.create.ensures.made c.create.ensures.bare
 
--- or tables of an office
+-- the database had tables of an office
 pub returns-else-is_bare-clause-stood : goal.returns-else-is_bare-clause-stood
 returns-else-is_bare-clause-stood g c = if_ok c.adopt.result _ _ _
     (λ office adopted _ clean. ((adopted clean).office, inr (adopted clean).stood))
     c.adopt.ensures.adopted c.adopt.ensures.adopted
 
--- what is no office's database
+-- the database is not that of an office
 pub returns-else-is_bare-clause-refused : goal.returns-else-is_bare-clause-refused
 returns-else-is_bare-clause-refused g c = if_err c.adopt.result _ _ _
     (λ e fault no_office clean. or_none fault (λ wrong there is. no_office wrong clean there

@@ -1,0 +1,246 @@
+use Rattle.std.proofs.Common.{rules, ◌≡◌, Some, None, Result, Ok, Err, length, refl, sym, ◌∙◌, ap, inl, inr, subst}
+use Rattle.std.specs.Prelude.{IfErr, IsSome}
+use Rattle.std.specs.Result.{IsErrAnd}
+use Rattle.std.proofs.lemmas.List.{length-map}
+use Rattle.sqlite.specs.Held.{state}
+use Rattle.office_tables.specs.Adopting.{IsAdopted, tables_of}
+use Rattle.office_tables.specs.Batch.{counts_of}
+use Rattle.office_records.specs.declared.fault.RecordFault.{RecordFault}
+use Rattle.office_records.specs.declared.fault.RecordFault.TheVariants.{NoMemory, BadRows}
+use Rattle.office_records.proofs.ReadableLemmas.{not_foreign_in}
+use Rattle.office_records.specs.Faults.{store_fault}
+use Rattle.office_store.specs.Faults.{IsOfDatabase}
+use Rattle.office_store.specs.Opening.{WeighsNoNight}
+use Rattle.office_model.specs.declared.fault.StoreFault.{StoreFault}
+use Rattle.office_store.proofs.AdoptLemmas.{both_same, found_batches, held_still, keeps_still}
+use Rattle.office_store.proofs.AdoptLemmas.{open_still}
+use Rattle.office_store.proofs.AdoptLemmas.{none_long, none_refused, none_weighed}
+use Rattle.office_store.proofs.FoundDraftLemmas.{meaning}
+use Rattle.office_store.proofs.LeavingLemmas.{survives_on}
+use Rattle.office_store.proofs.AllDraftLemmas.{drafts_stand, found_drafts, found_together}
+use Rattle.office_store.proofs.InMemoryLemmas.{counted}
+use Rattle.office_store.proofs.adopting.found_office.Goals as goal
+
+-- the tables are not those of an office
+pub returns-in-Ok-None-clause-none : goal.returns-in-Ok-None-clause-none
+returns-in-Ok-None-clause-none g c clean bad o there =
+    let db = (state g.S.Store c.args.conn.now).now in
+    let none : c.in-Ok-None.field-0 ≡ None = search rules in
+    not_foreign_in there.0 db o there.1
+    (subst (IsAdopted db) none (c.in-Ok-None.ensures.found clean))
+
+pub returns-in_err-kept-clause-none : goal.returns-in_err-kept-clause-none
+returns-in_err-kept-clause-none g c clean =
+    let db = (state g.S.Store c.args.conn.now).now in
+    let found = c.in-Ok-Some.found in
+    let some : c.in-Ok-Some.field-0 ≡ Some found = search rules in
+    let adopted = subst (IsAdopted db) some (c.in-Ok-Some.ensures.found clean) in
+    meaning c.from_residual.result c.in_err-kept.field-0.0
+    c.from_residual.ensures.1
+    (λ bad o there. none_refused db found adopted.0 adopted.1 adopted.2 o there
+    (c.in_err-kept.ensures.none bad adopted.0 adopted.1))
+
+-- tables of version 1 have no weight for exams over night
+pub returns-in_err-check_weight-clause-none : goal.returns-in_err-check_weight-clause-none
+returns-in_err-check_weight-clause-none g c clean =
+    let db = (state g.S.Store c.args.conn.now).now in
+    let found = c.in-Ok-Some.found in
+    let some : c.in-Ok-Some.field-0 ≡ Some found = search rules in
+    let adopted = subst (IsAdopted db) some (c.in-Ok-Some.ensures.found clean) in
+    let is : c.from_residual-in_err-check_weight.result ≡ Err c.in_err-check_weight.field-0.0
+    = search rules in
+    rw is (λ bad o there. c.in_err-check_weight.ensures.none
+    (none_weighed db found adopted.0 adopted.1 adopted.2 o there c.in_ok-kept.kept.session
+    (λ these. let are = c.in_ok-kept.ensures.are adopted.0 these in
+    (are.0, are.1, are.2, are.3, are.4))))
+
+-- no office has a batch that is too long
+pub returns-in_err-check_bytes-clause-none : goal.returns-in_err-check_bytes-clause-none
+returns-in_err-check_bytes-clause-none g c clean =
+    let old = c.args.conn.now in
+    let mid = c.adopt_tables.new.conn in
+    let db = (state g.S.Store old).now in
+    let found = c.in-Ok-Some.found in
+    let some : c.in-Ok-Some.field-0 ≡ Some found = search rules in
+    let clean_mid = c.check_bytes.ensures.clean clean in
+    let adopted = subst (IsAdopted db) some (c.in-Ok-Some.ensures.found clean_mid) in
+    let held = held_still g.S.Store old mid found.version (tables_of found adopted.0)
+    (c.in-Ok-Some.ensures.same clean_mid) adopted.2 in
+    let long = c.in_err-check_bytes.ensures.long clean found.version (tables_of found adopted.0)
+    held in
+    let is : c.from_residual-in_err-check_bytes.result ≡ Err c.in_err-check_bytes.field-0.0
+    = search rules in
+    rw is (λ bad o there. long bad
+    (none_long db found adopted.0 adopted.1 adopted.2 o there))
+
+pub returns-in_err-check_bytes-clause-keeps : goal.returns-in_err-check_bytes-clause-keeps
+returns-in_err-check_bytes-clause-keeps g c clean =
+    let old = c.args.conn.now in
+    let mid = c.adopt_tables.new.conn in
+    let found = c.in-Ok-Some.found in
+    let some : c.in-Ok-Some.field-0 ≡ Some found = search rules in
+    let clean_mid = c.check_bytes.ensures.clean clean in
+    let adopted = subst (IsAdopted (state g.S.Store old).now) some
+    (c.in-Ok-Some.ensures.found clean_mid) in
+    let same = c.in-Ok-Some.ensures.same clean_mid in
+    let held = held_still g.S.Store old mid found.version (tables_of found adopted.0) same
+    adopted.2 in
+    keeps_still g.S.Store old mid c.check_bytes.new.conn same
+    (c.check_bytes.ensures.kept found.version clean (tables_of found adopted.0) held)
+
+pub returns-clause-keeps : goal.returns-clause-keeps
+returns-clause-keeps g c clean =
+    let old = c.args.conn.now in
+    let mid = c.adopt_tables.new.conn in
+    let found = c.in-Ok-Some.found in
+    let some : c.in-Ok-Some.field-0 ≡ Some found = search rules in
+    let clean_mid = c.check_bytes.ensures.clean clean in
+    let adopted = subst (IsAdopted (state g.S.Store old).now) some
+    (c.in-Ok-Some.ensures.found clean_mid) in
+    let same = c.in-Ok-Some.ensures.same clean_mid in
+    let held = held_still g.S.Store old mid found.version (tables_of found adopted.0) same
+    adopted.2 in
+    keeps_still g.S.Store old mid c.check_bytes.new.conn same
+    (c.check_bytes.ensures.kept found.version clean (tables_of found adopted.0) held)
+
+pub returns-clause-same : goal.returns-clause-same
+returns-clause-same g c clean =
+    let old = c.args.conn.now in
+    let mid = c.adopt_tables.new.conn in
+    let found = c.in-Ok-Some.found in
+    let some : c.in-Ok-Some.field-0 ≡ Some found = search rules in
+    let clean_mid = c.check_bytes.ensures.clean clean in
+    let adopted = subst (IsAdopted (state g.S.Store old).now) some
+    (c.in-Ok-Some.ensures.found clean_mid) in
+    let same = c.in-Ok-Some.ensures.same clean_mid in
+    let held = held_still g.S.Store old mid found.version (tables_of found adopted.0) same
+    adopted.2 in
+    both_same g.S.Store old mid c.check_bytes.new.conn same
+    (c.in_ok-check_bytes.ensures.same clean found.version (tables_of found adopted.0) held)
+
+pub returns-clause-open : goal.returns-clause-open
+returns-clause-open g c clean =
+    let old = c.args.conn.now in
+    let mid = c.adopt_tables.new.conn in
+    let found = c.in-Ok-Some.found in
+    let some : c.in-Ok-Some.field-0 ≡ Some found = search rules in
+    let clean_mid = c.check_bytes.ensures.clean clean in
+    let adopted = subst (IsAdopted (state g.S.Store old).now) some
+    (c.in-Ok-Some.ensures.found clean_mid) in
+    let same = c.in-Ok-Some.ensures.same clean_mid in
+    let held = held_still g.S.Store old mid found.version (tables_of found adopted.0) same
+    adopted.2 in
+    open_still g.S.Store mid c.check_bytes.new.conn
+    (c.in_ok-check_bytes.ensures.same clean found.version (tables_of found adopted.0) held)
+    (c.in-Ok-Some.ensures.open clean_mid (subst IsSome (sym some) refl))
+
+pub returns-clause-kept : goal.returns-clause-kept
+returns-clause-kept g c clean =
+    let old = c.args.conn.now in
+    let mid = c.adopt_tables.new.conn in
+    let db = (state g.S.Store old).now in
+    let found = c.in-Ok-Some.found in
+    let some : c.in-Ok-Some.field-0 ≡ Some found = search rules in
+    let clean_mid = c.check_bytes.ensures.clean clean in
+    let adopted = subst (IsAdopted db) some (c.in-Ok-Some.ensures.found clean_mid) in
+    let t = tables_of found adopted.0 in
+    let held = held_still g.S.Store old mid found.version t (c.in-Ok-Some.ensures.same clean_mid)
+    adopted.2 in
+    let short = c.in_ok-check_bytes.ensures.short clean found.version t held
+    (adopted.1 ∙ sym c.deref.ensures.value) in
+    let long : c.len.result ≡ length found.batches.items = search rules in
+    let are = c.in_ok-kept.ensures.are adopted.0
+    (found_batches db found adopted.0 adopted.1 adopted.2 short) in
+    record {
+      batches = adopted.0;
+      counted = adopted.1;
+      tables = adopted.2;
+      office = are.0;
+      kept = record {
+        held = t;
+        tables = adopted.2;
+        stands = are.1;
+        sound = are.2;
+        office = are.3;
+      };
+      weighs = subst (WeighsNoNight found.version) (sym are.4) c.in_ok-check_weight.ensures.are;
+      in_memory = record {
+        session = are.4;
+        batches = sym (counted t are.0 are.1) ∙ sym (length-map adopted.0 counts_of)
+            ∙ ap length adopted.1 ∙ sym long;
+        drafts = found_drafts t are.0 are.1 are.2 are.3 c.in_ok-kept.kept.session are.4
+            c.in_ok-drafts.drafts c.in_ok-drafts.ensures.are c.in_ok-drafts.ensures.none;
+        published = are.5;
+      };
+    }
+
+-- valid rows of drafts are not refused
+pub returns-in_err-drafts-clause-none : goal.returns-in_err-drafts-clause-none
+returns-in_err-drafts-clause-none g c clean =
+    let old = c.args.conn.now in
+    let mid = c.adopt_tables.new.conn in
+    let db = (state g.S.Store old).now in
+    let found = c.in-Ok-Some.found in
+    let some : c.in-Ok-Some.field-0 ≡ Some found = search rules in
+    let clean_mid = c.check_bytes.ensures.clean clean in
+    let adopted = subst (IsAdopted db) some (c.in-Ok-Some.ensures.found clean_mid) in
+    let t = tables_of found adopted.0 in
+    let held = held_still g.S.Store old mid found.version t (c.in-Ok-Some.ensures.same clean_mid)
+    adopted.2 in
+    let short = c.in_ok-check_bytes.ensures.short clean found.version t held
+    (adopted.1 ∙ sym c.deref.ensures.value) in
+    let are = c.in_ok-kept.ensures.are adopted.0
+    (found_batches db found adopted.0 adopted.1 adopted.2 short) in
+    let is : c.from_residual-in_err-drafts.result ≡ Err c.in_err-drafts.field-0.0
+    = search rules in
+    rw is (λ bad o kept. drafts_stand t are.0 are.1 are.2 are.3 c.in_ok-kept.kept.session are.4
+    (c.in_err-drafts.ensures.bad bad) c.in_err-drafts.ensures.loaded)
+
+pub returns-in_err-drafts-clause-keeps : goal.returns-in_err-drafts-clause-keeps
+returns-in_err-drafts-clause-keeps g c clean =
+    let old = c.args.conn.now in
+    let mid = c.adopt_tables.new.conn in
+    let found = c.in-Ok-Some.found in
+    let some : c.in-Ok-Some.field-0 ≡ Some found = search rules in
+    let clean_mid = c.check_bytes.ensures.clean clean in
+    let adopted = subst (IsAdopted (state g.S.Store old).now) some
+    (c.in-Ok-Some.ensures.found clean_mid) in
+    let same = c.in-Ok-Some.ensures.same clean_mid in
+    let held = held_still g.S.Store old mid found.version (tables_of found adopted.0) same
+    adopted.2 in
+    keeps_still g.S.Store old mid c.check_bytes.new.conn same
+    (c.check_bytes.ensures.kept found.version clean (tables_of found adopted.0) held)
+
+pub returns-in_err-drafts-clause-survives : goal.returns-in_err-drafts-clause-survives
+returns-in_err-drafts-clause-survives g c =
+    survives_on (state g.S.Store c.args.conn.now) (state g.S.Store c.adopt_tables.new.conn)
+    (state g.S.Store c.check_bytes.new.conn) c.adopt_tables.ensures.survives
+    c.check_bytes.ensures.survives
+
+pub returns-clause-together : goal.returns-clause-together
+returns-clause-together g c =
+    found_together _ c.in_ok-kept.ensures.together c.in_ok-drafts.ensures.suited
+    c.in_ok-kept.ensures.published
+
+of_database : {X : Type 0} (r : Result X StoreFault) (fault : RecordFault)
+    → IsErrAnd r (λ e. e ≡ store_fault fault) → IfErr r IsOfDatabase
+of_database (Ok x) fault is = tt
+of_database (Err e) NoMemory is = inl is
+of_database (Err e) BadRows is = inr is
+
+pub returns-in_err-kept-clause-fault : goal.returns-in_err-kept-clause-fault
+returns-in_err-kept-clause-fault g c =
+    of_database c.from_residual.result c.in_err-kept.field-0.0
+    c.from_residual.ensures.1
+
+pub returns-in_err-check_bytes-clause-survives : goal.returns-in_err-check_bytes-clause-survives
+returns-in_err-check_bytes-clause-survives g c =
+    survives_on (state g.S.Store c.args.conn.now) (state g.S.Store c.adopt_tables.new.conn)
+    (state g.S.Store c.check_bytes.new.conn) c.adopt_tables.ensures.survives
+    c.check_bytes.ensures.survives
+
+pub returns-clause-survives : goal.returns-clause-survives
+returns-clause-survives g c =
+    survives_on (state g.S.Store c.args.conn.now) (state g.S.Store c.adopt_tables.new.conn)
+    (state g.S.Store c.check_bytes.new.conn) c.adopt_tables.ensures.survives
+    c.check_bytes.ensures.survives
