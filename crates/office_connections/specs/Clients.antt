@@ -40,7 +40,7 @@ ServesWhileOpen Answers is_shut (v ∷ vs) old new =
     (is_shut old ≡ false) × (mid : _) × ServesVisit Answers v old mid
     × ServesWhileOpen Answers is_shut vs mid new
 
--- clients were served, one after another, and those faults that their connections ended with were
+-- clients were served, one after another, and the lines of the faults that ended connections were
 -- printed, unless a line could not be written
 pub record ServesClients {S : Type 0} (AreTheirs : List Visit → Type 0)
     (Serve : List Visit → S → S → Type 0) (service : Service) (old new : S)

@@ -31,7 +31,7 @@ PrintsFaults most old new =
 abbrev pub listening_line : ℕ → List ℕ
 listening_line port = codes "listening 127.0.0.1:" ++ decimal port ++ 10 ∷ []
 
--- the port that is listened on for a requested one: the same, or any for 0
+-- the port for a requested one: the same, or any for 0
 abbrev pub IsPortOf : ℕ → ℕ → Type 0
 IsPortOf asked port = (port ≤ MAX_PORT) × (asked ≢ 0 → port ≡ asked)
 

@@ -17,8 +17,7 @@ enum Awaited {
     Taking,
 }
 
-// How many seconds a client has at most to begin a message: while it sends nothing, all others
-// wait.
+// The most seconds that a client has to begin a message: while it sends nothing, all others wait.
 const SECONDS_TO_BEGIN: u64 = 5;
 
 // How long a client may take for each of its actions. A wait begins with the first call that waits,

@@ -8,7 +8,7 @@ use std::alloc::Global;
 use std::io::{Read, Result, Write};
 use std::time::{Clock, Duration};
 
-// Reads for at most the client's time. Its bytes are those of the inner reader.
+// Reads with the client's timeout. Its bytes are those of the inner reader.
 #[derive(Drop)]
 pub(crate) struct PacedReader<'a, C, R: Drop> {
     inner: R,
@@ -60,7 +60,7 @@ impl<C: Clock, R: Read + Timed + Drop> Read for PacedReader<'_, C, R> {
     }
 }
 
-// Writes for at most the client's time. Its bytes are written to the inner writer.
+// Writes with the client's timeout. Its bytes are written to the inner writer.
 #[derive(Drop)]
 pub(crate) struct PacedWriter<'a, C, W: Drop> {
     inner: W,

@@ -17,13 +17,13 @@ const TURNS: u64 = 430_000_000;
 const LAST_TURNS: u64 = 100_000;
 
 /// Serves a client as `serve` of office_messages does, in at most 430,000,000 reads, and returns
-/// the writer. The client has the lesser of 5 seconds and this timeout to begin a message, this
-/// timeout to send it from its first byte to its last, and this timeout to take each reply; after
-/// that the connection ends with an I/O error of the read or the write. Two waits are longer: if a
-/// message began in one piece with the message before, its time begins with the next piece; and the
-/// reply to a fault of head or framing in such a piece has the time left over by the reply before
-/// it. If the office ends the connection, it stops sending and reads on for at most this timeout,
-/// so that the replies arrive.
+/// the writer. The client has 5 seconds, or this timeout if that is shorter, to begin a message,
+/// this timeout to send it from its first byte to its last, and this timeout to take each reply;
+/// after that the connection ends with an I/O error of the read or the write. Two waits are longer:
+/// if a message began in one piece with the message before, its time begins with the next piece;
+/// and the reply to a fault of head or framing in such a piece has the time left over by the reply
+/// before it. If the office ends the connection, it stops sending and reads on for at most this
+/// timeout, so that the replies arrive.
 pub fn serve_client<C: Clock, M: Machine, R: Read + Timed + Drop, W: Write + Timed + Drop>(
     alloc: Global,
     clock: &C,

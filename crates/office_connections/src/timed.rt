@@ -1,9 +1,9 @@
-// Readers and writers whose calls can time out.
+// Readers and writers that can time out.
 use std::io::Result;
 use std::net::{Shutdown, TcpStream};
 use std::time::Duration;
 
-/// One end of a connection, whose reads and writes can be given a timeout.
+/// One end of a connection; its reads and writes can be given a timeout.
 pub trait Timed {
     /// Sets the timeout of each read from now on.
     fn set_read_limit(&self, limit: Duration) -> Result<()>;

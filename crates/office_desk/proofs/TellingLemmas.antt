@@ -68,7 +68,7 @@ fault_answered says old gives Stays BadSchema final_answer does same = absurd do
 fault_answered says old gives Stays f final_answer does same =
     refusal_answered says old gives Stays f final_answer does.0 does.1 same
 
--- the answer that says only a draft's penalty is the same if the draft itself is also returned
+-- if the draft is returned too, the answer with only its penalty is the same
 priced_as_shown : (says : Penalty → PlainAnswer) (d : ℕ) (office : OfficeState)
     → outcome says office (draft_priced d office)
     ≡ outcome (λ found. says found.1) office (draft_shown d office)
@@ -90,7 +90,7 @@ priced_answered says d office Stays penalty final_answer does same =
     (priced_as_shown says d office)
     (ok_answered says office (draft_priced d office) Stays penalty final_answer does same)
 
--- the answer that `?` makes of a fault
+-- `?` turns a fault into its answer
 pub err_answered : (r : Result Answer Answer) (f : StoreFault)
     → IsErrAnd r (λ answer. plain_answer answer ≡ refusal f) → answer_of r ≡ refusal f
 err_answered (Ok answer) f is = absurd is
@@ -103,21 +103,21 @@ is_refusal Store = tt
 is_refusal BadSchema = tt
 is_refusal f = tt
 
--- `?` makes a refusal of a fault
+-- `?` turns a fault into a refusal
 pub fault_refused : {S : Type 0} (g : Ghosts S) (new : Held S) (r : Result Answer Answer)
     (f : StoreFault) → IsErrAnd r (λ answer. plain_answer answer ≡ refusal f)
     → CommittedUnlessRefused g new r
 fault_refused g new r f is clean =
     inl (subst IsRefusal (sym (err_answered r f is)) (is_refusal f))
 
--- also in a candidate's command
+-- also for a candidate's command
 pub fault_refuses : {X : Type 0} (r : Result X Answer) (f : StoreFault)
     → IsErrAnd r (λ answer. plain_answer answer ≡ refusal f)
     → IfErr r (λ answer. IsRefusal (plain_answer answer))
 fault_refuses (Ok x) f is = tt
 fault_refuses (Err answer) f is = subst IsRefusal (sym is) (is_refusal f)
 
--- `?` makes a refusal of refused memory
+-- `?` turns out of memory into a refusal
 pub memory_refused : {S : Type 0} (g : Ghosts S) (new : Held S) (r : Result Answer Answer)
     → IsErrAnd r (λ answer. plain_answer answer ≡ unavailable) → CommittedUnlessRefused g new r
 memory_refused g new (Ok answer) is clean = absurd is

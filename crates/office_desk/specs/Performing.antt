@@ -25,7 +25,8 @@ abbrev pub answer_of : Result Answer Answer → PlainAnswer
 answer_of (Ok answer) = plain_answer answer
 answer_of (Err answer) = plain_answer answer
 
--- the outcome is reached and answered; or the office is unchanged and the answer is `unavailable`
+-- the answer is the outcome's, and the office the next; or `unavailable`, and the office is
+-- unchanged
 abbrev pub AnswersOutcome : Outcome → OfficeState → (OfficeState → Type 0) → PlainAnswer → Type 0
 AnswersOutcome outcome old Stays answer =
     ((answer ≡ outcome.1) × Stays outcome.0) ⊎ ((answer ≡ unavailable) × Stays old)
@@ -55,8 +56,8 @@ abbrev pub CommittedUnlessRefused : {S : Type 0} → Ghosts S → Held S → Res
 CommittedUnlessRefused store new result =
     HasCleanDisk (state store new) → IsRefusal (answer_of result) ⊎ IsCommitted (state store new)
 
--- `Ok`, only for a candidate, is their view; `Err` is answered with `unavailable`; the office is
--- unchanged
+-- `Ok`, only for a candidate, is the candidate's view; an `Err` is answered with `unavailable`; the
+-- office is unchanged
 abbrev pub AnswersView : Caller → OfficeState → (OfficeState → Type 0) → Result ShownView Answer
     → Type 0
 AnswersView (Cand s) old Stays (Ok view) = (view ≡ shown_to s (view_of s old)) × Stays old
@@ -70,7 +71,7 @@ ShowsView store caller old new result =
     HasCleanDisk (state store new) → (office : OfficeState) → Represents (state store old) office
     → AnswersView caller office (Represents (state store new)) result
 
--- likewise, a candidate is answered with one of their exams
+-- likewise, the result is one of the candidate's exams
 abbrev pub AnswersExam : Caller → ℕ → OfficeState → (OfficeState → Type 0)
     → Result (Option ViewRow) Answer → Type 0
 AnswersExam (Cand s) exam old Stays (Ok found) =
@@ -85,7 +86,7 @@ ShowsExam store caller exam old new result =
     HasCleanDisk (state store new) → (office : OfficeState) → Represents (state store old) office
     → AnswersExam caller exam office (Represents (state store new)) result
 
--- likewise, a candidate is answered with what their exams cost them
+-- likewise, the result is the candidate's penalty
 abbrev pub AnswersPenalty : Caller → OfficeState → (OfficeState → Type 0)
     → Result PersonalPenalty Answer → Type 0
 AnswersPenalty (Cand s) old Stays (Ok penalty) =

@@ -9,15 +9,15 @@ use std::alloc::AllocError;
 /// The office's answer to a command.
 #[derive(Drop)]
 pub enum Answer {
-    /// What a candidate is shown: their exams, and what these cost them.
+    /// A candidate's view: their exams, and their penalty.
     Me(CandidateView),
     /// One of a candidate's exams.
     MyExam(ViewRow),
-    /// What a candidate's exams cost them.
+    /// A candidate's penalty.
     MyPenalty(PersonalParts),
     /// The exam isn't one of the candidate's; the answer doesn't say whether it exists.
     NotMine,
-    /// How many exams, pairs, periods and rooms were loaded.
+    /// The counts of the loaded exams, pairs, periods and rooms.
     Loaded(Loaded),
     /// An instance file, a solution file or a report.
     Text(Vec<u8>),
@@ -31,15 +31,15 @@ pub enum Answer {
     Dropped(u32),
     /// A draft, its timetable and its penalty, below 2^62.
     Draft(u32, Timetable, u64),
-    /// A draft that is published now, and the counts of what that changed.
+    /// A published draft: the counts of what the publication changed.
     Published(u32, Published),
-    /// An accepted batch, and what its lines did when it was first accepted.
+    /// An accepted batch: the counts of its lines when it was first accepted.
     Enrolled(u32, Counts),
     /// Nothing is published.
     Unpublished,
     /// The policy denies the command.
     Denied(Denial),
-    /// The body is no JSON of the required form.
+    /// The body isn't JSON of the required form.
     BadBody,
     /// The body is too long.
     LongBody,

@@ -17,7 +17,7 @@ use office_store::Office;
 use sqlite::Alter;
 use std::alloc::Global;
 
-// Answers with all exams of the candidate, and what these cost them.
+// Answers with all exams of the candidate, and with their penalty.
 pub(crate) fn me<S: Alter>(
     office: &mut Office<S>,
     alloc: Global,
@@ -51,7 +51,7 @@ pub(crate) fn my_exam<S: Alter>(
     }
 }
 
-// Answers with what the candidate's exams cost them.
+// Answers with the candidate's penalty.
 pub(crate) fn my_penalty<S: Alter>(
     office: &mut Office<S>,
     alloc: Global,
@@ -66,7 +66,7 @@ pub(crate) fn my_penalty<S: Alter>(
     Ok(Answer::MyPenalty(penalty))
 }
 
-// Returns the view of the candidate who asks. No other caller is permitted to ask for one.
+// Returns the view of the candidate who is the caller. No other caller is permitted.
 fn view_of_caller<S: Alter>(
     office: &mut Office<S>,
     alloc: Global,
@@ -86,7 +86,7 @@ fn view_of_caller<S: Alter>(
     Ok(view)
 }
 
-// Returns what the candidate who asks is shown of an exam. No other caller is permitted to ask.
+// Returns an exam in the view of the candidate who is the caller. No other caller is permitted.
 fn exam_of_caller<S: Alter>(
     office: &mut Office<S>,
     alloc: Global,
@@ -107,7 +107,7 @@ fn exam_of_caller<S: Alter>(
     Ok(found)
 }
 
-// Returns what the exams of the candidate who asks cost them. No other caller is permitted to ask.
+// Returns the penalty of the candidate who is the caller. No other caller is permitted.
 fn penalty_of_caller<S: Alter>(
     office: &mut Office<S>,
     alloc: Global,

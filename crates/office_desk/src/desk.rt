@@ -81,7 +81,7 @@ impl<S: Alter> Desk<S> {
         }
     }
 
-    /// Returns whether a failure of the disk has shut the office's store, as [`Office::is_shut`].
+    /// Returns whether a failure of the disk has closed the office's store, as [`Office::is_shut`].
     pub fn is_shut(&mut self) -> Result<bool, StoreFault>
         ensures shut { HasCleanDisk (state S.Store self.new) → IfOk result (λ is_shut.
             MatchBool is_shut (IsShut (state S.Store self.new))

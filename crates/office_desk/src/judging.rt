@@ -30,8 +30,8 @@ pub(crate) fn judged<S: Alter>(
     }
 }
 
-// Returns whether a department may. The second owner of a swap is read only if the department owns
-// the first exam.
+// Returns whether the policy allows a department's command. The second owner of a swap is read only
+// if the department owns the first exam.
 fn judged_by_owners<S: Alter>(
     office: &mut Office<S>,
     alloc: Global,

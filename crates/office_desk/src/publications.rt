@@ -28,7 +28,7 @@ pub(crate) fn publication<S: Alter>(office: &mut Office<S>, alloc: Global) -> Re
     }
 }
 
-// Answers with the penalty of the publication, by its shares.
+// Answers with the penalty of the publication, from its shares.
 pub(crate) fn publication_penalty<S: Alter>(
     office: &mut Office<S>,
     alloc: Global,
@@ -48,7 +48,7 @@ pub(crate) fn publication_penalty<S: Alter>(
     Ok(Answer::Text(report.into_bytes()))
 }
 
-// Answers with how the publication uses the rooms.
+// Answers with the use of the rooms by the publication.
 pub(crate) fn publication_rooms<S: Alter>(
     office: &mut Office<S>,
     alloc: Global,

@@ -9,10 +9,10 @@ use Rattle.office_model.specs.Answers as answers
 use Rattle.office_model.specs.Answers.{PlainAnswer}
 use Rattle.office_model.specs.Office.{OfficeState}
 use Rattle.office_model.specs.Step.{Steps}
-use Rattle.office_model.proofs.ToldLemmas.{shown_stays}
+use Rattle.office_model.proofs.AnswerLemmas.{shown_stays}
 use Rattle.office_http.specs.Replying.{IsReplyOf, RepliesTo}
 
--- a step whose answer the reply expresses, or one that is replied with `unavailable` instead
+-- a step whose answer the reply expresses, or a step whose reply is `unavailable`
 pub replied : (asked : PlainCallerCommand) (old new : OfficeState) (answer : PlainAnswer)
     (reply : PlainReply)
     → Steps old asked.caller asked.command answer new → IsReplyOf answer reply

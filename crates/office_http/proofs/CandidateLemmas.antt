@@ -1,4 +1,4 @@
--- A candidate is replied the text of their view.
+-- A candidate gets the text of their view.
 use Rattle.std.proofs.Common.{◌≡◌, ◌⊎◌, ◌∙◌, ℕ, Option, Some, None, Result, Ok, Err, ap, inl, inr, refl, subst}
 use Rattle.exam_terms.specs.Refusing.{◌>>=◌, else_err}
 use Rattle.office_messages.specs.Reply.{PlainReply}
@@ -13,11 +13,11 @@ use Rattle.office_requests.specs.declared.requests.Refusal.TheVariants as refusa
 use Rattle.office_model.specs.Office.{OfficeState}
 use Rattle.office_model.specs.Step.{Outcome}
 use Rattle.office_model.specs.Views.{view_of}
-use Rattle.office_model.proofs.ToldLemmas.{candidate_answer}
+use Rattle.office_model.proofs.AnswerLemmas.{candidate_answer}
 use Rattle.office_replies.specs.Replies.{reply_to}
 use Rattle.office_http.specs.Replying.{Replies, RepliesTo, RepliesCandidateView, view_or_denial}
 
--- the command that a candidate's message asks for, if it asks for one of their pages
+-- the command that a candidate's message asks for, if it asks for one of the candidate's pages
 abbrev pub said_by : ℕ → Option PlainCommand → Result PlainCallerCommand Refusal
 said_by s (Some command) = Ok (record { caller = Cand s; command = command })
 said_by s None = Err refusal.Candidate
@@ -48,7 +48,7 @@ trace_by s (Some command) old new reply (answer, step, is) = elim step [
   | inr h ↦ inr (is ∙ ap reply_to h.1)
 ]
 
--- whatever state the office reaches
+-- whatever state the office goes to
 pub tells : (old new : OfficeState) (request : PlainRequest) (reply : PlainReply)
     → Replies old request reply new → RepliesCandidateView old request reply
 tells old new request reply h = λ s is.

@@ -1,5 +1,5 @@
--- Many clients, one after another: the office serves what the desk serves, by each candidate's
--- view.
+-- Many clients, one after another: the office serves what the desk serves, and each candidate gets
+-- the text of their view.
 use Rattle.std.proofs.Common.{◌≡◌, ◌∙◌, ℕ, List, [], ◌∷◌, ◌++◌, Option, Result, Ok, Err, IfOk, IfErr, All}
 use Rattle.std.proofs.Common.{ap, refl, subst, sym}
 use Rattle.std.proofs.lemmas.List.Elements.{All-append, All-cons, All-head, All-nil, All-tail, All-weaker}
@@ -31,7 +31,7 @@ All-right : {X : Type 0} (P : X → Type 0) (xs ys : List X) → All P (xs ++ ys
 All-right P [] ys all = all
 All-right P (x ∷ xs) ys all = All-right P xs ys (All-tail P x (xs ++ ys) all)
 
--- ---- what the desk serves, the office serves
+-- ---- the office serves what the desk serves
 
 module _ {S : Type 0} (store : Ghosts S) where
   -- a disk that is clean after connections was clean before them
@@ -62,9 +62,9 @@ module _ {S : Type 0} (store : Ghosts S) where
       let later = visits_lead vs mid new rest clean here.0 here.2 in
       (later.0, (here.0, here.1, later.1), later.2)
 
--- ---- by a candidate's view
+-- ---- each candidate gets the text of their view
 
--- in runs of messages that are ordered only among themselves
+-- in runs of messages, each run ordered in itself
 trace_to : (ended : Result Served ServeFault) (input before after : Option (List ℕ))
     (old new : OfficeState) (run : ServesTo ended input before after old new)
     → All RepliesOwnView (entries_to ended input before after old new run)

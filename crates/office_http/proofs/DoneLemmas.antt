@@ -100,7 +100,7 @@ of_unread unread.NoMemory done = done
 status_with : (reply said : PlainReply) → reply ≡ said → IsDone reply.status → IsDone said.status
 status_with reply said is done = subst (λ (r : PlainReply). IsDone r.status) is done
 
--- if a fact holds unless the answer is a refusal, it holds if the reply says that the request was
+-- a fact that holds unless the answer is a refusal holds if the reply says that the request was
 -- done
 pub unless_refused : {A : Type 0} → (a : PlainAnswer) (reply : PlainReply) → IsReplyOf a reply
     → IsRefusal a ⊎ A → IsDone reply.status → A

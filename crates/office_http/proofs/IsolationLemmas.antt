@@ -28,7 +28,7 @@ use Rattle.office_model.specs.Step.{Outcome}
 use Rattle.office_model.specs.Views.{View, view_of}
 use Rattle.office_model.proofs.ChangeLemmas.{alike}
 use Rattle.office_model.proofs.QuietLemmas.{quiet_one}
-use Rattle.office_model.proofs.ToldLemmas as model
+use Rattle.office_model.proofs.AnswerLemmas as model
 use Rattle.office_http.specs.CandidateMessages.{HaveSameBytes, AreFrom, AsksTheSame, IsFrom, bytes_of, output_from_view, reply_from_view}
 use Rattle.office_http.specs.Isolation.{AreAvailable, GetSameBytes, GetBytesByView, IsOwnOrQuiet, IsQuietFor, GetsSameBytes, LeavesPublication, RepliesView, changes_by, changes_to_candidate}
 use Rattle.office_http.specs.Transcripts.{Entry, ServesByView, RepliesOwnView, exchange_in, entry, transcript}
@@ -55,7 +55,7 @@ stays s old new request reply h is =
     stays_by s (own_command (verb_of request.method) request.target) old new reply
     (subst (λ said. RepliesTo said old reply new) (own_reading s request is) h)
 
--- two replies by one view, unless the office is unavailable for one of them
+-- two replies that depend on one view, unless the office is unavailable for one of them
 both_by : (said : PlainReply) (one other : PlainRequest) (reply answer : PlainReply)
     → one.method ≡ other.method → (reply ≡ said) ⊎ (reply ≡ unavailable)
     → (answer ≡ said) ⊎ (answer ≡ unavailable) → HaveSameBytes (one, reply) (other, answer)
@@ -174,7 +174,7 @@ trace_one s view e trace same is =
     subst (λ v. (e.reply ≡ reply_from_view s e.request v) ⊎ (e.reply ≡ unavailable)) same
     (trace s is)
 
--- if each message finds this view, the candidate is replied its text
+-- if each message finds this view, the candidate gets its text
 pub both_all : (s : ℕ) (view : View) (es : List Entry) → All RepliesOwnView es
     → All (Sees s view) es
     → All (RepliesView s view) es

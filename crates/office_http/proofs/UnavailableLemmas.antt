@@ -1,4 +1,4 @@
--- A request that is replied with a 503 changes nothing.
+-- A request whose reply is a 503 changes nothing.
 use Rattle.std.proofs.Common.{◌≡◌, ◌∙◌, ℕ, true, Result, Ok, Err, ap, inl, inr, refl, sym, true≢false}
 use Rattle.std.specs.Prelude.{◌==◌}
 use Rattle.std.proofs.lemmas.Bool.{eq-eqb}
@@ -24,11 +24,11 @@ use Rattle.office_model.proofs.StepLemmas.{EditKeeps, Keeps, any_ok, step_law}
 use Rattle.office_replies.specs.Replies.{reply_to}
 use Rattle.office_http.specs.Replying.{Replies, RepliesTo}
 
--- the answer is replied with a 503
+-- the reply to the answer is a 503
 abbrev Is503 : PlainAnswer → Type 0
 Is503 answer = (code_of (reply_to answer).status == 503) ≡ true
 
--- a change that was made is never replied with one
+-- the reply to a change that was made is never a 503
 edits : (old : OfficeState) (d : ℕ) (change : Edit)
     → EditKeeps (λ new. new ≡ old) Is503 old d change
 edits old d change = any_ok _ (draft_edited d change old) (λ x q. absurd (true≢false (sym q)))

@@ -21,7 +21,7 @@ AreFrom s [] = Unit {0}
 AreFrom s (fails fault form ∷ items) = AreFrom s items
 AreFrom s (asks request ∷ items) = IsFrom s request × AreFrom s items
 
--- the reply to a candidate's message, by their view only
+-- the reply to a candidate's message, which depends only on their view
 abbrev pub reply_from_view : ℕ → PlainRequest → View → PlainReply
 reply_from_view s request view = view_or_denial s
     (own_command (verb_of request.method) request.target) view
@@ -30,7 +30,7 @@ reply_from_view s request view = view_or_denial s
 abbrev pub bytes_of : PlainRequest × PlainReply → List ℕ
 bytes_of said = reply_text (form_of (said.0).method) said.1
 
--- the bytes of a candidate's connection, by their view only
+-- the bytes of a candidate's connection, which depend only on their view
 abbrev pub output_from_view : ℕ → View → List Item → List ℕ
 output_from_view s view [] = []
 output_from_view s view (fails fault form ∷ items) =

@@ -50,8 +50,8 @@ all_entries [] old new run = []
 all_entries (v ∷ vs) old new (mid, served, rest) =
     entries_to v.ended v.input v.before v.after old mid served ++ all_entries vs mid new rest
 
--- the office served these connections, and replied to each candidate with the text of their view in
--- the office that received the message, or that the office is unavailable
+-- the office served these connections, and each candidate got the text of their view in the office
+-- that received the message, or the reply that the office is unavailable
 abbrev pub ServesAllByView : List Visit → OfficeState → OfficeState → Type 0
 ServesAllByView visits old new =
     (run : ServesAll visits old new) × All RepliesOwnView (all_entries visits old new run)

@@ -13,7 +13,7 @@ use Rattle.office_http.specs.CandidateMessages.{IsFrom, reply_from_view, AsksThe
 
 -- ---- views
 
--- the candidate is replied the text of this view, or that the office is unavailable
+-- the candidate gets the text of this view, or the reply that the office is unavailable
 abbrev pub RepliesView : ℕ → View → Entry → Type 0
 RepliesView s view e =
     IsFrom s e.request → (e.reply ≡ reply_from_view s e.request view) ⊎ (e.reply ≡ unavailable)
@@ -32,7 +32,7 @@ GetsSameBytes s x y =
     IsFrom s x.request → IsFrom s y.request → AsksTheSame x.request y.request
     → HaveSameBytes (request_and_reply x) (request_and_reply y)
 
--- the same for each message of the one list and each of the other
+-- the same for each message of one list and each message of the other
 abbrev pub GetSameBytes : ℕ → List Entry → List Entry → Type 0
 GetSameBytes s xs ys = All (λ x. All (GetsSameBytes s x) ys) xs
 
@@ -51,11 +51,11 @@ AreAvailable es = All (λ e. e.reply ≢ unavailable) es
 abbrev pub LeavesPublication : Entry → Type 0
 LeavesPublication e = IfSome e.asked (λ x. KeepsPublication x.answer)
 
--- the changes to a candidate that a command newly made
+-- the changes to a candidate that a command made for the first time
 abbrev pub changes_by : ℕ → OfficeState → Option Exchange → List Change
 changes_by s office None = []
 changes_by s office (Some x) = changes_to s (new_changes office x.command x.answer)
 
--- the changes to a candidate that a run newly made, in their order
+-- the changes to a candidate that a run made for the first time, in their order
 abbrev pub changes_to_candidate : ℕ → List Entry → List Change
 changes_to_candidate s es = flat_map (λ e. changes_by s e.office e.asked) es

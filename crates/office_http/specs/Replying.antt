@@ -24,8 +24,8 @@ use Rattle.office_model.specs.Views.{View, view_of}
 use Rattle.office_replies.specs.Replies.{reply_to, view_text}
 use Rattle.office_store.specs.Running.{IsCommitted, Represents}
 
--- a message that asks for a command is one step of the office, whose answer is the reply; any other
--- message is refused, and the office is unchanged
+-- a message that asks for a command is one step of the office, and the reply is the step's answer;
+-- any other message is refused, and the office is unchanged
 abbrev pub RepliesTo : Result PlainCallerCommand Refusal → OfficeState → PlainReply → OfficeState
     → Type 0
 RepliesTo (Ok asked) old reply new =
@@ -48,8 +48,8 @@ IsDone status.Done = Unit {0}
 IsDone status.Created = Unit {0}
 IsDone other = ⊥
 
--- assuming the disk returns what was written, the office that a file represents replies so; if the
--- request was done, the store is open and all writes are committed
+-- assuming the disk returns what was written, the office that the file represents gives this reply;
+-- if the request was done, the store is open and all writes are committed
 pub record Answered {S : Type 0} (store : Ghosts S) (old : Held S) (request : PlainRequest)
     (reply : PlainReply) (new : Held S) : Type 0 where
   pub clean : HasCleanDisk (state store new) → HasCleanDisk (state store old)
@@ -62,12 +62,13 @@ pub record Answered {S : Type 0} (store : Ghosts S) (old : Held S) (request : Pl
 -- ---- candidates
 
 -- the text of a candidate's view that a command asks for; the denial if the message asks for none
--- of their pages
+-- of the candidate's pages
 abbrev pub view_or_denial : ℕ → Option PlainCommand → View → PlainReply
 view_or_denial s (Some command) view = view_text s command view
 view_or_denial s None view = error_reply (Denied P1)
 
--- a candidate's message is replied the text of their view in the office, or that it is unavailable
+-- a candidate's message gets the text of their view in the office, or the reply that the office is
+-- unavailable
 abbrev pub RepliesCandidateView : OfficeState → PlainRequest → PlainReply → Type 0
 RepliesCandidateView office request reply =
     (s : ℕ) → caller_in request.caller ≡ Some (Cand s)

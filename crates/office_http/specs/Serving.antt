@@ -23,8 +23,8 @@ AnswersFront input before after fault old new =
     (items : List Item) × (output : List ℕ) × IfSome input (Begins items 0)
     × AnswersItems Replies items old output new × Appends before after output
 
--- assuming the disk returns what was written: for any office that the file represents before, it
--- represents one afterwards that this office leads to
+-- assuming the disk returns what was written: the file represents an office that serving leads to,
+-- for each office that it represented before
 abbrev pub LeadsOffice : {S : Type 0} → Ghosts S → (OfficeState → OfficeState → Type 0)
     → Held S → Held S → Type 0
 LeadsOffice store LeadsTo old new =

@@ -58,12 +58,12 @@ entries {input} {before} {after} {old} {new} {served} run =
 abbrev pub request_and_reply : Entry → PlainRequest × PlainReply
 request_and_reply e = (e.request, e.reply)
 
--- if a candidate sent the message, they are replied the text of their view in the office that
--- received it, or that the office is unavailable
+-- if a candidate sent the message, they get the text of their view in the office that received it,
+-- or the reply that the office is unavailable
 abbrev pub RepliesOwnView : Entry → Type 0
 RepliesOwnView e = RepliesCandidateView e.office e.request e.reply
 
--- a connection is served, and each candidate's message in it is replied so
+-- a connection is served, and each candidate's message in it gets such a reply
 abbrev pub ServesByView : (input before after : Option (List ℕ)) (old new : OfficeState)
     (served : Served) → Type 0
 ServesByView input before after old new served =

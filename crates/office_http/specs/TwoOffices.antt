@@ -28,18 +28,18 @@ abbrev pub office_of : List Request → OfficeState
 office_of requests =
     fold (λ office request. office_after office (plain_request request)) None requests
 
--- a candidate's request is replied the text of the candidate's view
+-- the reply to a candidate's request is the text of the candidate's view
 abbrev pub RepliesText : OfficeState → PlainRequest → PlainReply → Type 0
 RepliesText office request reply =
     (s : ℕ) → IsFrom s request → reply ≡ reply_from_view s request (view_of s office)
 
--- a candidate on whose view two offices agree gets the same bytes from both
+-- if two offices agree on a candidate's view, the candidate gets the same bytes from both
 abbrev pub RepliesSameBytes : (one other : OfficeState) → PlainRequest → (reply answer : PlainReply)
     → Type 0
 RepliesSameBytes one other request reply answer =
     (s : ℕ) → IsFrom s request → view_of s one ≡ view_of s other
     → bytes_of (request, reply) ≡ bytes_of (request, answer)
 
--- these are the shares of the publication, if there is one, and together they are its penalty
+-- these are the shares of the publication, if there is one, and they add up to its penalty
 abbrev pub AreShares : OfficeState → Option Sharing → Type 0
 AreShares office shares = (shares ≡ shares_in office) × AddUpIn office shares

@@ -16,8 +16,8 @@ use office_replies::{
 use office_requests::FixedError;
 use std::alloc::{AllocError, Global};
 
-/// Returns the reply to an answer. The text of a change goes into `room`, so that no memory is
-/// allocated after it. If memory is refused for an answer that shows something, the reply says that
+/// Returns the reply to an answer. The text of a change is written into `room`, so that no memory
+/// is allocated for it. If memory runs out for an answer that shows something, the reply says that
 /// the office is unavailable.
 pub(crate) fn answer_reply(alloc: Global, room: Vec<u8>, answer: Answer) -> Reply
     requires { REPLY_ROOM ≤ vec_capacity room }

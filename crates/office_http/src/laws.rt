@@ -1,4 +1,4 @@
-//! Laws of the office's connections: functions with no code, whose contracts are the laws.
+//! Laws of the office's connections: functions without code; their contracts are the laws.
 ghost use Rattle.std.specs.Prelude.{◌≡◌, ℕ, List, All, Option};
 ghost use Rattle.office_messages.specs.Reply.{PlainReply};
 ghost use Rattle.office_messages.specs.Messages.{Item};
@@ -15,15 +15,14 @@ ghost use Rattle.office_http.specs.Isolation.{AreAvailable, GetSameBytes, GetByt
 ghost use Rattle.office_http.specs.Transcripts.{RepliesOwnView, entries, entry, request_and_reply, transcript};
 ghost use Rattle.office_http.specs.Replying.{Replies, RepliesCandidateView};
 
-/// A message that is replied with a 503 leaves the office unchanged, whoever sent it and whatever
-/// it asked for.
+/// A message whose reply is a 503 leaves the office unchanged, whatever its caller and its request.
 pub fn unavailable_changes_nothing()
     ensures { (office next : OfficeState) (request : PlainRequest) (reply : PlainReply)
         → Replies office request reply next → code_of reply.status ≡ 503 → next ≡ office }
 {}
 
-/// A candidate's message is replied the text of their view in the office that receives it, or that
-/// the office is unavailable. It changes nothing.
+/// A candidate's message gets the text of their view in the office that receives it, or the reply
+/// that the office is unavailable. It changes nothing.
 ///
 /// A candidate's pages say nothing about others' enrolments, seats, exams or drafts. Whether a
 /// reply is a 503, and how long it takes, may depend on anything.
@@ -46,18 +45,17 @@ pub fn same_view_same_bytes()
         → HaveSameBytes (request, reply) (request, answer) }
 {}
 
-/// A message that is quiet for a candidate leaves their view unchanged. Quiet is any message but an
-/// accepted load, an accepted publication, and a batch that is newly accepted and names the
-/// candidate.
+/// A message that is quiet for a candidate leaves their view unchanged. Each message is quiet
+/// except an accepted load, an accepted publication, and a batch that is accepted for the first
+/// time and names the candidate.
 pub fn quiet_message()
     ensures { (s : ℕ) (old new : OfficeState) (request : PlainRequest) (reply : PlainReply)
         → (trace : Replies old request reply new) → IsQuietFor s (entry old request reply new trace)
         → view_of s new ≡ view_of s old }
 {}
 
-/// Over a whole connection, and over any messages one after another, each candidate is replied the
-/// text of their view in the office that received their message, whatever others ask before and
-/// between.
+/// Over a whole connection, and over any messages one after another, each candidate gets the text
+/// of their view in the office that received their message, whatever others ask before and between.
 pub fn each_reply_by_view()
     ensures { (items : List Item) (old new : OfficeState) (output : List ℕ)
         → (trace : AnswersItems Replies items old output new)
@@ -65,8 +63,8 @@ pub fn each_reply_by_view()
 {}
 
 /// If all others' messages are quiet for a candidate, each message finds the candidate's view as it
-/// was before the first, the view is the same after the last, and the candidate is replied its
-/// text, or that the office is unavailable.
+/// was before the first, the view is the same after the last, and the candidate gets its text, or
+/// the reply that the office is unavailable.
 pub fn quiet_messages()
     ensures end { (s : ℕ) (items : List Item) (old new : OfficeState) (output : List ℕ)
         → (trace : AnswersItems Replies items old output new)
@@ -124,13 +122,13 @@ pub fn same_view_same_output()
         → first.output ≡ second.output }
 {}
 
-/// Two lists of messages start from one office and hold no accepted load or publication. If their
-/// newly accepted batches make the same changes to a candidate, in the same order, then the
-/// candidate's view at the end is the same, and the candidate's messages get the same bytes.
+/// Two lists of messages start from one office and contain no accepted load or publication. If
+/// their batches that are accepted for the first time make the same changes to a candidate, in the
+/// same order, then the candidate's view at the end is the same, and the candidate's messages get
+/// the same bytes.
 ///
-/// Which batches are newly accepted may depend on others' requests (a number that is taken, too
+/// Which batches are accepted for the first time may depend on others' requests (a kept number, too
 /// many pairs), so the law is about the changes that were made.
-/// many pairs), so the law speaks of the changes that were made.
 pub fn same_changes_same_view()
     ensures view { (s : ℕ) (old one other : OfficeState) (items others : List Item)
         (output text : List ℕ) → (first : AnswersItems Replies items old output one)
@@ -152,9 +150,9 @@ pub fn same_changes_same_view()
         → HaveSameBytes (request, reply) (request, answer) }
 {}
 
-/// Over clients one after another, including connections that end with a fault, each candidate is
-/// replied the text of their view in the office that received their message, whatever others ask
-/// before and between.
+/// Over clients one after another, including connections that end with a fault, each candidate gets
+/// the text of their view in the office that received their message, whatever others ask before and
+/// between.
 pub fn each_client_by_view()
     ensures { (visits : List Visit) (old new : OfficeState) → (run : ServesAll visits old new)
         → All RepliesOwnView (all_entries visits old new run) }
@@ -162,8 +160,8 @@ pub fn each_client_by_view()
 
 /// If all others' messages are quiet for a candidate, then over clients one after another,
 /// including connections that end with a fault, each message finds the candidate's view as it was
-/// before the first, the view is the same after the last, and the candidate is replied its text, or
-/// that the office is unavailable.
+/// before the first, the view is the same after the last, and the candidate gets its text, or the
+/// reply that the office is unavailable.
 pub fn quiet_clients()
     ensures end { (s : ℕ) (visits : List Visit) (old new : OfficeState)
         → (run : ServesAll visits old new)

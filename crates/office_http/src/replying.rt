@@ -18,9 +18,9 @@ use office_requests::{CallerCommand, Routes, read_request};
 use sqlite::Alter;
 use std::alloc::Global;
 
-/// Replies to a request: reads it, runs its command at the desk, and puts the answer into words. If
-/// memory runs out, nothing is done and the reply says that the office is unavailable; a change
-/// that was made never gets this reply.
+/// Replies to a request: reads it, runs its command at the desk, and writes the answer as a reply.
+/// If memory runs out, nothing is done and the reply says that the office is unavailable; the reply
+/// to a change that was made never says so.
 pub fn reply<S: Alter>(
     alloc: Global,
     routes: &Routes,
@@ -32,7 +32,7 @@ pub fn reply<S: Alter>(
     // the store is open, and all writes are committed.
     ensures answered { Answered S.Store desk.old (plain_request request.now) (plain_reply result)
         desk.new }
-    // A candidate is replied the text of their view, and nothing else that is stored.
+    // A candidate gets the text of their view, and nothing else that is stored.
     ensures view { HasCleanDisk (state S.Store desk.new) → (office : OfficeState)
         → Represents (state S.Store desk.old) office
         → RepliesCandidateView office (plain_request request.now) (plain_reply result) }

@@ -49,8 +49,8 @@ pub fn serve<R: Read, W: Write, S: Alter>(
     ensures ok { IfOk result (λ served. LeadsOffice S.Store
         (λ office next. Serves Replies (R.remaining reader.old) (W.contents writer.old)
         (W.contents writer.new) office next served) desk.old desk.new) }
-    // Each candidate in it is replied the text of their view in the office that received their
-    // message, and nothing else that is stored.
+    // Each candidate in it gets the text of their view in the office that received their message,
+    // and nothing else that is stored.
     ensures view { IfOk result (λ served. LeadsOffice S.Store
         (λ office next. ServesByView (R.remaining reader.old) (W.contents writer.old)
         (W.contents writer.new) office next served) desk.old desk.new) }

@@ -25,7 +25,7 @@ pub struct ReplyAndShares {
     pub shares: Option<Shares>,
 }
 
-/// Why two offices could not be asked.
+/// Why the replies of two offices are not returned.
 #[derive(Clone, Copy, Debug, PartialEq, Eq)]
 pub enum AskFault {
     /// Out of memory for a database or for the table of routes.
@@ -48,7 +48,7 @@ pub fn ask_two_offices(
     ensures same { IfOk result (λ said. RepliesSameBytes (office_of first.now)
         (office_of second.now)
         (plain_request asked.now) (plain_reply said.0.reply) (plain_reply said.1.reply)) }
-    // These are the text of the candidate's view.
+    // These bytes are the text of the candidate's view.
     ensures text { IfOk result (λ said.
         RepliesText (office_of first.now) (plain_request asked.now) (plain_reply said.0.reply)
         × RepliesText (office_of second.now) (plain_request asked.now)

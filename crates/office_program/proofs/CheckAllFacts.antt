@@ -27,12 +27,12 @@ or_true : (b : Bool) → (b || true) ≡ true
 or_true true = refl
 or_true false = refl
 
--- both are so if both together are
+-- two lines were written if both together were
 both : (a b : Bool) → IsTrue (a && b) → IsTrue a × IsTrue b
 both true b is = (refl, is)
 both false b is = let never : false ≡ true = is in cc
 
--- what all outcomes have, and then one more
+-- a property of all outcomes and of one more
 flat_more : (f : Outcome → List ℕ) (os : List Outcome) (o : Outcome)
     → flat_map f (os ++ o ∷ []) ≡ flat_map f os ++ f o
 flat_more f os o =
@@ -57,7 +57,7 @@ module _ (I : Session) (E : Enrolled) (form : LineForm) where
     breach = refl;
   }
 
-  -- one outcome more
+  -- one more outcome
   pub outcome_more : (paths : List (List ℕ)) (path : List ℕ) (old mid new : Option (List ℕ))
       (errors_old errors_mid errors_new : Option (List ℕ)) (before after : Found)
       → HasOutcomes I E form paths old mid errors_old errors_mid before

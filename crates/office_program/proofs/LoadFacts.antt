@@ -9,7 +9,7 @@ use Rattle.office_program.specs.Load.{IfRefused}
 use Rattle.office_program.specs.declared.loading.LoadFault.{LoadFault}
 use Rattle.office_program.specs.declared.loading.LoadFault.TheVariants.{Store as Refused, Write}
 
--- if no office is found, the fault is a failed statement, or the assumption of an office is false
+-- if no office is found, the fault is a failed statement, or there is no office in the database
 pub no_office : {A : Type 0} (gives : CommandResult A) (fault : StoreFault)
     (P : OfficeState → Type 0)
     → (fault ≡ Store) ⊎ ((there : OfficeState) → P there → ⊥) → (there : OfficeState) → P there

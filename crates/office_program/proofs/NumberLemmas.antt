@@ -4,7 +4,7 @@ use Rattle.std.specs.Str.Parse.{IsNumeral, ParsesUnsigned, digits_value, without
 use Rattle.clap.specs.Words.{Text}
 use Rattle.clap.specs.Matches.{ReadsOne}
 
--- a number that was read is the one that a found text spells
+-- a number that was read is the one that the text spells
 pub read_number : {E : Type 0} (CommandResult : Text → Result ℕ E → Type 0) (bits : ℕ)
     → ((t : Text) (r : Result ℕ E) → CommandResult t r → ParsesUnsigned bits 10 t r)
     → (found : Option Text) (read : Option ℕ) → (found ≡ None → read ≡ None)

@@ -1,4 +1,4 @@
--- Facts of an office, from the clients that it served.
+-- Facts of an office, from the connections that it served.
 use Rattle.std.proofs.Common.{◌≡◌, ◌≢◌, ◌⊎◌, ◌∙◌, ℕ, Bool, true, false, List, [], Option, Result}
 use Rattle.std.proofs.Common.{Ok, Err, IfErr, IfOk, IsTrue, arith, inl, inr, refl, subst, sym}
 use Rattle.std.proofs.lemmas.List.Elements.{All-nil}
@@ -37,7 +37,7 @@ pub if_so : (b : Bool) → IsTrue b → (P Q : Type 0) → MatchBool b P Q → P
 if_so true so P Q h = h
 if_so false so P Q h = absurd cc
 
--- an office that served nobody
+-- an office that served no client
 pub nobody_served : (office : OfficeState) → ServesAllByView [] office office
 nobody_served office = (refl, All-nil RepliesOwnView)
 
@@ -59,7 +59,7 @@ module _ {S : Type 0} (store : Ghosts S) where
     fewer = inl refl;
   }
 
-  -- a request that was answered is still answered after the store is looked at
+  -- a request that was answered is still answered after the check of the store
   pub answered_on : (old mid new : Held S) (request : PlainRequest) (reply : PlainReply)
       → Answered store old request reply mid → (IsDone reply.status → new ≡ mid)
       → (HasCleanDisk (state store new) → StateUnchanged (state store mid) (state store new))
@@ -74,7 +74,7 @@ module _ {S : Type 0} (store : Ghosts S) where
         (x.all_committed (clean k) is);
   }
 
-  -- an answer of the machine is one of its desk, and it says that the store is shut only if it is
+  -- an answer of the machine is one of its desk, and it reports a closed store only if it is closed
   abbrev pub Answering : {F : Type 0} → (name : F → ℕ) → (now : F → Held S) → (is_shut : F → Bool)
       → F → PlainRequest → PlainReply → F → Type 0
   Answering name now is_shut old request reply new =
@@ -110,7 +110,7 @@ module _ {S : Type 0} (store : Ghosts S) where
     desk_clean =
         visits_clean store x.visits (now old) last (desk_visits x.visits x.served)
 
-    -- a store that was found shut is shut
+    -- a store that was found closed is closed
     pub desk_shut : is_shut old ≡ false → IsTrue (is_shut new) → IsStoreShut store last
     desk_shut opened shut =
         let kept = visits_keep Answers
@@ -159,7 +159,7 @@ module _ {S : Type 0} (store : Ghosts S) where
             x.serves (x.all.1 err_line));
       }
 
--- a fault other than of writing left the printed text unchanged, or the port was printed
+-- after a fault other than of writing, `out` is unchanged, or the port was printed
 pub leaves_port : (terms : Terms) (port : ℕ) → IsPortOf terms.port port
     → (outcome : Result Ending ProgramFault) (before after : Option (List ℕ))
     → IfErr outcome (λ shown. shown ≢ CannotWrite

@@ -26,7 +26,7 @@ task_explained found (Serve database terms) (rows, is, values) = rw is refl
 task_explained found (Export database) (rows, is, values) = rw is refl
 task_explained found (Explain words) (rows, is, values) = rw (is, values) refl
 
--- words in which clap finds no mistake fail only by what they ask for
+-- words without a mistake that clap finds fail only because they ask for help or the version
 pub found_fails : (first : Kinds) (found there : Option (Text × List Row))
     (r : Result Task Error) → first ≡ [] → found ≡ there → IfOk r (IsTaskOf found)
     → IfErr r (HasKind (unexplained_in found))

@@ -14,7 +14,7 @@ use Rattle.office_program.specs.FaultLines.{solution_line}
 use Rattle.office_program.specs.declared.judging.Found.{Found}
 use Rattle.office_program.specs.declared.judging.VerdictLine.{VerdictLine}
 
--- the outcome of one solution: the text that is printed of it, and the text of its fault
+-- the outcome of one solution: the text that is printed on `out`, and the text written to `err`
 pub record Outcome : Type 0 where
   pub path : List ℕ
   pub printed : List ℕ
@@ -22,7 +22,7 @@ pub record Outcome : Type 0 where
   pub is_faulty : Bool
   pub has_breach : Bool
 
--- it was judged by the session: the line of the verdict on some text is printed
+-- the solution was judged by the session: the line of the verdict on some text is printed
 pub record IsJudged (I : Session) (E : Enrolled) (form : LineForm) (o : Outcome) : Type 0 where
   pub solution : List ℕ
   pub verdict : Verdict
@@ -32,7 +32,7 @@ pub record IsJudged (I : Session) (E : Enrolled) (form : LineForm) (o : Outcome)
   pub sound : o.is_faulty ≡ false
   pub breach : o.has_breach ≡ not (verdict.breaches == 0)
 
--- it has a fault: the fault's line is written to `err`, after the path
+-- the solution has a fault: the fault's line is written to `err`, after the path
 pub record IsFaulty (o : Outcome) : Type 0 where
   pub fault : InputFault
   pub printed : o.printed ≡ []
@@ -40,7 +40,7 @@ pub record IsFaulty (o : Outcome) : Type 0 where
   pub faulty : o.is_faulty ≡ true
   pub breach : o.has_breach ≡ false
 
--- either it was judged, or it has a fault
+-- the solution was judged, or has a fault
 abbrev pub IsOutcome : Session → Enrolled → LineForm → Outcome → Type 0
 IsOutcome I E form o = IsJudged I E form o ⊎ IsFaulty o
 
@@ -55,7 +55,7 @@ pub record AreJudged (I : Session) (E : Enrolled) (form : LineForm) (paths : Lis
   pub are : map (λ o. o.path) outcomes ≡ paths
   pub each : All (IsOutcome I E form) outcomes
 
--- some text has a reading as a session, and the solutions of these paths have these outcomes by it
+-- some text is that of a session, and the solutions of these paths have these outcomes by it
 pub record AreBySession (form : LineForm) (paths : List (List ℕ)) (outcomes : List Outcome)
     : Type 0 where
   pub text : List ℕ
@@ -64,7 +64,7 @@ pub record AreBySession (form : LineForm) (paths : List (List ℕ)) (outcomes : 
   pub read : InstanceText text session enrolled
   pub judged : AreJudged session enrolled form paths outcomes
 
--- a line is printed for each solution that has no fault, and this is the status
+-- the line of each solution without a fault is printed, and this is the status
 pub record PrintsVerdicts (form : LineForm) (paths : List (List ℕ)) (old new : Option (List ℕ))
     (status : ℕ) : Type 0 where
   pub outcomes : List Outcome

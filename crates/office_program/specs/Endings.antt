@@ -1,4 +1,4 @@
--- The lines that are written to `err`, and what is then printed on `out`.
+-- The lines that are written to `err`, and the text that is then printed on `out`.
 use Rattle.std.specs.Prelude.{◌≡◌, ◌≢◌, ◌⊎◌, ℕ, ◌++◌, ◌∷◌, [], Bool, true, List, Option}
 use Rattle.std.specs.Prelude.{map, string_bytes}
 use Rattle.std.specs.Io.KnownBytes.{Appends, Keeps}
@@ -13,7 +13,7 @@ use Rattle.office_program.specs.declared.faults.ProgramFault.TheVariants.{Cannot
 use Rattle.office_program.specs.declared.words.Task.{Task}
 use Rattle.office_program.specs.declared.words.Task.TheVariants.{Check, CheckAll, Explain, Export, Load, Serve}
 
--- until its own fault a task leaves `err` unchanged; except a server, which writes the faults of
+-- until its own fault a task leaves `err` unchanged, except `serve`, which writes the faults of
 -- connections there, and `check-all`, which writes those of solutions
 abbrev pub IsSilent : {W : Type 0} → Task → W → W → Type 0
 IsSilent (Check instance solution) old new = new ≡ old
@@ -23,8 +23,8 @@ IsSilent (Serve database terms) old new = Unit {0}
 IsSilent (Export database) old new = new ≡ old
 IsSilent (Explain words) old new = new ≡ old
 
--- a task that is done wrote nothing to `err`; except a server, which wrote the faults of
--- connections, at most as many as it was to serve
+-- a task that is done wrote nothing to `err`, except `serve`, which wrote the faults of
+-- connections, at most one for each connection of its terms
 abbrev pub WritesConnectionFaults : {W : Type 0} → (W → Option (List ℕ)) → Task → W → W → Type 0
 WritesConnectionFaults contents (Check instance solution) old new = new ≡ old
 WritesConnectionFaults contents (CheckAll session solutions form) old new = new ≡ old
@@ -40,7 +40,7 @@ IsQuiet contents words old new =
     (new ≡ old)
     ⊎ ((task : Task) × IsTask words task × WritesConnectionFaults contents task old new)
 
--- on a fault other than of writing, `out` is unchanged, or a server printed its port
+-- on a fault other than of writing, `out` is unchanged, or `serve` printed its port
 abbrev pub LeavesPrinted : Task → Option (List ℕ) → Option (List ℕ) → Type 0
 LeavesPrinted (Check instance solution) old new = Keeps old new
 LeavesPrinted (CheckAll session solutions form) old new = Keeps old new
@@ -49,8 +49,8 @@ LeavesPrinted (Serve database terms) old new = Keeps old new ⊎ PrintsPort term
 LeavesPrinted (Export database) old new = Keeps old new
 LeavesPrinted (Explain words) old new = Keeps old new
 
--- the line of a fault of the task is appended to what `err` had when the fault came; unless it is a
--- fault of writing, nothing else is printed but a server's port
+-- the line of the task's fault is appended to `err` after what the task wrote before; unless it is
+-- a fault of writing, only the port of `serve` is printed
 pub record WritesTaskFault {W : Type 0} (contents : W → Option (List ℕ)) (task : Task) (old new : W)
     (printed_old printed_new : Option (List ℕ)) : Type 0 where
   pub shown : ProgramFault
@@ -60,8 +60,8 @@ pub record WritesTaskFault {W : Type 0} (contents : W → Option (List ℕ)) (ta
   pub line : Appends (contents before) (contents new) (fault_line shown ++ 10 ∷ [])
   pub printed : shown ≢ CannotWrite → LeavesPrinted task printed_old printed_new
 
--- the line of words that give no task is written: memory ran out for them, and nothing is printed;
--- or the help that they ask for could not be written
+-- a line is written for words that give no task: memory ran out, and nothing is printed; or the
+-- help that they ask for could not be written
 abbrev pub WritesNoTaskFault : (old new printed_old printed_new : Option (List ℕ)) → Type 0
 WritesNoTaskFault old new printed_old printed_new =
     (Appends old new (fault_line NoMemory ++ 10 ∷ []) × Keeps printed_old printed_new)
@@ -83,8 +83,8 @@ WritesSolutionFaults contents (Serve database terms) old new printed_old printed
 WritesSolutionFaults contents (Export database) old new printed_old printed_new is_err_written = ⊥
 WritesSolutionFaults contents (Explain words) old new printed_old printed_new is_err_written = ⊥
 
--- the line of a fault is written, either of the task of the words or of words that give no task; or
--- those of solutions
+-- the line of a fault is written, either of the task of the words or for words that give no task;
+-- or the lines of solutions' faults
 abbrev pub WritesFault : {W : Type 0} → (W → Option (List ℕ)) → List Text → (old new : W)
     → (printed_old printed_new : Option (List ℕ)) → Type 0
 WritesFault contents words old new printed_old printed_new =

@@ -18,7 +18,7 @@ published_solution office =
     option_map (λ (found : Session × Publication). canonical_solution found.1.timetable)
     (publication_in office)
 
--- it is written, and the office is unchanged
+-- the solution of the publication is written, and the office is unchanged
 pub record Exports (office : OfficeState) (after : State) (old new : Option (List ℕ))
     : Type 0 where
   pub text : List ℕ
@@ -26,8 +26,7 @@ pub record Exports (office : OfficeState) (after : State) (old new : Option (Lis
   pub printed : Appends old new text
   pub stands : Represents after office
 
--- a statement failed, nothing is published, memory was refused, or the writer failed while the
--- publication was written
+-- a statement failed, nothing is published, memory ran out, or the writer failed during the write
 abbrev pub RefusesExport : OfficeState → ExportFault → Type 0
 RefusesExport office (fault.Store f) = f ≡ store.Store
 RefusesExport office fault.NoPublication = published_solution office ≡ None

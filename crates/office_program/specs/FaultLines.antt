@@ -43,7 +43,7 @@ abbrev pub open_line : Error → List ℕ
 open_line (SqliteFailure OutOfMemory) = fault_line fault.NoMemory
 open_line error = fault_line (fault.CannotOpen error)
 
--- the line of a refusal of the office, without its end: a faulty file has the line of the file
+-- the line of a refusal of the office, without its end; for a faulty file, the line of the file
 abbrev pub store_line : StoreFault → List ℕ
 store_line (store.Refused (refusal.File f)) = fault_line (fault.Instance f)
 store_line f = fault_line (fault.Store f)

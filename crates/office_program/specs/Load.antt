@@ -9,7 +9,7 @@ use Rattle.office_model.specs.declared.counts.Loaded.{Loaded}
 use Rattle.office_program.specs.declared.loading.LoadFault.{LoadFault}
 use Rattle.office_program.specs.declared.loading.LoadFault.TheVariants.{Store, Write}
 
--- the line that says how much was loaded, without its end
+-- the line with the counts of a load, without its end
 abbrev pub loaded_line : Loaded → List ℕ
 loaded_line l =
     codes "loaded exams " ++ decimal l.exams ++ codes " pairs " ++ decimal l.pairs
@@ -26,7 +26,7 @@ pub record IsLoaded (text : List ℕ) (office : OfficeState) (after : State) (co
   pub gives : loaded text office ≡ Ok (counts, next)
   pub stands : Represents after next
 
--- the text is loaded into the office, and the line that says how much is printed
+-- the text is loaded into the office, and the line with its counts is printed
 pub record Loads (text : List ℕ) (office : OfficeState) (after : State)
     (old new : Option (List ℕ)) : Type 0 where
   pub counts : Loaded
@@ -48,7 +48,7 @@ abbrev pub NamesTextFault : List ℕ → LoadFault → Type 0
 NamesTextFault text (Store fault) = NamesFirstFault text fault
 NamesTextFault text Write = Unit {0}
 
--- the line with the counts of what the text spells is printed
+-- the line with the counts of the session in the text is printed
 abbrev pub PrintsCounts : List ℕ → Option (List ℕ) → Option (List ℕ) → Type 0
 PrintsCounts text old new =
     (counts : Loaded) × SpellsSession text counts × Appends old new (loaded_text counts)

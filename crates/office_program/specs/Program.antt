@@ -63,7 +63,7 @@ abbrev pub fault_of_words : List Text → Kinds
 fault_of_words words =
     or_else (fault_of program words) (unexplained_in (subcommand_of program words))
 
--- an error of clap is a mistake in the words: neither a call for help nor out of memory
+-- an error of clap is a mistake in the words, neither a call for help nor out of memory
 abbrev pub IsMistake : ErrorKind → Type 0
 IsMistake k = (k ≢ kind.OutOfMemory) × (k ≢ kind.DisplayHelp) × (k ≢ kind.DisplayVersion)
 

@@ -1,4 +1,4 @@
--- The office that a database represents after clients were served, and what is printed meanwhile.
+-- The office that a database represents after clients were served, and the lines that were printed.
 use Rattle.std.specs.Prelude.{◌≡◌, ◌≢◌, ◌<◌, ◌≤◌, ◌⊎◌, ℕ, IfErr, IfOk, IsTrue, List, Option}
 use Rattle.std.specs.Prelude.{Result, length}
 use Rattle.std.specs.Io.KnownBytes.{Keeps}
@@ -20,17 +20,17 @@ use Rattle.office_program.specs.declared.words.Terms.{Terms}
 use Rattle.office_store.specs.Opening.{IsOfficeOf}
 use Rattle.office_store.specs.Shut.{IsShut}
 
--- assuming the disk returns what was written, the office served these connections, by each
--- candidate's view
+-- assuming the disk returns what was written, the office served these connections, and each
+-- candidate got the text of their view
 abbrev pub OfficeServes : {S : Type 0} → Ghosts S → List Visit → Held S → Held S → Type 0
 OfficeServes store visits old new = LeadsOffice store (ServesAllByView visits) old new
 
--- assuming the disk returns what was written, a failed call of it has shut the store
+-- assuming the disk returns what was written, a failed disk call has closed the store
 abbrev pub IsStoreShut : {S : Type 0} → Ghosts S → Held S → Type 0
 IsStoreShut store held = HasCleanDisk (state store held) → IsShut (state store held)
 
--- the office served as many clients as the terms say; or the store is shut after the last; or fewer
--- were served, because an accept failed; or nobody was
+-- the office served as many clients as the terms say; or the store is closed after the last one; or
+-- fewer were served, because an accept failed; or no client was
 pub record ServesTerms {S : Type 0} (store : Ghosts S) (AreTheirs : List Visit → Type 0)
     (terms : Terms) (outcome : Result Ending ProgramFault) (old new : Held S)
     (errors_old errors_new : Option (List ℕ)) : Type 0 where
@@ -44,15 +44,15 @@ pub record ServesTerms {S : Type 0} (store : Ghosts S) (AreTheirs : List Visit �
       ⊎ (((shown ≡ fault.CannotListen) × (service.accepted < terms.connections))
       ⊎ ((shown ≡ fault.Store Store) × IsStoreShut store new)))
 
--- while it is open, it represents an office that this one reaches by serving at most this many
--- connections
+-- while it is open, the database represents an office that serving at most this many connections
+-- leads to from the first office
 abbrev pub ReachesByServing : ℕ → OfficeState → State → Type 0
 ReachesByServing connections there s =
     (visits : List Visit) × (length visits ≤ connections) × (next : OfficeState)
     × ServesAllByView visits there next × (IsTrue s.is_open → IsOfficeOf s.now next)
 
--- the port of the terms is printed on the one writer; the other has the line of each connection's
--- fault, unless a write of it failed
+-- the port of the terms is printed on `out`; `err` has the line of each connection's fault, unless
+-- a write of it failed
 pub record PrintsServed (terms : Terms) (old new errors_old errors_new : Option (List ℕ))
     (ending : Ending) : Type 0 where
   pub status : ending.status ≡ 0
@@ -60,7 +60,7 @@ pub record PrintsServed (terms : Terms) (old new errors_old errors_new : Option 
   pub err_line :
       IsTrue ending.is_err_written → PrintsFaults terms.connections errors_old errors_new
 
--- a fault other than of writing leaves what was printed unchanged, or the port was printed
+-- after a fault other than of writing, `out` is unchanged, or the port was printed
 abbrev pub LeavesPort : Terms → Option (List ℕ) → Option (List ℕ) → ProgramFault → Type 0
 LeavesPort terms old new shown =
     shown ≢ fault.CannotWrite → Keeps old new ⊎ PrintsPort terms.port old new

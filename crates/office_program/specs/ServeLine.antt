@@ -11,7 +11,7 @@ use Rattle.office_program.specs.declared.words.Terms.{Terms}
 use Rattle.office_program.specs.declared.words.TheConstants.{MAX_CONNECTIONS, MAX_PATIENCE}
 use Rattle.office_program.specs.CommandLine.{named_rule}
 
--- an option whose value is a whole number within these bounds
+-- an option with a whole number within these bounds as its value
 abbrev pub numbered : Rule → ℕ → ℕ → Rule
 numbered rule least most = record rule { parser = Some (Signed (pos least) (pos most)) }
 
@@ -36,7 +36,7 @@ abbrev pub serve_app : App
 serve_app = with_rule (with_rule (with_rule (with_rule (new_app (codes "serve"))
     (named_rule (codes "db"))) port_rule) connections_rule) patience_rule
 
--- the value under this name spells the number in decimal digits, with or without a plus
+-- the value with this name is the number in decimal digits, with or without a plus
 abbrev pub HasNumber : Text → List Row → ℕ → Type 0
 HasNumber name rows n =
     (text : Text) × (one_of name rows ≡ Some text) × IsNumeral 10 (without_leading_plus text)

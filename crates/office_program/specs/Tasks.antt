@@ -12,9 +12,9 @@ use Rattle.office_program.specs.declared.faults.ProgramFault.TheVariants.{Cannot
 use Rattle.office_program.specs.declared.words.Task.{Task}
 use Rattle.office_program.specs.declared.words.Task.TheVariants.{Check, CheckAll, Explain, Export, Load, Serve}
 
--- a report on a solution that breaks no hard rule, the lines of solutions of which none has a fault
--- or a breach, the line with the counts of some text, the line of the port, the solution of some
--- whole timetable, or the words of a fault
+-- a report on a solution that breaks no hard rule, the lines of solutions without a fault or a
+-- breach, the line with the counts of some text, the line of the port, the solution of some whole
+-- timetable, or the words of a fault
 abbrev pub Prints : Task → Option (List ℕ) → Option (List ℕ) → Type 0
 Prints (Check instance solution) old new = WritesReport old new 0
 Prints (CheckAll session solutions form) old new =
@@ -24,7 +24,7 @@ Prints (Serve database terms) old new = PrintsPort terms.port old new
 Prints (Export database) old new = PrintsSolution old new
 Prints (Explain words) old new = Appends old new (words.now ++ 10 ∷ [])
 
--- the fault is shown as one of the files that the task names; `explain` can only fail to write
+-- the fault is one of the files that the task names; `explain` can only fail to write
 abbrev pub IsOfTask : Task → ProgramFault → Type 0
 IsOfTask (Check instance solution) shown =
     IsOfCheck (string_bytes instance) (string_bytes solution) shown
@@ -35,7 +35,7 @@ IsOfTask (Export database) shown = IsOfExport shown
 IsOfTask (Explain words) shown = shown ≡ CannotWrite
 
 -- the output of a task that ends with status 3: a report on a solution that breaks a hard rule, or
--- the lines of solutions of which none has a fault and one has a breach
+-- the lines of solutions without a fault, at least one of them with a breach
 abbrev pub PrintsBroken : Task → Option (List ℕ) → Option (List ℕ) → Type 0
 PrintsBroken (Check instance solution) old new = WritesReport old new 3
 PrintsBroken (CheckAll session solutions form) old new =

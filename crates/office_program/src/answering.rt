@@ -12,14 +12,14 @@ use office_http::{Alter, Desk, Routes, reply};
 use office_messages::{Machine, Reply, Request, Status};
 use std::alloc::Global;
 
-/// The desk of an office in a database. It checks after each reply whether its store is shut.
+/// The desk of an office in a database. It checks after each reply whether its store is closed.
 #[derive(Drop)]
 pub(crate) struct ServingDesk<'a, 'b, S: Alter> {
     pub(crate) rt: &'b HostRuntime,
     pub(crate) database: &'b str,
     pub(crate) desk: &'a mut Desk<S>,
     pub(crate) routes: &'b Routes,
-    /// Whether the store was shut after the last reply.
+    /// Whether the store was closed after the last reply.
     pub(crate) is_shut: bool,
 }
 
@@ -28,7 +28,7 @@ impl<S: Alter> Machine for ServingDesk<'_, '_, S> {
     ghost use Rattle.office_http.specs.Replying.{Answered};
     ghost use Rattle.office_program.specs.Serve.{IsStoreShut};
 
-    // It says that the store is shut only if it is.
+    // It reports a closed store only if the store is closed.
     ghost Answers = { λ old request reply new.
         (new.desk.ghost_name ≡ old.desk.ghost_name)
         × Answered S.Store old.desk.now request reply new.desk.now
@@ -62,7 +62,7 @@ fn asks_to_publish(request: &Request<'_>) -> bool {
         && request.target.ends_with("/publish")
 }
 
-// Returns whether the store is shut after a reply with this status. After a request that was done
+// Returns whether the store is closed after a reply with this status. After a request that was done
 // it is open.
 fn is_shut_after<S: Alter>(status: Status, desk: &mut Desk<S>) -> bool
     ensures shut { IsTrue result → IsStoreShut S.Store desk.new }
@@ -77,7 +77,7 @@ fn is_shut_after<S: Alter>(status: Status, desk: &mut Desk<S>) -> bool
     }
 }
 
-// Returns whether the store is shut; false if that can't be found out.
+// Returns whether the store is closed; false if that can't be found out.
 fn is_shut<S: Alter>(desk: &mut Desk<S>) -> bool
     ensures shut { IsTrue result → IsStoreShut S.Store desk.new }
     ensures unchanged { HasCleanDisk (state S.Store desk.new)

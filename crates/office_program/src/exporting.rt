@@ -25,11 +25,11 @@ use std::io::Write;
 /// Why the publication is not written.
 #[derive(Clone, Copy, Debug, PartialEq, Eq)]
 pub enum ExportFault {
-    /// The tables represent no office, or a statement failed.
+    /// The tables don't represent an office, or a statement failed.
     Store(StoreFault),
     /// Nothing is published.
     NoPublication,
-    /// Memory for the text was refused.
+    /// Memory ran out for the text.
     NoMemory,
     /// The writer failed; how much of the text was written is unknown.
     Write,
@@ -80,7 +80,7 @@ pub fn export_run<S: Alter, W: Write>(
         → (there : OfficeState) → HoldsOffice (state S.Store conn).now there
         → Exports there (state S.Store after) (W.contents writer.old) (W.contents writer.new)) }
     // A fault is a failed statement, `NoPublication`, out of memory or the writer's; `BadSchema` if
-    // the tables represent no office.
+    // the tables don't represent an office.
     ensures refused { IfErr result (λ e. HasCleanDisk (state S.Store e.1)
         → (there : OfficeState) → HoldsOffice (state S.Store conn).now there
         → RefusesExport there e.0) }
@@ -90,7 +90,7 @@ pub fn export_run<S: Alter, W: Write>(
         → (there : OfficeState) → HoldsOffice (state S.Store conn).now there
         → IsTrue (state S.Store e.1).is_open → HoldsOffice (state S.Store e.1).now there) }
 
-    // Over any disk, a whole solution is written, or nothing.
+    // On any disk, a whole solution is written, or nothing.
     ensures printed { IfOk result (λ _.
         PrintsSolution (W.contents writer.old) (W.contents writer.new)) }
     ensures unwritten { IfErr result (λ e. e.0 ≢ ExportFault.Write

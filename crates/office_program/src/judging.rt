@@ -32,7 +32,7 @@ pub(crate) struct VerdictLine {
     pub(crate) has_breach: bool,
 }
 
-// Runs `check-all`. One solution after another is opened; a fault of one doesn't affect the others.
+// Runs `check-all`. It opens one solution after another; a fault of one doesn't affect the others.
 pub(crate) fn check_all<'a, R: Files + AllocGlobal, W: Write, E: Write>(
     rt: &R,
     session: &'a str,

@@ -13,10 +13,10 @@ use std::alloc::Global;
 use std::fmt;
 use std::io::{self, Write};
 
-/// Why a session is not loaded, or the line that says so is not written.
+/// Why a session is not loaded, or why its line is not written.
 #[derive(Clone, Copy, Debug, PartialEq, Eq)]
 pub enum LoadFault {
-    /// The tables represent no office, or its office refuses the text; nothing is loaded.
+    /// The tables don't represent an office, or the office refuses the text; nothing is loaded.
     Store(StoreFault),
     /// The session is loaded, but the writer failed; how much of the line was written is unknown.
     Write,
@@ -48,8 +48,8 @@ impl fmt::Display for LoadedLine {
     }
 }
 
-/// Loads the session of an instance's text into the office of a database, which is created if the
-/// database has no table, index or view; then writes how much was loaded. Returns the connection.
+/// Loads the session of an instance's text into the office of a database, and creates the office if
+/// the database has no table, index or view; then writes the counts. Returns the connection.
 pub fn load_run<S: Alter, W: Write>(
     alloc: Global,
     conn: Connection<S>,
@@ -72,7 +72,7 @@ pub fn load_run<S: Alter, W: Write>(
         → IfRefused (IsTrue (state S.Store e.1).is_open
         → IsOfficeOf (state S.Store e.1).now there) e.0) }
 
-    // Over any disk, the line has the counts of what the text spells, or nothing is written.
+    // On any disk, the line has the counts of the session in the text, or nothing is written.
     ensures printed { IfOk result (λ _.
         PrintsCounts text.now (W.contents writer.old) (W.contents writer.new)) }
     ensures unwritten { IfErr result (λ e. e.0 ≢ LoadFault.Write
@@ -90,7 +90,7 @@ pub fn load_run<S: Alter, W: Write>(
     }
 }
 
-// Loads the text into the office, and writes how much was loaded.
+// Loads the text into the office, and writes the counts.
 fn load_into<S: Alter, W: Write>(
     alloc: Global,
     office: &mut Office<S>,
@@ -125,7 +125,7 @@ fn load_into<S: Alter, W: Write>(
     }
 }
 
-// Writes how much was loaded.
+// Writes the counts.
 fn print_loaded<W: Write>(loaded: Loaded, writer: &mut W) -> io::Result<()>
     ensures { OnOk result
         (Appends (W.contents writer.old) (W.contents writer.new) (loaded_text loaded)) }

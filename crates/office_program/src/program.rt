@@ -37,7 +37,7 @@ use std::rt::Files;
 use std::{fs, io};
 
 /// Does what the words say; the first word is the program's name. The lines of faults, including
-/// those of connections, and the text of a mistake go to `err`. Everything else goes to `out`.
+/// those of connections, and the text of a mistake are written to `err`, everything else to `out`.
 pub fn run_program<O: Write, E: Write>(
     rt: &HostRuntime,
     words: &[String],
@@ -47,19 +47,19 @@ pub fn run_program<O: Write, E: Write>(
     ensures within { result.status ≤ 3 }
 
     // Status 0 is a command that is done, or a call for help or the version. Status 2 is a mistake
-    // in the words: one that clap finds, or that they name no fault.
+    // in the words: one that clap finds, or an unknown fault to explain.
     ensures answered { result.status ≡ 0 → AreAnswered (map string_bytes words.now) }
     ensures mistake { result.status ≡ 2 → fault_of_words (map string_bytes words.now) ≢ [] }
     // Status 3, a breach, comes only for words without a mistake.
     ensures broken { result.status ≡ 3 → fault_of_words (map string_bytes words.now) ≡ [] }
 
-    // Status 3 comes with the whole report on two texts, which have a reading; or with a line for
-    // each of some solutions, of which one has a breach and none a fault.
+    // Status 3 comes with the whole report on two valid texts; or with a line for each of some
+    // solutions, of which none has a fault and at least one has a breach.
     ensures reported { result.status ≡ 3
         → (task : Task) × IsTask (map string_bytes words.now) task
         × PrintsBroken task (O.contents out.old) (O.contents out.new) }
 
-    // Help, and the output of a task that is done, are written only to `out`; except that a server
+    // Help, and the output of a task that is done, are written only to `out`, except that `serve`
     // writes the faults of connections to `err`. A mistake leaves `out` unchanged.
     ensures quiet { (result.status ≡ 0) ⊎ (result.status ≡ 3) → IsTrue result.is_err_written
         → IsQuiet E.contents (map string_bytes words.now) err.old err.new }
@@ -74,8 +74,8 @@ pub fn run_program<O: Write, E: Write>(
 
     // Status 1 comes with the whole line of a fault of the words on `err`, unless `err` failed.
     // Unless the fault is one of writing, `out` is unchanged, or has the line of the port. `check`,
-    // `load`, `export` and `explain` write nothing else to `err`; the last line of `serve` there is
-    // this one; `check-all` writes a line there for each solution with a fault, with its path.
+    // `load`, `export` and `explain` write nothing else to `err`; for `serve` this is the last line
+    // there; `check-all` writes a line for each solution with a fault, with its path.
     ensures err_line { result.status ≡ 1 → IsTrue result.is_err_written
         → WritesFault E.contents (map string_bytes words.now) err.old err.new
         (O.contents out.old) (O.contents out.new) }

@@ -22,7 +22,7 @@ use std::fs;
 use std::io::{Read, Write};
 use std::time::Duration;
 
-// Runs `serve`. The database is opened, and its office found or created, before the port is opened.
+// Runs `serve`. It opens the database, and finds or creates its office, before it opens the port.
 pub(crate) fn serve<'a, O: Write, E: Write>(
     rt: &HostRuntime,
     database: &str,
@@ -52,8 +52,8 @@ pub(crate) fn serve<'a, O: Write, E: Write>(
     done
 }
 
-/// Serves the office of a database, and returns its connection. An office is created in the
-/// database if it has no table, index or view.
+/// Serves the office of a database, and returns its connection. The office is created if the
+/// database has no table, index or view.
 pub fn serve_stored<'a, S: Alter, O: Write, E: Write>(
     rt: &HostRuntime,
     database: &str,
@@ -63,8 +63,8 @@ pub fn serve_stored<'a, S: Alter, O: Write, E: Write>(
     err: &mut E,
 ) -> (Connection<S>, Result<Ending, ProgramFault<'a>>)
     // Assuming the disk returns what was written, and the database had nothing uncommitted: however
-    // the call ends, the database represents an office that the one found reaches by serving its
-    // connections.
+    // the call ends, the database represents an office that serving its connections leads to from
+    // the one found.
     ensures reached { HasCleanDisk (state S.Store result.0)
         → ((state S.Store conn).now ≡ (state S.Store conn).committed)
         → (there : OfficeState) → IsOfficeOf (state S.Store conn).now there
@@ -98,13 +98,13 @@ pub fn serve_desk<'a, S: Alter, O: Write, E: Write>(
     ensures reached { ServesTerms S.Store (λ visits. Unit {0}) terms result desk.old desk.new
         (E.contents err.old) (E.contents err.new) }
     ensures clean { HasCleanDisk (state S.Store desk.new) → HasCleanDisk (state S.Store desk.old) }
-    // The line of the port was printed: of the requested port, or of any if that was 0. If no line
+    // The line of the port was printed: the requested port, or any if that was 0. If no write
     // failed, `err` has a line for each connection that ended with a fault.
     ensures served { IfOk result (PrintsServed terms (O.contents out.old) (O.contents out.new)
         (E.contents err.old) (E.contents err.new)) }
     // The fault is one of a database, of an office or of listening.
     ensures fault { IfErr result IsOfServe }
-    // Unless the writer failed, nothing was printed, or only the line of the port.
+    // Unless the writer failed, `out` is unchanged, or has only the line of the port.
     ensures port { IfErr result
         (LeavesPort terms (O.contents out.old) (O.contents out.new)) }
 {
@@ -124,9 +124,8 @@ pub fn serve_desk<'a, S: Alter, O: Write, E: Write>(
     )
 }
 
-/// Serves the office at a desk to clients, each a reader and a writer, in the order in which they
-/// come: prints the port that they come from, then serves as many as the terms say, while the store
-/// is open.
+/// Serves the office at a desk to clients, each a reader and a writer, in the order of arrival:
+/// prints the port, then serves as many clients as the terms say, while the store is open.
 pub fn serve_at_desk<
     'a,
     S: Alter,
@@ -147,13 +146,13 @@ pub fn serve_at_desk<
 ) -> Result<Ending, ProgramFault<'a>>
     requires { I.can_next clients.old }
 
-    // However the call ends, assuming the disk returns what was written, whatever office was found:
-    // each client is sent the office's replies to the messages of its whole stream, in whatever
-    // pieces and at whatever pace it comes, or, after a fault, to the first of them. The office
-    // that one client leaves is the next one's, and the file represents it after the last. Each
-    // candidate is replied the text of their view. As many clients were served as the terms say; or
-    // fewer, because an accept failed, or because a failed call of the disk has shut the store and
-    // the fault is `Store`; or nobody was. The lines on `err` are those of the faults that
+    // However the call ends, assuming the disk returns what was written, and for any office that
+    // was found: each client is sent the office's replies to the messages of its whole stream, in
+    // whatever pieces and at whatever speed it comes, or, after a fault, to the first of them. The
+    // office that one client leaves is the next one's, and the file represents it after the last.
+    // Each candidate gets the text of their view. As many clients were served as the terms say; or
+    // fewer, because an accept failed, or because a failed disk call has closed the store and the
+    // fault is `Store`; or no client was. The lines on `err` are those of the faults that
     // connections ended with, unless a line could not be written.
     ensures served { ServesTerms S.Store
         (AreOfClients I.next_gives R.remaining W.contents clients.old) terms result

@@ -19,7 +19,7 @@ pub(crate) enum LongWork<'a> {
     Publishing(&'a str),
     /// An office is created in a new file.
     Making(&'a str),
-    /// The tables of version 1 become those of version 2.
+    /// The tables of version 1 are migrated to version 2.
     Upgrading(&'a str),
 }
 
@@ -54,22 +54,22 @@ impl fmt::Display for LongWork<'_> {
     }
 }
 
-// In bytes. Work on such a file takes at least some tenths of a second, and seconds at the limits.
+// In bytes. Work on such a file takes some tenths of a second at least, and seconds at the limits.
 const LARGE: u64 = 2_000_000;
 
-// Says which work begins, if the file is large.
+// Prints which work begins, if the file is large.
 pub(crate) fn announce(rt: &HostRuntime, work: LongWork<'_>) {
     if is_large(rt, path_of(work)) {
         say(rt, work);
     }
 }
 
-// Says that the office of a file is new.
+// Prints that the office of a file is new.
 pub(crate) fn announce_new(rt: &HostRuntime, path: &str) {
     say(rt, LongWork::Making(path));
 }
 
-// Says that the tables of a database have version 1, if so: opening changes them.
+// Prints that the tables of a database have version 1, if so: opening migrates them.
 pub(crate) fn announce_upgrade<S: Alter>(rt: &HostRuntime, path: &str, conn: &Connection<S>) {
     if let Ok(true) = is_of_version_1(rt.alloc(), conn) {
         say(rt, LongWork::Upgrading(path));

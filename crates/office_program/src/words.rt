@@ -74,13 +74,12 @@ pub fn words_of(alloc: Global, args: Args) -> io::Result<Vec<String>>
     Ok(args.collect(alloc)?)
 }
 
-/// Returns the task of the words, of which the first is the program's name. An error is displayed
-/// as the text for the user: a mistake in the words, a call for help or the version, or out of
-/// memory.
+/// Returns the task of the words; the first word is the program's name. An error is displayed as
+/// the text for the user: a mistake in the words, a call for help or the version, or out of memory.
 pub fn read_words(alloc: Global, words: &[String]) -> Result<Task, Error>
-    // The values are those that clap finds. A number is the one that its text spells: a port up to
-    // 65,535, 1 to 1,000,000 connections, a timeout of 1 to 86,400 seconds, or 30 if there is none.
-    // The words of `explain` are those of the fault of this kind and number.
+    // The values are those that clap finds. A number is the one in its text: a port up to 65,535, 1
+    // to 1,000,000 connections, a timeout of 1 to 86,400 seconds, or 30 if there is none. The words
+    // of `explain` are those of the fault of this kind and number.
     ensures task { IfOk result (IsTask (map string_bytes words.now)) }
     // An error is a mistake that clap finds, a fault to explain that doesn't exist, or out of
     // memory. An `Ok` comes only without such a mistake.
@@ -152,8 +151,8 @@ fn check_task(alloc: Global, values: &ArgMatches<'_>) -> Result<Task, Error>
     Ok(Task::Check(instance, solution))
 }
 
-// Returns the value that was found. Clap makes sure that there is one, but its contract says so of
-// no subcommand: a missing value would be answered as out of memory.
+// Returns the value that was found. Clap makes sure that there is one, but its contract doesn't say
+// so for subcommands: a missing value would be answered as out of memory.
 pub(crate) fn value_of(alloc: Global, values: &ArgMatches<'_>, id: &str) -> Result<String, Error>
     ensures ok { IfOk result (λ value.
         first_of id.now (rows_of (found_of values.now)) ≡ Some (string_bytes value)) }
@@ -200,7 +199,8 @@ fn terms_of(values: &ArgMatches<'_>) -> Result<Terms, Error>
 }
 
 // Returns the number that was found, within these bounds. Clap makes sure of them too, but its
-// contract says so of no subcommand: a number out of bounds would be answered as out of memory.
+// contract doesn't say so for subcommands: a number out of bounds would be answered as out of
+// memory.
 fn number_of(values: &ArgMatches<'_>, id: &str, least: u32, most: u32) -> Result<u32, Error>
     ensures ok { IfOk result (λ n. HasNumber id.now (rows_of (found_of values.now)) n
         × (least ≤ n) × (n ≤ most)) }
@@ -221,7 +221,7 @@ fn export_task(alloc: Global, values: &ArgMatches<'_>) -> Result<Task, Error>
     Ok(Task::Export(database))
 }
 
-// Returns the task of `explain` with these values, which name a fault or not.
+// Returns the task of `explain` with these values; they may name no fault.
 fn explain_task(alloc: Global, values: &ArgMatches<'_>) -> Result<Task, Error>
     ensures ok { IfOk result (HasExplainValues (rows_of (found_of values.now))) }
     ensures err { IfErr result (HasKind (unexplained (rows_of (found_of values.now)))) }
@@ -234,7 +234,7 @@ fn explain_task(alloc: Global, values: &ArgMatches<'_>) -> Result<Task, Error>
     }
 }
 
-// Returns the mistake of words that name no fault.
+// Returns the mistake of words that name an unknown fault.
 fn no_such_fault(alloc: Global) -> Result<Error, AllocError>
     ensures { IfOk result (λ e. kind_of e ≡ InvalidValue) }
 {

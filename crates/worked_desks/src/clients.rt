@@ -82,7 +82,7 @@ struct Outcome {
     lines: Vec<u8>,
 }
 
-// A desk whose store is never shut.
+// A desk whose store is never closed.
 #[derive(Drop)]
 struct OpenDesk<'a> {
     answering: AnsweringDesk<'a, MemStore>,
@@ -292,7 +292,7 @@ fn serve_three(alloc: Global, case: &Case<'_>) -> Result<Outcome, Fail> {
     })
 }
 
-// A side whose calls move all bytes and take no time.
+// A side of a connection whose calls move all bytes and take no time.
 fn at_once<T: Drop>(inner: T, clock: &HandClock) -> Side<'_, T> {
     Side::new(inner, AT_ONCE, clock)
 }

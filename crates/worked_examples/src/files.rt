@@ -64,7 +64,7 @@ fn a_sixth_weighting_is_of_nights(rt: HostRuntime) -> Result<(), Fail> {
             lines,
         );
     }
-    // as the first of the weightings
+    // the first of the weightings
     let first = SMALL.replace(rt.alloc(), "TWOINAROW", "OVERNIGHT,6\nTWOINAROW")?;
     let found = rewritten(rt.alloc(), first.as_str());
     let wanted = longer(rt.alloc(), "OVERNIGHT,6\r\n")?;

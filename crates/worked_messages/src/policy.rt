@@ -81,7 +81,7 @@ fn swap() -> Command<'static> {
 // A command, the owners of its exams, and the policy's decision.
 type Case = (Command<'static>, (u32, u32), Result<(), Denial>);
 
-// Ends the test if the policy decides otherwise for this caller.
+// Ends the test if the policy's decision for this caller is another one.
 fn judges(rt: &impl Abort, caller: &Caller, cases: &[Case]) {
     for (row, (command, (first, other), wanted)) in cases.iter().enumerate() {
         let found = allowed(*caller, command, *first, *other);

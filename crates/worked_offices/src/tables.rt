@@ -97,7 +97,7 @@ fn put_session(tx: &mut Transaction<'_, MemStore>) -> Result<(), Error> {
     Each { alterations }.apply(tx)
 }
 
-// Three places, three seats and four shares, in no order.
+// Three places, three seats and four shares, not in order.
 fn put_publication(tx: &mut Transaction<'_, MemStore>) -> Result<(), Error> {
     for row in [place(2, 2, 0), place(0, 0, 0), place(1, 1, 1)] {
         InsertPlacement { row }.apply(tx)?;

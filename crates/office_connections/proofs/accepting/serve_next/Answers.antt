@@ -35,7 +35,7 @@ returns-in-Ok g c =
       goes = client.ensures.goes.keeps;
     }
 
--- the line of one that did not was printed
+-- the line of a connection that ended with a fault was printed
 pub returns-in-Err : goal.returns-in-Err
 returns-in-Err g c =
     let client = c.in_ok-from in

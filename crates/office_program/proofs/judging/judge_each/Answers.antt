@@ -7,7 +7,7 @@ use Rattle.office_program.proofs.judging.judge_each.Goals as goal
 pub loop-path-init : goal.loop-path-init
 loop-path-init g c = record { outcomes = no_outcome _ _ _ _ _; quiet = λ sound. refl }
 
--- one solution more
+-- one more solution
 pub loop-path-preserved : goal.loop-path-preserved
 loop-path-preserved g c = record {
   outcomes = subst (λ paths. HasOutcomes c.args.judge.now.0 c.args.judge.now.1 c.args.form paths

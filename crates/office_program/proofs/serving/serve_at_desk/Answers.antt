@@ -10,11 +10,11 @@ pub returns-in_default-clause-served : goal.returns-in_default-clause-served
 returns-in_default-clause-served g c =
     serves_nobody g.S.Store _ _ _ _ _ (_, no_client _ _ _ _)
 
--- out of memory is shown like out of memory when a database is opened
+-- out of memory for the desk gets the same line as out of memory for a database
 pub returns-in_default-clause-fault : goal.returns-in_default-clause-fault
 returns-in_default-clause-fault g c = inl (SqliteFailure OutOfMemory, refl)
 
--- as many clients were served as the terms say
+-- the planned number of clients was served
 pub returns-in-Ok-serve_run-clause-served : goal.returns-in-Ok-serve_run-clause-served
 returns-in-Ok-serve_run-clause-served g c =
     let x = c.in-Ok-serve_run.ensures.served in
@@ -33,7 +33,7 @@ returns-in-Ok-serve_run-clause-clean g c =
     desk_clean g.S.Store (λ m. m.desk.ghost_name) (λ m. m.desk.now) (λ m. m.is_shut) _ _ _
     c.desk-1.given.1 _ _ _ _ c.in-Ok-serve_run.ensures.served.serves
 
--- the store is shut; or fewer were served, or nobody
+-- the store is closed; or fewer clients were served, or none
 pub returns-clause-served : goal.returns-clause-served
 returns-clause-served g c =
     let x = c.in-Err.ensures.served in
