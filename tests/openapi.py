@@ -152,10 +152,9 @@ def callers():
     rows = re.findall(r"((?:Command::\w+(?:\([^)]*\))?(?: \| )?)+|_) => (?:\{\s*)?Kind::(\w+)", policy)
     kinds = {command: kind for names, kind in rows for command in re.findall(r"Command::(\w+)", names)}
     rest, found, path_of = dict(rows)["_"], {}, pages()
-    for function in (REQUESTS / "commands.rt").read_text().split("\nfn ")[1:]:
-        page = re.search(r"Refusal::Method\(Page::(\w+)\)", function)
-        for verb, command in re.findall(r"Verb::(\w+) =>.*?Command::(\w+)", function, re.S) if page else ():
-            found[path_of[page[1]], verb.lower()] = CALLERS[kinds.get(command, rest)]
+    table = (REQUESTS / "commands.rt").read_text()
+    for verb, page, command in re.findall(r"\(Verb::(\w+), Page::(\w+)\) =>.*?Command::(\w+)", table, re.S):
+        found[path_of[page], verb.lower()] = CALLERS[kinds.get(command, rest)]
     return found
 
 
