@@ -1,3 +1,4 @@
+pub mod ConflictLemmas
 mod CountLemmas
 mod EnrolLemmas
 mod EnrolmentLemmas

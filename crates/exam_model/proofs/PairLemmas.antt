@@ -1,9 +1,9 @@
 -- Facts about the list of a set's pairs: by induction over the exams, from any number on.
-use Rattle.std.proofs.Common.{◌≡◌, ℕ, zero, suc, ◌+◌, ◌<◌, ◌≤◌, Bool, true, false, List, [], ◌∷◌, ◌++◌, length, map, count_by, refl, ap, ap₂, sym, ◌∙◌, inl, inr, arith, if◌then◌else◌}
+use Rattle.std.proofs.Common.{◌≡◌, ℕ, zero, suc, ◌+◌, ◌<◌, ◌≤◌, Bool, true, false, List, [], ◌∷◌, ◌++◌, length, take, map, count_by, refl, ap, ap₂, sym, ◌∙◌, inl, inr, arith, append-nil, append_assoc, length-take, if◌then◌else◌}
 use Rattle.std.specs.Prelude.{◌==◌, ◌||◌, ◌&&◌, All}
-use Rattle.std.specs.List.{list_any}
+use Rattle.std.specs.List.{list_any, AllByRecursion}
 use Rattle.std.proofs.lemmas.Bool.{eq-eqb, ne_eqb}
-use Rattle.std.proofs.lemmas.List.{length-map, length-append}
+use Rattle.std.proofs.lemmas.List.{length-map, length-append, take_more}
 use Rattle.std.proofs.lemmas.List.Elements.{All-nil, All-append, All-map, All-weaker, All-from_get_or}
 use Rattle.std.proofs.lemmas.List.Folds.{fold-map, fold_stays, list_any-append}
 use Rattle.std.proofs.lemmas.List.Kept.{AllPairs-cons}
@@ -13,7 +13,7 @@ use Rattle.exam_model.specs.Pairs.{Pair, pairs_at, pairs_from, pairs_of, is_pair
 use Rattle.exam_model.proofs.EnrolmentLemmas.{and-true, and-false}
 use Rattle.exam_model.proofs.SameSet.{tail_ascends}
 
-or-false : (a : Bool) → (a || false) ≡ a
+pub or-false : (a : Bool) → (a || false) ≡ a
 or-false true = refl
 or-false false = refl
 
@@ -102,7 +102,7 @@ count_below e f t (xs ∷ rest) lt =
     ∙ rw (ne_eqb f e (omega arith))
     (omega (arith, count_none xs, count_below e (f + 1) t rest (omega arith)))
 
-count_from : (e f k : ℕ) (t : ℕ → Bool) (E : Enrolled) → e ≡ f + k
+pub count_from : (e f k : ℕ) (t : ℕ → Bool) (E : Enrolled) → e ≡ f + k
     → count_by (λ p. (p.exam == e) && t p.student) (pairs_from f E) ≡ count_by t (students E k)
 count_from e f k t [] here = refl
 count_from e f zero t (xs ∷ rest) here =
@@ -161,6 +161,39 @@ ordered_from f (xs ∷ rest) up =
     (exams_from (f + 1) rest) in
     ordered_at f xs others (up 0 (omega arith)) greater
     (ordered_from (f + 1) rest (λ e lt. up (suc e) (omega arith)))
+
+-- ---- one exam more
+
+pairs_from-push : (k : ℕ) (E : Enrolled) (xs : List ℕ)
+    → pairs_from k (E ++ xs ∷ []) ≡ pairs_from k E ++ pairs_at (k + length E) xs
+pairs_from-push k [] xs = append-nil (pairs_at k xs) ∙ ap (λ n. pairs_at n xs) (omega arith)
+pairs_from-push k (ys ∷ E) xs =
+    ap (λ ps. pairs_at k ys ++ ps)
+    (pairs_from-push (k + 1) E xs
+    ∙ ap (λ n. pairs_from (k + 1) E ++ pairs_at n xs) (omega arith))
+    ∙ sym (append_assoc (pairs_at k ys) (pairs_from (k + 1) E) (pairs_at (k + length (ys ∷ E)) xs))
+
+pub pairs_more : (E : Enrolled) (e : ℕ) → e < length E
+    → pairs_of (take (e + 1) E) ≡ pairs_of (take e E) ++ pairs_at e (students E e)
+pairs_more E e lt =
+    ap (pairs_from 0) (take_more E e [] lt) ∙ pairs_from-push 0 (take e E) (students E e)
+    ∙ ap (λ n. pairs_of (take e E) ++ pairs_at n (students E e))
+    (let l = length-take e E in omega arith)
+
+-- ---- each pair's exam exists
+
+at_within : (n f : ℕ) (xs : List ℕ) (later : List Pair) → f < n
+    → AllByRecursion (λ p. p.exam < n) later
+    → AllByRecursion (λ p. p.exam < n) (pairs_at f xs ++ later)
+at_within n f [] later lt h = h
+at_within n f (x ∷ xs) later lt h = (lt, at_within n f xs later lt h)
+
+pub from_within : (n f : ℕ) (E : Enrolled) → f + length E ≤ n
+    → AllByRecursion (λ p. p.exam < n) (pairs_from f E)
+from_within n f [] h = tt
+from_within n f (xs ∷ rest) h =
+    at_within n f xs (pairs_from (f + 1) rest) (omega arith)
+    (from_within n (f + 1) rest (omega arith))
 
 -- ---- all of it
 

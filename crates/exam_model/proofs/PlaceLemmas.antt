@@ -1,5 +1,5 @@
 -- The index of a place in a table with a row of rooms for each period.
-use Rattle.std.proofs.Common.{ℕ, ◌+◌, ◌*◌, ◌<◌, arith, mul_comm}
+use Rattle.std.proofs.Common.{ℕ, ◌*◌, ◌<◌, arith, mul_comm}
 use Rattle.std.proofs.lemmas.Nat.{mul-add-lt}
 use Rattle.exam_terms.specs.declared.place.Place.{Place}
 use Rattle.exam_model.specs.Fits.{slot_of}

@@ -18,7 +18,7 @@ below_first x y ys up lt = has_gap (y ∷ ys) x 0 (record {
 })
 
 -- the first is not among the others
-first_once : (x : ℕ) (xs : List ℕ) → IsAscending (x ∷ xs) → has_number xs x ≡ false
+pub first_once : (x : ℕ) (xs : List ℕ) → IsAscending (x ∷ xs) → has_number xs x ≡ false
 first_once x [] up = refl
 first_once x (y ∷ ys) up =
     below_first x y ys (tail_ascends x (y ∷ ys) up) (up 0 1 (omega arith) (omega arith))

@@ -24,7 +24,7 @@ or_middle false b r = refl
 pub with_cases : (s u : ℕ) (us : List ℕ) (P : List ℕ → Type 0) →
     (s < u → P (s ∷ u ∷ us)) → (s ≡ u → P (u ∷ us)) → (u < s → P (u ∷ with_student s us)) →
     P (with_student s (u ∷ us))
-with_cases s u us P before same behind =
+with_cases s u us P before same after =
     let not_before = if s == u then u ∷ us else u ∷ with_student s us in
     elim (nat_lt s u) as (λ b. nat_lt s u ≡ b → P (if b then s ∷ u ∷ us else not_before)) [
       | true ↦ λ lt. before (ltb-true s u lt)
@@ -34,7 +34,7 @@ with_cases s u us P before same behind =
             | false ↦ λ ne.
                 let above = ltb-false s u ge in
                 let other = eqb-false s u ne in
-                behind (grind (arith, above, other))
+                after (grind (arith, above, other))
           ] refl
     ] refl
 
@@ -57,7 +57,7 @@ each_with P s (u ∷ us) own each =
     with_cases s u us (AllByRecursion P)
     (λ before. (own, each))
     (λ same. each)
-    (λ behind. (each.0, each_with P s us own each.1))
+    (λ after. (each.0, each_with P s us own each.1))
 
 -- every member is greater than x
 abbrev pub Above : ℕ → List ℕ → Type 0
@@ -78,7 +78,7 @@ above_with x s (u ∷ us) lt above =
     with_cases s u us (Above x)
     (λ before. above_cons x s (u ∷ us) lt above)
     (λ same. above)
-    (λ behind. above_cons x u (with_student s us) first others)
+    (λ after. above_cons x u (with_student s us) first others)
 
 pub ascending_cons : (x : ℕ) (xs : List ℕ) → Above x xs → IsAscending xs → IsAscending (x ∷ xs)
 ascending_cons x xs above up i zero lt within = absurd (omega arith)
@@ -104,7 +104,7 @@ ascending-with s (u ∷ us) up =
     (λ before.
     ascending_cons s (u ∷ us) (above_cons s u us before (above_less s u us before above)) up)
     (λ same. up)
-    (λ behind. ascending_cons u (with_student s us) (above_with u s us behind above) others)
+    (λ after. ascending_cons u (with_student s us) (above_with u s us after above) others)
 
 -- without a student, the others are members as before
 pub has-without : (s : ℕ) (xs : List ℕ) (t : ℕ) →

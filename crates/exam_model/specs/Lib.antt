@@ -5,7 +5,9 @@ pub mod Distances
 pub mod Enrolments
 pub mod StudentLists
 pub mod Pairs
+pub mod Sitters
 pub mod Changes
+pub mod Conflicts
 pub mod Timetable
 pub mod Fits
 pub mod PairCost

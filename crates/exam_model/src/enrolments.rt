@@ -1,9 +1,11 @@
 // Which student sits which exam: contracts see each exam's students, ascending.
-ghost use Rattle.std.specs.Prelude.{◌≡◌, ◌<◌, ◌≤◌, [], not, length, slice_set, IfOk, IfErr, OnOk, OnErr};
+ghost use Rattle.std.specs.Prelude.{◌≡◌, ◌<◌, ◌≤◌, [], not, length, slice_set, IfOk, IfErr, IfSome, OnOk, OnErr};
 ghost use Rattle.exam_terms.specs.declared.limits.TheConstants.{MAX_EXAMS};
 ghost use Rattle.exam_model.specs.Changes.{with_pair, without_pair};
+ghost use Rattle.exam_model.specs.Conflicts.{conflicts_of};
 ghost use Rattle.exam_model.specs.Enrolments.{Enrolled, AreEnrolments, IsAscending, Adds, Removes, RefusesPair, RefusesAll, students, has, size_of, shared, pair_count, no_pairs};
 
+use crate::conflicts::{Conflict, conflicts_of};
 use crate::fault::ModelFault;
 use crate::roll::Roll;
 use exam_terms::limits::MAX_PAIRS;
@@ -16,6 +18,8 @@ use std::marker::Model;
 pub struct Enrolments {
     rolls: Vec<Roll>,
     pairs: u32,
+    // `None`: not listed since the last change.
+    conflicts: Option<Vec<Conflict>>,
 }
 
 impl Model for Enrolments {
@@ -23,7 +27,8 @@ impl Model for Enrolments {
 
     ghost view = { λ a. a.rolls.items };
 
-    ghost invariant = { λ a. AreEnrolments a.rolls.items × (a.pairs ≡ pair_count a.rolls.items) };
+    ghost invariant = { λ a. (AreEnrolments a.rolls.items × (a.pairs ≡ pair_count a.rolls.items))
+        × IfSome a.conflicts (λ list. list.items ≡ conflicts_of a.rolls.items) };
 }
 
 impl Enrolments {
@@ -41,10 +46,14 @@ impl Enrolments {
                 .push(Roll::new(alloc))
                 .map_err(|_| ModelFault::NoMemory)?;
         }
-        Ok(Enrolments { rolls, pairs: 0 })
+        Ok(Enrolments {
+            rolls,
+            pairs: 0,
+            conflicts: None,
+        })
     }
 
-    /// Returns a copy with the same pairs.
+    /// Returns a copy with the same pairs, whose conflicts are not listed.
     pub fn copy(&self, alloc: Global) -> Result<Enrolments, AllocError>
         ensures same { IfOk result (λ made. made ≡ self.now) }
         ensures kept { IfOk result AreEnrolments }
@@ -56,6 +65,7 @@ impl Enrolments {
         Ok(Enrolments {
             rolls: copies,
             pairs: self.pairs,
+            conflicts: None,
         })
     }
 
@@ -121,6 +131,29 @@ impl Enrolments {
         both as u32
     }
 
+    /// Lists the conflicts of the exams, if they aren't listed and no student has more than 30 exams:
+    /// then timetables are judged faster, until the next change. `Err`: out of memory.
+    pub fn list_conflicts(&mut self, alloc: Global) -> Result<(), AllocError>
+        ensures same { self.new ≡ self.old }
+        ensures kept { AreEnrolments self.new }
+    {
+        if self.conflicts.is_none() {
+            self.conflicts = conflicts_of(alloc, &self.rolls)?;
+        }
+        Ok(())
+    }
+
+    /// Returns the pairs of exams that share students, by the greater exam and then by the smaller
+    /// one, if they are listed.
+    pub fn conflicts(&self) -> Option<&[Conflict]>
+        ensures { IfSome result (λ list. list.now ≡ conflicts_of self.now) }
+    {
+        match &self.conflicts {
+            Some(list) => Some(list),
+            None => None,
+        }
+    }
+
     /// Adds a pair, and returns whether it is new. `NoSuch`: there is no such exam; then `Range`:
     /// the pair is new and there are 200,000; then `NoMemory`. Adding moves all greater students of
     /// the exam, so it is fast if they come in ascending order.
@@ -134,6 +167,7 @@ impl Enrolments {
         ensures refused { IfErr result (RefusesPair self.old student exam) }
     {
         let _number = student.get(); // read for its limit
+        self.conflicts = None;
         let full = self.pairs >= MAX_PAIRS;
         let Some(roll) = self.rolls.get_mut(exam.get() as usize) else {
             return Err(ModelFault::NoSuch);
@@ -157,6 +191,7 @@ impl Enrolments {
         ensures pair { self.new ≡ without_pair self.old student exam }
         ensures kept { AreEnrolments self.new }
     {
+        self.conflicts = None;
         let removed = self.rolls[exam.get() as usize].remove(student);
         if removed {
             self.pairs -= 1;
@@ -179,6 +214,7 @@ impl Enrolments {
         if count > (MAX_PAIRS - self.pairs) as usize {
             return Err(ModelFault::Range);
         }
+        self.conflicts = None;
         self.rolls[exam.get() as usize].fill(sitters)?;
         self.pairs += count as u32;
         Ok(())

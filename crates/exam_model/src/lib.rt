@@ -2,6 +2,7 @@
 #![tactic(auto)]
 
 mod change;
+mod conflicts;
 mod enrolments;
 mod fault;
 mod instance;
@@ -11,9 +12,11 @@ mod pair_cost;
 mod parts;
 mod roll;
 mod rules;
+mod sitter;
 mod timetable;
 
 pub use change::Change;
+pub use conflicts::Conflict;
 pub use enrolments::Enrolments;
 pub use exam_calendar::Date;
 pub use exam_terms::{DeptNo, ExamNo, PeriodNo, Place, RoomNo, StudentNo};
@@ -23,4 +26,5 @@ pub use laws::{determined_by_pairs, others_stay, pairs_in_order};
 pub use pair_cost::PairCost;
 pub use parts::{Exam, Period, Room, Weights};
 pub use rules::{PeriodRule, RoomRule};
+pub use sitter::Sitter;
 pub use timetable::Timetable;

@@ -5,18 +5,20 @@ use Rattle.exam_model.proofs.enrolments.Enrolments.add.Goals.{else-full-via-then
 use Rattle.exam_model.proofs.enrolments.Enrolments.add.Goals as goal
 
 pub invariant_of-self : goal.invariant_of-self
-invariant_of-self c = c.self.invariant
+invariant_of-self c = (c.self.invariant.0, tt)
 
 pub returns-in_default-clause-err : goal.returns-in_default-clause-err
 returns-in_default-clause-err c = c.self.view_is
 
 pub returns-in_default-clause-kept : goal.returns-in_default-clause-kept
-returns-in_default-clause-kept c = c.self.invariant.0
+returns-in_default-clause-kept c = c.self.invariant.0.0
 
 pub invariant_of-self-then-not-has : goal.invariant_of-self-then-not-has
-invariant_of-self-then-not-has c =
-    counted_again c.self.inside.rolls.items c.get.result c.self.inside.pairs c.in-Some.roll.now
-    c.in-Some.ensures.item.3.0 c.in-Some.ensures.value c.self.invariant
+invariant_of-self-then-not-has c = (
+  counted_again c.self.inside.rolls.items c.get.result c.self.inside.pairs c.in-Some.roll.now
+      c.in-Some.ensures.item.3.0 c.in-Some.ensures.value c.self.invariant.0,
+  tt,
+)
 
 pub returns-then-not-has-clause-err : goal.returns-then-not-has-clause-err
 returns-then-not-has-clause-err c =
@@ -25,20 +27,22 @@ returns-then-not-has-clause-err c =
     ∙ c.self.view_is
 
 pub returns-then-not-has-clause-kept : goal.returns-then-not-has-clause-kept
-returns-then-not-has-clause-kept c = (invariant_of-self-then-not-has c).0
+returns-then-not-has-clause-kept c = (invariant_of-self-then-not-has c).0.0
 
 pub returns-then-not-has-clause-refused : goal.returns-then-not-has-clause-refused
 returns-then-not-has-clause-refused c =
     rw (← c.self.view_is, ← c.get.ensures)
     (full_refuses c.self.inside.rolls.items c.get.result c.args.student c.self.inside.pairs
     c.in-Some.roll.now c.in-Some.ensures.item.3.0 c.in-Some.ensures.value c.if-not-has.ensures
-    c.if-full.true c.self.invariant)
+    c.if-full.true c.self.invariant.0)
 
 pub invariant_of-self-in_err-fresh : goal.invariant_of-self-in_err-fresh
-invariant_of-self-in_err-fresh c =
-    rw c.in_err-fresh.ensures.err
-    (counted_again c.self.inside.rolls.items c.get.result c.self.inside.pairs c.in-Some.roll.now
-    c.in-Some.ensures.item.3.0 c.in-Some.ensures.value c.self.invariant)
+invariant_of-self-in_err-fresh c = (
+  rw c.in_err-fresh.ensures.err
+      (counted_again c.self.inside.rolls.items c.get.result c.self.inside.pairs c.in-Some.roll.now
+      c.in-Some.ensures.item.3.0 c.in-Some.ensures.value c.self.invariant.0),
+  tt,
+)
 
 pub returns-in_err-fresh-clause-err : goal.returns-in_err-fresh-clause-err
 returns-in_err-fresh-clause-err c =
@@ -49,10 +53,10 @@ returns-in_err-fresh-clause-err c =
     ∙ c.self.view_is)
 
 pub returns-in_err-fresh-clause-kept : goal.returns-in_err-fresh-clause-kept
-returns-in_err-fresh-clause-kept c = (invariant_of-self-in_err-fresh c).0
+returns-in_err-fresh-clause-kept c = (invariant_of-self-in_err-fresh c).0.0
 
 pub overflow_add-self : goal.overflow_add-self
-overflow_add-self c = one_more_fits c.self.inside.rolls.items c.self.inside.pairs c.self.invariant
+overflow_add-self c = one_more_fits c.self.inside.rolls.items c.self.inside.pairs c.self.invariant.0
 
 -- no pair is added if there are 200,000: the student would have to be there too
 pub invariant_of-self-then-fresh : goal.invariant_of-self-then-fresh
@@ -63,20 +67,24 @@ invariant_of-self-then-fresh c =
       | else-full-via-then-full+else-not-has w ↦
           let present = sym w.has.ensures ∙ w.if-not-has.false in absurd (cc)
       | else-full-via-else-full w ↦ w.if-full.false
-    ] in
-    counted_new c.self.inside.rolls.items c.get.result c.args.student c.self.inside.pairs
-    c.in-Some.roll.now c.add.new.self c.in-Some.ensures.item.3.0
-    (omega (arith, c.get-number.ensures.number, c.get-number.ensures.within))
-    c.in-Some.ensures.value c.in_ok-fresh.ensures.ok absent room c.self.invariant
+    ] in (
+      counted_new c.self.inside.rolls.items c.get.result c.args.student c.self.inside.pairs
+          c.in-Some.roll.now c.add.new.self c.in-Some.ensures.item.3.0
+          (omega (arith, c.get-number.ensures.number, c.get-number.ensures.within))
+          c.in-Some.ensures.value c.in_ok-fresh.ensures.ok absent room c.self.invariant.0,
+      tt,
+    )
 
 pub invariant_of-self-else-fresh : goal.invariant_of-self-else-fresh
-invariant_of-self-else-fresh c =
-    counted_old c.self.inside.rolls.items c.get.result c.args.student c.self.inside.pairs
-    c.in-Some.roll.now c.add.new.self c.in-Some.ensures.item.3.0
-    (omega (arith, c.get-number.ensures.number, c.get-number.ensures.within))
-    c.in-Some.ensures.value c.in_ok-fresh.ensures.ok
-    (old_present c.in_ok-fresh.fresh _ c.in_ok-fresh.ensures.fresh c.if-fresh.false)
-    c.self.invariant
+invariant_of-self-else-fresh c = (
+  counted_old c.self.inside.rolls.items c.get.result c.args.student c.self.inside.pairs
+      c.in-Some.roll.now c.add.new.self c.in-Some.ensures.item.3.0
+      (omega (arith, c.get-number.ensures.number, c.get-number.ensures.within))
+      c.in-Some.ensures.value c.in_ok-fresh.ensures.ok
+      (old_present c.in_ok-fresh.fresh _ c.in_ok-fresh.ensures.fresh c.if-fresh.false)
+      c.self.invariant.0,
+  tt,
+)
 
 pub returns-then-fresh-clause-fresh : goal.returns-then-fresh-clause-fresh
 returns-then-fresh-clause-fresh c =
@@ -99,10 +107,10 @@ returns-then-fresh-clause-pair c =
     rw (← c.self.view_is, ← c.get.ensures)
     (pair_entered c.self.inside.rolls.items c.get.result c.args.student c.self.inside.pairs
     c.in-Some.roll.now c.add.new.self c.in-Some.ensures.item.3.0 c.in-Some.ensures.value
-    c.in_ok-fresh.ensures.ok c.self.invariant)
+    c.in_ok-fresh.ensures.ok c.self.invariant.0)
 
 pub returns-then-fresh-clause-kept : goal.returns-then-fresh-clause-kept
-returns-then-fresh-clause-kept c = (invariant_of-self-then-fresh c).0
+returns-then-fresh-clause-kept c = (invariant_of-self-then-fresh c).0.0
 
 pub returns-else-fresh-clause-fresh : goal.returns-else-fresh-clause-fresh
 returns-else-fresh-clause-fresh c =
@@ -125,7 +133,7 @@ returns-else-fresh-clause-pair c =
     rw (← c.self.view_is, ← c.get.ensures)
     (pair_entered c.self.inside.rolls.items c.get.result c.args.student c.self.inside.pairs
     c.in-Some.roll.now c.add.new.self c.in-Some.ensures.item.3.0 c.in-Some.ensures.value
-    c.in_ok-fresh.ensures.ok c.self.invariant)
+    c.in_ok-fresh.ensures.ok c.self.invariant.0)
 
 pub returns-else-fresh-clause-kept : goal.returns-else-fresh-clause-kept
-returns-else-fresh-clause-kept c = (invariant_of-self-else-fresh c).0
+returns-else-fresh-clause-kept c = (invariant_of-self-else-fresh c).0.0

@@ -7,7 +7,7 @@ returns-clause-same c =
     ∙ c.deref-roll-items.ensures.value ∙ c.self.view_is
 
 pub returns-clause-kept : goal.returns-clause-kept
-returns-clause-kept c = rw (returns-clause-same c, ← c.self.view_is) c.self.invariant.0
+returns-clause-kept c = rw (returns-clause-same c, ← c.self.view_is) c.self.invariant.0.0
 
 pub invariant_of-result : goal.invariant_of-result
-invariant_of-result c = rw (returns-clause-same c, ← c.self.view_is) c.self.invariant
+invariant_of-result c = (rw (returns-clause-same c, ← c.self.view_is) c.self.invariant.0, tt)

@@ -15,4 +15,4 @@ returns-clause-kept c =
 
 pub invariant_of-result : goal.invariant_of-result
 invariant_of-result c =
-    (returns-clause-kept c, rw (returns-clause-empty c) (sym (pair_count-none c.args.exams)))
+    ((returns-clause-kept c, rw (returns-clause-empty c) (sym (pair_count-none c.args.exams))), tt)

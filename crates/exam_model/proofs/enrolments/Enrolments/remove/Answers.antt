@@ -8,7 +8,7 @@ overflow_sub-self c =
     c.index_mut.result.now c.remove-removed.new.self
     (exam_within c.self.view_is c.get.ensures c.requires.exists) c.index_mut.ensures.value
     c.remove-removed.ensures.left (sym c.remove-removed.ensures.removed ∙ c.if-removed.true)
-    c.self.invariant.1 in
+    c.self.invariant.0.1 in
     omega arith
 
 pub invariant_of-self : goal.invariant_of-self
@@ -17,25 +17,31 @@ invariant_of-self c =
     c.index_mut.result.now c.remove-removed.new.self
     (exam_within c.self.view_is c.get.ensures c.requires.exists) c.index_mut.ensures.value
     c.remove-removed.ensures.left (sym c.remove-removed.ensures.removed ∙ c.if-removed.true)
-    c.self.invariant.1 in (
-      kept_left c.self.inside.rolls.items c.get.result c.args.student c.index_mut.result.now
-          c.remove-removed.new.self (exam_within c.self.view_is c.get.ensures c.requires.exists)
-          c.index_mut.ensures.value c.remove-removed.ensures.left
-          c.self.invariant.0,
-      omega arith,
+    c.self.invariant.0.1 in (
+      (
+        kept_left c.self.inside.rolls.items c.get.result c.args.student c.index_mut.result.now
+            c.remove-removed.new.self (exam_within c.self.view_is c.get.ensures c.requires.exists)
+            c.index_mut.ensures.value c.remove-removed.ensures.left
+            c.self.invariant.0.0,
+        omega arith,
+      ),
+      tt,
     )
 
 pub invariant_of-self-else-removed : goal.invariant_of-self-else-removed
 invariant_of-self-else-removed c = (
-  kept_left c.self.inside.rolls.items c.get.result c.args.student c.index_mut.result.now
-      c.remove-removed.new.self (exam_within c.self.view_is c.get.ensures c.requires.exists)
-      c.index_mut.ensures.value c.remove-removed.ensures.left
-      c.self.invariant.0,
-  count_same c.self.inside.rolls.items c.get.result c.args.student c.self.inside.pairs
-      c.index_mut.result.now c.remove-removed.new.self
-      (exam_within c.self.view_is c.get.ensures c.requires.exists) c.index_mut.ensures.value
-      c.remove-removed.ensures.left (sym c.remove-removed.ensures.removed ∙ c.if-removed.false)
-      c.self.invariant.1,
+  (
+    kept_left c.self.inside.rolls.items c.get.result c.args.student c.index_mut.result.now
+        c.remove-removed.new.self (exam_within c.self.view_is c.get.ensures c.requires.exists)
+        c.index_mut.ensures.value c.remove-removed.ensures.left
+        c.self.invariant.0.0,
+    count_same c.self.inside.rolls.items c.get.result c.args.student c.self.inside.pairs
+        c.index_mut.result.now c.remove-removed.new.self
+        (exam_within c.self.view_is c.get.ensures c.requires.exists) c.index_mut.ensures.value
+        c.remove-removed.ensures.left (sym c.remove-removed.ensures.removed ∙ c.if-removed.false)
+        c.self.invariant.0.1,
+  ),
+  tt,
 )
 
 pub returns-then-removed-clause-removed : goal.returns-then-removed-clause-removed
@@ -59,10 +65,10 @@ returns-then-removed-clause-pair c =
     (pair_left c.self.inside.rolls.items c.get.result c.args.student c.index_mut.result.now
     c.remove-removed.new.self (exam_within c.self.view_is c.get.ensures c.requires.exists)
     c.index_mut.ensures.value c.remove-removed.ensures.left
-    c.self.invariant.0)
+    c.self.invariant.0.0)
 
 pub returns-then-removed-clause-kept : goal.returns-then-removed-clause-kept
-returns-then-removed-clause-kept c = (invariant_of-self c).0
+returns-then-removed-clause-kept c = (invariant_of-self c).0.0
 
 pub returns-else-removed-clause-removed : goal.returns-else-removed-clause-removed
 returns-else-removed-clause-removed c =
@@ -85,7 +91,7 @@ returns-else-removed-clause-pair c =
     (pair_left c.self.inside.rolls.items c.get.result c.args.student c.index_mut.result.now
     c.remove-removed.new.self (exam_within c.self.view_is c.get.ensures c.requires.exists)
     c.index_mut.ensures.value c.remove-removed.ensures.left
-    c.self.invariant.0)
+    c.self.invariant.0.0)
 
 pub returns-else-removed-clause-kept : goal.returns-else-removed-clause-kept
-returns-else-removed-clause-kept c = (invariant_of-self-else-removed c).0
+returns-else-removed-clause-kept c = (invariant_of-self-else-removed c).0.0
