@@ -122,3 +122,8 @@ twice k test e f = grind (arith, nat_tests)
 pub at_pair : (k x : ℕ) (test : ℕ → ℕ → Bool) (e f : ℕ)
     → (((k == e) && (x == f)) && test k x) ≡ ((x == f) && ((k == e) && test e f))
 at_pair k x test e f = grind (arith, nat_tests)
+
+-- the pair of two exams of one element
+pub of_both : (a b : ℕ) (test : ℕ → ℕ → Bool) (e f : ℕ)
+    → (((a == e) && (b == f)) && test a b) ≡ (((a == e) && (b == f)) && test e f)
+of_both a b test e f = grind (arith, nat_tests)

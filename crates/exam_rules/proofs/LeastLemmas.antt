@@ -27,7 +27,7 @@ is_first {X} R p (x ∷ xs) up = here (is_first R p xs up.1) (p x) refl
   where
     here : IsFirst R p xs (find p xs) → (b : Bool) → p x ≡ b
         → IsFirst R p (x ∷ xs) (cond b (Some x) (find p xs))
-    here behind true is = (
+    here in_rest true is = (
       contains_head x xs,
       is,
       λ y h passes. elim (first_or_later x xs y h) as (λ _. (y ≡ x) ⊎ (R x y ≡ Less)) [
@@ -37,19 +37,19 @@ is_first {X} R p (x ∷ xs) up = here (is_first R p xs up.1) (p x) refl
             (All-from_recursion (λ z. R x z ≡ Less) xs up.0) later)
       ],
     )
-    here behind false isnt = later (find p xs) behind
+    here in_rest false isnt = later (find p xs) in_rest
       where
         later : (found : Option X) → IsFirst R p xs found → IsFirst R p (x ∷ xs) found
         later None none = λ y h. elim (first_or_later x xs y h) as (λ _. p y ≡ false) [
           | inl e ↦ subst (λ z. p z ≡ false) e isnt
-          | inr behind ↦ none y behind
+          | inr in_rest ↦ none y in_rest
         ]
         later (Some least) first = (
           contains_later x xs least first.0,
           first.1,
           λ y h passes. elim (first_or_later x xs y h) as (λ _. (y ≡ least) ⊎ (R least y ≡ Less)) [
             | inl e ↦ absurd (no (sym isnt ∙ ap p e ∙ passes))
-            | inr behind ↦ first.2 y behind passes
+            | inr in_rest ↦ first.2 y in_rest passes
           ],
         )
           where

@@ -11,9 +11,9 @@ mod line_rules;
 mod loads;
 mod marks;
 mod period_rules;
+mod relations;
 mod room_rules;
 mod site;
-mod standing;
 
 pub use breach::{Breach, BreachRule};
 pub use exam_list::{ExamList, empty_lists};

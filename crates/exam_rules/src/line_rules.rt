@@ -11,8 +11,8 @@ ghost use Rattle.exam_rules.specs.Breaches.{pairs_breaking, is_one_of};
 ghost use Rattle.exam_rules.specs.HardRules.{breaks};
 
 use crate::exam_pair::{ExamPair, in_order, pair_if, push_some};
+use crate::relations::{are_strangers_apart, in_one_period, is_not_after};
 use crate::site::Site;
-use crate::standing::{are_strangers_apart, in_one_period, is_not_after};
 use exam_model::{Enrolments, ExamNo, Instance, PeriodRule, Timetable};
 use std::alloc::{AllocError, Global};
 

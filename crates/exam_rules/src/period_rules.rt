@@ -1,7 +1,9 @@
 // The rules that depend only on the exams' periods: Duration and Clash.
 ghost use Rattle.std.specs.Prelude.{◌≡◌, ◌<◌, ℕ, Bool, true, ◌&&◌, ◌||◌, ◌==◌, nat_lt, length, All, IfOk, OnOk};
 ghost use Rattle.std.specs.List.{list_any};
+ghost use Rattle.exam_model.specs.Conflicts.{conflicts_of};
 ghost use Rattle.exam_model.specs.Enrolments.{Enrolled};
+ghost use Rattle.exam_model.specs.Instance.{Session};
 ghost use Rattle.exam_rules.specs.declared.breach.BreachRule.TheVariants.{Duration, Clash};
 ghost use Rattle.exam_rules.specs.Breach.{is_pair};
 ghost use Rattle.exam_model.specs.Enrolments.{has, has_number};
@@ -15,9 +17,9 @@ ghost use Rattle.exam_rules.specs.HardRules.{breaks, outlasts};
 use crate::exam_list::ExamList;
 use crate::exam_pair::{ExamPair, in_order, pair_if, push_some};
 use crate::marks::{Marks, has};
+use crate::relations::{in_one_period, share_student};
 use crate::site::Site;
-use crate::standing::{in_one_period, share_student};
-use exam_model::{Enrolments, ExamNo, Instance, StudentNo, Timetable};
+use exam_model::{Conflict, Enrolments, ExamNo, Instance, StudentNo, Timetable};
 use std::alloc::{AllocError, Global};
 
 /// Returns the exams that last longer than their periods, each with itself.
@@ -54,6 +56,46 @@ pub(crate) fn outlasts(instance: &Instance, timetable: &Timetable, exam: ExamNo)
 
 /// Returns the exams that share a student and are in one period, the smaller of them first.
 pub(crate) fn clash_pairs(
+    alloc: Global,
+    instance: &Instance,
+    enrolments: &Enrolments,
+    timetable: &Timetable,
+    groups: &[ExamList],
+) -> Result<Vec<ExamPair>, AllocError>
+    requires fits { Fits instance.now enrolments.now timetable.now }
+    requires grouped { AreGroups timetable.now (length instance.now.periods)
+        (length timetable.now) groups.now }
+    ensures { IfOk result (λ found. found.items
+        ≡ pairs_breaking instance.now enrolments.now timetable.now Clash) }
+{
+    match enrolments.conflicts() {
+        Some(conflicts) => listed_clashes(alloc, timetable, conflicts),
+        None => grouped_clashes(alloc, instance, enrolments, timetable, groups),
+    }
+}
+
+// Returns the same by the pairs of exams that share students.
+fn listed_clashes(
+    alloc: Global,
+    timetable: &Timetable,
+    conflicts: &[Conflict],
+) -> Result<Vec<ExamPair>, AllocError>
+    requires exist { All (λ c. (c.exam < length timetable.now) × (c.other < length timetable.now))
+        conflicts.now }
+    ensures { (I : Session) (E : Enrolled) → Fits I E timetable.now
+        → conflicts.now ≡ conflicts_of E → IfOk result (λ found. found.items
+        ≡ pairs_breaking I E timetable.now Clash) }
+{
+    let mut found = Vec::new(alloc);
+    'conflicts: for conflict in conflicts {
+        let clash = in_one_period(timetable, conflict.exam, conflict.other);
+        push_some(&mut found, pair_if(clash, conflict.exam, conflict.other))?;
+    }
+    Ok(in_order(found))
+}
+
+// Returns the same by the students of the exams of each period.
+fn grouped_clashes(
     alloc: Global,
     instance: &Instance,
     enrolments: &Enrolments,

@@ -15,8 +15,8 @@ use crate::exam_list::ExamList;
 use crate::exam_pair::{ExamPair, in_order, pair_if, push_some};
 use crate::groups::group_of;
 use crate::loads::{is_too_small, load_at, loads_of};
+use crate::relations::in_one_place;
 use crate::site::Site;
-use crate::standing::in_one_place;
 use exam_model::{Enrolments, ExamNo, Instance, RoomRule, Timetable};
 use std::alloc::{AllocError, Global};
 

@@ -1,5 +1,5 @@
 use Rattle.std.specs.List.{list_any}
-use Rattle.std.proofs.Common.{◌≡◌, ℕ, Bool, true, ◌||◌, take, sym, ◌∙◌, ap, ap₂}
+use Rattle.std.proofs.Common.{ℕ, Bool, ◌||◌, take, sym, ◌∙◌, ap, ap₂}
 use Rattle.std.proofs.lemmas.List.{take_all}
 use Rattle.std.proofs.lemmas.List.Folds.{list_any_at, list_any_more}
 use Rattle.exam_model.specs.Enrolments.{students, has}

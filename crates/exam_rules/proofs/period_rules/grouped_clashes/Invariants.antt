@@ -2,7 +2,7 @@ use Rattle.std.proofs.Common.{ℕ, List, [], ◌&&◌, nat_lt}
 use Rattle.exam_model.specs.Enrolments.{has_number}
 use Rattle.exam_rules.specs.Places.{share_student}
 use Rattle.exam_rules.proofs.FindingLemmas.{AreFound}
-use Rattle.exam_rules.proofs.period_rules.clash_pairs.Given as goal
+use Rattle.exam_rules.proofs.period_rules.grouped_clashes.Given as goal
 
 abbrev pub invariant-groups : goal.invariant-groups
 invariant-groups l =

@@ -3,7 +3,7 @@ use Rattle.std.proofs.Common.{◌≡◌, ◌<◌, [], ap, sym, ◌∙◌, arith}
 use Rattle.std.proofs.lemmas.Bool.Decides.{nat_tests}
 use Rattle.exam_model.specs.Enrolments.{has_number}
 use Rattle.exam_rules.proofs.CommonLemmas.{step_left, step_right, none_common, empty_list}
-use Rattle.exam_rules.proofs.standing.have_common.Goals as goal
+use Rattle.exam_rules.proofs.relations.have_common.Goals as goal
 
 pub walk-preserved-then-lt : goal.walk-preserved-then-lt
 walk-preserved-then-lt c =
