@@ -11,9 +11,12 @@ use Rattle.std.proofs.lemmas.List.Sums.{sum_by-cons}
 use Rattle.std.proofs.lemmas.List.Sorted.{sorted_far, ranks_by, sum_by-IsPermutation, length_permutation}
 use Rattle.exam_model.specs.Enrolments.{Enrolled, AreEnrolments}
 use Rattle.exam_model.specs.Pairs.{Pair, ComesBefore, pairs_of}
+use Rattle.exam_model.specs.Sitters.{is_sitter, pair_of}
+use Rattle.exam_model.specs.declared.sitter.Sitter.{Sitter}
+use Rattle.exam_model.proofs.ConflictLemmas.{each_mapped}
 use Rattle.exam_model.proofs.PairLemmas.{are_pairs}
 use Rattle.exam_model.proofs.SumLemmas.{IsChain, chain_from_index, each_weaker, sum_by-none}
-use Rattle.exam_score.specs.Concerned.{IsSooner, pair_of}
+use Rattle.exam_score.specs.Concerned.{IsSooner}
 use Rattle.exam_model.specs.Fits.{Fits}
 use Rattle.exam_model.specs.Instance.{Session}
 use Rattle.exam_model.specs.Timetable.{Placing}
@@ -23,21 +26,17 @@ use Rattle.exam_score.specs.Front.{AreSizes}
 use Rattle.exam_score.specs.Penalty.{Penalty}
 use Rattle.exam_score.specs.Track.{track}
 use Rattle.std.specs.Prelude.{IsSome, unwrap_or}
-use Rattle.exam_score.specs.declared.concerned.Sitter.{Sitter}
 use Rattle.exam_score.specs.Folds.{CanFollow, ComesEarlier, Folded, IsFoldOf, RepresentsPairs}
 use Rattle.exam_score.proofs.FoldLemmas.{index_from_chain, map_push}
 
 -- ---- none twice
 
-abbrev pub is_sitter : ℕ → ℕ → Sitter → Bool
-is_sitter s e x = eqb x.student s && eqb x.exam e
-
 other_sitter : (s e : ℕ) (x y : Sitter) → ComesBefore (pair_of x) (pair_of y)
     → is_sitter s e x ≡ true → is_sitter s e y ≡ false
 other_sitter s e x y before is =
-    let parts = and_parts (eqb x.student s) (eqb x.exam e) is in
-    let own_student = eqb-true x.student s parts.0 in
-    let own_exam = eqb-true x.exam e parts.1 in
+    let parts = and_parts (eqb x.exam e) (eqb x.student s) is in
+    let own_student = eqb-true x.student s parts.1 in
+    let own_exam = eqb-true x.exam e parts.0 in
     elim before as (λ _. is_sitter s e y ≡ false)
     [ inl less ↦ grind (arith, nat_tests) | inr same ↦ grind (arith, nat_tests) ]
 
@@ -59,11 +58,6 @@ once s e (x ∷ xs) h = go (is_sitter s e x) refl (once s e xs h.1)
     go false is more =
         let none : ◌≡◌ {A = ℕ} (cond (is_sitter s e x) 1 0) 0 = ap (λ b. cond b 1 0) is in
         omega (arith, sum_by-cons (λ y. cond (is_sitter s e y) 1 0) x xs, none, more)
-
-each_mapped : (P : Pair → Type 0) (xs : List Sitter) → AllByRecursion P (map pair_of xs)
-    → AllByRecursion (λ x. P (pair_of x)) xs
-each_mapped P [] h = tt
-each_mapped P (x ∷ xs) h = (h.0, each_mapped P xs h.1)
 
 each_of_mapped : (P : Pair → Type 0) (xs : List Sitter) → AllByRecursion (λ x. P (pair_of x)) xs
     → AllByRecursion P (map pair_of xs)
@@ -139,8 +133,8 @@ strictly : (xs : List Sitter) → IsChain (λ x y. is_lt (sitter_cmp y x) ≡ fa
 strictly [] h k = tt
 strictly (x ∷ xs) h k =
     let own : ◌≡◌ {A = ℕ} (cond (is_sitter x.student x.exam x) 1 0) 1 =
-    ap₂ (λ a b. cond (a && b) 1 0) (eq-eqb x.student x.student refl)
-    (eq-eqb x.exam x.exam refl) in
+    ap₂ (λ a b. cond (a && b) 1 0) (eq-eqb x.exam x.exam refl)
+    (eq-eqb x.student x.student refl) in
     let none : count_by (is_sitter x.student x.exam) xs ≡ 0 =
     omega (arith, sum_by-cons (λ y. cond (is_sitter x.student x.exam y) 1 0) x xs, own, k x.student x.exam) in
     (each_sooner x xs h.0 (none_each x.student x.exam xs none), strictly xs h.1 (λ s e. omega (arith, sum_by-cons (λ y. cond (is_sitter s e y) 1 0) x xs, k s e)))
@@ -216,10 +210,10 @@ fold_few fold xs i lt few h =
     omega (arith, h.count, length-map (take i xs) pair_of, length-take i xs, lt, few)
 
 -- one more pair is folded
-pub stands_next : (fold : Folded) (xs : List Sitter) (i : ℕ) (d : Sitter) → i < length xs
+pub represents_next : (fold : Folded) (xs : List Sitter) (i : ℕ) (d : Sitter) → i < length xs
     → RepresentsPairs fold (map pair_of (take i xs) ++ pair_of (get_or xs i d) ∷ [])
     → RepresentsPairs fold (map pair_of (take (i + 1) xs))
-stands_next fold xs i d lt h =
+represents_next fold xs i d lt h =
     subst (RepresentsPairs fold)
     (sym (ap (map pair_of) (take_more xs i d lt)
     ∙ map_push pair_of (take i xs) (get_or xs i d)))

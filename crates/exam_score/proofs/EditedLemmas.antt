@@ -11,7 +11,7 @@ use Rattle.exam_model.proofs.SumLemmas.{cond-sum_by, sum_by-same, sum_by-add}
 use Rattle.exam_model.specs.Enrolments.{has_number}
 use Rattle.exam_score.specs.EditedCosts.{cost_at, edited_cost, exams_cost}
 
--- ---- costs by periods, where there are any
+-- ---- costs by periods, if there are any
 
 pub between_swap : (cost : ℕ → ℕ → ℕ) → ((p q : ℕ) → cost p q ≡ cost q p) → (a b : Option ℕ)
     → cost_between cost a b ≡ cost_between cost b a

@@ -206,7 +206,7 @@ part_exchanged cost E old new edited pairs either nothing known moved same =
     let all : List Pair = pairs_of E in
     let before = by_test v (sits_among E edited) all in
     let after = by_test w (sits_among E edited) all in
-    let alone : AllByRecursion (λ p. has_number edited p.exam ≡ false)
+    let none_edited : AllByRecursion (λ p. has_number edited p.exam ≡ false)
     (filter (λ p. not (sits_among E edited p.student)) all)
     = each_kept (λ p. has E p.student p.exam ≡ true) (λ p. has_number edited p.exam ≡ false)
     (λ p. not (sits_among E edited p.student))
@@ -220,7 +220,7 @@ part_exchanged cost E old new edited pairs either nothing known moved same =
     (λ p q. later_cost w p q ≡ later_cost v p q)
     (λ p q a b. ap (λ n. cond (eqb q.student p.student) n 0)
     (ap₂ (cost_between cost) (period_same p.exam a) (period_same q.exam b)))
-    (filter (λ p. not (sits_among E edited p.student)) all) alone) in
+    (filter (λ p. not (sits_among E edited p.student)) all) none_edited) in
     let old_sum =
     any_order cost (period_of old) either nothing (pairs_concerned E edited) pairs moved in
     let new_sum =

@@ -176,13 +176,13 @@ in_order_push closed current pairs pair parts order below follows =
     (λ p l. inl l) closed below) follows)))
 
 -- one more pair of the open student
-pub stands_on : (fold : Folded) (pairs : List Pair) (s e : ℕ) (exams : List ℕ)
+pub represents_more : (fold : Folded) (pairs : List Pair) (s e : ℕ) (exams : List ℕ)
     → RepresentsPairs fold pairs → fold.current ≡ pairs_sat (Some s) exams
     → (fold.current ≡ [] → fold.count ≡ 0) → CanFollow fold (record { exam = e; student = s })
     → RepresentsPairs
     (record fold { count = fold.count + 1; current = pairs_sat (Some s) (exams ++ e ∷ []) })
     (pairs ++ record { exam = e; student = s } ∷ [])
-stands_on fold pairs s e exams h own started follows =
+represents_more fold pairs s e exams h own started follows =
     let pair : Pair = record { exam = e; student = s } in
     let after : AllByRecursion (λ p. ComesEarlier p pair) fold.current =
     recursion_from_All (λ p. ComesEarlier p pair) fold.current follows in
@@ -214,7 +214,7 @@ stands_on fold pairs s e exams h own started follows =
         (each_push (λ q. p.student < q.student) qs y a.0 b.0, both ps qs y a.1 b.1)
 
 -- the first pair of the next student
-pub stands_turn : (fold : Folded) (pairs : List Pair) (s e : ℕ) (student : Option ℕ)
+pub represents_turn : (fold : Folded) (pairs : List Pair) (s e : ℕ) (student : Option ℕ)
     (exams : List ℕ) (b a : PersonalPenalty) → RepresentsPairs fold pairs
     → fold.current ≡ pairs_sat student exams → (student ≡ Some s → ⊥)
     → (fold.current ≡ [] → fold.count ≡ 0) → CanFollow fold (record { exam = e; student = s })
@@ -227,7 +227,7 @@ pub stands_turn : (fold : Folded) (pairs : List Pair) (s e : ℕ) (student : Opt
       current = pairs_sat (Some s) (e ∷ []);
     })
     (pairs ++ record { exam = e; student = s } ∷ [])
-stands_turn fold pairs s e student exams b a h own other started follows b_is a_is =
+represents_turn fold pairs s e student exams b a h own other started follows b_is a_is =
     let pair : Pair = record { exam = e; student = s } in
     let after : AllByRecursion (λ p. ComesEarlier p pair) fold.current =
     recursion_from_All (λ p. ComesEarlier p pair) fold.current follows in

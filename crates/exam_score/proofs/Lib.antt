@@ -16,4 +16,5 @@ pub mod FoldLemmas
 pub mod TouchedLemmas
 pub mod ExchangeLemmas
 pub mod ConcernedLemmas
+pub mod ConflictCostLemmas
 pub mod RescoringLemmas

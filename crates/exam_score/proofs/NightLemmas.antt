@@ -20,7 +20,7 @@ night_apart periods weights p q before =
     ∙ pick-none (next_day periods q p) weights.night
 
 -- any two periods, if the weight is 0
-night_weightless : (periods : List Period) (weights : Weights) → weights.night ≡ 0 → (p q : ℕ)
+pub night_weightless : (periods : List Period) (weights : Weights) → weights.night ≡ 0 → (p q : ℕ)
     → night_cost periods weights p q ≡ 0
 night_weightless periods weights none p q =
     ap (λ n. if next_day periods p q && (gap p q == 1) then n else 0) none

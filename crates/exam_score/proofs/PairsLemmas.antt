@@ -204,7 +204,8 @@ part_small cost E T known small =
     let bound = cost_with-small cost rows small (few_rows E T known) in
     omega arith
 
-record IsPart (cost : ℕ → ℕ → ℕ) (E : Enrolled) (T : Placing) (n : ℕ) : Type 0 where
+-- n is the part of the penalty that has this cost, and is small
+pub record IsPart (cost : ℕ → ℕ → ℕ) (E : Enrolled) (T : Placing) (n : ℕ) : Type 0 where
   pub sum : n ≡ pair_part cost E (period_of T)
   pub small : n ≤ 4000000000000000
 
@@ -220,7 +221,24 @@ is_part cost E T n tallies known either nothing small counted is =
     let bound = cost_with-small cost rows small (few_rows E T known) in
     record { sum = total ∙ part_of_rows cost E T known; small = omega arith }
 
--- the four parts of the pairs, by the tallies
+-- the four parts of the pairs
+pub of_parts : (I : Session) (E : Enrolled) (T : Placing) (sums : PersonalPenalty)
+    → IsPart (row_cost I.periods I.weights) E T sums.row
+    → IsPart (day_cost I.periods I.weights) E T sums.day
+    → IsPart (spread_cost I.periods I.weights) E T sums.spread
+    → IsPart (night_cost I.periods I.weights) E T sums.night → ArePairParts I E T sums
+of_parts I E T sums row day spread night = record {
+  row = row.sum;
+  day = day.sum;
+  spread = spread.sum;
+  night = night.sum;
+  few_rows = row.small;
+  few_days = day.small;
+  few_spread = spread.small;
+  few_nights = night.small;
+}
+
+-- these by the tallies
 pub pair_parts_tallied : (I : Session) (E : Enrolled) (T : Placing) (sittings : List Sitting)
     (tallies : List Tally) (sums : PersonalPenalty)
     → IsInstance I → AreEnrolments E → length T ≡ length E
@@ -248,13 +266,4 @@ pair_parts_tallied I E T sittings tallies sums known enrolled long all counted r
     let night = is_part (night_cost I.periods I.weights) E T sums.night tallies enrolled
     (night_cost-swap I.periods I.weights) (night_cost-none I.periods I.weights)
     (night_cost-small I known) rows night_is in
-    record {
-      row = row.sum;
-      day = day.sum;
-      spread = spread.sum;
-      night = night.sum;
-      few_rows = row.small;
-      few_days = day.small;
-      few_spread = spread.small;
-      few_nights = night.small;
-    }
+    of_parts I E T sums row day spread night

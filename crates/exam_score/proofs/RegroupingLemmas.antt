@@ -1,7 +1,7 @@
 -- The penalty by pairs of exams is the penalty by students.
 use Rattle.std.specs.List.{list_any, cons_option, AllByRecursion}
 use Rattle.std.specs.Prelude.{◌==◌}
-use Rattle.std.proofs.Common.{◌≡◌, ◌≢◌, ℕ, ◌+◌, ◌*◌, ◌<◌, ◌≤◌, Bool, true, false, cond, ◌&&◌, inl, inr, eqb, ltb, List, [], ◌∷◌, Option, Some, None, map, sum_by, filter, filter_map, count_by, length, ◌++◌, refl, sym, ◌∙◌, ap, arith, zero-add, eqb-true, lt-ltb, le-ltb}
+use Rattle.std.proofs.Common.{◌≡◌, ◌≢◌, ℕ, ◌+◌, ◌*◌, ◌<◌, ◌≤◌, Bool, true, false, cond, ◌&&◌, inl, inr, eqb, ltb, List, [], ◌∷◌, Option, Some, None, map, sum_by, filter, filter_map, count_by, length, refl, sym, ◌∙◌, ap, arith, zero-add, eqb-true, lt-ltb, le-ltb}
 use Rattle.std.proofs.lemmas.List.Sums.{sum_by-cons}
 use Rattle.std.proofs.lemmas.List.Elements.{recursion_from_All}
 use Rattle.std.proofs.lemmas.Bool.{cond-true, cond-false, and_parts}
@@ -9,8 +9,9 @@ use Rattle.std.proofs.lemmas.Bool.Decides.{nat_tests}
 use Rattle.exam_model.specs.Sums.{sum_below, sum_pairs_below, sum_pairs}
 use Rattle.exam_model.specs.Enrolments.{Enrolled, shared, students}
 use Rattle.exam_model.specs.PairCost.{cost_between}
-use Rattle.exam_model.specs.Pairs.{Pair, pairs_at, pairs_from, pairs_of, is_pair, ComesBefore, ArePairsOf}
+use Rattle.exam_model.specs.Pairs.{Pair, pairs_of, is_pair, ComesBefore, ArePairsOf}
 use Rattle.exam_score.specs.Regrouping.{pair_part, exams_of, periods_of, candidate_cost, AreStudentsOf}
+use Rattle.exam_model.proofs.PairLemmas.{from_within}
 use Rattle.exam_model.proofs.SumLemmas.{IsChain, chain_from_index, sum_by-same, sum_by-agree, sum_by-zeros, sum_by-add, sum_by-times, sum_below-same, sum_below-turned, sum_below-at, cond-sum_by, cond_and, sum_by-once, sum_pairs-square, sum_pairs-agree, each_weaker, chain_weaker}
 
 -- ---- definitions
@@ -226,20 +227,6 @@ regrouped cost exams pairs at students h k =
     ∙ sum_by-same _ _ (λ s. sum_pairs-placed cost at (exams_of pairs s)) students
 
 -- ---- enrolments as their list of pairs
-
-at_within : (n f : ℕ) (xs : List ℕ) (later : List Pair) → f < n
-    → AllByRecursion (λ p. p.exam < n) later
-    → AllByRecursion (λ p. p.exam < n) (pairs_at f xs ++ later)
-at_within n f [] later lt h = h
-at_within n f (x ∷ xs) later lt h = (lt, at_within n f xs later lt h)
-
--- each exam of a pair exists
-from_within : (n f : ℕ) (E : Enrolled) → f + length E ≤ n
-    → AllByRecursion (λ p. p.exam < n) (pairs_from f E)
-from_within n f [] h = tt
-from_within n f (xs ∷ rest) h =
-    at_within n f xs (pairs_from (f + 1) rest) (omega arith)
-    (from_within n (f + 1) rest (omega arith))
 
 pub are_ordered : (E : Enrolled) → ArePairsOf E (pairs_of E) → AreOrdered (length E) (pairs_of E)
 are_ordered E is = record {

@@ -26,7 +26,7 @@ use Rattle.exam_score.proofs.CostLemmas.{row_cost-small, day_cost-small, night_c
 use Rattle.exam_score.proofs.ExchangeLemmas.{exchanged_once}
 use Rattle.exam_score.proofs.PairsLemmas.{part_small}
 use Rattle.exam_score.proofs.RegroupingLemmas.{AreStudents, by_students, part_by_rows, sum_pairs-placed}
-use Rattle.exam_score.proofs.RowLemmas.{pairs_more}
+use Rattle.exam_model.proofs.PairLemmas.{pairs_more}
 
 -- ---- the exams of one student
 

@@ -1,29 +1,13 @@
 -- The rows of a timetable, with one more exam.
 use Rattle.std.specs.List.{cons_option}
-use Rattle.std.proofs.Common.{◌≡◌, ℕ, ◌+◌, ◌<◌, ◌≤◌, List, [], ◌∷◌, ◌++◌, length, take, map, filter_map, Some, None, option_map, refl, sym, ◌∙◌, ap, arith, append-nil, append_assoc, length-take}
-use Rattle.std.proofs.lemmas.List.{take_more}
+use Rattle.std.proofs.Common.{◌≡◌, ℕ, ◌+◌, ◌<◌, ◌≤◌, List, [], ◌∷◌, ◌++◌, length, take, map, filter_map, Some, None, option_map, refl, ◌∙◌, ap, arith, append-nil}
 use Rattle.std.proofs.lemmas.List.Elements.{filter_map-append}
 use Rattle.exam_model.specs.Enrolments.{Enrolled, students}
-use Rattle.exam_model.specs.Pairs.{Pair, pairs_at, pairs_from, pairs_of}
+use Rattle.exam_model.specs.Pairs.{Pair, pairs_at, pairs_of}
+use Rattle.exam_model.proofs.PairLemmas.{pairs_more}
 use Rattle.exam_model.specs.Timetable.{Placing}
 use Rattle.exam_model.specs.Fits.{period_of}
 use Rattle.exam_score.specs.Rows.{row_of, row_at}
-
-pairs_from-push : (k : ℕ) (E : Enrolled) (xs : List ℕ)
-    → pairs_from k (E ++ xs ∷ []) ≡ pairs_from k E ++ pairs_at (k + length E) xs
-pairs_from-push k [] xs = append-nil (pairs_at k xs) ∙ ap (λ n. pairs_at n xs) (omega arith)
-pairs_from-push k (ys ∷ E) xs =
-    ap (λ ps. pairs_at k ys ++ ps)
-    (pairs_from-push (k + 1) E xs
-    ∙ ap (λ n. pairs_from (k + 1) E ++ pairs_at n xs) (omega arith))
-    ∙ sym (append_assoc (pairs_at k ys) (pairs_from (k + 1) E) (pairs_at (k + length (ys ∷ E)) xs))
-
-pub pairs_more : (E : Enrolled) (e : ℕ) → e < length E
-    → pairs_of (take (e + 1) E) ≡ pairs_of (take e E) ++ pairs_at e (students E e)
-pairs_more E e lt =
-    ap (pairs_from 0) (take_more E e [] lt) ∙ pairs_from-push 0 (take e E) (students E e)
-    ∙ ap (λ n. pairs_of (take e E) ++ pairs_at n (students E e))
-    (let l = length-take e E in omega arith)
 
 rows_at_some : (T : Placing) (e p : ℕ) → period_of T e ≡ Some p → (xs : List ℕ)
     → filter_map (row_of T) (pairs_at e xs) ≡ map (row_at p) xs

@@ -106,7 +106,7 @@ pub link_below : (m : ℕ) (xs : List Tally) (x : Tally) (n : ℕ) → AreLinked
 link_below m xs x n linked some le here =
     let w = (link_of m xs x (n - 1) linked (omega arith) here).within in omega arith
 
--- from a tally on, the way goes on
+-- the walk continues from a tally
 pub on_way : (m : ℕ) (xs : List Tally) (x : Tally) (n s : ℕ) → AreLinkedIn xs m → 0 < n
     → n ≤ length xs → ((d : Tally) → get_or xs (n - 1) d ≡ x) → x.student ≡ s
     → IsOnWay xs x.before s

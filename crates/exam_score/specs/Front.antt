@@ -17,7 +17,7 @@ is_larger_by sizes f e =
     nat_lt (slice_index sizes e) (slice_index sizes f)
     || ((slice_index sizes f == slice_index sizes e) && nat_lt f e)
 
--- at most so many exams have more than t students, and at least so many have t or more
+-- at most n exams have more than t students, and at least n have t or more
 pub record IsBar (sizes : List ℕ) (most t : ℕ) : Type 0 where
   pub above : count_by (λ x. nat_lt t x) sizes ≤ most
   pub reached : most ≤ count_by (λ x. nat_le t x) sizes

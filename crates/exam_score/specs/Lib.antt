@@ -12,6 +12,7 @@ pub mod Rows
 pub mod Walk
 pub mod Lines
 pub mod PairSums
+pub mod ConflictCosts
 pub mod Front
 pub mod Stays
 pub mod Tallies

@@ -2,16 +2,17 @@
 ghost use Rattle.std.specs.Prelude.{◌≡◌, ◌<◌, ◌≤◌, length, map, All, AllPairs, IfOk};
 ghost use Rattle.exam_terms.specs.declared.limits.TheConstants.{MAX_PAIRS};
 ghost use Rattle.exam_model.specs.Fits.{Fits};
+ghost use Rattle.exam_model.specs.Sitters.{pair_of};
 ghost use Rattle.exam_score.specs.Changes.{DiffersAtMost};
-ghost use Rattle.exam_score.specs.Concerned.{IsSooner, pair_of};
+ghost use Rattle.exam_score.specs.Concerned.{IsSooner};
 ghost use Rattle.exam_score.specs.Folds.{IsFoldOf, RepresentsPairs};
 ghost use Rattle.exam_score.specs.Track.{track};
 
-use crate::concerned::{Sitter, sitters_of};
+use crate::concerned::sitters_of;
 use crate::edit_fold::EditFold;
 use crate::front::sizes_of;
 use crate::parts::Parts;
-use exam_model::{Enrolments, ExamNo, Instance, Timetable};
+use exam_model::{Enrolments, ExamNo, Instance, Sitter, Timetable};
 use std::alloc::{AllocError, Global};
 
 /// Returns the penalty of the new timetable, by that of the old one. The edited exams may come in
@@ -51,7 +52,7 @@ fn folded<'a>(
 ) -> Result<EditFold<'a>, AllocError>
     requires few { length sitters.now ≤ MAX_PAIRS }
     requires in_order { AllPairs IsSooner sitters.now }
-    ensures stands { IfOk result (λ fold. RepresentsPairs fold (map pair_of sitters.now)) }
+    ensures represents { IfOk result (λ fold. RepresentsPairs fold (map pair_of sitters.now)) }
     ensures of { IfOk result (λ fold. IsFoldOf fold instance.now old.now new.now edited.now) }
 {
     let mut fold = EditFold::new(alloc, instance, old, new, edited)?;

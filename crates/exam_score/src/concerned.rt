@@ -3,18 +3,12 @@ ghost use Rattle.std.specs.Prelude.{◌≡◌, ◌<◌, ◌≤◌, ◌++◌, len
 ghost use Rattle.exam_terms.specs.declared.limits.TheConstants.{MAX_PAIRS};
 ghost use Rattle.exam_model.specs.Enrolments.{students};
 ghost use Rattle.exam_model.specs.Pairs.{pairs_at};
-ghost use Rattle.exam_score.specs.Concerned.{IsSooner, pair_of};
+ghost use Rattle.exam_model.specs.Sitters.{pair_of};
+ghost use Rattle.exam_score.specs.Concerned.{IsSooner};
 ghost use Rattle.exam_score.specs.Exchanges.{pairs_concerned, sits_among};
 
-use exam_model::{Enrolments, ExamNo, StudentNo};
+use exam_model::{Enrolments, ExamNo, Sitter, StudentNo};
 use std::alloc::{AllocError, Global};
-
-// A student's enrolment in an exam; ordered by student, and then by exam.
-#[derive(Clone, Copy, PartialEq, Eq, PartialOrd, Ord)]
-pub(crate) struct Sitter {
-    pub student: StudentNo,
-    pub exam: ExamNo,
-}
 
 // Returns one sitter for each exam of each of these students, by student and then by exam.
 pub(crate) fn sitters_of(

@@ -76,7 +76,7 @@ impl<'a> EditFold<'a> {
           current = [];
         }) }
         // It represents no pairs.
-        ensures stands { IfOk result (λ fold. RepresentsPairs fold []) }
+        ensures represents { IfOk result (λ fold. RepresentsPairs fold []) }
     {
         let exams = Vec::with_capacity(alloc, instance.exams() as usize)?;
         Ok(EditFold {

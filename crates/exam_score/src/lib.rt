@@ -4,6 +4,7 @@
 mod candidate;
 mod changes;
 mod concerned;
+mod conflict_sums;
 mod edit_fold;
 mod edited_exams;
 mod front;

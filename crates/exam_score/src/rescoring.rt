@@ -18,7 +18,7 @@ use crate::track::score;
 use exam_model::{Enrolments, ExamNo, Instance, PeriodNo, StudentNo, Timetable};
 use std::alloc::{AllocError, Global};
 
-// For more students than this, the whole penalty is calculated again, which is then faster.
+// For more students than this, the whole penalty is calculated again.
 const FEW_STUDENTS: usize = 32;
 
 /// Returns the penalty of a timetable by the enrolments after a change, if `parts` is the penalty by

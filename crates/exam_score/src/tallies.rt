@@ -128,7 +128,7 @@ fn no_tallies(alloc: Global, slots: usize) -> Result<Vec<u32>, AllocError>
     vec![in alloc; 0; slots]
 }
 
-// Where the tallies of a period start: at the old start if the last tally is of this period, else at
+// Returns the start of a period's tallies: the old start if the last tally is of this period, else
 // the end.
 fn start_of(tallies: &[Tally], period: PeriodNo, start: usize) -> usize
     ensures { (result ≡ start) ⊎ (result ≡ length tallies.now) }

@@ -51,7 +51,7 @@ fn exam_mixed(instance: &Instance, timetable: &Timetable, others: &Touched, exam
     let Some(later) = place_in(others.later, exam) else {
         return first;
     };
-    if stands_at(others.earlier, exam, &later) {
+    if is_in_place(others.earlier, exam, &later) {
         return first;
     }
     first + place_mixed(instance, timetable, others, Some(later))
@@ -89,14 +89,14 @@ fn is_touched(touched: &Touched, place: &Place) -> bool
         touched.now.later.now place.now.period place.now.room }
 {
     for exam in touched.edited {
-        if stands_at(touched.earlier, *exam, place) || stands_at(touched.later, *exam, place) {
+        if is_in_place(touched.earlier, *exam, place) || is_in_place(touched.later, *exam, place) {
             return true;
         }
     }
     false
 }
 
-fn stands_at(timetable: &Timetable, exam: ExamNo, place: &Place) -> bool
+fn is_in_place(timetable: &Timetable, exam: ExamNo, place: &Place) -> bool
     ensures { result ≡ is_at place.now.period place.now.room (place_of timetable.now exam) }
 {
     match place_in(timetable, exam) {
@@ -125,7 +125,7 @@ fn durations_at(instance: &Instance, timetable: &Timetable, place: &Place) -> u6
     let mut count = 0;
     for exam in 0..instance.exams() {
         let exam = ExamNo::new(exam);
-        if stands_at(timetable, exam, place) {
+        if is_in_place(timetable, exam, place) {
             count += mark(&mut marked, instance.exam(exam).minutes);
         }
     }

@@ -11,8 +11,8 @@ use crate::places::place_penalties;
 use exam_model::{Enrolments, Instance, Timetable};
 use std::alloc::{AllocError, Global};
 
-/// Returns the penalty of a timetable, which may be partial: only placed exams cost anything.
-/// `Err`: out of memory.
+/// Returns the penalty of a timetable, which may be partial: only placed exams cost anything. It is
+/// faster if the enrolments' conflicts are listed. `Err`: out of memory.
 pub fn score(
     alloc: Global,
     instance: &Instance,

@@ -1,10 +1,10 @@
 use Rattle.std.proofs.Common.{◌≡◌, ◌∙◌, ℕ, List, Some, length, map, sym, ap, subst, arith}
 use Rattle.exam_model.specs.Instance.{Session}
-use Rattle.exam_score.specs.Concerned.{pair_of}
+use Rattle.exam_model.specs.Sitters.{pair_of}
+use Rattle.exam_model.specs.declared.sitter.Sitter.{Sitter}
 use Rattle.exam_score.specs.Folds.{RepresentsPairs}
 use Rattle.exam_score.specs.Front.{AreSizes}
 use Rattle.exam_score.specs.Track.{track}
-use Rattle.exam_score.specs.declared.concerned.Sitter.{Sitter}
 use Rattle.exam_score.proofs.ConcernedLemmas.{edit_is, is_some_of, some_is, track_is}
 use Rattle.exam_score.proofs.changes.difference.Goals as goal
 
@@ -37,7 +37,7 @@ scored c =
     c.args.edited.now c.finish-parts.result c.in_ok-fold.ensures.of
     (c.finish-parts.ensures.scored c.args.enrolments.now pairs
     (subst (λ (xs : List Sitter). RepresentsPairs fold (map pair_of xs)) c.deref.ensures.value
-    c.in_ok-fold.ensures.stands)
+    c.in_ok-fold.ensures.represents)
     (edit_is fold c.args.instance.now c.args.enrolments.now c.args.old.now c.args.new.now
     c.args.edited.now pairs c.deref-2.result.now c.args.old_parts c.in_ok-fold.ensures.of
     c.pairs-kept.ensures.kept c.requires.new c.in_ok-sitters.ensures.concerned
@@ -55,7 +55,7 @@ scored_last c =
     c.args.edited.now c.finish-parts.result c.in_ok-fold.ensures.of
     (c.finish-parts.ensures.scored c.args.enrolments.now pairs
     (subst (λ (xs : List Sitter). RepresentsPairs fold (map pair_of xs)) c.deref.ensures.value
-    c.in_ok-fold.ensures.stands)
+    c.in_ok-fold.ensures.represents)
     (edit_is fold c.args.instance.now c.args.enrolments.now c.args.old.now c.args.new.now
     c.args.edited.now pairs c.deref-2.result.now c.args.old_parts c.in_ok-fold.ensures.of
     c.pairs-kept.ensures.kept c.requires.new c.in_ok-sitters.ensures.concerned

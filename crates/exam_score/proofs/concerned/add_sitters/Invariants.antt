@@ -1,7 +1,7 @@
 use Rattle.std.proofs.Common.{◌≡◌, ◌++◌, take, map, filter}
 use Rattle.exam_model.specs.Enrolments.{students}
 use Rattle.exam_model.specs.Pairs.{pairs_at}
-use Rattle.exam_score.specs.Concerned.{pair_of}
+use Rattle.exam_model.specs.Sitters.{pair_of}
 use Rattle.exam_score.specs.Exchanges.{sits_among}
 use Rattle.exam_score.proofs.concerned.add_sitters.Given as goal
 

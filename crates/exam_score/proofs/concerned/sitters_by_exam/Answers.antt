@@ -3,7 +3,7 @@ use Rattle.std.proofs.lemmas.List.Elements.{filter-append}
 use Rattle.exam_model.specs.Enrolments.{students}
 use Rattle.exam_model.specs.Pairs.{Pair, pairs_at, pairs_of}
 use Rattle.exam_score.specs.Exchanges.{sits_among}
-use Rattle.exam_score.proofs.RowLemmas.{pairs_more}
+use Rattle.exam_model.proofs.PairLemmas.{pairs_more}
 use Rattle.exam_score.proofs.concerned.sitters_by_exam.Goals as goal
 
 pub loop-exam-preserved : goal.loop-exam-preserved

@@ -1,6 +1,6 @@
 use Rattle.std.proofs.Common.{◌≡◌, take, map, filter}
 use Rattle.exam_model.specs.Pairs.{pairs_of}
-use Rattle.exam_score.specs.Concerned.{pair_of}
+use Rattle.exam_model.specs.Sitters.{pair_of}
 use Rattle.exam_score.specs.Exchanges.{sits_among}
 use Rattle.exam_score.proofs.concerned.sitters_by_exam.Given as goal
 

@@ -1,7 +1,7 @@
 use Rattle.std.proofs.Common.{IsPermutation, List, map, subst}
 use Rattle.std.proofs.lemmas.List.Sorted.{IsPermutation-map}
 use Rattle.exam_model.specs.Pairs.{Pair}
-use Rattle.exam_score.specs.Concerned.{pair_of}
+use Rattle.exam_model.specs.Sitters.{pair_of}
 use Rattle.exam_score.proofs.ConcernedLemmas.{sitters_few, sitters_in_order}
 use Rattle.exam_score.proofs.concerned.sitters_of.Goals as goal
 

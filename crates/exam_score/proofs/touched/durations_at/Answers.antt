@@ -6,7 +6,7 @@ use Rattle.exam_score.specs.MixedDurations.{duration_count, is_at, lasts, minute
 use Rattle.std.specs.Prelude.{nat_lt, slice_get}
 use Rattle.exam_score.proofs.TouchedLemmas.{durations_more, durations_none, marked_here, marked_elsewhere, minutes_short}
 use Rattle.exam_score.proofs.touched.durations_at.Goals as goal
-use Rattle.exam_score.proofs.touched.durations_at.Goals.{then-stands_at, else-stands_at}
+use Rattle.exam_score.proofs.touched.durations_at.Goals.{then-is_in_place, else-is_in_place}
 
 one_at_most : (before here : Bool) (n k e : ℕ) → k ≡ cond (here && not before) 1 0
     → n ≤ e → n + k ≤ e + 1
@@ -49,16 +49,16 @@ loop-exam-preserved c =
     let before = c.loop-exam.marked in
     let k = minutes_of (slice_get I.exams e) in
     let short = minutes_short I e c.exams-exam-end.ensures.kept in
-    let stands = ap (λ e. is_at p r (place_of T e)) (sym c.new-exam.ensures)
-    ∙ sym c.stands_at.ensures in
+    let at_place = ap (λ e. is_at p r (place_of T e)) (sym c.new-exam.ensures)
+    ∙ sym c.is_in_place.ensures in
     let known = c.loop-exam.invariant.marked k short in
-    elim c.if-stands_at.branch [
-      | then-stands_at w ↦
-          (let here : is_at p r (place_of T e) ≡ true = stands ∙ w.if-stands_at.true in
+    elim c.if-is_in_place.branch [
+      | then-is_in_place w ↦
+          (let here : is_at p r (place_of T e) ≡ true = at_place ∙ w.if-is_in_place.true in
           let is : w.exam.result.minutes ≡ k
           = sym (ap (λ e. minutes_of (slice_get I.exams e)) (sym c.new-exam.ensures)
           ∙ ap minutes_of w.exam.ensures) in
-          let marked : c.if-stands_at.marked ≡ set before k true
+          let marked : c.if-is_in_place.marked ≡ set before k true
           = w.marked-is ∙ w.mark-count.ensures.marked ∙ ap (λ k. set before k true) is in
           let more : w.mark-count.result
           ≡ cond (is_at p r (place_of T e) && not (nat_lt 0 (count_below e (lasts I T p r k))))
@@ -79,8 +79,8 @@ loop-exam-preserved c =
                 (one_at_most _ _ c.loop-exam.count w.mark-count.result e more
                 c.loop-exam.invariant.small);
           })
-      | else-stands_at w ↦
-          (let here : is_at p r (place_of T e) ≡ false = stands ∙ w.if-stands_at.false in
+      | else-is_in_place w ↦
+          (let here : is_at p r (place_of T e) ≡ false = at_place ∙ w.if-is_in_place.false in
           let more : ◌≡◌ {A = ℕ} 0
           (cond (is_at p r (place_of T e) && not (nat_lt 0 (count_below e (lasts I T p r k)))) 1
           0)

@@ -17,8 +17,8 @@ returns-in_default-clause-further c =
     ∙ ap (further_mixed I T touched) c.place_in-earlier.ensures)
     ∙ earlier_place I T c.args.exam others.edited.now others.earlier.now others.later.now none
 
-pub returns-then-stands_at-clause-further : goal.returns-then-stands_at-clause-further
-returns-then-stands_at-clause-further c =
+pub returns-then-is_in_place-clause-further : goal.returns-then-is_in_place-clause-further
+returns-then-is_in_place-clause-further c =
     let I = c.args.instance.now in
     let T = c.args.timetable.now in
     let others = c.args.others.now in
@@ -28,7 +28,7 @@ returns-then-stands_at-clause-further c =
     ∙ sym (add-zero _))
     ∙ later_place I T c.args.exam others.edited.now others.earlier.now others.later.now
     c.in-Some.later true (sym c.in-Some.ensures)
-    (sym c.if-stands_at.true ∙ c.stands_at.ensures)
+    (sym c.if-is_in_place.true ∙ c.is_in_place.ensures)
 
 pub returns-clause-further : goal.returns-clause-further
 returns-clause-further c =
@@ -42,4 +42,4 @@ returns-clause-further c =
     c.place_mixed.ensures.further
     ∙ later_place I T c.args.exam others.edited.now others.earlier.now others.later.now
     c.in-Some.later false (sym c.in-Some.ensures)
-    (sym c.if-stands_at.false ∙ c.stands_at.ensures)
+    (sym c.if-is_in_place.false ∙ c.is_in_place.ensures)

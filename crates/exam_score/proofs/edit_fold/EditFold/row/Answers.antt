@@ -3,7 +3,7 @@ use Rattle.exam_model.specs.Pairs.{Pair}
 use Rattle.exam_score.specs.Penalty.{PersonalPenalty, plus}
 use Rattle.exam_score.specs.Folds.{CanFollow, Folded, RepresentsPairs, pairs_sat}
 use Rattle.exam_score.specs.EditedCosts.{personal_at, personal_sum}
-use Rattle.exam_score.proofs.FoldLemmas.{none_open, stands_on, stands_turn, sum_of_student}
+use Rattle.exam_score.proofs.FoldLemmas.{none_open, represents_more, represents_turn, sum_of_student}
 use Rattle.exam_score.proofs.edit_fold.EditFold.row.Goals as goal
 
 pub returns-then-is_open-clause-ok : goal.returns-then-is_open-clause-ok
@@ -15,7 +15,7 @@ returns-then-is_open-clause-ok c = λ pairs h.
     let own : f.student ≡ Some c.args.student = c.is_open.ensures.0 c.if-is_open.true in
     let items : c.push.new.self.items ≡ f.exams.items ++ c.args.exam ∷ [] =
     c.in_ok-push.ensures.items in
-    let more = stands_on fold pairs c.args.student c.args.exam f.exams.items
+    let more = represents_more fold pairs c.args.student c.args.exam f.exams.items
     (subst (λ v. RepresentsPairs v pairs) (sym value) h)
     (ap (λ o. pairs_sat o f.exams.items) own)
     (none_open f.count f.student f.exams.items c.self.invariant.started
@@ -50,7 +50,7 @@ returns-clause-ok c = λ pairs h.
     ∙ ap (λ es. es ++ c.args.exam ∷ []) c.new-exams.ensures.items in
     let other : f.student ≡ Some c.args.student → ⊥ =
     λ is. true≢false (sym (c.is_open.ensures.1 is) ∙ c.if-is_open.false) in
-    let more = stands_turn fold pairs c.args.student c.args.exam f.student f.exams.items
+    let more = represents_turn fold pairs c.args.student c.args.exam f.student f.exams.items
     c.personal_at-before.result c.personal_at-after.result
     (subst (λ v. RepresentsPairs v pairs) (sym value) h)
     (λ _. pairs_sat f.student f.exams.items) other

@@ -2,7 +2,7 @@ use Rattle.std.proofs.Common.{arith, ◌∙◌, ap, subst}
 use Rattle.exam_score.specs.Cost.{row_cost, day_cost, spread_cost, night_cost}
 use Rattle.exam_score.specs.Tallies.{tally_cost, AreCounted}
 use Rattle.exam_score.proofs.PairsLemmas.{pair_parts_tallied, tallied_rows, few_seats, few_tallied}
-use Rattle.exam_score.proofs.pairs.pair_parts.Goals as goal
+use Rattle.exam_score.proofs.pairs.parts_of_tallies.Goals as goal
 
 pub tallies_of-requires : goal.tallies_of-requires
 tallies_of-requires c =
