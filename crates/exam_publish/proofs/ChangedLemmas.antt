@@ -36,15 +36,15 @@ not_same_turned r q h = elim h as (λ _. same_row q r ≡ false)
 
 -- ---- one row, or two rows of one pair, removed
 
-first_alone : (r : SeatRow) (xs ys : List SeatRow) → AllByRecursion (RowBefore r) ys
+first_only : (r : SeatRow) (xs ys : List SeatRow) → AllByRecursion (RowBefore r) ys
     → same_rows (r ∷ xs) ys ≡ false
-first_alone r xs [] a = refl
-first_alone r xs (y ∷ ys) a = ap (λ b. b && same_rows xs ys) (not_same r y a.0)
+first_only r xs [] a = refl
+first_only r xs (y ∷ ys) a = ap (λ b. b && same_rows xs ys) (not_same r y a.0)
 
-second_alone : (r : SeatRow) (xs ys : List SeatRow) → AllByRecursion (RowBefore r) xs
+second_only : (r : SeatRow) (xs ys : List SeatRow) → AllByRecursion (RowBefore r) xs
     → same_rows xs (r ∷ ys) ≡ false
-second_alone r [] ys a = refl
-second_alone r (x ∷ xs) ys a = ap (λ b. b && same_rows xs ys) (not_same_turned r x a.0)
+second_only r [] ys a = refl
+second_only r (x ∷ xs) ys a = ap (λ b. b && same_rows xs ys) (not_same_turned r x a.0)
 
 pub left_step : (r : SeatRow) (rs qs : List SeatRow) → AllByRecursion (RowBefore r) qs → (s : ℕ)
     → (eqb r.student s || is_changed rs qs s) ≡ is_changed (r ∷ rs) qs s
@@ -53,7 +53,7 @@ left_step r rs qs above s = go (eqb r.student s)
     go : (b : Bool) → (b || not (same_rows (rows_of s rs) (rows_of s qs)))
         ≡ not (same_rows (cond b (r ∷ rows_of s rs) (rows_of s rs)) (rows_of s qs))
     go true = sym
-        (ap not (first_alone r (rows_of s rs) (rows_of s qs)
+        (ap not (first_only r (rows_of s rs) (rows_of s qs)
         (each_filter (RowBefore r) (λ row. eqb row.student s) qs above)))
     go false = refl
 
@@ -64,24 +64,24 @@ right_step q rs qs above s = go (eqb q.student s)
     go : (b : Bool) → (b || not (same_rows (rows_of s rs) (rows_of s qs)))
         ≡ not (same_rows (rows_of s rs) (cond b (q ∷ rows_of s qs) (rows_of s qs)))
     go true = sym
-        (ap not (second_alone q (rows_of s rs) (rows_of s qs)
+        (ap not (second_only q (rows_of s rs) (rows_of s qs)
         (each_filter (RowBefore q) (λ row. eqb row.student s) rs above)))
     go false = refl
 
 -- ---- only one list is left
 
-pub left_alone : (rows : List SeatRow) (s : ℕ) → is_changed rows [] s ≡ has_row rows s
-left_alone [] s = refl
-left_alone (r ∷ rs) s = go (eqb r.student s) (left_alone rs s)
+pub left_only : (rows : List SeatRow) (s : ℕ) → is_changed rows [] s ≡ has_row rows s
+left_only [] s = refl
+left_only (r ∷ rs) s = go (eqb r.student s) (left_only rs s)
   where
     go : (b : Bool) → is_changed rs [] s ≡ has_row rs s
         → not (same_rows (cond b (r ∷ rows_of s rs) (rows_of s rs)) []) ≡ (b || has_row rs s)
     go true more = refl
     go false more = more
 
-pub right_alone : (rows : List SeatRow) (s : ℕ) → is_changed [] rows s ≡ has_row rows s
-right_alone [] s = refl
-right_alone (r ∷ rs) s = go (eqb r.student s) (right_alone rs s)
+pub right_only : (rows : List SeatRow) (s : ℕ) → is_changed [] rows s ≡ has_row rows s
+right_only [] s = refl
+right_only (r ∷ rs) s = go (eqb r.student s) (right_only rs s)
   where
     go : (b : Bool) → is_changed [] rs s ≡ has_row rs s
         → not (same_rows [] (cond b (r ∷ rows_of s rs) (rows_of s rs))) ≡ (b || has_row rs s)
@@ -167,7 +167,7 @@ pub end_left : {old new left right : List SeatRow} {found : List ℕ} (more : Li
     → ((s : ℕ) → has_number more s ≡ (has_number found s || has_row left s)) → (s : ℕ)
     → has_number more s ≡ is_changed old new s
 end_left {old} {new} {left} {right} {found} more was none is s =
-    is s ∙ ap (λ b. has_number found s || b) (sym (left_alone left s))
+    is s ∙ ap (λ b. has_number found s || b) (sym (left_only left s))
     ∙ ap (λ xs. has_number found s || is_changed left xs s) (sym none) ∙ was.members s
 
 pub end_right : {old new left right : List SeatRow} {found : List ℕ} (more : List ℕ)
@@ -175,7 +175,7 @@ pub end_right : {old new left right : List SeatRow} {found : List ℕ} (more : L
     → ((s : ℕ) → has_number more s ≡ (has_number found s || has_row right s)) → (s : ℕ)
     → has_number more s ≡ is_changed old new s
 end_right {old} {new} {left} {right} {found} more was none is s =
-    is s ∙ ap (λ b. has_number found s || b) (sym (right_alone right s))
+    is s ∙ ap (λ b. has_number found s || b) (sym (right_only right s))
     ∙ ap (λ xs. has_number found s || is_changed xs right s) (sym none) ∙ was.members s
 
 -- ---- the list of all who changed

@@ -14,7 +14,7 @@ use Rattle.exam_terms.specs.declared.place.Place.{Place}
 use Rattle.exam_model.proofs.SumLemmas.{each_weaker}
 use Rattle.exam_publish.specs.declared.entrants.Entrant.{Entrant}
 use Rattle.exam_publish.specs.declared.seat_row.SeatRow.{SeatRow}
-use Rattle.exam_publish.specs.Seating.{EntrantExists, KeepsSmallSeat}
+use Rattle.exam_publish.specs.Seating.{EntrantExists, KeepsOwnPlace, KeepsSmallSeat}
 use Rattle.exam_publish.specs.Seats.{IsSeatOf, HasSeat}
 use Rattle.exam_publish.specs.Entrants.{entrant, entrants}
 use Rattle.exam_publish.proofs.SeatLemmas.{IsFair, all_fair, each_entrant, from_within, length_filter_map}
@@ -102,3 +102,10 @@ entrants_keep I T old pairs known within =
         small_seat I.rooms row.room row.seat
         (recursion_from_All RoomInLimits I.rooms known.limits.rooms)
         (All-contains (HasSeat I) old row within h)
+
+pub entrants_placed : (T : Placing) (old : List SeatRow) (pairs : List Pair)
+    → All KeepsOwnPlace (entrants pairs T old)
+entrants_placed T old pairs =
+    All-from_recursion KeepsOwnPlace (entrants pairs T old)
+    (each_weaker (IsFair T old) KeepsOwnPlace (λ (x : Entrant) h. h.place)
+    (entrants pairs T old) (all_fair T old pairs))

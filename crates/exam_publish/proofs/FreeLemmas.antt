@@ -160,47 +160,47 @@ pub record IsNext (kept : List SeatRow) (at : Place) (last n : ℕ) : Type 0 whe
   pub free : has_number (seats_at at kept) n ≡ false
   pub between : (k : ℕ) → last < k → k < n → has_number (seats_at at kept) k ≡ true
 
-pub is_next : (kept standing : List SeatRow) (at : Place) (last n : ℕ)
-    → IsLast kept standing at last → IsNext kept at last n → n ≡ least_free (seats_at at standing)
-is_next kept standing at last n was next = is_least (seats_at at standing) n (record {
+pub is_next : (kept current : List SeatRow) (at : Place) (last n : ℕ)
+    → IsLast kept current at last → IsNext kept at last n → n ≡ least_free (seats_at at current)
+is_next kept current at last n was next = is_least (seats_at at current) n (record {
   low = let h = next.beyond in omega arith;
   free = was.beyond n next.beyond ∙ next.free;
-  below = λ k low lt. elim (cases_lt last k) as (λ _. has_number (seats_at at standing) k ≡ true) [
+  below = λ k low lt. elim (cases_lt last k) as (λ _. has_number (seats_at at current) k ≡ true) [
     | inl past ↦ was.beyond k past ∙ next.between k past lt
     | inr within ↦ was.all k low within
   ];
 })
 
-pub last_here : (kept standing : List SeatRow) (at : Place) (last n : ℕ) (r : SeatRow)
-    → IsLast kept standing at last → IsNext kept at last n
-    → is_one_place at (row_place r) ≡ true → r.seat ≡ n → IsLast kept (r ∷ standing) at n
-last_here kept standing at last n r was next here is = record {
-  all = λ k low le. elim (cases_eq n k) as (λ _. has_number (seats_at at (r ∷ standing)) k ≡ true) [
-    | inl same ↦ has_seats at r standing k
-        ∙ ap (λ b. b || has_number (seats_at at standing) k)
+pub last_here : (kept current : List SeatRow) (at : Place) (last n : ℕ) (r : SeatRow)
+    → IsLast kept current at last → IsNext kept at last n
+    → is_one_place at (row_place r) ≡ true → r.seat ≡ n → IsLast kept (r ∷ current) at n
+last_here kept current at last n r was next here is = record {
+  all = λ k low le. elim (cases_eq n k) as (λ _. has_number (seats_at at (r ∷ current)) k ≡ true) [
+    | inl same ↦ has_seats at r current k
+        ∙ ap (λ b. b || has_number (seats_at at current) k)
         (ap (λ b. b && eqb r.seat k) here ∙ eq-eqb r.seat k (is ∙ same))
-    | inr other ↦ still_taken at r standing k
-        (elim (cases_lt last k) as (λ _. has_number (seats_at at standing) k ≡ true) [
+    | inr other ↦ still_taken at r current k
+        (elim (cases_lt last k) as (λ _. has_number (seats_at at current) k ≡ true) [
           | inl past ↦ was.beyond k past ∙ next.between k past (omega arith)
           | inr within ↦ was.all k low within
         ])
   ];
   beyond = λ k lt.
-      has_seats at r standing k
-      ∙ ap (λ b. b || has_number (seats_at at standing) k)
+      has_seats at r current k
+      ∙ ap (λ b. b || has_number (seats_at at current) k)
       (ap (λ b. b && eqb r.seat k) here ∙ ne_eqb r.seat k (λ e. omega arith))
       ∙ was.beyond k (let h = next.beyond in omega arith);
 }
 
 -- a row elsewhere changes nothing
-pub last_there : (kept standing : List SeatRow) (at : Place) (last : ℕ) (r : SeatRow)
-    → IsLast kept standing at last → is_one_place at (row_place r) ≡ false
-    → IsLast kept (r ∷ standing) at last
-last_there kept standing at last r was there = record {
+pub last_there : (kept current : List SeatRow) (at : Place) (last : ℕ) (r : SeatRow)
+    → IsLast kept current at last → is_one_place at (row_place r) ≡ false
+    → IsLast kept (r ∷ current) at last
+last_there kept current at last r was there = record {
   all = λ k low le. same k ∙ was.all k low le;
   beyond = λ k lt. same k ∙ was.beyond k lt;
 }
   where
-    same : (k : ℕ) → has_number (seats_at at (r ∷ standing)) k ≡ has_number (seats_at at standing) k
-    same k = has_seats at r standing k
-        ∙ ap (λ b. (b && eqb r.seat k) || has_number (seats_at at standing) k) there
+    same : (k : ℕ) → has_number (seats_at at (r ∷ current)) k ≡ has_number (seats_at at current) k
+    same k = has_seats at r current k
+        ∙ ap (λ b. (b && eqb r.seat k) || has_number (seats_at at current) k) there

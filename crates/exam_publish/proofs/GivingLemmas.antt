@@ -22,15 +22,15 @@ use Rattle.exam_publish.proofs.TallyLemmas.{zeros}
 -- the rows of the first i entrants, and the rows that are present for the later ones
 pub record AreGiven (xs : List Entrant) (periods rooms i : ℕ) (last : List ℕ)
     (rows : List SeatRow) : Type 0 where
-  pub standing : List SeatRow
-  pub few : length standing ≤ length (old_rows xs) + i
-  pub seated : rows ++ rows_after_entrants standing (drop i xs) ≡ rows_for xs
-  pub table : AreLast (old_rows xs) standing periods rooms last
+  pub current : List SeatRow
+  pub few : length current ≤ length (old_rows xs) + i
+  pub seated : rows ++ rows_after_entrants current (drop i xs) ≡ rows_for xs
+  pub table : AreLast (old_rows xs) current periods rooms last
 
 pub none_given : (xs : List Entrant) (periods rooms n : ℕ) (last : List ℕ) (rows : List SeatRow)
     → last ≡ replicate n 0 → n ≡ periods * rooms → rows ≡ [] → AreGiven xs periods rooms 0 last rows
 none_given xs periods rooms n last rows is same none = record {
-  standing = old_rows xs;
+  current = old_rows xs;
   few = omega arith;
   seated = ap (λ rs. rs ++ rows_after_entrants (old_rows xs) xs) none;
   table = record {
@@ -52,13 +52,13 @@ pub kept_given : (xs : List Entrant) (periods rooms i : ℕ) (last : List ℕ)
     → i < length xs → x ≡ get_or xs i x → x.kept ≡ Some row → more ≡ rows ++ row ∷ []
     → AreGiven xs periods rooms (i + 1) last more
 kept_given xs periods rooms i last rows more x row was lt is keeps added = record {
-  standing = was.standing;
+  current = was.current;
   few = let h = was.few in omega arith;
-  seated = ap (λ rs. rs ++ rows_after_entrants was.standing (drop (i + 1) xs)) added
-      ∙ append_assoc rows (row ∷ []) (rows_after_entrants was.standing (drop (i + 1) xs))
-      ∙ ap (λ rs. rows ++ rs) (sym (ap (rows_after_entrants was.standing) (left xs i x lt is)
-      ∙ ap (λ o. unwrap_or o (new_row was.standing x)
-      ∷ rows_after_entrants (cond (is_some o) was.standing (new_row was.standing x ∷ was.standing))
+  seated = ap (λ rs. rs ++ rows_after_entrants was.current (drop (i + 1) xs)) added
+      ∙ append_assoc rows (row ∷ []) (rows_after_entrants was.current (drop (i + 1) xs))
+      ∙ ap (λ rs. rows ++ rs) (sym (ap (rows_after_entrants was.current) (left xs i x lt is)
+      ∙ ap (λ o. unwrap_or o (new_row was.current x)
+      ∷ rows_after_entrants (cond (is_some o) was.current (new_row was.current x ∷ was.current))
       (drop (i + 1) xs))
       keeps))
       ∙ was.seated;
@@ -84,8 +84,8 @@ pub last_small : (xs : List Entrant) (periods rooms i n : ℕ) (last : List ℕ)
 last_small xs periods rooms i n last rows at was hp hr is =
     let there = was.table.each at hp hr in
     let taken = le_taken (slice_index last (slot_of rooms at))
-    (seats_at at was.standing) there.all in
-    let long = length_there at was.standing in
+    (seats_at at was.current) there.all in
+    let long = length_there at was.current in
     let few = was.few in
     let kept = length_filter_map (λ (x : Entrant). x.kept) xs in
     omega arith
@@ -97,7 +97,7 @@ with_seat x k =
 pub new_given : (xs : List Entrant) (held : List Held) (periods rooms i n b : ℕ) (last : List ℕ)
     (rows more : List SeatRow) (x : Entrant)
     → AreGiven xs periods rooms i last rows
-    → AreHeld (old_rows xs) held → i < length xs → x ≡ get_or xs i x → x.kept ≡ None
+    → AreHeld xs held → i < length xs → x ≡ get_or xs i x → x.kept ≡ None
     → x.place.period < periods → x.place.room < rooms
     → n ≡ slice_index last (slot_of rooms x.place) → IsNextFree held x.place (n + 1) b
     → more ≡ rows
@@ -106,17 +106,17 @@ pub new_given : (xs : List Entrant) (held : List Held) (periods rooms i n b : �
     → AreGiven xs periods rooms (i + 1) (slice_set last (slot_of rooms x.place) b) more
 new_given xs held periods rooms i n b last rows more x was seats lt is keeps hp hr at_n next added =
     record {
-      standing = (new_row was.standing x) ∷ was.standing;
+      current = (new_row was.current x) ∷ was.current;
       few = let h = was.few in omega arith;
-      seated = ap (λ rs. rs ++ rows_after_entrants ((new_row was.standing x) ∷ was.standing)
+      seated = ap (λ rs. rs ++ rows_after_entrants ((new_row was.current x) ∷ was.current)
           (drop (i + 1) xs))
           (added ∙ ap (λ k. rows ++ with_seat x k ∷ []) least)
-          ∙ append_assoc rows ((new_row was.standing x) ∷ [])
-          (rows_after_entrants ((new_row was.standing x) ∷ was.standing) (drop (i + 1) xs))
-          ∙ ap (λ rs. rows ++ rs) (sym (ap (rows_after_entrants was.standing) (left xs i x lt is)
-          ∙ ap (λ o. unwrap_or o (new_row was.standing x)
-          ∷ rows_after_entrants (cond (is_some o) was.standing
-          ((new_row was.standing x) ∷ was.standing))
+          ∙ append_assoc rows ((new_row was.current x) ∷ [])
+          (rows_after_entrants ((new_row was.current x) ∷ was.current) (drop (i + 1) xs))
+          ∙ ap (λ rs. rows ++ rs) (sym (ap (rows_after_entrants was.current) (left xs i x lt is)
+          ∙ ap (λ o. unwrap_or o (new_row was.current x)
+          ∷ rows_after_entrants (cond (is_some o) was.current
+          ((new_row was.current x) ∷ was.current))
           (drop (i + 1) xs))
           keeps))
           ∙ was.seated;
@@ -126,35 +126,35 @@ new_given xs held periods rooms i n b last rows more x was seats lt is keeps hp 
       };
     }
   where
-    there : IsLast (old_rows xs) was.standing x.place n
-    there = subst (IsLast (old_rows xs) was.standing x.place) (sym at_n)
+    there : IsLast (old_rows xs) was.current x.place n
+    there = subst (IsLast (old_rows xs) was.current x.place) (sym at_n)
         (was.table.each x.place hp hr)
 
-    behind : IsNext (old_rows xs) x.place n b
-    behind = record {
+    next_is : IsNext (old_rows xs) x.place n b
+    next_is = record {
       beyond = let h = next.least in omega arith;
-      free = sym (seats.members x.place b) ∙ next.free;
-      between = λ k low high. sym (seats.members x.place k) ∙ next.between k (omega arith) high;
+      free = sym (seats.members i x lt is keeps b) ∙ next.free;
+      between = λ k low high. sym (seats.members i x lt is keeps k) ∙ next.between k (omega arith) high;
     }
 
-    least : b ≡ least_free (seats_at x.place was.standing)
-    least = is_next (old_rows xs) was.standing x.place n b there behind
+    least : b ≡ least_free (seats_at x.place was.current)
+    least = is_next (old_rows xs) was.current x.place n b there next_is
 
     within : slot_of rooms x.place < length last
     within = omega (arith, slot_within periods rooms x.place hp hr, was.table.count)
 
     each : (q : Place) → q.period < periods → q.room < rooms
         → (slot_of rooms q ≡ slot_of rooms x.place) ⊎ (slot_of rooms q ≡ slot_of rooms x.place → ⊥)
-        → IsLast (old_rows xs) ((new_row was.standing x) ∷ was.standing) q
+        → IsLast (old_rows xs) ((new_row was.current x) ∷ was.current) q
         (get_or (slice_set last (slot_of rooms x.place) b) (slot_of rooms q) 0)
     each q qp qr (inl same) =
         let parts = same_from_place q.period q.room x.place.period x.place.room rooms qr hr same in
         let one : x.place ≡ q = (λ i. record { period = sym parts.0 i; room = sym parts.1 i }) in
-        subst (IsLast (old_rows xs) ((new_row was.standing x) ∷ was.standing) q)
+        subst (IsLast (old_rows xs) ((new_row was.current x) ∷ was.current) q)
         (sym (ap (λ k. get_or (slice_set last (slot_of rooms x.place) b) k 0) same
         ∙ get_or-set_same last (slot_of rooms x.place) b 0 within))
-        (subst (λ z. IsLast (old_rows xs) ((new_row was.standing x) ∷ was.standing) z b) one
-        (last_here (old_rows xs) was.standing x.place n b (new_row was.standing x) there behind
+        (subst (λ z. IsLast (old_rows xs) ((new_row was.current x) ∷ was.current) z b) one
+        (last_here (old_rows xs) was.current x.place n b (new_row was.current x) there next_is
         (same_place x.place) (sym least)))
     each q qp qr (inr other) =
         let apart : is_one_place q x.place ≡ false =
@@ -163,7 +163,7 @@ new_given xs held periods rooms i n b last rows more x was seats lt is keeps hp 
         other (ap₂ (λ a b. a * rooms + b) (eqb-true q.period x.place.period parts.0)
         (eqb-true q.room x.place.room parts.1)))
         in
-        subst (IsLast (old_rows xs) ((new_row was.standing x) ∷ was.standing) q)
+        subst (IsLast (old_rows xs) ((new_row was.current x) ∷ was.current) q)
         (sym (get_or-set_other last (slot_of rooms x.place) (slot_of rooms q) b 0 other))
-        (last_there (old_rows xs) was.standing q (get_or last (slot_of rooms q) 0)
-        (new_row was.standing x) (was.table.each q qp qr) apart)
+        (last_there (old_rows xs) was.current q (get_or last (slot_of rooms q) 0)
+        (new_row was.current x) (was.table.each q qp qr) apart)

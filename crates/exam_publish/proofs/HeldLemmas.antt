@@ -1,22 +1,26 @@
 -- The kept seats of entrants in the list of held seats.
-use Rattle.std.specs.Prelude.{IfSome}
+use Rattle.std.specs.Prelude.{IfSome, is_some, slice_set}
 use Rattle.std.specs.List.{AllByRecursion, cons_option, list_any}
-use Rattle.std.proofs.Common.{◌≡◌, ℕ, ◌+◌, ◌<◌, ◌≤◌, ◌&&◌, ◌||◌, eqb, List, [], ◌∷◌, ◌++◌, length, map, take, get_or, Option, Some, None, All, IsPermutation, IsSorted, refl, sym, ◌∙◌, ap, ap₂, subst, arith, append-nil}
-use Rattle.std.proofs.lemmas.List.{take_more}
-use Rattle.std.proofs.lemmas.List.Elements.{filter_map-append, All-from_recursion, recursion_from_All}
+use Rattle.std.proofs.Common.{◌≡◌, ℕ, ◌+◌, ◌<◌, ◌≤◌, inl, inr, Bool, true, false, cond, ◌&&◌, ◌||◌, eqb, List, [], ◌∷◌, ◌++◌, length, filter, map, take, get_or, Option, Some, None, All, IsPermutation, IsSorted, refl, sym, ◌∙◌, ap, ap₂, subst, arith, append-nil}
+use Rattle.std.proofs.lemmas.Bool.{cases_eq, cases_lt, false_from_ne_true, true≢false}
+use Rattle.std.proofs.lemmas.List.{get_or_default, get_or-set_other, get_or-set_same, length-set, take_more}
+use Rattle.std.proofs.lemmas.List.Elements.{filter-append, filter_map-append, All-from_recursion, recursion_from_All}
 use Rattle.std.proofs.lemmas.List.Sorted.{list_any-IsPermutation, All-permutation}
 use Rattle.std.proofs.lemmas.Bool.Decides.{nat_tests}
 use Rattle.exam_terms.specs.declared.place.Place.{Place}
 use Rattle.exam_model.specs.Enrolments.{has_number}
+use Rattle.exam_model.specs.Fits.{slot_of}
 use Rattle.exam_rules.specs.Places.{is_one_place}
 use Rattle.exam_publish.specs.declared.entrants.Entrant.{Entrant}
 use Rattle.exam_publish.specs.declared.held.Held.{Held}
 use Rattle.exam_publish.specs.declared.seat_row.SeatRow.{SeatRow}
 use Rattle.exam_publish.specs.Rows.{row_place}
-use Rattle.exam_publish.specs.Seating.{is_held, compare_held, AreHeld, KeepsSmallSeat}
+use Rattle.exam_publish.specs.Seating.{is_held, compare_held, AreHeld, AreNeeded, KeepsSmallSeat}
 use Rattle.exam_publish.specs.Seats.{seats_at}
 use Rattle.exam_publish.specs.Entrants.{old_rows}
 use Rattle.exam_publish.proofs.FreeLemmas.{has_seats}
+use Rattle.exam_publish.proofs.ListLemmas.{each_filter, each_map}
+use Rattle.exam_publish.proofs.SeatLemmas.{one_place}
 
 abbrev pub row_seat : SeatRow → Held
 row_seat row = record { period = row.period; room = row.room; seat = row.seat }
@@ -32,54 +36,170 @@ map-push : (rows : List SeatRow) (row : SeatRow)
 map-push [] row = refl
 map-push (r ∷ rs) row = ap (λ hs. row_seat r ∷ hs) (map-push rs row)
 
-pub held_more : (xs : List Entrant) (i : ℕ) (x : Entrant) (row : SeatRow) (held more : List Held)
-    → i < length xs → x ≡ get_or xs i x → x.kept ≡ Some row
-    → held ≡ map row_seat (old_rows (take i xs)) → more ≡ held ++ row_seat row ∷ []
-    → more ≡ map row_seat (old_rows (take (i + 1) xs))
-held_more xs i x row held more lt is keeps was added =
-    added ∙ ap (λ hs. hs ++ row_seat row ∷ []) was
-    ∙ sym (ap (map row_seat)
-    (one_more xs i x lt is ∙ ap (λ o. old_rows (take i xs) ++ cons_option o []) keeps)
-    ∙ map-push (old_rows (take i xs)) row)
+-- whether the seat of a row is needed
+abbrev pub is_needed : List Bool → ℕ → SeatRow → Bool
+is_needed needed rooms row = get_or needed (slot_of rooms (row_place row)) false
 
-pub held_same : (xs : List Entrant) (i : ℕ) (x : Entrant) (held : List Held) → i < length xs
-    → x ≡ get_or xs i x → x.kept ≡ None
-    → held ≡ map row_seat (old_rows (take i xs))
-    → held ≡ map row_seat (old_rows (take (i + 1) xs))
-held_same xs i x held lt is keeps was =
-    was ∙ sym (ap (map row_seat)
+-- the kept seats that are needed
+abbrev pub held_rows : List Bool → ℕ → List Entrant → List Held
+held_rows needed rooms xs = map row_seat (filter (is_needed needed rooms) (old_rows xs))
+
+one_kept : (needed : List Bool) (rooms : ℕ) (xs : List Entrant) (i : ℕ) (x : Entrant)
+    (row : SeatRow) (b : Bool)
+    → i < length xs → x ≡ get_or xs i x → x.kept ≡ Some row → is_needed needed rooms row ≡ b
+    → held_rows needed rooms (take (i + 1) xs)
+    ≡ map row_seat (filter (is_needed needed rooms) (old_rows (take i xs)) ++ cond b (row ∷ []) [])
+one_kept needed rooms xs i x row b lt is keeps needs =
+    ap (λ rs. map row_seat (filter (is_needed needed rooms) rs))
+    (one_more xs i x lt is ∙ ap (λ o. old_rows (take i xs) ++ cons_option o []) keeps)
+    ∙ ap (map row_seat)
+    (filter-append (is_needed needed rooms) (old_rows (take i xs)) (row ∷ [])
+    ∙ ap (λ b. filter (is_needed needed rooms) (old_rows (take i xs)) ++ cond b (row ∷ []) []) needs)
+
+there : (needed : List Bool) (rooms : ℕ) (x : Entrant) (row : SeatRow) (b : Bool)
+    → row_place row ≡ x.place → get_or needed (slot_of rooms x.place) false ≡ b
+    → is_needed needed rooms row ≡ b
+there needed rooms x row b placed h =
+    ap (λ at. get_or needed (slot_of rooms at) false) placed ∙ h
+
+pub held_more : (needed : List Bool) (rooms : ℕ) (xs : List Entrant) (i : ℕ) (x : Entrant)
+    (row : SeatRow) (held more : List Held)
+    → i < length xs → x ≡ get_or xs i x → x.kept ≡ Some row → row_place row ≡ x.place
+    → get_or needed (slot_of rooms x.place) false ≡ true
+    → held ≡ held_rows needed rooms (take i xs) → more ≡ held ++ row_seat row ∷ []
+    → more ≡ held_rows needed rooms (take (i + 1) xs)
+held_more needed rooms xs i x row held more lt is keeps placed needs was added =
+    added ∙ ap (λ hs. hs ++ row_seat row ∷ []) was
+    ∙ sym (one_kept needed rooms xs i x row true lt is keeps
+    (there needed rooms x row true placed needs)
+    ∙ map-push (filter (is_needed needed rooms) (old_rows (take i xs))) row)
+
+pub held_left : (needed : List Bool) (rooms : ℕ) (xs : List Entrant) (i : ℕ) (x : Entrant)
+    (row : SeatRow) (held : List Held)
+    → i < length xs → x ≡ get_or xs i x → x.kept ≡ Some row → row_place row ≡ x.place
+    → get_or needed (slot_of rooms x.place) false ≡ false
+    → held ≡ held_rows needed rooms (take i xs) → held ≡ held_rows needed rooms (take (i + 1) xs)
+held_left needed rooms xs i x row held lt is keeps placed needs was =
+    was
+    ∙ sym (one_kept needed rooms xs i x row false lt is keeps
+    (there needed rooms x row false placed needs)
+    ∙ ap (map row_seat) (append-nil (filter (is_needed needed rooms) (old_rows (take i xs)))))
+
+pub held_same : (needed : List Bool) (rooms : ℕ) (xs : List Entrant) (i : ℕ) (x : Entrant)
+    (held : List Held)
+    → i < length xs → x ≡ get_or xs i x → x.kept ≡ None
+    → held ≡ held_rows needed rooms (take i xs) → held ≡ held_rows needed rooms (take (i + 1) xs)
+held_same needed rooms xs i x held lt is keeps was =
+    was ∙ sym (ap (λ rs. map row_seat (filter (is_needed needed rooms) rs))
     (one_more xs i x lt is ∙ ap (λ o. old_rows (take i xs) ++ cons_option o []) keeps
     ∙ append-nil (old_rows (take i xs))))
 
-members : (at : Place) (n : ℕ) (rows : List SeatRow)
-    → list_any (is_held at n) (map row_seat rows) ≡ has_number (seats_at at rows) n
-members at n [] = refl
-members at n (r ∷ rs) = ap₂ (λ a b. a || b) one (members at n rs) ∙ sym (has_seats at r rs n)
+members : (needed : List Bool) (rooms : ℕ) (at : Place) (n : ℕ)
+    → get_or needed (slot_of rooms at) false ≡ true → (rows : List SeatRow)
+    → list_any (is_held at n) (map row_seat (filter (is_needed needed rooms) rows))
+    ≡ has_number (seats_at at rows) n
+members needed rooms at n needs [] = refl
+members needed rooms at n needs (r ∷ rs) =
+    go (is_needed needed rooms r) refl (members needed rooms at n needs rs) ∙ sym (has_seats at r rs n)
   where
     one : is_held at n (row_seat r) ≡ (is_one_place at (row_place r) && eqb r.seat n)
     one = grind (arith, nat_tests)
 
+    away : is_needed needed rooms r ≡ false → is_one_place at (row_place r) ≡ false
+    away not_there = false_from_ne_true (is_one_place at (row_place r)) (λ here.
+        true≢false (sym (ap (λ q. get_or needed (slot_of rooms q) false) (one_place at (row_place r) here)
+        ∙ needs) ∙ not_there))
+
+    go : (b : Bool) → is_needed needed rooms r ≡ b
+        → list_any (is_held at n) (map row_seat (filter (is_needed needed rooms) rs))
+        ≡ has_number (seats_at at rs) n
+        → list_any (is_held at n)
+        (map row_seat (cond b (r ∷ filter (is_needed needed rooms) rs)
+        (filter (is_needed needed rooms) rs)))
+        ≡ ((is_one_place at (row_place r) && eqb r.seat n) || has_number (seats_at at rs) n)
+    go true needed more = ap₂ (λ a b. a || b) one more
+    go false not_there more =
+        more ∙ sym (ap (λ b. (b && eqb r.seat n) || has_number (seats_at at rs) n) (away not_there))
+
 small : (xs : List Entrant) → AllByRecursion KeepsSmallSeat xs
-    → AllByRecursion (λ (h : Held). h.seat ≤ 100000) (map row_seat (old_rows xs))
+    → AllByRecursion (λ (row : SeatRow). row.seat ≤ 100000) (old_rows xs)
 small [] h = tt
 small (x ∷ xs) h = go x.kept h.0 (small xs h.1)
   where
     go : (o : Option SeatRow) → IfSome o (λ row. row.seat ≤ 100000)
-        → AllByRecursion (λ (h : Held). h.seat ≤ 100000) (map row_seat (old_rows xs))
-        → AllByRecursion (λ (h : Held). h.seat ≤ 100000)
-        (map row_seat (cons_option o (old_rows xs)))
+        → AllByRecursion (λ (row : SeatRow). row.seat ≤ 100000) (old_rows xs)
+        → AllByRecursion (λ (row : SeatRow). row.seat ≤ 100000) (cons_option o (old_rows xs))
     go None k more = more
     go (Some row) k more = (k, more)
 
-pub are_held : (xs : List Entrant) (held sorted : List Held) → All KeepsSmallSeat xs
-    → held ≡ map row_seat (old_rows xs) → IsPermutation held sorted → IsSorted compare_held sorted
-    → AreHeld (old_rows xs) sorted
-are_held xs held sorted keep is moved order = record {
-  members = λ at n. sym (list_any-IsPermutation (is_held at n) held sorted moved)
-      ∙ ap (list_any (is_held at n)) is ∙ members at n (old_rows xs);
+pub are_held : (needed : List Bool) (periods rooms : ℕ) (xs : List Entrant)
+    (held sorted : List Held)
+    → All KeepsSmallSeat xs → AreNeeded periods rooms xs (length xs) needed
+    → held ≡ held_rows needed rooms xs → IsPermutation held sorted → IsSorted compare_held sorted
+    → AreHeld xs sorted
+are_held needed periods rooms xs held sorted keep needs is moved order = record {
+  members = λ j x lt at none n.
+      sym (list_any-IsPermutation (is_held x.place n) held sorted moved)
+      ∙ ap (list_any (is_held x.place n)) is
+      ∙ members needed rooms x.place n (needs.each j x lt lt at none) (old_rows xs);
   sorted = order;
   small = All-permutation (λ (h : Held). h.seat ≤ 100000) held sorted moved
       (subst (All (λ (h : Held). h.seat ≤ 100000)) (sym is)
-      (All-from_recursion (λ (h : Held). h.seat ≤ 100000) (map row_seat (old_rows xs))
-      (small xs (recursion_from_All KeepsSmallSeat xs keep))));
+      (All-from_recursion (λ (h : Held). h.seat ≤ 100000) (held_rows needed rooms xs)
+      (each_map (λ (h : Held). h.seat ≤ 100000) row_seat
+      (filter (is_needed needed rooms) (old_rows xs))
+      (each_filter (λ (row : SeatRow). row.seat ≤ 100000) (is_needed needed rooms) (old_rows xs)
+      (small xs (recursion_from_All KeepsSmallSeat xs keep))))));
 }
+
+-- ---- the places at which a seat is needed
+
+-- an entrant who keeps a seat needs none
+pub needed_same : (periods rooms : ℕ) (xs : List Entrant) (i : ℕ) (x : Entrant)
+    (needed : List Bool)
+    → AreNeeded periods rooms xs i needed → i < length xs → x ≡ get_or xs i x
+    → is_some x.kept ≡ true
+    → AreNeeded periods rooms xs (i + 1) needed
+needed_same periods rooms xs i x needed was lt is keeps = record {
+  count = was.count;
+  each = λ j y below within at none.
+      elim (cases_lt j i) as (λ _. get_or needed (slot_of rooms y.place) false ≡ true) [
+        | inl before ↦ was.each j y before within at none
+        | inr from ↦ absurd (true≢false (sym keeps
+            ∙ ap (λ (z : Entrant). is_some z.kept) (same j y (omega arith) at)
+            ∙ ap is_some none))
+      ];
+}
+  where
+    same : (j : ℕ) (y : Entrant) → i ≡ j → y ≡ get_or xs j y → x ≡ y
+    same j y e at =
+        is ∙ get_or_default xs i x y lt ∙ ap (λ k. get_or xs k y) e ∙ sym at
+
+-- the place of one who keeps none
+pub needed_more : (periods rooms : ℕ) (xs : List Entrant) (i : ℕ) (x : Entrant)
+    (needed : List Bool)
+    → AreNeeded periods rooms xs i needed → i < length xs → x ≡ get_or xs i x
+    → slot_of rooms x.place < length needed
+    → AreNeeded periods rooms xs (i + 1) (slice_set needed (slot_of rooms x.place) true)
+needed_more periods rooms xs i x needed was lt is slot = record {
+  count = length-set needed (slot_of rooms x.place) true ∙ was.count;
+  each = λ j y below within at none.
+      elim (cases_eq (slot_of rooms y.place) (slot_of rooms x.place))
+      as (λ _. get_or (slice_set needed (slot_of rooms x.place) true) (slot_of rooms y.place) false
+      ≡ true) [
+        | inl same ↦
+            ap (λ k. get_or (slice_set needed (slot_of rooms x.place) true) k false) same
+            ∙ get_or-set_same needed (slot_of rooms x.place) true false slot
+        | inr other ↦
+            get_or-set_other needed (slot_of rooms x.place) (slot_of rooms y.place) true false other
+            ∙ elim (cases_lt j i) as (λ _. get_or needed (slot_of rooms y.place) false ≡ true) [
+              | inl before ↦ was.each j y before within at none
+              | inr from ↦ absurd (other (ap (λ (z : Entrant). slot_of rooms z.place)
+                  (sym (same j y (omega arith) at))))
+            ]
+      ];
+}
+  where
+    same : (j : ℕ) (y : Entrant) → i ≡ j → y ≡ get_or xs j y → x ≡ y
+    same j y e at =
+        is ∙ get_or_default xs i x y lt ∙ ap (λ k. get_or xs k y) e ∙ sym at

@@ -18,3 +18,4 @@ pub mod DurationLemmas
 pub mod AddUpLemmas
 pub mod PublishedLemmas
 pub mod ShareLemmas
+pub mod AmongLemmas

@@ -40,60 +40,60 @@ counted T q seen p o is =
     ∙ ap (λ z. count_by (sits_at T q) seen + cond (place_satisfies (is_one_place q) z) 1 0) is
 
 one_more : (T : Placing) (seen : List Pair) (p : Pair) (at : Place)
-    (standing : List SeatRow) (row : SeatRow)
+    (current : List SeatRow) (row : SeatRow)
     → place_of T p.exam ≡ Some at
-    → ((q : Place) → IsLast [] standing q (count_by (sits_at T q) seen))
+    → ((q : Place) → IsLast [] current q (count_by (sits_at T q) seen))
     → row_place row ≡ at → row.seat ≡ count_by (sits_at T at) seen + 1
-    → (q : Place) → IsLast [] (row ∷ standing) q (count_by (sits_at T q) (seen ++ p ∷ []))
-one_more T seen p at standing row is h there seat q = go (is_one_place q at) refl
+    → (q : Place) → IsLast [] (row ∷ current) q (count_by (sits_at T q) (seen ++ p ∷ []))
+one_more T seen p at current row is h there seat q = go (is_one_place q at) refl
   where
     go : (b : Bool) → is_one_place q at ≡ b
-        → IsLast [] (row ∷ standing) q (count_by (sits_at T q) (seen ++ p ∷ []))
+        → IsLast [] (row ∷ current) q (count_by (sits_at T q) (seen ++ p ∷ []))
     go true here =
         let c = counted T q seen p (Some at) is
         ∙ ap (λ b. count_by (sits_at T q) seen + cond b 1 0) here in
         let same : at ≡ q = one_place q at here in
-        subst (IsLast [] (row ∷ standing) q) (sym c)
-        (last_here [] standing q (count_by (sits_at T q) seen) (count_by (sits_at T q) seen + 1) row
+        subst (IsLast [] (row ∷ current) q) (sym c)
+        (last_here [] current q (count_by (sits_at T q) seen) (count_by (sits_at T q) seen + 1) row
         (h q) (next q (count_by (sits_at T q) seen))
         (ap (is_one_place q) there ∙ here) (seat ∙ ap (λ z. count_by (sits_at T z) seen + 1) same))
     go false away =
         let c = counted T q seen p (Some at) is
         ∙ ap (λ b. count_by (sits_at T q) seen + cond b 1 0) away in
-        subst (IsLast [] (row ∷ standing) q)
+        subst (IsLast [] (row ∷ current) q)
         (let e : count_by (sits_at T q) seen
         ≡ count_by (sits_at T q) (seen ++ p ∷ []) = omega arith in
         e)
-        (last_there [] standing q (count_by (sits_at T q) seen) row (h q)
+        (last_there [] current q (count_by (sits_at T q) seen) row (h q)
         (ap (is_one_place q) there ∙ away))
 
-seats_numbered : (T : Placing) (seen ps : List Pair) (standing : List SeatRow)
-    → ((at : Place) → IsLast [] standing at (count_by (sits_at T at) seen))
-    → rows_after_entrants standing (entrants ps T []) ≡ rows_after T seen ps
-seats_numbered T seen [] standing h = refl
-seats_numbered T seen (p ∷ ps) standing h =
+seats_numbered : (T : Placing) (seen ps : List Pair) (current : List SeatRow)
+    → ((at : Place) → IsLast [] current at (count_by (sits_at T at) seen))
+    → rows_after_entrants current (entrants ps T []) ≡ rows_after T seen ps
+seats_numbered T seen [] current h = refl
+seats_numbered T seen (p ∷ ps) current h =
     go (place_of T p.exam) refl (λ s k. seats_numbered T (seen ++ p ∷ []) ps s k)
   where
     go : (o : Option Place) → place_of T p.exam ≡ o
         → ((s : List SeatRow)
         → ((at : Place) → IsLast [] s at (count_by (sits_at T at) (seen ++ p ∷ [])))
         → rows_after_entrants s (entrants ps T []) ≡ rows_after T (seen ++ p ∷ []) ps)
-        → rows_after_entrants standing (cons_option (option_map (entrant [] p) o)
+        → rows_after_entrants current (cons_option (option_map (entrant [] p) o)
         (entrants ps T []))
         ≡ cons_option (option_map (λ at. row_with p at (count_by (sits_at T at) seen + 1)) o)
         (rows_after T (seen ++ p ∷ []) ps)
     go None is more =
-        more standing
-        (λ at. subst (IsLast [] standing at) (let c = counted T at seen p None is in
+        more current
+        (λ at. subst (IsLast [] current at) (let c = counted T at seen p None is in
         let e : count_by (sits_at T at) seen ≡ count_by (sits_at T at) (seen ++ p ∷ []) =
         omega arith in e) (h at))
     go (Some at) is more =
-        let row : SeatRow = new_row standing (entrant [] p at) in
-        let seat : least_free (seats_at at standing) ≡ count_by (sits_at T at) seen + 1
-        = sym (is_next [] standing at (count_by (sits_at T at) seen)
+        let row : SeatRow = new_row current (entrant [] p at) in
+        let seat : least_free (seats_at at current) ≡ count_by (sits_at T at) seen + 1
+        = sym (is_next [] current at (count_by (sits_at T at) seen)
         (count_by (sits_at T at) seen + 1) (h at) (next at (count_by (sits_at T at) seen))) in
         ap₂ (λ n rows. row_with p at n ∷ rows) seat
-        (more (row ∷ standing) (one_more T seen p at standing row is h refl seat))
+        (more (row ∷ current) (one_more T seen p at current row is h refl seat))
 
 pub numbered_first : (E : Enrolled) (T : Placing) → AreEnrolments E
     → seat_rows (pairs_of E) T [] ≡ numbered_rows (pairs_of E) T

@@ -17,7 +17,7 @@ use Rattle.exam_publish.specs.declared.held.Held.{Held}
 use Rattle.exam_publish.specs.declared.seat_row.SeatRow.{SeatRow}
 use Rattle.exam_publish.specs.Rows.{row_place, RowBefore, RowsInOrder}
 use Rattle.exam_publish.specs.Seating.{compare_held, is_held}
-use Rattle.exam_publish.specs.Entrants.{is_row_at}
+use Rattle.exam_publish.specs.Entrants.{IsIndexOf, IsRowOf, is_row_at}
 
 -- a search finds an equal element exactly if there is one
 found : {X K : Type 0} (R : K → K → Ordering) (o : IsTotalOrder R) (key : X → K) (xs : List X)
@@ -223,3 +223,42 @@ no_row xs p at i order is =
       | inl below ↦ ap is_eq (parts.0 k d (omega arith) below)
       | inr above ↦ ap is_eq (parts.1 k d above lt)
     ]))
+
+-- ---- the index of a pair's row
+
+tied_pair : (row : SeatRow) (p : Pair) → row.exam ≡ p.exam → row.student ≡ p.student
+    → ordering_then (nat_cmp row.exam p.exam) (nat_cmp row.student p.student) ≡ Equal
+tied_pair row p exam student = grind (arith, nat_tests)
+
+pub index_here : (xs : List SeatRow) (p : Pair) (i : ℕ) → RowsInOrder xs → IsRowOf xs p i
+    → IsIndexOf xs p i
+index_here xs p i order of = record {
+  within = let lt = of.within in omega arith;
+  none = λ e at. (let lt = of.within in absurd (omega arith));
+  one = λ lt at d.
+      row_found xs p at i (get_or xs i d) order lt (get_or_default xs i d (get_or xs i d) lt)
+      (tied_pair (get_or xs i d) p (of.exam d) (of.student d));
+}
+
+pub index_found : (xs : List SeatRow) (p : Pair) (i : ℕ) → RowsInOrder xs → i < length xs
+    → IsBinarySearchResult
+    (λ (y : SeatRow). ordering_then (nat_cmp y.exam p.exam) (nat_cmp y.student p.student)) xs
+    (Ok i)
+    → IsIndexOf xs p i
+index_found xs p i order lt is = record {
+  within = omega arith;
+  none = λ e at. absurd (omega arith);
+  one = λ lt at d.
+      row_found xs p at i (get_or xs i d) order lt (get_or_default xs i d (get_or xs i d) lt) (is d);
+}
+
+pub index_none : (xs : List SeatRow) (p : Pair) (i : ℕ) → RowsInOrder xs
+    → IsBinarySearchResult
+    (λ (y : SeatRow). ordering_then (nat_cmp y.exam p.exam) (nat_cmp y.student p.student)) xs
+    (Err i)
+    → IsIndexOf xs p (length xs)
+index_none xs p i order is = record {
+  within = omega arith;
+  none = λ e at. no_row xs p at i order is;
+  one = λ lt at d. absurd (omega arith);
+}

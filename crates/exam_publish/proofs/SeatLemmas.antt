@@ -197,33 +197,33 @@ entrant_pairs T old (p ∷ ps) h = go (place_of T p.exam) h.0 (entrant_pairs T o
 
 -- ---- rows of their entrants
 
-pub rows_pairs : (T : Placing) (old standing : List SeatRow) (xs : List Entrant)
+pub rows_pairs : (T : Placing) (old current : List SeatRow) (xs : List Entrant)
     → AllByRecursion (IsFair T old) xs
-    → map row_pair (rows_after_entrants standing xs)
+    → map row_pair (rows_after_entrants current xs)
     ≡ map (λ (x : Entrant). record { exam = x.exam; student = x.student }) xs
-rows_pairs T old standing [] h = refl
-rows_pairs T old standing (x ∷ xs) h =
+rows_pairs T old current [] h = refl
+rows_pairs T old current (x ∷ xs) h =
     ap₂ (λ p ps. p ∷ ps) (go x.kept h.0.pair)
-    (rows_pairs T old (rows_with_entrant standing x) xs h.1)
+    (rows_pairs T old (rows_with_entrant current x) xs h.1)
   where
     go : (o : Option SeatRow)
         → IfSome o (λ row. row_pair row ≡ record { exam = x.exam; student = x.student })
-        → row_pair (unwrap_or o (new_row standing x))
+        → row_pair (unwrap_or o (new_row current x))
         ≡ record { exam = x.exam; student = x.student }
     go None k = refl
     go (Some row) k = k
 
-rows_at_exams : (T : Placing) (old standing : List SeatRow) (xs : List Entrant)
+rows_at_exams : (T : Placing) (old current : List SeatRow) (xs : List Entrant)
     → AllByRecursion (IsFair T old) xs
-    → AllByRecursion (IsAtExam T) (rows_after_entrants standing xs)
-rows_at_exams T old standing [] h = tt
-rows_at_exams T old standing (x ∷ xs) h =
-    (go x.kept h.0.pair h.0.place, rows_at_exams T old (rows_with_entrant standing x) xs h.1)
+    → AllByRecursion (IsAtExam T) (rows_after_entrants current xs)
+rows_at_exams T old current [] h = tt
+rows_at_exams T old current (x ∷ xs) h =
+    (go x.kept h.0.pair h.0.place, rows_at_exams T old (rows_with_entrant current x) xs h.1)
   where
     go : (o : Option SeatRow)
         → IfSome o (λ row. row_pair row ≡ record { exam = x.exam; student = x.student })
         → IfSome o (λ row. row_place row ≡ x.place)
-        → IsAtExam T (unwrap_or o (new_row standing x))
+        → IsAtExam T (unwrap_or o (new_row current x))
     go None k l = h.0.at_exam
     go (Some row) k l =
         ap (λ (p : Pair). place_of T p.exam) k ∙ h.0.at_exam ∙ ap (λ q. Some q) (sym l)
@@ -244,17 +244,17 @@ Has I rows = AllByRecursion (HasSeat I) rows
 
 -- the room holds the rows that are there and those still to come
 abbrev IsRoomFor : (Place → ℕ) → List SeatRow → List Entrant → Type 0
-IsRoomFor most standing xs =
-    (at : Place) → length (seats_at at standing) + count_by (is_new_at at) xs ≤ most at
+IsRoomFor most current xs =
+    (at : Place) → length (seats_at at current) + count_by (is_new_at at) xs ≤ most at
 
-rows_within : (I : Session) (most : Place → ℕ) (standing : List SeatRow) (xs : List Entrant)
-    → IsRoomFor most standing xs → Has I (old_rows xs)
+rows_within : (I : Session) (most : Place → ℕ) (current : List SeatRow) (xs : List Entrant)
+    → IsRoomFor most current xs → Has I (old_rows xs)
     → AllByRecursion
     (λ (x : Entrant). (n : ℕ) → 1 ≤ n → n ≤ most x.place
     → IsSeatOf (slice_get I.rooms x.place.room) n) xs
-    → Has I (rows_after_entrants standing xs)
-rows_within I most standing [] room kept fits = tt
-rows_within I most standing (x ∷ xs) room kept fits =
+    → Has I (rows_after_entrants current xs)
+rows_within I most current [] room kept fits = tt
+rows_within I most current (x ∷ xs) room kept fits =
     step x.kept room kept (λ s r k. rows_within I most s xs r k fits.1)
   where
     counted : (at : Place) (o : Option SeatRow)
@@ -262,28 +262,33 @@ rows_within I most standing (x ∷ xs) room kept fits =
         ≡ cond (is_none o && is_one_place at x.place) 1 0 + count_by (is_new_at at) xs
     counted at o = sum_by-cons (λ y. cond (is_new_at at y) 1 0) (record x { kept = o }) xs
 
-    step : (o : Option SeatRow) → IsRoomFor most standing (record x { kept = o } ∷ xs)
+    step : (o : Option SeatRow) → IsRoomFor most current (record x { kept = o } ∷ xs)
         → Has I (old_rows (record x { kept = o } ∷ xs))
         → ((s : List SeatRow) → IsRoomFor most s xs → Has I (old_rows xs)
         → Has I (rows_after_entrants s xs))
-        → Has I (rows_after_entrants standing (record x { kept = o } ∷ xs))
-    step (Some row) room kept more =
-        (kept.0, more standing (λ at. (let c = counted at (Some row) in let r = room at in omega arith)) kept.1)
+        → Has I (rows_after_entrants current (record x { kept = o } ∷ xs))
+    step (Some row) room kept more = (
+      kept.0,
+      more current (λ at. (let c = counted at (Some row) in let r = room at in
+          omega arith)) kept.1,
+    )
     step None room kept more =
-        let free = least_is (seats_at x.place standing) in
-        let small = least_small (seats_at x.place standing) in
+        let free = least_is (seats_at x.place current) in
+        let small = least_small (seats_at x.place current) in
         let one : ◌≡◌ {A = ℕ} (cond (is_one_place x.place x.place) 1 0) 1 =
         ap (λ b. cond b 1 0) (same_place x.place) in
         let c = counted x.place None in
         let r = room x.place in
-        let low : 1 ≤ least_free (seats_at x.place standing) = free.low in
-        (fits.0 (least_free (seats_at x.place standing)) low (omega arith), more (new_row standing x ∷ standing) (λ at. after at) kept)
+        let low : 1 ≤ least_free (seats_at x.place current) = free.low in (
+          fits.0 (least_free (seats_at x.place current)) low (omega arith),
+          more (new_row current x ∷ current) (λ at. after at) kept,
+        )
       where
         after : (at : Place)
-            → length (seats_at at (new_row standing x ∷ standing))
+            → length (seats_at at (new_row current x ∷ current))
             + count_by (is_new_at at) xs ≤ most at
         after at =
-            let l = length_seats at (new_row standing x) standing in
+            let l = length_seats at (new_row current x) current in
             let c = counted at None in
             let r = room at in
             omega arith
@@ -292,30 +297,33 @@ rows_within I most standing (x ∷ xs) room kept fits =
 
 -- a row's seat is taken by one of these rows
 abbrev IsTaken : List SeatRow → SeatRow → Type 0
-IsTaken standing r = has_number (seats_at (row_place r) standing) r.seat ≡ true
+IsTaken current r = has_number (seats_at (row_place r) current) r.seat ≡ true
 
 -- a present row shares its seat with no row of entrants who keep other seats
-apart : (r : SeatRow) (standing : List SeatRow) (xs : List Entrant) → IsTaken standing r
+apart : (r : SeatRow) (current : List SeatRow) (xs : List Entrant) → IsTaken current r
     → AllByRecursion (HaveOwnSeats r) (old_rows xs)
-    → AllByRecursion (HaveOwnSeats r) (rows_after_entrants standing xs)
-apart r standing [] taken kept = tt
-apart r standing (x ∷ xs) taken kept = step x.kept kept (λ s t k. apart r s xs t k)
+    → AllByRecursion (HaveOwnSeats r) (rows_after_entrants current xs)
+apart r current [] taken kept = tt
+apart r current (x ∷ xs) taken kept = step x.kept kept (λ s t k. apart r s xs t k)
   where
-    other : HaveOwnSeats r (new_row standing x)
+    other : HaveOwnSeats r (new_row current x)
     other a b c =
-        let free = (least_is (seats_at x.place standing)).free in
+        let free = (least_is (seats_at x.place current)).free in
         let same : row_place r ≡ x.place = (λ i. record { period = a i; room = b i }) in
-        true≢false (sym taken ∙ ap₂ (λ at n. has_number (seats_at at standing) n) same c ∙ free)
+        true≢false (sym taken ∙ ap₂ (λ at n. has_number (seats_at at current) n) same c ∙ free)
 
     step : (o : Option SeatRow)
         → AllByRecursion (HaveOwnSeats r) (old_rows (record x { kept = o } ∷ xs))
         → ((s : List SeatRow) → IsTaken s r → AllByRecursion (HaveOwnSeats r) (old_rows xs)
         → AllByRecursion (HaveOwnSeats r) (rows_after_entrants s xs))
         → AllByRecursion (HaveOwnSeats r)
-        (rows_after_entrants standing (record x { kept = o } ∷ xs))
-    step (Some row) kept more = (kept.0, more standing taken kept.1)
-    step None kept more =
-        (other, more (new_row standing x ∷ standing) (still_taken (row_place r) (new_row standing x) standing r.seat taken) kept)
+        (rows_after_entrants current (record x { kept = o } ∷ xs))
+    step (Some row) kept more = (kept.0, more current taken kept.1)
+    step None kept more = (
+      other,
+      more (new_row current x ∷ current)
+          (still_taken (row_place r) (new_row current x) current r.seat taken) kept,
+    )
 
 taken_first : (r : SeatRow) (rs : List SeatRow) → IsTaken (r ∷ rs) r
 taken_first r rs =
@@ -325,34 +333,34 @@ taken_first r rs =
     (and_from (is_one_place (row_place r) (row_place r)) (eqb r.seat r.seat)
     (same_place (row_place r)) (eq-eqb r.seat r.seat refl))
 
-own_rows : (standing : List SeatRow) (xs : List Entrant) → IsChain HaveOwnSeats (old_rows xs)
-    → AllByRecursion (IsTaken standing) (old_rows xs)
-    → IsChain HaveOwnSeats (rows_after_entrants standing xs)
-own_rows standing [] chain taken = tt
-own_rows standing (x ∷ xs) chain taken = step x.kept chain taken (λ s c t. own_rows s xs c t)
+own_rows : (current : List SeatRow) (xs : List Entrant) → IsChain HaveOwnSeats (old_rows xs)
+    → AllByRecursion (IsTaken current) (old_rows xs)
+    → IsChain HaveOwnSeats (rows_after_entrants current xs)
+own_rows current [] chain taken = tt
+own_rows current (x ∷ xs) chain taken = step x.kept chain taken (λ s c t. own_rows s xs c t)
   where
-    free_of : (r : SeatRow) → IsTaken standing r → HaveOwnSeats (new_row standing x) r
+    free_of : (r : SeatRow) → IsTaken current r → HaveOwnSeats (new_row current x) r
     free_of r there a b c =
-        let free = (least_is (seats_at x.place standing)).free in
+        let free = (least_is (seats_at x.place current)).free in
         let same : row_place r ≡ x.place = (λ i. record { period = sym a i; room = sym b i }) in
         true≢false (sym there
-        ∙ ap₂ (λ at n. has_number (seats_at at standing) n) same (sym c) ∙ free)
+        ∙ ap₂ (λ at n. has_number (seats_at at current) n) same (sym c) ∙ free)
 
     step : (o : Option SeatRow) → IsChain HaveOwnSeats (old_rows (record x { kept = o } ∷ xs))
-        → AllByRecursion (IsTaken standing) (old_rows (record x { kept = o } ∷ xs))
+        → AllByRecursion (IsTaken current) (old_rows (record x { kept = o } ∷ xs))
         → ((s : List SeatRow) → IsChain HaveOwnSeats (old_rows xs)
         → AllByRecursion (IsTaken s) (old_rows xs)
         → IsChain HaveOwnSeats (rows_after_entrants s xs))
-        → IsChain HaveOwnSeats (rows_after_entrants standing (record x { kept = o } ∷ xs))
+        → IsChain HaveOwnSeats (rows_after_entrants current (record x { kept = o } ∷ xs))
     step (Some row) chain taken more =
-        (apart row standing xs taken.0 chain.0, more standing chain.1 taken.1)
+        (apart row current xs taken.0 chain.0, more current chain.1 taken.1)
     step None chain taken more =
-        let row : SeatRow = new_row standing x in (
-          apart row (row ∷ standing) xs (taken_first row standing)
-              (each_weaker (IsTaken standing) (HaveOwnSeats row) free_of (old_rows xs) taken),
-          more (row ∷ standing) chain
-              (each_weaker (IsTaken standing) (IsTaken (row ∷ standing))
-              (λ r t. still_taken (row_place r) row standing r.seat t) (old_rows xs) taken),
+        let row : SeatRow = new_row current x in (
+          apart row (row ∷ current) xs (taken_first row current)
+              (each_weaker (IsTaken current) (HaveOwnSeats row) free_of (old_rows xs) taken),
+          more (row ∷ current) chain
+              (each_weaker (IsTaken current) (IsTaken (row ∷ current))
+              (λ r t. still_taken (row_place r) row current r.seat t) (old_rows xs) taken),
         )
 
 -- the seats of present rows are taken

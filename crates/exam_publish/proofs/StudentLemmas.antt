@@ -129,14 +129,14 @@ with_first s (x ∷ xs) a =
     with_cases s x xs (λ ys. ys ≡ s ∷ x ∷ xs)
     (λ before. refl)
     (λ same. absurd (omega arith))
-    (λ behind. absurd (omega arith))
+    (λ after. absurd (omega arith))
 
 with_again : (s : ℕ) (xs : List ℕ) → with_student s (s ∷ xs) ≡ s ∷ xs
 with_again s xs =
     with_cases s s xs (λ ys. ys ≡ s ∷ xs)
     (λ before. absurd (omega arith))
     (λ same. refl)
-    (λ behind. absurd (omega arith))
+    (λ after. absurd (omega arith))
 
 -- one student's rows before those of greater ones
 run_first : (s : ℕ) (x : SeatRow) (own later : List SeatRow)

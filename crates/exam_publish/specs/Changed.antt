@@ -2,6 +2,7 @@
 use Rattle.std.specs.Prelude.{ℕ, Bool, true, false, not, ◌&&◌, ◌==◌, List, [], ◌∷◌, ◌++◌, map, filter}
 use Rattle.std.specs.List.{list_any}
 use Rattle.exam_model.specs.Changes.{with_student}
+use Rattle.exam_model.specs.Enrolments.{has_number}
 use Rattle.exam_publish.specs.declared.seat_row.SeatRow.{SeatRow}
 
 -- one candidate's rows
@@ -11,6 +12,10 @@ rows_of s rows = filter (λ row. row.student == s) rows
 -- whether a candidate has a row
 abbrev pub has_row : List SeatRow → ℕ → Bool
 has_row rows s = list_any (λ row. row.student == s) rows
+
+-- the rows of these candidates
+abbrev pub rows_among : List ℕ → List SeatRow → List SeatRow
+rows_among students rows = filter (λ row. has_number students row.student) rows
 
 -- whether two rows agree in all that they say
 abbrev pub same_row : SeatRow → SeatRow → Bool

@@ -1,6 +1,6 @@
 -- The entrants, who need a seat, and the old rows that are kept: those whose exam has the same
 -- place.
-use Rattle.std.specs.Prelude.{Bool, ◌&&◌, List, filter_map, option_map}
+use Rattle.std.specs.Prelude.{◌≡◌, ℕ, ◌<◌, ◌≤◌, Bool, ◌&&◌, if◌then◌else◌, List, Option, None, Some, length, filter_map, option_map, slice_index_or}
 use Rattle.std.specs.List.{find}
 use Rattle.exam_terms.specs.declared.place.Place.{Place}
 use Rattle.exam_model.specs.Pairs.{Pair, is_pair}
@@ -13,6 +13,23 @@ use Rattle.exam_publish.specs.Rows.{row_place}
 -- whether a row is the pair's, in this room and period
 abbrev pub is_row_at : Pair → Place → SeatRow → Bool
 is_row_at p at row = is_pair row.student row.exam p && is_one_place at (row_place row)
+
+-- a row if it is in this room and period
+abbrev pub row_if_at : Place → SeatRow → Option SeatRow
+row_if_at at row = if is_one_place at (row_place row) then Some row else None
+
+-- the row at index i is the pair's
+pub record IsRowOf (rows : List SeatRow) (p : Pair) (i : ℕ) : Type 0 where
+  pub within : i < length rows
+  pub exam : (d : SeatRow) → (slice_index_or rows i d).exam ≡ p.exam
+  pub student : (d : SeatRow) → (slice_index_or rows i d).student ≡ p.student
+
+-- the only row of the pair is at index i; if that is the number of rows, there is none
+pub record IsIndexOf (rows : List SeatRow) (p : Pair) (i : ℕ) : Type 0 where
+  pub within : i ≤ length rows
+  pub none : i ≡ length rows → (at : Place) → find (is_row_at p at) rows ≡ None
+  pub one : i < length rows → (at : Place) (d : SeatRow)
+      → find (is_row_at p at) rows ≡ row_if_at at (slice_index_or rows i d)
 
 -- a pair, the exam's current place, and the pair's old row if it is at that place
 abbrev pub entrant : List SeatRow → Pair → Place → Entrant

@@ -1,5 +1,5 @@
 -- How seats are assigned to the entrants one by one.
-use Rattle.std.specs.Prelude.{◌≡◌, ℕ, ◌*◌, ◌<◌, ◌≤◌, Bool, true, false, ◌&&◌, ◌==◌, List, length, All, IfSome, slice_index}
+use Rattle.std.specs.Prelude.{◌≡◌, ℕ, ◌*◌, ◌<◌, ◌≤◌, Bool, true, false, ◌&&◌, ◌==◌, List, length, None, All, IfSome, slice_index, slice_index_or}
 use Rattle.std.specs.List.{list_any}
 use Rattle.std.specs.List.Sorted.{IsSorted}
 use Rattle.std.specs.Ordering.{nat_cmp, ordering_then}
@@ -12,6 +12,8 @@ use Rattle.exam_model.specs.Instance.{Session}
 use Rattle.exam_publish.specs.declared.entrants.Entrant.{Entrant}
 use Rattle.exam_publish.specs.declared.held.Held.{Held}
 use Rattle.exam_publish.specs.declared.seat_row.SeatRow.{SeatRow}
+use Rattle.exam_publish.specs.Entrants.{old_rows}
+use Rattle.exam_publish.specs.Rows.{row_place}
 use Rattle.exam_publish.specs.Seats.{seats_at}
 
 -- an entrant's place exists
@@ -23,6 +25,10 @@ pub record EntrantExists (I : Session) (x : Entrant) : Type 0 where
 abbrev pub KeepsSmallSeat : Entrant → Type 0
 KeepsSmallSeat x = IfSome x.kept (λ row. row.seat ≤ MAX_AMOUNT)
 
+-- a kept row is at the entrant's place
+abbrev pub KeepsOwnPlace : Entrant → Type 0
+KeepsOwnPlace x = IfSome x.kept (λ row. row_place row ≡ x.place)
+
 -- whether a held seat is this one in this room and period
 abbrev pub is_held : Place → ℕ → Held → Bool
 is_held at n h = (h.period == at.period) && ((h.room == at.room) && (h.seat == n))
@@ -33,10 +39,19 @@ compare_held x y =
     ordering_then (nat_cmp x.period y.period)
     (ordering_then (nat_cmp x.room y.room) (nat_cmp x.seat y.seat))
 
--- the seats that these rows hold, in order
-pub record AreHeld (kept : List SeatRow) (held : List Held) : Type 0 where
-  pub members : (at : Place) (n : ℕ)
-      → list_any (is_held at n) held ≡ has_number (seats_at at kept) n
+-- the table is true for the place of each of the first i entrants who keeps no seat
+pub record AreNeeded (periods rooms : ℕ) (xs : List Entrant) (i : ℕ) (needed : List Bool)
+    : Type 0 where
+  pub count : length needed ≡ periods * rooms
+  pub each : (j : ℕ) (x : Entrant) → j < i → j < length xs → x ≡ slice_index_or xs j x
+      → x.kept ≡ None
+      → slice_index_or needed (slot_of rooms x.place) false ≡ true
+
+-- the seats that entrants keep at the places of those who keep none, in order; others may be there
+pub record AreHeld (xs : List Entrant) (held : List Held) : Type 0 where
+  pub members : (j : ℕ) (x : Entrant) → j < length xs → x ≡ slice_index_or xs j x → x.kept ≡ None
+      → (n : ℕ)
+      → list_any (is_held x.place n) held ≡ has_number (seats_at x.place (old_rows xs)) n
   pub sorted : IsSorted compare_held held
   pub small : All (λ h. h.seat ≤ MAX_AMOUNT) held
 
@@ -47,13 +62,13 @@ pub record IsNextFree (held : List Held) (at : Place) (from n : ℕ) : Type 0 wh
   pub between : (k : ℕ) → from ≤ k → k < n → list_any (is_held at k) held ≡ true
 
 -- all seats up to this one are taken, and beyond it only kept ones
-pub record IsLast (kept standing : List SeatRow) (at : Place) (n : ℕ) : Type 0 where
-  pub all : (k : ℕ) → 1 ≤ k → k ≤ n → has_number (seats_at at standing) k ≡ true
+pub record IsLast (kept current : List SeatRow) (at : Place) (n : ℕ) : Type 0 where
+  pub all : (k : ℕ) → 1 ≤ k → k ≤ n → has_number (seats_at at current) k ≡ true
   pub beyond : (k : ℕ) → n < k
-      → has_number (seats_at at standing) k ≡ has_number (seats_at at kept) k
+      → has_number (seats_at at current) k ≡ has_number (seats_at at kept) k
 
 -- each place's entry is the last seat that was assigned there
-pub record AreLast (kept standing : List SeatRow) (periods rooms : ℕ) (last : List ℕ) : Type 0 where
+pub record AreLast (kept current : List SeatRow) (periods rooms : ℕ) (last : List ℕ) : Type 0 where
   pub count : length last ≡ periods * rooms
   pub each : (at : Place) → at.period < periods → at.room < rooms
-      → IsLast kept standing at (slice_index last (slot_of rooms at))
+      → IsLast kept current at (slice_index last (slot_of rooms at))

@@ -49,27 +49,27 @@ least_free taken =
 
 -- the row of an entrant who keeps none: with the least seat there that no row has
 abbrev pub new_row : List SeatRow → Entrant → SeatRow
-new_row standing x = record {
+new_row current x = record {
   student = x.student;
   exam = x.exam;
   period = x.place.period;
   room = x.place.room;
-  seat = least_free (seats_at x.place standing);
+  seat = least_free (seats_at x.place current);
 }
 
 -- an entrant's row, given the rows that are there: the kept one, or a new one
 abbrev pub entrant_row : List SeatRow → Entrant → SeatRow
-entrant_row standing x = unwrap_or x.kept (new_row standing x)
+entrant_row current x = unwrap_or x.kept (new_row current x)
 
 -- a new row is added to those that are there; a kept one is there already
 abbrev pub rows_with_entrant : List SeatRow → Entrant → List SeatRow
-rows_with_entrant standing x = if is_some x.kept then standing else new_row standing x ∷ standing
+rows_with_entrant current x = if is_some x.kept then current else new_row current x ∷ current
 
 -- the rows of entrants one after another, given the rows that are there
 abbrev pub rows_after_entrants : List SeatRow → List Entrant → List SeatRow
-rows_after_entrants standing [] = []
-rows_after_entrants standing (x ∷ xs) =
-    entrant_row standing x ∷ rows_after_entrants (rows_with_entrant standing x) xs
+rows_after_entrants current [] = []
+rows_after_entrants current (x ∷ xs) =
+    entrant_row current x ∷ rows_after_entrants (rows_with_entrant current x) xs
 
 -- the rows of all entrants: the kept ones are there before any new one is assigned
 abbrev pub rows_for : List Entrant → List SeatRow

@@ -1,7 +1,8 @@
 -- Whose share of the penalty is how much: of students by their rows, of exams, periods and rooms.
-use Rattle.std.specs.Prelude.{ℕ, ◌*◌, Bool, ◌==◌, List, map, length, count_by, Option, slice_get}
+use Rattle.std.specs.Prelude.{ℕ, ◌*◌, Bool, ◌==◌, List, map, filter, length, count_by, Option, slice_get}
 use Rattle.std.specs.List.{range_with_len}
 use Rattle.exam_terms.specs.declared.place.Place.{Place}
+use Rattle.exam_model.specs.Enrolments.{has_number}
 use Rattle.exam_model.specs.Instance.{Session}
 use Rattle.exam_model.specs.Timetable.{Placing}
 use Rattle.exam_model.specs.declared.parts.Period.{Period}
@@ -70,6 +71,15 @@ pub record Sharing : Type 0 where
 abbrev pub shares_of : Session → List SeatRow → Placing → Sharing
 shares_of I rows T = record {
   students = student_shares I rows;
+  exams = exam_shares I rows T;
+  periods = period_shares I T;
+  rooms = room_shares I T;
+}
+
+-- the same, but of the students only these
+abbrev pub shares_among : Session → List SeatRow → Placing → List ℕ → Sharing
+shares_among I rows T students = record {
+  students = filter (λ share. has_number students share.0) (student_shares I rows);
   exams = exam_shares I rows T;
   periods = period_shares I T;
   rooms = room_shares I T;

@@ -1,13 +1,12 @@
 // The kept seats, and the free ones between them.
-ghost use Rattle.std.specs.Prelude.{◌≡◌, ◌≤◌, All, IfOk};
+ghost use Rattle.std.specs.Prelude.{◌≡◌, ◌≤◌, length, All, IfOk};
 ghost use Rattle.std.specs.List.{list_any};
 ghost use Rattle.std.specs.List.Sorted.{IsSorted};
 ghost use Rattle.exam_terms.specs.declared.limits.TheConstants.{MAX_AMOUNT};
-ghost use Rattle.exam_publish.specs.Entrants.{old_rows};
-ghost use Rattle.exam_publish.specs.Seating.{AreHeld, IsNextFree, KeepsSmallSeat, compare_held, is_held};
+ghost use Rattle.exam_publish.specs.Seating.{AreHeld, AreNeeded, EntrantExists, IsNextFree, KeepsOwnPlace, KeepsSmallSeat, compare_held, is_held};
 
 use crate::entrants::Entrant;
-use exam_model::{PeriodNo, Place, RoomNo};
+use exam_model::{Instance, PeriodNo, Place, RoomNo};
 use std::alloc::{AllocError, Global};
 
 /// A kept seat; ordered by period, then room, then seat.
@@ -18,16 +17,28 @@ pub(crate) struct Held {
     pub seat: u32,
 }
 
-/// Returns the seats that entrants keep, in order.
-pub(crate) fn held_seats(alloc: Global, entrants: &[Entrant]) -> Result<Vec<Held>, AllocError>
-    requires { All KeepsSmallSeat entrants.now }
-    ensures { IfOk result (λ held. AreHeld (old_rows entrants.now) held.items) }
+/// Returns the seats that entrants keep in the rooms and periods in which others need a seat, in
+/// order.
+pub(crate) fn held_seats(
+    alloc: Global,
+    instance: &Instance,
+    entrants: &[Entrant],
+) -> Result<Vec<Held>, AllocError>
+    requires exist { All (EntrantExists instance.now) entrants.now }
+    requires small { All KeepsSmallSeat entrants.now }
+    requires placed { All KeepsOwnPlace entrants.now }
+    ensures { IfOk result (λ held. AreHeld entrants.now held.items) }
 {
+    let needed = needed_slots(alloc, instance, entrants)?;
     let mut held = Vec::new(alloc);
     'entrants: for entrant in entrants {
         let Some(row) = entrant.kept else {
             continue;
         };
+        let slot = instance.slot_of(entrant.place);
+        if !needed[slot] {
+            continue;
+        }
         held.push(Held {
             period: row.period,
             room: row.room,
@@ -36,6 +47,28 @@ pub(crate) fn held_seats(alloc: Global, entrants: &[Entrant]) -> Result<Vec<Held
     }
     held.sort_unstable();
     Ok(held)
+}
+
+// Returns for each room and period whether an entrant who keeps no seat needs one there.
+fn needed_slots(
+    alloc: Global,
+    instance: &Instance,
+    entrants: &[Entrant],
+) -> Result<Vec<bool>, AllocError>
+    requires { All (EntrantExists instance.now) entrants.now }
+    ensures { IfOk result (λ needed. AreNeeded (length instance.now.periods)
+        (length instance.now.rooms) entrants.now (length entrants.now) needed.items) }
+{
+    let places = instance.periods() * instance.rooms();
+    let mut needed = vec![in alloc; false; places as usize]?;
+    'entrants: for entrant in entrants {
+        if entrant.kept.is_some() {
+            continue;
+        }
+        let slot = instance.slot_of(entrant.place);
+        needed[slot] = true;
+    }
+    Ok(needed)
 }
 
 /// Returns the least seat, from this one on, that no entrant keeps in a room and period.

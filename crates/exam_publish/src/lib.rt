@@ -28,4 +28,4 @@ pub use permission::permit;
 pub use seat_row::SeatRow;
 pub use seating::seats;
 pub use share_lists::{RoomShare, Shares};
-pub use sharing::{numbers_identify, shares};
+pub use sharing::{numbers_identify, shares, shares_among};

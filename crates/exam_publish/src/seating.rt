@@ -7,7 +7,6 @@ ghost use Rattle.exam_model.specs.Pairs.{pairs_of};
 ghost use Rattle.exam_publish.specs.Permit.{publish_refusal};
 ghost use Rattle.exam_publish.specs.Rows.{ArePublishedRows, row_pair};
 ghost use Rattle.exam_publish.specs.Seats.{AreSeated, rows_for, seat_rows};
-ghost use Rattle.exam_publish.specs.Entrants.{old_rows};
 ghost use Rattle.exam_publish.specs.Seating.{AreHeld, EntrantExists};
 
 use crate::entrants::{Entrant, entrants_of};
@@ -38,7 +37,7 @@ pub fn seats(
 {
     let _known = (instance.rooms(), enrolments.pairs()); // read for their limits
     let entrants = entrants_of(alloc, enrolments, timetable, old)?;
-    let held = held_seats(alloc, &entrants)?;
+    let held = held_seats(alloc, instance, &entrants)?;
     let rows = seat_all(alloc, instance, &entrants, &held)?;
     Ok(rows)
 }
@@ -52,7 +51,7 @@ fn seat_all(
 ) -> Result<Vec<SeatRow>, AllocError>
     requires exist { All (EntrantExists instance.now) entrants.now }
     requires few { length entrants.now ≤ MAX_PAIRS }
-    requires held { AreHeld (old_rows entrants.now) held.now }
+    requires held { AreHeld entrants.now held.now }
     ensures { IfOk result (λ rows. rows.items ≡ rows_for entrants.now) }
 {
     let places = instance.periods() * instance.rooms();

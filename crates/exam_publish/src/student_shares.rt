@@ -1,5 +1,7 @@
 // The shares of students: the personal penalty of each one's rows.
 ghost use Rattle.std.specs.Prelude.{◌≡◌, map, IfOk};
+ghost use Rattle.exam_model.specs.Enrolments.{IsAscending, has_number};
+ghost use Rattle.exam_publish.specs.Changed.{rows_among};
 ghost use Rattle.exam_publish.specs.Rows.{ArePublishedRows};
 ghost use Rattle.exam_publish.specs.Shares.{student_shares};
 ghost use Rattle.exam_publish.specs.Groups.{AreSorted, IsRun};
@@ -30,6 +32,32 @@ pub(crate) fn student_shares(
         rest = others;
     }
     Ok(shares)
+}
+
+/// Returns the rows of these students, in their order.
+pub(crate) fn rows_among(
+    alloc: Global,
+    rows: &[SeatRow],
+    students: &[StudentNo],
+) -> Result<Vec<SeatRow>, AllocError>
+    requires { IsAscending students.now }
+    ensures { IfOk result (λ own. own.items ≡ rows_among students.now rows.now) }
+{
+    let mut own = Vec::new(alloc);
+    'rows: for row in rows {
+        if is_among(students, row.student) {
+            own.push(*row)?;
+        }
+    }
+    Ok(own)
+}
+
+// Returns whether a student is one of these.
+fn is_among(students: &[StudentNo], student: StudentNo) -> bool
+    requires { IsAscending students.now }
+    ensures { result ≡ has_number students.now student }
+{
+    students.binary_search(&student).is_ok()
 }
 
 // Returns the rows in the order of their students; the rows of one student keep their order.

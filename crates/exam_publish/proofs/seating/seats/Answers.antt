@@ -4,9 +4,9 @@ use Rattle.exam_publish.specs.declared.seat_row.SeatRow.{SeatRow}
 use Rattle.exam_publish.specs.declared.entrants.Entrant.{Entrant}
 use Rattle.exam_publish.specs.Rows.{ArePublishedRows, row_pair}
 use Rattle.exam_publish.specs.Seats.{AreSeated, rows_for, seat_rows}
-use Rattle.exam_publish.specs.Entrants.{entrants, old_rows}
-use Rattle.exam_publish.specs.Seating.{AreHeld, EntrantExists, KeepsSmallSeat}
-use Rattle.exam_publish.proofs.EntrantLemmas.{entrants_few, entrants_exist, entrants_keep}
+use Rattle.exam_publish.specs.Entrants.{entrants}
+use Rattle.exam_publish.specs.Seating.{AreHeld, EntrantExists, KeepsOwnPlace, KeepsSmallSeat}
+use Rattle.exam_publish.proofs.EntrantLemmas.{entrants_few, entrants_exist, entrants_keep, entrants_placed}
 use Rattle.exam_publish.proofs.SeatLemmas.{are_seats}
 use Rattle.exam_publish.proofs.seating.seats.Goals as goal
 
@@ -16,8 +16,14 @@ held_seats-requires c =
     let E = c.args.enrolments.now in
     let T = c.args.timetable.now in
     let old = c.args.old.now in
-    subst (All KeepsSmallSeat) (sym (c.deref.ensures.value ∙ c.in_ok-entrants.ensures))
-    (entrants_keep I T old (pairs_of E) c.rooms.ensures.kept c.requires.old_seated.within)
+    let is : c.deref.result.now ≡ entrants (pairs_of E) T old =
+    c.deref.ensures.value ∙ c.in_ok-entrants.ensures in
+    record {
+      exist = subst (All (EntrantExists I)) (sym is) (entrants_exist I E T old c.requires.fits);
+      small = subst (All KeepsSmallSeat) (sym is)
+          (entrants_keep I T old (pairs_of E) c.rooms.ensures.kept c.requires.old_seated.within);
+      placed = subst (All KeepsOwnPlace) (sym is) (entrants_placed T old (pairs_of E));
+    }
 
 pub seat_all-requires : goal.seat_all-requires
 seat_all-requires c =
@@ -32,9 +38,9 @@ seat_all-requires c =
       exist = subst (All (EntrantExists I)) (sym second) (entrants_exist I E T old c.requires.fits);
       few = subst (λ (xs : List Entrant). length xs ≤ 200000) (sym second)
           (entrants_few E T old c.pairs.ensures.kept);
-      held = subst (λ (xs : List Entrant). AreHeld (old_rows xs) c.deref-3.result.now)
+      held = subst (λ (xs : List Entrant). AreHeld xs c.deref-3.result.now)
           (first ∙ sym second)
-          (subst (AreHeld (old_rows c.deref.result.now))
+          (subst (AreHeld c.deref.result.now)
           (sym c.deref-3.ensures.value) c.in_ok-held.ensures);
     }
 

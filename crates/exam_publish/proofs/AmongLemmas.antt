@@ -1,0 +1,163 @@
+-- The rows of some of the students, and the shares of these students.
+use Rattle.std.proofs.Common.{◌≡◌, ℕ, ◌<◌, ◌≤◌, ◌^◌, inl, inr, Bool, true, false, cond, ◌&&◌, eqb, Result, Ok, Err, List, [], ◌∷◌, length, get_or, nat_cmp, map, filter, sum_by, refl, sym, ◌∙◌, ap, arith}
+use Rattle.std.specs.List.Sorted.{IsBinarySearchResult}
+use Rattle.std.specs.Prelude.{is_ok}
+use Rattle.std.proofs.lemmas.Bool.{cases_lt, eq-eqb, ne_eqb, true≢false}
+use Rattle.std.proofs.lemmas.List.{get_or_default}
+use Rattle.std.proofs.lemmas.List.Elements.{All-from_recursion, recursion_from_All}
+use Rattle.std.proofs.lemmas.List.Folds.{list_any_at, list_any_none}
+use Rattle.std.proofs.lemmas.List.Sorted.{searched}
+use Rattle.std.proofs.lemmas.List.Sums.{sum_by-cons}
+use Rattle.exam_model.specs.Enrolments.{IsAscending, has_number}
+use Rattle.exam_model.specs.Instance.{Session}
+use Rattle.exam_model.specs.Timetable.{Placing}
+use Rattle.exam_model.proofs.SameSet.{same_list}
+use Rattle.exam_model.proofs.SumLemmas.{chain_from_index}
+use Rattle.exam_score.specs.Penalty.{PersonalPenalty, personal_total}
+use Rattle.exam_publish.specs.declared.seat_row.SeatRow.{SeatRow}
+use Rattle.exam_publish.specs.AddUp.{AreSmall, share_total}
+use Rattle.exam_publish.specs.Changed.{ascending, rows_among, rows_of, students_of}
+use Rattle.exam_publish.specs.Rows.{ArePublishedRows, IsAtExam, RowBefore}
+use Rattle.exam_publish.specs.Shares.{share_of, shares_among, shares_of, student_shares}
+use Rattle.exam_publish.proofs.ListLemmas.{ascending_from_chain, ascends, chain_ascending, chain_filter, each_filter, has_ascending, has_filter, index_from_chain}
+use Rattle.exam_publish.proofs.ShareLemmas.{small_shares}
+
+-- ---- filtered lists
+
+filter_shorter : {X : Type 0} (t : X → Bool) (xs : List X) → length (filter t xs) ≤ length xs
+filter_shorter t [] = omega arith
+filter_shorter t (x ∷ xs) = go (t x) (filter_shorter t xs)
+  where
+    go : (b : Bool) → length (filter t xs) ≤ length xs
+        → length (cond b (x ∷ filter t xs) (filter t xs)) ≤ length (x ∷ xs)
+    go true more = omega arith
+    go false more = omega arith
+
+pub map_filter : {X Y : Type 0} (f : X → Y) (p : Y → Bool) (xs : List X)
+    → map f (filter (λ x. p (f x)) xs) ≡ filter p (map f xs)
+map_filter f p [] = refl
+map_filter f p (x ∷ xs) = go (p (f x)) (map_filter f p xs)
+  where
+    go : (b : Bool) → map f (filter (λ x. p (f x)) xs) ≡ filter p (map f xs)
+        → map f (cond b (x ∷ filter (λ x. p (f x)) xs) (filter (λ x. p (f x)) xs))
+        ≡ cond b (f x ∷ filter p (map f xs)) (filter p (map f xs))
+    go true more = ap (λ ys. f x ∷ ys) more
+    go false more = more
+
+-- two functions that agree on the elements that pass
+map_passing : {X Y : Type 0} (f g : X → Y) (p : X → Bool) → ((x : X) → p x ≡ true → f x ≡ g x)
+    → (xs : List X) → map f (filter p xs) ≡ map g (filter p xs)
+map_passing f g p same [] = refl
+map_passing f g p same (x ∷ xs) = go (p x) refl (map_passing f g p same xs)
+  where
+    go : (b : Bool) → p x ≡ b → map f (filter p xs) ≡ map g (filter p xs)
+        → map f (cond b (x ∷ filter p xs) (filter p xs))
+        ≡ map g (cond b (x ∷ filter p xs) (filter p xs))
+    go true is more = ap (λ ys. f x ∷ ys) more ∙ ap (λ y. y ∷ map g (filter p xs)) (same x is)
+    go false is more = more
+
+less_sum : {X : Type 0} (f : X → ℕ) (t : X → Bool) (xs : List X)
+    → sum_by f (filter t xs) ≤ sum_by f xs
+less_sum f t [] = omega arith
+less_sum f t (x ∷ xs) = go (t x) (less_sum f t xs)
+  where
+    go : (b : Bool) → sum_by f (filter t xs) ≤ sum_by f xs
+        → sum_by f (cond b (x ∷ filter t xs) (filter t xs)) ≤ sum_by f (x ∷ xs)
+    go true more =
+        let some = sum_by-cons f x (filter t xs) in
+        let all = sum_by-cons f x xs in
+        omega arith
+    go false more = let all = sum_by-cons f x xs in omega arith
+
+-- ---- a search among students
+
+rise : (xs : List ℕ) → IsAscending xs → (i j : ℕ) → i ≤ j → j < length xs
+    → get_or xs i 0 ≤ get_or xs j 0
+rise xs up i j le lt = grind (arith, up i j, λ (same : i ≡ j). ap (λ k. get_or xs k 0) same)
+
+-- a search finds a student exactly if they are there
+pub has_searched : (xs : List ℕ) (x : ℕ) (r : Result ℕ ℕ) → IsAscending xs
+    → IsBinarySearchResult (λ y. nat_cmp y x) xs r → is_ok r ≡ has_number xs x
+has_searched xs x (Ok at) up is =
+    let found = searched xs x (Ok at) is (rise xs up) in
+    sym (list_any_at (λ t. eqb t x) xs at 0 found.0 (eq-eqb _ _ found.1))
+has_searched xs x (Err at) up is =
+    let gap = searched xs x (Err at) is (rise xs up) in
+    sym (list_any_none (λ t. eqb t x) xs (λ k d lt.
+    rw (get_or_default xs k d 0 lt) (elim (cases_lt k at) [
+      | inl below ↦ ne_eqb _ _ (omega (arith, gap.1 k below))
+      | inr above ↦ ne_eqb _ _ (omega (arith, gap.2 k above lt))
+    ])))
+
+-- ---- the rows of some students
+
+-- they are published rows too
+pub among_published : (I : Session) (rows : List SeatRow) (T : Placing) (students : List ℕ)
+    → ArePublishedRows I rows T → ArePublishedRows I (rows_among students rows) T
+among_published I rows T students are =
+    let t : SeatRow → Bool = λ row. has_number students row.student in
+    record {
+      exams = are.exams;
+      places = are.places;
+      complete = are.complete;
+      few = let shorter = filter_shorter t rows in omega (arith, shorter, are.few);
+      in_order = index_from_chain RowBefore (filter t rows)
+          (chain_filter RowBefore t rows (chain_from_index RowBefore rows are.in_order));
+      at_exams = All-from_recursion (IsAtExam T) (filter t rows)
+          (each_filter (IsAtExam T) t rows (recursion_from_All (IsAtExam T) rows are.at_exams));
+    }
+
+students_among : (rows : List SeatRow) (students : List ℕ)
+    → students_of (rows_among students rows) ≡ filter (has_number students) (students_of rows)
+students_among rows students =
+    let p = has_number students in
+    let numbers : List ℕ = map (λ row. row.student) rows in
+    ap ascending (map_filter (λ (row : SeatRow). row.student) p rows)
+    ∙ same_list (ascending (filter p numbers)) (filter p (ascending numbers))
+    (ascends (filter p numbers))
+    (ascending_from_chain (filter p (ascending numbers))
+    (chain_filter (λ x y. x < y) p (ascending numbers) (chain_ascending numbers)))
+    (λ t. has_ascending (filter p numbers) t ∙ has_filter p numbers t
+    ∙ ap (λ b. p t && b) (sym (has_ascending numbers t))
+    ∙ sym (has_filter p (ascending numbers) t))
+
+own_among : (students : List ℕ) (s : ℕ) → has_number students s ≡ true → (rows : List SeatRow)
+    → rows_of s (rows_among students rows) ≡ rows_of s rows
+own_among students s h [] = refl
+own_among students s h (r ∷ rs) =
+    go (has_number students r.student) refl (own_among students s h rs)
+  where
+    apart : has_number students r.student ≡ false → r.student ≡ s → ⊥
+    apart is same = absurd (true≢false (sym (ap (has_number students) same ∙ h) ∙ is))
+
+    go : (b : Bool) → has_number students r.student ≡ b
+        → rows_of s (rows_among students rs) ≡ rows_of s rs
+        → rows_of s (cond b (r ∷ rows_among students rs) (rows_among students rs))
+        ≡ cond (eqb r.student s) (r ∷ rows_of s rs) (rows_of s rs)
+    go true is more = ap (λ xs. cond (eqb r.student s) (r ∷ xs) xs) more
+    go false is more =
+        more ∙ sym (ap (λ b. cond b (r ∷ rows_of s rs) (rows_of s rs))
+        (ne_eqb r.student s (apart is)))
+
+-- their shares are those of all rows
+pub among_shares : (I : Session) (rows : List SeatRow) (students : List ℕ)
+    → student_shares I (rows_among students rows)
+    ≡ filter (λ share. has_number students share.0) (student_shares I rows)
+among_shares I rows students =
+    let own : ℕ → ℕ × PersonalPenalty
+    = λ s. (s, share_of I.periods I.weights (rows_of s (rows_among students rows))) in
+    let all : ℕ → ℕ × PersonalPenalty = λ s. (s, share_of I.periods I.weights (rows_of s rows)) in
+    ap (map own) (students_among rows students)
+    ∙ map_passing own all (has_number students)
+    (λ s h. ap (λ rs. (s, share_of I.periods I.weights rs)) (own_among students s h rows))
+    (students_of rows)
+    ∙ map_filter all (λ share. has_number students share.0) (students_of rows)
+
+-- some of the shares are small if all are
+pub among_small : (I : Session) (rows : List SeatRow) (T : Placing) (students : List ℕ) (n : ℕ)
+    → n ≡ 2 ^ 62 → share_total (shares_of I rows T) < n → AreSmall (shares_among I rows T students)
+among_small I rows T students n is small =
+    small_shares n is (shares_among I rows T students)
+    (let less = less_sum (λ (share : ℕ × PersonalPenalty). personal_total share.1)
+    (λ share. has_number students share.0) (student_shares I rows) in
+    omega arith)
