@@ -53,15 +53,16 @@ read_from line before (r ∷ rs) (x ∷ xs) le is =
     ∙ ap Ok (more before xs x)
 
 -- the result of a reading is the list of its records' changes
-abbrev Says : List Change → List Record → List Change → Type 0
-Says before rs out = (xs : List Change) × (out ≡ before ++ xs) × (map change_in rs ≡ map Ok xs)
+abbrev GivesChanges : List Change → List Record → List Change → Type 0
+GivesChanges before rs out = (xs : List Change) × (out ≡ before ++ xs)
+    × (map change_in rs ≡ map Ok xs)
 
 spelled_by : (line : ℕ) (before : List Change) (r : Record) (rs : List Record) (out : List Change)
     → 2 ≤ line
     → changes_from line before (r ∷ rs) ≡ Ok out → (c : Result Change FaultKind) → change_in r ≡ c
     → ((x : Change) → changes_from (line + 1) (before ++ x ∷ []) rs ≡ Ok out
-    → Says (before ++ x ∷ []) rs out)
-    → Says before (r ∷ rs) out
+    → GivesChanges (before ++ x ∷ []) rs out)
+    → GivesChanges before (r ∷ rs) out
 spelled_by line before r rs out le is (Err what) e later =
     let apart : Err (let f : FileFault = record { line = line; what = what } in f) ≡ Ok out
     = sym (step line before r rs le ∙ ap (going_on line before rs) e) ∙ is in
@@ -71,7 +72,7 @@ spelled_by line before r rs out le is (Ok x) e later =
     (x ∷ said.0, said.1 ∙ more before said.0 x, ap₂ (λ y ys. y ∷ ys) e said.2)
 
 spelled_from : (line : ℕ) (before : List Change) (rs : List Record) (out : List Change) → 2 ≤ line
-    → changes_from line before rs ≡ Ok out → Says before rs out
+    → changes_from line before rs ≡ Ok out → GivesChanges before rs out
 spelled_from line before [] out le is =
     let same : Ok before ≡ Ok out = sym (end line before le) ∙ is in
     let equal : before ≡ out = cc in

@@ -16,14 +16,14 @@ use Rattle.office_files.specs.declared.fault.FaultKind.TheVariants.{BadHeader}
 use Rattle.office_files.specs.declared.fault.FileFault.{FileFault}
 use Rattle.office_batches.proofs.TurnLemmas.{all_records}
 use Rattle.office_batches.specs.Records.{Record}
-use Rattle.office_batches.specs.BatchText.{behind, changes_from, records_in}
+use Rattle.office_batches.specs.BatchText.{with_record, changes_from, records_in}
 
 -- the bytes of a slice as a reader
 abbrev pub bytes_of : Bor (List ℕ) → Option (List ℕ)
 bytes_of s = Some s.now
 
 -- after this many records of a text, with these changes: the rest is read from here
-pub record IsBehind (text : List ℕ) (reader : Reader (Bor (List ℕ)))
+pub record IsAfterRecords (text : List ℕ) (reader : Reader (Bor (List ℕ)))
     (changes : List Change) (before : ℕ)
     : Type 0 where
   pub left : List ℕ
@@ -73,7 +73,7 @@ one_turn (suc n) h = (n, refl)
 pub started : (text : List ℕ) (reader : Reader (Bor (List ℕ)))
     → source_of bytes_of reader ≡ Some (strip_bom text) → reader.config ≡ default_config
     → reader.trim ≡ trim.None → Ready reader → reader.state ≡ state.StartRecord
-    → IsBehind text reader [] 0
+    → IsAfterRecords text reader [] 0
 started text reader source config trim ready begins = record {
   left = strip_bom text;
   turns = length text + 1;
@@ -89,13 +89,13 @@ started text reader source config trim ready begins = record {
 }
 
 module _ (text : List ℕ) (a b : Reader (Bor (List ℕ))) (changes : List Change) (before : ℕ)
-    (f : Record) (at : IsBehind text a changes before) where
+    (f : Record) (at : IsAfterRecords text a changes before) where
   -- the changes after the next record
   read_on : before < length text + 1 → ReadRecord bytes_of a b true f
       → (left : List ℕ) × (n : ℕ) × (source_of bytes_of b ≡ Some left)
       × (before + 1 + n ≡ length text + 1)
       × (changes_from 1 [] (records_in text)
-      ≡ (at_line (before + 1) (behind (before + 1) changes f) >>= λ now.
+      ≡ (at_line (before + 1) (with_record (before + 1) changes f) >>= λ now.
       changes_from (before + 1 + 1) now (records_from default_config n b.state left)))
   read_on within reads =
       let more = one_more a b f at.left at.config at.source reads in
@@ -115,9 +115,9 @@ module _ (text : List ℕ) (a b : Reader (Bor (List ℕ))) (changes : List Chang
 
   -- one more record that is accepted
   pub advanced : (new : List Change) → before < length text + 1 → ReadRecord bytes_of a b true f
-      → Ready b → at_line (before + 1) (behind (before + 1) changes f) ≡ Ok new
-      → IsBehind text b new (before + 1)
-  advanced new within reads ready says =
+      → Ready b → at_line (before + 1) (with_record (before + 1) changes f) ≡ Ok new
+      → IsAfterRecords text b new (before + 1)
+  advanced new within reads ready result_is =
       let on = read_on within reads in
       record {
         left = on.0;
@@ -128,17 +128,18 @@ module _ (text : List ℕ) (a b : Reader (Bor (List ℕ))) (changes : List Chang
         ready = ready;
         counted = on.3;
         whole = on.4 ∙ ap (λ (r : Result (List Change) FileFault). r >>= λ now.
-            changes_from (before + 1 + 1) now (records_from default_config on.1 b.state on.0)) says;
+            changes_from (before + 1 + 1) now
+            (records_from default_config on.1 b.state on.0)) result_is;
       }
 
   -- one more record that is refused
   pub refused : (fault : FileFault) → before < length text + 1 → ReadRecord bytes_of a b true f
-      → at_line (before + 1) (behind (before + 1) changes f) ≡ Err fault
+      → at_line (before + 1) (with_record (before + 1) changes f) ≡ Err fault
       → changes_from 1 [] (records_in text) ≡ Err fault
-  refused fault within reads says =
+  refused fault within reads result_is =
       let on = read_on within reads in
       on.4 ∙ ap (λ (r : Result (List Change) FileFault). r >>= λ now.
-      changes_from (before + 1 + 1) now (records_from default_config on.1 b.state on.0)) says
+      changes_from (before + 1 + 1) now (records_from default_config on.1 b.state on.0)) result_is
 
   -- no further record
   pub ended : ReadRecord bytes_of a b false f
@@ -150,7 +151,7 @@ module _ (text : List ℕ) (a b : Reader (Bor (List ℕ))) (changes : List Chang
 
 -- no turn is left
 pub spent : (text : List ℕ) (a : Reader (Bor (List ℕ))) (changes : List Change) (before : ℕ)
-    → IsBehind text a changes before → length text + 1 ≤ before
+    → IsAfterRecords text a changes before → length text + 1 ≤ before
     → changes_from 1 [] (records_in text) ≡ changes_from (before + 1) changes []
 unfolding records_from
 spent text a changes before at all =

@@ -14,19 +14,19 @@ chosen true r p other is = inl cc
 chosen false r p other is = inr is
 
 -- after a record there are fewer bytes, or none
-left_behind : (cfg : Config) (s : State) (fields : List (List ℕ)) (field xs : List ℕ) (p : Read)
+left_after : (cfg : Config) (s : State) (fields : List (List ℕ)) (field xs : List ℕ) (p : Read)
     → next_record cfg s fields field xs ≡ Some p
     → (length p.2 < length xs) ⊎ ((p.2 ≡ []) × (p.1 ≡ state.StartRecord))
 unfolding next_record
-left_behind cfg s fields field [] p is = elim (chosen (ends_at_end s) _ p None is) [
+left_after cfg s fields field [] p is = elim (chosen (ends_at_end s) _ p None is) [
   | inl same ↦ inr (sym (ap (λ (q : Read). q.2) same), sym (ap (λ (q : Read). q.1) same))
   | inr none ↦ absurd cc
 ]
-left_behind cfg s fields field (c ∷ rest) p is = elim (chosen (is_end (step cfg s c).1) _ p _ is) [
+left_after cfg s fields field (c ∷ rest) p is = elim (chosen (is_end (step cfg s c).1) _ p _ is) [
   | inl same ↦
       let left : length rest ≡ length p.2 = ap (λ (q : Read). length q.2) same in
       inl (omega arith)
-  | inr later ↦ elim (left_behind cfg (step cfg s c).0 _ _ rest p later) [
+  | inr later ↦ elim (left_after cfg (step cfg s c).0 _ _ rest p later) [
     | inl fewer ↦ inl (omega arith)
     | inr nothing ↦ inr nothing
   ]
@@ -56,7 +56,7 @@ same_records (suc m) (suc n) s xs le short =
     by None is later = refl
     by (Some p) is later =
         ap (λ (rs : List (List (List ℕ))). p.0 ∷ rs)
-        (elim (left_behind default_config s [] [] xs p is) [
+        (elim (left_after default_config s [] [] xs p is) [
           | inl fewer ↦ later p.1 p.2 (omega arith)
           | inr nothing ↦ rw (nothing.0, nothing.1) (none_left m ∙ sym (none_left n))
         ])

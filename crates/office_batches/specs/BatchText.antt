@@ -13,8 +13,8 @@ use Rattle.office_files.specs.declared.fault.FileFault.{FileFault}
 use Rattle.office_batches.specs.Records.{Record, is_header, change_in}
 
 -- the changes with one more record: the first record names the columns, each other is a change
-abbrev pub behind : ℕ → List Change → Record → Result (List Change) FaultKind
-behind line before fields =
+abbrev pub with_record : ℕ → List Change → Record → Result (List Change) FaultKind
+with_record line before fields =
     if line == 1 then (unless (is_header fields) BadHeader >>= λ _. Ok before)
     else (change_in fields >>= λ change. Ok (before ++ change ∷ []))
 
@@ -24,13 +24,13 @@ abbrev pub changes_from : ℕ → List Change → List Record → Result (List C
 changes_from line before [] =
     at_line 1 (unless (nat_le 2 line) BadHeader) >>= λ _. Ok before
 changes_from line before (fields ∷ others) =
-    at_line line (behind line before fields) >>= λ now. changes_from (line + 1) now others
+    at_line line (with_record line before fields) >>= λ now. changes_from (line + 1) now others
 
 -- the records of a text, without a byte order mark
 abbrev pub records_in : List ℕ → List Record
 records_in b = records default_config (strip_bom b)
 
--- the reading of a batch: the changes that it spells, or its first fault
+-- the reading of a batch: the changes in the text, or its first fault
 abbrev pub batch_in : List ℕ → Result (List Change) FileFault
 batch_in b = do
   _ ← at_line 0 (unless (nat_le (length b) TEXT_BYTES) TooLong)

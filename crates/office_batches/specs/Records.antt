@@ -19,8 +19,8 @@ abbrev pub field : Record → ℕ → List ℕ
 field fields i = trimmed (slice_index_or fields i [])
 
 -- whether a field is this word, in lower or upper case
-abbrev pub says : Record → ℕ → List ℕ → Bool
-says fields i word = str_eq_ignore_ascii_case (field fields i) word
+abbrev pub has_word : Record → ℕ → List ℕ → Bool
+has_word fields i word = str_eq_ignore_ascii_case (field fields i) word
 
 -- whether the record has three fields, or four of which the last is empty
 abbrev pub has_three : Record → Bool
@@ -30,14 +30,14 @@ has_three fields =
 -- whether a record names the columns
 abbrev pub is_header : Record → Bool
 is_header fields =
-    says fields 0 (codes "student") && (says fields 1 (codes "exam")
-    && (says fields 2 (codes "action") && has_three fields))
+    has_word fields 0 (codes "student") && (has_word fields 1 (codes "exam")
+    && (has_word fields 2 (codes "action") && has_three fields))
 
 -- whether the student is added, by a field
 abbrev pub action : Record → Result Bool FaultKind
 action fields =
-    if says fields 2 (codes "add") then Ok true
-    else (if says fields 2 (codes "drop") then Ok false else Err BadWord)
+    if has_word fields 2 (codes "add") then Ok true
+    else (if has_word fields 2 (codes "drop") then Ok false else Err BadWord)
 
 -- the change of a record: the student, the exam, and the action
 abbrev pub change_in : Record → Result Change FaultKind

@@ -4,7 +4,7 @@ ghost use Rattle.exam_terms.specs.declared.limits.TheConstants.{TEXT_BYTES};
 ghost use Rattle.csv.specs.Records.{fields_of};
 ghost use Rattle.office_files.specs.Faults.{HasNoLine};
 ghost use Rattle.office_files.specs.Reading.{AnswersReading, at_line};
-ghost use Rattle.office_batches.specs.BatchText.{batch_in, behind, changes_from, records_in};
+ghost use Rattle.office_batches.specs.BatchText.{batch_in, with_record, changes_from, records_in};
 
 use crate::change_reader::{change_in, is_header};
 use csv::{ByteRecord, ReaderBuilder};
@@ -55,7 +55,7 @@ fn changes_in(alloc: Global, text: &[u8]) -> Result<Vec<Change>, FileFault>
 // Adds the change of a record after those before it.
 fn add_record(changes: &mut Vec<Change>, row: &ByteRecord, line: u32) -> Result<(), FileFault>
     ensures exact { AnswersReading (λ _. changes.new.items) result
-        (at_line line (behind line changes.old.items (fields_of row.now))) }
+        (at_line line (with_record line changes.old.items (fields_of row.now))) }
     ensures memory { IfErr result HasNoLine }
 {
     if line == 1 {

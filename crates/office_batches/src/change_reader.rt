@@ -3,7 +3,7 @@ ghost use Rattle.std.specs.Prelude.{◌≡◌, Ok, Err};
 ghost use Rattle.std.specs.Prelude.{codes};
 ghost use Rattle.csv.specs.Records.{fields_of};
 ghost use Rattle.office_batches.specs.Records.{action, change_in, field, has_three, is_header};
-ghost use Rattle.office_batches.specs.Records.{says};
+ghost use Rattle.office_batches.specs.Records.{has_word};
 
 use csv::ByteRecord;
 use exam_model::{Change, ExamNo, StudentNo};
@@ -15,7 +15,10 @@ use office_files::{FaultKind, number, same_word};
 pub(crate) fn is_header(row: &ByteRecord) -> bool
     ensures { result ≡ is_header (fields_of row.now) }
 {
-    says(row, 0, b"student") && says(row, 1, b"exam") && says(row, 2, b"action") && has_three(row)
+    has_word(row, 0, b"student")
+        && has_word(row, 1, b"exam")
+        && has_word(row, 2, b"action")
+        && has_three(row)
 }
 
 /// Returns the change of a record.
@@ -36,10 +39,10 @@ pub(crate) fn change_in(row: &ByteRecord) -> Result<Change, FaultKind>
 fn action(row: &ByteRecord) -> Result<bool, FaultKind>
     ensures { result ≡ action (fields_of row.now) }
 {
-    if says(row, 2, b"add") {
+    if has_word(row, 2, b"add") {
         return Ok(true);
     }
-    if says(row, 2, b"drop") {
+    if has_word(row, 2, b"drop") {
         return Ok(false);
     }
     Err(FaultKind::BadWord)
@@ -53,8 +56,8 @@ fn has_three(row: &ByteRecord) -> bool
 }
 
 // Returns whether a field is the word.
-fn says(row: &ByteRecord, place: usize, word: &[u8]) -> bool
-    ensures { result ≡ says (fields_of row.now) place word.now }
+fn has_word(row: &ByteRecord, place: usize, word: &[u8]) -> bool
+    ensures { result ≡ has_word (fields_of row.now) place word.now }
 {
     same_word(field(row, place), word)
 }

@@ -127,12 +127,12 @@ module _ {S T : Type 0} (AreTheirs : List Visit → Type 0) where
   }
 
 -- the lines that were printed are those of at most as many faults as clients were served
-pub tells_faults : {S : Type 0} (AreTheirs : List Visit → Type 0)
+pub prints_faults : {S : Type 0} (AreTheirs : List Visit → Type 0)
     (Serve : List Visit → S → S → Type 0) (service : Service) (old new : S)
     (errors_old errors_new : Option (List ℕ))
     → ServesClients AreTheirs Serve service old new errors_old errors_new
     → service.unwritten ≡ 0 → PrintsFaults service.accepted errors_old errors_new
-tells_faults AreTheirs Serve service old new errors_old errors_new x none = (
+prints_faults AreTheirs Serve service old new errors_old errors_new x none = (
   faults_of x.visits,
   omega (arith, few_faults x.visits, x.count),
   x.printed none,

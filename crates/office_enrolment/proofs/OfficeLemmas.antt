@@ -173,9 +173,9 @@ pub office_after : (number : ℕ) (bytes : List ℕ) (read : Result (List Change
     → (named (λ f. Refused (refusal.File f)) read >>= λ changes. records_or_refusal old >>= λ r.
     enrolled_by (batch_numbered number r.batches) number bytes changes r) ≡ Ok (counts, new)
     → IsOffice new
-office_after number bytes (Err fault) old new counts small told was gives = absurd (cc gives)
-office_after number bytes (Ok changes) None new counts small told was gives = absurd (cc gives)
-office_after number bytes (Ok changes) (Some r) new counts small told was gives =
-    let both = told changes refl in
+office_after number bytes (Err fault) old new counts small facts was gives = absurd (cc gives)
+office_after number bytes (Ok changes) None new counts small facts was gives = absurd (cc gives)
+office_after number bytes (Ok changes) (Some r) new counts small facts was gives =
+    let both = facts changes refl in
     loaded_after number bytes small both.0 changes r counts new (batch_numbered number r.batches)
     both.1 refl was gives

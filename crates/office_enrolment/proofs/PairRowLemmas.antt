@@ -49,7 +49,7 @@ with_new s (u ∷ us) isnt =
     with_cases s u us (IsPermutation (s ∷ u ∷ us))
     (λ before. IsPermutation-refl (s ∷ u ∷ us))
     (λ same. absurd (cc (sym (eq-eqb u s (sym same)) ∙ parts.0)))
-    (λ behind. IsPermutation-trans (s ∷ u ∷ us) (u ∷ s ∷ us) (u ∷ with_student s us)
+    (λ after. IsPermutation-trans (s ∷ u ∷ us) (u ∷ s ∷ us) (u ∷ with_student s us)
     (IsPermutation-middle (s ∷ []) u us)
     (IsPermutation-cons u (s ∷ us) (with_student s us) (with_new s us parts.1)))
 
@@ -109,7 +109,7 @@ others_from s e f (xs ∷ rest) lt =
     ∙ ap₂ (λ (ps qs : List Pair). ps ++ qs) (others_at s e f xs (λ same. omega arith))
     (others_from s e (f + 1) rest (omega arith))
 
--- the exam's own pairs are others, but for the student's
+-- the exam's own pairs, except the student's, are others
 own_at : (s e : ℕ) (xs : List ℕ)
     → filter (is_other s e) (pairs_at e xs) ≡ pairs_at e (without_student s xs)
 own_at s e xs =

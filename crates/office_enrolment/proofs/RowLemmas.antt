@@ -42,7 +42,7 @@ module _ {X : Type 0} (kind : RowKind X) where
       let same : filter stays (rows_of E) ≡ rows_of (without_pair E s e)
       = filter-map stays kind.row (pairs_of E)
       ∙ ap (map kind.row)
-      (filter_agree (λ p. stays (kind.row p)) (is_other s e) (λ p. ap not (kind.tells s e p))
+      (filter_agree (λ p. stays (kind.row p)) (is_other s e) (λ p. ap not (kind.agrees s e p))
       (pairs_of E)
       ∙ pairs-without s e 0 e E (omega arith)) in
       subst (IsPermutation (filter stays rows)) same

@@ -7,11 +7,11 @@ use Rattle.exam_model.specs.declared.change.Change.{Change}
 pub record RowKind (X : Type 0) : Type 0 where
   pub row : Pair → X
   pub is_of : ℕ → ℕ → X → Bool
-  pub tells : (s e : ℕ) (p : Pair) → is_of s e (row p) ≡ is_pair s e p
+  pub agrees : (s e : ℕ) (p : Pair) → is_of s e (row p) ≡ is_pair s e p
 
 -- a pair is its own row
 abbrev pub pair_rows : RowKind Pair
-pair_rows = record { row = λ p. p; is_of = is_pair; tells = λ s e p. refl }
+pair_rows = record { row = λ p. p; is_of = is_pair; agrees = λ s e p. refl }
 
 -- the pair of a line
 abbrev pub pair_of : Change → Pair

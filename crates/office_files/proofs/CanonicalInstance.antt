@@ -1,4 +1,4 @@
--- The canonical text of an instance spells it.
+-- The canonical text of an instance is a text of it.
 use Rattle.std.proofs.Common.{◌≡◌, ℕ, zero, suc, ◌+◌, ◌*◌, ◌<◌, ◌≤◌, ◌/◌, false, List, [], ◌∷◌, ◌++◌, length}
 use Rattle.std.proofs.Common.{Ok, eqb, refl, sym, ap, subst, ◌∙◌, arith, append-nil, length-append}
 use Rattle.std.specs.Prelude.{map, decimal, codes, All, nat_lt, not, ◌==◌}

@@ -33,7 +33,7 @@ use Rattle.office_files.specs.Weightings.{weighting_line}
 use Rattle.office_files.specs.declared.counts.Counts.{Counts}
 use Rattle.office_files.specs.declared.weightings.Weighting.{Weighting}
 use Rattle.office_files.specs.declared.weightings.Weighting.TheVariants.{Row, Day, Spread, Mixed, Front, Night}
-use Rattle.office_files.proofs.CanonicalLines.{IsField, IsLine, plain_byte, plain_digit, line_alone, line_before, line_comma, field_decimal, number_decimal, AreRead}
+use Rattle.office_files.proofs.CanonicalLines.{IsField, IsLine, plain_byte, plain_digit, line_single, line_before, line_comma, field_decimal, number_decimal, AreRead}
 use Rattle.exam_model.proofs.StudentLemmas.{ascending-none}
 use Rattle.office_files.proofs.ExamLineLemmas.{ascending-students, has-students}
 use Rattle.office_files.proofs.ExamLinePairs.{students_in-within}
@@ -48,7 +48,7 @@ pub room_written : (r : Room) → RoomInLimits r → IsLine (room_text r) (room_
 room_written r is =
     line_before (decimal r.capacity) (decimal r.penalty) (decimal r.penalty ∷ [])
     (field_decimal r.capacity (omega (arith, is.0)))
-    (line_alone (decimal r.penalty) (field_decimal r.penalty (omega (arith, is.1))))
+    (line_single (decimal r.penalty) (field_decimal r.penalty (omega (arith, is.1))))
 
 pub room_back : (r : Room) → RoomInLimits r → room_in (room_fields r) ≡ Ok r
 room_back r is =
@@ -70,7 +70,7 @@ rule_written a b word is a_in b_in =
     line_before (decimal a) (before word (decimal b)) (word ∷ decimal b ∷ [])
     (field_decimal a (omega arith))
     (line_before word (decimal b) (decimal b ∷ []) is
-    (line_alone (decimal b) (field_decimal b (omega arith))))
+    (line_single (decimal b) (field_decimal b (omega arith))))
 
 pub period_rule_written : (n : ℕ) (r : PeriodRule) → n ≤ 2000 → PeriodRuleExists n r
     → IsLine (period_rule_text r) (period_rule_fields r)
@@ -110,7 +110,7 @@ pub room_rule_written : (n : ℕ) (r : RoomRule) → n ≤ 2000 → RoomRuleExis
 room_rule_written n r le is =
     line_before (decimal r.0) (codes "ROOM_EXCLUSIVE") (codes "ROOM_EXCLUSIVE" ∷ [])
     (field_decimal r.0 (omega (arith, is)))
-    (line_alone (codes "ROOM_EXCLUSIVE") (record { some = omega arith; plain = refl }))
+    (line_single (codes "ROOM_EXCLUSIVE") (record { some = omega arith; plain = refl }))
 
 pub room_rule_back : (n : ℕ) (r : RoomRule) → n ≤ 2000 → RoomRuleExists n r
     → room_rule_in n (room_rule_fields r) ≡ Ok r
@@ -130,7 +130,7 @@ weighed_written : (word : List ℕ) (n : ℕ) → IsField word → n ≤ 100000
     → IsLine (word ++ 44 ∷ decimal n) (word ∷ decimal n ∷ [])
 weighed_written word n is le =
     line_comma word (decimal n) (decimal n ∷ []) is
-    (line_alone (decimal n) (field_decimal n (omega arith)))
+    (line_single (decimal n) (field_decimal n (omega arith)))
 
 nights_written : (n : ℕ) → n ≤ 100000
     → AllByRecursion (λ s. IsLine (weighting_text s) (weighting_fields s)) (nights_of n)
@@ -164,7 +164,7 @@ weightings_written w is = (
     front_written : (n k v : ℕ) → n ≤ 100000 → k ≤ 100000 → v ≤ 100000
         → IsLine (weighting_text (Front n k v)) (weighting_fields (Front n k v))
     front_written n k v n_in k_in v_in =
-        let last = line_alone (decimal v) (field_decimal v (omega arith)) in
+        let last = line_single (decimal v) (field_decimal v (omega arith)) in
         let two = line_comma (decimal k) (decimal v) (decimal v ∷ [])
         (field_decimal k (omega arith)) last in
         let three = line_comma (decimal n) (decimal k ++ 44 ∷ decimal v)
@@ -212,7 +212,7 @@ exam_fields e = decimal e.minutes ∷ map decimal e.students
 
 listed_written : (f : List ℕ) (ss : List ℕ) → IsField f → AllByRecursion (λ s. s ≤ 999999999) ss
     → IsLine (f ++ flat_map (λ s. 44 ∷ 32 ∷ decimal s) ss) (f ∷ map decimal ss)
-listed_written f [] is all = rw append-nil (line_alone f is)
+listed_written f [] is all = rw append-nil (line_single f is)
 listed_written f (s ∷ ss) is all =
     let text : ℕ → List ℕ = λ s. 44 ∷ 32 ∷ decimal s in
     let others = decimal s ++ flat_map text ss in
@@ -357,7 +357,7 @@ period_written p is =
     (decimal p.length ∷ decimal p.penalty ∷ []) (time_field p)
     (line_before (decimal p.length) (decimal p.penalty) (decimal p.penalty ∷ [])
     (field_decimal p.length (omega (arith, is.4)))
-    (line_alone (decimal p.penalty) (field_decimal p.penalty (omega (arith, is.5))))))
+    (line_single (decimal p.penalty) (field_decimal p.penalty (omega (arith, is.5))))))
 
 pub period_back : (p : Period) → PeriodInLimits p → period_in (period_fields p) ≡ Ok p
 period_back p is =

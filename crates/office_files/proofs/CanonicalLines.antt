@@ -22,7 +22,7 @@ use Rattle.office_files.specs.Reading.{items_of}
 use Rattle.office_files.specs.declared.fault.FaultKind.{FaultKind}
 use Rattle.exam_terms.proofs.TextLemmas.{trim_start-kept}
 use Rattle.office_files.proofs.LineLemmas.{without_return-cr}
-use Rattle.office_files.proofs.ReadOnLemmas.{fields_behind_space, is_digit}
+use Rattle.office_files.proofs.ReadOnLemmas.{fields_after_space, is_digit}
 
 -- ---- fields
 
@@ -65,21 +65,21 @@ parts_stop c (x ∷ xs) ys other =
     rw (ne_eqb x c other.0, parts_stop c xs ys other.1) refl
 
 -- or at the end of the text
-parts_alone : (c x : ℕ) (xs : List ℕ) → AllByRecursion (λ b. b ≢ c) (x ∷ xs)
+parts_single : (c x : ℕ) (xs : List ℕ) → AllByRecursion (λ b. b ≢ c) (x ∷ xs)
     → ended_parts c (x ∷ xs) ≡ (x ∷ xs) ∷ []
-parts_alone c x [] other = rw (ne_eqb x c other.0) refl
-parts_alone c x (y ∷ ys) other =
-    rw (ne_eqb x c other.0, parts_alone c y ys other.1) refl
+parts_single c x [] other = rw (ne_eqb x c other.0) refl
+parts_single c x (y ∷ ys) other =
+    rw (ne_eqb x c other.0, parts_single c y ys other.1) refl
 
 -- ---- trimming
 
-end_alone : (b : ℕ) → is_blank b ≡ false → before_end b [] ≡ b ∷ []
-end_alone b e = rw e refl
+end_single : (b : ℕ) → is_blank b ≡ false → before_end b [] ≡ b ∷ []
+end_single b e = rw e refl
 
 end_plain : (f : List ℕ) → list_all plain_byte f ≡ true → trim_end f ≡ f
 end_plain [] e = refl
 end_plain (x ∷ []) e =
-    end_alone x (no_blank x (and_parts (plain_byte x) true e).0)
+    end_single x (no_blank x (and_parts (plain_byte x) true e).0)
 end_plain (x ∷ y ∷ ys) e =
     ap (before_end x)
     (end_plain (y ∷ ys) (and_parts (plain_byte x) (list_all plain_byte (y ∷ ys)) e).1)
@@ -88,14 +88,14 @@ end_some : (b : ℕ) (xs : List ℕ) → 0 < length xs → before_end b xs ≡ b
 end_some b [] some = absurd (omega arith)
 end_some b (x ∷ xs) some = refl
 
-length-behind : (xs ys : List ℕ) → 0 < length ys → 0 < length (xs ++ ys)
-length-behind [] ys some = some
-length-behind (x ∷ xs) ys some = omega arith
+length-after : (xs ys : List ℕ) → 0 < length ys → 0 < length (xs ++ ys)
+length-after [] ys some = some
+length-after (x ∷ xs) ys some = omega arith
 
-end_behind : (xs ys : List ℕ) → 0 < length ys → trim_end ys ≡ ys → trim_end (xs ++ ys) ≡ xs ++ ys
-end_behind [] ys some e = e
-end_behind (x ∷ xs) ys some e =
-    ap (before_end x) (end_behind xs ys some e) ∙ end_some x (xs ++ ys) (length-behind xs ys some)
+end_after : (xs ys : List ℕ) → 0 < length ys → trim_end ys ≡ ys → trim_end (xs ++ ys) ≡ xs ++ ys
+end_after [] ys some e = e
+end_after (x ∷ xs) ys some e =
+    ap (before_end x) (end_after xs ys some e) ∙ end_some x (xs ++ ys) (length-after xs ys some)
 
 start_plain : (f ys : List ℕ) → IsField f → trim_start (f ++ ys) ≡ f ++ ys
 start_plain [] ys is = let some = is.some in absurd (omega arith)
@@ -111,13 +111,13 @@ pub record IsLine (text : List ℕ) (fields : List (List ℕ)) : Type 0 where
   pub whole : AllByRecursion (λ b. b ≢ 10) text
   pub starts : trim_start text ≡ text
   pub ends : trim_end text ≡ text
-  pub says : fields_of text ≡ fields
+  pub fields_are : fields_of text ≡ fields
 
-field_alone : (f : List ℕ) → IsField f → fields_of f ≡ f ∷ []
-field_alone [] is = let some = is.some in absurd (omega arith)
-field_alone (x ∷ xs) is =
+field_single : (f : List ℕ) → IsField f → fields_of f ≡ f ∷ []
+field_single [] is = let some = is.some in absurd (omega arith)
+field_single (x ∷ xs) is =
     let f : List ℕ = x ∷ xs in
-    ap (map trimmed) (parts_alone 44 x xs (apart plain_byte 44 refl f is.plain))
+    ap (map trimmed) (parts_single 44 x xs (apart plain_byte 44 refl f is.plain))
     ∙ ap (λ (g : List ℕ). g ∷ []) (trimmed_plain f is)
   where
     trimmed_plain : (f : List ℕ) → IsField f → trimmed f ≡ f
@@ -126,13 +126,13 @@ field_alone (x ∷ xs) is =
         ∙ end_plain f is.plain
 
 -- a line with one field
-pub line_alone : (f : List ℕ) → IsField f → IsLine f (f ∷ [])
-line_alone f is = record {
+pub line_single : (f : List ℕ) → IsField f → IsLine f (f ∷ [])
+line_single f is = record {
   some = is.some;
   whole = apart plain_byte 10 refl f is.plain;
   starts = ap trim_start (sym (append-nil f)) ∙ start_plain f [] is ∙ append-nil f;
   ends = end_plain f is.plain;
-  says = field_alone f is;
+  fields_are = field_single f is;
 }
 
 field_first : (f ys : List ℕ) → IsField f → fields_of (f ++ 44 ∷ ys) ≡ f ∷ fields_of ys
@@ -146,19 +146,19 @@ field_first f ys is =
 pub line_comma : (f ys : List ℕ) (fields : List (List ℕ)) → IsField f → IsLine ys fields
     → IsLine (f ++ 44 ∷ ys) (f ∷ fields)
 line_comma f ys fields is line = record {
-  some = length-behind f (44 ∷ ys) (omega arith);
+  some = length-after f (44 ∷ ys) (omega arith);
   whole = apart-append 10 f (44 ∷ ys) (apart plain_byte 10 refl f is.plain)
       ((λ (same : 44 ≡ 10). absurd (omega arith)), line.whole);
   starts = start_plain f (44 ∷ ys) is;
-  ends = end_behind f (44 ∷ ys) (omega arith) (end_behind (44 ∷ []) ys line.some line.ends);
-  says = field_first f ys is ∙ ap (λ (gs : List (List ℕ)). f ∷ gs) line.says;
+  ends = end_after f (44 ∷ ys) (omega arith) (end_after (44 ∷ []) ys line.some line.ends);
+  fields_are = field_first f ys is ∙ ap (λ (gs : List (List ℕ)). f ∷ gs) line.fields_are;
 }
 
 -- a field before others
 pub line_before : (f ys : List ℕ) (fields : List (List ℕ)) → IsField f → IsLine ys fields
     → IsLine (before f ys) (f ∷ fields)
 line_before f ys fields is line = record {
-  some = length-behind f (44 ∷ 32 ∷ ys) (omega arith);
+  some = length-after f (44 ∷ 32 ∷ ys) (omega arith);
   whole = apart-append 10 f (44 ∷ 32 ∷ ys) (apart plain_byte 10 refl f is.plain) (
     (λ (same : 44 ≡ 10). absurd (omega arith)),
     (
@@ -167,10 +167,11 @@ line_before f ys fields is line = record {
     ),
   );
   starts = start_plain f (44 ∷ 32 ∷ ys) is;
-  ends = end_behind f (44 ∷ 32 ∷ ys) (omega arith)
-      (end_behind (44 ∷ 32 ∷ []) ys line.some line.ends);
-  says = field_first f (32 ∷ ys) is
-      ∙ ap (λ (gs : List (List ℕ)). f ∷ gs) (sym (fields_behind_space ys line.some) ∙ line.says);
+  ends = end_after f (44 ∷ 32 ∷ ys) (omega arith)
+      (end_after (44 ∷ 32 ∷ []) ys line.some line.ends);
+  fields_are = field_first f (32 ∷ ys) is
+      ∙ ap (λ (gs : List (List ℕ)). f ∷ gs)
+      (sym (fields_after_space ys line.some) ∙ line.fields_are);
 }
 
 -- ---- numbers
@@ -198,7 +199,7 @@ is_decimal = decimal_by_steps IsDecimal
       value = omega arith;
     })
     (λ n ds ten more. record {
-      some = length-behind ds ((48 + n % 10) ∷ []) (omega arith);
+      some = length-after ds ((48 + n % 10) ∷ []) (omega arith);
       digits = list_all-append is_ascii_digit ds ((48 + n % 10) ∷ [])
           ∙ rw (more.digits, is_digit (48 + n % 10) (omega arith) (omega arith)) refl;
       plain = list_all-append plain_byte ds ((48 + n % 10) ∷ [])
@@ -344,6 +345,6 @@ module _ {A : Type 0} (text : A → List ℕ) (fields : A → List (List ℕ)) w
       let head : row.text ≡ text x = cc in
       let tail : map (λ row. row.text) found ≡ map text xs = cc in
       let first : read done (fields_of row.text) ≡ Ok x
-      = ap (λ t. read done (fields_of t)) head ∙ ap (read done) is.0.says ∙ r.0 in
+      = ap (λ t. read done (fields_of t)) head ∙ ap (read done) is.0.fields_are ∙ r.0 in
       let more = read_each read (done ++ x ∷ []) xs found is.1 tail r.1 in
       rw first (more ∙ rw append_assoc refl)

@@ -15,7 +15,7 @@ use Rattle.office_files.specs.Headers.{Heading, header_in, plain_header, counted
 use Rattle.office_files.specs.Sections.{AtHeader, IsSection}
 use Rattle.office_files.specs.declared.fault.FaultKind.{FaultKind}
 use Rattle.office_files.proofs.CanonicalItems.{split_stop}
-use Rattle.office_files.proofs.CanonicalLines.{IsField, IsLine, plain_byte, apart-append, line_alone, field_decimal, number_decimal, decimal_apart, trimmed_field, length_decimal, length_flat, rows, row_first, row_each, AreRead, read_each}
+use Rattle.office_files.proofs.CanonicalLines.{IsField, IsLine, plain_byte, apart-append, line_single, field_decimal, number_decimal, decimal_apart, trimmed_field, length_decimal, length_flat, rows, row_first, row_each, AreRead, read_each}
 use Rattle.office_files.proofs.ReadingLaws.{items_spelled}
 
 -- ---- headers
@@ -93,7 +93,7 @@ plain_short word is =
 pub at_header : (text ys : List ℕ) → IsField text → is_header text ≡ true → (line at : ℕ)
     → AtHeader (rows line at (line_of text ++ ys))
 at_header text ys is head line at =
-    let first = row_first text (text ∷ []) (line_alone text is) line at ys in
+    let first = row_first text (text ∷ []) (line_single text is) line at ys in
     subst AtHeader (sym first.2) (ap is_header first.3 ∙ head)
 
 -- ---- sections
@@ -124,10 +124,10 @@ module _ {A : Type 0} (heading : Heading) (read : List A → List (List ℕ) →
       → ((line at : ℕ) → AtHeader (rows line at ys)) → (line' : ℕ) × (next : ℕ)
       × IsSection heading read (rows line at (section_text heading text xs ++ ys)) xs
       (rows line' next ys)
-  section_written xs is line at ys behind =
+  section_written xs is line at ys after =
       let h : List ℕ = header_text heading (length xs) in
       let flat : List ℕ = flat_map (λ x. line_of (text x)) xs in
-      let first = row_first h (h ∷ []) (line_alone h is.header) line at (flat ++ ys) in
+      let first = row_first h (h ∷ []) (line_single h is.header) line at (flat ++ ys) in
       let each = row_each text fields xs is.lines (line + 1) first.1 ys in
       let many : length each.0 ≡ length xs
       = sym (length-map each.0 (λ row. row.text)) ∙ ap length each.4 ∙ length-map xs text in (
@@ -141,7 +141,7 @@ module _ {A : Type 0} (heading : Heading) (read : List A → List (List ℕ) →
           headed = ap (λ n. header_in heading n first.0.text) many
               ∙ ap (header_in heading (length xs)) first.3 ∙ is.headed;
           no_header = no_headers xs each.0 each.4 is.none;
-          up_to = behind each.1 each.2;
+          up_to = after each.1 each.2;
           spelled = items_spelled read each.0 xs
               (read_each text fields read [] xs each.0 is.lines each.4 is.back);
         },

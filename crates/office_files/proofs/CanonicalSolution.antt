@@ -1,4 +1,4 @@
--- The canonical text of a complete timetable spells it.
+-- The canonical text of a complete timetable is a text of it.
 use Rattle.std.proofs.Common.{◌≡◌, ℕ, suc, ◌+◌, ◌-◌, ◌<◌, ◌≤◌, List, [], ◌∷◌, ◌++◌, length}
 use Rattle.std.proofs.Common.{Some, None, Ok, refl, sym, ap, ◌∙◌, arith, append-nil, length-append}
 use Rattle.std.specs.Prelude.{map, decimal, All, IsSome}
@@ -20,7 +20,7 @@ use Rattle.office_files.specs.Lines.{lines_of}
 use Rattle.office_files.specs.Reading.{items_of}
 use Rattle.office_files.specs.SolutionText.{counts_in, SolutionText, solution_in}
 use Rattle.office_files.specs.declared.counts.Counts.{Counts}
-use Rattle.office_files.proofs.CanonicalLines.{IsLine, field_decimal, line_alone, line_before, number_decimal, length_decimal, length_flat, row_each, AreRead, read_each}
+use Rattle.office_files.proofs.CanonicalLines.{IsLine, field_decimal, line_single, line_before, number_decimal, length_decimal, length_flat, row_each, AreRead, read_each}
 use Rattle.office_files.proofs.ReadingLaws.{items_spelled}
 use Rattle.office_files.proofs.SolutionLaws.{text_is_solution}
 
@@ -55,7 +55,7 @@ module _ (counts : Counts) (periods : counts.periods ≤ 200) (rooms : counts.ro
   place_is_line p is =
       line_before (decimal p.period) (decimal p.room) (decimal p.room ∷ [])
       (field_decimal p.period (omega (arith, is.period)))
-      (line_alone (decimal p.room) (field_decimal p.room (omega (arith, is.room))))
+      (line_single (decimal p.room) (field_decimal p.room (omega (arith, is.room))))
 
   are_lines : (ps : List Place) → AllByRecursion (IsAmong counts) ps
       → AllByRecursion (λ p. IsLine (place_text p) (fields p)) ps

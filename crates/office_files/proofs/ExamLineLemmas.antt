@@ -33,7 +33,7 @@ length-with s (u ∷ us) =
     with_cases s u us (λ ys. (length (u ∷ us) ≤ length ys) × (length ys ≤ length (u ∷ us) + 1))
     (λ before. (omega arith, omega arith))
     (λ same. (omega arith, omega arith))
-    (λ behind. (omega arith, omega arith))
+    (λ after. (omega arith, omega arith))
 
 -- a new student makes it longer by one
 pub length-with_new : (s : ℕ) (xs : List ℕ) → has_number xs s ≡ false →
@@ -46,7 +46,7 @@ length-with_new s (u ∷ us) new =
     with_cases s u us (λ ys. length ys ≡ length (u ∷ us) + 1)
     (λ before. omega arith)
     (λ same. absurd (other (sym same)))
-    (λ behind. omega arith)
+    (λ after. omega arith)
 
 -- a student who is there changes nothing
 pub with_again : (s : ℕ) (xs : List ℕ) → IsAscending xs → has_number xs s ≡ true →

@@ -24,11 +24,11 @@ use Rattle.office_files.proofs.ExamLinePairs.{judged, students_in-within, studen
 use Rattle.office_files.proofs.ExamLinePairs.{pair_count-enrolled}
 
 -- a line with these minutes has the values of its students' fields
-behind_minutes : (pairs minutes : ℕ) (fields : List (List ℕ)) (r : Result (List ℕ) FaultKind) →
+after_minutes : (pairs minutes : ℕ) (fields : List (List ℕ)) (r : Result (List ℕ) FaultKind) →
     number 1440 (first fields) ≡ Ok minutes → students_in pairs [] (rest fields) ≡ r →
     exam_after_pairs pairs fields ≡ (r >>= λ names. Ok
     (record { minutes = minutes; students = names }))
-behind_minutes pairs minutes fields r is said = rw (is, said) refl
+after_minutes pairs minutes fields r is said = rw (is, said) refl
 
 -- the part of a line that was read: its minutes, and the students up to the first fault, ascending
 pub record IsReadOf (fields : List (List ℕ)) (minutes : ℕ) (sitters : List ℕ)
@@ -44,14 +44,14 @@ pub read_of : (fields now tail : List (List ℕ)) (minutes : ℕ) (named ordered
     named ≡ named_in tail → fault ≡ fault_in tail → ordered ≡ with_students named [] →
     sitters ≡ ordered → IsReadOf fields minutes sitters fault
 read_of fields now tail minutes named ordered sitters fault all is others names faulty order same =
-    let behind : tail ≡ rest fields = others ∙ ap rest all in
+    let after : tail ≡ rest fields = others ∙ ap rest all in
     record {
       minutes_are = ap (λ xs. number 1440 (first xs)) (sym all) ∙ sym is;
       students_are =
           same
           ∙ order
-          ∙ ap (λ (xs : List ℕ). with_students xs []) (names ∙ ap named_in behind);
-      fault_is = faulty ∙ ap fault_in behind;
+          ∙ ap (λ (xs : List ℕ). with_students xs []) (names ∙ ap named_in after);
+      fault_is = faulty ∙ ap fault_in after;
     }
 
 module _ (E : Enrolled) (e : ℕ) (fields : List (List ℕ)) (minutes : ℕ) (sitters : List ℕ)
@@ -70,7 +70,7 @@ module _ (E : Enrolled) (e : ℕ) (fields : List (List ℕ)) (minutes : ℕ) (si
       students_in-within (pair_count E) [] (rest fields) (omega arith)
       ∙ ap (judged (fault_in (rest fields))) (sym is.students_are)
       ∙ ap (λ (f : Option FaultKind). judged f sitters) (sym is.fault_is) in
-      behind_minutes (pair_count E) minutes fields _ is.minutes_are said
+      after_minutes (pair_count E) minutes fields _ is.minutes_are said
 
   -- a line without a fault
   pub line_entered : (new : Enrolled) → fault ≡ None → new ≡ set E e sitters → AreEnrolments new →
@@ -96,7 +96,7 @@ module _ (E : Enrolled) (e : ℕ) (fields : List (List ℕ)) (minutes : ℕ) (si
       let size = ap length is.students_are in
       let said = students_in-past (pair_count E) [] (rest fields) ascending-none
       (omega arith) (omega arith) in
-      behind_minutes (pair_count E) minutes fields _ is.minutes_are said
+      after_minutes (pair_count E) minutes fields _ is.minutes_are said
 
 -- the pairs on lines are those of their students
 sum_by-students : (lines : List ExamLine) →

@@ -8,7 +8,7 @@ use Rattle.std.proofs.lemmas.List.{append-nil, append_assoc, length-append}
 use Rattle.exam_terms.specs.Refusing.{◌>>=◌}
 use Rattle.office_files.specs.Fields.{fields_of}
 use Rattle.office_files.specs.Reading.{fault_of, fault_after_lines}
-use Rattle.office_files.specs.LineFaults.{LinePosition, behind, header_fault, item_fault, line_fault}
+use Rattle.office_files.specs.LineFaults.{LinePosition, position_after, header_fault, item_fault, line_fault}
 use Rattle.office_files.specs.FirstFault.{at_line_or, first_from}
 use Rattle.office_files.specs.Lines.{Located, is_header, section_size}
 use Rattle.office_files.specs.Reading.{at_line, items_of}
@@ -26,9 +26,9 @@ fault_or (Ok x) next = next x
 fault_or (Err fault) next = Some fault
 
 -- if nothing follows, it is the fault of the reading
-pub fault_alone : {A : Type 0} (r : Result A FileFault) → fault_or r (λ _. None) ≡ fault_of r
-fault_alone (Ok x) = refl
-fault_alone (Err fault) = refl
+pub fault_only : {A : Type 0} (r : Result A FileFault) → fault_or r (λ _. None) ≡ fault_of r
+fault_only (Ok x) = refl
+fault_only (Err fault) = refl
 
 -- two readings have the fault of the first, or else that of the second
 pub first_step : {A B : Type 0} (r : Result A FileFault) (next : A → Option FileFault)
@@ -85,7 +85,7 @@ module _ {A : Type 0} (heading : Heading) (read : List A → List (List ℕ) →
     (headers : ℕ) (exams : ℕ → ℕ) (judges : Judges heading read headers exams) where
   -- one more line of the section
   here_more : (since : List Located) (line : Located) → is_header line.text ≡ false →
-      behind (here headers exams since) line ≡ here headers exams (since ++ line ∷ [])
+      position_after (here headers exams since) line ≡ here headers exams (since ++ line ∷ [])
   here_more since line e =
       rw (e, length-append since (line ∷ []), judges.more (length since)) refl
 
@@ -117,25 +117,25 @@ module _ {A : Type 0} (heading : Heading) (read : List A → List (List ℕ) →
   ]
 
   -- at a header, or the end, only the number of the lines before it matters
-  behind_body : (end n : ℕ) (since lines : List Located) → AtHeader lines → length since ≡ n →
+  after_body : (end n : ℕ) (since lines : List Located) → AtHeader lines → length since ≡ n →
       first_from end (here headers exams since) lines
       ≡ first_from end (at_header (headers + 1) (exams n)) lines
-  behind_body end n since [] at e = refl
-  behind_body end n since (line ∷ lines) at e = rw (at, e) refl
+  after_body end n since [] at e = refl
+  after_body end n since (line ∷ lines) at e = rw (at, e) refl
 
   -- the lines after a section's header have the fault of their reading, or else that of the rest
-  section_behind : (end : ℕ) (line : Located) (lines : List Located) →
+  section_after : (end : ℕ) (line : Located) (lines : List Located) →
       header_in heading (section_size lines) line.text ≡ Ok tt →
       first_from end (here headers exams []) lines
       ≡ fault_or {A = List A × List Located}
       (items_of read [] (take (section_size lines) lines) >>= λ items.
       Ok (items, drop (section_size lines) lines)) (λ got.
       first_from end (at_header (headers + 1) (exams (length got.0))) got.1)
-  section_behind end line lines headed =
+  section_after end line lines headed =
       let body = take (section_size lines) lines in
       let others = drop (section_size lines) lines in
       body_fault end [] [] lines refl ∙ first_step (items_of read [] body) _ _ _ (λ items is.
-      behind_body end (length items) body others
+      after_body end (length items) body others
       (section_is heading read end (line ∷ lines) items others (rw (headed, is) refl)).up_to
       (sym (items_length read body items is)))
 
@@ -149,7 +149,7 @@ module _ {A : Type 0} (heading : Heading) (read : List A → List (List ℕ) →
       let size = section_size lines in
       rw (at, judges.header size line)
       (first_line line.line (header_in heading size line.text) _ _ _ (λ x ok.
-      section_behind end line lines ok))
+      section_after end line lines ok))
 
   -- it is the first of two readings
   pub section_step : {B : Type 0} (end : ℕ) (lines : List Located) → AtHeader lines →

@@ -60,7 +60,7 @@ fields_none (b ∷ bs) e =
     let zero_of : length (fields_of (b ∷ bs)) ≡ 0 = ap length e in
     absurd (omega arith)
 
--- a test of the length tells whether a field is left
+-- a test of the length decides whether a field is left
 pub fields_test : (line : List ℕ) (b : Bool) → b ≡ (length line == 0) →
     (b ≡ true → fields_of line ≡ []) × (fields_of line ≡ [] → b ≡ true)
 fields_test [] b e = (λ _. refl, λ _. e)

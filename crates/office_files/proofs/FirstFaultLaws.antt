@@ -30,7 +30,7 @@ use Rattle.office_files.specs.declared.counts.Counts.{Counts}
 use Rattle.office_files.specs.declared.fault.FaultKind.TheVariants.{TooLong, CountMismatch}
 use Rattle.office_files.specs.declared.fault.FaultKind.TheVariants.{NoMemory}
 use Rattle.office_files.specs.declared.fault.FileFault.{FileFault}
-use Rattle.office_files.proofs.FaultLemmas.{fault_or, fault_alone, first_step, first_line}
+use Rattle.office_files.proofs.FaultLemmas.{fault_or, fault_only, first_step, first_line}
 use Rattle.office_files.proofs.FaultLemmas.{items_push, at_header, Judges, section_first}
 use Rattle.office_files.proofs.FaultLemmas.{section_step}
 use Rattle.office_files.proofs.ReadingLaws.{bind_ok, unless_ok, items_length, items_within}
@@ -67,11 +67,11 @@ weightings_judge n =
     record { few = refl; header = λ _ _. refl; line = λ _ _ _. refl; more = λ _. refl }
 
 -- after the sixth section comes a fault, or nothing
-none_behind : {A : Type 0} (end n : ℕ) (lines : List Located) (x : A) → AtHeader lines →
+none_after : {A : Type 0} (end n : ℕ) (lines : List Located) (x : A) → AtHeader lines →
     first_from end (at_header 6 n) lines
     ≡ fault_or (no_more lines >>= λ _. Ok x) (λ _. None)
-none_behind end n [] x at = refl
-none_behind end n (line ∷ lines) x at = rw at refl
+none_after end n [] x at = refl
+none_after end n (line ∷ lines) x at = rw at refl
 
 -- the later sections have the fault of their reading
 later_fault : (end : ℕ) (exams : List ExamLine) (lines : List Located) → AtHeader lines →
@@ -84,7 +84,7 @@ later_fault end exams lines at =
     section_step _ _ 3 _ (period_rules_judge n) end rooms.1 at2 _ _ (λ on_periods at3.
     section_step _ _ 4 _ (room_rules_judge n) end on_periods.1 at3 _ _ (λ on_rooms at4.
     section_step _ _ 5 _ (weightings_judge n) end on_rooms.1 at4 _ _ (λ weighed at5.
-    none_behind end n weighed.1 _ at5)))))
+    none_after end n weighed.1 _ at5)))))
 
 -- the section of exams has the fault of its reading, or else that of the rest
 exams_first : (end : ℕ) (lines : List Located) →
@@ -116,7 +116,7 @@ within_first : {A : Type 0} (within : Bool) (later : Option FileFault) (r : Resu
     later ≡ fault_or r (λ _. None) →
     (if within then later else Some (record { line = 0; what = TooLong }))
     ≡ fault_of (at_line 0 (unless within TooLong) >>= λ _. r)
-within_first true later r same = same ∙ fault_alone r
+within_first true later r same = same ∙ fault_only r
 within_first false later r same = refl
 
 -- the first fault of an instance file is that of its reading
@@ -196,7 +196,7 @@ pub no_fault_of_solution : (I : Session) (b : List ℕ) (T : Placing) → soluti
 no_fault_of_solution I b T e = solution_fault I b ∙ ap fault_of e
 
 module _ {X : Type 0} (view : X → Session × Enrolled) (b : List ℕ) where
-  -- a refusal of an instance, but for memory, is the first fault of the file
+  -- a refusal of an instance for another reason than memory is the first fault of the file
   pub instance_first : (r : Result X FileFault) → AnswersReading view r (instance_in b) →
       IfErr r (λ f. f.what ≢ NoMemory → first_fault b ≡ Some f)
   instance_first (Ok x) is = tt
@@ -209,7 +209,7 @@ module _ {X : Type 0} (view : X → Session × Enrolled) (b : List ℕ) where
   instance_faultless (Err f) is = tt
 
 module _ {X : Type 0} (view : X → Placing) (I : Session) (b : List ℕ) where
-  -- a refusal of a solution, but for memory, is the first fault of the file
+  -- a refusal of a solution for another reason than memory is the first fault of the file
   pub solution_first : (r : Result X FileFault) → AnswersReading view r (solution_in I b) →
       IfErr r (λ f. f.what ≢ NoMemory → first_solution_fault I b ≡ Some f)
   solution_first (Ok x) is = tt

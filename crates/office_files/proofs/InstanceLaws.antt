@@ -1,4 +1,4 @@
--- An instance file that was read spells an instance, and one that spells it is read.
+-- An instance file that was read is the text of an instance, and each such text is read.
 use Rattle.std.proofs.Common.{◌≡◌, ℕ, ◌+◌, ◌<◌, ◌≤◌, List, [], ◌∷◌, length, Result, Ok, refl, sym, subst}
 use Rattle.std.specs.Prelude.{All, nat_le}
 use Rattle.std.proofs.lemmas.Bool.{leb-true, le-leb}
@@ -27,7 +27,7 @@ use Rattle.office_files.specs.declared.weightings.Weighting.{Weighting}
 use Rattle.office_files.specs.declared.fault.FaultKind.{FaultKind}
 use Rattle.office_files.specs.declared.fault.FileFault.{FileFault}
 use Rattle.office_files.specs.declared.fault.FaultKind.TheVariants.{TooLong}
-use Rattle.office_files.proofs.ItemLaws.{SaysAmounts, exam_line_within, period_within, room_within, period_rule_within, room_rule_within, weighting_line_within, weights_within}
+use Rattle.office_files.proofs.ItemLaws.{HasAmounts, exam_line_within, period_within, room_within, period_rule_within, room_rule_within, weighting_line_within, weights_within}
 use Rattle.office_files.proofs.ReadingLaws.{bind_ok, ok_bind, at_line_ok, ok_at_line, ok_same, same_pair, unless_ok, ok_unless, spelled_items, items_all, items_within}
 use Rattle.office_files.proofs.SectionLaws.{section_is, is_section, counted_section}
 
@@ -143,39 +143,39 @@ read_is_text b I E e =
     let later = later_are end exams.0.0 exams.0.1 said.0 said.1 in
     let first = section_is exams_heading exam_line end (lines_of b) exams.0.0 exams.0.1 exams.1 in
     let both = same_pair _ I (session_of said.0) E (enrolled_of said.0) refl (sym said.2) in
-    let behind = later.1 in
+    let after = later.1 in
     record {
       within = leb-true (length b) 4194304 passed;
       said = said.0;
       rest_after_exams = exams.0.1;
-      rest_after_periods = behind.rest_after_periods;
-      rest_after_rooms = behind.rest_after_rooms;
-      rest_after_period_rules = behind.rest_after_period_rules;
-      rest_after_room_rules = behind.rest_after_room_rules;
+      rest_after_periods = after.rest_after_periods;
+      rest_after_rooms = after.rest_after_rooms;
+      rest_after_period_rules = after.rest_after_period_rules;
+      rest_after_room_rules = after.rest_after_room_rules;
       exams = rw later.0 first;
-      periods = behind.periods;
-      rooms = behind.rooms;
-      period_rules = behind.period_rules;
-      room_rules = behind.room_rules;
-      weightings = behind.weightings;
+      periods = after.periods;
+      rooms = after.rooms;
+      period_rules = after.period_rules;
+      room_rules = after.room_rules;
+      weightings = after.weightings;
       session = both.0;
       enrolled = both.1;
     }
 
 -- the sections that are read in a text that is short enough are its reading
-pub sections_are_read : (b : List ℕ) (exams : List ExamLine) (behind : List Located)
+pub sections_are_read : (b : List ℕ) (exams : List ExamLine) (after : List Located)
     (said : Spelled) → length b ≤ 4194304 →
-    section_in exams_heading exam_line (line_count b + 1) (lines_of b) ≡ Ok (exams, behind) →
-    later_sections (line_count b + 1) exams behind ≡ Ok said →
+    section_in exams_heading exam_line (line_count b + 1) (lines_of b) ≡ Ok (exams, after) →
+    later_sections (line_count b + 1) exams after ≡ Ok said →
     instance_in b ≡ Ok (session_of said, enrolled_of said)
-sections_are_read b exams behind said within first later =
+sections_are_read b exams after said within first later =
     let short = nat_le (length b) 4194304 in
     let end = line_count b + 1 in
     let passed = ok_unless short TooLong (le-leb (length b) 4194304 within) in
     let read : Session × Enrolled = (session_of said, enrolled_of said) in
     ok_bind (at_line 0 (unless short TooLong)) _ tt read (ok_at_line 0 _ tt passed)
-    (ok_bind (section_in exams_heading exam_line end (lines_of b)) _ (exams, behind) read first
-    (ok_bind (later_sections end exams behind) _ said read later refl))
+    (ok_bind (section_in exams_heading exam_line end (lines_of b)) _ (exams, after) read first
+    (ok_bind (later_sections end exams after) _ said read later refl))
 
 -- a session that a text describes is read from it
 pub text_is_read : (b : List ℕ) (I : Session) (E : Enrolled) → InstanceText b I E →
@@ -197,7 +197,7 @@ text_is_read b I E t =
     rw (t.session, t.enrolled)
     (sections_are_read b t.said.exams t.rest_after_exams t.said t.within exams later)
 
--- a text spells one session and one set of enrolments
+-- a text has only one session and one set of enrolments
 pub one_reading : (b : List ℕ) (I J : Session) (E F : Enrolled) →
     InstanceText b I E → InstanceText b J F → (I ≡ J) × (E ≡ F)
 one_reading b I J E F one other =
@@ -208,19 +208,19 @@ module _ {A : Type 0} (heading : Heading) (read : List A → List (List ℕ) →
   -- a fact about the result of each line of a section holds for each of its items
   section_all : (P : A → Type 0) →
       ((before : List A) (fields : List (List ℕ)) (x : A) → read before fields ≡ Ok x → P x) →
-      (lines : List Located) (items : List A) (behind : List Located) →
-      IsSection heading read lines items behind → All P items
-  section_all P says lines items behind s =
-      items_all read P says s.body items (spelled_items read s.body items s.spelled)
+      (lines : List Located) (items : List A) (after : List Located) →
+      IsSection heading read lines items after → All P items
+  section_all P each_is lines items after s =
+      items_all read P each_is s.body items (spelled_items read s.body items s.spelled)
 
   -- if a line is refused after this many items, the section has no more
   section_within : (n : ℕ) →
       ((before : List A) (fields : List (List ℕ)) (x : A) → read before fields ≡ Ok x →
       length before < n) →
-      (lines : List Located) (items : List A) (behind : List Located) →
-      IsSection heading read lines items behind → length items ≤ n
-  section_within n says lines items behind s =
-      items_within read n says s.body items (spelled_items read s.body items s.spelled)
+      (lines : List Located) (items : List A) (after : List Located) →
+      IsSection heading read lines items after → length items ≤ n
+  section_within n each_is lines items after s =
+      items_within read n each_is s.body items (spelled_items read s.body items s.spelled)
 
 -- the values of the sections together are an instance
 pub sections_are_instance : (said : Spelled) (lines b1 b2 b3 b4 b5 b6 : List Located) →
@@ -257,7 +257,7 @@ sections_are_instance said lines b1 b2 b3 b4 b5 b6 exams periods rooms on_period
         rooms = section_all _ _ RoomInLimits (λ before fields r is. room_within fields r is)
             b2 said.rooms b3 rooms;
         weights = weights_within said.weightings
-            (section_all _ _ SaysAmounts (weighting_line_within counts)
+            (section_all _ _ HasAmounts (weighting_line_within counts)
             b5 said.weightings b6 weighed);
       };
       numbers = record {
@@ -271,14 +271,14 @@ sections_are_instance said lines b1 b2 b3 b4 b5 b6 exams periods rooms on_period
     }
 
 -- the values of the exams and the later sections are an instance
-pub later_is_instance : (said : Spelled) (end : ℕ) (lines behind : List Located)
+pub later_is_instance : (said : Spelled) (end : ℕ) (lines after : List Located)
     (exams : List ExamLine) →
-    section_in exams_heading exam_line end lines ≡ Ok (exams, behind) →
-    later_sections end exams behind ≡ Ok said → IsInstance (session_of said)
-later_is_instance said end lines behind exams e more =
-    let later = later_are end exams behind said more in
-    let first = section_is exams_heading exam_line end lines exams behind e in
+    section_in exams_heading exam_line end lines ≡ Ok (exams, after) →
+    later_sections end exams after ≡ Ok said → IsInstance (session_of said)
+later_is_instance said end lines after exams e more =
+    let later = later_are end exams after said more in
+    let first = section_is exams_heading exam_line end lines exams after e in
     let s = later.1 in
-    sections_are_instance said lines behind s.rest_after_periods s.rest_after_rooms
+    sections_are_instance said lines after s.rest_after_periods s.rest_after_rooms
     s.rest_after_period_rules s.rest_after_room_rules []
     (rw later.0 first) s.periods s.rooms s.period_rules s.room_rules s.weightings

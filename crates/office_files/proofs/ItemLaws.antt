@@ -187,13 +187,13 @@ room_rule_within counts before fields r some e =
     )
 
 -- the numbers of a weighting
-abbrev pub SaysAmounts : Weighting → Type 0
-SaysAmounts (said.Row n) = IsAmount n
-SaysAmounts (said.Day n) = IsAmount n
-SaysAmounts (said.Spread n) = IsAmount n
-SaysAmounts (said.Mixed n) = IsAmount n
-SaysAmounts (said.Front n k w) = IsAmount n × IsAmount k × IsAmount w
-SaysAmounts (said.Night n) = IsAmount n
+abbrev pub HasAmounts : Weighting → Type 0
+HasAmounts (said.Row n) = IsAmount n
+HasAmounts (said.Day n) = IsAmount n
+HasAmounts (said.Spread n) = IsAmount n
+HasAmounts (said.Mixed n) = IsAmount n
+HasAmounts (said.Front n k w) = IsAmount n × IsAmount k × IsAmount w
+HasAmounts (said.Night n) = IsAmount n
 
 amount_within : (fields : List (List ℕ)) (n : ℕ) → amount_in fields ≡ Ok n → IsAmount n
 amount_within fields n e =
@@ -201,14 +201,14 @@ amount_within fields n e =
     let end = bind_ok (ended (rest fields)) _ n amount.2 in
     subst IsAmount (ok_same _ _ n refl end.2) (number_le 100000 (first fields) amount.0 amount.1)
 
-front_within : (fields : List (List ℕ)) (s : Weighting) → front_in fields ≡ Ok s → SaysAmounts s
+front_within : (fields : List (List ℕ)) (s : Weighting) → front_in fields ≡ Ok s → HasAmounts s
 front_within fields s e =
     let two = rest (rest fields) in
     let exams = bind_ok (number 100000 (first fields)) _ s e in
     let periods = bind_ok (number 100000 (first (rest fields))) _ s exams.2 in
     let weight = bind_ok (number 100000 (first two)) _ s periods.2 in
     let end = bind_ok (ended (rest two)) _ s weight.2 in
-    subst SaysAmounts (ok_same _ _ s refl end.2) (
+    subst HasAmounts (ok_same _ _ s refl end.2) (
       number_le 100000 (first fields) exams.0 exams.1,
       number_le 100000 (first (rest fields)) periods.0 periods.1,
       number_le 100000 (first two) weight.0 weight.1,
@@ -216,15 +216,15 @@ front_within fields s e =
 
 -- one number after a word
 one_within : (make : ℕ → Weighting) (fields : List (List ℕ)) (s : Weighting) →
-    ((n : ℕ) → IsAmount n → SaysAmounts (make n)) →
-    (amount_in fields >>= λ n. Ok (make n)) ≡ Ok s → SaysAmounts s
-one_within make fields s says e =
+    ((n : ℕ) → IsAmount n → HasAmounts (make n)) →
+    (amount_in fields >>= λ n. Ok (make n)) ≡ Ok s → HasAmounts s
+one_within make fields s each_is e =
     let amount = bind_ok (amount_in fields) _ s e in
-    subst SaysAmounts (ok_same _ _ s refl amount.2)
-    (says amount.0 (amount_within fields amount.0 amount.1))
+    subst HasAmounts (ok_same _ _ s refl amount.2)
+    (each_is amount.0 (amount_within fields amount.0 amount.1))
 
 weighting_within : (w : WeightWord) (fields : List (List ℕ)) (s : Weighting) →
-    weighting_by w fields ≡ Ok s → SaysAmounts s
+    weighting_by w fields ≡ Ok s → HasAmounts s
 weighting_within word.Row fields s e = one_within said.Row fields s (λ n is. is) e
 weighting_within word.Day fields s e = one_within said.Day fields s (λ n is. is) e
 weighting_within word.Spread fields s e = one_within said.Spread fields s (λ n is. is) e
@@ -235,14 +235,14 @@ weighting_within word.Night fields s e = one_within said.Night fields s (λ n is
 -- a weighting's numbers
 pub weighting_line_within : (counts : Counts) (before : List Weighting) (fields : List (List ℕ))
     (s : Weighting) →
-    weighting_line counts before fields ≡ Ok s → SaysAmounts s
+    weighting_line counts before fields ≡ Ok s → HasAmounts s
 weighting_line_within counts before fields s e =
     let w = bind_ok (weight_word (first fields)) _ s e in
     let new = bind_ok (unless (not (list_any (has_word w.0) before)) Repeated) _ s w.2 in
     weighting_within w.0 (rest fields) s new.2
 
 -- a weighting keeps the weights within their limits
-with_within : (w : Weights) (s : Weighting) → SaysAmounts s → WeightsInLimits w →
+with_within : (w : Weights) (s : Weighting) → HasAmounts s → WeightsInLimits w →
     WeightsInLimits (with_weighting w s)
 with_within w (said.Row n) is limits =
     (is, limits.1, limits.2, limits.3, limits.4, limits.5, limits.6, limits.7)
@@ -257,15 +257,15 @@ with_within w (said.Front n k v) is limits =
 with_within w (said.Night n) is limits =
     (limits.0, limits.1, limits.2, limits.3, limits.4, limits.5, limits.6, is)
 
-all_with_within : (w : Weights) (ss : List Weighting) → All SaysAmounts ss → WeightsInLimits w →
+all_with_within : (w : Weights) (ss : List Weighting) → All HasAmounts ss → WeightsInLimits w →
     WeightsInLimits (with_weightings w ss)
 all_with_within w [] all limits = limits
 all_with_within w (s ∷ ss) all limits =
-    all_with_within (with_weighting w s) ss (All-tail SaysAmounts s ss all)
-    (with_within w s (All-head SaysAmounts s ss all) limits)
+    all_with_within (with_weighting w s) ss (All-tail HasAmounts s ss all)
+    (with_within w s (All-head HasAmounts s ss all) limits)
 
 -- the weights that lines say are in their limits
-pub weights_within : (ss : List Weighting) → All SaysAmounts ss →
+pub weights_within : (ss : List Weighting) → All HasAmounts ss →
     WeightsInLimits (with_weightings no_weights ss)
 weights_within ss all =
     all_with_within no_weights ss all (

@@ -50,19 +50,19 @@ module _ (end n : ℕ) (exams : List ExamLine) (same : length exams ≡ n)
     faulty_weightings fault is =
         rw (same, are_periods, are_rooms, are_period_rules, are_room_rules, is) refl
 
-    module _ (behind : List Located) (weightings : List Weighting)
+    module _ (after : List Located) (weightings : List Weighting)
         (are_weightings : section_in weightings_heading
         (weighting_line (among n)) end rest_after_room_rules
-        ≡ Ok (weightings, behind)) where
+        ≡ Ok (weightings, after)) where
       -- a line after the last section
-      pub faulty_end : (fault : FileFault) → no_more behind ≡ Err fault
+      pub faulty_end : (fault : FileFault) → no_more after ≡ Err fault
           → later_sections end exams lines ≡ Err fault
       faulty_end fault is =
           rw (same, are_periods, are_rooms, are_period_rules, are_room_rules, are_weightings, is)
           refl
 
       -- all sections
-      pub all_sections : no_more behind ≡ Ok tt → later_sections end exams lines ≡ Ok (record {
+      pub all_sections : no_more after ≡ Ok tt → later_sections end exams lines ≡ Ok (record {
         exams = exams;
         periods = periods;
         rooms = rooms;

@@ -82,7 +82,7 @@ pub size_line : (r : Located) (rs : List Located) → is_header r.text ≡ false
     section_size (r ∷ rs) ≡ section_size rs + 1
 size_line r rs e = rw e refl
 
--- the first byte tells whether a line is a header
+-- the first byte decides whether a line is a header
 pub header_first : (bs : List ℕ) → 0 < length bs → is_header bs ≡ (get_or bs 0 0 == 91)
 header_first [] some = absurd (omega arith)
 header_first (b ∷ bs) some = refl

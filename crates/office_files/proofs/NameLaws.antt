@@ -55,13 +55,13 @@ line_named before fields item t is =
     ∙ named (pairs_on before) [] (rest fields) students.0 students.1 t
 
 -- a line after the first is one of the others
-line_behind : (x : Located) (body behind : List Located) (e : ℕ) (line : Located) → e < length body
-    → slice_get (x ∷ (body ++ behind)) (e + 1) ≡ Some line → slice_get body e ≡ Some line
-line_behind x body behind e line lt is =
-    let later : get_or (body ++ behind) e line ≡ line
-    = get_or_from_slice_get (x ∷ (body ++ behind)) (suc e) line line (rw add-one at is) in
+line_of_body : (x : Located) (body after : List Located) (e : ℕ) (line : Located) → e < length body
+    → slice_get (x ∷ (body ++ after)) (e + 1) ≡ Some line → slice_get body e ≡ Some line
+line_of_body x body after e line lt is =
+    let later : get_or (body ++ after) e line ≡ line
+    = get_or_from_slice_get (x ∷ (body ++ after)) (suc e) line line (rw add-one at is) in
     slice_get-get_or body e line lt
-    ∙ ap Some (sym (get_or_append_left body behind line e lt) ∙ later)
+    ∙ ap Some (sym (get_or_append_left body after line e lt) ∙ later)
 
 pub sits_as_named : (b : List ℕ) (I : Session) (E : Enrolled) (s e : ℕ) (line : Located)
     → InstanceText b I E → e < length I.exams → slice_get (lines_of b) (e + 1) ≡ Some line
@@ -76,7 +76,7 @@ sits_as_named b I E s e line t lt at =
     let item = get_or items e d in
     let here : slice_get items e ≡ Some item = slice_get-get_or items e d within in
     let lines : slice_get body e ≡ Some line
-    = line_behind t.exams.header body t.rest_after_exams e line
+    = line_of_body t.exams.header body t.rest_after_exams e line
     (omega (arith, t.exams.spelled.as_many))
     (ap (λ xs. slice_get xs (e + 1)) (sym t.exams.cut) ∙ at) in
     let read = t.exams.spelled.each e line item lines here in

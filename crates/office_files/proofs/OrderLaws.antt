@@ -43,7 +43,7 @@ extent-le c (b ∷ bs) =
           (arith, extent_onto b (ended_parts c bs) (length bs) (extent-le c bs) (λ _. omega arith))
     ]
 
--- a located text lies within its piece
+-- a located text is inside its piece
 pub inner : (line : ℕ) (p : Piece) → record {
   begins : p.start ≤ inner_start p;
   ends : inner_start p + length (trimmed p.text) ≤ p.start + length p.text;
@@ -72,7 +72,7 @@ fields_run line start high (x ∷ y ∷ ys) reach le =
     let others = map (located line) (placed (start + length x + 1) (y ∷ ys)) in
     (i.begins, omega arith, lower end (start + length x + 1) high others gap more)
 
--- the tokens of a row lie within it
+-- the tokens of a row are inside it
 row_runs : (row : Located) → row.end ≡ row.start + length row.text →
     AreInRow row.start (tokens_in row) row.end
 row_runs row e =

@@ -54,42 +54,42 @@ pub digit_range : (b : ℕ) → is_ascii_digit b ≡ true → (48 ≤ b) × (b �
 digit_range b e = grind (arith, common_steps)
 
 -- a byte and 48, bit by bit: at most 9 for a digit, and then its value, and more for any other byte
-digit_told : ℕ → Bool
-digit_told b =
+digit_decided : ℕ → Bool
+digit_decided b =
     if nat_le (bit_xor b 48) 9 then is_ascii_digit b && (bit_xor b 48 == b - 48)
     else not (is_ascii_digit b)
 
-all_told : list_all digit_told (range_with_len 0 256) ≡ true
-unfolding digit_told
-all_told = refl
+all_decided : list_all digit_decided (range_with_len 0 256) ≡ true
+unfolding digit_decided
+all_decided = refl
 
-byte_told : (b : ℕ) → b < 256 → digit_told b ≡ true
-byte_told b lt =
+byte_decided : (b : ℕ) → b < 256 → digit_decided b ≡ true
+byte_decided b lt =
     let at : get_or (range_with_len 0 256) b 0 ≡ b =
     omega (arith, get_or-range_with_len 0 256 b 0 lt) in
-    elim (digit_told b) as (λ t. digit_told b ≡ t → digit_told b ≡ true) [
+    elim (digit_decided b) as (λ t. digit_decided b ≡ t → digit_decided b ≡ true) [
       | true ↦ λ e. e
       | false ↦ λ e.
-          absurd (true≢false (sym all_told ∙ list_all_at digit_told (range_with_len 0 256) b 0
+          absurd (true≢false (sym all_decided ∙ list_all_at digit_decided (range_with_len 0 256) b 0
           (omega (arith, length-range_with_len 0 256))
-          (ap digit_told at ∙ e)))
+          (ap digit_decided at ∙ e)))
     ] refl
 
 pub low_is_digit : (b : ℕ) → b < 256 → bit_xor b 48 ≤ 9
     → (is_ascii_digit b ≡ true) × (bit_xor b 48 ≡ b - 48)
-unfolding digit_told
+unfolding digit_decided
 low_is_digit b lt low =
-    let told = subst (λ t. (if t then is_ascii_digit b && (bit_xor b 48 == b - 48)
-    else not (is_ascii_digit b)) ≡ true) (le-leb (bit_xor b 48) 9 low) (byte_told b lt) in
-    let both = and_parts (is_ascii_digit b) (bit_xor b 48 == b - 48) told in
+    let decided = subst (λ t. (if t then is_ascii_digit b && (bit_xor b 48 == b - 48)
+    else not (is_ascii_digit b)) ≡ true) (le-leb (bit_xor b 48) 9 low) (byte_decided b lt) in
+    let both = and_parts (is_ascii_digit b) (bit_xor b 48 == b - 48) decided in
     (both.0, eqb-true (bit_xor b 48) (b - 48) both.1)
 
 pub high_is_none : (b : ℕ) → b < 256 → 9 < bit_xor b 48 → is_ascii_digit b ≡ false
-unfolding digit_told
+unfolding digit_decided
 high_is_none b lt high =
-    let told = subst (λ t. (if t then is_ascii_digit b && (bit_xor b 48 == b - 48)
-    else not (is_ascii_digit b)) ≡ true) (lt-leb (bit_xor b 48) 9 high) (byte_told b lt) in
-    not_true (is_ascii_digit b) told
+    let decided = subst (λ t. (if t then is_ascii_digit b && (bit_xor b 48 == b - 48)
+    else not (is_ascii_digit b)) ≡ true) (lt-leb (bit_xor b 48) 9 high) (byte_decided b lt) in
+    not_true (is_ascii_digit b) decided
   where
     not_true : (a : Bool) → not a ≡ true → a ≡ false
     not_true true is = sym is
@@ -101,30 +101,31 @@ digit_no_blank b e =
     rw (ne_eqb b 32 (λ same. omega arith), ne_eqb b 9 (λ same. omega arith))
 
 -- one more digit at the front
-pub says-more : (text : List ℕ) (value count digit : ℕ) → count < length text →
+pub has-more : (text : List ℕ) (value count digit : ℕ) → count < length text →
     is_ascii_digit (get_or text count 0) ≡ true → digit ≡ get_or text count 0 - 48 →
     HasDigits text value count → HasDigits text (10 * value + digit) (count + 1)
-says-more text value count digit lt is same says =
+has-more text value count digit lt is same has =
     let range = digit_range (get_or text count 0) is in
     record {
       within = omega arith;
-      digits = rw (list_all_more is_ascii_digit text count 0 lt, says.digits, is) refl;
-      same = rw (read_on-more 0 text count lt, says.same, same) refl;
-      small = small_more value count digit says.small (omega arith);
+      digits = rw (list_all_more is_ascii_digit text count 0 lt, has.digits, is) refl;
+      same = rw (read_on-more 0 text count lt, has.same, same) refl;
+      small = small_more value count digit has.small (omega arith);
     }
 
 -- the digits at the front of a text's first bytes are those of the text
-pub says_front : (most : ℕ) (text : List ℕ) (value count : ℕ) → HasDigits (take most text) value count →
+pub has_front : (most : ℕ) (text : List ℕ) (value count : ℕ) →
+    HasDigits (take most text) value count →
     HasDigits text value count
-says_front most text value count says =
+has_front most text value count has =
     let least = length-take most text in
     let short : count ≤ most = omega arith in
     let front = take-take count most text short in
     record {
       within = omega arith;
-      digits = rw (← front) says.digits;
-      same = rw (← front) says.same;
-      small = says.small;
+      digits = rw (← front) has.digits;
+      same = rw (← front) has.same;
+      small = has.small;
     }
 
 first-onto : (b : ℕ) (parts : List (List ℕ)) → first (onto_first b parts) ≡ b ∷ first parts
@@ -152,20 +153,20 @@ digit_no_comma d ds all same =
     absurd (omega arith)
 
 -- digits come first in their part, followed by the rest of it
-part-digits : (ds behind : List ℕ) → AllDigits ds →
-    first (ended_parts 44 (ds ++ behind)) ≡ ds ++ first (ended_parts 44 behind)
-part-digits [] behind all = refl
-part-digits (d ∷ ds) behind all =
+part-digits : (ds after : List ℕ) → AllDigits ds →
+    first (ended_parts 44 (ds ++ after)) ≡ ds ++ first (ended_parts 44 after)
+part-digits [] after all = refl
+part-digits (d ∷ ds) after all =
     let both = and_parts (is_ascii_digit d) (list_all is_ascii_digit ds) all in
-    part-byte d (ds ++ behind) (digit_no_comma d ds all)
-    ∙ ap (λ (xs : List ℕ). d ∷ xs) (part-digits ds behind both.1)
+    part-byte d (ds ++ after) (digit_no_comma d ds all)
+    ∙ ap (λ (xs : List ℕ). d ∷ xs) (part-digits ds after both.1)
 
-others-digits : (ds behind : List ℕ) → AllDigits ds →
-    rest (ended_parts 44 (ds ++ behind)) ≡ rest (ended_parts 44 behind)
-others-digits [] behind all = refl
-others-digits (d ∷ ds) behind all =
+others-digits : (ds after : List ℕ) → AllDigits ds →
+    rest (ended_parts 44 (ds ++ after)) ≡ rest (ended_parts 44 after)
+others-digits [] after all = refl
+others-digits (d ∷ ds) after all =
     let both = and_parts (is_ascii_digit d) (list_all is_ascii_digit ds) all in
-    others-byte d (ds ++ behind) (digit_no_comma d ds all) ∙ others-digits ds behind both.1
+    others-byte d (ds ++ after) (digit_no_comma d ds all) ∙ others-digits ds after both.1
 
 and-false : (a : Bool) → (a && false) ≡ false
 and-false true = refl
@@ -220,32 +221,32 @@ written n (d ∷ ds) all =
     digit d range = rw (le-ltb d 48 range.0, lt-ltb d 58 (omega arith)) (omega arith)
 
 -- the digits at the front of a text say a number
-front_says : (text : List ℕ) (count : ℕ) → count ≤ digits_len text
+front_has : (text : List ℕ) (count : ℕ) → count ≤ digits_len text
     → HasDigits text (read_on 0 (take count text)) count
-front_says text zero le =
+front_has text zero le =
     record { within = omega arith; digits = refl; same = refl; small = omega arith }
-front_says text (suc i) le =
+front_has text (suc i) le =
     let within = prefix_len-le-length is_ascii_digit text in
     let lt : i < length text = omega arith in
     let is = prefix_len_passes is_ascii_digit text i 0 (omega arith) in
-    let more = says-more text (read_on 0 (take i text)) i (get_or text i 0 - 48) lt is refl
-    (front_says text i (omega arith)) in
+    let more = has-more text (read_on 0 (take i text)) i (get_or text i 0 - 48) lt is refl
+    (front_has text i (omega arith)) in
     let all : read_on 0 (take (i + 1) text)
     ≡ 10 * read_on 0 (take i text) + (get_or text i 0 - 48) = read_on-more 0 text i lt in
     rw (← add-one i) (subst (λ n. HasDigits text n (i + 1)) (sym all) more)
 
 -- the value of the digits at the front of eight bytes
-pub eight_say : (text : List ℕ) (end value : ℕ) → length text ≤ 8 → end ≡ digits_len text
+pub eight_have : (text : List ℕ) (end value : ℕ) → length text ≤ 8 → end ≡ digits_len text
     → value ≡ digits_value 10 (take end text)
     → HasDigits text value end × NoDigitAt text end × (value < 100000000)
-eight_say text end value few ends is =
+eight_have text end value few ends is =
     let within = prefix_len-le-length is_ascii_digit text in
-    let says = front_says text end (omega (arith, ends)) in
+    let has = front_has text end (omega (arith, ends)) in
     let room : 10 ^ end ≤ 10 ^ 8 =
     pow-le-pow_right {n = 10} (omega arith) {i = end} {j = 8} (omega (arith, ends, within)) in
-    let small = says.small in
-    let same : value ≡ read_on 0 (take end text) = is ∙ written 0 (take end text) says.digits in (
-      subst (λ n. HasDigits text n end) (sym same) says,
+    let small = has.small in
+    let same : value ≡ read_on 0 (take end text) = is ∙ written 0 (take end text) has.digits in (
+      subst (λ n. HasDigits text n end) (sym same) has,
       λ lt. subst (λ k. is_ascii_digit (get_or text k 0) ≡ false) (sym ends)
           (prefix_len_stops is_ascii_digit text 0 (omega (arith, ends))),
       omega (arith, same, small, room),
@@ -254,10 +255,10 @@ eight_say text end value few ends is =
 -- fewer than eight digits at the front of eight bytes are those of the line
 pub few_front : (line : List ℕ) (value count : ℕ) → 8 < length line → count < 8
     → HasDigits (take 8 line) value count → NoDigitAt (take 8 line) count → IsFront line value count
-few_front line value count long less says whole =
+few_front line value count long less has whole =
     let size = length-take-le 8 line (omega arith) in
     record {
-      says = says_front 8 line value count says;
+      has = has_front 8 line value count has;
       few = omega arith;
       whole = λ _ lt.
           ap is_ascii_digit (sym (get_or-take 8 line count 0 less)) ∙ whole (omega arith);
@@ -266,17 +267,17 @@ few_front line value count long less says whole =
 -- all of these bytes are digits
 eight_are : (line : List ℕ) (value count : ℕ) → 8 < length line → 8 ≤ count
     → HasDigits (take 8 line) value count → count ≡ 8
-eight_are line value count long most says =
-    let within = says.within in omega (arith, length-take-le 8 line (omega arith))
+eight_are line value count long most has =
+    let within = has.within in omega (arith, length-take-le 8 line (omega arith))
 
 -- eight digits, and no ninth
 pub eight_front : (line : List ℕ) (value count : ℕ) → 8 < length line → 8 ≤ count
     → HasDigits (take 8 line) value count → is_ascii_digit (get_or line 8 0) ≡ false
     → IsFront line value count
-eight_front line value count long most says other =
-    let eight = eight_are line value count long most says in
+eight_front line value count long most has other =
+    let eight = eight_are line value count long most has in
     record {
-      says = says_front 8 line value count says;
+      has = has_front 8 line value count has;
       few = omega arith;
       whole = λ _ lt. subst (λ k. is_ascii_digit (get_or line k 0) ≡ false) (sym eight) other;
     }
@@ -285,12 +286,12 @@ eight_front line value count long most says other =
 pub nine_front : (line : List ℕ) (value count digit : ℕ) → 8 < length line → 8 ≤ count
     → HasDigits (take 8 line) value count → is_ascii_digit (get_or line 8 0) ≡ true
     → digit ≡ get_or line 8 0 - 48 → IsFront line (10 * value + digit) (count + 1)
-nine_front line value count digit long most says is same =
-    let eight = eight_are line value count long most says in
+nine_front line value count digit long most has is same =
+    let eight = eight_are line value count long most has in
     let here : get_or line count 0 ≡ get_or line 8 0 = ap (λ k. get_or line k 0) eight in
     record {
-      says = says-more line value count digit (omega arith) (ap is_ascii_digit here ∙ is)
-          (same ∙ ap (λ b. b - 48) (sym here)) (says_front 8 line value count says);
+      has = has-more line value count digit (omega arith) (ap is_ascii_digit here ∙ is)
+          (same ∙ ap (λ b. b - 48) (sym here)) (has_front 8 line value count has);
       few = omega arith;
       whole = λ less. absurd (omega arith);
     }
@@ -303,26 +304,26 @@ module _ (line : List ℕ) (value count : ℕ) (is : IsFront line value count) w
   left = drop count line
 
   size : length front ≡ count
-  size = length-take-le count line is.says.within
+  size = length-take-le count line is.has.within
 
   line_is : line ≡ front ++ left
   line_is = sym (take-append-drop count line)
 
   part_is : first (ended_parts 44 line) ≡ front ++ first (ended_parts 44 left)
   part_is =
-      ap (λ xs. first (ended_parts 44 xs)) line_is ∙ part-digits front left is.says.digits
+      ap (λ xs. first (ended_parts 44 xs)) line_is ∙ part-digits front left is.has.digits
 
   others_are : rest (ended_parts 44 line) ≡ rest (ended_parts 44 left)
   others_are =
-      ap (λ xs. rest (ended_parts 44 xs)) line_is ∙ others-digits front left is.says.digits
+      ap (λ xs. rest (ended_parts 44 xs)) line_is ∙ others-digits front left is.has.digits
 
   value_is : first (ended_parts 44 left) ≡ [] → 0 < count →
       few_digits (first (ended_parts 44 line)) ≡ Some value
   value_is none some =
       let few = is.few in
       ap few_digits (part_is ∙ ap (λ (xs : List ℕ). front ++ xs) none ∙ append-nil front)
-      ∙ few_digits-all front (omega (arith, size)) (omega (arith, size)) is.says.digits
-      ∙ ap Some is.says.same
+      ∙ few_digits-all front (omega (arith, size)) (omega (arith, size)) is.has.digits
+      ∙ ap Some is.has.same
 
   -- the line ends after them
   pub at_end : left ≡ [] → 0 < count →
@@ -333,11 +334,11 @@ module _ (line : List ℕ) (value count : ℕ) (is : IsFront line value count) w
       (value_is (ap first parts) some, parts ∙ sym (others_are ∙ ap rest parts))
 
   -- a comma ends them
-  pub at_comma : (behind : List ℕ) → left ≡ 44 ∷ behind → 0 < count →
+  pub at_comma : (after : List ℕ) → left ≡ 44 ∷ after → 0 < count →
       (few_digits (first (ended_parts 44 line)) ≡ Some value)
-      × (ended_parts 44 behind ≡ rest (ended_parts 44 line))
-  at_comma behind next some =
-      let parts : ended_parts 44 left ≡ [] ∷ ended_parts 44 behind = ap (ended_parts 44) next in
+      × (ended_parts 44 after ≡ rest (ended_parts 44 line))
+  at_comma after next some =
+      let parts : ended_parts 44 left ≡ [] ∷ ended_parts 44 after = ap (ended_parts 44) next in
       (value_is (ap first parts) some, sym (others_are ∙ ap rest parts))
 
   -- another byte follows them
@@ -416,8 +417,8 @@ onto_space [] some = absurd (omega arith)
 onto_space (x ∷ xs) some = refl
 
 -- a space in front of a line changes no field
-pub fields_behind_space : (line : List ℕ) → 0 < length line → fields_of line ≡ fields_of (32 ∷ line)
-fields_behind_space line some = sym (onto_space (ended_parts 44 line) (parts_some 44 line some))
+pub fields_after_space : (line : List ℕ) → 0 < length line → fields_of line ≡ fields_of (32 ∷ line)
+fields_after_space line some = sym (onto_space (ended_parts 44 line) (parts_some 44 line some))
 
 -- a space at the start of a line with more text changes no field
 fields_space : (line : List ℕ) → 0 < length (without_space line) →
@@ -454,9 +455,9 @@ module _ (line : List ℕ) (value : ℕ)
       ∙ number-few (first (ended_parts 44 other)) value limit said
 
   -- the other fields are those after it
-  pub rest_first : (behind : List ℕ) → ended_parts 44 behind ≡ rest (ended_parts 44 other) →
-      fields_of behind ≡ rest (fields_of line)
-  rest_first behind are =
+  pub rest_first : (after : List ℕ) → ended_parts 44 after ≡ rest (ended_parts 44 other) →
+      fields_of after ≡ rest (fields_of line)
+  rest_first after are =
       ap (map trimmed) are
       ∙ sym (rest-trimmed (ended_parts 44 other))
       ∙ ap rest same_fields

@@ -30,7 +30,7 @@ module _ {X : Type 0} (view : X → Session × Enrolled) (b : List ℕ) where
   instance_reading (Ok x) is = read_is_text b (view x).0 (view x).1 is
   instance_reading (Err f) is = tt
 
-  -- a text that is refused, but for memory, spells nothing
+  -- a text that is refused for another reason than memory is invalid
   pub instance_only : (r : Result X FileFault) → AnswersReading view r (instance_in b)
       → IfErr r (λ f. f.what ≢ NoMemory → (I : Session) (E : Enrolled) → InstanceText b I E → ⊥)
   instance_only (Ok x) is = tt
@@ -64,7 +64,7 @@ module _ {X : Type 0} (view : X → Placing) (I : Session) (b : List ℕ) where
   solution_reading (Ok x) is = solution_is_text I b (view x) is
   solution_reading (Err f) is = tt
 
-  -- a text that is refused, but for memory, spells nothing
+  -- a text that is refused for another reason than memory is invalid
   pub solution_only : (r : Result X FileFault) → AnswersReading view r (solution_in I b)
       → IfErr r (λ f. f.what ≢ NoMemory → (T : Placing) → SolutionText b I T → ⊥)
   solution_only (Ok x) is = tt

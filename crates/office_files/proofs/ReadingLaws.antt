@@ -71,14 +71,14 @@ number_le limit text n e =
 
 module _ {A : Type 0} (read : List A → List (List ℕ) → Result A FaultKind) where
   -- lines describe items that follow others
-  record SpellBehind (before : List A) (lines : List Located) (items : List A) : Type 0 where
+  record SpellRest (before : List A) (lines : List Located) (items : List A) : Type 0 where
     pub as_many : length items ≡ length lines
     pub each : (i : ℕ) (line : Located) (item : A) → slice_get lines i ≡ Some line
         → slice_get items i ≡ Some item
         → read (before ++ take i items) (fields_of line.text) ≡ Ok item
 
   each_more : (before : List A) (line : Located) (lines : List Located) (x : A) (xs : List A) →
-      read before (fields_of line.text) ≡ Ok x → SpellBehind (before ++ x ∷ []) lines xs →
+      read before (fields_of line.text) ≡ Ok x → SpellRest (before ++ x ∷ []) lines xs →
       (i : ℕ) (l : Located) (item : A) → slice_get (line ∷ lines) i ≡ Some l →
       slice_get (x ∷ xs) i ≡ Some item →
       read (before ++ take i (x ∷ xs)) (fields_of l.text) ≡ Ok item
@@ -86,22 +86,22 @@ module _ {A : Type 0} (read : List A → List (List ℕ) → Result A FaultKind)
   each_more before line lines x xs is more (suc i) l item at which =
       rw append_assoc at (more.each i l item at which)
 
-  spells_none : (before : List A) → SpellBehind before [] []
+  spells_none : (before : List A) → SpellRest before [] []
   spells_none before = record { as_many = refl; each = λ i line item at which. cc }
 
   no_lines : (before all : List A) → items_of read before [] ≡ Ok all → before ≡ all
   no_lines before all e = cc
 
   -- the items read are those from before, and those that the lines describe
-  read_behind : (before : List A) (lines : List Located) (all : List A) →
+  read_rest : (before : List A) (lines : List Located) (all : List A) →
       items_of read before lines ≡ Ok all →
-      (items : List A) × (all ≡ before ++ items) × SpellBehind before lines items
-  read_behind before [] all e =
+      (items : List A) × (all ≡ before ++ items) × SpellRest before lines items
+  read_rest before [] all e =
       ([], rw append-nil (sym (no_lines before all e)), spells_none before)
-  read_behind before (line ∷ lines) all e =
+  read_rest before (line ∷ lines) all e =
       let head = bind_ok (at_line line.line (read before (fields_of line.text))) _ all e in
       let is = at_line_ok line.line (read before (fields_of line.text)) head.0 head.1 in
-      let tail = read_behind (before ++ head.0 ∷ []) lines all head.2 in (
+      let tail = read_rest (before ++ head.0 ∷ []) lines all head.2 in (
         head.0 ∷ tail.0,
         rw append_assoc at tail.1,
         record {
@@ -111,15 +111,15 @@ module _ {A : Type 0} (read : List A → List (List ℕ) → Result A FaultKind)
       )
 
   -- the items that lines describe after others are read
-  behind_read : (before : List A) (lines : List Located) (items : List A) →
-      SpellBehind before lines items → items_of read before lines ≡ Ok (before ++ items)
-  behind_read before [] [] s = rw append-nil refl
-  behind_read before [] (x ∷ xs) s = let many = s.as_many in absurd (omega arith)
-  behind_read before (line ∷ lines) [] s = let many = s.as_many in absurd (omega arith)
-  behind_read before (line ∷ lines) (x ∷ xs) s =
+  rest_read : (before : List A) (lines : List Located) (items : List A) →
+      SpellRest before lines items → items_of read before lines ≡ Ok (before ++ items)
+  rest_read before [] [] s = rw append-nil refl
+  rest_read before [] (x ∷ xs) s = let many = s.as_many in absurd (omega arith)
+  rest_read before (line ∷ lines) [] s = let many = s.as_many in absurd (omega arith)
+  rest_read before (line ∷ lines) (x ∷ xs) s =
       let head = rw append-nil at (s.each 0 line x refl refl) in
       let many = s.as_many in
-      let tail = behind_read (before ++ x ∷ []) lines xs (record {
+      let tail = rest_read (before ++ x ∷ []) lines xs (record {
         as_many = omega arith;
         each = λ i l item at which. rw append_assoc (s.each (suc i) l item at which);
       }) in
@@ -129,44 +129,45 @@ module _ {A : Type 0} (read : List A → List (List ℕ) → Result A FaultKind)
   pub items_spelled : (lines : List Located) (items : List A) → items_of read [] lines ≡ Ok items →
       Spell read lines items
   items_spelled lines items e =
-      let found = read_behind [] lines items e in
+      let found = read_rest [] lines items e in
       rw found.1 (record { as_many = found.2.as_many; each = found.2.each })
 
   -- the items that the lines describe are read
   pub spelled_items : (lines : List Located) (items : List A) → Spell read lines items →
       items_of read [] lines ≡ Ok items
   spelled_items lines items s =
-      behind_read [] lines items (record { as_many = s.as_many; each = s.each })
+      rest_read [] lines items (record { as_many = s.as_many; each = s.each })
 
-  all_behind : (P : A → Type 0) →
+  all_rest : (P : A → Type 0) →
       ((before : List A) (fields : List (List ℕ)) (x : A) → read before fields ≡ Ok x → P x) →
       (before : List A) (lines : List Located) (all : List A) → All P before →
       items_of read before lines ≡ Ok all → All P all
-  all_behind P says before [] all held e = subst (All P) (no_lines before all e) held
-  all_behind P says before (line ∷ lines) all held e =
+  all_rest P each_is before [] all held e = subst (All P) (no_lines before all e) held
+  all_rest P each_is before (line ∷ lines) all held e =
       let head = bind_ok (at_line line.line (read before (fields_of line.text))) _ all e in
       let is = at_line_ok line.line (read before (fields_of line.text)) head.0 head.1 in
-      let one = says before (fields_of line.text) head.0 is in
-      all_behind P says (before ++ head.0 ∷ []) lines all (All-push P before head.0 held one) head.2
+      let one = each_is before (fields_of line.text) head.0 is in
+      all_rest P each_is (before ++ head.0 ∷ []) lines all
+      (All-push P before head.0 held one) head.2
 
   -- a fact about the result of each line holds for each item
   pub items_all : (P : A → Type 0) →
       ((before : List A) (fields : List (List ℕ)) (x : A) → read before fields ≡ Ok x → P x) →
       (lines : List Located) (items : List A) → items_of read [] lines ≡ Ok items → All P items
-  items_all P says lines items e = all_behind P says [] lines items (All-nil P) e
+  items_all P each_is lines items e = all_rest P each_is [] lines items (All-nil P) e
 
-  within_behind : (n : ℕ) →
+  within_rest : (n : ℕ) →
       ((before : List A) (fields : List (List ℕ)) (x : A) → read before fields ≡ Ok x →
       length before < n) →
       (before : List A) (lines : List Located) (all : List A) → length before ≤ n →
       items_of read before lines ≡ Ok all → length all ≤ n
-  within_behind n says before [] all held e =
+  within_rest n each_is before [] all held e =
       subst (λ xs. length xs ≤ n) (no_lines before all e) held
-  within_behind n says before (line ∷ lines) all held e =
+  within_rest n each_is before (line ∷ lines) all held e =
       let head = bind_ok (at_line line.line (read before (fields_of line.text))) _ all e in
       let is = at_line_ok line.line (read before (fields_of line.text)) head.0 head.1 in
-      let one = says before (fields_of line.text) head.0 is in
-      within_behind n says (before ++ head.0 ∷ []) lines all
+      let one = each_is before (fields_of line.text) head.0 is in
+      within_rest n each_is (before ++ head.0 ∷ []) lines all
       (omega (arith, length-append before (head.0 ∷ []))) head.2
 
   -- if a line is refused after this many items, there are no more
@@ -174,7 +175,7 @@ module _ {A : Type 0} (read : List A → List (List ℕ) → Result A FaultKind)
       ((before : List A) (fields : List (List ℕ)) (x : A) → read before fields ≡ Ok x →
       length before < n) →
       (lines : List Located) (items : List A) → items_of read [] lines ≡ Ok items → length items ≤ n
-  items_within n says lines items e = within_behind n says [] lines items (omega arith) e
+  items_within n each_is lines items e = within_rest n each_is [] lines items (omega arith) e
 
   -- there is one item for each line
   pub items_length : (lines : List Located) (items : List A) → items_of read [] lines ≡ Ok items →

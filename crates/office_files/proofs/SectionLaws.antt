@@ -47,17 +47,17 @@ at_header-size (row ∷ rows) = elim (cases_Bool (is_header row.text)) [
   | inr e ↦ rw (size_line row rows e, add-one (section_size rows)) (at_header-size rows)
 ]
 
-size-behind : (behind : List Located) → AtHeader behind → section_size behind ≡ 0
-size-behind [] at = refl
-size-behind (line ∷ lines) at = size_head line lines at
+size-after : (after : List Located) → AtHeader after → section_size after ≡ 0
+size-after [] at = refl
+size-after (line ∷ lines) at = size_head line lines at
 
 -- lines that are no headers, up to one, are those before the next header
-size-body : (body behind : List Located) → All NoHeader body → AtHeader behind →
-    section_size (body ++ behind) ≡ length body
-size-body [] behind none at = size-behind behind at
-size-body (line ∷ body) behind none at =
-    let other = size_line line (body ++ behind) (All-head NoHeader line body none) in
-    let others = size-body body behind (All-tail NoHeader line body none) at in
+size-body : (body after : List Located) → All NoHeader body → AtHeader after →
+    section_size (body ++ after) ≡ length body
+size-body [] after none at = size-after after at
+size-body (line ∷ body) after none at =
+    let other = size_line line (body ++ after) (All-head NoHeader line body none) in
+    let others = size-body body after (All-tail NoHeader line body none) at in
     rw (other, others) (add-one (length body))
 
 -- a header with a number has that of the lines, from one to the limit
@@ -92,39 +92,39 @@ module _ {A : Type 0} (heading : Heading) (read : List A → List (List ℕ) →
   }
 
   -- a section that was read is one
-  pub section_is : (end : ℕ) (lines : List Located) (items : List A) (behind : List Located) →
-      section_in heading read end lines ≡ Ok (items, behind) →
-      IsSection heading read lines items behind
-  section_is end [] items behind e = cc
-  section_is end (line ∷ lines) items behind e =
+  pub section_is : (end : ℕ) (lines : List Located) (items : List A) (after : List Located) →
+      section_in heading read end lines ≡ Ok (items, after) →
+      IsSection heading read lines items after
+  section_is end [] items after e = cc
+  section_is end (line ∷ lines) items after e =
       let size = section_size lines in
       let said = header_in heading size line.text in
-      let head = bind_ok (at_line line.line said) _ (items, behind) e in
+      let head = bind_ok (at_line line.line said) _ (items, after) e in
       let headed = at_line_ok line.line said head.0 head.1 in
-      let got = bind_ok (items_of read [] (take size lines)) _ (items, behind) head.2 in
-      let both = same_pair _ got.0 items (drop size lines) behind refl got.2 in
+      let got = bind_ok (items_of read [] (take size lines)) _ (items, after) head.2 in
+      let both = same_pair _ got.0 items (drop size lines) after refl got.2 in
       let is = section_read line lines got.0 headed got.1 in
       subst (λ xs. IsSection heading read (line ∷ lines) items xs) both.1
       (subst (λ xs. IsSection heading read (line ∷ lines) xs (drop size lines)) both.0 is)
 
   -- a section that is there is read
-  pub is_section : (end : ℕ) (lines : List Located) (items : List A) (behind : List Located) →
-      IsSection heading read lines items behind →
-      section_in heading read end lines ≡ Ok (items, behind)
-  is_section end lines items behind s =
-      let size = size-body s.body behind s.no_header s.up_to in
+  pub is_section : (end : ℕ) (lines : List Located) (items : List A) (after : List Located) →
+      IsSection heading read lines items after →
+      section_in heading read end lines ≡ Ok (items, after)
+  is_section end lines items after s =
+      let size = size-body s.body after s.no_header s.up_to in
       let said = header_in heading (length s.body) s.header.text in
       let headed = ok_at_line s.header.line said tt s.headed in
-      let taken = take_at s.body behind (length s.body) refl in
-      let left = drop_at s.body behind (length s.body) refl in
+      let taken = take_at s.body after (length s.body) refl in
+      let left = drop_at s.body after (length s.body) refl in
       rw (s.cut, size, headed, taken, left, spelled_items read s.body items s.spelled) refl
 
   -- a section with a number has at least one item, and at most its limit
   pub counted_section : (limit : ℕ) (lines : List Located) (items : List A)
-      (behind : List Located) →
-      heading.limit ≡ Some limit → IsSection heading read lines items behind →
+      (after : List Located) →
+      heading.limit ≡ Some limit → IsSection heading read lines items after →
       (1 ≤ length items) × (length items ≤ limit)
-  counted_section limit lines items behind limited s =
+  counted_section limit lines items after limited s =
       let headed = rw limited at s.headed in
       let counted = counted_lines heading.word limit (length s.body) s.header.text headed in
       let many = s.spelled.as_many in
@@ -132,8 +132,8 @@ module _ {A : Type 0} (heading : Heading) (read : List A → List (List ℕ) →
 
   -- the same of one that was read
   pub section_counted : (limit end : ℕ) (lines : List Located) (items : List A)
-      (behind : List Located) →
-      heading.limit ≡ Some limit → section_in heading read end lines ≡ Ok (items, behind) →
+      (after : List Located) →
+      heading.limit ≡ Some limit → section_in heading read end lines ≡ Ok (items, after) →
       (1 ≤ length items) × (length items ≤ limit)
-  section_counted limit end lines items behind limited e =
-      counted_section limit lines items behind limited (section_is end lines items behind e)
+  section_counted limit end lines items after limited e =
+      counted_section limit lines items after limited (section_is end lines items after e)

@@ -144,9 +144,9 @@ pub record IsLocated (source : List ℕ) (s : Located) : Type 0 where
   pub lies : Lies source s.start s.text
   pub end : s.end ≡ s.start + length s.text
 
-located_stands : (source : List ℕ) (line : ℕ) (p : Piece) → Lies source p.start p.text →
+located_lies : (source : List ℕ) (line : ℕ) (p : Piece) → Lies source p.start p.text →
     IsLocated source (located line p)
-located_stands source line p l =
+located_lies source line p l =
     let inner = lies_trim_start source p.start p.text l in
     let f = trim_end_front (trim_start p.text) in
     let front = trim_start p.text in
@@ -155,68 +155,69 @@ located_stands source line p l =
       end = refl;
     }
 
-pub stands_slice : (source : List ℕ) (s : Located) → IsLocated source s → IsSliceOf source s
-stands_slice source s st = lies_slice source s.line s.start s.end s.text st.end st.lies
+pub located_slice : (source : List ℕ) (s : Located) → IsLocated source s → IsSliceOf source s
+located_slice source s st = lies_slice source s.line s.start s.end s.text st.end st.lies
 
-abbrev pub AllStand : List ℕ → List Located → Type 0
-AllStand source = AllByRecursion (IsLocated source)
+abbrev pub AllLocated : List ℕ → List Located → Type 0
+AllLocated source = AllByRecursion (IsLocated source)
 
-rows_stand : (source : List ℕ) (line : ℕ) (ps : List Piece) → AllLie source ps →
-    AllStand source (lines_from line ps)
-rows_stand source line [] all = tt
-rows_stand source line (p ∷ ps) all =
+rows_located : (source : List ℕ) (line : ℕ) (ps : List Piece) → AllLie source ps →
+    AllLocated source (lines_from line ps)
+rows_located source line [] all = tt
+rows_located source line (p ∷ ps) all =
     let f = return_front p.text in
     let kept : Piece = record p { text = without_return p.text } in
     let row =
-    located_stands source line kept
+    located_lies source line kept
     (lies_front source p.start p.text (without_return p.text) f.0 f.1 all.0) in
-    let more = rows_stand source (line + 1) ps all.1 in
+    let more = rows_located source (line + 1) ps all.1 in
     let others = lines_from (line + 1) ps in
     elim (length (trimmed (without_return p.text)) == 0) as (λ v.
-    AllStand source (if v then others else located line kept ∷ others)) [
+    AllLocated source (if v then others else located line kept ∷ others)) [
       | true ↦ more
       | false ↦ (row, more)
     ]
 
-fields_stand : (source : List ℕ) (line : ℕ) (ps : List Piece) → AllLie source ps →
-    AllStand source (map (located line) ps)
-fields_stand source line [] all = tt
-fields_stand source line (p ∷ ps) all =
-    (located_stands source line p all.0, fields_stand source line ps all.1)
+fields_located : (source : List ℕ) (line : ℕ) (ps : List Piece) → AllLie source ps →
+    AllLocated source (map (located line) ps)
+fields_located source line [] all = tt
+fields_located source line (p ∷ ps) all =
+    (located_lies source line p all.0, fields_located source line ps all.1)
 
-tokens_in_stand : (source : List ℕ) (row : Located) → IsLocated source row →
-    AllStand source (tokens_in row)
-tokens_in_stand source row st =
+tokens_in_located : (source : List ℕ) (row : Located) → IsLocated source row →
+    AllLocated source (tokens_in row)
+tokens_in_located source row st =
     let fields = map (located row.line) (placed row.start (ended_parts 44 row.text)) in
-    elim (is_header row.text) as (λ v. AllStand source (if v then row ∷ [] else fields)) [
+    elim (is_header row.text) as (λ v. AllLocated source (if v then row ∷ [] else fields)) [
       | true ↦ (st, tt)
-      | false ↦ fields_stand source row.line (placed row.start (ended_parts 44 row.text))
+      | false ↦ fields_located source row.line (placed row.start (ended_parts 44 row.text))
           (parts_lie 44 row.text source row.start st.lies.tail st.lies.here)
     ]
 
-stand_append : (source : List ℕ) (xs ys : List Located) → AllStand source xs → AllStand source ys →
-    AllStand source (xs ++ ys)
-stand_append source [] ys a b = b
-stand_append source (x ∷ xs) ys a b = (a.0, stand_append source xs ys a.1 b)
+located_append : (source : List ℕ) (xs ys : List Located) → AllLocated source xs
+    → AllLocated source ys →
+    AllLocated source (xs ++ ys)
+located_append source [] ys a b = b
+located_append source (x ∷ xs) ys a b = (a.0, located_append source xs ys a.1 b)
 
-all_tokens_stand : (source : List ℕ) (rows : List Located) → AllStand source rows →
-    AllStand source (flat_map tokens_in rows)
-all_tokens_stand source [] all = tt
-all_tokens_stand source (r ∷ rs) all =
-    stand_append source (tokens_in r) (flat_map tokens_in rs) (tokens_in_stand source r all.0)
-    (all_tokens_stand source rs all.1)
+all_tokens_located : (source : List ℕ) (rows : List Located) → AllLocated source rows →
+    AllLocated source (flat_map tokens_in rows)
+all_tokens_located source [] all = tt
+all_tokens_located source (r ∷ rs) all =
+    located_append source (tokens_in r) (flat_map tokens_in rs) (tokens_in_located source r all.0)
+    (all_tokens_located source rs all.1)
 
 -- each token of a text is its slice of the text
-pub tokens_stand : (source : List ℕ) → AllStand source (tokens_of source)
-tokens_stand source =
-    all_tokens_stand source (lines_of source)
-    (rows_stand source 1 (placed 0 (ended_parts 10 source))
+pub tokens_located : (source : List ℕ) → AllLocated source (tokens_of source)
+tokens_located source =
+    all_tokens_located source (lines_of source)
+    (rows_located source 1 (placed 0 (ended_parts 10 source))
     (parts_lie 10 source source 0 [] (sym (append-nil source))))
 
-slices : (source : List ℕ) (ts : List Located) → AllStand source ts →
+slices : (source : List ℕ) (ts : List Located) → AllLocated source ts →
     AllByRecursion (IsSliceOf source) ts
 slices source [] all = tt
-slices source (t ∷ ts) all = (stands_slice source t all.0, slices source ts all.1)
+slices source (t ∷ ts) all = (located_slice source t all.0, slices source ts all.1)
 
 pub tokens_slice : (source : List ℕ) → AllByRecursion (IsSliceOf source) (tokens_of source)
-tokens_slice source = slices source (tokens_of source) (tokens_stand source)
+tokens_slice source = slices source (tokens_of source) (tokens_located source)

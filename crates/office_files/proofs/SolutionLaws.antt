@@ -1,4 +1,4 @@
--- A solution file that was read spells the timetable, and one that spells it is read.
+-- A solution file that was read is the text of the timetable, and each such text is read.
 use Rattle.std.proofs.Common.{◌≡◌, ℕ, ◌+◌, ◌≤◌, List, [], length, map, Some, Ok, refl, sym, ap}
 use Rattle.std.specs.Prelude.{All, nat_le, ◌==◌}
 use Rattle.std.proofs.lemmas.Bool.{leb-true, le-leb, eqb-true, eq-eqb}

@@ -60,8 +60,8 @@ module _ (w : WeightWord) (place : ℕ) (get : Weights → ℕ) (is : IsWeight w
   LineGives all line =
       begins_with (text_of w) line ≡ true → number_after (suc place) line ≡ Ok (weight all)
 
-  abbrev Alone : Located → Located → Type 0
-  Alone line other = begins_with (text_of w) line ≡ true → begins_with (text_of w) other ≡ false
+  abbrev NotBoth : Located → Located → Type 0
+  NotBoth line other = begins_with (text_of w) line ≡ true → begins_with (text_of w) other ≡ false
 
   -- a line begins with the word exactly if its weighting has it
   begun : (before : List Weighting) (line : Located) (s : Weighting)
@@ -110,18 +110,18 @@ module _ (w : WeightWord) (place : ℕ) (get : Weights → ℕ) (is : IsWeight w
       (All-cons Lacks line lines lacks more.0, more.1 ∙ passed before head.0 other)
 
   -- before the line of the word, the lines have its weight
-  says_behind : (before : List Weighting) (lines : List Located) (all : List Weighting)
+  weight_after : (before : List Weighting) (lines : List Located) (all : List Weighting)
       → list_any (has_word w) before ≡ false → weight before ≡ 0
       → items_of reads before lines ≡ Ok all
       → HasAmount lines (text_of w) (suc place) (weight all)
-  says_behind before [] all missing zero_yet read =
+  weight_after before [] all missing zero_yet read =
       let same : before ≡ all = cc in
       record {
         once = λ i j d lt within. absurd (omega (arith, within));
         said = All-nil (LineGives all);
         unsaid = λ none. ap weight (sym same) ∙ zero_yet;
       }
-  says_behind before (line ∷ lines) all missing zero_yet read =
+  weight_after before (line ∷ lines) all missing zero_yet read =
       let head = bind_ok (at_line line.line (reads before (fields_of line.text))) _ all read in
       let was = was_read counts before (fields_of line.text) head.0
       (at_line_ok line.line _ head.0 head.1) in
@@ -139,8 +139,8 @@ module _ (w : WeightWord) (place : ℕ) (get : Weights → ℕ) (is : IsWeight w
             let amount : weight all ≡ get (with_weighting weights head.0)
             = more.1 ∙ ap get (one_more no_weights before head.0) in
             record {
-              once = AllPairs-cons Alone line lines
-                  (All-weaker Lacks (Alone line) (λ l lacks _. lacks) lines more.0)
+              once = AllPairs-cons NotBoth line lines
+                  (All-weaker Lacks (NotBoth line) (λ l lacks _. lacks) lines more.0)
                   (λ i j d lt within _. more.0 j d within);
               said = All-cons (LineGives all) line lines (λ _. here ∙ ap Ok (sym amount))
                   (All-weaker Lacks (LineGives all) (λ l lacks begins. cc) lines more.0);
@@ -151,11 +151,11 @@ module _ (w : WeightWord) (place : ℕ) (get : Weights → ℕ) (is : IsWeight w
               | inl has ↦ let starts = begun before line head.0 was has in cc
               | inr without ↦ without
             ] in
-            let more = says_behind (before ++ head.0 ∷ []) lines all
+            let more = weight_after (before ++ head.0 ∷ []) lines all
             (list_any-append (has_word w) before (head.0 ∷ []) ∙ rw (missing, other) refl)
             (passed before head.0 other ∙ zero_yet) head.2 in
             record {
-              once = AllPairs-cons Alone line lines (λ k d within begins. cc) more.once;
+              once = AllPairs-cons NotBoth line lines (λ k d within begins. cc) more.once;
               said = All-cons (LineGives all) line lines (λ begins. cc) more.said;
               unsaid = λ none. more.unsaid (All-tail Lacks line lines none);
             }
@@ -257,20 +257,20 @@ is_night = record {
 
 module _ (counts : Counts) (lines : List Located) (ss : List Weighting)
     (read : items_of (weighting_line counts) [] lines ≡ Ok ss) where
-  says : (w : WeightWord) (place : ℕ) (get : Weights → ℕ) → IsWeight w place get
+  weight_is : (w : WeightWord) (place : ℕ) (get : Weights → ℕ) → IsWeight w place get
       → HasAmount lines (text_of w) (suc place) (get (with_weightings no_weights ss))
-  says w place get is = says_behind w place get is counts [] lines ss refl is.none read
+  weight_is w place get is = weight_after w place get is counts [] lines ss refl is.none read
 
   section_weighs : Weighs lines (with_weightings no_weights ss)
   section_weighs = record {
-    row = says word.Row 0 (λ x. x.row) is_row;
-    day = says word.Day 0 (λ x. x.day) is_day;
-    spread = says word.Spread 0 (λ x. x.spread) is_spread;
-    mixed = says word.Mixed 0 (λ x. x.mixed) is_mixed;
-    front_exams = says word.Front 0 (λ x. x.front_exams) is_front_exams;
-    front_periods = says word.Front 1 (λ x. x.front_periods) is_front_periods;
-    front = says word.Front 2 (λ x. x.front) is_front;
-    night = says word.Night 0 (λ x. x.night) is_night;
+    row = weight_is word.Row 0 (λ x. x.row) is_row;
+    day = weight_is word.Day 0 (λ x. x.day) is_day;
+    spread = weight_is word.Spread 0 (λ x. x.spread) is_spread;
+    mixed = weight_is word.Mixed 0 (λ x. x.mixed) is_mixed;
+    front_exams = weight_is word.Front 0 (λ x. x.front_exams) is_front_exams;
+    front_periods = weight_is word.Front 1 (λ x. x.front_periods) is_front_periods;
+    front = weight_is word.Front 2 (λ x. x.front) is_front;
+    night = weight_is word.Night 0 (λ x. x.night) is_night;
   }
 
 -- ---- the last section
@@ -292,8 +292,8 @@ skipped (x ∷ xs) ys there =
     )
 
 module _ {A : Type 0} (heading : Heading) (read : List A → List (List ℕ) → Result A FaultKind)
-    (lines : List Located) (items : List A) (behind : List Located)
-    (s : IsSection heading read lines items behind) where
+    (lines : List Located) (items : List A) (after : List Located)
+    (s : IsSection heading read lines items after) where
   -- a section that begins at a header has a header
   section_headed : AtHeader lines → has_header lines ≡ true
   section_headed at =
@@ -301,9 +301,9 @@ module _ {A : Type 0} (heading : Heading) (read : List A → List (List ℕ) →
       rw (s.cut, headed) refl
 
   -- then the last section is that of the lines after it
-  section_skipped : has_header behind ≡ true → last_section lines ≡ last_section behind
+  section_skipped : has_header after ≡ true → last_section lines ≡ last_section after
   section_skipped there =
-      ap last_section s.cut ∙ (skipped (s.header ∷ s.body) behind there).1
+      ap last_section s.cut ∙ (skipped (s.header ∷ s.body) after there).1
 
 -- the last section is followed by nothing
 section_last : {A : Type 0} (heading : Heading) (read : List A → List (List ℕ) → Result A FaultKind)

@@ -20,7 +20,7 @@ NoDigitAt text count = count < length text → is_ascii_digit (slice_index text 
 -- up to nine digits at the front of a line have that value, and if fewer than nine, no digit
 -- follows
 pub record IsFront (line : List ℕ) (value count : ℕ) : Type 0 where
-  pub says : HasDigits line value count
+  pub has : HasDigits line value count
   pub few : count ≤ 9
   pub whole : count < 9 → NoDigitAt line count
 

@@ -36,7 +36,7 @@ abbrev pub exam_of : ExamLine → Exam
 exam_of line = record { minutes = line.minutes }
 
 -- the values of lines of the section of exams: their exams in order, and the students who sit each
-pub record SaysExams (lines : List Located) (exams : List Exam) (E : Enrolled) : Type 0 where
+pub record LinesGiveExams (lines : List Located) (exams : List Exam) (E : Enrolled) : Type 0 where
   pub said : List ExamLine
   pub read : items_of exam_line [] lines ≡ Ok said
   pub are_exams : exams ≡ map exam_of said

@@ -7,7 +7,7 @@ use Rattle.office_files.specs.ItemLines.{place_line}
 use Rattle.office_files.specs.Lines.{Located, section_size, lines_of, line_count}
 use Rattle.office_files.specs.SolutionText.{counts_in}
 use Rattle.office_files.specs.Reading.{fault_after_lines}
-use Rattle.office_files.specs.LineFaults.{LinePosition, at_start, behind, line_fault}
+use Rattle.office_files.specs.LineFaults.{LinePosition, at_start, position_after, line_fault}
 use Rattle.office_files.specs.declared.counts.Counts.{Counts}
 use Rattle.office_files.specs.declared.fault.FaultKind.{FaultKind}
 use Rattle.office_files.specs.declared.fault.FaultKind.TheVariants.{TooLong, MissingSection}
@@ -25,7 +25,7 @@ first_from end s [] =
     if nat_lt s.headers 6 then Some (record { line = end; what = MissingSection }) else None
 first_from end s (line ∷ lines) =
     at_line_or line.line (line_fault s line (section_size lines))
-    (first_from end (behind s line) lines)
+    (first_from end (position_after s line) lines)
 
 -- the first fault of an instance file, if it has one
 abbrev pub first_fault : List ℕ → Option FileFault

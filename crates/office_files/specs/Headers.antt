@@ -19,7 +19,7 @@ inside_of text = do
 
 -- the closing bracket is followed by nothing
 abbrev pub closed : List ℕ → Result (Unit {0}) FaultKind
-closed behind = unless (length (trimmed behind) == 0) StrayText
+closed after = unless (length (trimmed after) == 0) StrayText
 
 -- a header with only its word
 abbrev pub plain_header : List ℕ → List ℕ → Result (Unit {0}) FaultKind

@@ -25,8 +25,8 @@ abbrev pub at_start : LinePosition
 at_start = record { headers = 0; since = []; exams = 0 }
 
 -- the position of the line after this one
-abbrev pub behind : LinePosition → Located → LinePosition
-behind s line =
+abbrev pub position_after : LinePosition → Located → LinePosition
+position_after s line =
     if is_header line.text then record { headers = s.headers + 1; since = []; exams = s.exams }
     else record {
       headers = s.headers;

@@ -34,11 +34,11 @@ AtHeader (line ∷ lines) = is_header line.text ≡ true
 -- lines begin with a section of these items, followed by the other lines
 pub record IsSection {A : Type 0} (heading : Heading)
     (read : List A → List (List ℕ) → Result A FaultKind) (lines : List Located) (items : List A)
-    (behind : List Located) : Type 0 where
+    (after : List Located) : Type 0 where
   pub header : Located
   pub body : List Located
-  pub cut : lines ≡ header ∷ (body ++ behind)
+  pub cut : lines ≡ header ∷ (body ++ after)
   pub headed : header_in heading (length body) header.text ≡ Ok tt
   pub no_header : All (λ line. is_header line.text ≡ false) body
-  pub up_to : AtHeader behind
+  pub up_to : AtHeader after
   pub spelled : Spell read body items

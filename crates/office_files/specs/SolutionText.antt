@@ -16,7 +16,7 @@ use Rattle.office_files.specs.declared.fault.FileFault.{FileFault}
 abbrev pub counts_in : Session → Counts
 counts_in I = record { exams = length I.exams; periods = length I.periods; rooms = length I.rooms }
 
--- a text that is short enough spells a complete timetable: one line for each exam, in their order
+-- a text within the limit lists a complete timetable: one line for each exam, in their order
 pub record SolutionText (b : List ℕ) (I : Session) (T : Placing) : Type 0 where
   pub within : length b ≤ TEXT_BYTES
   pub places : List Place
@@ -31,7 +31,7 @@ timetable_in counts b = do
   _ ← at_line (line_count b + 1) (unless (length places == counts.exams) CountMismatch)
   Ok (map Some places)
 
--- the reading of a solution file: the timetable that it spells, or its first fault
+-- the reading of a solution file: the timetable in the text, or its first fault
 abbrev pub solution_in : Session → List ℕ → Result Placing FileFault
 solution_in I b = do
   _ ← at_line 0 (unless (nat_le (length b) TEXT_BYTES) TooLong)

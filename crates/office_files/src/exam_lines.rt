@@ -7,7 +7,7 @@ ghost use Rattle.office_files.specs.Faults.{HasNoLine};
 ghost use Rattle.office_files.specs.Fields.{fields_of, first, rest};
 ghost use Rattle.office_files.specs.Numbers.{number};
 ghost use Rattle.office_files.specs.Reading.{items_of};
-ghost use Rattle.office_files.specs.ExamLines.{exam_line, exam_after_pairs, SaysExams};
+ghost use Rattle.office_files.specs.ExamLines.{exam_line, exam_after_pairs, LinesGiveExams};
 ghost use Rattle.office_files.specs.ExamStudents.{with_students};
 ghost use Rattle.office_files.specs.ExamLines.{IsEmptyExam, EntersLine};
 ghost use Rattle.office_files.specs.ExamStudents.{named_in, fault_in};
@@ -35,7 +35,8 @@ pub(crate) fn exam_lines(
     requires some { 1 ≤ count }
     requires most { count ≤ MAX_EXAMS }
     requires there { count ≤ length lines.old }
-    ensures found { IfOk result (λ read. SaysExams (take count lines.old) read.0.items read.1) }
+    ensures found { IfOk result (λ read. LinesGiveExams
+        (take count lines.old) read.0.items read.1) }
     ensures fault { IfErr result (λ fault. fault.what ≢ FaultKind.NoMemory
         → items_of exam_line [] (take count lines.old) ≡ Err fault) }
     ensures memory { IfErr result HasNoLine }

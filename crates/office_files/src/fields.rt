@@ -49,12 +49,12 @@ impl<'a> Fields<'a> {
         ensures number { result ≡ number limit (first self.old) }
         ensures left { self.new ≡ rest self.old }
     {
-        if let Some((value, behind)) = first_digits(line_after_space(self.left)) {
-            self.left = behind;
+        if let Some((value, after)) = first_digits(line_after_space(self.left)) {
+            self.left = after;
             return within(value, limit);
         }
-        let (number, behind) = other_number(self.left, limit);
-        self.left = behind;
+        let (number, after) = other_number(self.left, limit);
+        self.left = after;
         number
     }
 

@@ -28,11 +28,11 @@ pub(crate) fn header(
 fn plain_header(word: &[u8], text: &[u8]) -> Result<(), FaultKind>
     ensures { result ≡ plain_header word.now text.now }
 {
-    let (inside, behind) = inside_of(text)?;
+    let (inside, after) = inside_of(text)?;
     if !same_word(trimmed(inside), word) {
         return Err(FaultKind::MissingSection);
     }
-    closed(behind)
+    closed(after)
 }
 
 // Returns the text between a header's brackets, and the text after them.
@@ -57,10 +57,10 @@ fn is_header(text: &[u8]) -> bool
     }
 }
 
-fn closed(behind: &[u8]) -> Result<(), FaultKind>
-    ensures { result ≡ closed behind.now }
+fn closed(after: &[u8]) -> Result<(), FaultKind>
+    ensures { result ≡ closed after.now }
 {
-    if trimmed(behind).is_empty() {
+    if trimmed(after).is_empty() {
         Ok(())
     } else {
         Err(FaultKind::StrayText)
@@ -70,7 +70,7 @@ fn closed(behind: &[u8]) -> Result<(), FaultKind>
 fn counted_header(word: &[u8], limit: u32, lines: usize, text: &[u8]) -> Result<(), FaultKind>
     ensures { result ≡ counted_header word.now limit lines text.now }
 {
-    let (inside, behind) = inside_of(text)?;
+    let (inside, after) = inside_of(text)?;
     let (name, count) = split_once(inside, b':').ok_or(FaultKind::MissingSection)?;
     if !same_word(trimmed(name), word) {
         return Err(FaultKind::MissingSection);
@@ -82,5 +82,5 @@ fn counted_header(word: &[u8], limit: u32, lines: usize, text: &[u8]) -> Result<
     if count as usize != lines {
         return Err(FaultKind::CountMismatch);
     }
-    closed(behind)
+    closed(after)
 }

@@ -152,16 +152,16 @@ fields_end_once (f ∷ fields) last q c a b r all not_lf not_cr is =
     ]
 
 -- the empty lines at the front follow no line
-behind_blank : (blank : List LineEnd) (t q : List ℕ) (c : ℕ) (a b : LineEnd) (r : List ℕ) → c ≢ 10
+after_blank : (blank : List LineEnd) (t q : List ℕ) (c : ℕ) (a b : LineEnd) (r : List ℕ) → c ≢ 10
     → (a ≡ lf → c ≢ 13)
     → print_blank blank ++ t ≡ q ++ c ∷ (print_end a ++ (print_end b ++ r))
     → (p : List ℕ) × (t ≡ p ++ c ∷ (print_end a ++ (print_end b ++ r)))
-behind_blank [] t q c a b r not_lf not_cr is = (q, is)
-behind_blank (e ∷ blank) t q c a b r not_lf not_cr is =
+after_blank [] t q c a b r not_lf not_cr is = (q, is)
+after_blank (e ∷ blank) t q c a b r not_lf not_cr is =
     elim (no_content e (print_blank blank ++ t) q c a b r not_lf not_cr
     (sym (append_assoc (print_end e) (print_blank blank) t) ∙ is)) [
       | inl h ↦ absurd (omega (arith, h.0))
-      | inr h ↦ behind_blank blank t h.0 c a b r not_lf not_cr h.1
+      | inr h ↦ after_blank blank t h.0 c a b r not_lf not_cr h.1
     ]
 
 start_line : (b m t v e s : List ℕ)
@@ -214,12 +214,12 @@ unfolding print_request
 head_ends_once h q c a b r is not_lf not_cr e =
     let section = print_section h.fields h.last in
     let start = h.method ++ 32 ∷ (h.target ++ 32 ∷ print_version h.minor) in
-    let behind = behind_blank h.blank (start ++ (print_end h.line_end ++ section)) q c a b r
+    let after = after_blank h.blank (start ++ (print_end h.line_end ++ section)) q c a b r
     not_lf not_cr
     (start_line (print_blank h.blank) h.method h.target (print_version h.minor)
     (print_end h.line_end) section ∙ e) in
-    elim (line_off start h.line_end section behind.0 c a b r (start_is_plain h is) not_lf not_cr
-    behind.1) [
+    elim (line_off start h.line_end section after.0 c a b r (start_is_plain h is) not_lf not_cr
+    after.1) [
       | inl h2 ↦ no_empty_field h.fields h.last b r is.fields h2.1
       | inr h2 ↦ fields_end_once h.fields h.last h2.0 c a b r is.fields not_lf not_cr h2.1
     ]
@@ -386,11 +386,11 @@ no_more front head rest is e (inl (more, h, reads)) none =
     (reads.0, sym (append-nil front) ∙ ap (λ (l : List ℕ). front ++ l) (sym short) ∙ reads.1)
 no_more front head rest is e (inr (blank, method, target, token, uri, whole)) none =
     let x = ended_more head rest (ended head e) in
-    let behind = behind_blank blank (method ++ 32 ∷ target) x.front x.last x.first x.second rest
+    let after = after_blank blank (method ++ 32 ∷ target) x.front x.last x.first x.second rest
     x.not_lf x.not_cr
     (sym (append_assoc (print_blank blank) method (32 ∷ target)) ∙ sym whole ∙ is ∙ x.whole) in
-    target_has_none method target behind.0 x.last x.first x.second rest token uri x.not_lf x.not_cr
-    behind.1
+    target_has_none method target after.0 x.last x.first x.second rest token uri x.not_lf x.not_cr
+    after.1
 
 -- if an empty line follows a line, httparse waits for nothing more
 pub end_is_final : (bytes : List ℕ) → HasEnd bytes → MayBecomeRequest (take 16384 bytes)

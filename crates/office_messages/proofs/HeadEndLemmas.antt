@@ -54,9 +54,9 @@ plain b (x ∷ raw) no_lf no_cr all =
     }
 
 -- bytes before a plain end and a line end
-behind : (front bytes : List ℕ) (end : LineEnd) → EndsPlain bytes
+line_end_after : (front bytes : List ℕ) (end : LineEnd) → EndsPlain bytes
     → EndsLine (front ++ (bytes ++ print_end end))
-behind front bytes end p = record {
+line_end_after front bytes end p = record {
   text = front ++ p.text;
   last = p.last;
   end = end;
@@ -74,7 +74,7 @@ field_ends front f is =
     let e : (front ++ f.name) ++ (tail ++ print_end f.end) ≡ front ++ print_field f =
     append_assoc front f.name (tail ++ print_end f.end)
     ∙ ap (λ (l : List ℕ). front ++ l) (sym (append_assoc f.name tail (print_end f.end))) in
-    subst EndsLine e (behind (front ++ f.name) tail f.end p)
+    subst EndsLine e (line_end_after (front ++ f.name) tail f.end p)
 
 -- lines after such a line end in the same way
 fields_end : (front : List ℕ) (fields : List Field) → EndsLine front → All IsField fields
@@ -184,7 +184,7 @@ head_ends h is =
     let lines =
     fields_end start h.fields
     (subst EndsLine e
-    (behind (before ++ version) ((48 + h.minor) ∷ []) h.line_end digit)) is.fields in
+    (line_end_after (before ++ version) ((48 + h.minor) ∷ []) h.line_end digit)) is.fields in
     ap ends_as_head (sym (append_assoc start (flat_map print_field h.fields) (print_end h.last)))
     ∙ ends_both (start ++ flat_map print_field h.fields) h.last lines
 

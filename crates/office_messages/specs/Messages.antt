@@ -68,7 +68,7 @@ pub record Differs (stream : List ℕ) (items : List Item) (end : End) (others :
   pub short : length rest < max_head
   pub endless : ¬ (HasEnd rest)
 
--- two readings of a stream are the same, but for that choice
+-- two readings of a stream are the same except for that choice
 abbrev pub Agree : List ℕ → List Item → End → List Item → End → Type 0
 Agree stream items end others last =
     ((items ≡ others) × (end ≡ last))

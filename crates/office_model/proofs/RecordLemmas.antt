@@ -219,8 +219,8 @@ module _ (I : Session) (E : Enrolled) (T : Placing) (fits : Fits I E T) where
       ) fits)
 
   -- the place of an exam exists, if it has one
-  stands : (e : ℕ) → PlaceExists I (place_of T e)
-  stands e = elim (cases_lt e (length T)) as (λ _. PlaceExists I (place_of T e)) [
+  each_exists : (e : ℕ) → PlaceExists I (place_of T e)
+  each_exists e = elim (cases_lt e (length T)) as (λ _. PlaceExists I (place_of T e)) [
     | inl within ↦ All-get_or (PlaceExists I) T e None within fits.places
     | inr past ↦ subst (PlaceExists I) (sym (get_or_past T e None past)) tt
   ]
@@ -243,8 +243,8 @@ module _ (I : Session) (E : Enrolled) (T : Placing) (fits : Fits I E T) where
       let first = slice_set T a (place_of T b) in
       subst (Fits I E)
       (unbroken_is I E (a ∷ (b ∷ [])) (slice_set first b (place_of T a)) new three.2)
-      (fits_set I E first b (place_of T a) (stands a)
-      (fits_set I E T a (place_of T b) (stands b) fits))
+      (fits_set I E first b (place_of T a) (each_exists a)
+      (fits_set I E T a (place_of T b) (each_exists b) fits))
   edited_fits (edit.Clear e) new is =
       let one = bind_ok (unless (exam_exists I e) NoSuch) _ new is in
       let two = bind_ok (unless (is_placed T e) NotPlaced) _ new one.2 in

@@ -32,17 +32,17 @@ any_ok P (Err f) h = tt
 
 -- P stays true if the answer allows it
 outcome_law : {A : Type 0} (P : OfficeState → Type 0) (Q : PlainAnswer → Type 0)
-    (says : A → PlainAnswer) (old : OfficeState) (g : CommandResult A)
-    → P old → IfOk g (λ x. Q (says x.0) → P x.1) → Q (outcome says old g).1
-    → P (outcome says old g).0
-outcome_law P Q says old (Ok x) here h q = h q
-outcome_law P Q says old (Err fault) here h q = here
+    (to_answer : A → PlainAnswer) (old : OfficeState) (g : CommandResult A)
+    → P old → IfOk g (λ x. Q (to_answer x.0) → P x.1) → Q (outcome to_answer old g).1
+    → P (outcome to_answer old g).0
+outcome_law P Q to_answer old (Ok x) here h q = h q
+outcome_law P Q to_answer old (Err fault) here h q = here
 
 pub whatever : {A : Type 0} (P : OfficeState → Type 0) (Q : PlainAnswer → Type 0)
-    (says : A → PlainAnswer) (g : CommandResult A) → IfOk g (λ x. P x.1)
-    → IfOk g (λ x. Q (says x.0) → P x.1)
-whatever P Q says (Ok x) h = λ q. h
-whatever P Q says (Err fault) h = tt
+    (to_answer : A → PlainAnswer) (g : CommandResult A) → IfOk g (λ x. P x.1)
+    → IfOk g (λ x. Q (to_answer x.0) → P x.1)
+whatever P Q to_answer (Ok x) h = λ q. h
+whatever P Q to_answer (Err fault) h = tt
 
 answer_law : (P : OfficeState → Type 0) (caller : Caller) (asked : CandidateQuestion)
     (old : OfficeState)

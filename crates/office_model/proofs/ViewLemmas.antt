@@ -17,7 +17,7 @@ use Rattle.office_model.specs.Views.{candidate_exams, published_place, view_from
 -- ---- one exam's place
 
 module _ (published : Option Publication) where
-  -- an exam that is published nowhere is not found
+  -- an exam that isn't published is not found
   none_found : (e : ℕ) → published_place published e ≡ None → (es : List ℕ)
       → place_in (places_in published es) e ≡ None
   none_found e none [] = refl

@@ -23,7 +23,7 @@ pub data PlainAnswer : Type 0 where
   text : List ℕ → PlainAnswer
   -- an exam and the department that owns it now
   now_owned : ℕ → ℕ → PlainAnswer
-  -- a draft that is new, or edited, and its penalty; one that is gone
+  -- a new or edited draft with its penalty; a deleted draft
   now_drafted : ℕ → ℕ → PlainAnswer
   now_edited : ℕ → ℕ → PlainAnswer
   now_dropped : ℕ → PlainAnswer

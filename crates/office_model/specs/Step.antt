@@ -46,8 +46,8 @@ Outcome = OfficeState × PlainAnswer
 
 -- the answer with a command's result; or with its refusal, and then the office is unchanged
 abbrev pub outcome : {A : Type 0} → (A → PlainAnswer) → OfficeState → CommandResult A → Outcome
-outcome says old (Ok given) = (given.1, says given.0)
-outcome says old (Err fault) = (old, refused fault)
+outcome to_answer old (Ok given) = (given.1, to_answer given.0)
+outcome to_answer old (Err fault) = (old, refused fault)
 
 -- a body is judged before the state
 abbrev pub with_body : {A : Type 0} → OfficeState → (A → Outcome) → Body A → Outcome
@@ -76,8 +76,8 @@ publication_in (Some r) = option_map (λ p. (r.session, p)) r.published
 -- a text of the publication, if there is one
 abbrev pub of_published : (Session → Publication → List ℕ) → Option (Session × Publication)
     → PlainAnswer
-of_published says None = unpublished
-of_published says (Some found) = text (says found.0 found.1)
+of_published to_text None = unpublished
+of_published to_text (Some found) = text (to_text found.0 found.1)
 
 -- the penalty of the publication with the enrolments at that time
 abbrev pub published_penalty : Session → Publication → List ℕ

@@ -54,7 +54,7 @@ impl From<AllocError> for StoreFault {
 }
 
 impl StoreFault {
-    /// Returns the refusal of a file; out of memory is no refusal.
+    /// Returns the refusal of a file; out of memory is not a refusal.
     pub fn of_file(fault: FileFault) -> StoreFault
         ensures memory { fault.what ≡ FaultKind.NoMemory → result ≡ StoreFault.Store }
         ensures refused { fault.what ≢ FaultKind.NoMemory
@@ -66,7 +66,7 @@ impl StoreFault {
         }
     }
 
-    /// Returns the refusal of an edit; out of memory is no refusal.
+    /// Returns the refusal of an edit; out of memory is not a refusal.
     pub fn of_edit(fault: EditFault) -> StoreFault
         ensures memory { fault ≡ EditFault.NoMemory → result ≡ StoreFault.Store }
         ensures refused { fault ≢ EditFault.NoMemory
@@ -78,7 +78,7 @@ impl StoreFault {
         }
     }
 
-    /// Returns the refusal of a publication; out of memory is no refusal.
+    /// Returns the refusal of a publication; out of memory is not a refusal.
     pub fn of_publication(fault: PublishFault) -> StoreFault
         ensures memory { fault ≡ PublishFault.NoMemory → result ≡ StoreFault.Store }
         ensures refused { fault ≢ PublishFault.NoMemory

@@ -5,7 +5,7 @@ use exam_terms::{ExamNo, Place};
 #[derive(Clone, Copy, Debug, PartialEq, Eq)]
 pub enum Body<T> {
     Given(T),
-    /// The body is no JSON of the required form.
+    /// The body isn't JSON of the required form.
     Bad,
     /// The body is longer than 1,048,576 bytes; an instance's text never has this value.
     Long,

@@ -9,7 +9,7 @@ use Rattle.office_replies.specs.declared.objects.TheConstants.{WORD_BYTES}
 -- a key, and the text of its value
 pub record PlainMember : Type 0 where
   pub key : List ℕ
-  pub says : List ℕ
+  pub value : List ℕ
 
 -- a word between quotes
 abbrev pub quoted : List ℕ → List ℕ
@@ -17,15 +17,15 @@ quoted word = codes "\"" ++ word ++ codes "\""
 
 -- a member that is a number, or a word
 abbrev pub number : List ℕ → ℕ → PlainMember
-number key n = record { key = key; says = decimal n }
+number key n = record { key = key; value = decimal n }
 
 -- a member whose value is a word in quotes
 abbrev pub word : List ℕ → List ℕ → PlainMember
-word key w = record { key = key; says = quoted w }
+word key w = record { key = key; value = quoted w }
 
 -- a member in JSON: its key in quotes, a colon, its value
 unfoldable pub member_text : PlainMember → List ℕ
-member_text m = quoted m.key ++ codes ":" ++ m.says
+member_text m = quoted m.key ++ codes ":" ++ m.value
 
 -- one more member, after a comma
 abbrev pub further_text : PlainMember → List ℕ
@@ -45,7 +45,7 @@ value_text (Word w) = quoted w.now
 
 -- a member as lists of bytes
 abbrev pub plain_member : Member → PlainMember
-plain_member m = record { key = m.key.now; says = value_text m.says }
+plain_member m = record { key = m.key.now; value = value_text m.value }
 
 -- a short word
 abbrev pub IsShortValue : Value → Type 0
@@ -55,4 +55,4 @@ IsShortValue (Word w) = length w.now ≤ WORD_BYTES
 -- a member whose key and word are short
 pub record IsShort (m : Member) : Type 0 where
   pub key : length m.key.now ≤ WORD_BYTES
-  pub says : IsShortValue m.says
+  pub value : IsShortValue m.value

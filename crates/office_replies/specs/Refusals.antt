@@ -35,7 +35,7 @@ abbrev pub file_text : FileFault → List ℕ
 file_text f = object_text (word (codes "error") (codes "file"))
     (number (codes "fault") (kind_number f.what) ∷ number (codes "line") f.line ∷ [])
 
--- out of memory is no refusal of an edit or a publication
+-- out of memory is not a refusal of an edit or a publication
 abbrev pub edit_reply : EditFault → PlainReply
 edit_reply edit.NoSuch = error_reply error.Number
 edit_reply edit.AlreadyPlaced = error_reply error.AlreadyPlaced
@@ -56,7 +56,7 @@ refused_reply (refusal.Edit f) = edit_reply f
 refused_reply (refusal.Publish f) = publish_reply f
 refused_reply (refusal.File f) = json_reply BadRequest (file_text f)
 
--- the reply to a refusal of a command; a failed statement is no refusal
+-- the reply to a refusal of a command; a failed statement is not a refusal
 abbrev pub fault_reply_of : StoreFault → PlainReply
 fault_reply_of fault.Loaded = error_reply error.Loaded
 fault_reply_of fault.NotLoaded = error_reply error.NotLoaded

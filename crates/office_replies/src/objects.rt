@@ -24,7 +24,7 @@ const MEMBER_BYTES: usize = 45;
 #[derive(Clone, Copy)]
 pub(crate) struct Member {
     pub(crate) key: &'static [u8],
-    pub(crate) says: Value,
+    pub(crate) value: Value,
 }
 
 /// The value of a member. A word has no character that JSON escapes.
@@ -43,21 +43,21 @@ pub fn reply_room(alloc: Global) -> Result<Vec<u8>, AllocError>
 
 // Returns a member whose value is a number.
 pub(crate) fn number(key: &'static [u8], number: u64) -> Member
-    ensures { result ≡ record { key = key.entry; says = Value.Number number } }
+    ensures { result ≡ record { key = key.entry; value = Value.Number number } }
 {
     Member {
         key,
-        says: Value::Number(number),
+        value: Value::Number(number),
     }
 }
 
 // Returns a member whose value is a word.
 pub(crate) fn word(key: &'static [u8], word: &'static [u8]) -> Member
-    ensures { result ≡ record { key = key.entry; says = Value.Word word.entry } }
+    ensures { result ≡ record { key = key.entry; value = Value.Word word.entry } }
 {
     Member {
         key,
-        says: Value::Word(word),
+        value: Value::Word(word),
     }
 }
 
@@ -111,18 +111,18 @@ fn put_member(room: &mut Vec<u8>, member: Member)
     put(room, b"\"");
     put(room, member.key);
     put(room, b"\":");
-    put_value(room, member.says);
+    put_value(room, member.value);
 }
 
 // Adds a member's value, for which there is room.
-fn put_value(room: &mut Vec<u8>, says: Value)
-    requires short { IsShortValue says }
+fn put_value(room: &mut Vec<u8>, value: Value)
+    requires short { IsShortValue value }
     requires room { vec_len room.old + SAID_BYTES ≤ vec_capacity room.old }
-    ensures text { room.new.items ≡ room.old.items ++ value_text says }
+    ensures text { room.new.items ≡ room.old.items ++ value_text value }
     ensures len { vec_len room.new ≤ vec_len room.old + SAID_BYTES }
     ensures room { vec_capacity room.old ≤ vec_capacity room.new }
 {
-    match says {
+    match value {
         Value::Number(number) => put_number(room, number),
         Value::Word(word) => put_word(room, word),
     }

@@ -13,11 +13,11 @@ spaces s zero = refl
 spaces s (suc n) = ap (λ xs. s ∷ xs) (spaces s n)
 
 -- spaces before digits, and none after them
-before_alone : (n : ℕ) (numeral : List ℕ) →
+padded_left : (n : ℕ) (numeral : List ℕ) →
     (((repeat (n - 0 - 0) (32 ∷ []) ++ []) ++ []) ++ [])
     ++ (numeral ++ repeat ((n - 0 - 0) - (n - 0 - 0)) (32 ∷ []))
     ≡ replicate n 32 ++ numeral
-before_alone n numeral =
+padded_left n numeral =
     let all : n - 0 - 0 ≡ n = omega arith in
     let none : n - n ≡ 0 = omega arith in
     rw (all, none) (simp (append-nil, spaces))
@@ -26,7 +26,7 @@ before_alone n numeral =
 pub in_column : (width n : ℕ) →
     padded_integral (format_spec 32 0 0 width (2 ^ 64 - 1)) false [] (decimal n) ≡ right width n
 unfolding padded_integral char_count lib.Utf8.encode
-in_column width n = before_alone (width - length (decimal n)) (decimal n)
+in_column width n = padded_left (width - length (decimal n)) (decimal n)
 
 -- one more number at the end
 range_more : (n a b : ℕ) → a + n ≡ b → range_with_len a (suc n) ≡ range_with_len a n ++ b ∷ []

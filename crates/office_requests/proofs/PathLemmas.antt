@@ -1,4 +1,4 @@
--- Where a path is cut.
+-- The first segment of a path, and the rest after its slash.
 use Rattle.std.proofs.Common.{◌≡◌, ◌≢◌, ℕ, zero, suc, ◌+◌, ◌-◌, ◌<◌, List, [], ◌∷◌}
 use Rattle.std.proofs.Common.{length, get_or, take, drop, refl, ap, ◌∙◌, arith, add-one}
 use Rattle.std.proofs.lemmas.Bool.{eq-eqb, ne_eqb}
@@ -12,12 +12,12 @@ first_none (b ∷ path) other =
     rw (ne_eqb b 47 (other 0 (omega arith)))
     (ap (λ l. b ∷ l) (first_none path (λ k lt. other (suc k) (omega arith))))
 
-pub behind_none : (path : List ℕ) →
+pub rest_none : (path : List ℕ) →
     ((k : ℕ) → k < length path → get_or path k 0 ≡ 47 → ⊥) → rest_after_slash path ≡ []
-behind_none [] other = refl
-behind_none (b ∷ path) other =
+rest_none [] other = refl
+rest_none (b ∷ path) other =
     rw (ne_eqb b 47 (other 0 (omega arith)))
-    (behind_none path (λ k lt. other (suc k) (omega arith)))
+    (rest_none path (λ k lt. other (suc k) (omega arith)))
 
 -- at the first slash it is cut
 pub first_at : (path : List ℕ) (i : ℕ) → i < length path → get_or path i 0 ≡ 47 →
@@ -28,13 +28,13 @@ first_at (b ∷ path) (suc i) lt is other =
     rw (ne_eqb b 47 (other 0 (omega arith)))
     (ap (λ l. b ∷ l) (first_at path i (omega arith) is (λ k lt. other (suc k) (omega arith))))
 
-pub behind_at : (path : List ℕ) (i : ℕ) → i < length path → get_or path i 0 ≡ 47 →
+pub rest_at : (path : List ℕ) (i : ℕ) → i < length path → get_or path i 0 ≡ 47 →
     ((k : ℕ) → k < i → get_or path k 0 ≡ 47 → ⊥) → rest_after_slash path ≡ drop (i + 1) path
-behind_at [] i lt is other = absurd (omega arith)
-behind_at (b ∷ path) zero lt is other = rw (eq-eqb b 47 is)
-behind_at (b ∷ path) (suc i) lt is other =
+rest_at [] i lt is other = absurd (omega arith)
+rest_at (b ∷ path) zero lt is other = rw (eq-eqb b 47 is)
+rest_at (b ∷ path) (suc i) lt is other =
     rw (ne_eqb b 47 (other 0 (omega arith)), add-one (suc i))
-    (behind_at path i (omega arith) is (λ k lt. other (suc k) (omega arith))
+    (rest_at path i (omega arith) is (λ k lt. other (suc k) (omega arith))
     ∙ rw (add-one i) refl)
 
 -- a later segment is one of the rest after the slash
@@ -45,4 +45,4 @@ segment_later (suc place) path some =
     let same : place ≡ suc place - 1 = omega arith in
     ap (λ n. segment n (rest_after_slash path)) same
 
-pub ruleset slash_facts = (first_none, behind_none, first_at, behind_at)
+pub ruleset slash_facts = (first_none, rest_none, first_at, rest_at)

@@ -81,10 +81,10 @@ first_is [] (b ∷ rest) bare ends = rw ends refl
 first_is (b ∷ bs) rest bare ends = rw bare.0 (ap (λ l. b ∷ l) (first_is bs rest bare.1 ends))
 
 -- after a slash comes the rest
-pub behind_is : (ds rest : List ℕ) → NoSlash ds
+pub rest_of_digits : (ds rest : List ℕ) → NoSlash ds
     → rest_after_slash (ds ++ slash ∷ rest) ≡ rest
-behind_is [] rest bare = refl
-behind_is (b ∷ bs) rest bare = rw bare.0 (behind_is bs rest bare.1)
+rest_of_digits [] rest bare = refl
+rest_of_digits (b ∷ bs) rest bare = rw bare.0 (rest_of_digits bs rest bare.1)
 
 -- a number in a pattern takes one in a path
 pub takes_number : (n : ℕ) (pattern rest : List ℕ) → IsSmall n → EndsSegment rest

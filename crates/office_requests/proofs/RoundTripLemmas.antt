@@ -33,7 +33,7 @@ use Rattle.office_requests.specs.declared.pages.Page.TheVariants as page
 use Rattle.office_requests.proofs.FindLemmas.{flip, both}
 use Rattle.office_requests.proofs.Plain.{EndsSegment}
 use Rattle.office_requests.proofs.PageLemmas.{page_some}
-use Rattle.office_requests.proofs.PrintLemmas.{NoSlash, takes_number, number_here, behind_is, bare_number}
+use Rattle.office_requests.proofs.PrintLemmas.{NoSlash, takes_number, number_here, rest_of_digits, bare_number}
 
 -- ---- words in paths
 
@@ -97,12 +97,12 @@ numbers_back [] [] front words fills bare = refl
 numbers_back [] (n ∷ ns) front words fills bare = absurd fills
 numbers_back (word w ∷ parts) ns front words fills bare =
     let is = both (is_word w) (are_words parts) words in
-    ap (numbers_in parts) (behind_is front (w ++ path_with parts ns) bare)
+    ap (numbers_in parts) (rest_of_digits front (w ++ path_with parts ns) bare)
     ∙ numbers_back parts ns w is.1 fills (bare_word w is.0)
 numbers_back (number ∷ parts) [] front words fills bare = absurd fills
 numbers_back (number ∷ parts) (n ∷ ns) front words fills bare =
     rw (
-      behind_is front (decimal n ++ path_with parts ns) bare,
+      rest_of_digits front (decimal n ++ path_with parts ns) bare,
       number_here n (path_with parts ns) fills.0 (ends parts ns),
       numbers_back parts ns (decimal n) words fills.1 (bare_number n fills.0),
     ) refl
@@ -166,13 +166,14 @@ numbers_there c small =
 -- the table has the command itself
 in_table : (c : PlainCommand) (body : List ℕ) → BodyHasValue body c
     → command_of (verb_of (method_of c)) (row_of c).1 (three (row_of c).2) body ≡ Some c
-in_table (load text) body says = ap (λ (b : Body (List ℕ)). Some (load b)) says
-in_table (set_owner e dept) body says = ap (λ (b : Body ℕ). Some (set_owner e b)) says
-in_table (new_draft d text) body says = ap (λ (b : Body (List ℕ)). Some (new_draft d b)) says
-in_table (place d e at) body says = ap (λ (b : Body Place). Some (place d e b)) says
-in_table (move d e to) body says = ap (λ (b : Body Place). Some (move d e b)) says
-in_table (batch n text) body says = ap (λ (b : Body (List ℕ)). Some (batch n b)) says
-in_table _ body says = refl
+in_table (load text) body has_value = ap (λ (b : Body (List ℕ)). Some (load b)) has_value
+in_table (set_owner e dept) body has_value = ap (λ (b : Body ℕ). Some (set_owner e b)) has_value
+in_table (new_draft d text) body has_value = ap
+    (λ (b : Body (List ℕ)). Some (new_draft d b)) has_value
+in_table (place d e at) body has_value = ap (λ (b : Body Place). Some (place d e b)) has_value
+in_table (move d e to) body has_value = ap (λ (b : Body Place). Some (move d e b)) has_value
+in_table (batch n text) body has_value = ap (λ (b : Body (List ℕ)). Some (batch n b)) has_value
+in_table _ body has_value = refl
 
 -- ---- requests
 
@@ -184,9 +185,9 @@ by path body p n verb c there numbers e = rw (there, numbers, e) refl
 -- the office and the departments ask for it
 staff_asks : (c : PlainCommand) (body : List ℕ) → HasSmallNumbers c → BodyHasValue body c
     → staff_command (verb_of (method_of c)) (path_of c) body ≡ Ok c
-staff_asks c body small says =
+staff_asks c body small has_value =
     by (path_of c) body (row_of c).1 (three (row_of c).2) (verb_of (method_of c)) c
-    (page_there c small) (numbers_there c small) (in_table c body says)
+    (page_there c small) (numbers_there c small) (in_table c body has_value)
 
 own_by : (path : List ℕ) (p : Page) (c : PlainCommand) → page_of path ≡ Some p
     → own_page_command p path ≡ Some c → candidate_command Get path ≡ Ok c
@@ -205,12 +206,13 @@ candidate_asks n _ small is_own = cc
 
 asked : (who : Caller) (c : PlainCommand) (body : List ℕ) → MaySendCommand who c → HasSmallNumbers c
     → BodyHasValue body c → command_by who (verb_of (method_of c)) (path_of c) body ≡ Ok c
-asked Office c body comes small says = staff_asks c body small says
-asked (Dept d) c body comes small says = staff_asks c body small says
-asked (Cand n) c body comes small says = candidate_asks n c small comes
+asked Office c body comes small has_value = staff_asks c body small has_value
+asked (Dept d) c body comes small has_value = staff_asks c body small has_value
+asked (Cand n) c body comes small has_value = candidate_asks n c small comes
 
 -- a request that is printed is read back
 pub read_back : (value : Option (List ℕ)) (who : Caller) (c : PlainCommand) (body : List ℕ)
     → caller_in value ≡ Some who → MaySendCommand who c → HasSmallNumbers c → BodyHasValue body c
     → reading (method_of c) (path_of c) value body ≡ Ok (record { caller = who; command = c })
-read_back value who c body e comes small says = rw (e, asked who c body comes small says) refl
+read_back value who c body e comes small has_value = rw
+    (e, asked who c body comes small has_value) refl

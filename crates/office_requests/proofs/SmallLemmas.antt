@@ -74,13 +74,13 @@ number_at_small key most d =
     (option_and_then as_u64 (option_and_then as_number (get key d))) (anything _)
     (λ n any. at_most_small most n)
 
-of_members_small : {A : Type 0} (P : A → Type 0) (size : ℕ) (says : Option A) (d : Data)
-    → IfSome says P → IfSome (of_members size says d) P
-of_members_small P size says d small =
-    chained (λ n. Unit {0}) P (λ n. if n == size then says else None) (members_count d)
+of_members_small : {A : Type 0} (P : A → Type 0) (size : ℕ) (value : Option A) (d : Data)
+    → IfSome value P → IfSome (of_members size value d) P
+of_members_small P size value d small =
+    chained (λ n. Unit {0}) P (λ n. if n == size then value else None) (members_count d)
     (anything _) (λ n any. go (n == size))
   where
-    go : (b : Bool) → IfSome (if b then says else None) P
+    go : (b : Bool) → IfSome (if b then value else None) P
     go true = small
     go false = tt
 

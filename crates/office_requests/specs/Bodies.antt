@@ -35,8 +35,8 @@ number_at key most d =
 
 -- the value of an object with this many members
 abbrev pub of_members : {A : Type 0} → ℕ → Option A → Data → Option A
-of_members size says d =
-    option_and_then (λ n. if n == size then says else None) (members_count d)
+of_members size value d =
+    option_and_then (λ n. if n == size then value else None) (members_count d)
 
 -- an object with exactly the members period and room
 abbrev pub place_in : Data → Option Place

@@ -14,7 +14,7 @@ use std::alloc::{AllocError, Global};
 
 /// Returns a body that is taken unchanged.
 pub fn text_body(bytes: &[u8]) -> Body<&[u8]>
-    ensures says { plain_text result ≡ text_body bytes.now }
+    ensures is_text { plain_text result ≡ text_body bytes.now }
     ensures text { IfBodyHasValue result (λ text. text ≡ bytes.entry) }
 {
     if bytes.len() > TEXT_BYTES {

@@ -116,12 +116,12 @@ draft_table = keyed_table (codes "draft") 4
     (int (codes "no") ∷ int (codes "in_row") ∷ int (codes "in_day") ∷ int (codes "spread") ∷
     int (codes "mixed") ∷ int (codes "front") ∷ int (codes "period") ∷ int (codes "room") ∷ [])
 
--- where a draft places its exams
+-- the places of a draft's exams
 abbrev pub slot_table : Table
 slot_table = paired_table (codes "slot") 5
     (int (codes "draft") ∷ int (codes "exam") ∷ int (codes "period") ∷ int (codes "room") ∷ [])
 
--- where the publication places its exams
+-- the published places of exams
 abbrev pub placed_table : Table
 placed_table = keyed_table (codes "placed") 7
     (int (codes "exam") ∷ int (codes "period") ∷ int (codes "room") ∷ [])

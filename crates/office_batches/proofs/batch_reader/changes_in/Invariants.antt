@@ -1,5 +1,5 @@
-use Rattle.office_batches.proofs.RecordLemmas.{IsBehind}
+use Rattle.office_batches.proofs.RecordLemmas.{IsAfterRecords}
 use Rattle.office_batches.proofs.batch_reader.changes_in.Given as goal
 
 abbrev pub invariant-records : goal.invariant-records
-invariant-records l = IsBehind l.text l.reader l.changes.items l.before
+invariant-records l = IsAfterRecords l.text l.reader l.changes.items l.before

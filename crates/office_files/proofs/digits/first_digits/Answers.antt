@@ -3,7 +3,7 @@ use Rattle.std.proofs.lemmas.List.{drop_more, take_rest, nil_from_length}
 use Rattle.office_files.proofs.ReadOnLemmas.{at_end, at_comma, at_other}
 use Rattle.office_files.proofs.digits.first_digits.Goals as goal
 
--- the line ends behind the digits
+-- the line ends after the digits
 pub returns-then-end-line-clause-value : goal.returns-then-end-line-clause-value
 returns-then-end-line-clause-value c =
     let line = c.args.line.now in
@@ -26,7 +26,7 @@ returns-then-line-end-ne44-clause-value c =
     let line = c.args.line.now in
     let read = c.front_digits-value.result in
     let within : read.1 < length line =
-    omega (arith, c.front_digits-value.ensures.says.within, c.if-end-line.false) in
+    omega (arith, c.front_digits-value.ensures.has.within, c.if-end-line.false) in
     sym (at_other line read.0 read.1 c.front_digits-value.ensures _ (drop (read.1 + 1) line)
     (drop_more line read.1 0 within) c.if-line-end-ne44.true)
 
@@ -36,7 +36,7 @@ returns-clause-value c =
     let line = c.args.line.now in
     let read = c.front_digits-value.result in
     let within : read.1 < length line =
-    omega (arith, c.front_digits-value.ensures.says.within, c.if-end-line.false) in
+    omega (arith, c.front_digits-value.ensures.has.within, c.if-end-line.false) in
     let next : drop read.1 line ≡ 44 ∷ drop (read.1 + 1) line =
     drop_more line read.1 0 within
     ∙ ap (λ b. b ∷ drop (read.1 + 1) line) c.if-line-end-ne44.false in
@@ -47,7 +47,7 @@ returns-clause-rest c =
     let line = c.args.line.now in
     let read = c.front_digits-value.result in
     let within : read.1 < length line =
-    omega (arith, c.front_digits-value.ensures.says.within, c.if-end-line.false) in
+    omega (arith, c.front_digits-value.ensures.has.within, c.if-end-line.false) in
     let next : drop read.1 line ≡ 44 ∷ drop (read.1 + 1) line =
     drop_more line read.1 0 within
     ∙ ap (λ b. b ∷ drop (read.1 + 1) line) c.if-line-end-ne44.false in

@@ -9,10 +9,10 @@ returns-then-head-bytes c = (c.requires, c.if-head-bytes.true)
 pub returns-else-head-bytes : goal.returns-else-head-bytes
 returns-else-head-bytes c =
     let at = c.requires in
-    let behind = drop c.args.head.body.start c.args.bytes.now in (
+    let rest = drop c.args.head.body.start c.args.bytes.now in (
       inr record {
         head = at.head;
-        after = behind;
+        after = rest;
         has_head = at.has_head;
         size = _;
         framed = at.parts.framed;
@@ -20,7 +20,7 @@ returns-else-head-bytes c =
             omega (
               arith,
               ap length at.has_head.reads.1,
-              length-append (print_request at.head) behind,
+              length-append (print_request at.head) rest,
               at.parts.start,
               at.parts.ordered,
               c.if-head-bytes.false,

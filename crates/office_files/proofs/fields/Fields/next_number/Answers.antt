@@ -22,6 +22,6 @@ returns-in-Some-clause-left c =
     ap (λ other. few_digits (first (ended_parts 44 other))) (sym c.line_after_space.ensures)
     ∙ sym c.in-Some.ensures.value in
     rw (← c.self.view_is)
-    (rest_first line c.in-Some.value said c.in-Some.behind.now
+    (rest_first line c.in-Some.value said c.in-Some.after.now
     (c.in-Some.ensures.rest
     ∙ ap (λ other. rest (ended_parts 44 other)) c.line_after_space.ensures))
