@@ -133,15 +133,16 @@ session_found version db meta owners enrols m o e (Some found) is = record {
   owner = subst (IsFound FitsOwner owner_columns keyed (db.trees 1)) is.1 o;
   enrol = subst (IsFound FitsEnrol enrol_columns keyless (db.trees 2)) is.2 e;
 }
-session_found version db meta owners enrols m o e None (inl none) = λ t plain stands.
+session_found version db meta owners enrols m o e None (inl none) = λ t plain represents.
     subst (IsFoundMeta version (db.trees 0)) none m plain.row
-    (subst (λ l. Holds keyed (map (meta_columns version) l) (db.trees 0)) plain.meta stands.meta)
-session_found version db meta owners enrols m o e None (inr (inl none)) = λ t plain stands.
+    (subst (λ l. Holds keyed (map (meta_columns version) l)
+    (db.trees 0)) plain.meta represents.meta)
+session_found version db meta owners enrols m o e None (inr (inl none)) = λ t plain represents.
     subst (IsFound FitsOwner owner_columns keyed (db.trees 1)) none o t.owner
-    plain.owner stands.owner
-session_found version db meta owners enrols m o e None (inr (inr none)) = λ t plain stands.
+    plain.owner represents.owner
+session_found version db meta owners enrols m o e None (inr (inr none)) = λ t plain represents.
     subst (IsFound FitsEnrol enrol_columns keyless (db.trees 2)) none e t.enrol
-    plain.enrol stands.enrol
+    plain.enrol represents.enrol
 
 pub drafts_found : (version : Version) (db : Database) (drafts : Option (Vec DraftRow Global))
     (slots : Option (Vec SlotRow Global))
@@ -153,11 +154,12 @@ drafts_found version db drafts slots d s (Some found) is = record {
   draft = subst (AreFound FitsDraft (HaveDrafts version db)) is.0 d;
   slot = subst (IsFound FitsSlot slot_columns keyless (db.trees 5)) is.1 s;
 }
-drafts_found version db drafts slots d s None (inl none) = λ t plain stands.
+drafts_found version db drafts slots d s None (inl none) = λ t plain represents.
     subst (AreFound FitsDraft (HaveDrafts version db)) none d t.draft plain.draft
-    (record { first = stands.draft; second = stands.night_draft })
-drafts_found version db drafts slots d s None (inr none) = λ t plain stands.
-    subst (IsFound FitsSlot slot_columns keyless (db.trees 5)) none s t.slot plain.slot stands.slot
+    (record { first = represents.draft; second = represents.night_draft })
+drafts_found version db drafts slots d s None (inr none) = λ t plain represents.
+    subst (IsFound FitsSlot slot_columns keyless
+    (db.trees 5)) none s t.slot plain.slot represents.slot
 
 pub publication_found : (version : Version) (db : Database)
     (placements : Option (Vec PlacedRow Global)) (seats : Option (Vec SeatRow Global))
@@ -175,21 +177,22 @@ publication_found version db placements seats students parts p s n k (Some found
   share_part = subst (IsFound FitsPartShare share_part_columns keyless (db.trees 12)) is.3 k;
 }
 publication_found version db placements seats students parts p s n k None (inl none) =
-    λ t plain stands.
+    λ t plain represents.
     subst (IsFound FitsPlacement placed_columns keyed (db.trees 7)) none p t.placed plain.placed
-    stands.placed
+    represents.placed
 publication_found version db placements seats students parts p s n k None (inr (inl none)) =
-    λ t plain stands. subst (IsFound FitsSeat seat_columns keyless (db.trees 8)) none s
+    λ t plain represents. subst (IsFound FitsSeat seat_columns keyless (db.trees 8)) none s
     t.seat plain.seat
-    stands.seat
+    represents.seat
 publication_found version db placements seats students parts p s n k None (inr (inr (inl none))) =
-    λ t plain stands.
+    λ t plain represents.
     subst (AreFound FitsStudentShare (HaveShares version db)) none n
     t.share_student plain.share_student
-    (record { first = stands.share_student; second = stands.night_share })
+    (record { first = represents.share_student; second = represents.night_share })
 publication_found version db placements seats students parts p s n k None (inr (inr (inr none))) =
-    λ t plain stands. subst (IsFound FitsPartShare share_part_columns keyless (db.trees 12)) none k
-    t.share_part plain.share_part stands.share_part
+    λ t plain represents. subst (IsFound FitsPartShare share_part_columns keyless
+    (db.trees 12)) none k
+    t.share_part plain.share_part represents.share_part
 
 -- ---- any version
 
@@ -206,9 +209,10 @@ one_version Two One same =
 -- a database has one version
 in_no_version : (version : Version) (db : Database) → db.schema ≡ schema_of version
     → IsForeignIn version db → IsForeign db
-in_no_version version db is foreign v t plain stands =
+in_no_version version db is foreign v t plain represents =
     foreign t plain
-    (subst (λ w. HoldsTablesIn w db t) (one_version v version (sym stands.schema ∙ is)) stands)
+    (subst (λ w. HoldsTablesIn w db t) (one_version v version
+    (sym represents.schema ∙ is)) represents)
 
 pub rows_found : (version : Version) (db : Database) → db.schema ≡ schema_of version
     → (session : Option FoundSession) (drafts : Option FoundDrafts)
@@ -222,7 +226,7 @@ rows_found version db schema session drafts publication batches s d p b (Some fo
     let plan = subst (IsFoundDrafts version db) is.2 d in
     let public = subst (IsFoundPublication version db) is.3 p in
     let kept = subst (IsFoundBatches db) is.4 b in
-    let stands : HoldsTablesIn version db (tables_of found kept.0) = record {
+    let represents : HoldsTablesIn version db (tables_of found kept.0) = record {
       schema = schema;
       meta = here.meta;
       owner = here.owner;
@@ -237,7 +241,7 @@ rows_found version db schema session drafts publication batches s d p b (Some fo
       night_draft = plan.draft.second;
       night_share = public.share_student.second;
     } in
-    (kept.0, kept.1, subst (λ v. HoldsTablesIn v db (tables_of found kept.0)) (sym is.0) stands)
+    (kept.0, kept.1, subst (λ v. HoldsTablesIn v db (tables_of found kept.0)) (sym is.0) represents)
 rows_found version db schema session drafts publication batches s d p b None (inl none) =
     in_no_version version db schema (subst (IsFoundSession version db) none s)
 rows_found version db schema session drafts publication batches s d p b None (inr (inl none)) =
@@ -248,4 +252,4 @@ rows_found version db schema session drafts publication batches s d p b None
 rows_found version db schema session drafts publication batches s d p b None
     (inr (inr (inr none))) =
     in_no_version version db schema
-    (λ t plain stands. subst (IsFoundBatches db) none b t.batch plain.batch stands.batch)
+    (λ t plain represents. subst (IsFoundBatches db) none b t.batch plain.batch represents.batch)

@@ -48,10 +48,11 @@ begun_open g sql params old new (inr h) = was_open sql params _ _ _ h.1
 -- under the office's schema
 module _ (q : Query) (sql : List ℕ) (means : Means office_schema q sql) (old new : State) where
   pub plain_in : (t : Tables) → HoldsTables old.now t → IsPlain (understood old.now.schema sql)
-  plain_in t stands = subst (λ s. IsPlain (understood s sql)) (sym stands.schema) means.plain
+  plain_in t represents = subst (λ s. IsPlain (understood s sql))
+      (sym represents.schema) means.plain
 
   pub means_in : (t : Tables) → HoldsTables old.now t → Means old.now.schema q sql
-  means_in t stands = subst (λ s. Means s q sql) (sym stands.schema) means
+  means_in t represents = subst (λ s. Means s q sql) (sym represents.schema) means
 
   pub silent_in : Survives old new (λ _. IsPlain (understood office_schema sql) → ⊥)
       → Survives old new (λ _. ⊥)
@@ -59,12 +60,12 @@ module _ (q : Query) (sql : List ℕ) (means : Means office_schema q sql) (old n
 
 -- under the schema of a version
 module _ (version : Version) (q : Query) (sql : List ℕ) (means : Means (schema_of version) q sql)
-    (old : State) (t : Tables) (stands : HoldsTablesIn version old.now t) where
+    (old : State) (t : Tables) (represents : HoldsTablesIn version old.now t) where
   pub plain_at : IsPlain (understood old.now.schema sql)
-  plain_at = subst (λ s. IsPlain (understood s sql)) (sym stands.schema) means.plain
+  plain_at = subst (λ s. IsPlain (understood s sql)) (sym represents.schema) means.plain
 
   pub means_at : Means old.now.schema q sql
-  means_at = subst (λ s. Means s q sql) (sym stands.schema) means
+  means_at = subst (λ s. Means s q sql) (sym represents.schema) means
 
 -- a permutation of a list's images is the images of a permutation of the list
 pub unmapped : {X Y : Type 0} (f : X → Y) (xs : List X) (ys : List Y) → IsPermutation (map f xs) ys

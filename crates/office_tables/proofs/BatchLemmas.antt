@@ -41,8 +41,8 @@ insert_plain = (refl, refl)
 pub added : (old new : State) (row : Batch) (count : ℕ) (t : Tables) → HoldsTables old.now t
     → Executes insert_text (batch_columns row) old new (Ok count)
     → HoldsTables new.now (record t { batch = row ∷ t.batch })
-added old new row count t stands h =
-    let done = inserts insert_text _ old new count office_schema stands.schema insert_plain
+added old new row count t represents h =
+    let done = inserts insert_text _ old new count office_schema represents.schema insert_plain
     9 batch_table refl insert_terms 6 insert_is (λ taken news. refl) h in
     let is = done.1 in
     let stored = old.now.trees 14 in
@@ -57,8 +57,8 @@ added old new row count t stands h =
       cast_int row.unchanged,
     ) refl in
     let fresh : are_fresh stored (new_row ∷ []) ≡ true = rw (cast_int row.no) at is.fresh in
-    batch_changed old.now new.now t stands done.0 (row ∷ t.batch) is.tables
+    batch_changed old.now new.now t represents done.0 (row ∷ t.batch) is.tables
     (rw rows (holds_more keyed (map batch_columns t.batch) stored new_row
     (batch_columns row) refl refl
     fresh
-    stands.batch))
+    represents.batch))

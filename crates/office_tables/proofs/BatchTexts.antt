@@ -32,9 +32,9 @@ use Rattle.office_tables.proofs.TableLemmas.{keys_once}
 -- no two batches have the same number
 pub kept_once : (version : Version) (db : Database) (t : Tables) → HoldsTablesIn version db t
     → IsAscending (λ a b. a.no ≢ b.no) t.batch
-kept_once version db t stands =
+kept_once version db t represents =
     keys_once batch_columns (λ (b : Batch). b.no) (λ b. refl) t.batch (db.trees 14)
-    stands.batch
+    represents.batch
 
 -- ---- SELECT no, bytes, added, dropped, unchanged FROM batch WHERE no = ?1 ORDER BY no
 
@@ -79,7 +79,7 @@ rows_read : (version : Version) (db : Database) (n : ℕ) (t : Tables) → Holds
     → (found : List Batch)
     → IsReadOf batch_columns 5 (Int (pos n) ∷ []) batch_of_query db.trees found
     → IsPermutation (filter (λ r. r.no == n) t.batch) found
-rows_read version db n t stands found is =
+rows_read version db n t represents found is =
     let params : Row = Int (pos n) ∷ [] in
     (read batch_of batch_columns 5 (λ x. refl) (λ x. refl) (inner 14 end) (equals 0 0 ∷ []) columns
     (0 ∷ []) (λ (x : Batch). x.no ∷ []) (λ x. refl) db.trees params
@@ -87,7 +87,7 @@ rows_read version db n t stands found is =
     (table_shown batch_columns keyed picked params 14 (equals 0 0 ∷ []) columns shown_is
     (λ x. refl) (passes params (equals 0 0 ∷ [])) (λ r. refl)
     (λ r. r.no == n) (λ x. equal_numbers x.no n) db.trees t.batch
-    stands.batch.same) is).0
+    represents.batch.same) is).0
 
 is_number : (m n : ℕ) → (m == n) ≡ true → m ≡ n
 is_number m n e = grind (arith, nat_tests)
@@ -111,12 +111,12 @@ one_at_most n (r ∷ []) all up = omega arith
 one_at_most n (r ∷ s ∷ rows) all up = absurd (up.0.0 (all.0 ∙ sym all.1.0))
 
 -- if there is at most one row, the last is all of them
-last_alone : {X : Type 0} (xs rest : List X) (last : Option X) → xs ≡ rest ++ option_to_list last
+last_only : {X : Type 0} (xs rest : List X) (last : Option X) → xs ≡ rest ++ option_to_list last
     → IsSome last ↔ (0 < length xs) → length xs ≤ 1 → xs ≡ option_to_list last
-last_alone [] rest None is some few = refl
-last_alone (x ∷ xs) rest None is some few = let there = some.1 (omega arith) in cc
-last_alone xs [] (Some y) is some few = is
-last_alone xs (z ∷ rest) (Some y) is some few =
+last_only [] rest None is some few = refl
+last_only (x ∷ xs) rest None is some few = let there = some.1 (omega arith) in cc
+last_only xs [] (Some y) is some few = is
+last_only xs (z ∷ rest) (Some y) is some few =
     let long = length-append rest (y ∷ []) in
     absurd (omega (arith, few, long, ap length is))
 
@@ -127,18 +127,18 @@ pub batch_of_read : (version : Version) (db : Database) (n : ℕ) (t : Tables)
     (Int (pos n) ∷ []) batch_of_query db.trees found
     → found ≡ rest ++ option_to_list last → IsSome last ↔ (0 < length found)
     → filter (λ r. r.no == n) t.batch ≡ map batch_from (option_to_list last)
-batch_of_read version db n t stands found rest last is ends some =
+batch_of_read version db n t represents found rest last is ends some =
     let kept = filter (λ r. r.no == n) t.batch in
     let same : IsPermutation kept (map batch_from found) =
-    rows_read version db n t stands (map batch_from found)
+    rows_read version db n t represents (map batch_from found)
     (typed batch_columns batch_from 5 (Int (pos n) ∷ []) batch_of_query db.trees found is) in
     let few = one_at_most n kept (passing n t.batch)
     (ascending-filter (λ a b. a.no ≢ b.no) (λ r. r.no == n) t.batch
-    (kept_once version db t stands)) in
+    (kept_once version db t represents)) in
     let long = length_permutation _ _ same in
-    let alone : found ≡ option_to_list last = last_alone found rest last ends some
+    let single : found ≡ option_to_list last = last_only found rest last ends some
     (omega (arith, few, long, length-map found batch_from)) in
-    sym (few_same _ _ few same) ∙ ap (map batch_from) alone
+    sym (few_same _ _ few same) ∙ ap (map batch_from) single
   where
     few_same : (xs ys : List Batch) → length xs ≤ 1 → IsPermutation xs ys → ys ≡ xs
     few_same [] [] few same = refl

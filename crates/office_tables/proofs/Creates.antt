@@ -149,7 +149,7 @@ whole = refl
 
 -- a database with these tables is not bare
 pub has_tables : (db : Database) (t : Tables) → HoldsTables db t → db.schema ≡ no_schema → ⊥
-has_tables db t stands bare =
+has_tables db t represents bare =
     let none : length office_schema.tables ≡ length no_schema.tables =
-    ap (λ (s : Schema). length s.tables) (sym stands.schema ∙ bare) in
+    ap (λ (s : Schema). length s.tables) (sym represents.schema ∙ bare) in
     omega (none, arith)

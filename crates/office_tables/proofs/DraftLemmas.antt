@@ -91,20 +91,20 @@ insert_night_plain = (refl, refl)
 -- a change of the first table leaves the second unchanged
 nights_beside : (old mid : Database) (t : Tables) → HoldsTables old t → Others 4 old.trees mid.trees
     → Holds keyed (map night_draft_columns t.draft) (mid.trees 15)
-nights_beside old mid t stands others =
-    still keyed _ _ _ (others.1.1.1.1.1.1.1.1.1.1.0 (omega arith)) stands.night_draft
+nights_beside old mid t represents others =
+    still keyed _ _ _ (others.1.1.1.1.1.1.1.1.1.1.0 (omega arith)) represents.night_draft
 
 pub added : (old mid new : State) (row : DraftRow) (first second : ℕ) (t : Tables)
     → HoldsTables old.now t → Executes insert_text (draft_columns row) old mid (Ok first)
     → Executes insert_night_text (night_draft_columns row) mid new (Ok second)
     → HoldsTables new.now (record t { draft = row ∷ t.draft })
-added old mid new row first second t stands h k =
-    let one = costs_added old mid row first t.draft stands.schema stands.draft h in
-    drafts_changed old.now mid.now new.now t stands (row ∷ t.draft) one
+added old mid new row first second t represents h k =
+    let one = costs_added old mid row first t.draft represents.schema represents.draft h in
+    drafts_changed old.now mid.now new.now t represents (row ∷ t.draft) one
     (night_added insert_night_text insert_night_plain 10 15 (codes "night_draft") (codes "no")
     (codes "night") refl (λ taken news. refl) insert_night_is row.no row.night second
     (map night_draft_columns t.draft) mid new one.schema
-    (nights_beside old.now mid.now t stands one.others) k)
+    (nights_beside old.now mid.now t represents one.others) k)
 
 -- ---- DELETE WHERE no = ?1
 
@@ -136,17 +136,18 @@ pub deleted : (old mid new : State) (number : ℕ) (first second : ℕ) (t : Tab
     → HoldsTables old.now t → Executes delete_text (Int (pos number) ∷ []) old mid (Ok first)
     → Executes delete_night_text (Int (pos number) ∷ []) mid new (Ok second)
     → HoldsTables new.now (record t { draft = filter (λ r. not (r.no == number)) t.draft })
-deleted old mid new number first second t stands h k =
+deleted old mid new number first second t represents h k =
     let one =
     keyed_deleted delete_text delete_plain 3 draft_table refl (λ taken news. refl) delete_is
     draft_columns (λ (r : DraftRow). r.no) number first old mid (λ x. equal_numbers x.no number)
-    t.draft stands.schema stands.draft h in
-    drafts_changed old.now mid.now new.now t stands (filter (λ r. not (r.no == number)) t.draft) one
+    t.draft represents.schema represents.draft h in
+    drafts_changed old.now mid.now new.now t represents
+    (filter (λ r. not (r.no == number)) t.draft) one
     (keyed_deleted delete_night_text delete_night_plain 10 night_draft_table refl
     (λ taken news. refl)
     delete_night_is night_draft_columns (λ (r : DraftRow). r.no) number second mid new
     (λ x. equal_numbers x.no number) t.draft one.schema
-    (nights_beside old.now mid.now t stands one.others) k)
+    (nights_beside old.now mid.now t represents one.others) k)
 
 -- ---- DELETE
 
@@ -177,10 +178,10 @@ clear_night_plain = (refl, refl)
 pub cleared : (old mid new : State) (first second : ℕ) (t : Tables) → HoldsTables old.now t
     → Executes clear_text [] old mid (Ok first) → Executes clear_night_text [] mid new (Ok second)
     → HoldsTables new.now (record t { draft = [] })
-cleared old mid new first second t stands h k =
+cleared old mid new first second t represents h k =
     let one = keyed_cleared clear_text clear_plain 3 draft_table refl (λ taken news. refl) clear_is
-    (map draft_columns t.draft) first old mid stands.schema stands.draft h in
-    drafts_changed old.now mid.now new.now t stands [] one
+    (map draft_columns t.draft) first old mid represents.schema represents.draft h in
+    drafts_changed old.now mid.now new.now t represents [] one
     (keyed_cleared clear_night_text clear_night_plain 10 night_draft_table refl (λ taken news. refl)
     clear_night_is (map night_draft_columns t.draft) second mid new one.schema
-    (nights_beside old.now mid.now t stands one.others) k)
+    (nights_beside old.now mid.now t represents one.others) k)

@@ -47,8 +47,8 @@ insert_plain = (refl, refl)
 pub added : (old new : State) (row : EnrolRow) (count : ℕ) (t : Tables) → HoldsTables old.now t
     → Executes insert_text (enrol_columns row) old new (Ok count)
     → HoldsTables new.now (record t { enrol = row ∷ t.enrol })
-added old new row count t stands h =
-    let done = inserts insert_text _ old new count office_schema stands.schema insert_plain
+added old new row count t represents h =
+    let done = inserts insert_text _ old new count office_schema represents.schema insert_plain
     2 enrol_table refl insert_terms 3 insert_is (λ taken news. refl) h in
     let is = done.1 in
     let stored = old.now.trees 2 in
@@ -56,9 +56,9 @@ added old new row count t stands h =
     let rows : new.now.trees 2 ≡ put_row new_row stored =
     is.rows ∙ rw (cast_null, cast_int row.student, cast_int row.exam) refl in
     let fresh : are_fresh stored (new_row ∷ []) ≡ true = rw (cast_null) at is.fresh in
-    enrol_changed old.now new.now t stands done.0 (row ∷ t.enrol) is.tables
+    enrol_changed old.now new.now t represents done.0 (row ∷ t.enrol) is.tables
     (rw rows (holds_more keyless (map enrol_columns t.enrol) stored new_row
-    (enrol_columns row) refl refl fresh stands.enrol))
+    (enrol_columns row) refl refl fresh represents.enrol))
 
 -- ---- INSERT, thirty-two rows
 
@@ -79,15 +79,15 @@ pub added_many : (old new : State) (its : List InsertEnrol) → length its ≡ 3
     → (count : ℕ) (t : Tables) → HoldsTables old.now t
     → Executes insert_many_text (flat_map enrol_columns (map (λ it. it.row) its)) old new (Ok count)
     → HoldsTables new.now (after_all (λ it. with_enrol it.row) its t)
-added_many old new its long count t stands h =
+added_many old new its long count t represents h =
     let rows : List EnrolRow = map (λ it. it.row) its in
     let done = added_numberless enrol_columns 2 (λ row. refl) insert_many_text 32 2 enrol_table refl
     insert_many_plain insert_many_is refl (λ taken news. refl)
     (λ row. rw (cast_null, cast_int row.student, cast_int row.exam) refl)
-    old new rows t.enrol (length-map its (λ it. it.row) ∙ long) count stands.schema
-    stands.enrol h in
+    old new rows t.enrol (length-map its (λ it. it.row) ∙ long) count represents.schema
+    represents.enrol h in
     subst (HoldsTables new.now) (sym (enrols_put its t))
-    (enrol_changed old.now new.now t stands done.0 (reverse rows ++ t.enrol) done.1 done.2)
+    (enrol_changed old.now new.now t represents done.0 (reverse rows ++ t.enrol) done.1 done.2)
 
 -- ---- DELETE WHERE student = ?1 AND exam = ?2
 
@@ -108,9 +108,9 @@ pub deleted : (old new : State) (student exam : ℕ) (count : ℕ) (t : Tables) 
     → HoldsTables new.now (record t {
       enrol = filter (λ r. not ((r.student == student) && (r.exam == exam))) t.enrol;
     })
-deleted old new student exam count t stands h =
+deleted old new student exam count t represents h =
     let params = Int (pos student) ∷ Int (pos exam) ∷ [] in
-    let done = deletes delete_text params old new count office_schema stands.schema delete_plain
+    let done = deletes delete_text params old new count office_schema represents.schema delete_plain
     2 enrol_table refl _ delete_is (λ taken news. refl) h in
     let is = done.3 in
     let stored = old.now.trees 2 in
@@ -118,15 +118,16 @@ deleted old new student exam count t stands h =
     let answer = answered 2 (equals 1 0 ∷ equals 2 1 ∷ []) _ [] old.now.trees params done.0
     done.2 in
     let rows : new.now.trees 2 ≡ filter (λ r. not (test r)) stored =
-    is.rows ∙ left_of test stored done.0 stands.enrol.rowids answer in
+    is.rows ∙ left_of test stored done.0 represents.enrol.rowids answer in
     let same = shown_filter keyless enrol_columns (λ r. not (test r))
     (λ (row : Row). not (passes params (equals 0 0 ∷ equals 1 1 ∷ []) row))
     (λ r. not ((r.student == student) && (r.exam == exam)))
     (λ r. rw (column_less r 0, column_less r 1) refl)
-    (λ x. ap not (equal_pairs x.student student x.exam exam)) stored t.enrol stands.enrol.same in
-    enrol_changed old.now new.now t stands done.1
+    (λ x. ap not (equal_pairs x.student student x.exam exam)) stored t.enrol
+    represents.enrol.same in
+    enrol_changed old.now new.now t represents done.1
     (filter (λ r. not ((r.student == student) && (r.exam == exam))) t.enrol) is.tables
     (rw rows (record {
-      rowids = rowids_filter (λ r. not (test r)) stored stands.enrol.rowids;
+      rowids = rowids_filter (λ r. not (test r)) stored represents.enrol.rowids;
       same = same;
     }))

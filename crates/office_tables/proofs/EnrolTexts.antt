@@ -55,7 +55,7 @@ enrols_of_means = record {
 }
 
 -- the rows read from the table: those of one student
-module _ (db : Database) (number : ℕ) (t : Tables) (stands : HoldsTables db t) where
+module _ (db : Database) (number : ℕ) (t : Tables) (represents : HoldsTables db t) where
   abbrev pub given : Row
   given = Int (pos number) ∷ []
 
@@ -70,7 +70,7 @@ module _ (db : Database) (number : ℕ) (t : Tables) (stands : HoldsTables db t)
       (λ x. refl) (passes given (equals 0 0 ∷ [])) (λ r.
       ap (λ v. is_true (binary (Compare Eq Binary) v (Int (pos number))) && true) (column_less r 0))
       (λ r. r.student == number) (λ x. equal_numbers x.student number) db.trees t.enrol
-      stands.enrol.same
+      represents.enrol.same
 
   pub enrols_of_read : (found : List EnrolRow)
       → IsReadOf enrol_columns 2 given enrols_of_query db.trees found

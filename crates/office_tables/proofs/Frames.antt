@@ -65,7 +65,7 @@ pub holds_none : (show : Row → Row) (stored : List Row) → stored ≡ [] → 
 holds_none show stored none =
     rw none (record { rowids = record { ints = tt; apart = tt }; same = IsPermutation-refl _ })
 
-module _ (old new : Database) (t : Tables) (stands : HoldsTables old t)
+module _ (old new : Database) (t : Tables) (represents : HoldsTables old t)
     (schema : new.schema ≡ office_schema) where
   pub meta_changed : (rows : List Meta) → Others 0 old.trees new.trees
       → Holds keyed (map (meta_columns Two) rows) (new.trees 0)
@@ -73,37 +73,41 @@ module _ (old new : Database) (t : Tables) (stands : HoldsTables old t)
   meta_changed rows others held = record {
     schema = schema;
     meta = held;
-    owner = still keyed _ _ _ (others.1.0 (omega arith)) stands.owner;
-    enrol = still keyless _ _ _ (others.1.1.0 (omega arith)) stands.enrol;
-    draft = still keyed _ _ _ (others.1.1.1.0 (omega arith)) stands.draft;
-    slot = still keyless _ _ _ (others.1.1.1.1.0 (omega arith)) stands.slot;
-    placed = still keyed _ _ _ (others.1.1.1.1.1.0 (omega arith)) stands.placed;
-    seat = still keyless _ _ _ (others.1.1.1.1.1.1.0 (omega arith)) stands.seat;
-    share_student = still keyed _ _ _ (others.1.1.1.1.1.1.1.0 (omega arith)) stands.share_student;
-    share_part = still keyless _ _ _ (others.1.1.1.1.1.1.1.1.0 (omega arith)) stands.share_part;
-    batch = still keyed _ _ _ (others.1.1.1.1.1.1.1.1.1.0 (omega arith)) stands.batch;
-    night_draft = still keyed _ _ _ (others.1.1.1.1.1.1.1.1.1.1.0 (omega arith)) stands.night_draft;
+    owner = still keyed _ _ _ (others.1.0 (omega arith)) represents.owner;
+    enrol = still keyless _ _ _ (others.1.1.0 (omega arith)) represents.enrol;
+    draft = still keyed _ _ _ (others.1.1.1.0 (omega arith)) represents.draft;
+    slot = still keyless _ _ _ (others.1.1.1.1.0 (omega arith)) represents.slot;
+    placed = still keyed _ _ _ (others.1.1.1.1.1.0 (omega arith)) represents.placed;
+    seat = still keyless _ _ _ (others.1.1.1.1.1.1.0 (omega arith)) represents.seat;
+    share_student = still keyed _ _ _ (others.1.1.1.1.1.1.1.0
+        (omega arith)) represents.share_student;
+    share_part = still keyless _ _ _ (others.1.1.1.1.1.1.1.1.0 (omega arith)) represents.share_part;
+    batch = still keyed _ _ _ (others.1.1.1.1.1.1.1.1.1.0 (omega arith)) represents.batch;
+    night_draft = still keyed _ _ _ (others.1.1.1.1.1.1.1.1.1.1.0
+        (omega arith)) represents.night_draft;
     night_share =
-        still keyed _ _ _ (others.1.1.1.1.1.1.1.1.1.1.1.0 (omega arith)) stands.night_share;
+        still keyed _ _ _ (others.1.1.1.1.1.1.1.1.1.1.1.0 (omega arith)) represents.night_share;
   }
 
   pub owner_changed : (rows : List OwnerRow) → Others 1 old.trees new.trees
       → Holds keyed (map owner_columns rows) (new.trees 1) → HoldsTables new (record t { owner = rows })
   owner_changed rows others held = record {
     schema = schema;
-    meta = still keyed _ _ _ (others.0 (omega arith)) stands.meta;
+    meta = still keyed _ _ _ (others.0 (omega arith)) represents.meta;
     owner = held;
-    enrol = still keyless _ _ _ (others.1.1.0 (omega arith)) stands.enrol;
-    draft = still keyed _ _ _ (others.1.1.1.0 (omega arith)) stands.draft;
-    slot = still keyless _ _ _ (others.1.1.1.1.0 (omega arith)) stands.slot;
-    placed = still keyed _ _ _ (others.1.1.1.1.1.0 (omega arith)) stands.placed;
-    seat = still keyless _ _ _ (others.1.1.1.1.1.1.0 (omega arith)) stands.seat;
-    share_student = still keyed _ _ _ (others.1.1.1.1.1.1.1.0 (omega arith)) stands.share_student;
-    share_part = still keyless _ _ _ (others.1.1.1.1.1.1.1.1.0 (omega arith)) stands.share_part;
-    batch = still keyed _ _ _ (others.1.1.1.1.1.1.1.1.1.0 (omega arith)) stands.batch;
-    night_draft = still keyed _ _ _ (others.1.1.1.1.1.1.1.1.1.1.0 (omega arith)) stands.night_draft;
+    enrol = still keyless _ _ _ (others.1.1.0 (omega arith)) represents.enrol;
+    draft = still keyed _ _ _ (others.1.1.1.0 (omega arith)) represents.draft;
+    slot = still keyless _ _ _ (others.1.1.1.1.0 (omega arith)) represents.slot;
+    placed = still keyed _ _ _ (others.1.1.1.1.1.0 (omega arith)) represents.placed;
+    seat = still keyless _ _ _ (others.1.1.1.1.1.1.0 (omega arith)) represents.seat;
+    share_student = still keyed _ _ _ (others.1.1.1.1.1.1.1.0
+        (omega arith)) represents.share_student;
+    share_part = still keyless _ _ _ (others.1.1.1.1.1.1.1.1.0 (omega arith)) represents.share_part;
+    batch = still keyed _ _ _ (others.1.1.1.1.1.1.1.1.1.0 (omega arith)) represents.batch;
+    night_draft = still keyed _ _ _ (others.1.1.1.1.1.1.1.1.1.1.0
+        (omega arith)) represents.night_draft;
     night_share =
-        still keyed _ _ _ (others.1.1.1.1.1.1.1.1.1.1.1.0 (omega arith)) stands.night_share;
+        still keyed _ _ _ (others.1.1.1.1.1.1.1.1.1.1.1.0 (omega arith)) represents.night_share;
   }
 
   pub enrol_changed : (rows : List EnrolRow) → Others 2 old.trees new.trees
@@ -111,19 +115,21 @@ module _ (old new : Database) (t : Tables) (stands : HoldsTables old t)
       → HoldsTables new (record t { enrol = rows })
   enrol_changed rows others held = record {
     schema = schema;
-    meta = still keyed _ _ _ (others.0 (omega arith)) stands.meta;
-    owner = still keyed _ _ _ (others.1.0 (omega arith)) stands.owner;
+    meta = still keyed _ _ _ (others.0 (omega arith)) represents.meta;
+    owner = still keyed _ _ _ (others.1.0 (omega arith)) represents.owner;
     enrol = held;
-    draft = still keyed _ _ _ (others.1.1.1.0 (omega arith)) stands.draft;
-    slot = still keyless _ _ _ (others.1.1.1.1.0 (omega arith)) stands.slot;
-    placed = still keyed _ _ _ (others.1.1.1.1.1.0 (omega arith)) stands.placed;
-    seat = still keyless _ _ _ (others.1.1.1.1.1.1.0 (omega arith)) stands.seat;
-    share_student = still keyed _ _ _ (others.1.1.1.1.1.1.1.0 (omega arith)) stands.share_student;
-    share_part = still keyless _ _ _ (others.1.1.1.1.1.1.1.1.0 (omega arith)) stands.share_part;
-    batch = still keyed _ _ _ (others.1.1.1.1.1.1.1.1.1.0 (omega arith)) stands.batch;
-    night_draft = still keyed _ _ _ (others.1.1.1.1.1.1.1.1.1.1.0 (omega arith)) stands.night_draft;
+    draft = still keyed _ _ _ (others.1.1.1.0 (omega arith)) represents.draft;
+    slot = still keyless _ _ _ (others.1.1.1.1.0 (omega arith)) represents.slot;
+    placed = still keyed _ _ _ (others.1.1.1.1.1.0 (omega arith)) represents.placed;
+    seat = still keyless _ _ _ (others.1.1.1.1.1.1.0 (omega arith)) represents.seat;
+    share_student = still keyed _ _ _ (others.1.1.1.1.1.1.1.0
+        (omega arith)) represents.share_student;
+    share_part = still keyless _ _ _ (others.1.1.1.1.1.1.1.1.0 (omega arith)) represents.share_part;
+    batch = still keyed _ _ _ (others.1.1.1.1.1.1.1.1.1.0 (omega arith)) represents.batch;
+    night_draft = still keyed _ _ _ (others.1.1.1.1.1.1.1.1.1.1.0
+        (omega arith)) represents.night_draft;
     night_share =
-        still keyed _ _ _ (others.1.1.1.1.1.1.1.1.1.1.1.0 (omega arith)) stands.night_share;
+        still keyed _ _ _ (others.1.1.1.1.1.1.1.1.1.1.1.0 (omega arith)) represents.night_share;
   }
 
   pub draft_changed : (rows : List DraftRow) → BothOthers 4 15 old.trees new.trees
@@ -132,42 +138,46 @@ module _ (old new : Database) (t : Tables) (stands : HoldsTables old t)
       → HoldsTables new (record t { draft = rows })
   draft_changed rows others held nights = record {
     schema = schema;
-    meta = still keyed _ _ _ (others.0 (omega arith) (omega arith)) stands.meta;
-    owner = still keyed _ _ _ (others.1.0 (omega arith) (omega arith)) stands.owner;
-    enrol = still keyless _ _ _ (others.1.1.0 (omega arith) (omega arith)) stands.enrol;
+    meta = still keyed _ _ _ (others.0 (omega arith) (omega arith)) represents.meta;
+    owner = still keyed _ _ _ (others.1.0 (omega arith) (omega arith)) represents.owner;
+    enrol = still keyless _ _ _ (others.1.1.0 (omega arith) (omega arith)) represents.enrol;
     draft = held;
-    slot = still keyless _ _ _ (others.1.1.1.1.0 (omega arith) (omega arith)) stands.slot;
-    placed = still keyed _ _ _ (others.1.1.1.1.1.0 (omega arith) (omega arith)) stands.placed;
-    seat = still keyless _ _ _ (others.1.1.1.1.1.1.0 (omega arith) (omega arith)) stands.seat;
+    slot = still keyless _ _ _ (others.1.1.1.1.0 (omega arith) (omega arith)) represents.slot;
+    placed = still keyed _ _ _ (others.1.1.1.1.1.0 (omega arith) (omega arith)) represents.placed;
+    seat = still keyless _ _ _ (others.1.1.1.1.1.1.0 (omega arith) (omega arith)) represents.seat;
     share_student =
-        still keyed _ _ _ (others.1.1.1.1.1.1.1.0 (omega arith) (omega arith)) stands.share_student;
+        still keyed _ _ _ (others.1.1.1.1.1.1.1.0 (omega arith)
+        (omega arith)) represents.share_student;
     share_part =
         still keyless _ _ _ (others.1.1.1.1.1.1.1.1.0 (omega arith) (omega arith))
-        stands.share_part;
-    batch = still keyed _ _ _ (others.1.1.1.1.1.1.1.1.1.0 (omega arith) (omega arith)) stands.batch;
+        represents.share_part;
+    batch = still keyed _ _ _ (others.1.1.1.1.1.1.1.1.1.0 (omega arith)
+        (omega arith)) represents.batch;
     night_draft = nights;
     night_share =
         still keyed _ _ _ (others.1.1.1.1.1.1.1.1.1.1.1.0 (omega arith) (omega arith))
-        stands.night_share;
+        represents.night_share;
   }
 
   pub slot_changed : (rows : List SlotRow) → Others 5 old.trees new.trees
       → Holds keyless (map slot_columns rows) (new.trees 5) → HoldsTables new (record t { slot = rows })
   slot_changed rows others held = record {
     schema = schema;
-    meta = still keyed _ _ _ (others.0 (omega arith)) stands.meta;
-    owner = still keyed _ _ _ (others.1.0 (omega arith)) stands.owner;
-    enrol = still keyless _ _ _ (others.1.1.0 (omega arith)) stands.enrol;
-    draft = still keyed _ _ _ (others.1.1.1.0 (omega arith)) stands.draft;
+    meta = still keyed _ _ _ (others.0 (omega arith)) represents.meta;
+    owner = still keyed _ _ _ (others.1.0 (omega arith)) represents.owner;
+    enrol = still keyless _ _ _ (others.1.1.0 (omega arith)) represents.enrol;
+    draft = still keyed _ _ _ (others.1.1.1.0 (omega arith)) represents.draft;
     slot = held;
-    placed = still keyed _ _ _ (others.1.1.1.1.1.0 (omega arith)) stands.placed;
-    seat = still keyless _ _ _ (others.1.1.1.1.1.1.0 (omega arith)) stands.seat;
-    share_student = still keyed _ _ _ (others.1.1.1.1.1.1.1.0 (omega arith)) stands.share_student;
-    share_part = still keyless _ _ _ (others.1.1.1.1.1.1.1.1.0 (omega arith)) stands.share_part;
-    batch = still keyed _ _ _ (others.1.1.1.1.1.1.1.1.1.0 (omega arith)) stands.batch;
-    night_draft = still keyed _ _ _ (others.1.1.1.1.1.1.1.1.1.1.0 (omega arith)) stands.night_draft;
+    placed = still keyed _ _ _ (others.1.1.1.1.1.0 (omega arith)) represents.placed;
+    seat = still keyless _ _ _ (others.1.1.1.1.1.1.0 (omega arith)) represents.seat;
+    share_student = still keyed _ _ _ (others.1.1.1.1.1.1.1.0
+        (omega arith)) represents.share_student;
+    share_part = still keyless _ _ _ (others.1.1.1.1.1.1.1.1.0 (omega arith)) represents.share_part;
+    batch = still keyed _ _ _ (others.1.1.1.1.1.1.1.1.1.0 (omega arith)) represents.batch;
+    night_draft = still keyed _ _ _ (others.1.1.1.1.1.1.1.1.1.1.0
+        (omega arith)) represents.night_draft;
     night_share =
-        still keyed _ _ _ (others.1.1.1.1.1.1.1.1.1.1.1.0 (omega arith)) stands.night_share;
+        still keyed _ _ _ (others.1.1.1.1.1.1.1.1.1.1.1.0 (omega arith)) represents.night_share;
   }
 
   pub placed_changed : (rows : List PlacedRow) → Others 7 old.trees new.trees
@@ -175,38 +185,42 @@ module _ (old new : Database) (t : Tables) (stands : HoldsTables old t)
       → HoldsTables new (record t { placed = rows })
   placed_changed rows others held = record {
     schema = schema;
-    meta = still keyed _ _ _ (others.0 (omega arith)) stands.meta;
-    owner = still keyed _ _ _ (others.1.0 (omega arith)) stands.owner;
-    enrol = still keyless _ _ _ (others.1.1.0 (omega arith)) stands.enrol;
-    draft = still keyed _ _ _ (others.1.1.1.0 (omega arith)) stands.draft;
-    slot = still keyless _ _ _ (others.1.1.1.1.0 (omega arith)) stands.slot;
+    meta = still keyed _ _ _ (others.0 (omega arith)) represents.meta;
+    owner = still keyed _ _ _ (others.1.0 (omega arith)) represents.owner;
+    enrol = still keyless _ _ _ (others.1.1.0 (omega arith)) represents.enrol;
+    draft = still keyed _ _ _ (others.1.1.1.0 (omega arith)) represents.draft;
+    slot = still keyless _ _ _ (others.1.1.1.1.0 (omega arith)) represents.slot;
     placed = held;
-    seat = still keyless _ _ _ (others.1.1.1.1.1.1.0 (omega arith)) stands.seat;
-    share_student = still keyed _ _ _ (others.1.1.1.1.1.1.1.0 (omega arith)) stands.share_student;
-    share_part = still keyless _ _ _ (others.1.1.1.1.1.1.1.1.0 (omega arith)) stands.share_part;
-    batch = still keyed _ _ _ (others.1.1.1.1.1.1.1.1.1.0 (omega arith)) stands.batch;
-    night_draft = still keyed _ _ _ (others.1.1.1.1.1.1.1.1.1.1.0 (omega arith)) stands.night_draft;
+    seat = still keyless _ _ _ (others.1.1.1.1.1.1.0 (omega arith)) represents.seat;
+    share_student = still keyed _ _ _ (others.1.1.1.1.1.1.1.0
+        (omega arith)) represents.share_student;
+    share_part = still keyless _ _ _ (others.1.1.1.1.1.1.1.1.0 (omega arith)) represents.share_part;
+    batch = still keyed _ _ _ (others.1.1.1.1.1.1.1.1.1.0 (omega arith)) represents.batch;
+    night_draft = still keyed _ _ _ (others.1.1.1.1.1.1.1.1.1.1.0
+        (omega arith)) represents.night_draft;
     night_share =
-        still keyed _ _ _ (others.1.1.1.1.1.1.1.1.1.1.1.0 (omega arith)) stands.night_share;
+        still keyed _ _ _ (others.1.1.1.1.1.1.1.1.1.1.1.0 (omega arith)) represents.night_share;
   }
 
   pub seat_changed : (rows : List SeatRow) → Others 8 old.trees new.trees
       → Holds keyless (map seat_columns rows) (new.trees 8) → HoldsTables new (record t { seat = rows })
   seat_changed rows others held = record {
     schema = schema;
-    meta = still keyed _ _ _ (others.0 (omega arith)) stands.meta;
-    owner = still keyed _ _ _ (others.1.0 (omega arith)) stands.owner;
-    enrol = still keyless _ _ _ (others.1.1.0 (omega arith)) stands.enrol;
-    draft = still keyed _ _ _ (others.1.1.1.0 (omega arith)) stands.draft;
-    slot = still keyless _ _ _ (others.1.1.1.1.0 (omega arith)) stands.slot;
-    placed = still keyed _ _ _ (others.1.1.1.1.1.0 (omega arith)) stands.placed;
+    meta = still keyed _ _ _ (others.0 (omega arith)) represents.meta;
+    owner = still keyed _ _ _ (others.1.0 (omega arith)) represents.owner;
+    enrol = still keyless _ _ _ (others.1.1.0 (omega arith)) represents.enrol;
+    draft = still keyed _ _ _ (others.1.1.1.0 (omega arith)) represents.draft;
+    slot = still keyless _ _ _ (others.1.1.1.1.0 (omega arith)) represents.slot;
+    placed = still keyed _ _ _ (others.1.1.1.1.1.0 (omega arith)) represents.placed;
     seat = held;
-    share_student = still keyed _ _ _ (others.1.1.1.1.1.1.1.0 (omega arith)) stands.share_student;
-    share_part = still keyless _ _ _ (others.1.1.1.1.1.1.1.1.0 (omega arith)) stands.share_part;
-    batch = still keyed _ _ _ (others.1.1.1.1.1.1.1.1.1.0 (omega arith)) stands.batch;
-    night_draft = still keyed _ _ _ (others.1.1.1.1.1.1.1.1.1.1.0 (omega arith)) stands.night_draft;
+    share_student = still keyed _ _ _ (others.1.1.1.1.1.1.1.0
+        (omega arith)) represents.share_student;
+    share_part = still keyless _ _ _ (others.1.1.1.1.1.1.1.1.0 (omega arith)) represents.share_part;
+    batch = still keyed _ _ _ (others.1.1.1.1.1.1.1.1.1.0 (omega arith)) represents.batch;
+    night_draft = still keyed _ _ _ (others.1.1.1.1.1.1.1.1.1.1.0
+        (omega arith)) represents.night_draft;
     night_share =
-        still keyed _ _ _ (others.1.1.1.1.1.1.1.1.1.1.1.0 (omega arith)) stands.night_share;
+        still keyed _ _ _ (others.1.1.1.1.1.1.1.1.1.1.1.0 (omega arith)) represents.night_share;
   }
 
   pub share_student_changed : (rows : List StudentShareRow) → BothOthers 11 16 old.trees new.trees
@@ -215,21 +229,22 @@ module _ (old new : Database) (t : Tables) (stands : HoldsTables old t)
       → HoldsTables new (record t { share_student = rows })
   share_student_changed rows others held nights = record {
     schema = schema;
-    meta = still keyed _ _ _ (others.0 (omega arith) (omega arith)) stands.meta;
-    owner = still keyed _ _ _ (others.1.0 (omega arith) (omega arith)) stands.owner;
-    enrol = still keyless _ _ _ (others.1.1.0 (omega arith) (omega arith)) stands.enrol;
-    draft = still keyed _ _ _ (others.1.1.1.0 (omega arith) (omega arith)) stands.draft;
-    slot = still keyless _ _ _ (others.1.1.1.1.0 (omega arith) (omega arith)) stands.slot;
-    placed = still keyed _ _ _ (others.1.1.1.1.1.0 (omega arith) (omega arith)) stands.placed;
-    seat = still keyless _ _ _ (others.1.1.1.1.1.1.0 (omega arith) (omega arith)) stands.seat;
+    meta = still keyed _ _ _ (others.0 (omega arith) (omega arith)) represents.meta;
+    owner = still keyed _ _ _ (others.1.0 (omega arith) (omega arith)) represents.owner;
+    enrol = still keyless _ _ _ (others.1.1.0 (omega arith) (omega arith)) represents.enrol;
+    draft = still keyed _ _ _ (others.1.1.1.0 (omega arith) (omega arith)) represents.draft;
+    slot = still keyless _ _ _ (others.1.1.1.1.0 (omega arith) (omega arith)) represents.slot;
+    placed = still keyed _ _ _ (others.1.1.1.1.1.0 (omega arith) (omega arith)) represents.placed;
+    seat = still keyless _ _ _ (others.1.1.1.1.1.1.0 (omega arith) (omega arith)) represents.seat;
     share_student = held;
     share_part =
         still keyless _ _ _ (others.1.1.1.1.1.1.1.1.0 (omega arith) (omega arith))
-        stands.share_part;
-    batch = still keyed _ _ _ (others.1.1.1.1.1.1.1.1.1.0 (omega arith) (omega arith)) stands.batch;
+        represents.share_part;
+    batch = still keyed _ _ _ (others.1.1.1.1.1.1.1.1.1.0 (omega arith)
+        (omega arith)) represents.batch;
     night_draft =
         still keyed _ _ _ (others.1.1.1.1.1.1.1.1.1.1.0 (omega arith) (omega arith))
-        stands.night_draft;
+        represents.night_draft;
     night_share = nights;
   }
 
@@ -238,46 +253,50 @@ module _ (old new : Database) (t : Tables) (stands : HoldsTables old t)
       → HoldsTables new (record t { share_part = rows })
   share_part_changed rows others held = record {
     schema = schema;
-    meta = still keyed _ _ _ (others.0 (omega arith)) stands.meta;
-    owner = still keyed _ _ _ (others.1.0 (omega arith)) stands.owner;
-    enrol = still keyless _ _ _ (others.1.1.0 (omega arith)) stands.enrol;
-    draft = still keyed _ _ _ (others.1.1.1.0 (omega arith)) stands.draft;
-    slot = still keyless _ _ _ (others.1.1.1.1.0 (omega arith)) stands.slot;
-    placed = still keyed _ _ _ (others.1.1.1.1.1.0 (omega arith)) stands.placed;
-    seat = still keyless _ _ _ (others.1.1.1.1.1.1.0 (omega arith)) stands.seat;
-    share_student = still keyed _ _ _ (others.1.1.1.1.1.1.1.0 (omega arith)) stands.share_student;
+    meta = still keyed _ _ _ (others.0 (omega arith)) represents.meta;
+    owner = still keyed _ _ _ (others.1.0 (omega arith)) represents.owner;
+    enrol = still keyless _ _ _ (others.1.1.0 (omega arith)) represents.enrol;
+    draft = still keyed _ _ _ (others.1.1.1.0 (omega arith)) represents.draft;
+    slot = still keyless _ _ _ (others.1.1.1.1.0 (omega arith)) represents.slot;
+    placed = still keyed _ _ _ (others.1.1.1.1.1.0 (omega arith)) represents.placed;
+    seat = still keyless _ _ _ (others.1.1.1.1.1.1.0 (omega arith)) represents.seat;
+    share_student = still keyed _ _ _ (others.1.1.1.1.1.1.1.0
+        (omega arith)) represents.share_student;
     share_part = held;
-    batch = still keyed _ _ _ (others.1.1.1.1.1.1.1.1.1.0 (omega arith)) stands.batch;
-    night_draft = still keyed _ _ _ (others.1.1.1.1.1.1.1.1.1.1.0 (omega arith)) stands.night_draft;
+    batch = still keyed _ _ _ (others.1.1.1.1.1.1.1.1.1.0 (omega arith)) represents.batch;
+    night_draft = still keyed _ _ _ (others.1.1.1.1.1.1.1.1.1.1.0
+        (omega arith)) represents.night_draft;
     night_share =
-        still keyed _ _ _ (others.1.1.1.1.1.1.1.1.1.1.1.0 (omega arith)) stands.night_share;
+        still keyed _ _ _ (others.1.1.1.1.1.1.1.1.1.1.1.0 (omega arith)) represents.night_share;
   }
 
   pub batch_changed : (rows : List Batch) → Others 14 old.trees new.trees
       → Holds keyed (map batch_columns rows) (new.trees 14) → HoldsTables new (record t { batch = rows })
   batch_changed rows others held = record {
     schema = schema;
-    meta = still keyed _ _ _ (others.0 (omega arith)) stands.meta;
-    owner = still keyed _ _ _ (others.1.0 (omega arith)) stands.owner;
-    enrol = still keyless _ _ _ (others.1.1.0 (omega arith)) stands.enrol;
-    draft = still keyed _ _ _ (others.1.1.1.0 (omega arith)) stands.draft;
-    slot = still keyless _ _ _ (others.1.1.1.1.0 (omega arith)) stands.slot;
-    placed = still keyed _ _ _ (others.1.1.1.1.1.0 (omega arith)) stands.placed;
-    seat = still keyless _ _ _ (others.1.1.1.1.1.1.0 (omega arith)) stands.seat;
-    share_student = still keyed _ _ _ (others.1.1.1.1.1.1.1.0 (omega arith)) stands.share_student;
-    share_part = still keyless _ _ _ (others.1.1.1.1.1.1.1.1.0 (omega arith)) stands.share_part;
+    meta = still keyed _ _ _ (others.0 (omega arith)) represents.meta;
+    owner = still keyed _ _ _ (others.1.0 (omega arith)) represents.owner;
+    enrol = still keyless _ _ _ (others.1.1.0 (omega arith)) represents.enrol;
+    draft = still keyed _ _ _ (others.1.1.1.0 (omega arith)) represents.draft;
+    slot = still keyless _ _ _ (others.1.1.1.1.0 (omega arith)) represents.slot;
+    placed = still keyed _ _ _ (others.1.1.1.1.1.0 (omega arith)) represents.placed;
+    seat = still keyless _ _ _ (others.1.1.1.1.1.1.0 (omega arith)) represents.seat;
+    share_student = still keyed _ _ _ (others.1.1.1.1.1.1.1.0
+        (omega arith)) represents.share_student;
+    share_part = still keyless _ _ _ (others.1.1.1.1.1.1.1.1.0 (omega arith)) represents.share_part;
     batch = held;
-    night_draft = still keyed _ _ _ (others.1.1.1.1.1.1.1.1.1.1.0 (omega arith)) stands.night_draft;
+    night_draft = still keyed _ _ _ (others.1.1.1.1.1.1.1.1.1.1.0
+        (omega arith)) represents.night_draft;
     night_share =
-        still keyed _ _ _ (others.1.1.1.1.1.1.1.1.1.1.1.0 (omega arith)) stands.night_share;
+        still keyed _ _ _ (others.1.1.1.1.1.1.1.1.1.1.1.0 (omega arith)) represents.night_share;
   }
 
-module _ (old mid new : Database) (t : Tables) (stands : HoldsTables old t) where
+module _ (old mid new : Database) (t : Tables) (represents : HoldsTables old t) where
   pub drafts_changed : (rows : List DraftRow) → OneChanged 4 (map draft_columns rows) old mid
       → OneChanged 15 (map night_draft_columns rows) mid new
       → HoldsTables new (record t { draft = rows })
   drafts_changed rows first second =
-      draft_changed old new t stands second.schema rows
+      draft_changed old new t represents second.schema rows
       (both_others 4 15 old.trees mid.trees new.trees first.others second.others)
       (still keyed _ _ _ (second.others.1.1.1.0 (omega arith)) first.holds) second.holds
 
@@ -286,6 +305,6 @@ module _ (old mid new : Database) (t : Tables) (stands : HoldsTables old t) wher
       → OneChanged 16 (map night_share_columns rows) mid new
       → HoldsTables new (record t { share_student = rows })
   student_shares_changed rows first second =
-      share_student_changed old new t stands second.schema rows
+      share_student_changed old new t represents second.schema rows
       (both_others 11 16 old.trees mid.trees new.trees first.others second.others)
       (still keyed _ _ _ (second.others.1.1.1.1.1.1.1.0 (omega arith)) first.holds) second.holds

@@ -17,7 +17,7 @@ module _ {X : Type 0} (fits : X → Type 0) (row_of : X → Row) (width : ℕ) (
       unread fits row_of width rows has.0 row has.1
       (subst (IsUnread fits row_of width) (sym has.2) none) wide made fit same
 
-  -- a row that is no record's stays among more rows
+  -- a row of no record stays one among more rows
   pub still_unread : (row : Row) → IsGathered fits row_of width rows None
       → IsGathered fits row_of width (rows ++ row ∷ []) None
   still_unread row (other, has, none) =

@@ -69,7 +69,7 @@ pub changes_by : (f : Tables → Tables) (sql : List ℕ) (params : Row) (old ne
     → HoldsTables new.now (f t))
     → OnOk r (HasRun sql params old new) → OnOk r (Makes f old new)
 changes_by f sql params old new r step =
-    on_ok_weaker r (λ ran. (ran.inside, λ t stands. step ran.count t stands ran.executed))
+    on_ok_weaker r (λ ran. (ran.inside, λ t represents. step ran.count t represents ran.executed))
 
 -- the same for two statements, one after the other
 pub changes_by_two : (f : Tables → Tables) (sql : List ℕ) (params : Row) (more : List ℕ)
@@ -80,8 +80,8 @@ pub changes_by_two : (f : Tables → Tables) (sql : List ℕ) (params : Row) (mo
 changes_by_two f sql params more others old mid new r step ran =
     on_ok_weaker r (λ last. (
       last.inside,
-      λ t stands.
-          step ran.count last.count t stands ran.executed last.executed,
+      λ t represents.
+          step ran.count last.count t represents ran.executed last.executed,
     ))
 
 -- ---- alterations, one after the other

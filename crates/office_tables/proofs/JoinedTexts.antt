@@ -169,11 +169,11 @@ pub placements_of_read : (db : Database) (student : ℕ) (t : Tables) → HoldsT
     → (found : List PlacedRow)
     → IsReadOf placed_columns 3 (Int (pos student) ∷ []) placements_of_query db.trees found
     → IsPermutation (placed_of student t) found × Rises (λ (x : PlacedRow). x.exam ∷ []) found
-placements_of_read db student t stands found is =
+placements_of_read db student t represents found is =
     let params : Row = Int (pos student) ∷ [] in
-    let stored = IsPermutation-flat_map (suited params db.trees) _ _ stands.enrol.same in
+    let stored = IsPermutation-flat_map (suited params db.trees) _ _ represents.enrol.same in
     let typed = IsPermutation-flat_map_each _ _ (one_placed student db.trees t.placed
-    stands.placed.same) t.enrol in
+    represents.placed.same) t.enrol in
     let rows : IsPermutation (map (eval_all columns)
     (matches db.trees tests (inner 2 (inner 7 end)) (params ∷ [])))
     (map placed_columns (placed_of student t)) =

@@ -28,13 +28,13 @@ pub mod OrderLemmas
 pub mod OwnerLemmas
 pub mod OwnerTexts
 pub mod PublishedLemmas
-pub mod PublishedTexts
 pub mod Queries
 pub mod Reading
 pub mod RecordLemmas
 pub mod RecordsBack
 pub mod Rising
 pub mod SameRows
+pub mod SeatTexts
 pub mod ShareLemmas
 pub mod ShareTexts
 pub mod SilentLemmas

@@ -151,11 +151,11 @@ module _ {X : Type 0} (columns source : X → Row) (show : Row → Row) (w v : �
         (put_all stored (numbered Chosen stored (map source (r ∷ rows))))) (first_last r rows held)
         (holds_all rows (r ∷ held) (put_row new stored) parts.1
         (holds_more show (map columns held) stored new (columns r) (shown stored r) (int stored r)
-        (alone _ parts.0) h))
+        (and_true _ parts.0) h))
       where
-        alone : (a : Bool) → a ≡ true → (a && true) ≡ true
-        alone true h = refl
-        alone false h = h
+        and_true : (a : Bool) → a ≡ true → (a && true) ≡ true
+        and_true true h = refl
+        and_true false h = h
 
     pub added_rows : AddsRows columns source show w v terms
     added_rows text n at base found plain is many quiet cast old new rows held length_is count has

@@ -26,11 +26,11 @@ one_list [] b same = absurd (omega (arith, length_permutation _ _ same))
 one_list (x ∷ []) b same = ap (λ v. v ∷ []) (one_same x b same)
 one_list (x ∷ y ∷ xs) b same = absurd (omega (arith, length_permutation _ _ same))
 
-pub first_alone : {X : Type 0} (xs : List X) (x : X) → length xs ≡ 1 → x ≡ get_or xs 0 x
+pub first_only : {X : Type 0} (xs : List X) (x : X) → length xs ≡ 1 → x ≡ get_or xs 0 x
     → xs ≡ x ∷ []
-first_alone [] x long first = absurd (omega (arith, long))
-first_alone (y ∷ []) x long first = ap (λ v. v ∷ []) (sym first)
-first_alone (y ∷ z ∷ xs) x long first = absurd (omega (arith, long))
+first_only [] x long first = absurd (omega (arith, long))
+first_only (y ∷ []) x long first = ap (λ v. v ∷ []) (sym first)
+first_only (y ∷ z ∷ xs) x long first = absurd (omega (arith, long))
 
 -- the only row has the number 0
 rowids_of_one : (version : Version) (stored : List Row) (m : Meta)
@@ -56,9 +56,9 @@ module _ (version : Version) (db : Database) (is : db.schema ≡ schema_of versi
   shown = subst (λ l. IsPermutation l rows)
       (same_map (listed meta_terms) keyed (db.trees 0) (meta_whole version db is sound)) list
 
-  pub not_alone : length rows ≢ 1 → (m : Meta)
+  pub not_single : length rows ≢ 1 → (m : Meta)
       → Holds keyed (meta_columns version m ∷ []) (db.trees 0) → ⊥
-  not_alone many m holds =
+  not_single many m holds =
       let one = length_permutation _ _
       (IsPermutation-trans _ _ _ (IsPermutation-sym _ _ shown) holds.same) in many (sym one)
 
@@ -67,16 +67,16 @@ module _ (version : Version) (db : Database) (is : db.schema ≡ schema_of versi
       (all-map (λ r. length r ≡ 4) (listed meta_terms) (db.trees 0)
       (all_of _ (λ r. refl) (db.trees 0)))
 
-  pub alone : (row : Row) → rows ≡ row ∷ [] → (found : Option MetaRow)
+  pub single : (row : Row) → rows ≡ row ∷ [] → (found : Option MetaRow)
       → IsReadMeta version row found
       → IsFoundMeta version (db.trees 0) found
-  alone row one (Some m) read =
+  single row one (Some m) read =
       let long = (subst (AllByRecursion (λ r. length r ≡ 4)) one four).0 in
       let here : IsPermutation (map keyed (db.trees 0)) (meta_columns version (meta_from m) ∷ []) =
       subst (IsPermutation (map keyed (db.trees 0)))
       (one ∙ ap (λ v. v ∷ []) (dropped 0 4 row long ∙ read)) shown in
       record { rowids = rowids_of_one version (db.trees 0) (meta_from m) here; same = here }
-  alone row one None none = λ m holds.
+  single row one None none = λ m holds.
       let long = (subst (AllByRecursion (λ r. length r ≡ 4)) one four).0 in
       let same = one_same row (meta_columns version m)
       (IsPermutation-trans _ _ _

@@ -45,8 +45,8 @@ pub added : (old new : State) (row : Meta) (count : ℕ) (t : Tables) → HoldsT
     → Executes insert_text (Int (pos (flag row.published)) ∷ Blob row.instance ∷ [])
     old new (Ok count)
     → HoldsTables new.now (record t { meta = row ∷ t.meta })
-added old new row count t stands h =
-    let done = inserts insert_text _ old new count office_schema stands.schema insert_plain
+added old new row count t represents h =
+    let done = inserts insert_text _ old new count office_schema represents.schema insert_plain
     0 meta_table refl insert_terms 5 insert_is (λ taken news. refl) h in
     let is = done.1 in
     let stored = old.now.trees 0 in
@@ -56,9 +56,9 @@ added old new row count t stands h =
     let rows : new.now.trees 0 ≡ put_row new_row stored =
     is.rows ∙ rw (cast_int 0, cast_int 2, cast_null, cast_int (flag row.published)) refl in
     let fresh : are_fresh stored (new_row ∷ []) ≡ true = rw (cast_int 0) at is.fresh in
-    meta_changed old.now new.now t stands done.0 (row ∷ t.meta) is.tables
+    meta_changed old.now new.now t represents done.0 (row ∷ t.meta) is.tables
     (rw rows (holds_more keyed (map (meta_columns Two) t.meta) stored new_row
-    (meta_columns Two row) refl refl fresh stands.meta))
+    (meta_columns Two row) refl refl fresh represents.meta))
 
 -- ---- DELETE
 
@@ -76,21 +76,21 @@ delete_plain = (refl, refl)
 
 pub deleted : (old new : State) (count : ℕ) (t : Tables) → HoldsTables old.now t
     → Executes delete_text [] old new (Ok count) → HoldsTables new.now (record t { meta = [] })
-deleted old new count t stands h =
-    let done = deletes delete_text [] old new count office_schema stands.schema delete_plain
+deleted old new count t represents h =
+    let done = deletes delete_text [] old new count office_schema represents.schema delete_plain
     0 meta_table refl _ delete_is (λ taken news. refl) h in
     let is = done.3 in
     let stored = old.now.trees 0 in
     let answer = answered 0 [] _ [] old.now.trees [] done.0 done.2 in
     let rows : new.now.trees 0 ≡ [] =
-    is.rows ∙ left_of (λ r. true) stored done.0 stands.meta.rowids answer ∙ none_left stored in
-    meta_changed old.now new.now t stands done.1 [] is.tables
+    is.rows ∙ left_of (λ r. true) stored done.0 represents.meta.rowids answer ∙ none_left stored in
+    meta_changed old.now new.now t represents done.1 [] is.tables
     (holds_none keyed (new.now.trees 0) rows)
 
 -- tables without rows hold none
-pub blank_stands : (db : Database) → IsBlank office_schema db
+pub blank_represents : (db : Database) → IsBlank office_schema db
     → HoldsTables db (record empty_tables { meta = [] })
-blank_stands db blank = record {
+blank_represents db blank = record {
   schema = blank.schema_is;
   meta = holds_none keyed _ (blank.rows.0);
   owner = holds_none keyed _ (blank.rows.1.0);

@@ -206,7 +206,7 @@ module _ (t : Tables) (a b c d : State) (wide : IsWidened t a.now)
       let one = cleared.others in
       let two = drafts.others in
       let three = shares.others in
-      let before = wide.stands in
+      let before = wide.represents in
       record {
         schema = shares.schema;
         meta = still keyed _ _ _ (three.0 (omega arith) ∙ two.0 (omega arith)) cleared.holds;
@@ -258,7 +258,7 @@ pub nights_filled : (t : Tables) (a b c d : State) (first second third : ℕ) �
     → Executes fill_shares_text [] c d (Ok third) → HoldsTables d.now (record t { meta = [] })
 nights_filled t a b c d first second third wide h k l =
     let rows = wide.widened.rows in
-    let before = wide.stands in
+    let before = wide.represents in
     let one =
     keyed_cleared delete_text delete_plain 0 meta_table refl (λ taken news. refl) delete_is
     (map (meta_columns One) t.meta) first a b wide.widened.schema_is

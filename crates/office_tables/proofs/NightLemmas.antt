@@ -167,7 +167,7 @@ module _ {X : Type 0} (fits : X → Type 0) (shown columns_of nights_of : X → 
           (let e = same_amount in cc, go xs all.1)
 
   -- with a first column of 0 they are the rows shown
-  shown_holds : (stored : List Row) (rows : List X) → Holds keyed (map columns_of rows) stored
+  pub shown_holds : (stored : List Row) (rows : List X) → Holds keyed (map columns_of rows) stored
       → AllByRecursion (λ x. night x ≡ 0) rows → Holds with_no_night (map shown rows) stored
   shown_holds stored rows holds none = record {
     rowids = holds.rowids;

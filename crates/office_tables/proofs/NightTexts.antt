@@ -62,9 +62,9 @@ module _ {X : Type 0} (key : X → ℕ) where
         → (rest : List Y) (later : List X) → rest ≡ map (λ z. f z z) later
         → map (f x) (filter (λ y. b && (key y == key x)) xs) ++ rest
         ≡ map (λ z. f z z) (cond b (x ∷ later) later)
-    one_pair true x alone rest later is =
-        ap (λ l. map (f x) l ++ rest) alone ∙ ap (λ l. f x x ∷ l) is
-    one_pair false x alone rest later is = ap (λ l. map (f x) l ++ rest) (none xs) ∙ is
+    one_pair true x single rest later is =
+        ap (λ l. map (f x) l ++ rest) single ∙ ap (λ l. f x x ∷ l) is
+    one_pair false x single rest later is = ap (λ l. map (f x) l ++ rest) (none xs) ∙ is
 
     pairs_of : (zs : List X) → AllByRecursion (λ x. filter (λ y. key y == key x) xs ≡ x ∷ []) zs
         → flat_map (λ x. map (f x) (filter (λ y. t x && (key y == key x)) xs)) zs

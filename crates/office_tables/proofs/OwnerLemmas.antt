@@ -42,8 +42,8 @@ insert_plain = (refl, refl)
 pub added : (old new : State) (row : OwnerRow) (count : ℕ) (t : Tables) → HoldsTables old.now t
     → Executes insert_text (owner_columns row) old new (Ok count)
     → HoldsTables new.now (record t { owner = row ∷ t.owner })
-added old new row count t stands h =
-    let done = inserts insert_text _ old new count office_schema stands.schema insert_plain
+added old new row count t represents h =
+    let done = inserts insert_text _ old new count office_schema represents.schema insert_plain
     1 owner_table refl insert_terms 3 insert_is (λ taken news. refl) h in
     let is = done.1 in
     let stored = old.now.trees 1 in
@@ -51,9 +51,9 @@ added old new row count t stands h =
     let rows : new.now.trees 1 ≡ put_row new_row stored =
     is.rows ∙ rw (cast_null, cast_int row.exam, cast_int row.dept) refl in
     let fresh : are_fresh stored (new_row ∷ []) ≡ true = rw (cast_int row.exam) at is.fresh in
-    owner_changed old.now new.now t stands done.0 (row ∷ t.owner) is.tables
+    owner_changed old.now new.now t represents done.0 (row ∷ t.owner) is.tables
     (rw rows (holds_more keyed (map owner_columns t.owner) stored new_row
-    (owner_columns row) refl refl fresh stands.owner))
+    (owner_columns row) refl refl fresh represents.owner))
 
 -- ---- DELETE WHERE exam = ?1
 
@@ -72,9 +72,9 @@ delete_plain = (refl, refl)
 pub deleted : (old new : State) (exam : ℕ) (count : ℕ) (t : Tables) → HoldsTables old.now t
     → Executes delete_text (Int (pos exam) ∷ []) old new (Ok count)
     → HoldsTables new.now (record t { owner = filter (λ r. not (r.exam == exam)) t.owner })
-deleted old new exam count t stands h =
+deleted old new exam count t represents h =
     let params = Int (pos exam) ∷ [] in
-    let done = deletes delete_text params old new count office_schema stands.schema delete_plain
+    let done = deletes delete_text params old new count office_schema represents.schema delete_plain
     1 owner_table refl _ delete_is (λ taken news. refl) h in
     let is = done.3 in
     let stored = old.now.trees 1 in
@@ -82,10 +82,13 @@ deleted old new exam count t stands h =
     let shown_test = λ (row : Row). passes params (equals 0 0 ∷ []) row in
     let answer = answered 1 (equals 0 0 ∷ []) _ [] old.now.trees params done.0 done.2 in
     let rows : new.now.trees 1 ≡ filter (λ r. not (test r)) stored =
-    is.rows ∙ left_of test stored done.0 stands.owner.rowids answer in
+    is.rows ∙ left_of test stored done.0 represents.owner.rowids answer in
     let same = shown_filter keyed owner_columns (λ r. not (test r)) (λ row. not (shown_test row))
     (λ r. not (r.exam == exam))
-    (λ r. refl) (λ x. ap not (equal_numbers x.exam exam)) stored t.owner stands.owner.same in
-    owner_changed old.now new.now t stands done.1
+    (λ r. refl) (λ x. ap not (equal_numbers x.exam exam)) stored t.owner represents.owner.same in
+    owner_changed old.now new.now t represents done.1
     (filter (λ r. not (r.exam == exam)) t.owner) is.tables
-    (rw rows (record { rowids = rowids_filter (λ r. not (test r)) stored stands.owner.rowids; same = same }))
+    (rw rows (record {
+      rowids = rowids_filter (λ r. not (test r)) stored represents.owner.rowids;
+      same = same;
+    }))

@@ -45,7 +45,7 @@ shown_is r = rw (column_later r 0) refl
 pub owners_of_read : (db : Database) (exam : ℕ) (t : Tables) → HoldsTables db t → (found : List OwnerRow)
     → IsReadOf owner_columns 2 (Int (pos exam) ∷ []) owners_of_query db.trees found
     → IsPermutation (filter (λ r. r.exam == exam) t.owner) found
-owners_of_read db exam t stands found is =
+owners_of_read db exam t represents found is =
     let params : Row = Int (pos exam) ∷ [] in
     (read owner_of owner_columns 2 (λ x. refl) (λ x. refl) (inner 1 end) (equals 0 0 ∷ []) columns
     (0 ∷ []) (λ (x : OwnerRow). x.exam ∷ []) (λ x. refl) db.trees params
@@ -53,4 +53,4 @@ owners_of_read db exam t stands found is =
     (table_shown owner_columns keyed picked params 1 (equals 0 0 ∷ []) columns shown_is
     (λ x. refl) (passes params (equals 0 0 ∷ [])) (λ r. refl)
     (λ r. r.exam == exam) (λ x. equal_numbers x.exam exam) db.trees t.owner
-    stands.owner.same) is).0
+    represents.owner.same) is).0

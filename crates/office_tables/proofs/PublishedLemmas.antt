@@ -29,11 +29,11 @@ use Rattle.office_tables.specs.Placed.{placed_columns, with_placement}
 use Rattle.office_tables.specs.Seat.{seat_columns, with_seat}
 use Rattle.office_tables.proofs.AlterationLemmas.{placements_put, seats_put}
 use Rattle.office_tables.proofs.Casts.{cast_int, cast_null}
-use Rattle.office_tables.proofs.Frames.{holds_none, placed_changed, seat_changed}
+use Rattle.office_tables.proofs.Frames.{placed_changed, seat_changed}
 use Rattle.office_tables.proofs.ManyRows.{repeated, next_params, numberless, terms_from, values_there, added_rows, added_numberless}
 use Rattle.office_tables.proofs.Statements.{inserts, deletes}
 use Rattle.office_tables.proofs.TableLemmas.{holds_more, rowids_filter}
-use Rattle.office_tables.proofs.Queries.{answered, passes, shown_filter, left_of, none_left, column_less, equal_numbers, one_table, equals, rowids}
+use Rattle.office_tables.proofs.Queries.{answered, passes, shown_filter, left_of, column_less, equal_numbers, one_table, equals, rowids}
 
 -- ---- INSERT INTO placed
 
@@ -56,8 +56,8 @@ pub placement_added : (old new : State) (row : PlacedRow) (count : ℕ) (t : Tab
     → HoldsTables old.now t
     → Executes insert_placement_text (placed_columns row) old new (Ok count)
     → HoldsTables new.now (record t { placed = row ∷ t.placed })
-placement_added old new row count t stands h =
-    let done = inserts insert_placement_text _ old new count office_schema stands.schema
+placement_added old new row count t represents h =
+    let done = inserts insert_placement_text _ old new count office_schema represents.schema
     insert_placement_plain 5 placed_table refl insert_placement_terms 4 insert_placement_is
     (λ taken news. refl) h in
     let is = done.1 in
@@ -67,11 +67,11 @@ placement_added old new row count t stands h =
     let rows : new.now.trees 7 ≡ put_row new_row stored =
     is.rows ∙ rw (cast_null, cast_int row.exam, cast_int row.period, cast_int row.room) refl in
     let fresh : are_fresh stored (new_row ∷ []) ≡ true = rw (cast_int row.exam) at is.fresh in
-    placed_changed old.now new.now t stands done.0 (row ∷ t.placed) is.tables
+    placed_changed old.now new.now t represents done.0 (row ∷ t.placed) is.tables
     (rw rows (holds_more keyed (map placed_columns t.placed) stored new_row
     (placed_columns row) refl refl
     fresh
-    stands.placed))
+    represents.placed))
 
 -- ---- INSERT INTO placed, sixteen rows
 
@@ -99,7 +99,7 @@ pub placements_added : (old new : State) (its : List InsertPlacement) → length
     → (count : ℕ) (t : Tables) → HoldsTables old.now t
     → Executes insert_placements_text (flat_map placed_columns (map (λ it. it.row) its)) old new (Ok count)
     → HoldsTables new.now (after_all (λ it. with_placement it.row) its t)
-placements_added old new its long count t stands h =
+placements_added old new its long count t represents h =
     let rows : List PlacedRow = map (λ it. it.row) its in
     let done = added_rows placed_columns keyed_row keyed 3 4 keyed_terms
     (λ row. refl) (λ at. refl)
@@ -109,10 +109,10 @@ placements_added old new its long count t stands h =
     insert_placements_text 16 5 placed_table refl insert_placements_plain
     insert_placements_is refl (λ taken news. refl)
     (λ row. rw (cast_null, cast_int row.exam, cast_int row.period, cast_int row.room) refl)
-    old new rows t.placed (length-map its (λ it. it.row) ∙ long) count stands.schema
-    stands.placed h in
+    old new rows t.placed (length-map its (λ it. it.row) ∙ long) count represents.schema
+    represents.placed h in
     subst (HoldsTables new.now) (sym (placements_put its t))
-    (placed_changed old.now new.now t stands done.0 (reverse rows ++ t.placed) done.1 done.2)
+    (placed_changed old.now new.now t represents done.0 (reverse rows ++ t.placed) done.1 done.2)
 
 -- ---- DELETE FROM placed WHERE exam = ?1
 
@@ -131,53 +131,25 @@ delete_exam_plain = (refl, refl)
 pub placement_deleted : (old new : State) (exam : ℕ) (count : ℕ) (t : Tables) → HoldsTables old.now t
     → Executes delete_exam_text (Int (pos exam) ∷ []) old new (Ok count)
     → HoldsTables new.now (record t { placed = filter (λ r. not (r.exam == exam)) t.placed })
-placement_deleted old new exam count t stands h =
+placement_deleted old new exam count t represents h =
     let params = Int (pos exam) ∷ [] in
-    let done = deletes delete_exam_text params old new count office_schema stands.schema
+    let done = deletes delete_exam_text params old new count office_schema represents.schema
     delete_exam_plain 5 placed_table refl _ delete_exam_is (λ taken news. refl) h in
     let is = done.3 in
     let stored = old.now.trees 7 in
     let test = passes params (equals 0 0 ∷ []) in
     let answer = answered 7 (equals 0 0 ∷ []) _ [] old.now.trees params done.0 done.2 in
     let rows : new.now.trees 7 ≡ filter (λ r. not (test r)) stored =
-    is.rows ∙ left_of test stored done.0 stands.placed.rowids answer in
+    is.rows ∙ left_of test stored done.0 represents.placed.rowids answer in
     let same = shown_filter keyed placed_columns (λ r. not (test r)) (λ row. not (test row))
     (λ r. not (r.exam == exam))
-    (λ r. refl) (λ x. ap not (equal_numbers x.exam exam)) stored t.placed stands.placed.same in
-    placed_changed old.now new.now t stands done.1
+    (λ r. refl) (λ x. ap not (equal_numbers x.exam exam)) stored t.placed represents.placed.same in
+    placed_changed old.now new.now t represents done.1
     (filter (λ r. not (r.exam == exam)) t.placed) is.tables
     (rw rows (record {
-      rowids = rowids_filter (λ r. not (test r)) stored stands.placed.rowids;
+      rowids = rowids_filter (λ r. not (test r)) stored represents.placed.rowids;
       same = same;
     }))
-
--- ---- DELETE FROM placed
-
-abbrev pub delete_placement_text : List ℕ
-delete_placement_text = codes "DELETE FROM placed"
-
-delete_placement_is : command_of (understood office_schema delete_placement_text)
-    ≡ Delete 5 (record { lets = []; body = one_table 7 [] rowids [] })
-unfolding understood everything
-delete_placement_is = refl
-
-delete_placement_plain : IsPlain (understood office_schema delete_placement_text)
-unfolding understood everything
-delete_placement_plain = (refl, refl)
-
-pub placement_cleared : (old new : State) (count : ℕ) (t : Tables) → HoldsTables old.now t
-    → Executes delete_placement_text [] old new (Ok count)
-    → HoldsTables new.now (record t { placed = [] })
-placement_cleared old new count t stands h =
-    let done = deletes delete_placement_text [] old new count office_schema stands.schema
-    delete_placement_plain 5 placed_table refl _ delete_placement_is (λ taken news. refl) h in
-    let is = done.3 in
-    let stored = old.now.trees 7 in
-    let answer = answered 7 [] _ [] old.now.trees [] done.0 done.2 in
-    let rows : new.now.trees 7 ≡ [] =
-    is.rows ∙ left_of (λ r. true) stored done.0 stands.placed.rowids answer ∙ none_left stored in
-    placed_changed old.now new.now t stands done.1 [] is.tables
-    (holds_none keyed (new.now.trees 7) rows)
 
 -- ---- INSERT INTO seat
 
@@ -200,8 +172,8 @@ insert_seat_plain = (refl, refl)
 pub seat_added : (old new : State) (row : SeatRow) (count : ℕ) (t : Tables) → HoldsTables old.now t
     → Executes insert_seat_text (seat_columns row) old new (Ok count)
     → HoldsTables new.now (record t { seat = row ∷ t.seat })
-seat_added old new row count t stands h =
-    let done = inserts insert_seat_text _ old new count office_schema stands.schema
+seat_added old new row count t represents h =
+    let done = inserts insert_seat_text _ old new count office_schema represents.schema
     insert_seat_plain 6 seat_table refl insert_seat_terms 6 insert_seat_is
     (λ taken news. refl) h in
     let is = done.1 in
@@ -218,10 +190,10 @@ seat_added old new row count t stands h =
       cast_int row.seat,
     ) refl in
     let fresh : are_fresh stored (new_row ∷ []) ≡ true = rw (cast_null) at is.fresh in
-    seat_changed old.now new.now t stands done.0 (row ∷ t.seat) is.tables
+    seat_changed old.now new.now t represents done.0 (row ∷ t.seat) is.tables
     (rw rows (holds_more keyless (map seat_columns t.seat) stored new_row
     (seat_columns row) refl refl fresh
-    stands.seat))
+    represents.seat))
 
 -- ---- INSERT INTO seat, sixteen rows
 
@@ -242,16 +214,16 @@ pub seats_added : (old new : State) (its : List InsertSeat) → length its ≡ 1
     → (count : ℕ) (t : Tables) → HoldsTables old.now t
     → Executes insert_seats_text (flat_map seat_columns (map (λ it. it.row) its)) old new (Ok count)
     → HoldsTables new.now (after_all (λ it. with_seat it.row) its t)
-seats_added old new its long count t stands h =
+seats_added old new its long count t represents h =
     let rows : List SeatRow = map (λ it. it.row) its in
     let done = added_numberless seat_columns 5 (λ row. refl) insert_seats_text 16 6 seat_table
     refl insert_seats_plain
     insert_seats_is refl (λ taken news. refl)
     (λ row. rw (cast_null, cast_int row.student, cast_int row.exam, cast_int row.period, cast_int row.room, cast_int row.seat) refl)
-    old new rows t.seat (length-map its (λ it. it.row) ∙ long) count stands.schema
-    stands.seat h in
+    old new rows t.seat (length-map its (λ it. it.row) ∙ long) count represents.schema
+    represents.seat h in
     subst (HoldsTables new.now) (sym (seats_put its t))
-    (seat_changed old.now new.now t stands done.0 (reverse rows ++ t.seat) done.1 done.2)
+    (seat_changed old.now new.now t represents done.0 (reverse rows ++ t.seat) done.1 done.2)
 
 -- ---- DELETE FROM seat WHERE student = ?1
 
@@ -271,9 +243,10 @@ pub student_seats_deleted : (old new : State) (number : ℕ) (count : ℕ) (t : 
     → HoldsTables old.now t
     → Executes delete_student_seats_text (Int (pos number) ∷ []) old new (Ok count)
     → HoldsTables new.now (record t { seat = filter (λ r. not (r.student == number)) t.seat })
-student_seats_deleted old new number count t stands h =
+student_seats_deleted old new number count t represents h =
     let params = Int (pos number) ∷ [] in
-    let done = deletes delete_student_seats_text params old new count office_schema stands.schema
+    let done = deletes delete_student_seats_text params old new count office_schema
+    represents.schema
     delete_student_seats_plain 6 seat_table refl _ delete_student_seats_is
     (λ taken news. refl) h in
     let is = done.3 in
@@ -282,15 +255,15 @@ student_seats_deleted old new number count t stands h =
     let shown_test = λ (row : Row). passes params (equals 0 0 ∷ []) row in
     let answer = answered 8 (equals 1 0 ∷ []) _ [] old.now.trees params done.0 done.2 in
     let rows : new.now.trees 8 ≡ filter (λ r. not (test r)) stored =
-    is.rows ∙ left_of test stored done.0 stands.seat.rowids answer in
+    is.rows ∙ left_of test stored done.0 represents.seat.rowids answer in
     let same = shown_filter keyless seat_columns (λ r. not (test r)) (λ row. not (shown_test row))
     (λ r. not (r.student == number))
     (λ r. ap (λ v. not (is_true (binary (Compare Eq Binary) v (Int (pos number))) && true))
     (column_less r 0))
-    (λ x. ap not (equal_numbers x.student number)) stored t.seat stands.seat.same in
-    seat_changed old.now new.now t stands done.1
+    (λ x. ap not (equal_numbers x.student number)) stored t.seat represents.seat.same in
+    seat_changed old.now new.now t represents done.1
     (filter (λ r. not (r.student == number)) t.seat)
     is.tables (rw rows (record {
-      rowids = rowids_filter (λ r. not (test r)) stored stands.seat.rowids;
+      rowids = rowids_filter (λ r. not (test r)) stored represents.seat.rowids;
       same = same;
     }))

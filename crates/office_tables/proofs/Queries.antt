@@ -100,7 +100,7 @@ pub answered : (tree : ℕ) (where_ shown : List Term) (order : List (Term × Ke
     (map (shown_of params shown) (filter (passes params where_) (trees tree))) rows
 answered = answered_by []
 
--- ---- from stored rows to what they stand for
+-- ---- from stored rows to the rows that they represent
 
 pub column_less : (row : Row) (at : ℕ) → column row (suc at) ≡ column (drop 1 row) at
 column_less [] at = refl

@@ -95,23 +95,23 @@ insert_night_share_plain = (refl, refl)
 -- a change of the first table leaves the second unchanged
 nights_beside : (old mid : Database) (t : Tables) → HoldsTables old t → Others 11 old.trees mid.trees
     → Holds keyed (map night_share_columns t.share_student) (mid.trees 16)
-nights_beside old mid t stands others =
-    still keyed _ _ _ (others.1.1.1.1.1.1.1.1.1.1.1.0 (omega arith)) stands.night_share
+nights_beside old mid t represents others =
+    still keyed _ _ _ (others.1.1.1.1.1.1.1.1.1.1.1.0 (omega arith)) represents.night_share
 
 pub student_share_added : (old mid new : State) (row : StudentShareRow) (first second : ℕ)
     (t : Tables) → HoldsTables old.now t
     → Executes insert_student_share_text (share_student_columns row) old mid (Ok first)
     → Executes insert_night_share_text (night_share_columns row) mid new (Ok second)
     → HoldsTables new.now (record t { share_student = row ∷ t.share_student })
-student_share_added old mid new row first second t stands h k =
+student_share_added old mid new row first second t represents h k =
     let one =
-    student_costs_added old mid row first t.share_student stands.schema stands.share_student
+    student_costs_added old mid row first t.share_student represents.schema represents.share_student
     h in
-    student_shares_changed old.now mid.now new.now t stands (row ∷ t.share_student) one
+    student_shares_changed old.now mid.now new.now t represents (row ∷ t.share_student) one
     (night_added insert_night_share_text insert_night_share_plain 11 16 (codes "night_share")
     (codes "student") (codes "night") refl (λ taken news. refl) insert_night_share_is row.student
     row.night second (map night_share_columns t.share_student) mid new one.schema
-    (nights_beside old.now mid.now t stands one.others) k)
+    (nights_beside old.now mid.now t represents one.others) k)
 
 -- ---- DELETE FROM share_student WHERE student = ?1
 
@@ -147,19 +147,19 @@ pub student_share_deleted : (old mid new : State) (number : ℕ) (first second :
       share_student = filter (λ r. not (r.student == number))
           t.share_student;
     })
-student_share_deleted old mid new number first second t stands h k =
+student_share_deleted old mid new number first second t represents h k =
     let one =
     keyed_deleted delete_student_share_text delete_student_share_plain 7 share_student_table
     refl (λ taken news. refl) delete_student_share_is share_student_columns
     (λ (r : StudentShareRow). r.student) number first old mid (λ x. equal_numbers x.student number)
-    t.share_student stands.schema stands.share_student h in
-    student_shares_changed old.now mid.now new.now t stands
+    t.share_student represents.schema represents.share_student h in
+    student_shares_changed old.now mid.now new.now t represents
     (filter (λ r. not (r.student == number)) t.share_student) one
     (keyed_deleted delete_night_share_text delete_night_share_plain 11 night_share_table refl
     (λ taken news. refl) delete_night_share_is night_share_columns
     (λ (r : StudentShareRow). r.student) number second mid new
     (λ x. equal_numbers x.student number) t.share_student one.schema
-    (nights_beside old.now mid.now t stands one.others) k)
+    (nights_beside old.now mid.now t represents one.others) k)
 
 -- ---- INSERT INTO share_part
 
@@ -183,8 +183,8 @@ pub part_share_added : (old new : State) (row : PartShareRow) (count : ℕ) (t :
     → HoldsTables old.now t
     → Executes insert_part_share_text (share_part_columns row) old new (Ok count)
     → HoldsTables new.now (record t { share_part = row ∷ t.share_part })
-part_share_added old new row count t stands h =
-    let done = inserts insert_part_share_text _ old new count office_schema stands.schema
+part_share_added old new row count t represents h =
+    let done = inserts insert_part_share_text _ old new count office_schema represents.schema
     insert_part_share_plain 8 share_part_table refl insert_part_share_terms 5 insert_part_share_is
     (λ taken news. refl) h in
     let is = done.1 in
@@ -200,10 +200,10 @@ part_share_added old new row count t stands h =
           row.mixed,
     ) refl in
     let fresh : are_fresh stored (new_row ∷ []) ≡ true = rw (cast_null) at is.fresh in
-    share_part_changed old.now new.now t stands done.0 (row ∷ t.share_part) is.tables
+    share_part_changed old.now new.now t represents done.0 (row ∷ t.share_part) is.tables
     (rw rows (holds_more keyless (map share_part_columns t.share_part) stored new_row
     (share_part_columns row) refl refl fresh
-    stands.share_part))
+    represents.share_part))
 
 -- ---- INSERT INTO share_part, sixteen rows
 
@@ -226,7 +226,7 @@ pub part_shares_added : (old new : State) (its : List InsertPartShare) → lengt
     → Executes insert_part_shares_text (flat_map share_part_columns (map (λ it. it.row) its)) old new
     (Ok count)
     → HoldsTables new.now (after_all (λ it. with_part_share it.row) its t)
-part_shares_added old new its long count t stands h =
+part_shares_added old new its long count t represents h =
     let rows : List PartShareRow = map (λ it. it.row) its in
     let done = added_numberless share_part_columns 4 (λ row. refl) insert_part_shares_text 16 8
     share_part_table refl insert_part_shares_plain
@@ -238,10 +238,10 @@ part_shares_added old new its long count t stands h =
       cast_int row.penalty,
       cast_int row.mixed,
     ) refl)
-    old new rows t.share_part (length-map its (λ it. it.row) ∙ long) count stands.schema
-    stands.share_part h in
+    old new rows t.share_part (length-map its (λ it. it.row) ∙ long) count represents.schema
+    represents.share_part h in
     subst (HoldsTables new.now) (sym (part_shares_put its t))
-    (share_part_changed old.now new.now t stands done.0 (reverse rows ++ t.share_part) done.1
+    (share_part_changed old.now new.now t represents done.0 (reverse rows ++ t.share_part) done.1
     done.2)
 
 -- ---- DELETE FROM share_part
@@ -261,14 +261,14 @@ delete_part_share_plain = (refl, refl)
 pub part_share_cleared : (old new : State) (count : ℕ) (t : Tables) → HoldsTables old.now t
     → Executes delete_part_share_text [] old new (Ok count)
     → HoldsTables new.now (record t { share_part = [] })
-part_share_cleared old new count t stands h =
-    let done = deletes delete_part_share_text [] old new count office_schema stands.schema
+part_share_cleared old new count t represents h =
+    let done = deletes delete_part_share_text [] old new count office_schema represents.schema
     delete_part_share_plain 8 share_part_table refl _ delete_part_share_is (λ taken news. refl) h in
     let is = done.3 in
     let stored = old.now.trees 12 in
     let answer = answered 12 [] _ [] old.now.trees [] done.0 done.2 in
     let rows : new.now.trees 12 ≡ [] =
-    is.rows ∙ left_of (λ r. true) stored done.0 stands.share_part.rowids answer
+    is.rows ∙ left_of (λ r. true) stored done.0 represents.share_part.rowids answer
     ∙ none_left stored in
-    share_part_changed old.now new.now t stands done.1 [] is.tables
+    share_part_changed old.now new.now t represents done.1 [] is.tables
     (holds_none keyless (new.now.trees 12) rows)

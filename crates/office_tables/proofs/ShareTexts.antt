@@ -19,9 +19,9 @@ use Rattle.office_tables.specs.declared.share_part.PartShareRow.{PartShareRow}
 use Rattle.office_tables.specs.Tables.{Tables}
 use Rattle.office_tables.specs.TablesHeld.{HoldsTables}
 use Rattle.office_tables.specs.Stored.{Holds, keyed, keyless}
-use Rattle.office_tables.specs.ShareStudent.{share_student_columns, night_share_columns, share_shown}
+use Rattle.office_tables.specs.ShareStudent.{share_student_columns, night_share_columns, share_shown, HaveNoNight}
 use Rattle.office_tables.specs.SharePart.{share_part_columns}
-use Rattle.office_tables.proofs.NightLemmas.{bare_rows, bare_shown}
+use Rattle.office_tables.proofs.NightLemmas.{bare_rows, bare_shown, shown_holds}
 use Rattle.office_tables.proofs.NightTexts.{joined_shown, same_number}
 use Rattle.office_tables.proofs.OrderLemmas.{Rises, columns_shown, int, read, rise_alike, rising, table_shown}
 use Rattle.office_tables.proofs.Queries.{column_less, column_later, equal_pairs, equals, every}
@@ -60,26 +60,31 @@ first_shown : (r : Row) → int 0 ∷ column r 0 ∷ column r 2 ∷ column r 3 �
     ≡ first_picked (with_no_night r)
 first_shown r = rw (column_later r 0, column_later r 1, column_later r 2) refl
 
--- with 0 as each amount over night
-abbrev without_nights : List StudentShareRow → List StudentShareRow
-without_nights xs = map share_student_splits.bare xs
-
--- the first list has the students' rows, by student
+-- if the first table has these rows with 0 as each amount over night, the list has them, by student
 first_read : (db : Database) (xs rows : List StudentShareRow)
-    → Holds keyed (map share_student_columns xs) (db.trees 11)
+    → Holds with_no_night (map share_shown xs) (db.trees 11)
     → IsReadOf share_shown 5 [] student_shares_query db.trees rows
-    → IsPermutation (without_nights xs) rows × Rises (λ (x : StudentShareRow). x.student ∷ []) rows
+    → IsPermutation xs rows × Rises (λ (x : StudentShareRow). x.student ∷ []) rows
 first_read db xs rows holds is =
-    let stored = bare_shown _ _ _ _ _ _ share_student_splits (db.trees 11) xs holds in
     read student_share_of share_shown 5 (λ x. refl) (λ x. refl) (inner 11 end) [] first_terms
-    (1 ∷ []) (λ (x : StudentShareRow). x.student ∷ []) (λ x. refl) db.trees [] (without_nights xs)
-    rows
+    (1 ∷ []) (λ (x : StudentShareRow). x.student ∷ []) (λ x. refl) db.trees [] xs rows
     (subst (λ l. IsPermutation (map (eval_all first_terms)
     (matches db.trees [] (inner 11 end) ([] ∷ []))) (map share_shown l))
-    (every (λ _. true) (without_nights xs) (λ x. refl))
+    (every (λ _. true) xs (λ x. refl))
     (table_shown share_shown with_no_night first_picked [] 11 [] first_terms first_shown (λ x. refl)
-    (λ _. true) (λ r. refl) (λ _. true) (λ x. refl) db.trees (without_nights xs) stored.same))
+    (λ _. true) (λ r. refl) (λ _. true) (λ x. refl) db.trees xs holds.same))
     is
+
+-- if no share has an amount over night, the first list has the shares
+pub bare_shares_read : (db : Database) (t : Tables) → HoldsTables db t
+    → HaveNoNight t.share_student → (found : List StudentShareRow)
+    → IsReadOf share_shown 5 [] student_shares_query db.trees found
+    → IsPermutation t.share_student found × Rises (λ (x : StudentShareRow). x.student ∷ []) found
+bare_shares_read db t represents none found =
+    first_read db t.share_student found
+    (shown_holds _ _ _ _ _ _ share_student_splits
+    (db.trees 11) t.share_student represents.share_student
+    none)
 
 -- ---- SELECT student, night FROM night_share ORDER BY student
 
@@ -143,19 +148,22 @@ pub student_shares_read : (db : Database) (t : Tables) → HoldsTables db t
     → IsReadWith share_shown share_student_columns night_share_columns 5 student_shares_query
     share_nights_query db.trees found
     → IsPermutation t.share_student found × Rises (λ (x : StudentShareRow). x.student ∷ []) found
-student_shares_read db t stands found is =
+student_shares_read db t represents found is =
     let xs = t.share_student in
-    let first = first_read db xs is.rows stands.share_student is.first in
+    let first = first_read db (map share_student_splits.bare xs) is.rows
+    (bare_shown _ _ _ _ _ _ share_student_splits (db.trees 11) xs represents.share_student)
+    is.first in
     let columns : IsPermutation (map share_student_columns xs) (map share_student_columns found) =
     rw (is.columns, sym (bare_rows _ _ _ _ _ _ share_student_splits xs))
     (IsPermutation-map share_student_columns _ _ first.0) in
     let amounts : IsPermutation (map night_share_columns xs) (map night_share_columns found) =
-    rw is.amounts (nights_read db xs is.nights stands.night_share is.second) in (
+    rw is.amounts (nights_read db xs is.nights represents.night_share is.second) in (
       alike_now student_share_of share_shown (λ x. refl) share_student_columns night_share_columns
           (λ (x : StudentShareRow). x.student) (λ x. refl) (λ x y. refl) (λ x. refl) (db.trees 11)
-          (db.trees 16) xs found stands.share_student
-          (holds_moved keyed _ _ (db.trees 11) columns stands.share_student) stands.night_share
-          (holds_moved keyed _ _ (db.trees 16) amounts stands.night_share),
+          (db.trees 16) xs found represents.share_student
+          (holds_moved keyed _ _ (db.trees 11) columns represents.share_student)
+          represents.night_share
+          (holds_moved keyed _ _ (db.trees 16) amounts represents.night_share),
       rise_alike (λ (x : StudentShareRow). x.student ∷ []) is.rows found
           (sym (same_numbers found is.rows is.columns)) first.1,
     )
@@ -203,7 +211,7 @@ pub student_shares_of_read : (db : Database) (number : ℕ) (t : Tables) → Hol
     (Int (pos number) ∷ []) student_shares_of_query db.trees found
     → IsPermutation (filter (λ r. r.student == number) t.share_student) found
     × Rises (λ (x : StudentShareRow). x.student ∷ []) found
-student_shares_of_read db number t stands found is =
+student_shares_of_read db number t represents found is =
     let params : Row = Int (pos number) ∷ [] in
     read student_share_of share_shown 5 (λ x. refl) (λ x. refl) (inner 11 (inner 16 end))
     (equals 0 0 ∷ same_number ∷ []) share_student_terms (1 ∷ [])
@@ -214,7 +222,7 @@ student_shares_of_read db number t stands found is =
     share_student_picked (λ r s. refl) share_student_shown
     (λ r. r.student == number) (λ x y. equal_pairs x.student number y.student x.student)
     (λ x. refl) db.trees t.share_student
-    stands.share_student stands.night_share) is
+    represents.share_student represents.night_share) is
 
 abbrev pub share_part_terms : List Term
 share_part_terms = col 1 1 ∷ col 1 2 ∷ col 1 3 ∷ col 1 4 ∷ []
@@ -247,7 +255,7 @@ part_shares_means = record {
 pub part_shares_read : (db : Database) (t : Tables) → HoldsTables db t → (found : List PartShareRow)
     → IsReadOf share_part_columns 4 [] part_shares_query db.trees found
     → IsPermutation t.share_part found × Rises (λ (x : PartShareRow). x.kind ∷ x.no ∷ []) found
-part_shares_read db t stands found is =
+part_shares_read db t represents found is =
     read part_share_of share_part_columns 4 (λ x. refl) (λ x. refl) (inner 12 end) []
     share_part_terms (0 ∷ 1 ∷ []) (λ (x : PartShareRow). x.kind ∷ x.no ∷ [])
     (λ x. refl) db.trees [] t.share_part found
@@ -256,5 +264,6 @@ part_shares_read db t stands found is =
     (every (λ _. true) t.share_part (λ x. refl))
     (table_shown share_part_columns keyless share_part_picked [] 12 [] share_part_terms
     share_part_shown (λ x. refl)
-    (λ _. true) (λ r. refl) (λ _. true) (λ x. refl) db.trees t.share_part stands.share_part.same))
+    (λ _. true) (λ r. refl) (λ _. true) (λ x. refl) db.trees t.share_part
+    represents.share_part.same))
     is

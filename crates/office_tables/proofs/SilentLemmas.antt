@@ -122,11 +122,11 @@ compiled_returns s sql c is =
     let read = and_then_ok (first sql)
     (λ p. and_then (planned s p) (λ plan. Ok (with_command p plan))) c is in
     let plan = and_then_ok (planned s read.0) (λ plan. Ok (with_command read.0 plan)) c read.2 in
-    let told = planned_returns s read.0 plan.0 plan.1 in (
+    let returns_it = planned_returns s read.0 plan.0 plan.1 in (
       read.0,
       read.1,
-      told.0,
-      told.1 ∙ ap (λ (it : Compiled). Ok it.returning) (ok_is plan.2),
+      returns_it.0,
+      returns_it.1 ∙ ap (λ (it : Compiled). Ok it.returning) (ok_is plan.2),
     )
 
 chosen : (select : Bool) (c d : Compiled) (e : CompileError)

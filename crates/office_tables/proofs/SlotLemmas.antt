@@ -51,8 +51,8 @@ insert_plain = (refl, refl)
 pub added : (old new : State) (row : SlotRow) (count : ℕ) (t : Tables) → HoldsTables old.now t
     → Executes insert_text (slot_columns row) old new (Ok count)
     → HoldsTables new.now (record t { slot = row ∷ t.slot })
-added old new row count t stands h =
-    let done = inserts insert_text _ old new count office_schema stands.schema insert_plain
+added old new row count t represents h =
+    let done = inserts insert_text _ old new count office_schema represents.schema insert_plain
     4 slot_table refl insert_terms 5 insert_is (λ taken news. refl) h in
     let is = done.1 in
     let stored = old.now.trees 5 in
@@ -61,9 +61,9 @@ added old new row count t stands h =
     is.rows ∙ rw (cast_null, cast_int row.draft, cast_int row.exam, cast_int row.period, cast_int row.room)
     refl in
     let fresh : are_fresh stored (new_row ∷ []) ≡ true = rw (cast_null) at is.fresh in
-    slot_changed old.now new.now t stands done.0 (row ∷ t.slot) is.tables
+    slot_changed old.now new.now t represents done.0 (row ∷ t.slot) is.tables
     (rw rows (holds_more keyless (map slot_columns t.slot) stored new_row
-    (slot_columns row) refl refl fresh stands.slot))
+    (slot_columns row) refl refl fresh represents.slot))
 
 -- ---- INSERT, sixteen rows
 
@@ -84,16 +84,16 @@ pub added_many : (old new : State) (its : List InsertSlot) → length its ≡ 16
     → (count : ℕ) (t : Tables) → HoldsTables old.now t
     → Executes insert_many_text (flat_map slot_columns (map (λ it. it.row) its)) old new (Ok count)
     → HoldsTables new.now (after_all (λ it. with_slot it.row) its t)
-added_many old new its long count t stands h =
+added_many old new its long count t represents h =
     let rows : List SlotRow = map (λ it. it.row) its in
     let done = added_numberless slot_columns 4 (λ row. refl) insert_many_text 16 4 slot_table
     refl insert_many_plain
     insert_many_is refl (λ taken news. refl)
     (λ row. rw (cast_null, cast_int row.draft, cast_int row.exam, cast_int row.period, cast_int row.room) refl)
-    old new rows t.slot (length-map its (λ it. it.row) ∙ long) count stands.schema
-    stands.slot h in
+    old new rows t.slot (length-map its (λ it. it.row) ∙ long) count represents.schema
+    represents.slot h in
     subst (HoldsTables new.now) (sym (slots_put its t))
-    (slot_changed old.now new.now t stands done.0 (reverse rows ++ t.slot) done.1 done.2)
+    (slot_changed old.now new.now t represents done.0 (reverse rows ++ t.slot) done.1 done.2)
 
 -- ---- DELETE WHERE draft = ?1
 
@@ -112,9 +112,9 @@ delete_draft_plain = (refl, refl)
 pub delete_draftd : (old new : State) (draft : ℕ) (count : ℕ) (t : Tables) → HoldsTables old.now t
     → Executes delete_draft_text (Int (pos draft) ∷ []) old new (Ok count)
     → HoldsTables new.now (record t { slot = filter (λ r. not (r.draft == draft)) t.slot })
-delete_draftd old new draft count t stands h =
+delete_draftd old new draft count t represents h =
     let params = Int (pos draft) ∷ [] in
-    let done = deletes delete_draft_text params old new count office_schema stands.schema
+    let done = deletes delete_draft_text params old new count office_schema represents.schema
     delete_draft_plain
     4 slot_table refl _ delete_draft_is (λ taken news. refl) h in
     let is = done.3 in
@@ -123,15 +123,18 @@ delete_draftd old new draft count t stands h =
     let shown_test = λ (row : Row). passes params (equals 0 0 ∷ []) row in
     let answer = answered 5 (equals 1 0 ∷ []) _ [] old.now.trees params done.0 done.2 in
     let rows : new.now.trees 5 ≡ filter (λ r. not (test r)) stored =
-    is.rows ∙ left_of test stored done.0 stands.slot.rowids answer in
+    is.rows ∙ left_of test stored done.0 represents.slot.rowids answer in
     let same = shown_filter keyless slot_columns (λ r. not (test r)) (λ row. not (shown_test row))
     (λ r. not (r.draft == draft))
     (λ r. ap (λ v. not (is_true (binary (Compare Eq Binary) v (Int (pos draft))) && true))
     (column_less r 0))
-    (λ x. ap not (equal_numbers x.draft draft)) stored t.slot stands.slot.same in
-    slot_changed old.now new.now t stands done.1
+    (λ x. ap not (equal_numbers x.draft draft)) stored t.slot represents.slot.same in
+    slot_changed old.now new.now t represents done.1
     (filter (λ r. not (r.draft == draft)) t.slot) is.tables
-    (rw rows (record { rowids = rowids_filter (λ r. not (test r)) stored stands.slot.rowids; same = same }))
+    (rw rows (record {
+      rowids = rowids_filter (λ r. not (test r)) stored represents.slot.rowids;
+      same = same;
+    }))
 
 -- ---- DELETE WHERE draft = ?1 AND exam = ?2
 
@@ -151,9 +154,9 @@ pub deleted : (old new : State) (draft : ℕ) (exam : ℕ) (count : ℕ) (t : Ta
     → Executes delete_text (Int (pos draft) ∷ Int (pos exam) ∷ []) old new (Ok count)
     → HoldsTables new.now
     (record t { slot = filter (λ r. not ((r.draft == draft) && (r.exam == exam))) t.slot })
-deleted old new draft exam count t stands h =
+deleted old new draft exam count t represents h =
     let params = Int (pos draft) ∷ Int (pos exam) ∷ [] in
-    let done = deletes delete_text params old new count office_schema stands.schema delete_plain
+    let done = deletes delete_text params old new count office_schema represents.schema delete_plain
     4 slot_table refl _ delete_is (λ taken news. refl) h in
     let is = done.3 in
     let stored = old.now.trees 5 in
@@ -162,11 +165,14 @@ deleted old new draft exam count t stands h =
     let answer =
     answered 5 (equals 1 0 ∷ equals 2 1 ∷ []) _ [] old.now.trees params done.0 done.2 in
     let rows : new.now.trees 5 ≡ filter (λ r. not (test r)) stored =
-    is.rows ∙ left_of test stored done.0 stands.slot.rowids answer in
+    is.rows ∙ left_of test stored done.0 represents.slot.rowids answer in
     let same = shown_filter keyless slot_columns (λ r. not (test r)) (λ row. not (shown_test row))
     (λ r. not ((r.draft == draft) && (r.exam == exam)))
     (λ r. rw (column_less r 0, column_less r 1) refl)
-    (λ x. ap not (equal_pairs x.draft draft x.exam exam)) stored t.slot stands.slot.same in
-    slot_changed old.now new.now t stands done.1
+    (λ x. ap not (equal_pairs x.draft draft x.exam exam)) stored t.slot represents.slot.same in
+    slot_changed old.now new.now t represents done.1
     (filter (λ r. not ((r.draft == draft) && (r.exam == exam))) t.slot) is.tables
-    (rw rows (record { rowids = rowids_filter (λ r. not (test r)) stored stands.slot.rowids; same = same }))
+    (rw rows (record {
+      rowids = rowids_filter (λ r. not (test r)) stored represents.slot.rowids;
+      same = same;
+    }))

@@ -14,5 +14,5 @@ without_nights trees tree = if (tree == 15) || (tree == 16) then [] else trees t
 -- the database has all tables of version 2, with the rows of version 1 and none in the two new ones
 pub record IsWidened (t : Tables) (db : Database) : Type 0 where
   pub before : Database
-  pub stands : HoldsOldTables before t
+  pub represents : HoldsOldTables before t
   pub widened : HasRows office_schema (without_nights before.trees) db

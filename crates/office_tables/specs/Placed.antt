@@ -20,10 +20,6 @@ with_placement row t = record t { placed = row ∷ t.placed }
 abbrev pub without_placement : ℕ → Tables → Tables
 without_placement exam t = record t { placed = filter (λ r. not (r.exam == exam)) t.placed }
 
--- without any published place
-abbrev pub no_placements : Tables → Tables
-no_placements t = record t { placed = [] }
-
 -- the numbers of a published place have 32 bits
 abbrev pub FitsPlacement : PlacedRow → Type 0
 FitsPlacement r = IsNarrow r.exam × IsNarrow r.period × IsNarrow r.room

@@ -15,8 +15,8 @@ ColumnRises at rows =
     (numbers : List ℤ) × (map (λ r. column r at) rows ≡ map Int numbers)
     × IsAscending (λ a b. a <ℤ b) numbers
 
--- `Some`: the value is this number, greater than the last. `None`: it is no number greater than the
--- last
+-- `Some`: the value is this number, greater than the last. `None`: it isn't a number greater than
+-- the last
 abbrev pub IsNext : Value → Option ℤ → Option ℤ → Type 0
 IsNext value last (Some number) = (value ≡ Int number) × IfSome last (λ before. before <ℤ number)
 IsNext value last None =

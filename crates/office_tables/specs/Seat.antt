@@ -1,5 +1,5 @@
--- The table seat: its columns, the effect of statements on it, which rows fit, and their orders.
-use Rattle.std.specs.Prelude.{◌≡◌, ◌<◌, ◌⊎◌, ◌==◌, ℕ, pos, List, [], ◌∷◌, filter, not}
+-- The table seat: its columns, the effect of statements on it, which rows fit, and their order.
+use Rattle.std.specs.Prelude.{◌<◌, ◌==◌, ℕ, pos, List, [], ◌∷◌, filter, not}
 use Rattle.sqlite_value.specs.declared.value.Value.TheVariants.{Int}
 use Rattle.sqlite_value.specs.Order.{Row}
 use Rattle.sqlite_trees.specs.Tree.{IsAscending}
@@ -26,12 +26,6 @@ without_student_seats student t =
 abbrev pub FitsSeat : SeatRow → Type 0
 FitsSeat r =
     IsNarrow r.student × IsNarrow r.exam × IsNarrow r.period × IsNarrow r.room × IsNarrow r.seat
-
--- by exam, and in an exam by student, strictly ascending
-abbrev pub SeatsRise : List SeatRow → Type 0
-SeatsRise =
-    IsAscending (λ (a b : SeatRow).
-    (a.exam < b.exam) ⊎ ((a.exam ≡ b.exam) × (a.student < b.student)))
 
 -- one student's seats, by exam, strictly ascending
 abbrev pub StudentSeatsRise : List SeatRow → Type 0

@@ -1,6 +1,7 @@
 -- The tables share_student and night_share: their columns, the effect of statements on them, which
 -- rows fit, their order and their amounts.
-use Rattle.std.specs.Prelude.{◌<◌, ◌==◌, ℕ, pos, List, [], ◌∷◌, filter, not}
+use Rattle.std.specs.Prelude.{◌≡◌, ◌<◌, ◌==◌, ℕ, pos, List, [], ◌∷◌, filter, not}
+use Rattle.std.specs.List.{AllByRecursion}
 use Rattle.sqlite_value.specs.declared.value.Value.TheVariants.{Int}
 use Rattle.sqlite_value.specs.Order.{Row}
 use Rattle.sqlite_trees.specs.Tree.{IsAscending}
@@ -38,6 +39,10 @@ FitsStudentShare r = IsNarrow r.student
 -- by student, strictly ascending
 abbrev pub StudentSharesRise : List StudentShareRow → Type 0
 StudentSharesRise = IsAscending (λ (a b : StudentShareRow). a.student < b.student)
+
+-- no share has an amount over night
+abbrev pub HaveNoNight : List StudentShareRow → Type 0
+HaveNoNight rows = AllByRecursion (λ (r : StudentShareRow). r.night ≡ 0) rows
 
 -- all four parts of a student's share are sums that the tables can hold
 pub record AreStudentAmounts (row : StudentShareRow) : Type 0 where

@@ -15,16 +15,16 @@ pub record Within (old new : State) : Type 0 where
   pub survives : Survives old new (λ _. ⊥)
   pub kept : HasCleanDisk new → KeepsCommit old new
 
--- the transaction goes on; if the first property held before, the second holds now
+-- the transaction continues; if the first property held before, the second holds now
 abbrev pub Leads : (Database → Type 0) → (Database → Type 0) → State → State → Type 0
 Leads P Q old new = IsTrue new.in_transaction × (P old.now → Q new.now)
 
--- the transaction goes on, and the tables have this change
+-- the transaction continues, and the tables have this change
 abbrev pub Makes : (Tables → Tables) → State → State → Type 0
 Makes f old new =
     IsTrue new.in_transaction × ((t : Tables) → HoldsTables old.now t → HoldsTables new.now (f t))
 
--- a statement has run, and the transaction goes on
+-- a statement has run, and the transaction continues
 pub record HasRun (sql : List ℕ) (params : Row) (old new : State) : Type 0 where
   pub count : ℕ
   pub executed : Executes sql params old new (Ok count)

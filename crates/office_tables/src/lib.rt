@@ -37,16 +37,14 @@ pub use looking::look;
 pub use meta::{DeleteMeta, InsertMeta, MetaRow};
 pub use migrating::migrate;
 pub use owner::{DeleteOwner, InsertOwner, OwnerRow, owners_of};
-pub use placed::{
-    DeletePlacement, DeletePlacements, InsertPlacement, InsertPlacements, PlacedRow, placements,
-    placements_of,
-};
-pub use seat::{DeleteStudentSeats, InsertSeat, InsertSeats, SeatRow, seats, seats_of};
+pub use placed::{DeletePlacement, InsertPlacement, InsertPlacements, PlacedRow, placements_of};
+pub use seat::{DeleteStudentSeats, InsertSeat, InsertSeats, SeatRow, seats_of};
 pub use share_part::{
     DeletePartShares, InsertPartShare, InsertPartShares, PartShareRow, part_shares,
 };
 pub use share_student::{
     DeleteStudentShare, InsertStudentShare, StudentShareRow, student_shares, student_shares_of,
+    student_shares_without_nights,
 };
 pub use slot::{DeleteSlot, DeleteSlots, InsertSlot, InsertSlots, SlotRow};
 pub use version::Version;

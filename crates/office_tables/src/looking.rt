@@ -6,8 +6,8 @@ ghost use Rattle.office_tables.specs.Readers.{Keeps, LeavesAll};
 
 use sqlite::{Alter, Connection, Error};
 
-/// Checks that the file can still be read: a store that a fault has shut answers nothing. The query
-/// is for draft 0, which doesn't exist, so no row is read.
+/// Checks that the file can still be read: a store that a fault has closed answers nothing. The
+/// query is for draft 0, which doesn't exist, so no row is read.
 pub fn look<S: Alter>(conn: &mut Connection<S>) -> Result<(), Error>
     ensures open { HasCleanDisk (state S.Store conn.new)
         → OnOk result (IsTrue (state S.Store conn.old).is_open) }

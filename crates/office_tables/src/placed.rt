@@ -4,7 +4,7 @@ ghost use Rattle.sqlite.specs.Held.{state};
 ghost use Rattle.sqlite.specs.State.{Survives};
 ghost use Rattle.sqlite.specs.Values.{bound};
 ghost use Rattle.office_tables.specs.declared.version.Version.{Version};
-ghost use Rattle.office_tables.specs.Placed.{no_placements, placed_columns, placed_of, with_placement, without_placement, FitsPlacement, PlacementsRise};
+ghost use Rattle.office_tables.specs.Placed.{placed_columns, placed_of, with_placement, without_placement, FitsPlacement, PlacementsRise};
 ghost use Rattle.office_tables.specs.Finders.{Finds, IsFound, Leaves, Looks};
 ghost use Rattle.office_tables.specs.Schema.{schema_5, schema_6, IsBlank};
 ghost use Rattle.office_tables.specs.Selections.{IsInOrder};
@@ -152,44 +152,6 @@ impl Alteration for DeletePlacement {
     fn apply<S: Alter>(&self, tx: &mut Transaction<'_, S>) -> Result<(), Error> {
         run(tx, "DELETE FROM placed WHERE exam = ?1", params![self.exam])
     }
-}
-
-/// Deletes all placements.
-#[derive(Clone, Copy)]
-pub struct DeletePlacements;
-
-impl Alteration for DeletePlacements {
-    ghost alteration = { λ _ t. no_placements t };
-
-    ghost fits = { λ _. Unit {0} };
-
-    fn apply<S: Alter>(&self, tx: &mut Transaction<'_, S>) -> Result<(), Error> {
-        run(tx, "DELETE FROM placed", &[])
-    }
-}
-
-/// Returns all published placements, by exam.
-pub fn placements<S: Alter>(
-    alloc: Global,
-    conn: &mut Connection<S>,
-) -> Result<Vec<PlacedRow>, Error>
-    ensures rows { Reads S.Store (λ t found. IsPermutation t.placed found.items)
-        conn.old conn.new result }
-    ensures in_order { Reads S.Store (λ t found. IsInOrder PlacementsRise t.placed found.items)
-        conn.old conn.new result }
-    ensures open { AnswersOpen S.Store conn.old conn.new result }
-    ensures was_open { OpensNone S.Store conn.old conn.new }
-    ensures same { LeavesAll S.Store conn.old conn.new result }
-    ensures kept { LeavesCommitted S.Store conn.old conn.new }
-    ensures mode { conn.old.in_transaction ≡ false → conn.new.in_transaction ≡ false }
-    ensures survives { Survives (state S.Store conn.old) (state S.Store conn.new) (λ _. ⊥) }
-{
-    stream(
-        alloc,
-        conn,
-        "SELECT exam, period, room FROM placed ORDER BY exam",
-        &[],
-    )
 }
 
 /// Returns the published placements of the exams that a student is enrolled in, by exam.

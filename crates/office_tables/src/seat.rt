@@ -6,7 +6,7 @@ ghost use Rattle.sqlite.specs.Values.{bound};
 ghost use Rattle.office_tables.specs.declared.version.Version.{Version};
 ghost use Rattle.office_tables.specs.Finders.{Finds, IsFound, Leaves, Looks};
 ghost use Rattle.office_tables.specs.Schema.{schema_6, schema_7, IsBlank};
-ghost use Rattle.office_tables.specs.Seat.{seat_columns, with_seat, without_student_seats, FitsSeat, StudentSeatsRise, SeatsRise};
+ghost use Rattle.office_tables.specs.Seat.{seat_columns, with_seat, without_student_seats, FitsSeat, StudentSeatsRise};
 ghost use Rattle.office_tables.specs.Selections.{IsInOrder};
 ghost use Rattle.office_tables.specs.Steps.{Grows, Within};
 ghost use Rattle.office_tables.specs.Readers.{AnswersOpen, LeavesAll, LeavesCommitted, OpensNone, Reads};
@@ -163,27 +163,6 @@ impl Alteration for DeleteStudentSeats {
             params![self.student],
         )
     }
-}
-
-/// Returns all seats, by exam and then by student.
-pub fn seats<S: Alter>(alloc: Global, conn: &mut Connection<S>) -> Result<Vec<SeatRow>, Error>
-    ensures rows { Reads S.Store (λ t found. IsPermutation t.seat found.items)
-        conn.old conn.new result }
-    ensures in_order { Reads S.Store (λ t found. IsInOrder SeatsRise t.seat found.items)
-        conn.old conn.new result }
-    ensures open { AnswersOpen S.Store conn.old conn.new result }
-    ensures was_open { OpensNone S.Store conn.old conn.new }
-    ensures same { LeavesAll S.Store conn.old conn.new result }
-    ensures kept { LeavesCommitted S.Store conn.old conn.new }
-    ensures mode { conn.old.in_transaction ≡ false → conn.new.in_transaction ≡ false }
-    ensures survives { Survives (state S.Store conn.old) (state S.Store conn.new) (λ _. ⊥) }
-{
-    stream(
-        alloc,
-        conn,
-        "SELECT student, exam, period, room, seat FROM seat ORDER BY exam, student",
-        &[],
-    )
 }
 
 /// Returns a student's seats, by exam.

@@ -10,7 +10,7 @@ ghost use Rattle.office_tables.specs.Finders.{Finds, Leaves, Looks};
 ghost use Rattle.office_tables.specs.Joining.{AreFound};
 ghost use Rattle.office_tables.specs.Schema.{schema_7, schema_8, schema_11, schema_12, HasRows, IsBlank};
 ghost use Rattle.office_tables.specs.Selections.{IsInOrder};
-ghost use Rattle.office_tables.specs.ShareStudent.{night_share_columns, share_shown, share_student_columns, with_student_share, without_student_share, AreStudentAmounts, FitsStudentShare, StudentSharesRise};
+ghost use Rattle.office_tables.specs.ShareStudent.{night_share_columns, share_shown, share_student_columns, with_student_share, without_student_share, AreStudentAmounts, FitsStudentShare, HaveNoNight, StudentSharesRise};
 ghost use Rattle.office_tables.specs.Steps.{Grows, Within};
 ghost use Rattle.office_tables.specs.Readers.{AnswersOpen, LeavesAll, LeavesCommitted, OpensNone, Reads};
 
@@ -25,7 +25,11 @@ use sqlite::types::ValueRef;
 use sqlite::{Alter, Connection, Error, Row, Transaction, params};
 use std::alloc::Global;
 
-/// The share of a candidate: what their seats cost them.
+// Lists all rows of the first table, by student, each with an amount over night of 0.
+const BARE_SHARES: &str =
+    "SELECT 0, student, in_row, in_day, spread FROM share_student ORDER BY student";
+
+/// A candidate's share of the penalty.
 #[derive(Clone, Copy, Debug, PartialEq, Eq)]
 pub struct StudentShareRow {
     pub student: u32,
@@ -200,9 +204,31 @@ pub fn student_shares<S: Alter>(
     stream_with_nights(
         alloc,
         conn,
-        "SELECT 0, student, in_row, in_day, spread FROM share_student ORDER BY student",
+        BARE_SHARES,
         "SELECT student, night FROM night_share ORDER BY student",
     )
+}
+
+/// Returns all students' shares, by student, with 0 as each amount over night: it reads only the
+/// first table. Those are the students' shares if no share has an amount over night.
+pub fn student_shares_without_nights<S: Alter>(
+    alloc: Global,
+    conn: &mut Connection<S>,
+) -> Result<Vec<StudentShareRow>, Error>
+    ensures rows { Reads S.Store (λ t found. HaveNoNight t.share_student
+        → IsPermutation t.share_student found.items)
+        conn.old conn.new result }
+    ensures in_order { Reads S.Store (λ t found. HaveNoNight t.share_student
+        → IsInOrder StudentSharesRise t.share_student found.items)
+        conn.old conn.new result }
+    ensures open { AnswersOpen S.Store conn.old conn.new result }
+    ensures was_open { OpensNone S.Store conn.old conn.new }
+    ensures same { LeavesAll S.Store conn.old conn.new result }
+    ensures kept { LeavesCommitted S.Store conn.old conn.new }
+    ensures mode { conn.old.in_transaction ≡ false → conn.new.in_transaction ≡ false }
+    ensures survives { Survives (state S.Store conn.old) (state S.Store conn.new) (λ _. ⊥) }
+{
+    stream(alloc, conn, BARE_SHARES, &[])
 }
 
 /// Returns a student's share: one row, or none.

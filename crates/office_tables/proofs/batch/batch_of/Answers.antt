@@ -7,32 +7,33 @@ use Rattle.office_tables.proofs.BatchTexts.{batch_of_query, batch_of_text, batch
 use Rattle.office_tables.proofs.batch.batch_of.Goals as goal
 
 pub returns-clause-row : goal.returns-clause-row
-returns-clause-row g c version clean t stands =
+returns-clause-row g c version clean t represents =
     let old = state g.S.Store c.args.conn.now in
     let means =
-    means_at version batch_of_query batch_of_text (batch_of_means version) old t stands in
-    batch_of_read version old.now c.args.no t stands c.in_ok-found.found.items c.pop.new.self.items
+    means_at version batch_of_query batch_of_text (batch_of_means version) old t represents in
+    batch_of_read version old.now c.args.no t represents c.in_ok-found.found.items
+    c.pop.new.self.items
     c.pop.result (rw c.params-to_sql.ensures at (c.in_ok-found.ensures.shown _ means clean))
     c.pop.ensures.items
     (subst (λ n. IsSome c.pop.result ↔ (0 < n)) c.in_ok-found.found.ok.0 c.pop.ensures.variant)
 
 pub returns-clause-same : goal.returns-clause-same
-returns-clause-same g c version clean t stands =
+returns-clause-same g c version clean t represents =
     let old = state g.S.Store c.args.conn.now in
     c.in_ok-found.ensures.same clean
-    (plain_at version batch_of_query batch_of_text (batch_of_means version) old t stands)
+    (plain_at version batch_of_query batch_of_text (batch_of_means version) old t represents)
 
 pub returns-clause-kept : goal.returns-clause-kept
-returns-clause-kept g c version clean t stands =
+returns-clause-kept g c version clean t represents =
     let old = state g.S.Store c.args.conn.now in
     c.stream.ensures.kept clean
-    (plain_at version batch_of_query batch_of_text (batch_of_means version) old t stands)
+    (plain_at version batch_of_query batch_of_text (batch_of_means version) old t represents)
 
 pub returns-in_err-found-clause-kept : goal.returns-in_err-found-clause-kept
-returns-in_err-found-clause-kept g c version clean t stands =
+returns-in_err-found-clause-kept g c version clean t represents =
     let old = state g.S.Store c.args.conn.now in
     c.stream.ensures.kept clean
-    (plain_at version batch_of_query batch_of_text (batch_of_means version) old t stands)
+    (plain_at version batch_of_query batch_of_text (batch_of_means version) old t represents)
 
 pub returns-clause-survives : goal.returns-clause-survives
 returns-clause-survives g c =

@@ -4,7 +4,7 @@ use Rattle.sqlite.specs.Held.{state}
 use Rattle.office_tables.specs.Schema.{IsBlank}
 use Rattle.office_tables.proofs.Creates.{whole}
 use Rattle.office_tables.proofs.Inside.{clean_before}
-use Rattle.office_tables.proofs.MetaLemmas.{blank_stands}
+use Rattle.office_tables.proofs.MetaLemmas.{blank_represents}
 use Rattle.office_tables.proofs.creation.create_last_tables.Goals as goal
 
 pub returns-clause-makes : goal.returns-clause-makes
@@ -22,7 +22,7 @@ returns-clause-makes g c clean inside =
     on_ok_weaker c.apply.result
     (λ last. (
       last.0,
-      λ blank. last.1 _ (blank_stands _
+      λ blank. last.1 _ (blank_represents _
           (subst (λ s. IsBlank s after_3.now) whole (step_3.1 (step_2.1 (step_1.1 blank))))),
     ))
     (c.apply.ensures.makes clean step_3.0)

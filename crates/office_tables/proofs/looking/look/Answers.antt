@@ -7,9 +7,9 @@ pub returns-clause-open : goal.returns-clause-open
 returns-clause-open g c clean = was_open look_text _ _ _ _ (c.in_ok-_rows.ensures.ok clean)
 
 pub returns-clause-same : goal.returns-clause-same
-returns-clause-same g c clean t stands =
+returns-clause-same g c clean t represents =
     let old = state g.S.Store c.args.conn.now in
-    shown_same look_text _ old _ _ (look_plain_in old t stands) (c.in_ok-_rows.ensures.ok clean)
+    shown_same look_text _ old _ _ (look_plain_in old t represents) (c.in_ok-_rows.ensures.ok clean)
 
 pub returns-clause-survives : goal.returns-clause-survives
 returns-clause-survives g c =

@@ -3,7 +3,7 @@ use Rattle.std.proofs.lemmas.Result.{IfOk-weaker}
 use Rattle.sqlite.specs.Held.{state}
 use Rattle.office_tables.proofs.ListTexts.{meta_is}
 use Rattle.office_tables.proofs.ListedTables.{all_listed}
-use Rattle.office_tables.proofs.MetaFound.{alone, first_alone, not_alone}
+use Rattle.office_tables.proofs.MetaFound.{single, first_only, not_single}
 use Rattle.office_tables.proofs.Reading.{on_ok_both}
 use Rattle.office_tables.proofs.meta.adopt_meta.Goals as goal
 
@@ -33,7 +33,7 @@ returns-then-len-ne1-clause-found g c clean tables =
     let same =
     c.in_ok-rows.ensures.same c.args.version 0 _ _ (meta_is c.args.version) clean tables in
     let many : length c.in_ok-rows.rows.items ≢ 1 = grind arith in
-    not_alone c.args.version old.now tables.schema (tables.live same.0.was_open).0
+    not_single c.args.version old.now tables.schema (tables.live same.0.was_open).0
     c.in_ok-rows.rows.items
     (all_listed 0 _ _ old.now.trees _
     (c.in_ok-rows.ensures.rows c.args.version 0 _ _ (meta_is c.args.version) clean tables)) many
@@ -48,8 +48,8 @@ returns-clause-found g c clean tables =
     let long : length rows ≡ 1 = grind arith in
     let first : row ≡ get_or rows 0 row = c.index.ensures in
     IfOk-weaker c.read_meta.result _ _
-    (alone c.args.version old.now tables.schema (tables.live same.0.was_open).0 rows
+    (single c.args.version old.now tables.schema (tables.live same.0.was_open).0 rows
     (all_listed 0 _ _ old.now.trees _
     (c.in_ok-rows.ensures.rows c.args.version 0 _ _ (meta_is c.args.version) clean tables)) row
-    (first_alone rows row long first))
+    (first_only rows row long first))
     c.read_meta.ensures.ok

@@ -29,7 +29,7 @@ returns-clause-makes g c t is clean inside =
       λ before. subst (λ l. HoldsTables at_4.now (record t { meta = l })) (sym is)
           (last.1 _ (step_3.1 (record {
             before = at_0.now;
-            stands = before;
+            represents = before;
             widened = subst (λ s. HasRows s trees at_2.now) whole
                 (step_2.1 (step_1.1 (begins at_0.now t before)));
           }))),

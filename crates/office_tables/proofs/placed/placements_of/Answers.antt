@@ -8,34 +8,36 @@ use Rattle.office_tables.proofs.JoinedTexts.{placements_of_query, placements_of_
 use Rattle.office_tables.proofs.placed.placements_of.Goals as goal
 
 pub returns-clause-rows : goal.returns-clause-rows
-returns-clause-rows g c clean t stands =
+returns-clause-rows g c clean t represents =
     let old = state g.S.Store c.args.conn.now in
     IfOk-weaker c.stream.result _ _
-    (λ found is. (placements_of_read old.now c.args.student t stands found.items is).0)
+    (λ found is. (placements_of_read old.now c.args.student t represents found.items is).0)
     (rw c.params-to_sql.ensures at (c.stream.ensures.shown _
-    (means_in placements_of_query placements_of_text placements_of_means old old t stands) clean))
+    (means_in placements_of_query placements_of_text placements_of_means old old t represents)
+    clean))
 
 pub returns-clause-in_order : goal.returns-clause-in_order
-returns-clause-in_order g c clean t stands =
+returns-clause-in_order g c clean t represents =
     let old = state g.S.Store c.args.conn.now in
     IfOk-weaker c.stream.result _ _
     (λ found is. in_this_order (λ (a b : PlacedRow). a.exam < b.exam)
     (λ (x : PlacedRow). x.exam ∷ []) (λ x y low. one_less x.exam y.exam low) _ found.items
-    (placements_of_read old.now c.args.student t stands found.items is))
+    (placements_of_read old.now c.args.student t represents found.items is))
     (rw c.params-to_sql.ensures at (c.stream.ensures.shown _
-    (means_in placements_of_query placements_of_text placements_of_means old old t stands) clean))
+    (means_in placements_of_query placements_of_text placements_of_means old old t represents)
+    clean))
 
 pub returns-clause-same : goal.returns-clause-same
-returns-clause-same g c clean t stands =
+returns-clause-same g c clean t represents =
     let old = state g.S.Store c.args.conn.now in
     c.stream.ensures.same clean (plain_in placements_of_query placements_of_text placements_of_means
-    old old t stands)
+    old old t represents)
 
 pub returns-clause-kept : goal.returns-clause-kept
-returns-clause-kept g c clean t stands =
+returns-clause-kept g c clean t represents =
     let old = state g.S.Store c.args.conn.now in
     c.stream.ensures.kept clean (plain_in placements_of_query placements_of_text placements_of_means
-    old old t stands)
+    old old t represents)
 
 pub returns-clause-survives : goal.returns-clause-survives
 returns-clause-survives g c =

@@ -8,36 +8,36 @@ use Rattle.office_tables.proofs.ShareTexts.{part_shares_query, part_shares_text,
 use Rattle.office_tables.proofs.share_part.part_shares.Goals as goal
 
 pub returns-clause-rows : goal.returns-clause-rows
-returns-clause-rows g c clean t stands =
+returns-clause-rows g c clean t represents =
     let old = state g.S.Store c.args.conn.now in
     IfOk-weaker c.stream.result _ _
-    (λ found is. (part_shares_read old.now t stands found.items is).0)
+    (λ found is. (part_shares_read old.now t represents found.items is).0)
     (c.stream.ensures.shown _ (means_in part_shares_query part_shares_text part_shares_means old old
-    t stands) clean)
+    t represents) clean)
 
 pub returns-clause-in_order : goal.returns-clause-in_order
-returns-clause-in_order g c clean t stands =
+returns-clause-in_order g c clean t represents =
     let old = state g.S.Store c.args.conn.now in
     IfOk-weaker c.stream.result _ _
     (λ found is. in_this_order (λ (a b : PartShareRow). (a.kind < b.kind) ⊎
     ((a.kind ≡ b.kind) × (a.no < b.no)))
     (λ (x : PartShareRow). x.kind ∷ x.no ∷ []) (λ x y low. two_less x.kind y.kind x.no y.no low) _
     found.items
-    (part_shares_read old.now t stands found.items is))
+    (part_shares_read old.now t represents found.items is))
     (c.stream.ensures.shown _ (means_in part_shares_query part_shares_text part_shares_means old old
-    t stands) clean)
+    t represents) clean)
 
 pub returns-clause-same : goal.returns-clause-same
-returns-clause-same g c clean t stands =
+returns-clause-same g c clean t represents =
     let old = state g.S.Store c.args.conn.now in
     c.stream.ensures.same clean (plain_in part_shares_query part_shares_text part_shares_means old
-    old t stands)
+    old t represents)
 
 pub returns-clause-kept : goal.returns-clause-kept
-returns-clause-kept g c clean t stands =
+returns-clause-kept g c clean t represents =
     let old = state g.S.Store c.args.conn.now in
     c.stream.ensures.kept clean (plain_in part_shares_query part_shares_text part_shares_means old
-    old t stands)
+    old t represents)
 
 pub returns-clause-survives : goal.returns-clause-survives
 returns-clause-survives g c =

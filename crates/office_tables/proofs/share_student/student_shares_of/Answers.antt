@@ -5,25 +5,25 @@ use Rattle.office_tables.proofs.ShareTexts.{student_shares_of_query, student_sha
 use Rattle.office_tables.proofs.share_student.student_shares_of.Goals as goal
 
 pub returns-clause-rows : goal.returns-clause-rows
-returns-clause-rows g c clean t stands =
+returns-clause-rows g c clean t represents =
     let old = state g.S.Store c.args.conn.now in
     IfOk-weaker c.stream.result _ _
-    (λ found is. (student_shares_of_read old.now c.args.student t stands found.items is).0)
+    (λ found is. (student_shares_of_read old.now c.args.student t represents found.items is).0)
     (rw c.params-to_sql.ensures at (c.stream.ensures.shown _
     (means_in student_shares_of_query student_shares_of_text student_shares_of_means old old t
-    stands) clean))
+    represents) clean))
 
 pub returns-clause-same : goal.returns-clause-same
-returns-clause-same g c clean t stands =
+returns-clause-same g c clean t represents =
     let old = state g.S.Store c.args.conn.now in
     c.stream.ensures.same clean (plain_in student_shares_of_query student_shares_of_text
-    student_shares_of_means old old t stands)
+    student_shares_of_means old old t represents)
 
 pub returns-clause-kept : goal.returns-clause-kept
-returns-clause-kept g c clean t stands =
+returns-clause-kept g c clean t represents =
     let old = state g.S.Store c.args.conn.now in
     c.stream.ensures.kept clean (plain_in student_shares_of_query student_shares_of_text
-    student_shares_of_means old old t stands)
+    student_shares_of_means old old t represents)
 
 pub returns-clause-survives : goal.returns-clause-survives
 returns-clause-survives g c =

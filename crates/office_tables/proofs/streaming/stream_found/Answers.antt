@@ -73,11 +73,11 @@ returns-in_default-clause-shown g c q means clean =
     means.plain in
     let none = sym c.get.ensures ∙ ap option_copied c.in_default.is in
     let advanced = subst (Advances g.S.Store mid now) none (c.in_ok-advance.ensures.ok late) in
-    let told = advanced c.args.sql.now (bound c.args.params.now) was.0 was.1 in (
+    let moved = advanced c.args.sql.now (bound c.args.params.now) was.0 was.1 in (
       was.0,
       gathered_read _ _ _ was.0 _ was.3,
       answers q c.args.sql.now (bound c.args.params.now) old (state g.S.Store mid)
-          (state g.S.Store now) means was.2 was.0 told,
+          (state g.S.Store now) means was.2 was.0 moved,
     )
 
 pub returns-in_err-rows-clause-was_open : goal.returns-in_err-rows-clause-was_open

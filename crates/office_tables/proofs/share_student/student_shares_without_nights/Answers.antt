@@ -1,0 +1,43 @@
+use Rattle.std.proofs.Common.{◌<◌, [], ◌∷◌}
+use Rattle.std.proofs.lemmas.Result.{IfOk-weaker}
+use Rattle.sqlite.specs.Held.{state}
+use Rattle.office_tables.specs.declared.share_student.StudentShareRow.{StudentShareRow}
+use Rattle.office_tables.proofs.AskLemmas.{means_in, plain_in, silent_in}
+use Rattle.office_tables.proofs.OrderLemmas.{in_this_order, one_less}
+use Rattle.office_tables.proofs.ShareTexts.{bare_shares_read, student_shares_query, student_shares_text, student_shares_means}
+use Rattle.office_tables.proofs.share_student.student_shares_without_nights.Goals as goal
+
+pub returns-clause-rows : goal.returns-clause-rows
+returns-clause-rows g c clean t represents =
+    let old = state g.S.Store c.args.conn.now in
+    IfOk-weaker c.stream.result _ _
+    (λ found is none. (bare_shares_read old.now t represents none found.items is).0)
+    (c.stream.ensures.shown _ (means_in student_shares_query student_shares_text
+    student_shares_means old old t represents) clean)
+
+pub returns-clause-in_order : goal.returns-clause-in_order
+returns-clause-in_order g c clean t represents =
+    let old = state g.S.Store c.args.conn.now in
+    IfOk-weaker c.stream.result _ _
+    (λ found is none. in_this_order (λ (a b : StudentShareRow). a.student < b.student)
+    (λ (x : StudentShareRow). x.student ∷ []) (λ x y low. one_less x.student y.student low) _
+    found.items (bare_shares_read old.now t represents none found.items is))
+    (c.stream.ensures.shown _ (means_in student_shares_query student_shares_text
+    student_shares_means old old t represents) clean)
+
+pub returns-clause-same : goal.returns-clause-same
+returns-clause-same g c clean t represents =
+    let old = state g.S.Store c.args.conn.now in
+    c.stream.ensures.same clean (plain_in student_shares_query student_shares_text
+    student_shares_means old old t represents)
+
+pub returns-clause-kept : goal.returns-clause-kept
+returns-clause-kept g c clean t represents =
+    let old = state g.S.Store c.args.conn.now in
+    c.stream.ensures.kept clean (plain_in student_shares_query student_shares_text
+    student_shares_means old old t represents)
+
+pub returns-clause-survives : goal.returns-clause-survives
+returns-clause-survives g c =
+    silent_in student_shares_query student_shares_text student_shares_means _ _
+    c.stream.ensures.survives
