@@ -38,9 +38,9 @@ module _ (number : ℕ) (bytes : List ℕ) (changes : List Change) (r : Records)
       (omega (arith, small), omega (arith, few), omega (arith, few), omega (arith, few))
 
   -- the tables represent the office after the batch
-  pub batch_stands : number ≤ 999999999 → lines_in done.0 ≤ 1048576 → TablesRepresentRecords t r
+  pub batch_represents : number ≤ 999999999 → lines_in done.0 ≤ 1048576 → TablesRepresentRecords t r
       → TablesRepresentRecords put (records_with_batch number bytes r done)
-  batch_stands small few h = record {
+  batch_represents small few h = record {
     meta = h.meta;
     owner = h.owner;
     enrol = rows_after_batch enrol_rows changes r.enrolments done t.enrol is.enrolled.set accepted

@@ -46,8 +46,8 @@ module _ (found : List BatchCountsRow) (batches : List Batch) (are : AreBatchRow
       all_from_map IsBatchRow counts_of batches
       (subst (AllByRecursion IsBatchRow) (sym rows) (recursion_from_All IsBatchRow found are.each))
 
-  pub batches_stand : RowsRepresentBatches batches (map kept_batch batches)
-  batches_stand = record {
+  pub batches_represent : RowsRepresentBatches batches (map kept_batch batches)
+  batches_represent = record {
     same = subst (IsPermutation batches) (sym (stored_again batches)) (IsPermutation-refl batches);
     fit = all_weaker (λ (b : Batch). IsBatchRow (counts_of b)) FitsBatch (λ b is. is.fits) batches
         each_row;
@@ -82,9 +82,9 @@ batches_kept found batches are these = record {
 pub batch_rows : (found : List BatchCountsRow) (batches : List Batch) (kept : List KeptBatch)
     → map counts_of batches ≡ found → RowsRepresentBatches batches kept → AreKept kept
     → AreBatchRows found
-batch_rows found batches kept rows stand are = record {
+batch_rows found batches kept rows represents are = record {
   few = let stored = length-map kept stored_batch in
-      let same = length_permutation _ _ stand.same in
+      let same = length_permutation _ _ represents.same in
       let counted = length-map batches counts_of in
       let long = ap (λ (l : List BatchCountsRow). length l) rows in
       let most = are.few in
@@ -93,13 +93,13 @@ batch_rows found batches kept rows stand are = record {
       (All-from_recursion IsBatchRow (map counts_of batches)
       (all-map IsBatchRow counts_of batches
       (all_both (λ (b : Batch). b.no ≤ 999999999) FitsBatch (λ b. IsBatchRow (counts_of b))
-      (λ b number fits. record { number = number; fits = fits }) batches numbers stand.fit)));
+      (λ b number fits. record { number = number; fits = fits }) batches numbers represents.fit)));
 }
   where
     numbers : AllByRecursion (λ (b : Batch). b.no ≤ 999999999) batches
     numbers =
         all-permutation (λ (b : Batch). b.no ≤ 999999999) (map stored_batch kept) batches
-        (IsPermutation-sym _ _ stand.same)
+        (IsPermutation-sym _ _ represents.same)
         (all-map (λ (b : Batch). b.no ≤ 999999999) stored_batch kept
         (all_weaker IsKeptBatch (λ (b : KeptBatch). b.no ≤ 999999999) (λ b is. is.number) kept
         (recursion_from_All IsKeptBatch kept are.within)))
@@ -145,13 +145,13 @@ short_by_rows found batches rows all =
 -- an office's batches are not too long
 pub stored_short : (t : Tables) (o : OfficeState) → TablesRepresentOffice t o → IsOffice o
     → All IsShort t.batch
-stored_short t None stands is =
-    subst (λ (u : Tables). All IsShort u.batch) (sym stands)
+stored_short t None represents is =
+    subst (λ (u : Tables). All IsShort u.batch) (sym represents)
     (λ k d none. absurd (omega (arith, none)))
-stored_short t (Some r) stands is =
+stored_short t (Some r) represents is =
     All-from_recursion IsShort t.batch
     (all-permutation IsShort (map stored_batch r.batches) t.batch
-    (IsPermutation-sym _ _ stands.batches.same)
+    (IsPermutation-sym _ _ represents.batches.same)
     (all-map IsShort stored_batch r.batches
     (all_weaker IsKeptBatch (λ (b : KeptBatch). length b.bytes ≤ 1048576) (λ b is. is.size)
     r.batches (recursion_from_All IsKeptBatch r.batches is.batches.within))))

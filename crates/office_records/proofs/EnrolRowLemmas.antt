@@ -31,8 +31,8 @@ is_same x y = is_row y.student y.exam x
 is_itself : (x : EnrolRow) → is_same x x ≡ true
 is_itself x = and_from _ _ (eq-eqb x.student x.student refl) (eq-eqb x.exam x.exam refl)
 
-tells : (x y : EnrolRow) → Decides (is_same x y) (x ≡ y)
-tells x y = (
+is_same_decides : (x y : EnrolRow) → Decides (is_same x y) (x ≡ y)
+is_same_decides x y = (
   λ is.
       let both = and_parts (eqb x.student y.student) (eqb x.exam y.exam) is in
       let make : ℕ → ℕ → EnrolRow = λ (s e : ℕ). record { student = s; exam = e } in
@@ -42,8 +42,8 @@ tells x y = (
 
 flips : (x y : EnrolRow) → is_same x y ≡ is_same y x
 flips x y =
-    same_from_decides (is_same x y) (is_same y x) (tells x y)
-    (Decides-like (is_same y x) (λ is. sym is) (λ is. sym is) (tells y x))
+    same_from_decides (is_same x y) (is_same y x) (is_same_decides x y)
+    (Decides-like (is_same y x) (λ is. sym is) (λ is. sym is) (is_same_decides y x))
 
 -- a row that is found among rows is one of them
 contains_row : (s e : ℕ) (rows : List EnrolRow) → list_any (is_row s e) rows ≡ true
@@ -51,7 +51,7 @@ contains_row : (s e : ℕ) (rows : List EnrolRow) → list_any (is_row s e) rows
 contains_row s e rows some =
     let found = Any-from_list_any (is_row s e) rows some in
     let row : EnrolRow = record { student = s; exam = e } in
-    subst (Contains rows) ((tells found.1 row).0 found.4) (found.0, found.2, found.3)
+    subst (Contains rows) ((is_same_decides found.1 row).0 found.4) (found.0, found.2, found.3)
 
 -- ---- the rows of all pairs
 
@@ -143,10 +143,10 @@ module _ (I : Session) (rows : List EnrolRow) (F : Enrolled) (are : AreEnrolRows
 
   apart : AllPairs (λ x y. x ≢ y) rows
   apart =
-      AllPairs-from_IsDistinct tells rows
+      AllPairs-from_IsDistinct is_same_decides rows
       (IsDistinct-IsPermutation is_same flips (rows_of F) rows
       (IsPermutation-sym rows (rows_of F) are.rows)
-      (IsDistinct-from_AllPairs tells (rows_of F) (rows_apart F are.enrolled.set)))
+      (IsDistinct-from_AllPairs is_same_decides (rows_of F) (rows_apart F are.enrolled.set)))
 
   -- no row equals one before it
   comes_once : (i : ℕ) (d : EnrolRow) → i < length rows → Contains (take i rows) (get_or rows i d)

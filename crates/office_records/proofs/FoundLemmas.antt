@@ -42,8 +42,8 @@ module _ (I : Session) (mark : Bool) (places : List PlacedRow) (seats : List Sea
       → ArePublished I published → ⊥
 
   -- no other publication of the session has them
-  abbrev HasAlone : Option Publication → Type 0
-  HasAlone own =
+  abbrev HasOnly : Option Publication → Type 0
+  HasOnly own =
       (published : Option Publication) → ArePublicationRows mark places seats published
       → ArePublished I published → own ≡ published
 
@@ -57,7 +57,7 @@ module _ (I : Session) (mark : Bool) (places : List PlacedRow) (seats : List Sea
       where
         each : (places ≡ [] → seats ≡ [] → ⊥) → NoneHas
         each bad None are is =
-            bad (no_rows places are.stands.placed) (no_rows seats are.stands.seat)
+            bad (no_rows places are.represents.placed) (no_rows seats are.represents.seat)
         each bad (Some p) are is = true≢false (sym are.marked ∙ unmarked)
 
   -- ---- something is published
@@ -72,7 +72,7 @@ module _ (I : Session) (mark : Bool) (places : List PlacedRow) (seats : List Sea
     places_are p are is = record {
       exams = is.rows.exams;
       places = is.rows.places;
-      rows = are.stands.placed;
+      rows = are.represents.placed;
     }
 
     -- no seats have these rows
@@ -80,7 +80,7 @@ module _ (I : Session) (mark : Bool) (places : List PlacedRow) (seats : List Sea
         → IsPermutation seats (map stored_seat own) → ⊥) → NoneHas
     no_seats none None are is = marked_none are
     no_seats none (Some p) are is =
-        none p.rows is.rows.in_order (has_places_and_seats I p is).numbered are.stands.seat
+        none p.rows is.rows.in_order (has_places_and_seats I p is).numbered are.represents.seat
 
     module _ (T : Placing) (rows : List publish.SeatRow) (places_is : ArePlaces I places T)
         (seats_only : (own : List publish.SeatRow) → RowsInOrder own
@@ -89,20 +89,20 @@ module _ (I : Session) (mark : Bool) (places : List PlacedRow) (seats : List Sea
           → publication T rows ≡ p
       one p are is = λ i. record {
         timetable = same_places I places T p.timetable places_is (places_are p are is) i;
-        rows = seats_only p.rows is.rows.in_order are.stands.seat i;
+        rows = seats_only p.rows is.rows.in_order are.represents.seat i;
       }
 
-      pub alone : HasAlone (Some (publication T rows))
-      alone None are is = absurd (marked_none are)
-      alone (Some p) are is = ap Some (one p are is)
+      pub only_one : HasOnly (Some (publication T rows))
+      only_one None are is = absurd (marked_none are)
+      only_one (Some p) are is = ap Some (one p are is)
 
       -- they are refused
       pub refused_rows : (sound : Bool)
           → IsTrue sound ↔ HasPlacesAndSeats I (publication T rows) → sound ≡ false → NoneHas
-      refused_rows sound tells untrue None are is = marked_none are
-      refused_rows sound tells untrue (Some p) are is =
+      refused_rows sound decides untrue None are is = marked_none are
+      refused_rows sound decides untrue (Some p) are is =
           true≢false
-          (sym (tells.1
+          (sym (decides.1
           (subst (HasPlacesAndSeats I) (sym (one p are is)) (has_places_and_seats I p is)))
           ∙ untrue)
 

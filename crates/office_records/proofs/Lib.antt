@@ -20,6 +20,7 @@ pub mod SamePublication
 pub mod PlacedRowLemmas
 pub mod PlacedSeatLemmas
 pub mod ShareRowLemmas
+pub mod NightRowLemmas
 pub mod PartRowLemmas
 pub mod PublicationLemmas
 pub mod FoundLemmas

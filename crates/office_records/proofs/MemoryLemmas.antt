@@ -185,11 +185,12 @@ pub same_memory_in : (version : Version) (db : Database) (o p : OfficeState)
     → RepresentsOfficeIn version db o → RepresentsOfficeIn version db p → memory_of o ≡ memory_of p
 same_memory_in version db None None a b = refl
 same_memory_in version db None (Some s) a b =
-    absurd (nothing_loaded version db a.held b.held a.tables b.tables s a.stands b.stands)
+    absurd (nothing_loaded version db a.held b.held a.tables b.tables s a.represents b.represents)
 same_memory_in version db (Some r) None a b =
-    absurd (nothing_loaded version db b.held a.held b.tables a.tables r b.stands a.stands)
+    absurd (nothing_loaded version db b.held a.held b.tables a.tables r b.represents a.represents)
 same_memory_in version db (Some r) (Some s) a b =
-    loaded_same version db a.held b.held a.tables b.tables r s a.stands b.stands a.office b.office
+    loaded_same version db a.held b.held a.tables b.tables r s a.represents b.represents a.office
+    b.office
 
 pub same_memory : (db : Database) (o p : OfficeState) → RepresentsOffice db o
     → RepresentsOffice db p

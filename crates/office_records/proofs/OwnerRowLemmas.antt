@@ -72,7 +72,7 @@ owner_first I before row after departments owner_of named owners =
     record {
       exam = let exists = owners.owned row.exam some in
           let all = named.exams in omega arith;
-      alone = none_is (get_or departments row.exam 0) (sym (named.rows row.exam) ∙ one.0);
+      unowned = none_is (get_or departments row.exam 0) (sym (named.rows row.exam) ∙ one.0);
       department = let is = one.1 in (omega arith, omega arith);
     }
 

@@ -317,7 +317,7 @@ module _ (I : Session) (known : IsInstance I) where
 pub are_readable : (t : Tables) (o : OfficeState) → TablesRepresentOffice t o → IsSound t o
     → IsOffice o
     → AreReadable t
-are_readable t None stands sound is = subst AreReadable (sym stands) (record {
+are_readable t None represents sound is = subst AreReadable (sym represents) (record {
   row = record { published = false; instance = [] };
   meta = refl;
   owner = tt;
@@ -330,30 +330,31 @@ are_readable t None stands sound is = subst AreReadable (sym stands) (record {
   share_part = tt;
   batch = tt;
 })
-are_readable t (Some r) stands sound is = record {
+are_readable t (Some r) represents sound is = record {
   row = _;
-  meta = stands.meta;
+  meta = represents.meta;
   owner = each_key (λ (o : OwnerRow). o.exam) FitsOwner t.owner
-      (λ e. owners_fit r is e _ (stands.owner e) (all_of_key (λ (o : OwnerRow). o.exam) e t.owner));
-  enrol = all-permutation FitsEnrol _ _ (IsPermutation-sym _ _ stands.enrol)
+      (λ e. owners_fit r is e _ (represents.owner e)
+      (all_of_key (λ (o : OwnerRow). o.exam) e t.owner));
+  enrol = all-permutation FitsEnrol _ _ (IsPermutation-sym _ _ represents.enrol)
       (all-map FitsEnrol enrol_row (pairs_of r.enrolments) (pairs_fit r is 0 r.enrolments
       (omega (arith, is.enrolled.exams, is.session.limits.counts.0.1))
       (each_exam r.enrolments is.enrolled.set.numbers)));
   draft = each_key (λ (x : DraftRow). x.no) FitsDraft t.draft
-      (λ d. drafts_fit r is d _ (stands.draft d));
+      (λ d. drafts_fit r is d _ (represents.draft d));
   slot = each_key (λ (x : SlotRow). x.draft) FitsSlot t.slot
-      (λ d. all-permutation FitsSlot _ _ (IsPermutation-sym _ _ (stands.slot d))
+      (λ d. all-permutation FitsSlot _ _ (IsPermutation-sym _ _ (represents.slot d))
       (slots_fit r is d (r.draft d) refl));
-  placed = all-permutation FitsPlacement _ _ (IsPermutation-sym _ _ stands.published.placed)
+  placed = all-permutation FitsPlacement _ _ (IsPermutation-sym _ _ represents.published.placed)
       (placed_fit r.session is.session r.published is.publication r.published refl);
-  seat = all-permutation FitsSeat _ _ (IsPermutation-sym _ _ stands.published.seat)
+  seat = all-permutation FitsSeat _ _ (IsPermutation-sym _ _ represents.published.seat)
       (all_seats_fit r.session is.session r.published is.publication r.published refl);
   share_student = all-permutation FitsStudentShare _ _
       (IsPermutation-sym _ _ sound.shared.of_students)
       (student_shares_fit r.session is.session r.published is.publication r.published refl);
   share_part = all-permutation FitsPartShare _ _ (IsPermutation-sym _ _ sound.shared.of_parts)
       (part_shares_fit r.session is.session r.published is.publication r.published refl);
-  batch = stands.batches.fit;
+  batch = represents.batches.fit;
 }
 
 -- a database that represents an office, in any version, is not foreign
@@ -361,7 +362,7 @@ pub not_foreign_in : (version : Version) (db : Database) (o : OfficeState)
     → RepresentsOfficeIn version db o
     → IsForeign db → ⊥
 not_foreign_in version db o kept foreign =
-    foreign version kept.held (are_readable kept.held o kept.stands kept.sound kept.office)
+    foreign version kept.held (are_readable kept.held o kept.represents kept.sound kept.office)
     kept.tables
 
 pub not_foreign : (db : Database) (o : OfficeState) → RepresentsOffice db o → IsForeign db → ⊥

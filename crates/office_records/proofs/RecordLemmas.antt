@@ -20,7 +20,7 @@ use Rattle.office_records.specs.FoundPublications.{ArePublished}
 use Rattle.office_records.specs.Memory.{memory_of, published_in}
 use Rattle.office_records.specs.Representation.{IsSound, TablesRepresentOffice, TablesRepresentRecords}
 use Rattle.office_records.specs.TableRows.{meta_row}
-use Rattle.office_records.proofs.BatchRowLemmas.{batch_rows, batches_kept, batches_stand}
+use Rattle.office_records.proofs.BatchRowLemmas.{batch_rows, batches_kept, batches_represent}
 use Rattle.office_records.proofs.BatchRowLemmas.{kept_batch, no_batches}
 use Rattle.office_records.proofs.MemoryLemmas.{same_enrolments}
 use Rattle.office_records.proofs.SessionLemmas.{one_session}
@@ -70,11 +70,11 @@ module _ (found : Found) (batches : List Batch) where
   -- ---- before a load
 
   pub unloaded : map counts_of batches ≡ found.batches.items → t ≡ empty_tables → IsUnloaded found
-  unloaded rows stands =
-      let none : batches ≡ [] = ap (λ (u : Tables). u.batch) stands in
+  unloaded rows represents =
+      let none : batches ≡ [] = ap (λ (u : Tables). u.batch) represents in
       record {
         batches = sym rows ∙ ap (map counts_of) none;
-        tables = subst (λ l. tables_of found l ≡ empty_tables) none stands;
+        tables = subst (λ l. tables_of found l ≡ empty_tables) none represents;
       }
 
   pub nothing_loaded : IsUnloaded found → AreFoundBatches found.batches.items batches
@@ -117,8 +117,8 @@ module _ (found : Found) (batches : List Batch) where
       enrol = enrols.rows;
       draft = drafts.1.rows;
       slot = drafts.1.slots;
-      published = are.rows.stands;
-      batches = batches_stand found.batches.items batches kept these.rows;
+      published = are.rows.represents;
+      batches = batches_represent found.batches.items batches kept these.rows;
     },
     record { scored = drafts.1.scored; shared = are.shared },
     record {
@@ -137,16 +137,16 @@ module _ (found : Found) (batches : List Batch) where
 
   -- ---- from the office to its rows
 
-  module _ (r : Records) (stands : TablesRepresentRecords t r) (sound : IsSound t (Some r))
+  module _ (r : Records) (represents : TablesRepresentRecords t r) (sound : IsSound t (Some r))
       (is : AreRecords r) where
     pub kept_rows : map counts_of batches ≡ found.batches.items → AreBatchRows found.batches.items
     kept_rows rows =
-        batch_rows found.batches.items batches r.batches rows stands.batches is.batches
+        batch_rows found.batches.items batches r.batches rows represents.batches is.batches
 
     pub session_row : IsSessionRow (meta_from found.meta) r.session
     session_row = record {
       session = is.session;
-      text = ap (λ (m : Meta). m.instance) (head_is stands.meta);
+      text = ap (λ (m : Meta). m.instance) (head_is represents.meta);
     }
 
     module _ (I : Session) (read : IsSessionRow (meta_from found.meta) I) where
@@ -155,7 +155,7 @@ module _ (found : Found) (batches : List Batch) where
 
       pub owner_rows : AreOwners I found.owners.items r.owner_of
       owner_rows = subst (λ J. AreOwners J found.owners.items r.owner_of) same (record {
-        rows = stands.owner;
+        rows = represents.owner;
         departments = is.departments;
         owned = is.owned;
       })
@@ -163,7 +163,7 @@ module _ (found : Found) (batches : List Batch) where
       pub enrol_rows : AreEnrolRows I found.enrols.items r.enrolments
       enrol_rows = subst (λ J. AreEnrolRows J found.enrols.items r.enrolments) same (record {
         enrolled = is.enrolled;
-        rows = stands.enrol;
+        rows = represents.enrol;
       })
 
       pub draft_rows : (E : Enrolled) → AreEnrolRows I found.enrols.items E
@@ -173,8 +173,8 @@ module _ (found : Found) (batches : List Batch) where
           = record {
             numbered = is.numbered;
             fits = is.drafts;
-            rows = stands.draft;
-            slots = stands.slot;
+            rows = represents.draft;
+            slots = represents.slot;
             scored = sound.scored;
           } in
           subst (λ F. AreDrafts I F found.drafts.items found.slots.items r.draft)
@@ -185,8 +185,8 @@ module _ (found : Found) (batches : List Batch) where
       pub published_rows : IsPublished I r.published
       published_rows = subst (λ J. IsPublished J r.published) same (record {
         rows = record {
-          marked = ap (λ (m : Meta). m.published) (head_is stands.meta);
-          stands = stands.published;
+          marked = ap (λ (m : Meta). m.published) (head_is represents.meta);
+          represents = represents.published;
         };
         is = are_published r.session r.published is.publication;
         shared = sound.shared;

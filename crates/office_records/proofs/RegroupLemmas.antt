@@ -44,14 +44,14 @@ module _ {X : Type 0} (key : X → ℕ) where
             same = λ k. ap (λ z. of_key k (z ∷ ys)) first;
           }
       go false test is next =
-          let behind = next is in record {
-            left = y ∷ behind.left;
+          let after = next is in record {
+            left = y ∷ after.left;
             moved = IsPermutation-trans _ _ _
-                (IsPermutation-cons y ys (x ∷ behind.left) behind.moved)
-                (IsPermutation-append_left behind.left _ _
+                (IsPermutation-cons y ys (x ∷ after.left) after.moved)
+                (IsPermutation-append_left after.left _ _
                 (IsPermutation-append_comm (y ∷ []) (x ∷ [])));
             same = λ k. apart x y (eqb (key y) k) (eqb (key x) k) (both_keys x y k test)
-                (of_key k ys) (of_key k behind.left) (behind.same k);
+                (of_key k ys) (of_key k after.left) (after.same k);
           }
 
   -- without the first of both

@@ -183,9 +183,9 @@ module _ (version : Version) (db : Database) (t u : Tables) (p : HoldsTablesIn v
   }
 
   -- both represent the same offices
-  pub same_stands_in : (o : OfficeState) → TablesRepresentOffice t o → TablesRepresentOffice u o
-  same_stands_in None h = empty h
-  same_stands_in (Some r) h = loaded r h
+  pub same_represents_in : (o : OfficeState) → TablesRepresentOffice t o → TablesRepresentOffice u o
+  same_represents_in None h = empty h
+  same_represents_in (Some r) h = loaded r h
 
   -- if one is sound, the other is
   pub same_sound_in : (o : OfficeState) → IsSound t o → IsSound u o
@@ -200,9 +200,10 @@ module _ (version : Version) (db : Database) (t u : Tables) (p : HoldsTablesIn v
   }
 
 -- the same of version 2
-pub same_stands : (db : Database) (t u : Tables) → HoldsTables db t → HoldsTables db u → (o : OfficeState)
+pub same_represents : (db : Database) (t u : Tables) → HoldsTables db t → HoldsTables db u
+    → (o : OfficeState)
     → TablesRepresentOffice t o → TablesRepresentOffice u o
-same_stands = same_stands_in Two
+same_represents = same_represents_in Two
 
 pub same_sound : (db : Database) (t u : Tables) → HoldsTables db t → HoldsTables db u → (o : OfficeState)
     → IsSound t o → IsSound u o

@@ -1,14 +1,11 @@
 -- The shares of candidates, row by row.
-use Rattle.std.proofs.Common.{◌≡◌, ℕ, ◌<◌, ◌≤◌, eqb, inl, inr, Result, Ok, Err, List, [], ◌∷◌, length, map, get_or, nat_cmp, All, refl, sym, ◌∙◌, ap, arith}
+use Rattle.std.proofs.Common.{◌≡◌, ℕ, ◌<◌, List, [], ◌∷◌, length, map, get_or, nat_cmp, All, refl, sym, ◌∙◌, ap, arith}
 use Rattle.std.specs.List.{AllByRecursion}
-use Rattle.std.specs.List.Sorted.{IsBinarySearchResult, IsSortedByKey}
-use Rattle.std.specs.Prelude.{IsPermutation, is_ok}
-use Rattle.std.proofs.lemmas.Bool.{cases_lt, eq-eqb, ne_eqb}
-use Rattle.std.proofs.lemmas.List.{get_or-map, get_or_default, length-map}
-use Rattle.std.proofs.lemmas.List.Folds.{list_any_at, list_any_none}
-use Rattle.std.proofs.lemmas.List.Sorted.{searched}
+use Rattle.std.specs.List.Sorted.{IsSortedByKey}
+use Rattle.std.specs.Prelude.{IsPermutation}
+use Rattle.std.proofs.lemmas.List.{get_or-map, length-map}
 use Rattle.sqlite_keyed.proofs.ListLemmas.{ascending-map}
-use Rattle.exam_model.specs.Enrolments.{IsAscending, has_number}
+use Rattle.exam_model.specs.Enrolments.{IsAscending}
 use Rattle.exam_model.proofs.SumLemmas.{IsChain}
 use Rattle.exam_publish.proofs.ListLemmas.{chain_from_ascending}
 use Rattle.exam_score.specs.Penalty.{PersonalPenalty}
@@ -79,23 +76,3 @@ sorted_shares found sorted shares up same moved order =
     (unmapped (λ x y. x < y) (λ (share : Share). share.0) shares
     (chain_from_ascending (map (λ (share : Share). share.0) shares) up)))
     same moved order
-
--- ---- a search among candidates
-
-rise : (xs : List ℕ) → IsAscending xs → (i j : ℕ) → i ≤ j → j < length xs
-    → get_or xs i 0 ≤ get_or xs j 0
-rise xs up i j le lt = grind (arith, up i j, λ (same : i ≡ j). ap (λ k. get_or xs k 0) same)
-
--- a search finds a student exactly if they are there
-pub has_searched : (xs : List ℕ) (x : ℕ) (r : Result ℕ ℕ) → IsAscending xs
-    → IsBinarySearchResult (λ y. nat_cmp y x) xs r → is_ok r ≡ has_number xs x
-has_searched xs x (Ok at) up is =
-    let found = searched xs x (Ok at) is (rise xs up) in
-    sym (list_any_at (λ t. eqb t x) xs at 0 found.0 (eq-eqb _ _ found.1))
-has_searched xs x (Err at) up is =
-    let gap = searched xs x (Err at) is (rise xs up) in
-    sym (list_any_none (λ t. eqb t x) xs (λ k d lt.
-    rw (get_or_default xs k d 0 lt) (elim (cases_lt k at) [
-      | inl below ↦ ne_eqb _ _ (omega (arith, gap.1 k below))
-      | inr above ↦ ne_eqb _ _ (omega (arith, gap.2 k above lt))
-    ])))

@@ -104,9 +104,9 @@ abbrev pub place_in : SlotRow → Place
 place_in row = record { period = row.period; room = row.room }
 
 -- each row has its exam's place
-pub rows_say : (d : ℕ) (T : Placing)
+pub rows_placed : (d : ℕ) (T : Placing)
     → AllByRecursion (λ row. get_or T row.exam None ≡ Some (place_in row)) (slots_from d 0 T)
-rows_say d T =
+rows_placed d T =
     rows_each (λ row. get_or T row.exam None ≡ Some (place_in row)) d 0 T
     (λ e at is. ap (λ n. get_or T n None)
     (let zero_first : 0 + e ≡ e = omega arith in zero_first) ∙ is)
@@ -114,15 +114,15 @@ rows_say d T =
 -- ---- the rows determine the timetable
 
 -- an exam placed in the one is placed in the other
-stands_too : (I : Session) (d : ℕ) (found : List SlotRow) (T U : Placing) → AreSlots I d found T
+placed_too : (I : Session) (d : ℕ) (found : List SlotRow) (T U : Placing) → AreSlots I d found T
     → AreSlots I d found U → (e : ℕ) (at : Place) → get_or T e None ≡ Some at
     → get_or U e None ≡ Some at
-stands_too I d found T U t u e at is =
-    let says = all-permutation (λ row. get_or U row.exam None ≡ Some (place_in row))
+placed_too I d found T U t u e at is =
+    let placed_there = all-permutation (λ row. get_or U row.exam None ≡ Some (place_in row))
     (slots_from d 0 U) (slots_from d 0 T)
-    (IsPermutation-trans _ _ _ (IsPermutation-sym _ _ u.rows) t.rows) (rows_say d U) in
+    (IsPermutation-trans _ _ _ (IsPermutation-sym _ _ u.rows) t.rows) (rows_placed d U) in
     ap (λ n. get_or U n None) (let zero_first : e ≡ 0 + e = omega arith in zero_first)
-    ∙ each_row (λ row. get_or U row.exam None ≡ Some (place_in row)) d 0 e at T says is
+    ∙ each_row (λ row. get_or U row.exam None ≡ Some (place_in row)) d 0 e at T placed_there is
 
 same_at : (x y : Option Place) → ((at : Place) → x ≡ Some at → y ≡ Some at)
     → ((at : Place) → y ≡ Some at → x ≡ Some at) → x ≡ y
@@ -135,7 +135,7 @@ pub same_timetable : (I : Session) (d : ℕ) (found : List SlotRow) (T U : Placi
     → AreSlots I d found T → AreSlots I d found U → T ≡ U
 same_timetable I d found T U t u =
     ext_get_or None T U (t.exams ∙ sym u.exams)
-    (λ e within. same_at _ _ (stands_too I d found T U t u e) (stands_too I d found U T u t e))
+    (λ e within. same_at _ _ (placed_too I d found T U t u e) (placed_too I d found U T u t e))
 
 -- ---- the number of rows of an exam
 
@@ -270,21 +270,21 @@ module _ (I : Session) (d : ℕ) (found : List SlotRow) (row : SlotRow) (T : Pla
           nowhere = free (get_or T row.exam None) refl;
         })
       where
-        says : get_or U row.exam None ≡ Some (place_in row)
-        says =
+        placed_there : get_or U row.exam None ≡ Some (place_in row)
+        placed_there =
             all_at (λ (r : SlotRow). get_or U r.exam None ≡ Some (place_in r))
             (slots_at d found) row
             (slots_at d rest)
             (subst (AllByRecursion (λ (r : SlotRow). get_or U r.exam None ≡ Some (place_in r)))
             (parted rest)
             (all-permutation (λ (r : SlotRow). get_or U r.exam None ≡ Some (place_in r)) _ _
-            (IsPermutation-sym _ _ all.rows) (rows_say d U)))
+            (IsPermutation-sym _ _ all.rows) (rows_placed d U)))
 
         within : row.exam < length U
-        within = placed_within U row.exam (place_in row) says
+        within = placed_within U row.exam (place_in row) placed_there
 
         exists : (row.period < length I.periods) × (row.room < length I.rooms)
-        exists = subst (PlaceExists I) says (all.places row.exam None within)
+        exists = subst (PlaceExists I) placed_there (all.places row.exam None within)
 
         -- it would have two rows
         twice : (at : Place) → get_or T row.exam None ≡ Some at → ⊥

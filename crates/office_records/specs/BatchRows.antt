@@ -19,7 +19,7 @@ abbrev pub enrol_rows : RowKind EnrolRow
 enrol_rows = record {
   row = enrol_row;
   is_of = λ s e row. (row.student == s) && (row.exam == e);
-  tells = λ s e p. refl;
+  agrees = λ s e p. refl;
 }
 
 -- a row of a draft whose places are among these, with its penalty

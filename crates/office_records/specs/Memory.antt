@@ -17,6 +17,11 @@ abbrev pub AreTogether : Memory → Type 0
 AreTogether None = Unit {0}
 AreTogether (Some kept) = length kept.1 ≡ length kept.0.exams
 
+-- the weight of exams over night is 0; there is none before a load
+abbrev pub HasNoNightWeight : Memory → Type 0
+HasNoNightWeight None = Unit {0}
+HasNoNightWeight (Some kept) = kept.0.weights.night ≡ 0
+
 -- an office's publication, if it has one
 abbrev pub published_in : OfficeState → Option Publication
 published_in None = None

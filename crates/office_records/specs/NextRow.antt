@@ -11,7 +11,7 @@ use Rattle.office_tables.specs.declared.slot.SlotRow.{SlotRow}
 -- an owner within the limits, of an exam that exists and has no owner among these departments
 pub record IsFirstOwner (departments : List ℕ) (row : OwnerRow) : Type 0 where
   pub exam : row.exam < length departments
-  pub alone : slice_index departments row.exam ≡ 0
+  pub unowned : slice_index departments row.exam ≡ 0
   pub department : (1 ≤ row.dept) × (row.dept ≤ MAX_DEPARTMENT)
 
 -- a pair within the limits, of an exam that exists, which is not in these enrolments and fits into

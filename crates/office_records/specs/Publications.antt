@@ -43,4 +43,4 @@ pub record RowsRepresentPublication (places : List PlacedRow) (seats : List Seat
 pub record ArePublicationRows (mark : Bool) (places : List PlacedRow) (seats : List SeatRow)
     (published : Option Publication) : Type 0 where
   pub marked : mark ≡ is_some published
-  pub stands : RowsRepresentPublication places seats published
+  pub represents : RowsRepresentPublication places seats published

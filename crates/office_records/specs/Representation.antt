@@ -75,7 +75,7 @@ IsSound t (Some r) = AreSound t r
 pub record RepresentsOfficeIn (version : Version) (db : Database) (o : OfficeState) : Type 0 where
   pub held : Tables
   pub tables : tables.HoldsTablesIn version db held
-  pub stands : TablesRepresentOffice held o
+  pub represents : TablesRepresentOffice held o
   pub sound : IsSound held o
   pub office : IsOffice o
 

@@ -24,6 +24,6 @@ pub use publication::placement_rows;
 pub use records::{Kept, kept_of};
 pub use seats::{changed_seat_rows, own_seats};
 pub use session::text_of;
-pub use shares::{check_shares, shares_of};
-pub use student_shares::{changed_share_rows, student_share_rows};
+pub use shares::shares_of;
+pub use student_shares::student_share_rows;
 pub use timetable::timetable_of;

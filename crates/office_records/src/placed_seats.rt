@@ -77,6 +77,6 @@ fn is_seated(instance: &Instance, timetable: &Timetable, row: SeatRow) -> bool
         return false;
     };
     let room = instance.room(place.room);
-    let stands = place.period == row.period && place.room == row.room;
-    stands && 1 <= row.seat && row.seat <= room.capacity
+    let in_place = place.period == row.period && place.room == row.room;
+    in_place && 1 <= row.seat && row.seat <= room.capacity
 }

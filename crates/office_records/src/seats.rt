@@ -1,14 +1,13 @@
 // Seat rows in the form of the tables.
 ghost use Rattle.std.specs.Prelude.{◌≡◌, ◌<◌, List, map, IfErr, IfNone, IfOk, IfSome, IsPermutation};
 ghost use Rattle.exam_terms.specs.declared.limits.TheConstants.{MAX_STUDENT};
-ghost use Rattle.exam_model.specs.Enrolments.{IsAscending};
+ghost use Rattle.exam_model.specs.Enrolments.{IsAscending, has_number};
 ghost use Rattle.exam_publish.specs.Rows.{AreNumbered, RowsInOrder};
 ghost use Rattle.exam_publish.specs.declared.seat_row.SeatRow as published;
 ghost use Rattle.office_records.specs.Publications.{stored_seat};
 ghost use Rattle.office_records.specs.SeatsStored.{seat_rows_of};
 
 use crate::fault::RecordFault;
-use crate::student_shares::is_among;
 use exam_model::{ExamNo, PeriodNo, RoomNo, StudentNo};
 use exam_publish as publish;
 use office_tables::SeatRow;
@@ -31,6 +30,14 @@ pub fn changed_seat_rows(
         }
     }
     Ok(stored)
+}
+
+// Returns whether a student is one of these.
+fn is_among(students: &[StudentNo], student: StudentNo) -> bool
+    requires { IsAscending students.now }
+    ensures { result ≡ has_number students.now student }
+{
+    students.binary_search(&student).is_ok()
 }
 
 // Returns a seat in the form of the tables.

@@ -15,8 +15,8 @@ use exam_publish::{SeatRow, Shares, shares};
 use office_tables::{PartShareRow, StudentShareRow};
 use std::alloc::Global;
 
-/// Returns `Ok` if these rows are the shares of a publication; else `BadRows`.
-pub fn check_shares(
+// Returns `Ok` if these rows are the shares of a publication; else `BadRows`.
+pub(crate) fn check_shares(
     alloc: Global,
     instance: &Instance,
     timetable: &Timetable,

@@ -1,9 +1,9 @@
 // Rows of the shares of candidates.
 ghost use Rattle.std.specs.Prelude.{◌≡◌, ℕ, List, map, All, IfErr, IfNone, IfOk, IfSome, IsPermutation};
-ghost use Rattle.exam_model.specs.Enrolments.{IsAscending, has_number};
+ghost use Rattle.exam_model.specs.Enrolments.{IsAscending};
 ghost use Rattle.exam_score.specs.Penalty.{PersonalPenalty};
 ghost use Rattle.office_tables.specs.ShareStudent.{AreStudentAmounts};
-ghost use Rattle.office_records.specs.SharesStored.{IsShare, share_rows_of, student_share_row};
+ghost use Rattle.office_records.specs.SharesStored.{IsShare, student_share_row};
 
 use crate::fault::RecordFault;
 use exam_model::StudentNo;
@@ -28,27 +28,6 @@ pub fn student_share_rows(
     Ok(rows)
 }
 
-/// Returns the rows of the shares of only these candidates, in the order of the shares: a candidate
-/// without a seat has none.
-pub fn changed_share_rows(
-    alloc: Global,
-    shares: &Shares,
-    changed: &[StudentNo],
-) -> Result<Vec<StudentShareRow>, AllocError>
-    requires { IsAscending changed.now }
-    ensures rows { IfOk result (λ rows. rows.items
-        ≡ share_rows_of changed.now (map student_share_row shares.now.students)) }
-    ensures amounts { IfOk result (λ rows. All AreStudentAmounts rows.items) }
-{
-    let mut rows = Vec::new(alloc);
-    'shares: for share in shares.students() {
-        if is_among(changed, share.0) {
-            rows.push(share_row(*share))?;
-        }
-    }
-    Ok(rows)
-}
-
 // Returns a candidate's share in the form of the tables.
 fn share_row(share: (StudentNo, PersonalParts)) -> StudentShareRow
     ensures row { result ≡ student_share_row share }
@@ -62,14 +41,6 @@ fn share_row(share: (StudentNo, PersonalParts)) -> StudentShareRow
         spread: share.1.spread(),
         night: share.1.night(),
     }
-}
-
-// Returns whether a student is one of these.
-pub(crate) fn is_among(students: &[StudentNo], student: StudentNo) -> bool
-    requires { IsAscending students.now }
-    ensures { result ≡ has_number students.now student }
-{
-    students.binary_search(&student).is_ok()
 }
 
 // Returns the rows in the order of their candidates.

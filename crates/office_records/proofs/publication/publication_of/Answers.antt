@@ -1,5 +1,5 @@
 use Rattle.std.proofs.Common.{◌∙◌}
-use Rattle.office_records.proofs.FoundLemmas.{alone, no_seats, nothing_has_them, refused_rows}
+use Rattle.office_records.proofs.FoundLemmas.{only_one, no_seats, nothing_has_them, refused_rows}
 use Rattle.office_records.proofs.ResultLemmas.{passed_on}
 use Rattle.office_records.proofs.publication.publication_of.Goals as goal
 
@@ -17,7 +17,7 @@ returns-in_err-rows-clause-none c =
 
 pub returns-then-sound-clause-only : goal.returns-then-sound-clause-only
 returns-then-sound-clause-only c =
-    alone c.args.instance.now c.args.mark c.args.places.now c.args.seats.now c.if-not-mark.false
+    only_one c.args.instance.now c.args.mark c.args.places.now c.args.seats.now c.if-not-mark.false
     c.in_ok-timetable.timetable c.in_ok-rows.rows.items c.in_ok-timetable.ensures.is
     c.in_ok-rows.ensures.only
 

@@ -19,8 +19,8 @@ use Rattle.office_records.proofs.RecordLemmas.{owner_rows, published_rows}
 use Rattle.office_records.proofs.RecordLemmas.{unloaded as unloaded_found}
 use Rattle.office_records.proofs.records.kept_of.Goals as goal
 
-abbrev StandsForNone : Found → Type 0
-StandsForNone found =
+abbrev RepresentsNone : Found → Type 0
+RepresentsNone found =
     (batches : List Batch) → map counts_of batches ≡ found.batches.items → (office : OfficeState)
     → TablesRepresentOffice (tables_of found batches) office
     → IsSound (tables_of found batches) office
@@ -33,7 +33,7 @@ refused : {X : Type 0} (found : Found) (unloaded : Bool) (fault : RecordFault)
     → (fault ≡ BadRows → (batches : List Batch) → map counts_of batches ≡ found.batches.items
     → (r : Records) → TablesRepresentRecords (tables_of found batches) r
     → IsSound (tables_of found batches) (Some r) → AreRecords r → ⊥)
-    → IfErr r (λ e. e ≡ BadRows → StandsForNone found)
+    → IfErr r (λ e. e ≡ BadRows → RepresentsNone found)
 refused found unloaded fault (Ok x) empty is same none = tt
 refused found unloaded fault (Err e) empty is same none =
     λ bad batches rows o. each batches rows o bad
@@ -41,10 +41,10 @@ refused found unloaded fault (Err e) empty is same none =
     each : (batches : List Batch) → map counts_of batches ≡ found.batches.items
         → (o : OfficeState) → e ≡ BadRows → TablesRepresentOffice (tables_of found batches) o
         → IsSound (tables_of found batches) o → IsOffice o → ⊥
-    each batches rows None bad stands sound office =
-        let was = empty.1 (unloaded_found found batches rows stands) in absurd cc
-    each batches rows (Some r) bad stands sound office =
-        none (sym same ∙ bad) batches rows r stands sound office
+    each batches rows None bad represents sound office =
+        let was = empty.1 (unloaded_found found batches rows represents) in absurd cc
+    each batches rows (Some r) bad represents sound office =
+        none (sym same ∙ bad) batches rows r represents sound office
 
 pub returns-in_err-check_owners-clause-none : goal.returns-in_err-check_owners-clause-none
 returns-in_err-check_owners-clause-none c =
@@ -53,9 +53,9 @@ returns-in_err-check_owners-clause-none c =
     refused found c.is_unloaded.result c.in_err-check_owners.field-0.0
     c.from_residual-in_err-check_owners.result c.is_unloaded.ensures c.if-is_unloaded.false
     c.from_residual-in_err-check_owners.ensures.1
-    (λ bad batches same r stands sound is. none bad r.owner_of
+    (λ bad batches same r represents sound is. none bad r.owner_of
     (subst (λ rows. AreOwners c.in_ok-instance.instance rows r.owner_of) (sym c.deref.ensures.value)
-    (owner_rows found batches r stands sound is c.in_ok-instance.instance
+    (owner_rows found batches r represents sound is c.in_ok-instance.instance
     c.in_ok-instance.ensures.is)))
 
 pub returns-in_err-enrolments-clause-none : goal.returns-in_err-enrolments-clause-none
@@ -65,10 +65,10 @@ returns-in_err-enrolments-clause-none c =
     refused found c.is_unloaded.result c.in_err-enrolments.field-0.0
     c.from_residual-in_err-enrolments.result c.is_unloaded.ensures c.if-is_unloaded.false
     c.from_residual-in_err-enrolments.ensures.1
-    (λ bad batches same r stands sound is. none bad r.enrolments
+    (λ bad batches same r represents sound is. none bad r.enrolments
     (subst (λ rows. AreEnrolRows c.in_ok-instance.instance rows r.enrolments)
     (sym c.deref-2.ensures.value)
-    (enrol_rows found batches r stands sound is c.in_ok-instance.instance
+    (enrol_rows found batches r represents sound is c.in_ok-instance.instance
     c.in_ok-instance.ensures.is)))
 
 pub returns-in_err-check_drafts-clause-none : goal.returns-in_err-check_drafts-clause-none
@@ -82,10 +82,10 @@ returns-in_err-check_drafts-clause-none c =
     refused found c.is_unloaded.result c.in_err-check_drafts.field-0.0
     c.from_residual-in_err-check_drafts.result c.is_unloaded.ensures c.if-is_unloaded.false
     c.from_residual-in_err-check_drafts.ensures.1
-    (λ bad batches same r stands sound is. none bad r.draft
+    (λ bad batches same r represents sound is. none bad r.draft
     (subst (λ rows. AreDrafts I E rows c.deref-4.result.now r.draft) (sym c.deref-3.ensures.value)
     (subst (λ rows. AreDrafts I E found.drafts.items rows r.draft) (sym c.deref-4.ensures.value)
-    (draft_rows found batches r stands sound is I c.in_ok-instance.ensures.is E enrolled))))
+    (draft_rows found batches r represents sound is I c.in_ok-instance.ensures.is E enrolled))))
 
 pub returns-in_err-published-clause-none : goal.returns-in_err-published-clause-none
 returns-in_err-published-clause-none c =
@@ -94,8 +94,8 @@ returns-in_err-published-clause-none c =
     refused found c.is_unloaded.result c.in_err-published.field-0.0
     c.from_residual-in_err-published.result c.is_unloaded.ensures c.if-is_unloaded.false
     c.from_residual-in_err-published.ensures.1
-    (λ bad batches same r stands sound is. none bad r.published
-    (published_rows found batches r stands sound is c.in_ok-instance.instance
+    (λ bad batches same r represents sound is. none bad r.published
+    (published_rows found batches r represents sound is c.in_ok-instance.instance
     c.in_ok-instance.ensures.is))
 
 pub returns-in_err-check_batches-clause-none : goal.returns-in_err-check_batches-clause-none
@@ -105,9 +105,9 @@ returns-in_err-check_batches-clause-none c =
     refused found c.is_unloaded.result c.in_err-check_batches.field-0.0
     c.from_residual-in_err-check_batches.result c.is_unloaded.ensures c.if-is_unloaded.false
     c.from_residual-in_err-check_batches.ensures.1
-    (λ bad batches same r stands sound is. none
+    (λ bad batches same r represents sound is. none
     (subst AreBatchRows (sym c.deref-5.ensures.value)
-    (kept_rows found batches r stands sound is same)))
+    (kept_rows found batches r represents sound is same)))
 
 pub returns-clause-are : goal.returns-clause-are
 returns-clause-are c batches these =

@@ -1,6 +1,6 @@
 use Rattle.std.proofs.Common.{◌∙◌}
-use Rattle.office_records.proofs.ShareRowLemmas.{has_searched}
-use Rattle.office_records.proofs.student_shares.is_among.Goals as goal
+use Rattle.exam_publish.proofs.AmongLemmas.{has_searched}
+use Rattle.office_records.proofs.seats.is_among.Goals as goal
 
 pub returns : goal.returns
 returns c =
