@@ -30,7 +30,7 @@ use Rattle.office_records.specs.Memory.{Memory, memory_of}
 use Rattle.office_records.specs.Representation.{RepresentsOffice, RepresentsOfficeIn, IsSound, TablesRepresentOffice}
 use Rattle.office_records.proofs.BatchRowLemmas.{stored_short}
 use Rattle.office_records.proofs.MemoryLemmas.{same_memory_in}
-use Rattle.office_records.proofs.SameTables.{same_sound_in, same_stands_in}
+use Rattle.office_records.proofs.SameTables.{same_sound_in, same_represents_in}
 use Rattle.office_store.specs.Leaving.{MayMigrate, found_in}
 use Rattle.office_store.specs.Opening.{HoldsOffice, IsFoundOffice, DatabaseUpgraded, WeighsNoNight}
 use Rattle.office_store.specs.declared.memory.OfficeMemory.{OfficeMemory}
@@ -156,16 +156,16 @@ module _ (db : Database) (found : Found) (batches : List Batch)
 
     same_office : TablesRepresentOffice (tables_of found batches) o
     same_office =
-        same_stands_in found.version db kept.held (tables_of found batches) kept.tables held o
-        kept.stands
+        same_represents_in found.version db kept.held (tables_of found batches) kept.tables held o
+        kept.represents
 
     -- tables of version 2 with the same rows represent this office
     pub kept_after : (new : Database) → HoldsTables new (tables_of found batches)
         → RepresentsOffice new o
-    kept_after new stands = record {
+    kept_after new represents = record {
       held = tables_of found batches;
-      tables = stands;
-      stands = same_office;
+      tables = represents;
+      represents = same_office;
       sound = same_sound_in found.version db kept.held (tables_of found batches) kept.tables held o
           kept.sound;
       office = kept.office;
@@ -191,7 +191,7 @@ module _ (db : Database) (found : Found) (batches : List Batch)
         let same = same_memory_in found.version db o is.0 kept (record {
           held = tables_of found batches;
           tables = held;
-          stands = is.1;
+          represents = is.1;
           sound = is.2;
           office = is.3;
         }) in
@@ -234,11 +234,11 @@ undone_after g old mid new (inr still) undone = record {
 pub taken_over : (old new : Database) (found : Found) (memory : OfficeMemory)
     (is : IsFoundOffice old found memory) → HoldsTables new (tables_of found is.batches)
     → DatabaseUpgraded old new
-taken_over old new found memory is stands = record {
+taken_over old new found memory is represents = record {
   office = is.office;
   stood = (found.version, is.kept, is.weighs);
-  stands = λ there holds.
-      kept_after old found is.batches is.counted is.tables there holds new stands;
+  represents = λ there holds.
+      kept_after old found is.batches is.counted is.tables there holds new represents;
 }
 
 -- ---- what a later opening may find
@@ -253,7 +253,7 @@ module _ {S : Type 0} (g : Ghosts S) (old mid new : Held S) (found : Found) (mem
       → ((batches : List Batch) → HoldsTablesIn found.version (state g mid).now (tables_of found batches)
       → HoldsTables (found_in trees) (tables_of found batches))
       → MayMigrate (state g old) result trees
-  migrated clean_new trees before stands =
+  migrated clean_new trees before represents =
       let clean_mid = clean clean_new in
       let found_so = is clean_mid in
       let held = held_still g old mid found.version (tables_of found found_so.batches)
@@ -262,7 +262,7 @@ module _ {S : Type 0} (g : Ghosts S) (old mid new : Held S) (found : Found) (mem
             found_so.tables.schema,
         unrefused,
         taken_over (state g old).now (found_in trees) found memory found_so
-            (stands found_so.batches held),
+            (represents found_so.batches held),
       )
 
   pub may_migrate : Survives (state g old) (state g mid) (λ _. ⊥)

@@ -14,11 +14,11 @@ use Rattle.office_store.specs.declared.memory.OfficeMemory.{OfficeMemory}
 -- the rows of an office are those of its drafts
 pub drafts_stored : (t : Tables) (r : Records) → TablesRepresentRecords t r → AreRecords r
     → IsSound t (Some r) → AreDrafts r.session r.enrolments t.draft t.slot r.draft
-drafts_stored t r stands is sound = record {
+drafts_stored t r represents is sound = record {
   numbered = is.numbered;
   fits = is.drafts;
-  rows = stands.draft;
-  slots = stands.slot;
+  rows = represents.draft;
+  slots = represents.slot;
   scored = sound.scored;
 }
 
@@ -29,21 +29,21 @@ pub found_drafts : (t : Tables) (o : OfficeState) → TablesRepresentOffice t o 
     → IfSome kept (λ k. (d : ℕ) → IsDraftOf k.0 d t.draft t.slot (draft_at drafts d))
     → (kept ≡ None → (d : ℕ) → draft_at drafts d ≡ None)
     → (d : ℕ) → draft_at drafts d ≡ scored_draft d o
-found_drafts t None stands sound is kept memory drafts are none d = none (sym memory) d
-found_drafts t (Some r) stands sound is kept memory drafts are none d =
+found_drafts t None represents sound is kept memory drafts are none d = none (sym memory) d
+found_drafts t (Some r) represents sound is kept memory drafts are none d =
     subst
     (λ (k : Memory). IfSome k (λ k. (d : ℕ) → IsDraftOf k.0 d t.draft t.slot (draft_at drafts d)))
-    (sym memory) are d r.enrolments r.draft (drafts_stored t r stands is sound)
+    (sym memory) are d r.enrolments r.draft (drafts_stored t r represents is sound)
 
 -- they are not refused
-pub drafts_stand : (t : Tables) (o : OfficeState) → TablesRepresentOffice t o → IsSound t o
+pub drafts_represent : (t : Tables) (o : OfficeState) → TablesRepresentOffice t o → IsSound t o
     → IsOffice o
     → (kept : Memory) → memory_of o ≡ kept
     → IfSome kept (λ k. AreNoDrafts k.0 t.draft t.slot) → (kept ≡ None → ⊥) → ⊥
-drafts_stand t None stands sound is kept memory none loaded = loaded (sym memory)
-drafts_stand t (Some r) stands sound is kept memory none loaded =
+drafts_represent t None represents sound is kept memory none loaded = loaded (sym memory)
+drafts_represent t (Some r) represents sound is kept memory none loaded =
     subst (λ (k : Memory). IfSome k (λ k. AreNoDrafts k.0 t.draft t.slot)) (sym memory) none
-    r.enrolments r.draft is.session is.enrolled.set (drafts_stored t r stands is sound)
+    r.enrolments r.draft is.session is.enrolled.set (drafts_stored t r represents is sound)
 
 pub found_together : (n : OfficeMemory) → AreTogether n.kept
     → IfSome n.kept (λ k. AreSuited k.0 n.drafts)

@@ -38,7 +38,7 @@ use Rattle.office_records.specs.Found.{AreDrafts}
 use Rattle.office_records.specs.Memory.{memory_of}
 use Rattle.office_records.specs.Representation.{RepresentsOffice, IsSound, TablesRepresentRecords}
 use Rattle.office_records.specs.TableRows.{enrol_row, stored_batch}
-use Rattle.office_records.proofs.BatchPutLemmas.{batch_sound, batch_stands, drafts_moved}
+use Rattle.office_records.proofs.BatchPutLemmas.{batch_sound, batch_represents, drafts_moved}
 use Rattle.office_store.specs.NewBatches.{AreDraftsWith, Enrols, IsNewFor, drafts_after, line_put, new_batch_put}
 use Rattle.office_store.specs.Memory.{AreRescored, AreScored, IsMemoryOf, IsRenewed}
 use Rattle.office_store.specs.Running.{IsFault}
@@ -101,18 +101,18 @@ pub batch_made : (number : ℕ) (bytes : List ℕ) (new : NewBatch) (lines : Lis
 batch_made number bytes new lines drafts a b some t =
     let row : Batch
     = stored_batch (record { no = number; bytes = bytes; counts = new.counts }) in
-    let anew : List DraftRow = map (λ (it : InsertDraft). it.row) new.drafts.items in
+    let new_rows : List DraftRow = map (λ (it : InsertDraft). it.row) new.drafts.items in
     all_made lines drafts row t
     ∙ (λ i. batch_put (map (λ (it : PutLine). it.change) (a i))
     (reverse (map (λ (it : InsertDraft). it.row) (b i))) row t)
     ∙ ap (λ (l : List DraftRow).
     batch_put (map (λ (it : PutLine). it.change) new.lines.items) l row t)
-    (sym (all_anew new.lines.items anew t.draft some))
+    (sym (all_new new.lines.items new_rows t.draft some))
   where
-    all_anew : (its : List PutLine) (anew old : List DraftRow) → its ≢ []
-        → drafts_after its anew old ≡ reverse anew
-    all_anew [] anew old some = absurd (some refl)
-    all_anew (it ∷ its) anew old some = refl
+    all_new : (its : List PutLine) (new_rows old : List DraftRow) → its ≢ []
+        → drafts_after its new_rows old ≡ reverse new_rows
+    all_new [] new_rows old some = absurd (some refl)
+    all_new (it ∷ its) new_rows old some = refl
 
 -- if no line acts, only the batch is written
 pub idle_made : (number : ℕ) (bytes : List ℕ) (new : NewBatch) → new.lines.items ≡ []
@@ -164,22 +164,22 @@ idle_batch changes E done is judged none =
 -- the drafts after the lines are those of the office, rescored or as they were
 left_drafts : (r : Records) (t : Tables) (changes : List Change) (done : Counts × Enrolled)
     → AreRecords r → TablesRepresentRecords t r → IsSound t (Some r)
-    → after_batch changes r.enrolments ≡ Ok done → (its : List PutLine) (anew : List DraftRow)
+    → after_batch changes r.enrolments ≡ Ok done → (its : List PutLine) (new_rows : List DraftRow)
     → map (λ (it : PutLine). it.change) its ≡ acting changes r.enrolments
-    → (its ≢ [] → AreDraftsWith r done.1 anew)
-    → AreDraftsWith r done.1 (drafts_after its anew t.draft)
-left_drafts r t changes done is stands sound judged [] anew lines scored = record {
+    → (its ≢ [] → AreDraftsWith r done.1 new_rows)
+    → AreDraftsWith r done.1 (drafts_after its new_rows t.draft)
+left_drafts r t changes done is represents sound judged [] new_rows lines scored = record {
   slots = t.slot;
   are = subst (λ (E : Enrolled). AreDrafts r.session E t.draft t.slot r.draft)
       (sym (idle_batch changes r.enrolments done is.enrolled.set judged (sym lines)))
-      (drafts_stored t r stands is sound);
+      (drafts_stored t r represents is sound);
 }
-left_drafts r t changes done is stands sound judged (it ∷ its) anew lines scored =
+left_drafts r t changes done is represents sound judged (it ∷ its) new_rows lines scored =
     let again = scored (λ none. cc none) in
     record {
       slots = again.slots;
-      are = drafts_moved r.session done.1 anew (reverse anew) again.slots r.draft
-          (IsPermutation-reverse anew) again.are;
+      are = drafts_moved r.session done.1 new_rows (reverse new_rows) again.slots r.draft
+          (IsPermutation-reverse new_rows) again.are;
     }
 
 -- ---- what the command returns
@@ -251,7 +251,7 @@ module _ (number : ℕ) (bytes : List ℕ) (changes : List Change)
           left = drafts_after new.lines.items rows here.held.draft
 
           again : AreDraftsWith r (done r).1 left
-          again = left_drafts r here.held changes (done r) here.office here.stands here.sound
+          again = left_drafts r here.held changes (done r) here.office here.represents here.sound
               made.after new.lines.items rows made.lines made.drafts
 
           enrolled_kept : ((t : Tables) → HoldsTables a t
@@ -260,13 +260,13 @@ module _ (number : ℕ) (bytes : List ℕ) (changes : List Change)
           enrolled_kept makes = record {
             held = new_batch_put number bytes new here.held;
             tables = makes here.held here.tables;
-            stands = subst (λ (l : List Change). TablesRepresentRecords
+            represents = subst (λ (l : List Change). TablesRepresentRecords
                 (batch_put l left row here.held)
                 (keeping.records_with_batch number bytes r (done r)))
                 (sym made.lines)
-                (batch_stands number bytes changes r (done r) here.office made.after here.held
+                (batch_represents number bytes changes r (done r) here.office made.after here.held
                 left again.slots again.are small (counted r.enrolments (done r) made.after)
-                here.stands);
+                here.represents);
             sound = subst (λ (l : List Change). IsSound (batch_put l left row here.held)
                 (Some (keeping.records_with_batch number bytes r (done r)))) (sym made.lines)
                 (batch_sound number bytes changes r (done r) here.office made.after here.held

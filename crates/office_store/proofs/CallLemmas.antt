@@ -162,11 +162,11 @@ module _ (d : ℕ) (a : Database) (m : OfficeMemory) where
   -- whether a draft exists, by what is in memory
   there : (b : Bool) → b ≡ is_some (draft_at m.drafts d) → (o : OfficeState) → IsMemoryOf o m
       → (r : Records) → o ≡ Some r → is_some (r.draft d) ≡ b
-  there b tells o is r same =
+  there b is_there o is r same =
       let here : draft_at m.drafts d ≡ scored_draft d (Some r)
       = subst (λ o. draft_at m.drafts d ≡ scored_draft d o) same (is.drafts d) in
       sym (mapped (scored_by r.session r.enrolments) (r.draft d)) ∙ ap is_some (sym here)
-      ∙ sym tells
+      ∙ sym is_there
 
   pub drop_denied : is_some m.kept ≡ true → false ≡ is_some (draft_at m.drafts d)
       → Denies (draft_dropped d) NoDraft a m

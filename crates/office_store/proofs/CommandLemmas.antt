@@ -1,5 +1,6 @@
 -- A command of an office, by what it makes of any office that a database represents.
 use Rattle.std.proofs.Common.{◌≡◌, Ok, Err, Result, None, ap, sym, subst, ◌∙◌, IsTrue}
+use Rattle.std.specs.Prelude.{IsErrAnd}
 use Rattle.sqlite.specs.Effect.{Database}
 use Rattle.sqlite.specs.Held.{Held, state}
 use Rattle.sqlite.specs.State.{State, HasCleanDisk}
@@ -12,7 +13,7 @@ use Rattle.office_store.specs.Memory.{IsMemoryOf}
 use Rattle.office_store.specs.Running.{CommandOutcome, MatchesMemory, IsCommitted, IsFault, StateUnchanged, Represents, QueryReturned, CommandRan, QueryOutcome}
 use Rattle.office_store.specs.Running.{StaysOnErr, ReturnsValue}
 use Rattle.office_model.specs.declared.fault.StoreFault.{StoreFault}
-use Rattle.office_model.specs.declared.fault.StoreFault.TheVariants.{NotLoaded}
+use Rattle.office_model.specs.declared.fault.StoreFault.TheVariants.{NotLoaded, Store}
 use Rattle.office_store.specs.declared.memory.OfficeMemory.{OfficeMemory}
 use Rattle.office_store.proofs.ReadLemmas.{does_now}
 use Rattle.office_store.proofs.RunLemmas.{at_hand, nothing_kept, now_still}
@@ -38,11 +39,11 @@ Remembers command x a m n = (o : OfficeState) → RepresentsOffice a o → IsMem
     → (new : OfficeState) → command o ≡ Ok (x, new) → IsMemoryOf new n
 
 -- the right value of an office that stays is a right outcome
-pub shown : {A : Type 0} (says : A) (o : OfficeState) (Stays : OfficeState → Type 0)
-    (result : Result A StoreFault) → ReturnsValue says result → Stays o
-    → QueryOutcome says o Stays result
-shown says o Stays (Ok x) is here = (is, here)
-shown says o Stays (Err fault) is here = (is, here)
+pub shown : {A : Type 0} (expected : A) (o : OfficeState) (Stays : OfficeState → Type 0)
+    (result : Result A StoreFault) → ReturnsValue expected result → Stays o
+    → QueryOutcome expected o Stays result
+shown expected o Stays (Ok x) is here = (is, here)
+shown expected o Stays (Err fault) is here = (is, here)
 
 -- from the connection before a check of the file, which changes nothing, to the one after it, which
 -- the office has in memory
@@ -62,13 +63,13 @@ module _ {S : Type 0} (g : Ghosts S) (before mid inside : Held S)
       )
 
   -- the result is the office's value
-  pub tells : {A : Type 0} (says : OfficeState → A) (result : Result A StoreFault)
+  pub returns_value : {A : Type 0} (expected : OfficeState → A) (result : Result A StoreFault)
       → (HasCleanDisk (state g mid) → (o : OfficeState) → RepresentsOffice (state g mid).now o
-      → IsMemoryOf o m → ReturnsValue (says o) result)
-      → QueryReturned g says before mid result
-  tells says result meaning clean o now =
+      → IsMemoryOf o m → ReturnsValue (expected o) result)
+      → QueryReturned g expected before mid result
+  returns_value expected result meaning clean o now =
       let here = there clean o now in
-      shown (says o) o (Represents (state g mid)) result (meaning clean o here.0 here.1)
+      shown (expected o) o (Represents (state g mid)) result (meaning clean o here.0 here.1)
       (λ _. here.0)
 
 module _ {S A : Type 0} (g : Ghosts S) (command : OfficeState → CommandResult A)
@@ -166,6 +167,26 @@ stays_undone g before mid inside after view still all_committed clean undone (Er
     (still_undone (state g mid) (state g after) (λ _. (all_committed was).1)
     (subst (λ h. Undone (state g h) (state g after)) view (undone is_clean)))
 
+-- so the command was refused with a failed statement
+pub runs_undone : {S A : Type 0} (g : Ghosts S) (command : OfficeState → CommandResult A)
+    (before mid inside after : Held S) → inside ≡ mid
+    → (HasCleanDisk (state g mid) → StateUnchanged (state g before) (state g mid))
+    → (HasCleanDisk (state g mid) → IsCommitted (state g mid))
+    → (HasCleanDisk (state g after) → HasCleanDisk (state g inside))
+    → (HasCleanDisk (state g after) → Undone (state g inside) (state g after))
+    → (result : Result A StoreFault) → IsErrAnd result (λ e. e ≡ Store)
+    → CommandRan g command before after result
+runs_undone g command before mid inside after view still all_committed clean undone (Ok x) is =
+    absurd is
+runs_undone g command before mid inside after view still all_committed clean undone (Err e) is =
+    λ k o now. subst (λ e. IsFault (command o) e × Represents (state g after) o) (sym is) (
+      tt,
+      now_still (state g before) (state g after) o
+          (stays_undone {A = Unit {0}} g before mid inside after view still all_committed clean
+          undone (Err e) k)
+          now,
+    )
+
 -- a command after a check of the file
 pub runs_then : {S A : Type 0} (g : Ghosts S) (command : OfficeState → CommandResult A)
     (before mid after : Held S) (result : Result A StoreFault)
@@ -191,8 +212,8 @@ pub seen : {S : Type 0} (g : Ghosts S) (mid inside : Held S) → inside ≡ mid
     → (HasCleanDisk (state g mid) → (o : OfficeState) → RepresentsOffice (state g mid).now o → P o)
     → HasCleanDisk (state g inside) → (o : OfficeState) → RepresentsOffice (state g inside).now o
     → P o
-seen g mid inside view P tells clean o kept =
-    tells (subst (λ h. HasCleanDisk (state g h)) view clean) o
+seen g mid inside view P holds clean o kept =
+    holds (subst (λ h. HasCleanDisk (state g h)) view clean) o
     (subst (λ h. RepresentsOffice (state g h).now o) view kept)
 
 -- the memory afterwards is that of the new office

@@ -124,9 +124,9 @@ module _ (t : Tables) (r : Records) (d : ℕ) (T : Placing) (row : DraftRow) (sl
       (subst (λ l. IsPermutation (slots_at n (reverse slots ++ t.slot)) l) is (made_rows n))
       (h.slot n)
 
-  made_stands : TablesRepresentRecords (draft_put row slots t)
+  made_represents : TablesRepresentRecords (draft_put row slots t)
       (record r { draft = set_at d (Some T) r.draft })
-  made_stands = record {
+  made_represents = record {
     meta = h.meta;
     owner = h.owner;
     enrol = h.enrol;
@@ -171,8 +171,8 @@ pub made_kept : (a b : Database) (r : Records) (d : ℕ) (T : Placing) (row : Dr
 made_kept a b r d T row slots number_is are scored free low high fits kept makes = record {
   held = draft_put row slots kept.held;
   tables = makes kept.held kept.tables;
-  stands = made_stands kept.held r d T row slots number_is are kept.stands free;
-  sound = made_sound kept.held r d T row slots number_is are kept.stands free scored kept.sound;
+  represents = made_represents kept.held r d T row slots number_is are kept.represents free;
+  sound = made_sound kept.held r d T row slots number_is are kept.represents free scored kept.sound;
   office = made_records r d T low high fits kept.office;
 }
 
@@ -200,9 +200,9 @@ module _ (t : Tables) (r : Records) (d : ℕ) (h : TablesRepresentRecords t r) w
       subst (λ l. IsPermutation l (slot_rows n (r.draft n)))
       (sym (all_of_other (λ (s : SlotRow). s.draft) d n e t.slot)) (h.slot n)
 
-  left_stands : TablesRepresentRecords (draft_removed d t)
+  left_represents : TablesRepresentRecords (draft_removed d t)
       (record r { draft = set_at d None r.draft })
-  left_stands = record {
+  left_represents = record {
     meta = h.meta;
     owner = h.owner;
     enrol = h.enrol;
@@ -230,7 +230,7 @@ pub left_kept : (a b : Database) (r : Records) (d : ℕ) → RepresentsOffice a 
 left_kept a b r d kept makes = record {
   held = draft_removed d kept.held;
   tables = makes kept.held kept.tables;
-  stands = left_stands kept.held r d kept.stands;
+  represents = left_represents kept.held r d kept.represents;
   sound = left_sound kept.held r d kept.sound;
   office = left_records r d kept.office;
 }
@@ -249,13 +249,14 @@ pub draft_read : (t : Tables) (o : OfficeState) (d : ℕ) (rows : List DraftRow)
     → TablesRepresentOffice t o
     → IsPermutation (filter (λ r. eqb r.no d) t.draft) rows
     → map (λ (r : DraftRow). r.no) rows ≡ once (is_some (draft_in d o)) d
-draft_read t None d rows stands p =
+draft_read t None d rows represents p =
     one_or_none false d _ (subst (λ l. IsPermutation l (map (λ (r : DraftRow). r.no) rows))
-    (ap (λ (t : Tables). map (λ (r : DraftRow). r.no) (filter (λ r. eqb r.no d) t.draft)) stands)
+    (ap (λ (t : Tables). map (λ (r : DraftRow). r.no)
+    (filter (λ r. eqb r.no d) t.draft)) represents)
     (IsPermutation-map (λ (r : DraftRow). r.no) _ _ p))
-draft_read t (Some r) d rows stands p =
+draft_read t (Some r) d rows represents p =
     one_or_none (is_some (r.draft d)) d _
-    (subst (λ l. IsPermutation l (map (λ (r : DraftRow). r.no) rows)) (stands.draft d)
+    (subst (λ l. IsPermutation l (map (λ (r : DraftRow). r.no) rows)) (represents.draft d)
     (IsPermutation-map (λ (r : DraftRow). r.no) _ _ p))
 
 -- ---- the rows that are inserted

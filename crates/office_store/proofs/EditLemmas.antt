@@ -145,8 +145,8 @@ module _ (t : Tables) (r : Records) (T new : Placing) (row : DraftRow) (exams : 
         subst (λ l. IsPermutation l (slot_rows n (r.draft n)))
         (sym (others_as_before row.no new n e exams replaced)) (h.slot n)
 
-    edit_stands : TablesRepresentRecords (edit_put row new exams t) after
-    edit_stands =
+    edit_represents : TablesRepresentRecords (edit_put row new exams t) after
+    edit_represents =
         subst (λ u. TablesRepresentRecords u after) (sym only) (record {
           meta = h.meta;
           owner = h.owner;
@@ -197,8 +197,9 @@ edit_kept a b r T new row change there made scored fits kept makes =
     record {
       held = edit_put row new (edited_exams change) kept.held;
       tables = makes kept.held kept.tables;
-      stands = edit_stands kept.held r T new row (edited_exams change) kept.stands there long all;
-      sound = edit_sound kept.held r T new row (edited_exams change) kept.stands there scored
+      represents = edit_represents kept.held r T new row
+          (edited_exams change) kept.represents there long all;
+      sound = edit_sound kept.held r T new row (edited_exams change) kept.represents there scored
           kept.sound;
       office = made_records r row.no new number.0 number.1 fits kept.office;
     }

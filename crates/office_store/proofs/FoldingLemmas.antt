@@ -50,7 +50,7 @@ module _ {S : Type 0} (store : Ghosts S) where
     clean = λ k. k;
     survives = survives_same (state store a);
     was_open = λ _ o. o;
-    kept = λ _ t stands. record {
+    kept = λ _ t represents. record {
       was_open = λ o. o;
       now = λ _. inl refl;
       committed = λ _. refl;
@@ -73,7 +73,7 @@ module _ {S : Type 0} (store : Ghosts S) where
   }
 
   pub same_itself : (a : Held S) → RowsUnchanged store a a
-  same_itself a clean t stands is = (
+  same_itself a clean t represents is = (
     record {
       was_open = is;
       is_open = is;
@@ -91,9 +91,9 @@ module _ {S : Type 0} (store : Ghosts S) where
     tables_on : HasCleanDisk (state store c) → (t : Tables) → HoldsTables (state store a).now t
         → IsTrue (state store a).is_open
         → IsUnchanged (state store a) (state store b) × HoldsTables (state store b).now t
-    tables_on clean t stands is =
-        let mid = same (next.clean clean) t stands is in
-        (mid, subst (λ db. HoldsTables db t) (sym mid.0.now_is) stands)
+    tables_on clean t represents is =
+        let mid = same (next.clean clean) t represents is in
+        (mid, subst (λ db. HoldsTables db t) (sym mid.0.now_is) represents)
 
     opened : HasCleanDisk (state store c) → IsTrue (state store c).is_open
         → IsTrue (state store a).is_open
@@ -105,16 +105,16 @@ module _ {S : Type 0} (store : Ghosts S) where
       survives = survives_on (state store a) (state store b) (state store c) first.survives
           next.survives;
       was_open = opened;
-      kept = λ clean t stands. record {
+      kept = λ clean t represents. record {
         was_open = opened clean;
         now = λ o.
-            let mid = tables_on clean t stands (opened clean o) in
+            let mid = tables_on clean t represents (opened clean o) in
             elim ((next.kept clean t mid.1).now o) [
               | inl is ↦ inl (is ∙ mid.0.0.now_is)
               | inr is ↦ inr (is ∙ mid.0.0.committed_is)
             ];
         committed = λ o.
-            let mid = tables_on clean t stands (opened clean o) in
+            let mid = tables_on clean t represents (opened clean o) in
             (next.kept clean t mid.1).committed o ∙ mid.0.0.committed_is;
         mode = λ m. next.mode (first.mode m);
       };
@@ -122,8 +122,8 @@ module _ {S : Type 0} (store : Ghosts S) where
     }
 
     pub same_on : RowsUnchanged store b c → RowsUnchanged store a c
-    same_on more clean t stands is =
-        let mid = tables_on clean t stands is in
+    same_on more clean t represents is =
+        let mid = tables_on clean t represents is in
         let last = more clean t mid.1 mid.0.0.is_open in (
           record {
             was_open = is;
@@ -169,9 +169,9 @@ module _ {S : Type 0} (store : Ghosts S) where
 module _ {S : Type 0} (store : Ghosts S) (all : List ℕ) where
   pub first_taken : (a : Held S) (fold : Folded) → RepresentsPairs fold []
       → HasTaken store a a fold 0 all all
-  first_taken a fold stands = record {
+  first_taken a fold represents = record {
     pairs = [];
-    stands = stands;
+    represents = represents;
     counted = refl;
     few = omega arith;
     below = All-from_recursion (λ s. All (λ p. p.student < s) []) all (each all);
@@ -188,7 +188,7 @@ module _ {S : Type 0} (store : Ghosts S) (all : List ℕ) where
       → count + length exams ≤ 200000 → CanTake fold s (length exams)
   next_taken a b fold count rest s others exams taken is few = record {
     pairs = taken.pairs;
-    stands = taken.stands;
+    represents = taken.represents;
     few = omega (arith, few, taken.counted);
     below = (recursion_from_All (λ s. All (λ p. p.student < s) taken.pairs) (s ∷ others)
         (subst (All (λ s. All (λ p. p.student < s) taken.pairs)) is taken.below)).0;
@@ -202,11 +202,12 @@ module _ {S : Type 0} (store : Ghosts S) (all : List ℕ) where
       → ((E : Enrolled) → HadEnrolments store a c E → HadEnrolments store a b E)
       → ((E : Enrolled) → HadEnrolments store a c E → exams ≡ exams_sat E s)
       → HasTaken store a c next more all others
-  more_taken a b c fold next count more rest s others exams taken is up counted few stands before
+  more_taken a b c fold next count more rest s others exams taken is up counted few represents
+      before
       are =
       record {
         pairs = taken.pairs ++ pairs_sat (Some s) exams;
-        stands = stands taken.pairs taken.stands;
+        represents = represents taken.pairs taken.represents;
         counted = omega (
           arith,
           counted,
@@ -263,9 +264,9 @@ module _ {S : Type 0} (store : Ghosts S) (all : List ℕ) where
       → ((E : Enrolled) → HadEnrolments store a c E → read ≡ exams_sat E s)
       → HasTaken store a c next more all others
   read_taken a b c fold next count more rest s others read counted folded taken is up one other adds
-      few stands before are =
+      few represents before are =
       more_taken a b c fold next count more rest s others folded taken is up
-      (adds ∙ ap (λ (xs : List ℕ). count + length xs) (one ∙ sym other)) few stands before
+      (adds ∙ ap (λ (xs : List ℕ). count + length xs) (one ∙ sym other)) few represents before
       (λ E had. other ∙ are E had)
 
   -- over a clean disk there are no more pairs than an office can have
@@ -424,7 +425,7 @@ pub rows_had : {S : Type 0} (store : Ghosts S) (a b : Held S) (E : Enrolled)
 rows_had store a b E had s n is found order =
     subst (λ E. found ≡ map (candidate_enrol_row s) (exams_sat E s)) had.enrolments
     (subst (λ k. found ≡ map (candidate_enrol_row k) (exams_sat had.records.enrolments k)) is
-    (rows_read had.kept.held had.records n found had.kept.stands had.kept.office
+    (rows_read had.kept.held had.records n found had.kept.represents had.kept.office
     (order had.clean had.kept.held had.kept.tables)))
 
 -- the student's rows are valid
@@ -437,7 +438,7 @@ rows_fit store a b E had n found reads =
     let t = had.kept.held in
     reads had.clean t had.kept.tables
     (all-filter FitsEnrol (λ (x : EnrolRow). eqb x.student n) t.enrol
-    (are_readable t (Some had.records) had.kept.stands had.kept.sound had.kept.office).enrol)
+    (are_readable t (Some had.records) had.kept.represents had.kept.sound had.kept.office).enrol)
 
 pub some_is : {X : Type 0} (P : X → Type 0) (o : Option X) (x : X) → o ≡ Some x → IfSome o P → P x
 some_is {X} P o x is h = subst (λ (o : Option X). IfSome o P) is h
@@ -460,7 +461,7 @@ pub returned_after : {S : Type 0} (store : Ghosts S) (a b : Held S) (fold : Fold
     → (IsOfEdit fold E pairs sizes judged.draft.now.parts → r ≡ Some (track fold.instance E
     fold.later))
     → ReturnsValue (track I E judged.new) (ok_or r BadSchema)
-returned_after store a b fold I E judged edited sizes r pairs had of is same sized stands are
+returned_after store a b fold I E judged edited sizes r pairs had of is same sized represents are
     scored =
     let known = are_known store a b E had in
     let exams = judged.exams.items in

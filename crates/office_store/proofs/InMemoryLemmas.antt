@@ -15,7 +15,7 @@ use Rattle.office_records.specs.Representation.{RepresentsOffice, TablesRepresen
 use Rattle.office_records.specs.TableRows.{once, slot_rows, slots_at, stored_batch}
 use Rattle.office_records.proofs.MemoryLemmas.{same_memory}
 use Rattle.office_records.proofs.SamePublication.{same_published}
-use Rattle.office_records.proofs.SameTables.{same_stands}
+use Rattle.office_records.proofs.SameTables.{same_represents}
 use Rattle.office_records.proofs.SlotLemmas.{same_timetable}
 use Rattle.office_store.specs.Memory.{IsMemoryOf, batch_count, scored_by, scored_draft}
 use Rattle.office_store.specs.declared.memory.OfficeMemory.{OfficeMemory}
@@ -25,9 +25,9 @@ use Rattle.office_store.specs.declared.memory.OfficeMemory.{OfficeMemory}
 -- each kept batch has a row
 pub counted : (t : Tables) (o : OfficeState) → TablesRepresentOffice t o
     → length t.batch ≡ batch_count o
-counted t None stands = ap (λ (u : Tables). length u.batch) stands
-counted t (Some r) stands =
-    let stored = length_permutation _ _ stands.batches.same in
+counted t None represents = ap (λ (u : Tables). length u.batch) represents
+counted t (Some r) represents =
+    let stored = length_permutation _ _ represents.batches.same in
     let kept = length-map r.batches stored_batch in
     omega (arith, stored, kept)
 
@@ -35,8 +35,8 @@ counted t (Some r) stands =
 same_count : (db : Database) (o p : OfficeState) → RepresentsOffice db o → RepresentsOffice db p
     → batch_count o ≡ batch_count p
 same_count db o p a b =
-    sym (counted b.held o (same_stands db a.held b.held a.tables b.tables o a.stands))
-    ∙ counted b.held p b.stands
+    sym (counted b.held o (same_represents db a.held b.held a.tables b.tables o a.represents))
+    ∙ counted b.held p b.represents
 
 -- ---- the drafts
 
@@ -53,13 +53,14 @@ module _ (t : Tables) (r s : Records) (d : ℕ) (a : TablesRepresentRecords t r)
   -- a draft's places are those of only one timetable
   slots_of : (q : Records) (I : Session) → q.session ≡ I → TablesRepresentRecords t q → AreRecords q
       → (T : Placing) → q.draft d ≡ Some T → AreSlots I d t.slot T
-  slots_of q I same stands records T is =
+  slots_of q I same represents records T is =
       let fits = records.drafts d T is in
       subst (λ J. AreSlots J d t.slot T) same
       (record {
         exams = fits.timetable;
         places = fits.places;
-        rows = subst (λ o. IsPermutation (slots_at d t.slot) (slot_rows d o)) is (stands.slot d);
+        rows = subst (λ o. IsPermutation (slots_at d t.slot) (slot_rows d o)) is
+            (represents.slot d);
       })
 
   same_placing : r.draft d ≡ s.draft d
@@ -94,10 +95,10 @@ same_drafts db None None a b d memory = refl
 same_drafts db None (Some s) a b d memory = absurd cc
 same_drafts db (Some r) None a b d memory = absurd cc
 same_drafts db (Some r) (Some s) a b d memory =
-    let stands = same_stands db a.held b.held a.tables b.tables (Some r) a.stands in
+    let represents = same_represents db a.held b.held a.tables b.tables (Some r) a.represents in
     let session : r.session ≡ s.session = ap (λ (p : Session × Enrolled). p.0) (some_is memory) in
     both_same r s d memory
-    (same_placing b.held r s d stands b.stands a.office b.office session)
+    (same_placing b.held r s d represents b.represents a.office b.office session)
 
 -- ---- what is published
 
@@ -108,9 +109,9 @@ one_published db None None a b memory = refl
 one_published db None (Some s) a b memory = absurd cc
 one_published db (Some r) None a b memory = absurd cc
 one_published db (Some r) (Some s) a b memory =
-    let stands = same_stands db a.held b.held a.tables b.tables (Some r) a.stands in
+    let represents = same_represents db a.held b.held a.tables b.tables (Some r) a.represents in
     let session : r.session ≡ s.session = ap (λ (p : Session × Enrolled). p.0) (some_is memory) in
-    same_published b.held r s stands b.stands a.office b.office session
+    same_published b.held r s represents b.represents a.office b.office session
 
 -- ---- all that is in memory
 

@@ -56,7 +56,8 @@ few_under : (o : Option KeptBatch) → length (map stored_batch (option_to_list 
 few_under None = omega arith
 few_under (Some b) = omega arith
 
-module _ (t : Tables) (r : Records) (stands : TablesRepresentRecords t r) (is : AreRecords r) where
+module _ (t : Tables) (r : Records) (represents : TablesRepresentRecords t r)
+    (is : AreRecords r) where
   -- the stored batch with a number is the office's
   stored_under : (number : ℕ) → filter (λ (b : Batch). eqb b.no number) t.batch
       ≡ map stored_batch (option_to_list (batch_numbered number r.batches))
@@ -69,15 +70,16 @@ module _ (t : Tables) (r : Records) (stands : TablesRepresentRecords t r) (is : 
       same_few _ _ (few_under (batch_numbered number r.batches))
       (subst (λ l. IsPermutation l (filter (λ (b : Batch). eqb b.no number) t.batch)) same
       (IsPermutation-sym _ _
-      (IsPermutation-filter (λ (b : Batch). eqb b.no number) _ _ stands.batches.same)))
+      (IsPermutation-filter (λ (b : Batch). eqb b.no number) _ _ represents.batches.same)))
 
 pub batch_read : (t : Tables) (o : OfficeState) (number : ℕ) (found : Option BatchRow)
     → TablesRepresentOffice t o → IsOffice o
     → filter (λ (b : Batch). eqb b.no number) t.batch ≡ map batch_from (option_to_list found)
     → IsRowOf (batch_of_number o number) found
-batch_read t None number found stands is row =
-    sym row ∙ ap (λ (u : Tables). filter (λ (b : Batch). eqb b.no number) u.batch) stands
-batch_read t (Some r) number found stands is row = sym row ∙ stored_under t r stands is number
+batch_read t None number found represents is row =
+    sym row ∙ ap (λ (u : Tables). filter (λ (b : Batch). eqb b.no number) u.batch) represents
+batch_read t (Some r) number found represents is row = sym row
+    ∙ stored_under t r represents is number
 
 -- no row means no batch
 pub no_row_of : (o : OfficeState) (number : ℕ) → IsRowOf (batch_of_number o number) None

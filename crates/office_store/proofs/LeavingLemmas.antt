@@ -155,9 +155,9 @@ changed_on g a b c read same opened make put =
 
 -- ---- a new office
 
-trees_stand : (db : Database) (found : Trees) (t : Tables) → found ≡ db.trees → HoldsTables db t
+trees_represent : (db : Database) (found : Trees) (t : Tables) → found ≡ db.trees → HoldsTables db t
     → HoldsTables (found_in found) t
-trees_stand db found t is held =
+trees_represent db found t is held =
     subst (λ s. HoldsTables (record { schema = s; trees = found }) t) held.schema
     (subst (λ trees. HoldsTables (record { schema = db.schema; trees = trees }) t) (sym is) held)
 
@@ -194,7 +194,7 @@ module _ {S : Type 0} (g : Ghosts S) (P : Tables → Database → Type 0)
       (λ db. db ≡ (state g last).now.trees)
       (λ found. (t : Tables) → P t (state g old).now → HoldsTables (found_in found) t)
       (λ _ db none. absurd none)
-      (λ clean found is t before. trees_stand (state g last).now found t is
+      (λ clean found is t before. trees_represent (state g last).now found t is
       (made_in clean t before))
       begun_survives survives
 
@@ -332,7 +332,7 @@ may_make g old new result bare unrefused =
       record {
         held = empty_tables;
         tables = makes (bare_blank (state g old).now bare);
-        stands = refl;
+        represents = refl;
         sound = tt;
         office = tt;
       },

@@ -77,8 +77,8 @@ exam_added E e lt =
 module _ (I : Session) (E : Enrolled) (text : List ℕ) (rows : List EnrolRow)
     (is_text : text ≡ canonical_instance I (no_pairs (length I.exams)))
     (are_rows : IsPermutation rows (map enrol_row (pairs_of E))) where
-  session_stands : TablesRepresentRecords (session_put text rows empty_tables) (fresh (I, E))
-  session_stands = record {
+  session_represents : TablesRepresentRecords (session_put text rows empty_tables) (fresh (I, E))
+  session_represents = record {
     meta = ap (λ b. record { published = false; instance = b } ∷ []) is_text;
     owner = λ e. refl;
     enrol = subst (λ l. IsPermutation l (map enrol_row (pairs_of E)))
@@ -96,8 +96,8 @@ module _ (I : Session) (E : Enrolled) (text : List ℕ) (rows : List EnrolRow)
       → IsInstance I → AreEnrolled I E → RepresentsOffice b (Some (fresh (I, E)))
   session_kept a b kept makes is are = record {
     held = session_put text rows empty_tables;
-    tables = makes empty_tables (subst (HoldsTables a) kept.stands kept.tables);
-    stands = session_stands;
+    tables = makes empty_tables (subst (HoldsTables a) kept.represents kept.tables);
+    represents = session_represents;
     sound = record {
       scored = tt;
       shared = record { of_students = IsPermutation-refl []; of_parts = IsPermutation-refl [] };

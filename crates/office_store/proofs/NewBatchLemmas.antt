@@ -142,12 +142,12 @@ made_others changes E None counts lines known is are = tt
 -- ---- drafts with other enrolments
 
 -- rows of rescored drafts are an office's drafts with these enrolments
-rows_anew : (db : Database) (r : Records) (m : OfficeMemory) (F : Enrolled)
+rows_rewritten : (db : Database) (r : Records) (m : OfficeMemory) (F : Enrolled)
     (made : List (Option Draft)) (rows : List DraftRow) → RepresentsOffice db (Some r)
     → IsMemoryOf (Some r) m
     → length F ≡ length r.session.exams → AreRescored r.session F m.drafts made
     → AreDraftRows made rows → AreDraftsWith r F rows
-rows_anew db r m F made rows kept is exams scored are = record {
+rows_rewritten db r m F made rows kept is exams scored are = record {
   slots = kept.held.slot;
   are = record {
     numbered = kept.office.numbered;
@@ -155,7 +155,7 @@ rows_anew db r m F made rows kept is exams scored are = record {
         let fits = kept.office.drafts d T there in
         record { enrolments = exams; timetable = fits.timetable; places = fits.places };
     rows = λ d. are.numbers d ∙ ap (λ b. once b d) (there_too d);
-    slots = kept.stands.slot;
+    slots = kept.represents.slot;
     scored = all_weaker _ _
         (λ row priced T there. priced (scored_by r.session F T) (at row.no T there))
         rows are.scored;
@@ -185,7 +185,7 @@ pub latest_drafts : (db : Database) (r : Records) (m : OfficeMemory) (I : Sessio
     → IfSome made (λ F. AreRescored I F m.drafts drafts) → AreDraftRows drafts rows
     → made ≢ None → AreDraftsWith r (latest made r.enrolments) rows
 latest_drafts db r m I (Some F) drafts rows kept is same exams scored are some =
-    rows_anew db r m F drafts rows kept is
+    rows_rewritten db r m F drafts rows kept is
     (subst (λ (J : Session). length F ≡ length J.exams) (sym same) exams)
     (subst (λ J. AreRescored J F m.drafts drafts) (sym same) scored) are
 latest_drafts db r m I None drafts rows kept is same exams scored are some = absurd (some refl)

@@ -1,23 +1,24 @@
 -- The writes of a publication.
-use Rattle.std.proofs.Common.{◌≡◌, ◌≢◌, ℕ, zero, suc, ◌+◌, ◌-◌, ◌<◌, ◌≤◌, List, length}
+use Rattle.std.proofs.Common.{◌≡◌, ◌≢◌, ℕ, zero, suc, ◌+◌, ◌-◌, ◌<◌, ◌≤◌, List, length, filter, map}
 use Rattle.std.proofs.Common.{Some, None, Ok, Err, refl, sym, ◌∙◌, ap, subst, arith}
 use Rattle.std.specs.Prelude.{IsPermutation, Vec, slice_get, slice_index}
 use Rattle.std.specs.declared.alloc.Global.{Global}
 use Rattle.std.proofs.lemmas.Option.{get_or_from_slice_get, slice_get_within}
 use Rattle.std.proofs.lemmas.List.FromFn.{length-map-range_with_len}
 use Rattle.std.proofs.lemmas.List.Sorted.{IsPermutation-refl}
-use Rattle.exam_model.specs.Enrolments.{Enrolled, IsAscending}
+use Rattle.exam_model.specs.Enrolments.{Enrolled, IsAscending, has_number}
 use Rattle.exam_model.specs.Instance.{IsInstance, Session}
 use Rattle.exam_model.specs.Pairs.{pairs_of}
 use Rattle.exam_model.specs.Timetable.{Placing}
 use Rattle.exam_publish.specs.Permit.{RefusesPublication, publish_refusal}
 use Rattle.exam_publish.specs.Seats.{seat_rows}
-use Rattle.exam_publish.specs.Shares.{period_share, room_share, shares_of}
+use Rattle.exam_publish.specs.Shares.{period_share, room_share, shares_among}
 use Rattle.exam_publish.specs.Rows.{enrolled_in}
 use Rattle.exam_publish.specs.declared.fault.PublishFault.{PublishFault}
 use Rattle.exam_publish.specs.declared.fault.PublishFault.TheVariants.{Broken, NoMemory, Unplaced}
 use Rattle.exam_publish.specs.declared.seat_row.SeatRow.{SeatRow}
-use Rattle.exam_score.specs.Penalty.{total_of}
+use Rattle.exam_publish.proofs.AmongLemmas.{map_filter}
+use Rattle.exam_score.specs.Penalty.{PersonalPenalty, total_of}
 use Rattle.exam_score.specs.Track.{track}
 use Rattle.exam_score.specs.FrontLoad.{exam_front}
 use Rattle.office_model.specs.Office.{Records}
@@ -29,6 +30,7 @@ use Rattle.office_records.specs.FoundPublications.{publication}
 use Rattle.office_records.specs.Memory.{memory_of}
 use Rattle.office_records.specs.Publications.{placed_rows}
 use Rattle.office_records.specs.PartShares.{HasFewParts}
+use Rattle.office_records.specs.SharesStored.{share_rows_of, student_share_row}
 use Rattle.office_tables.specs.declared.placed.PlacedRow.{PlacedRow}
 use Rattle.office_store.specs.NewPublications.{AreInserted, Publishes}
 use Rattle.office_store.specs.Running.{IsFault}
@@ -56,21 +58,28 @@ count_within xs last h is =
 -- ---- how many shares
 
 -- no more parts have a share than a session has
-pub few_parts : (I : Session) (rows : List SeatRow) (T : Placing) → IsInstance I
-    → HasFewParts (shares_of I rows T)
-few_parts I rows T known =
-    let exams : length (shares_of I rows T).exams ≡ length I.exams
+pub few_parts : (I : Session) (rows : List SeatRow) (T : Placing) (students : List ℕ)
+    → IsInstance I → HasFewParts (shares_among I rows T students)
+few_parts I rows T students known =
+    let exams : length (shares_among I rows T students).exams ≡ length I.exams
     = length-map-range_with_len (exam_front I (enrolled_in (length I.exams) rows) T) 0
     (length I.exams) in
-    let periods : length (shares_of I rows T).periods ≡ length I.periods
+    let periods : length (shares_among I rows T students).periods ≡ length I.periods
     = length-map-range_with_len (period_share I T) 0 (length I.periods) in
-    let rooms : length (shares_of I rows T).rooms ≡ length I.rooms
+    let rooms : length (shares_among I rows T students).rooms ≡ length I.rooms
     = length-map-range_with_len (room_share I T) 0 (length I.rooms) in
     record {
       exams = omega (arith, exams, known.limits.counts);
       periods = omega (arith, periods, known.limits.counts);
       rooms = omega (arith, rooms, known.limits.counts);
     }
+
+-- the rows of the shares of some candidates
+pub rows_among : (students : List ℕ) (shares : List (ℕ × PersonalPenalty))
+    → map student_share_row (filter (λ share. has_number students share.0) shares)
+    ≡ share_rows_of students (map student_share_row shares)
+rows_among students shares =
+    map_filter student_share_row (λ row. has_number students row.student) shares
 
 -- ---- the session
 

@@ -47,7 +47,7 @@ holds db there tables (inr held) = held
 
 -- a test that fails
 pub fails : (b : Bool) (P : Type 0) → (P → IsTrue b) → b ≡ false → P → ⊥
-fails b P tells is holds = let never : true ≡ false = sym (tells holds) ∙ is in cc
+fails b P implies is holds = let never : true ≡ false = sym (implies holds) ∙ is in cc
 
 -- what follows from two facts of a value follows of an Ok
 pub if_ok : {A E : Type 0} (result : Result A E) (P Q T : A → Type 0)
@@ -64,5 +64,5 @@ if_err (Err e) P Q T follows p q = follows e p q
 -- a fault of the database is `Store` or `BadSchema`
 pub or_none : {fault : StoreFault} {P : Type 0} → IsOfDatabase fault → (fault ≡ BadSchema → P)
     → (fault ≡ Store) ⊎ P
-or_none (inl is) says = inl is
-or_none (inr wrong) says = inr (says wrong)
+or_none (inl is) when_bad = inl is
+or_none (inr wrong) when_bad = inr (when_bad wrong)

@@ -66,10 +66,10 @@ module _ (t : Tables) (r : Records) (e d : ℕ) (h : TablesRepresentRecords t r)
   zero_is : eqb d 0 ≡ true → 0 ≡ d
   zero_is is = grind (arith, nat_tests, is)
 
-  pub owner_stands : (b : Bool) → eqb d 0 ≡ b
+  pub owner_represents : (b : Bool) → eqb d 0 ≡ b
       → TablesRepresentRecords (cond b (without_owner e t) (with_owner row (without_owner e t)))
       (record r { owner_of = set_at e d r.owner_of })
-  owner_stands true is = record {
+  owner_represents true is = record {
     meta = h.meta;
     owner = λ x. none x (eqb x e) refl
         ∙ ap (λ n. some_dept (cond (eqb x e) n (r.owner_of x))) (zero_is is);
@@ -79,7 +79,7 @@ module _ (t : Tables) (r : Records) (e d : ℕ) (h : TablesRepresentRecords t r)
     published = h.published;
     batches = h.batches;
   }
-  owner_stands false is = record {
+  owner_represents false is = record {
     meta = h.meta;
     owner = λ x. one x (eqb x e) refl is;
     enrol = h.enrol;
@@ -120,7 +120,7 @@ pub owner_kept : (a b : Database) (r : Records) (e d : ℕ) → RepresentsOffice
 owner_kept a b r e d kept makes exists few = record {
   held = owner_put e d kept.held;
   tables = makes kept.held kept.tables;
-  stands = owner_stands kept.held r e d kept.stands (eqb d 0) refl;
+  represents = owner_represents kept.held r e d kept.represents (eqb d 0) refl;
   sound = owner_sound kept.held r e d (eqb d 0) kept.sound;
   office = owner_records r e d exists few kept.office;
 }
@@ -189,12 +189,12 @@ pub owner_read : (t : Tables) (o : OfficeState) (e : ℕ) (rows : List OwnerRow)
     → TablesRepresentOffice t o
     → IsPermutation (filter (λ r. eqb r.exam e) t.owner) rows
     → map (λ r. r.dept) rows ≡ some_dept (owner_in e o)
-owner_read t None e rows stands p =
+owner_read t None e rows represents p =
     few 0 true _ (subst (λ l. IsPermutation l (map (λ (r : OwnerRow). r.dept) rows))
     (ap (λ (t : Tables). map (λ (r : OwnerRow). r.dept) (filter (λ r. eqb r.exam e) t.owner))
-    stands)
+    represents)
     (IsPermutation-map (λ (r : OwnerRow). r.dept) _ _ p))
-owner_read t (Some r) e rows stands p =
+owner_read t (Some r) e rows represents p =
     few (r.owner_of e) (eqb (r.owner_of e) 0) _
-    (subst (λ l. IsPermutation l (map (λ (r : OwnerRow). r.dept) rows)) (stands.owner e)
+    (subst (λ l. IsPermutation l (map (λ (r : OwnerRow). r.dept) rows)) (represents.owner e)
     (IsPermutation-map (λ (r : OwnerRow). r.dept) _ _ p))

@@ -314,9 +314,9 @@ module _ (r : Records) (T : Placing) (is : AreRecords r) (fits : Fits r.session 
         ∙ taken_back _ (λ (it : InsertStudentShare). it.row) (λ x. refl) (share_rows_of who all)))
         (republication.shares_put r.session r.published new_one t.share_student stored)
 
-    published_stands : TablesRepresentRecords t r
+    published_represents : TablesRepresentRecords t r
         → TablesRepresentRecords (publication_put new t) (record r { published = Some new_one })
-    published_stands h = record {
+    published_represents h = record {
       meta = meta_in r.session r.published before new.text were put.text t.meta h.meta;
       owner = h.owner;
       enrol = h.enrol;
@@ -353,7 +353,7 @@ module _ (r : Records) (T : Placing) (is : AreRecords r) (fits : Fits r.session 
   published_kept a b before were penalty new put kept makes = record {
     held = publication_put new kept.held;
     tables = makes kept.held kept.tables;
-    stands = published_stands before were penalty new put kept.held kept.stands;
+    represents = published_represents before were penalty new put kept.held kept.represents;
     sound = published_sound before were penalty new put kept.held kept.sound;
     office = published_records r T is fits permitted;
   }

@@ -44,17 +44,17 @@ use Rattle.office_store.proofs.RunLemmas.{kept_of, nothing_kept}
 pub student_shares_read : (t : Tables) (o : OfficeState) (rows : List StudentShareRow)
     → TablesRepresentOffice t o → IsSound t o → IsPermutation t.share_student rows
     → IsPermutation rows (student_rows_in o)
-student_shares_read t None rows stands sound p =
-    IsPermutation-sym _ _ (subst (λ (t : Tables). IsPermutation t.share_student rows) stands p)
-student_shares_read t (Some r) rows stands sound p =
+student_shares_read t None rows represents sound p =
+    IsPermutation-sym _ _ (subst (λ (t : Tables). IsPermutation t.share_student rows) represents p)
+student_shares_read t (Some r) rows represents sound p =
     IsPermutation-trans _ _ _ (IsPermutation-sym _ _ p) sound.shared.of_students
 
 pub part_shares_read : (t : Tables) (o : OfficeState) (rows : List PartShareRow)
     → TablesRepresentOffice t o
     → IsSound t o → IsPermutation t.share_part rows → IsPermutation rows (part_rows_in o)
-part_shares_read t None rows stands sound p =
-    IsPermutation-sym _ _ (subst (λ (t : Tables). IsPermutation t.share_part rows) stands p)
-part_shares_read t (Some r) rows stands sound p =
+part_shares_read t None rows represents sound p =
+    IsPermutation-sym _ _ (subst (λ (t : Tables). IsPermutation t.share_part rows) represents p)
+part_shares_read t (Some r) rows represents sound p =
     IsPermutation-trans _ _ _ (IsPermutation-sym _ _ p) sound.shared.of_parts
 
 -- ---- what the rows mean
@@ -80,12 +80,13 @@ pub none_shared : (o : OfficeState) (m : Memory) → m ≡ None → memory_of o 
 none_shared o m none is = sym (ap shares_in (nothing_kept o (is ∙ none)))
 
 -- a refusal of valid rows means out of memory
-pub returned_fault : {A : Type 0} (says : A) (result : Result A StoreFault) (fault : RecordFault)
+pub returned_fault : {A : Type 0} (expected : A) (result : Result A StoreFault)
+    (fault : RecordFault)
     → IsErrAnd result (λ e. e ≡ store_fault fault) → (fault ≡ BadRows → ⊥)
-    → ReturnsValue says result
-returned_fault says (Ok x) fault is good = absurd is
-returned_fault says (Err e) NoMemory is good = is
-returned_fault says (Err e) BadRows is good = absurd (good refl)
+    → ReturnsValue expected result
+returned_fault expected (Ok x) fault is good = absurd is
+returned_fault expected (Err e) NoMemory is good = is
+returned_fault expected (Err e) BadRows is good = absurd (good refl)
 
 -- ---- what is in memory
 

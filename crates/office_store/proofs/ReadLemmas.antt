@@ -23,10 +23,11 @@ use Rattle.office_store.proofs.DraftLemmas.{some_is}
 pub places_read : (t : Tables) (o : OfficeState) (d : ℕ) (rows : List SlotRow)
     → TablesRepresentOffice t o
     → IsPermutation (slots_at d t.slot) rows → IsPermutation rows (slot_rows d (draft_in d o))
-places_read t None d rows stands p =
-    IsPermutation-sym _ _ (subst (λ (t : Tables). IsPermutation (slots_at d t.slot) rows) stands p)
-places_read t (Some r) d rows stands p =
-    IsPermutation-trans _ _ _ (IsPermutation-sym _ _ p) (stands.slot d)
+places_read t None d rows represents p =
+    IsPermutation-sym _ _ (subst (λ (t : Tables). IsPermutation
+    (slots_at d t.slot) rows) represents p)
+places_read t (Some r) d rows represents p =
+    IsPermutation-trans _ _ _ (IsPermutation-sym _ _ p) (represents.slot d)
 
 pub no_row : {X : Type 0} (x : X) (xs : List X) → x ∷ xs ≡ [] → ⊥
 no_row x xs e = absurd cc

@@ -102,11 +102,11 @@ module _ (r s : Records) (m n : OfficeMemory) (I : Session) (E : Enrolled)
   -- the enrolments change
   made : (F : Enrolled) → s.enrolments ≡ F → n.kept ≡ Some (I, F) → n.drafts ≡ drafts
       → AreRescored I F m.drafts drafts → IsMemoryOf (Some s) n
-  made F enrolled now anew scored = record {
+  made F enrolled now drafts_are scored = record {
     session = ap (λ J. Some (J, s.enrolments)) session_is ∙ ap (λ G. Some (I, G)) enrolled ∙ sym
         now;
     batches = one_more;
-    drafts = λ d. ap (λ l. draft_at l d) anew ∙ scored d
+    drafts = λ d. ap (λ l. draft_at l d) drafts_are ∙ scored d
         ∙ ap (option_map (rescored I F)) (is.drafts d)
         ∙ twice I r.session r.enrolments F (r.draft d)
         ∙ sym (ap (λ J. option_map (scored_by J s.enrolments) (s.draft d)) session_is

@@ -128,14 +128,14 @@ module _ (d e : ℕ) where
       ∙ others_left n f t
 
   module _ (T : Placing) (t : Tables)
-      (stands : IsPermutation (slots_at d t.slot) (slots_from d 0 T)) where
+      (represents : IsPermutation (slots_at d t.slot) (slots_from d 0 T)) where
     left_there : IsPermutation (slots_at d (but_slot d e t.slot)) (slots_from d 0 (set T e None))
     left_there =
         subst (λ l. IsPermutation l (slots_from d 0 (set T e None)))
         (sym (filter_swap (λ (s : SlotRow). eqb s.draft d) (λ s. not (is_slot d e s)) t.slot))
         (subst (λ l. IsPermutation (but_slot d e (slots_at d t.slot)) l)
         (left_places d e 0 e T (omega arith))
-        (IsPermutation-filter (λ s. not (is_slot d e s)) _ _ stands))
+        (IsPermutation-filter (λ s. not (is_slot d e s)) _ _ represents))
 
     -- the draft's places are those of the timetable with the exam's new place
     pub own_put : (o : Option Place) → e < length T
@@ -190,15 +190,15 @@ module _ (d : ℕ) (new : Placing) where
       → AllByRecursion (λ e. e < length T) exams → DiffersAtMost exams T new
       → IsPermutation (slots_at d t.slot) (slots_from d 0 T)
       → IsPermutation (slots_at d (slots_put d new exams t).slot) (slots_from d 0 new)
-  places_put [] T t long exist differs stands =
+  places_put [] T t long exist differs represents =
       subst (λ X. IsPermutation (slots_at d t.slot) (slots_from d 0 X))
-      (sym (ext_get_or None new T (sym long) (λ x lt. differs x refl))) stands
-  places_put (e ∷ exams) T t long exist differs stands =
+      (sym (ext_get_or None new T (sym long) (λ x lt. differs x refl))) represents
+  places_put (e ∷ exams) T t long exist differs represents =
       let o = place_of new e in
       let same : length (set T e o) ≡ length T = length-set T e o in
       places_put exams (set T e o) (slot_put d e o t) (same ∙ long)
       (subst (λ n. AllByRecursion (λ x. x < n) exams) (sym same) exist.1)
-      (fewer e exams T exist.0 differs) (own_put d e T t stands o exist.0)
+      (fewer e exams T exist.0 differs) (own_put d e T t represents o exist.0)
 
 -- ---- what a transaction writes
 

@@ -233,20 +233,20 @@ candidate_enrolments : (t : Tables) (r : Records) (c : ℕ) → TablesRepresentO
     → AreRecords r
     → IsPermutation (filter (λ (x : EnrolRow). eqb x.student c) t.enrol)
     (map (candidate_enrol_row c) (exams_sat r.enrolments c))
-candidate_enrolments t r c stands is =
+candidate_enrolments t r c represents is =
     subst (IsPermutation (filter (λ (x : EnrolRow). eqb x.student c) t.enrol))
     (candidate_pairs 0 r.enrolments c (each_chain r.enrolments is.enrolled.set.ascending)
     ∙ ap (map (candidate_enrol_row c)) (sym (sat_is r.enrolments c)))
-    (IsPermutation-filter (λ (x : EnrolRow). eqb x.student c) _ _ stands.enrol)
+    (IsPermutation-filter (λ (x : EnrolRow). eqb x.student c) _ _ represents.enrol)
 
 pub rows_read : (t : Tables) (r : Records) (c : ℕ) (found : List EnrolRow)
     → TablesRepresentOffice t (Some r)
     → AreRecords r
     → IsInOrder StudentEnrolsRise (filter (λ (x : EnrolRow). eqb x.student c) t.enrol) found
     → found ≡ map (candidate_enrol_row c) (exams_sat r.enrolments c)
-rows_read t r c found stands is order =
+rows_read t r c found represents is order =
     order (map (candidate_enrol_row c) (exams_sat r.enrolments c))
-    (candidate_enrolments t r c stands is)
+    (candidate_enrolments t r c represents is)
     (rows_rise c (exams_sat r.enrolments c) (sat_rise r.enrolments c))
 
 pub enrols_read : (t : Tables) (o : OfficeState) (c : ℕ) (found : List EnrolRow)
@@ -254,13 +254,13 @@ pub enrols_read : (t : Tables) (o : OfficeState) (c : ℕ) (found : List EnrolRo
     → IsOffice o
     → IsInOrder StudentEnrolsRise (filter (λ (x : EnrolRow). eqb x.student c) t.enrol) found
     → map (λ (r : EnrolRow). r.exam) found ≡ exams_in c o
-enrols_read t None c found stands is order =
+enrols_read t None c found represents is order =
     ap (map (λ (r : EnrolRow). r.exam))
     (order [] (subst (λ (t : Tables).
-    IsPermutation (filter (λ (x : EnrolRow). eqb x.student c) t.enrol) []) (sym stands)
+    IsPermutation (filter (λ (x : EnrolRow). eqb x.student c) t.enrol) []) (sym represents)
     (IsPermutation-refl [])) tt)
-enrols_read t (Some r) c found stands is order =
-    ap (map (λ (r : EnrolRow). r.exam)) (rows_read t r c found stands is order)
+enrols_read t (Some r) c found represents is order =
+    ap (map (λ (r : EnrolRow). r.exam)) (rows_read t r c found represents is order)
     ∙ exams_back c (exams_sat r.enrolments c)
 
 -- the pairs of a candidate are those of the candidate's exams
@@ -337,17 +337,17 @@ rows_for published es = flat_map (λ e. one_or_none (row_for published e)) es
 candidate_places : (t : Tables) (r : Records) (c : ℕ) → TablesRepresentOffice t (Some r)
     → AreRecords r
     → IsPermutation (placed_of c t) (rows_for r.published (exams_sat r.enrolments c))
-candidate_places t r c stands is =
+candidate_places t r c represents is =
     let by : EnrolRow → List PlacedRow =
     λ x. filter (λ (p : PlacedRow). eqb p.exam x.exam) t.placed in
     IsPermutation-trans _ _ _
-    (IsPermutation-flat_map by _ _ (candidate_enrolments t r c stands is))
+    (IsPermutation-flat_map by _ _ (candidate_enrolments t r c represents is))
     (subst (λ l. IsPermutation l (rows_for r.published (exams_sat r.enrolments c)))
     (sym (flat_map-map by (candidate_enrol_row c) (exams_sat r.enrolments c)))
     (IsPermutation-flat_map_each (λ e. by (candidate_enrol_row c e))
     (λ e. one_or_none (row_for r.published e))
     (λ e. subst (IsPermutation (by (candidate_enrol_row c e))) (rows_of_exam r.published e)
-    (IsPermutation-filter (λ (p : PlacedRow). eqb p.exam e) _ _ stands.published.placed))
+    (IsPermutation-filter (λ (p : PlacedRow). eqb p.exam e) _ _ represents.published.placed))
     (exams_sat r.enrolments c)))
 
 places_rise : (published : Option Publication) (es : List ℕ) → IsAscending (λ x y. x < y) es
@@ -390,13 +390,13 @@ pub places_read : (t : Tables) (o : OfficeState) (c : ℕ) (found : List PlacedR
     → TablesRepresentOffice t o
     → IsOffice o → IsInOrder PlacementsRise (placed_of c t) found
     → map place_in_row found ≡ places_in (published_in o) (exams_in c o)
-places_read t None c found stands is order =
+places_read t None c found represents is order =
     ap (map place_in_row)
-    (order [] (subst (λ (t : Tables). IsPermutation (placed_of c t) []) (sym stands)
+    (order [] (subst (λ (t : Tables). IsPermutation (placed_of c t) []) (sym represents)
     (IsPermutation-refl [])) tt)
-places_read t (Some r) c found stands is order =
+places_read t (Some r) c found represents is order =
     ap (map place_in_row)
-    (order (rows_for r.published (exams_sat r.enrolments c)) (candidate_places t r c stands is)
+    (order (rows_for r.published (exams_sat r.enrolments c)) (candidate_places t r c represents is)
     (places_rise r.published (exams_sat r.enrolments c) (sat_rise r.enrolments c)))
     ∙ places_back r.published (exams_sat r.enrolments c)
 
@@ -448,15 +448,15 @@ pub candidate_seats_read : (t : Tables) (o : OfficeState) (c : ℕ) (found : Lis
     → IsOffice o
     → IsInOrder StudentSeatsRise (filter (λ (x : SeatRow). eqb x.student c) t.seat) found
     → found ≡ map stored_seat (rows_of c (publication_rows (published_in o)))
-candidate_seats_read t None c found stands is order =
+candidate_seats_read t None c found represents is order =
     order [] (subst (λ (t : Tables).
-    IsPermutation (filter (λ (x : SeatRow). eqb x.student c) t.seat) []) (sym stands)
+    IsPermutation (filter (λ (x : SeatRow). eqb x.student c) t.seat) []) (sym represents)
     (IsPermutation-refl [])) tt
-candidate_seats_read t (Some r) c found stands is order =
+candidate_seats_read t (Some r) c found represents is order =
     order (map stored_seat (rows_of c (publication_rows r.published)))
     (subst (IsPermutation (filter (λ (x : SeatRow). eqb x.student c) t.seat))
     (filter-map (λ (x : SeatRow). eqb x.student c) stored_seat (publication_rows r.published))
-    (IsPermutation-filter (λ (x : SeatRow). eqb x.student c) _ _ stands.published.seat))
+    (IsPermutation-filter (λ (x : SeatRow). eqb x.student c) _ _ represents.published.seat))
     (candidate_seats_rise r c is r.published refl)
 
 -- ---- a candidate's share
@@ -465,11 +465,12 @@ pub candidate_shares_read : (t : Tables) (o : OfficeState) (c : ℕ) (found : Li
     → TablesRepresentOffice t o → IsSound t o
     → IsPermutation (filter (λ (x : StudentShareRow). eqb x.student c) t.share_student) found
     → IsPermutation (filter (λ (x : StudentShareRow). eqb x.student c) (student_rows_in o)) found
-candidate_shares_read t None c found stands sound p =
+candidate_shares_read t None c found represents sound p =
     subst (λ (t : Tables).
-    IsPermutation (filter (λ (x : StudentShareRow). eqb x.student c) t.share_student) found) stands
+    IsPermutation (filter (λ (x : StudentShareRow). eqb x.student c) t.share_student) found)
+    represents
     p
-candidate_shares_read t (Some r) c found stands sound p =
+candidate_shares_read t (Some r) c found represents sound p =
     IsPermutation-trans _ _ _
     (IsPermutation-filter (λ (x : StudentShareRow). eqb x.student c) _ _
     (IsPermutation-sym _ _ sound.shared.of_students)) p
@@ -629,10 +630,10 @@ module _ (r : Records) (I : Session) (c : ℕ) (is : AreRecords r) (same : r.ses
       → ((published : Option Publication) → AreOfPublication published enrolled at own
       → rows ≡ shown_exams (view_from I enrolled published own))
       → rows ≡ shown_exams (view_of c (Some r))
-  exams_shown enrolled at own rows exams stands only shown =
+  exams_shown enrolled at own rows exams represents only shown =
       let candidate_exams : enrolled ≡ exams_sat r.enrolments c = exams ∙ own_rows.of_enrols in
       let candidate_places : at ≡ places_in r.published enrolled
-      = stands ∙ own_rows.of_places ∙ ap (places_in r.published) (sym candidate_exams) in
+      = represents ∙ own_rows.of_places ∙ ap (places_in r.published) (sym candidate_exams) in
       let own_is : own ≡ candidate_seat_rows = only candidate_seat_rows (sym own_rows.of_seats) in
       let published : AreOfPublication r.published enrolled at own = record {
         places = candidate_places;
@@ -654,8 +655,8 @@ pub personal_returned : (shares rows : List StudentShareRow) (share : PersonalPe
     → result ≡ Ok share
 personal_returned shares rows share result same (none empty is) nothing one_row =
     nothing (same ∙ empty) ∙ ap Ok (sym is)
-personal_returned shares rows share result same (one row alone is small) nothing one_row =
-    one_row row (same ∙ alone) (subst (λ p. personal_total p < 2 ^ 62) (sym is) small) ∙ ap Ok is
+personal_returned shares rows share result same (one row single is small) nothing one_row =
+    one_row row (same ∙ single) (subst (λ p. personal_total p < 2 ^ 62) (sym is) small) ∙ ap Ok is
 
 pub penalty_returned : (shares rows : List StudentShareRow) (share : PersonalPenalty)
     (result : Result PersonalPenalty StoreFault) → rows ≡ shares → IsHerShare shares share

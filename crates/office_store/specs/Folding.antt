@@ -30,7 +30,7 @@ pairs_of_students E all = flat_map (λ s. pairs_sat (Some s) (exams_sat E s)) al
 -- the fold has taken pairs of smaller students only, and has room for n more
 pub record CanTake (fold : Folded) (student more : ℕ) : Type 0 where
   pub pairs : List Pair
-  pub stands : RepresentsPairs fold pairs
+  pub represents : RepresentsPairs fold pairs
   pub few : length pairs + more ≤ MAX_PAIRS
   pub below : All (λ p. p.student < student) pairs
 
@@ -38,7 +38,7 @@ pub record CanTake (fold : Folded) (student more : ℕ) : Type 0 where
 pub record HasTaken {S : Type 0} (store : Ghosts S) (old new : Held S) (fold : Folded) (count : ℕ)
     (all rest : List ℕ) : Type 0 where
   pub pairs : List Pair
-  pub stands : RepresentsPairs fold pairs
+  pub represents : RepresentsPairs fold pairs
   pub counted : count ≡ length pairs
   pub few : count ≤ MAX_PAIRS
   pub below : All (λ s. All (λ p. p.student < s) pairs) rest

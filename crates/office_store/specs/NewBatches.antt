@@ -66,8 +66,8 @@ IsRowOf kept found =
 
 -- the rows of the drafts after such lines: new ones, or, if no line acts, the old ones
 abbrev pub drafts_after : List PutLine → List DraftRow → List DraftRow → List DraftRow
-drafts_after [] anew rows = rows
-drafts_after (line ∷ lines) anew rows = reverse anew
+drafts_after [] new_rows rows = rows
+drafts_after (line ∷ lines) new_rows rows = reverse new_rows
 
 -- the tables after the acting lines, the drafts and the batch are written
 abbrev pub new_batch_put : ℕ → List ℕ → NewBatch → Tables → Tables

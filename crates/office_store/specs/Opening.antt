@@ -1,5 +1,5 @@
 -- The office that a database represents when it is opened.
-use Rattle.std.specs.Prelude.{◌≡◌, ◌⊎◌, List, None, Some, map}
+use Rattle.std.specs.Prelude.{◌≡◌, ◌⊎◌, List, None, map}
 use Rattle.sqlite.specs.Effect.{Database}
 use Rattle.office_tables.specs.Adopting.{tables_of}
 use Rattle.office_tables.specs.Batch.{counts_of}
@@ -10,15 +10,14 @@ use Rattle.office_tables.specs.declared.found.Found.{Found}
 use Rattle.office_tables.specs.declared.version.Version.{Version}
 use Rattle.office_tables.specs.declared.version.Version.TheVariants.{One, Two}
 use Rattle.office_model.specs.Office.{OfficeState}
-use Rattle.office_records.specs.Memory.{Memory, memory_of}
+use Rattle.office_records.specs.Memory.{HasNoNightWeight, Memory, memory_of}
 use Rattle.office_records.specs.Representation.{RepresentsOffice, RepresentsOfficeIn}
 use Rattle.office_store.specs.Memory.{IsMemoryOf}
 use Rattle.office_store.specs.declared.memory.OfficeMemory.{OfficeMemory}
 
 -- in version 1 the weight of exams over night is 0
 abbrev pub WeighsNoNight : Version → Memory → Type 0
-WeighsNoNight One (Some (I, E)) = I.weights.night ≡ 0
-WeighsNoNight One None = Unit {0}
+WeighsNoNight One memory = HasNoNightWeight memory
 WeighsNoNight Two memory = Unit {0}
 
 -- the database represents this office in one of the two versions
@@ -46,4 +45,4 @@ pub record IsFoundOffice (db : Database) (found : Found) (memory : OfficeMemory)
 pub record DatabaseUpgraded (old new : Database) : Type 0 where
   pub office : OfficeState
   pub stood : HoldsOffice old office
-  pub stands : (there : OfficeState) → HoldsOffice old there → RepresentsOffice new there
+  pub represents : (there : OfficeState) → HoldsOffice old there → RepresentsOffice new there

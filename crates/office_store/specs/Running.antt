@@ -39,21 +39,21 @@ CommandRan store command old new result =
 
 -- the call returned this value, or a statement failed
 abbrev pub ReturnsValue : {A : Type 0} → A → Result A StoreFault → Type 0
-ReturnsValue says (Ok x) = x ≡ says
-ReturnsValue says (Err fault) = fault ≡ Store
+ReturnsValue expected (Ok x) = x ≡ expected
+ReturnsValue expected (Err fault) = fault ≡ Store
 
 -- a call that only reads returned this value, or a statement failed; the office stays
 abbrev pub QueryOutcome : {A : Type 0} → A → OfficeState → (OfficeState → Type 0)
     → Result A StoreFault → Type 0
-QueryOutcome says office Stays (Ok x) = (x ≡ says) × Stays office
-QueryOutcome says office Stays (Err fault) = (fault ≡ Store) × Stays office
+QueryOutcome expected office Stays (Ok x) = (x ≡ expected) × Stays office
+QueryOutcome expected office Stays (Err fault) = (fault ≡ Store) × Stays office
 
 -- the same, if the disk returns what was written
 abbrev pub QueryReturned : {S A : Type 0} → Ghosts S → (OfficeState → A) → Held S → Held S
     → Result A StoreFault → Type 0
-QueryReturned store says old new result =
+QueryReturned store expected old new result =
     HasCleanDisk (state store new) → (office : OfficeState) → Represents (state store old) office
-    → QueryOutcome (says office) office (Represents (state store new)) result
+    → QueryOutcome (expected office) office (Represents (state store new)) result
 
 -- ---- what is kept in memory
 

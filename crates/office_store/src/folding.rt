@@ -78,7 +78,7 @@ fn fold_students<'a, S: Alter>(
 ) -> Result<EditFold<'a>, StoreFault>
     requires empty { RepresentsPairs empty [] }
     requires ascending { IsAscending students.now }
-    ensures stands { IfOk result (λ new. (pairs : List Pair) × RepresentsPairs new pairs
+    ensures represents { IfOk result (λ new. (pairs : List Pair) × RepresentsPairs new pairs
         × ((E : Enrolled) → HadEnrolments S.Store conn.old conn.new E
         → pairs ≡ pairs_of_students E students.now)) }
     ensures of { IfOk result (λ new. IsFoldOf new empty.entry.instance empty.entry.earlier
@@ -117,7 +117,7 @@ fn count_more(count: usize, exams: &[ExamNo]) -> Result<usize, StoreFault>
 fn fold_exams(fold: &mut EditFold, student: StudentNo, exams: &[ExamNo]) -> Result<(), AllocError>
     requires room { CanTake fold.old student (length exams.now) }
     requires ascending { IsAscending exams.now }
-    ensures stands { (pairs : List Pair) → RepresentsPairs fold.old pairs → OnOk result
+    ensures represents { (pairs : List Pair) → RepresentsPairs fold.old pairs → OnOk result
         (RepresentsPairs fold.new (pairs ++ pairs_sat (Some student) exams.now)) }
     ensures of { IsFoldOf fold.new fold.old.instance fold.old.earlier fold.old.later
         fold.old.edited }

@@ -1,10 +1,11 @@
 // What an office keeps in memory of its tables.
-ghost use Rattle.std.specs.Prelude.{◌≡◌, ◌+◌, ◌≤◌, ◌<◌, ℕ, IfNone, IfOk, IfSome, None, Some, is_some, length};
+ghost use Rattle.std.specs.Prelude.{◌≡◌, ◌↔◌, ◌+◌, ◌≤◌, ◌<◌, ℕ, IfNone, IfOk, IfSome, IsTrue, None, Some, is_some, length};
 ghost use Rattle.exam_terms.specs.declared.limits.TheConstants.{MAX_BATCHES, MAX_DRAFTS};
 ghost use Rattle.exam_model.specs.Enrolments.{Enrolled};
 ghost use Rattle.exam_model.specs.Instance.{Session};
 ghost use Rattle.office_model.specs.Publishing.{publication_rows};
 ghost use Rattle.office_records.specs.FoundPublications.{publication_from};
+ghost use Rattle.office_records.specs.Memory.{HasNoNightWeight};
 ghost use Rattle.office_records.specs.Publications.{placed_rows};
 ghost use Rattle.office_store.specs.Memory.{HasPublished, HasPut, IsRenewed, draft_at};
 
@@ -69,6 +70,16 @@ impl OfficeMemory {
             batches: 0,
             drafts: no_drafts(),
             published: None,
+        }
+    }
+
+    // Returns whether the weight of exams over night is 0; there is none before a load.
+    pub(crate) fn has_no_night_weight(&self) -> bool
+        ensures { IsTrue result ↔ HasNoNightWeight self.now.kept }
+    {
+        match &self.kept {
+            Some((instance, _)) => instance.weights().night == 0,
+            None => true,
         }
     }
 

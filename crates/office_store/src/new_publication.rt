@@ -14,7 +14,6 @@ ghost use Rattle.office_records.specs.FoundPublications.{AreFound, publication_f
 ghost use Rattle.office_records.specs.Memory.{memory_of};
 ghost use Rattle.office_records.specs.Publications.{stored_seat};
 ghost use Rattle.office_records.specs.SeatsStored.{seat_rows_of};
-ghost use Rattle.office_records.specs.SharesStored.{share_rows_of};
 ghost use Rattle.office_records.specs.PartShares.{HasFewParts, part_rows};
 ghost use Rattle.office_records.specs.SharesStored.{student_share_row};
 ghost use Rattle.office_store.specs.Memory.{IsMemoryOf, IsTogether};
@@ -28,9 +27,9 @@ ghost use Rattle.office_tables.specs.ShareStudent.{AreStudentAmounts};
 use crate::memory::{Draft, OfficeMemory};
 use crate::rewritten_places::{mark_text, placements_put, places_gone};
 use exam_model::{Enrolments, Instance, StudentNo, Timetable};
-use exam_publish::{SeatRow, Shares, changed, numbers_identify, permit, seats, shares};
+use exam_publish::{SeatRow, Shares, changed, numbers_identify, permit, seats, shares_among};
 use office_model::{Published, StoreFault};
-use office_records::{changed_seat_rows, changed_share_rows, part_share_rows, placement_rows};
+use office_records::{changed_seat_rows, part_share_rows, placement_rows, student_share_rows};
 use office_tables::{
     DeletePlacement, DeleteStudentSeats, DeleteStudentShare, InsertPartShare, InsertPlacement,
     InsertSeat, InsertStudentShare, PlacedRow,
@@ -123,7 +122,7 @@ fn publication_writes(
 {
     let _limits = instance.exams(); // read for its limits
     let candidates = rewritten(alloc, old, rows)?;
-    let shares = shares(alloc, instance, rows, &draft.timetable)?;
+    let shares = shares_among(alloc, instance, rows, &draft.timetable, &candidates)?;
     let text = mark_text(alloc, instance, before)?;
     let places = placement_rows(alloc, &draft.timetable)?;
     let places_gone = places_gone(alloc, &places, before)?;
@@ -131,7 +130,7 @@ fn publication_writes(
     let deleted_seats = deleted_seats(alloc, &candidates)?;
     let seats = seats_put(alloc, rows, &candidates)?;
     let deleted_shares = deleted_shares(alloc, &candidates)?;
-    let students = student_shares_put(alloc, &shares, &candidates)?;
+    let students = student_shares_put(alloc, &shares)?;
     let parts = part_shares_put(alloc, &shares)?;
     let counts = Published {
         changed: count_of(&candidates),
@@ -229,17 +228,12 @@ fn deleted_share(candidate: StudentNo) -> DeleteStudentShare
     }
 }
 
-fn student_shares_put(
-    alloc: Global,
-    shares: &Shares,
-    candidates: &[StudentNo],
-) -> Result<Vec<InsertStudentShare>, AllocError>
-    requires { IsAscending candidates.now }
-    ensures put { IfOk result (λ put. put.items ≡ map student_share_put
-        (share_rows_of candidates.now (map student_share_row shares.now.students))) }
+fn student_shares_put(alloc: Global, shares: &Shares) -> Result<Vec<InsertStudentShare>, AllocError>
+    ensures put { IfOk result (λ put. put.items
+        ≡ map student_share_put (map student_share_row shares.now.students)) }
     ensures small { IfOk result (λ put. All (λ it. AreStudentAmounts it.row) put.items) }
 {
-    let rows = changed_share_rows(alloc, shares, candidates)?;
+    let rows = student_share_rows(alloc, shares)?;
     rows.iter()
         .map(|row| InsertStudentShare { row: *row })
         .collect(alloc)

@@ -1,7 +1,9 @@
 // The rows of the publication's shares.
-ghost use Rattle.std.specs.Prelude.{IfOk, IsPermutation, OnOk};
+ghost use Rattle.std.specs.Prelude.{◌≡◌, false, IfOk, IsPermutation, IsTrue, OnOk};
 ghost use Rattle.sqlite.specs.Held.{state};
 ghost use Rattle.sqlite.specs.State.{HasCleanDisk, Survives};
+ghost use Rattle.office_tables.specs.Readers.{AnswersOpen, LeavesAll, LeavesCommitted, OpensNone, Reads};
+ghost use Rattle.office_tables.specs.ShareStudent.{HaveNoNight};
 ghost use Rattle.office_model.specs.Office.{OfficeState};
 ghost use Rattle.office_records.specs.Representation.{RepresentsOffice};
 ghost use Rattle.office_store.specs.OfficeRows.{AreShareRowsOf, part_rows_in};
@@ -10,8 +12,10 @@ ghost use Rattle.office_store.specs.Running.{IsCommitted, StateUnchanged};
 
 use crate::fault::Failed;
 use crate::office::Office;
-use office_tables::{PartShareRow, StudentShareRow, part_shares, student_shares};
-use sqlite::Alter;
+use office_tables::{
+    PartShareRow, StudentShareRow, part_shares, student_shares, student_shares_without_nights,
+};
+use sqlite::{Alter, Connection, Error};
 use std::alloc::Global;
 
 // The rows of the shares of candidates, and of exams, periods and rooms.
@@ -53,7 +57,8 @@ impl<S: Alter> Office<S> {
         ensures survives { Survives (state S.Store self.old) (state S.Store self.new) (λ _. ⊥) }
     {
         let _at_rest = self.conn.is_autocommit(); // its contract says that all is committed
-        let rows = student_shares(alloc, &mut self.conn)?;
+        let bare = self.memory.has_no_night_weight();
+        let rows = student_rows(alloc, &mut self.conn, bare)?;
         Ok(rows)
     }
 
@@ -72,5 +77,29 @@ impl<S: Alter> Office<S> {
         let _at_rest = self.conn.is_autocommit(); // its contract says that all is committed
         let rows = part_shares(alloc, &mut self.conn)?;
         Ok(rows)
+    }
+}
+
+// Returns the rows of candidates' shares. `bare`: no share has an amount over night, so that only
+// the first of the two tables is read.
+fn student_rows<S: Alter>(
+    alloc: Global,
+    conn: &mut Connection<S>,
+    bare: bool,
+) -> Result<Vec<StudentShareRow>, Error>
+    ensures rows { Reads S.Store (λ t found. (IsTrue bare → HaveNoNight t.share_student)
+        → IsPermutation t.share_student found.items)
+        conn.old conn.new result }
+    ensures open { AnswersOpen S.Store conn.old conn.new result }
+    ensures was_open { OpensNone S.Store conn.old conn.new }
+    ensures same { LeavesAll S.Store conn.old conn.new result }
+    ensures kept { LeavesCommitted S.Store conn.old conn.new }
+    ensures mode { conn.old.in_transaction ≡ false → conn.new.in_transaction ≡ false }
+    ensures survives { Survives (state S.Store conn.old) (state S.Store conn.new) (λ _. ⊥) }
+{
+    if bare {
+        student_shares_without_nights(alloc, conn)
+    } else {
+        student_shares(alloc, conn)
     }
 }

@@ -17,7 +17,7 @@ use Rattle.office_store.proofs.AdoptLemmas.{open_still}
 use Rattle.office_store.proofs.AdoptLemmas.{none_long, none_refused, none_weighed}
 use Rattle.office_store.proofs.FoundDraftLemmas.{meaning}
 use Rattle.office_store.proofs.LeavingLemmas.{survives_on}
-use Rattle.office_store.proofs.AllDraftLemmas.{drafts_stand, found_drafts, found_together}
+use Rattle.office_store.proofs.AllDraftLemmas.{drafts_represent, found_drafts, found_together}
 use Rattle.office_store.proofs.InMemoryLemmas.{counted}
 use Rattle.office_store.proofs.adopting.found_office.Goals as goal
 
@@ -159,7 +159,7 @@ returns-clause-kept g c clean =
       kept = record {
         held = t;
         tables = adopted.2;
-        stands = are.1;
+        represents = are.1;
         sound = are.2;
         office = are.3;
       };
@@ -193,7 +193,7 @@ returns-in_err-drafts-clause-none g c clean =
     (found_batches db found adopted.0 adopted.1 adopted.2 short) in
     let is : c.from_residual-in_err-drafts.result ≡ Err c.in_err-drafts.field-0.0
     = search rules in
-    rw is (λ bad o kept. drafts_stand t are.0 are.1 are.2 are.3 c.in_ok-kept.kept.session are.4
+    rw is (λ bad o kept. drafts_represent t are.0 are.1 are.2 are.3 c.in_ok-kept.kept.session are.4
     (c.in_err-drafts.ensures.bad bad) c.in_err-drafts.ensures.loaded)
 
 pub returns-in_err-drafts-clause-keeps : goal.returns-in_err-drafts-clause-keeps

@@ -5,7 +5,7 @@ use Rattle.office_store.proofs.folding.fold_exams.Goals as goal
 
 pub loop-exam-init : goal.loop-exam-init
 loop-exam-init c = record {
-  stands = λ pairs h. subst (RepresentsPairs c.args.fold.now) (sym (append-nil pairs)) h;
+  represents = λ pairs h. subst (RepresentsPairs c.args.fold.now) (sym (append-nil pairs)) h;
   of = record { session = refl; before = refl; after = refl; exams = refl };
 }
 
@@ -14,7 +14,7 @@ row-requires c =
     let room = c.requires.room in
     let exams = c.args.exams.now in
     let i = c.loop-exam.exam-index in
-    let so_far = c.loop-exam.invariant.stands room.pairs room.stands in
+    let so_far = c.loop-exam.invariant.represents room.pairs room.represents in
     record {
       few = has_room c.loop-exam.fold room.pairs c.args.student exams i c.loop-exam-test.true
           room.few so_far;
@@ -30,11 +30,11 @@ loop-exam-preserved c =
     let exams = c.args.exams.now in
     let i = c.loop-exam.exam-index in
     record {
-      stands = λ pairs h. one_more c.row.new.self pairs s exams i c.exam-item.result
+      represents = λ pairs h. one_more c.row.new.self pairs s exams i c.exam-item.result
           c.loop-exam-test.true
           (subst (λ e. RepresentsPairs c.row.new.self ((pairs ++ pairs_sat (Some s) (take i exams))
           ++ record { exam = e; student = s } ∷ [])) c.exam-item.is
-          (c.in_ok-row.ensures.ok _ (c.loop-exam.invariant.stands pairs h)));
+          (c.in_ok-row.ensures.ok _ (c.loop-exam.invariant.represents pairs h)));
       of = record {
         session = c.in_ok-row.ensures.same.0 ∙ c.loop-exam.invariant.of.session;
         before = c.in_ok-row.ensures.same.1 ∙ c.loop-exam.invariant.of.before;
@@ -43,8 +43,8 @@ loop-exam-preserved c =
       };
     }
 
-pub returns-clause-stands : goal.returns-clause-stands
-returns-clause-stands c pairs h =
+pub returns-clause-represents : goal.returns-clause-represents
+returns-clause-represents c pairs h =
     subst (λ es. RepresentsPairs c.loop-exam.fold (pairs ++ pairs_sat (Some c.args.student) es))
     (take_all c.loop-exam.exam-index c.args.exams.now c.loop-exam-test.false)
-    (c.loop-exam.invariant.stands pairs h)
+    (c.loop-exam.invariant.represents pairs h)

@@ -49,7 +49,7 @@ each-preserved g c =
           c.each.rest.now c.in-Some.student.now c.in-Some.others.now c.in_ok-exams.exams.items
           c.deref.result.now c.deref-in-Some.result.now inv.taken is inv.up c.deref.ensures.value
           c.deref-in-Some.ensures.value c.in_ok-count.ensures.ok.0 c.in_ok-count.ensures.ok.1
-          c.in_ok-fold_exams.ensures.stands
+          c.in_ok-fold_exams.ensures.represents
           (had_before g.S.Store c.args.conn.now c.each.conn c.read_exams.new.conn inv.read inv.same
           c.read_exams.ensures.read)
           (λ E had. c.in_ok-exams.ensures.exams E

@@ -29,12 +29,12 @@ returns-clause-meaning g c had of =
     let judged = c.args.judged.now in
     let empty = c.in_ok-empty.empty in
     let made = c.in_ok-empty.ensures.made in
-    let stands = c.in_ok-fold.ensures.stands in
+    let represents = c.in_ok-fold.ensures.represents in
     let found = c.deref-3.ensures.value ∙ c.in_ok-students.ensures
     ∙ ap (students_of_exams E) c.deref.ensures.value in
     subst (ReturnsValue (track I E judged.new)) (sym c.ok_or.ensures.value)
     (returned_after g.S.Store c.args.conn.now c.fold_students.new.conn c.in_ok-fold.fold I E judged
-    empty.edited c.deref-4.result.now c.finish.result stands.0 had of
+    empty.edited c.deref-4.result.now c.finish.result represents.0 had of
     (fold_of c.in_ok-fold.fold empty I judged.draft.now.timetable judged.new empty.edited
     c.in_ok-fold.ensures.of
     (record {
@@ -44,6 +44,6 @@ returns-clause-meaning g c had of =
       exams = refl;
     }))
     (ap (λ (f : Folded). f.edited) made ∙ c.deref-2.ensures.value)
-    (subst (AreSizes E) (sym c.deref-4.ensures.value) c.in_ok-sizes.ensures) stands.1
-    (stands.2 E had ∙ ap (pairs_of_students E) found)
-    (λ is. c.finish.ensures.scored E stands.0 stands.1 is))
+    (subst (AreSizes E) (sym c.deref-4.ensures.value) c.in_ok-sizes.ensures) represents.1
+    (represents.2 E had ∙ ap (pairs_of_students E) found)
+    (λ is. c.finish.ensures.scored E represents.0 represents.1 is))

@@ -1,27 +1,30 @@
 use Rattle.std.proofs.Common.{List, ℕ, length, map, ap, ap₂, ◌∙◌, subst, sym}
 use Rattle.exam_model.specs.Enrolments.{IsAscending}
-use Rattle.exam_publish.specs.Shares.{Sharing}
+use Rattle.exam_publish.specs.Changed.{changed_students}
+use Rattle.exam_publish.specs.Shares.{Sharing, shares_among, student_shares}
 use Rattle.office_records.specs.Publications.{stored_seat}
 use Rattle.office_records.specs.SeatsStored.{seat_rows_of}
-use Rattle.office_records.specs.SharesStored.{share_rows_of, student_share_row}
+use Rattle.office_records.specs.SharesStored.{student_share_row}
 use Rattle.office_records.specs.PartShares.{HasFewParts, part_rows}
 use Rattle.office_store.specs.ChangedPlacements.{changed_rows}
 use Rattle.office_store.specs.RowPuts.{deleted_candidate_seats, part_share_put, place_gone, placement_put, seat_put}
 use Rattle.office_store.specs.RowPuts.{deleted_share, student_share_put}
-use Rattle.office_store.proofs.NewPublicationLemmas.{few_parts}
+use Rattle.office_store.proofs.NewPublicationLemmas.{few_parts, rows_among}
 use Rattle.office_store.proofs.new_publication.publication_writes.Goals as goal
+
+pub shares_among-requires : goal.shares_among-requires
+shares_among-requires c = record {
+  published = c.requires.published;
+  ascending = subst IsAscending (sym c.deref.ensures.value) c.in_ok-candidates.ensures.ascending;
+}
 
 pub part_shares_put-requires : goal.part_shares_put-requires
 part_shares_put-requires c = record {
   few = subst HasFewParts (sym c.in_ok-shares.ensures.shares)
-      (few_parts c.args.instance.now c.args.rows.now c.args.draft.now.timetable
+      (few_parts c.args.instance.now c.args.rows.now c.args.draft.now.timetable c.deref.result.now
       c.exams-limits.ensures.kept);
   small = c.in_ok-shares.ensures.small;
 }
-
-pub student_shares_put-requires : goal.student_shares_put-requires
-student_shares_put-requires c =
-    subst IsAscending (sym c.deref-6.ensures.value) c.in_ok-candidates.ensures.ascending
 
 pub count_of-requires : goal.count_of-requires
 count_of-requires c =
@@ -30,24 +33,28 @@ count_of-requires c =
 pub returns-clause-put : goal.returns-clause-put
 returns-clause-put c =
     let listed = c.in_ok-candidates.ensures.listed in
-    let shares = c.in_ok-shares.ensures.shares in record {
+    let I = c.args.instance.now in
+    let rows = c.args.rows.now in
+    let T = c.args.draft.now.timetable in
+    let who = changed_students c.args.old.now rows in
+    let shares = c.in_ok-shares.ensures.shares
+    ∙ ap (shares_among I rows T) (c.deref.ensures.value ∙ listed) in record {
       text = c.in_ok-text.ensures.text;
       places_gone = c.in_ok-places_gone.ensures
-          ∙ ap (λ rows. map place_gone (changed_rows c.args.before.now rows)) (c.deref.ensures.value ∙ c.in_ok-places.ensures);
+          ∙ ap (λ rows. map place_gone (changed_rows c.args.before.now rows)) (c.deref-2.ensures.value ∙ c.in_ok-places.ensures);
       placements = c.in_ok-placements.ensures
-          ∙ ap (λ rows. map placement_put (changed_rows rows c.args.before.now)) (c.deref-2.ensures.value ∙ c.in_ok-places.ensures);
+          ∙ ap (λ rows. map placement_put (changed_rows rows c.args.before.now)) (c.deref-3.ensures.value ∙ c.in_ok-places.ensures);
       deleted_seats = c.in_ok-deleted_seats.ensures
-          ∙ ap (map deleted_candidate_seats) (c.deref-3.ensures.value ∙ listed);
+          ∙ ap (map deleted_candidate_seats) (c.deref-4.ensures.value ∙ listed);
       seats = c.in_ok-seats.ensures
           ∙ ap (λ (changed : List ℕ). map seat_put
           (seat_rows_of changed (map stored_seat c.args.rows.now)))
-          (c.deref-4.ensures.value ∙ listed);
+          (c.deref-5.ensures.value ∙ listed);
       deleted_shares = c.in_ok-deleted_shares.ensures
-          ∙ ap (map deleted_share) (c.deref-5.ensures.value ∙ listed);
+          ∙ ap (map deleted_share) (c.deref-6.ensures.value ∙ listed);
       students = c.in_ok-students.ensures.put
-          ∙ ap₂ (λ (changed : List ℕ) (all : Sharing). map student_share_put
-          (share_rows_of changed (map student_share_row all.students)))
-          (c.deref-6.ensures.value ∙ listed) shares;
+          ∙ ap (λ (all : Sharing). map student_share_put (map student_share_row all.students)) shares
+          ∙ ap (map student_share_put) (rows_among who (student_shares I rows));
       parts = c.in_ok-parts.ensures.put
           ∙ ap (λ (all : Sharing). map part_share_put (part_rows all)) shares;
       counts = ap₂ (λ n penalty. record { changed = n; penalty = penalty })

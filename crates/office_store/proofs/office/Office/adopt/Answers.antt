@@ -39,7 +39,7 @@ invariant_of-result g c = (
       (c.in-Ok-bring_up.ensures.tables clean is.batches
       (held_still g.S.Store old c.found_office.new.conn _ _ (c.in-Ok.ensures.same clean_mid) is.tables))
       in
-      (is.office, taken.stands is.office (_, is.kept, is.weighs), is.in_memory),
+      (is.office, taken.represents is.office (_, is.kept, is.weighs), is.in_memory),
   c.in-Ok.ensures.together,
 )
 

@@ -29,7 +29,7 @@ returns-clause-rows g c clean office here =
     c.in_ok-rows.ensures.open c.in_ok-rows.ensures.same clean office here in
     subst (λ n. map (λ (r : EnrolRow). r.exam) c.in_ok-rows.rows.items ≡ exams_in n office)
     c.get.ensures.number
-    (enrols_read kept.held office c.get.result c.in_ok-rows.rows.items kept.stands kept.office
+    (enrols_read kept.held office c.get.result c.in_ok-rows.rows.items kept.represents kept.office
     (c.in_ok-rows.ensures.in_order clean kept.held kept.tables))
 
 pub returns-in_err-rows-clause-survives : goal.returns-in_err-rows-clause-survives

@@ -2,13 +2,13 @@ use Rattle.std.proofs.Common.{Ok}
 use Rattle.office_model.specs.Shown.{shown_exams}
 use Rattle.office_model.specs.Views.{view_of}
 use Rattle.office_store.specs.Judging.{listed}
-use Rattle.office_store.proofs.CommandLemmas.{tells}
+use Rattle.office_store.proofs.CommandLemmas.{returns_value}
 use Rattle.office_store.proofs.ViewLemmas.{exams_returned, nothing_returned}
 use Rattle.office_store.proofs.office.Office.candidate_exams.Goals as goal
 
 pub returns-in_default-clause-reads : goal.returns-in_default-clause-reads
 returns-in_default-clause-reads g c =
-    tells g.S.Store c.args.self.now c.candidate_rows.new.self c.self.inside.conn
+    returns_value g.S.Store c.args.self.now c.candidate_rows.new.self c.self.inside.conn
     c.self.inside.memory
     c.self.view_is c.self.invariant.1 c.in_ok-found.ensures.all_committed
     c.in_ok-found.ensures.unchanged
@@ -19,7 +19,7 @@ returns-in_default-clause-reads g c =
 
 pub returns-clause-reads : goal.returns-clause-reads
 returns-clause-reads g c =
-    tells g.S.Store c.args.self.now c.candidate_rows.new.self c.self.inside.conn
+    returns_value g.S.Store c.args.self.now c.candidate_rows.new.self c.self.inside.conn
     c.self.inside.memory
     c.self.view_is c.self.invariant.1 c.in_ok-found.ensures.all_committed
     c.in_ok-found.ensures.unchanged

@@ -31,7 +31,7 @@ returns-clause-rows g c clean office here =
     c.in_ok-rows.ensures.open c.in_ok-rows.ensures.same clean office here in
     subst (λ n. map place_in_row c.in_ok-rows.rows.items
     ≡ places_in (published_in office) (exams_in n office)) c.get.ensures.number
-    (places_read kept.held office c.get.result c.in_ok-rows.rows.items kept.stands kept.office
+    (places_read kept.held office c.get.result c.in_ok-rows.rows.items kept.represents kept.office
     (c.in_ok-rows.ensures.in_order clean kept.held kept.tables))
 
 pub returns-in_err-rows-clause-survives : goal.returns-in_err-rows-clause-survives

@@ -31,7 +31,7 @@ returns-clause-rows g c clean office here =
     c.in_ok-rows.ensures.open c.in_ok-rows.ensures.same clean office here in
     subst (λ n. c.in_ok-rows.rows.items
     ≡ map stored_seat (rows_of n (publication_rows (published_in office)))) c.get.ensures.number
-    (candidate_seats_read kept.held office c.get.result c.in_ok-rows.rows.items kept.stands
+    (candidate_seats_read kept.held office c.get.result c.in_ok-rows.rows.items kept.represents
     kept.office
     (c.in_ok-rows.ensures.in_order clean kept.held kept.tables))
 

@@ -31,7 +31,7 @@ returns-clause-rows g c clean office here =
     subst (λ n. IsPermutation
     (filter (λ (row : StudentShareRow). row.student == n) (student_rows_in office))
     c.in_ok-rows.rows.items) c.get.ensures.number
-    (candidate_shares_read kept.held office c.get.result c.in_ok-rows.rows.items kept.stands
+    (candidate_shares_read kept.held office c.get.result c.in_ok-rows.rows.items kept.represents
     kept.sound
     (c.in_ok-rows.ensures.rows clean kept.held kept.tables))
 

@@ -16,7 +16,7 @@ invariant_of-result g c = (
     record {
       held = empty_tables;
       tables = (c.in-Ok.ensures.done clean).leads (record { schema_is = search rules; rows = tt });
-      stands = refl;
+      represents = refl;
       sound = tt;
       office = tt;
     },
@@ -35,7 +35,7 @@ pub returns-in-Ok-clause-made : goal.returns-in-Ok-clause-made
 returns-in-Ok-clause-made g c clean = record {
   held = empty_tables;
   tables = (c.in-Ok.ensures.done clean).leads (record { schema_is = search rules; rows = tt });
-  stands = refl;
+  represents = refl;
   sound = tt;
   office = tt;
 }

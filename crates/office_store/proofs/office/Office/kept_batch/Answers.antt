@@ -26,7 +26,7 @@ returns-clause-row g c clean office here =
     (c.is_autocommit-at_rest.ensures.settled
     (c.is_autocommit-at_rest.ensures.value ∙ ap not c.self.invariant.0))
     c.in_ok-row.ensures.open (c.in_ok-row.ensures.same Two) clean office here in
-    batch_read kept.held office c.args.number c.in_ok-row.row kept.stands kept.office
+    batch_read kept.held office c.args.number c.in_ok-row.row kept.represents kept.office
     (c.in_ok-row.ensures.row Two clean kept.held kept.tables)
 
 pub returns-in_err-row-clause-survives : goal.returns-in_err-row-clause-survives

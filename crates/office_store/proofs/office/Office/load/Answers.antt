@@ -6,7 +6,7 @@ use Rattle.exam_model.specs.Instance.{Session}
 use Rattle.office_model.specs.Loading.{loaded}
 use Rattle.office_model.specs.declared.fault.StoreFault.TheVariants.{Loaded}
 use Rattle.office_model.proofs.RecordLemmas.{are_enrolled}
-use Rattle.office_store.proofs.CommandLemmas.{refuses, rests, runs, stays_undone}
+use Rattle.office_store.proofs.CommandLemmas.{refuses, rests, runs, runs_undone, stays_undone}
 use Rattle.office_store.proofs.LoadLemmas.{as_many, load_denied, load_moves, load_remembers, same_pairs}
 use Rattle.office_store.proofs.TogetherLemmas.{loaded_together}
 use Rattle.office_store.proofs.LeavingLemmas.{survives_more, is_failed, survives_by, survives_same}
@@ -149,6 +149,13 @@ returns-in-Err-clause-leaves g c = record {
 }
 
 -- the transaction failed
+pub returns-in_err-put-clause-runs : goal.returns-in_err-put-clause-runs
+returns-in_err-put-clause-runs g c =
+    runs_undone g.S.Store (loaded c.args.text.now) c.args.self.now c.look.new.self
+    c.self.inside.conn c.put.new.conn c.self.view_is c.in_ok-look.ensures.unchanged
+    c.in_ok-look.ensures.all_committed c.put.ensures.clean c.in_err-put.ensures.undone
+    c.from_residual-in_err-put.result c.from_residual-in_err-put.ensures.1
+
 pub returns-in_err-put-clause-stays : goal.returns-in_err-put-clause-stays
 returns-in_err-put-clause-stays g c =
     stays_undone g.S.Store c.args.self.now c.look.new.self c.self.inside.conn c.put.new.conn

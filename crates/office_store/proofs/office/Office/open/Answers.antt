@@ -16,7 +16,7 @@ returns-then-is_bare-clause-found g c = if_ok c.create.result _ _ _
 -- the office from before is still there
 pub returns-else-is_bare-clause-found : goal.returns-else-is_bare-clause-found
 returns-else-is_bare-clause-found g c = if_ok c.adopt.result _ _ _
-    (λ office adopted _ clean there is stays. (adopted clean).stands there
+    (λ office adopted _ clean there is stays. (adopted clean).represents there
     (holds _ there (fails _ _ c.is_bare.ensures.1 c.if-is_bare.false) is))
     c.adopt.ensures.adopted c.adopt.ensures.adopted
 

@@ -29,7 +29,7 @@ returns-clause-rows g c clean office now =
     let read = subst (λ e. IsPermutation (filter (λ (r : OwnerRow). r.exam == e) kept.held.owner)
     c.in_ok-rows.rows.items) c.get.ensures
     (c.in_ok-rows.ensures.rows clean kept.held kept.tables) in
-    owner_read kept.held office c.args.exam c.in_ok-rows.rows.items kept.stands read
+    owner_read kept.held office c.args.exam c.in_ok-rows.rows.items kept.represents read
 
 pub returns-in_err-rows-clause-survives : goal.returns-in_err-rows-clause-survives
 returns-in_err-rows-clause-survives g c =

@@ -26,7 +26,7 @@ returns-clause-rows g c clean office here =
     (c.is_autocommit-at_rest.ensures.settled
     (c.is_autocommit-at_rest.ensures.value ∙ ap not c.self.invariant.0))
     c.in_ok-rows.ensures.open c.in_ok-rows.ensures.same clean office here in
-    part_shares_read kept.held office c.in_ok-rows.rows.items kept.stands kept.sound
+    part_shares_read kept.held office c.in_ok-rows.rows.items kept.represents kept.sound
     (c.in_ok-rows.ensures.rows clean kept.held kept.tables)
 
 pub returns-in_err-rows-clause-survives : goal.returns-in_err-rows-clause-survives

@@ -2,20 +2,22 @@ use Rattle.std.proofs.Common.{Ok, None}
 use Rattle.sqlite.specs.Held.{state}
 use Rattle.office_store.specs.Publications.{shares_in}
 use Rattle.office_store.specs.Running.{Represents}
-use Rattle.office_store.proofs.CommandLemmas.{stays_by, tells}
+use Rattle.office_store.proofs.CommandLemmas.{stays_by, returns_value}
 use Rattle.office_store.proofs.PublishedReadLemmas.{adds_up_in, none_shared, shares_returned}
 use Rattle.office_store.proofs.office.Office.shares.Goals as goal
 
 pub returns-in_default-clause-reads : goal.returns-in_default-clause-reads
 returns-in_default-clause-reads g c =
-    tells g.S.Store c.args.self.now c.share_rows.new.self c.self.inside.conn c.self.inside.memory
+    returns_value g.S.Store c.args.self.now c.share_rows.new.self c.self.inside.conn
+    c.self.inside.memory
     c.self.view_is c.self.invariant.1 c.in_ok-found.ensures.all_committed
     c.in_ok-found.ensures.unchanged
     shares_in (Ok None) (λ k o kept is. none_shared o _ c.in_default.is is.session)
 
 pub returns-clause-reads : goal.returns-clause-reads
 returns-clause-reads g c =
-    tells g.S.Store c.args.self.now c.share_rows.new.self c.self.inside.conn c.self.inside.memory
+    returns_value g.S.Store c.args.self.now c.share_rows.new.self c.self.inside.conn
+    c.self.inside.memory
     c.self.view_is c.self.invariant.1 c.in_ok-found.ensures.all_committed
     c.in_ok-found.ensures.unchanged
     shares_in c.shared_of.result
