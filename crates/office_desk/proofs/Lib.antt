@@ -1,2 +1,2 @@
-pub mod TellingLemmas
+pub mod AnswerLemmas
 pub mod RunLemmas

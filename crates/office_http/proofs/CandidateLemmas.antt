@@ -49,8 +49,8 @@ trace_by s (Some command) old new reply (answer, step, is) = elim step [
 ]
 
 -- whatever state the office goes to
-pub tells : (old new : OfficeState) (request : PlainRequest) (reply : PlainReply)
+pub replies_view : (old new : OfficeState) (request : PlainRequest) (reply : PlainReply)
     → Replies old request reply new → RepliesCandidateView old request reply
-tells old new request reply h = λ s is.
+replies_view old new request reply h = λ s is.
     trace_by s (own_command (verb_of request.method) request.target) old new reply
     (subst (λ said. RepliesTo said old reply new) (own_reading s request is) h)

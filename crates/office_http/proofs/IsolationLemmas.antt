@@ -34,7 +34,7 @@ use Rattle.office_http.specs.Isolation.{AreAvailable, GetSameBytes, GetBytesByVi
 use Rattle.office_http.specs.Transcripts.{Entry, ServesByView, RepliesOwnView, exchange_in, entry, transcript}
 use Rattle.office_http.specs.Replying.{Answered, Replies, RepliesTo, view_or_denial}
 use Rattle.office_http.specs.Serving.{LeadsOffice}
-use Rattle.office_http.proofs.CandidateLemmas.{own_reading, said_by, tells}
+use Rattle.office_http.proofs.CandidateLemmas.{own_reading, said_by, replies_view}
 use Rattle.office_http.proofs.ServingLemmas.{serves_leads}
 
 -- ---- one message
@@ -73,8 +73,8 @@ pub same_bytes : (s : ℕ) (one other next last : OfficeState) (request : PlainR
 same_bytes s one other next last request reply answer same is h k =
     both_by (reply_from_view s request (view_of s other)) request request reply answer refl
     (subst (λ view. (reply ≡ reply_from_view s request view) ⊎ (reply ≡ unavailable)) same
-    (tells one next request reply h s is))
-    (tells other last request answer k s is)
+    (replies_view one next request reply h s is))
+    (replies_view other last request answer k s is)
 
 quiet_said : (s : ℕ) (said : Result PlainCallerCommand Refusal) (old new : OfficeState)
     (reply : PlainReply)
@@ -135,7 +135,7 @@ each_by_view (fails fault form ∷ items) old new output (rest, is, trace) =
     each_by_view items old new rest trace
 each_by_view (asks request ∷ items) old new output (mid, reply, rest, step, is, trace) =
     All-cons RepliesOwnView (entry old request reply mid step) (transcript items mid rest new trace)
-    (tells old mid request reply step) (each_by_view items mid new rest trace)
+    (replies_view old mid request reply step) (each_by_view items mid new rest trace)
 
 pub quiet_end : (s : ℕ) (items : List Item) (old new : OfficeState) (output : List ℕ)
     (trace : AnswersItems Replies items old output new)
@@ -262,7 +262,7 @@ written s (asks request ∷ items) old new output (mid, reply, rest, step, is, t
     let later = transcript items mid rest new trace in
     let here : reply ≡ reply_from_view s request (view_of s old) =
     not_unavailable reply (reply_from_view s request (view_of s old))
-    (tells old mid request reply step s own_items.0)
+    (replies_view old mid request reply step s own_items.0)
     (All-head (λ e. e.reply ≢ unavailable) first later fine) in
     let there : rest ≡ output_from_view s (view_of s old) items =
     written s items mid new rest trace own_items.1

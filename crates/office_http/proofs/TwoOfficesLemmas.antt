@@ -41,7 +41,7 @@ after old new request reply h =
 pub text : (office : OfficeState) (request : PlainRequest) (reply : PlainReply)
     → RepliesCandidateView office request reply → IsAvailable reply
     → RepliesText office request reply
-text office request reply tells available = λ s is. elim (tells s is) [
+text office request reply by_view available = λ s is. elim (by_view s is) [
   | inl said ↦ said
   | inr other ↦ absurd (is_other reply available other)
 ]

@@ -11,7 +11,7 @@ use Rattle.sqlite.specs.Store.{Ghosts}
 use Rattle.office_connections.specs.Clients.{ServesClients, ServesWhileOpen}
 use Rattle.office_connections.specs.Lines.{IsPortOf, PrintsFaults, listening_line}
 use Rattle.office_connections.specs.declared.accepting.Service.{Service}
-use Rattle.office_connections.proofs.ClientLemmas.{clients_follow, served_open, tells_faults}
+use Rattle.office_connections.proofs.ClientLemmas.{clients_follow, served_open, prints_faults}
 use Rattle.office_connections.proofs.ClientLemmas.{visits_keep}
 use Rattle.office_http.specs.Clients.{ServesAllByView}
 use Rattle.office_http.specs.Replying.{Answered, IsDone}
@@ -155,7 +155,7 @@ module _ {S : Type 0} (store : Ghosts S) where
         status = status;
         port = (port, is, line);
         err_line = λ err_line. subst (λ n. PrintsFaults n errors_old errors_new) x.all.0
-            (tells_faults AreTheirs (OfficeServes store) x.service old new errors_old errors_new
+            (prints_faults AreTheirs (OfficeServes store) x.service old new errors_old errors_new
             x.serves (x.all.1 err_line));
       }
 

@@ -24,7 +24,7 @@ pub record Exports (office : OfficeState) (after : State) (old new : Option (Lis
   pub text : List ℕ
   pub published : published_solution office ≡ Some text
   pub printed : Appends old new text
-  pub stands : Represents after office
+  pub represents : Represents after office
 
 -- a statement failed, nothing is published, memory ran out, or the writer failed during the write
 abbrev pub RefusesExport : OfficeState → ExportFault → Type 0

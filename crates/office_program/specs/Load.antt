@@ -24,7 +24,7 @@ pub record IsLoaded (text : List ℕ) (office : OfficeState) (after : State) (co
     : Type 0 where
   pub next : OfficeState
   pub gives : loaded text office ≡ Ok (counts, next)
-  pub stands : Represents after next
+  pub represents : Represents after next
 
 -- the text is loaded into the office, and the line with its counts is printed
 pub record Loads (text : List ℕ) (office : OfficeState) (after : State)

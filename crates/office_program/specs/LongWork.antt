@@ -1,7 +1,7 @@
 -- The lines that are printed before work that takes long, and about a new or an old file.
 use Rattle.std.specs.Prelude.{ℕ, ◌++◌, List, codes}
-use Rattle.office_program.specs.declared.telling.LongWork.{LongWork}
-use Rattle.office_program.specs.declared.telling.LongWork.TheVariants as work
+use Rattle.office_program.specs.declared.notices.LongWork.{LongWork}
+use Rattle.office_program.specs.declared.notices.LongWork.TheVariants as work
 
 -- the line of the work that begins, without its end
 abbrev pub work_line : LongWork → List ℕ

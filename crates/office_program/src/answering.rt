@@ -6,7 +6,7 @@ ghost use Rattle.office_http.specs.Replying.{IsDone};
 ghost use Rattle.office_program.specs.Serve.{IsStoreShut};
 ghost use Rattle.office_store.specs.Running.{StateUnchanged};
 
-use crate::telling::{LongWork, announce};
+use crate::notices::{LongWork, announce};
 use office_connections::MayShut;
 use office_http::{Alter, Desk, Routes, reply};
 use office_messages::{Machine, Reply, Request, Status};

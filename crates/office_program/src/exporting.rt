@@ -14,7 +14,7 @@ ghost use Rattle.office_program.specs.TaskFaults.{IsOfExport};
 
 use crate::ending::Ending;
 use crate::faults::{ProgramFault, fault_of_export, fault_of_open};
-use crate::telling::{LongWork, announce, announce_upgrade};
+use crate::notices::{LongWork, announce, announce_upgrade};
 use office_files::{FaultKind, write_solution};
 use office_http::{Alter, Connection, Office, StoreFault};
 use sqlite::{Error, ErrorCode};

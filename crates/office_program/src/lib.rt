@@ -14,9 +14,9 @@ mod faults;
 mod helps;
 mod judging;
 mod loading;
+mod notices;
 mod program;
 mod serving;
-mod telling;
 mod words;
 
 pub use ending::Ending;

@@ -14,7 +14,7 @@ ghost use Rattle.office_program.specs.TaskFaults.{IsOfServe};
 use crate::answering::ServingDesk;
 use crate::ending::Ending;
 use crate::faults::{ProgramFault, fault_of_open, fault_of_run};
-use crate::telling::{LongWork, announce, announce_new, announce_upgrade};
+use crate::notices::{LongWork, announce, announce_new, announce_upgrade};
 use crate::words::Terms;
 use office_connections::{Plan, Timed, listen, serve_run};
 use office_http::{Alter, Connection, Desk, Office, Routes};

@@ -80,9 +80,9 @@ pub(crate) fn place(period: u32, room: u32) -> Place {
 pub(crate) fn small(
     alloc: Global,
     more: &[PeriodRule],
-    alone: &[RoomRule],
+    exclusive: &[RoomRule],
 ) -> Result<(Instance, Enrolments), Fail> {
-    let instance = small_on(alloc, FRIDAY, WEIGHTS, more, alone)?;
+    let instance = small_on(alloc, FRIDAY, WEIGHTS, more, exclusive)?;
     Ok((instance, enrolled(alloc, &PAIRS)?))
 }
 
@@ -99,7 +99,7 @@ pub(crate) fn small_on(
     third: Date,
     weights: Weights,
     more: &[PeriodRule],
-    alone: &[RoomRule],
+    exclusive: &[RoomRule],
 ) -> Result<Instance, Fail> {
     let exams = [
         Exam { minutes: 120 },
@@ -117,7 +117,7 @@ pub(crate) fn small_on(
     let mut rules = Vec::new(alloc);
     rules.push(PeriodRule::After(ExamNo::new(1), ExamNo::new(0)))?;
     rules.extend_from_slice(more)?;
-    let instance = Instance::new(alloc, &exams, &periods, &rooms, &rules, alone, weights)?;
+    let instance = Instance::new(alloc, &exams, &periods, &rooms, &rules, exclusive, weights)?;
     Ok(instance)
 }
 

@@ -71,10 +71,10 @@ fn judged_and_taken(
     periods: Vec<Period>,
     rooms: Vec<Room>,
     rules: Vec<PeriodRule>,
-    alone: Vec<RoomRule>,
+    exclusive: Vec<RoomRule>,
 ) -> Result<[Instance; 2], ModelFault> {
-    let judged = Instance::new(alloc, &exams, &periods, &rooms, &rules, &alone, WEIGHTS)?;
-    let taken = Instance::of(exams, periods, rooms, rules, alone, WEIGHTS);
+    let judged = Instance::new(alloc, &exams, &periods, &rooms, &rules, &exclusive, WEIGHTS)?;
+    let taken = Instance::of(exams, periods, rooms, rules, exclusive, WEIGHTS);
     Ok([judged, taken])
 }
 
@@ -82,7 +82,7 @@ fn gives_its_parts<R: Abort>(
     rt: &R,
     instance: &Instance,
     rules: &[PeriodRule],
-    alone: &[RoomRule],
+    exclusive: &[RoomRule],
 ) -> Result<(), Fail> {
     if instance.exams() != 3 || instance.periods() != 3 || instance.rooms() != 2 {
         return Err("three exams, three periods and two rooms")?;
@@ -96,7 +96,7 @@ fn gives_its_parts<R: Abort>(
     );
     assert_same(rt, instance.room(RoomNo::new(1)), ROOMS[1], "room");
     assert_same(rt, instance.period_rules(), rules, "rules");
-    assert_same(rt, instance.room_rules(), alone, "alone");
+    assert_same(rt, instance.room_rules(), exclusive, "room rules");
     assert_same(rt, instance.weights(), WEIGHTS, "weights");
     Ok(())
 }
@@ -118,17 +118,17 @@ fn numbers_its_places<R: Abort>(rt: &R, instance: &Instance) -> Result<(), Fail>
 fn an_instance_gives_its_parts(rt: HostRuntime) -> Result<(), Fail> {
     let alloc = rt.alloc();
     let rules = [PeriodRule::After(ExamNo::new(2), ExamNo::new(0))];
-    let alone = [RoomRule(ExamNo::new(1))];
+    let exclusive = [RoomRule(ExamNo::new(1))];
     let both = judged_and_taken(
         alloc,
         Vec::from_slice(alloc, &EXAMS)?,
         Vec::from_slice(alloc, &periods())?,
         Vec::from_slice(alloc, &ROOMS)?,
         Vec::from_slice(alloc, &rules)?,
-        Vec::from_slice(alloc, &alone)?,
+        Vec::from_slice(alloc, &exclusive)?,
     )?;
     for instance in &both {
-        gives_its_parts(&rt, instance, &rules, &alone)?;
+        gives_its_parts(&rt, instance, &rules, &exclusive)?;
         numbers_its_places(&rt, instance)?;
     }
     Ok(())

@@ -35,7 +35,7 @@ fn rows_go_by_exam_and_then_by_student(rt: HostRuntime) -> Result<(), Fail> {
 }
 
 #[test]
-fn students_in_order_stand_once(rt: HostRuntime) -> Result<(), Fail> {
+fn students_in_order_appear_once(rt: HostRuntime) -> Result<(), Fail> {
     let (one, two, three) = (student(1)?, student(2)?, student(3)?);
     let numbers = Vec::from_slice(rt.alloc(), &[three, one, three, two, one])?;
     let found = in_order(numbers);

@@ -4,13 +4,13 @@ ghost use Rattle.office_tables.specs.ShareStudent.{AreStudentAmounts};
 
 use crate::given::assert_same;
 use office_tables::{
-    Alteration, Both, DeleteDraft, DeleteMeta, DeleteOwner, DeletePartShares, DeletePlacements,
+    Alteration, Both, DeleteDraft, DeleteMeta, DeleteOwner, DeletePartShares, DeletePlacement,
     DeleteSlot, DeleteSlots, DeleteStudentSeats, DeleteStudentShare, DraftRow, Each, EnrolRow,
     InsertDraft, InsertEnrol, InsertEnrols, InsertMeta, InsertOwner, InsertPartShare,
     InsertPlacement, InsertPlacements, InsertSeat, InsertSeats, InsertSlot, InsertSlots,
     InsertStudentShare, OwnerRow, PartShareRow, PlacedRow, SeatRow, SlotRow, StudentShareRow,
     adopt_tables, create_tables, enrols_of, find_enrols_of, is_bare, look, owners_of, part_shares,
-    placements, placements_of, seats, seats_of, student_shares, student_shares_of, transact,
+    placements_of, seats_of, student_shares, student_shares_of, transact,
 };
 use sqlite::{Connection, Error, MemStore, Transaction};
 use std::alloc::Global;
@@ -135,19 +135,21 @@ fn rows_come_back_in_order(rt: HostRuntime) -> Result<(), Fail> {
     assert_same(&rt, found.meta.published, true, "published");
     let instance = found.meta.instance.as_slice();
     assert_same(&rt, instance, b"[Exams:3]".as_slice(), "instance");
-    let counts = [found.enrols.len(), found.placements.len()];
-    assert_same(&rt, counts, [3, 3], "counts");
+    assert_same(&rt, found.enrols.len(), 3, "enrolments");
     let owners = owners_of(alloc, &mut conn, 0)?;
     assert_same(&rt, owners.as_slice(), [OWNER].as_slice(), "owners");
     assert_same(&rt, found.drafts.as_slice(), [DRAFT].as_slice(), "drafts");
     let wanted = [slot(1, 0, 0, 0), slot(1, 2, 3, 1), slot(2, 0, 1, 1)];
     assert_same(&rt, found.slots.as_slice(), wanted.as_slice(), "slots");
-    let places = placements(alloc, &mut conn)?;
     let wanted = [place(0, 0, 0), place(1, 1, 1), place(2, 2, 0)];
-    assert_same(&rt, places.as_slice(), wanted.as_slice(), "places");
-    let all = seats(alloc, &mut conn)?;
-    let wanted = [seated(1, 0, 1), seated(2, 0, 2), seated(2, 2, 1)];
-    assert_same(&rt, all.as_slice(), wanted.as_slice(), "seats");
+    assert_same(
+        &rt,
+        found.placements.as_slice(),
+        wanted.as_slice(),
+        "places",
+    );
+    let wanted = [seated(2, 0, 2), seated(2, 2, 1), seated(1, 0, 1)];
+    assert_same(&rt, found.seats.as_slice(), wanted.as_slice(), "seats");
     let students = student_shares(alloc, &mut conn)?;
     let wanted = [cost(1, 0), cost(2, 7)];
     assert_same(&rt, students.as_slice(), wanted.as_slice(), "students");
@@ -210,7 +212,7 @@ fn many_rows_go_in(rt: HostRuntime) -> Result<(), Fail> {
         found.enrols.len(),
         found.slots.len(),
         found.placements.len(),
-        seats(alloc, &mut conn)?.len(),
+        found.seats.len(),
     ];
     assert_same(&rt, counts, [36, 20, 20, 20], "counts");
     let enrolled = enrols_of(alloc, &mut conn, 9)?;
@@ -243,7 +245,8 @@ fn a_student_has_rows(rt: HostRuntime) -> Result<(), Fail> {
     Ok(())
 }
 
-// Deletes the owner, the draft, all slots but one, and the publication except for student 1.
+// Deletes the owner, the draft, all slots but one, a placement, the seats and share of student 2,
+// and all shares of exams, periods and rooms.
 fn delete_most(conn: &mut Connection<MemStore>) -> Result<(), Fail> {
     if !conn.is_autocommit() {
         return Err("a transaction is open")?;
@@ -260,7 +263,7 @@ fn delete_most(conn: &mut Connection<MemStore>) -> Result<(), Fail> {
         second: drafts,
     };
     let seats = Both {
-        first: DeletePlacements,
+        first: DeletePlacement { exam: 0 },
         second: DeleteStudentSeats { student: 2 },
     };
     let shares = Both {
@@ -288,14 +291,20 @@ fn rows_go(rt: HostRuntime) -> Result<(), Fail> {
     let left = [
         owners_of(alloc, &mut conn, 0)?.len(),
         found.drafts.len(),
-        placements(alloc, &mut conn)?.len(),
         part_shares(alloc, &mut conn)?.len(),
     ];
-    assert_same(&rt, left, [0; 4], "rows");
+    assert_same(&rt, left, [0; 3], "rows");
     let slots = found.slots.as_slice();
     assert_same(&rt, slots, [slot(1, 0, 0, 0)].as_slice(), "slots");
-    let all = seats(alloc, &mut conn)?;
-    assert_same(&rt, all.as_slice(), [seated(1, 0, 1)].as_slice(), "seats");
+    let places = [place(1, 1, 1), place(2, 2, 0)];
+    assert_same(
+        &rt,
+        found.placements.as_slice(),
+        places.as_slice(),
+        "places",
+    );
+    let seats = found.seats.as_slice();
+    assert_same(&rt, seats, [seated(1, 0, 1)].as_slice(), "seats");
     let students = student_shares(alloc, &mut conn)?;
     assert_same(
         &rt,

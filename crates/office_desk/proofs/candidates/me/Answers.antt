@@ -3,7 +3,7 @@ use Rattle.sqlite.specs.Held.{state}
 use Rattle.office_model.specs.Answers.{my_exams}
 use Rattle.office_model.specs.Candidates.{whole}
 use Rattle.office_store.specs.Running.{Represents}
-use Rattle.office_desk.proofs.TellingLemmas.{view_answered}
+use Rattle.office_desk.proofs.AnswerLemmas.{view_answered}
 use Rattle.office_desk.proofs.candidates.me.Goals as goal
 
 pub returns-clause-performs : goal.returns-clause-performs

@@ -2,7 +2,7 @@ use Rattle.std.proofs.Common.{ap, sym}
 use Rattle.sqlite.specs.Held.{state}
 use Rattle.office_model.specs.Candidates.{exam_answer}
 use Rattle.office_store.specs.Running.{Represents}
-use Rattle.office_desk.proofs.TellingLemmas.{exam_answered}
+use Rattle.office_desk.proofs.AnswerLemmas.{exam_answered}
 use Rattle.office_desk.proofs.candidates.my_exam.Goals as goal
 
 pub returns-in-Some-clause-performs : goal.returns-in-Some-clause-performs

@@ -1,7 +1,7 @@
 use Rattle.std.proofs.Common.{refl}
 use Rattle.sqlite.specs.Held.{state}
 use Rattle.office_store.specs.Running.{Represents}
-use Rattle.office_desk.proofs.TellingLemmas.{penalty_answered}
+use Rattle.office_desk.proofs.AnswerLemmas.{penalty_answered}
 use Rattle.office_desk.proofs.candidates.my_penalty.Goals as goal
 
 pub returns-clause-performs : goal.returns-clause-performs

@@ -2,7 +2,7 @@ use Rattle.sqlite.specs.Held.{state}
 use Rattle.office_model.specs.Answers.{now_dropped}
 use Rattle.office_model.specs.DraftCommands.{draft_dropped}
 use Rattle.office_store.specs.Running.{Represents}
-use Rattle.office_desk.proofs.TellingLemmas.{err_answered, fault_refused, fault_answered}
+use Rattle.office_desk.proofs.AnswerLemmas.{err_answered, fault_refused, fault_answered}
 use Rattle.office_desk.proofs.changing.drop_draft.Goals as goal
 
 pub returns-in_err-drop_draft-clause-performs : goal.returns-in_err-drop_draft-clause-performs

@@ -2,7 +2,7 @@ use Rattle.sqlite.specs.Held.{state}
 use Rattle.office_model.specs.Answers.{now_edited}
 use Rattle.office_model.specs.DraftCommands.{draft_edited}
 use Rattle.office_store.specs.Running.{Represents}
-use Rattle.office_desk.proofs.TellingLemmas.{err_answered, fault_refused, fault_answered}
+use Rattle.office_desk.proofs.AnswerLemmas.{err_answered, fault_refused, fault_answered}
 use Rattle.office_desk.proofs.changing.edit.Goals as goal
 
 pub returns-in_err-penalty-clause-edits : goal.returns-in_err-penalty-clause-edits

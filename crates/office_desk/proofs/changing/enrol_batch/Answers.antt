@@ -2,7 +2,7 @@ use Rattle.sqlite.specs.Held.{state}
 use Rattle.office_model.specs.Answers.{now_enrolled}
 use Rattle.office_model.specs.Batches.{batch_enrolled}
 use Rattle.office_store.specs.Running.{Represents}
-use Rattle.office_desk.proofs.TellingLemmas.{body_refused, err_answered, fault_refused, fault_answered}
+use Rattle.office_desk.proofs.AnswerLemmas.{body_refused, err_answered, fault_refused, fault_answered}
 use Rattle.std.proofs.Common.{◌≡◌, Err, inl, rules, subst, sym}
 use Rattle.office_desk.specs.Answers.{IsRefusal}
 use Rattle.office_desk.specs.Performing.{answer_of}

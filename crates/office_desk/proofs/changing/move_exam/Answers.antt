@@ -1,7 +1,7 @@
 use Rattle.std.proofs.Common.{◌≡◌, Err, inl, rules, subst, sym}
 use Rattle.office_desk.specs.Answers.{IsRefusal}
 use Rattle.office_desk.specs.Performing.{answer_of}
-use Rattle.office_desk.proofs.TellingLemmas.{body_refused}
+use Rattle.office_desk.proofs.AnswerLemmas.{body_refused}
 use Rattle.office_desk.proofs.changing.move_exam.Goals as goal
 
 pub returns-clause-performs : goal.returns-clause-performs

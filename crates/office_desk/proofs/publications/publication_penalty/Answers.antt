@@ -2,7 +2,7 @@ use Rattle.std.proofs.Common.{◌∙◌, ap, inl, subst}
 use Rattle.office_reports.specs.Reports.{penalty_text}
 use Rattle.office_model.specs.Step.{publication_in, published_penalty}
 use Rattle.office_store.specs.Publications.{AddUpIn}
-use Rattle.office_desk.proofs.TellingLemmas.{text_answered}
+use Rattle.office_desk.proofs.AnswerLemmas.{text_answered}
 use Rattle.office_desk.proofs.publications.publication_penalty.Goals as goal
 
 pub returns-clause-performs : goal.returns-clause-performs

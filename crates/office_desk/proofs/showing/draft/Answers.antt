@@ -4,7 +4,7 @@ use Rattle.exam_score.specs.Penalty.{total_of}
 use Rattle.office_model.specs.Answers.{shown_draft}
 use Rattle.office_model.specs.DraftCommands.{draft_shown}
 use Rattle.office_store.specs.Running.{Represents}
-use Rattle.office_desk.proofs.TellingLemmas.{ok_answered}
+use Rattle.office_desk.proofs.AnswerLemmas.{ok_answered}
 use Rattle.office_desk.proofs.showing.draft.Goals as goal
 
 pub returns-clause-performs : goal.returns-clause-performs

@@ -3,7 +3,7 @@ use Rattle.sqlite.specs.Held.{state}
 use Rattle.office_reports.specs.Reports.{penalty_text}
 use Rattle.office_model.specs.Answers.{text}
 use Rattle.office_store.specs.Running.{Represents}
-use Rattle.office_desk.proofs.TellingLemmas.{priced_answered}
+use Rattle.office_desk.proofs.AnswerLemmas.{priced_answered}
 use Rattle.office_desk.proofs.showing.penalty.Goals as goal
 
 pub returns-clause-performs : goal.returns-clause-performs

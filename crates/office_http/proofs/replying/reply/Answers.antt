@@ -5,7 +5,7 @@ use Rattle.office_requests.specs.Requests.{reading}
 use Rattle.office_requests.specs.Answering.{ReturnsCallerCommand}
 use Rattle.office_http.specs.Replying.{RepliesTo}
 use Rattle.office_http.proofs.AnswerLemmas.{refused}
-use Rattle.office_http.proofs.CandidateLemmas.{tells}
+use Rattle.office_http.proofs.CandidateLemmas.{replies_view}
 use Rattle.office_http.proofs.DoneLemmas.{not_unread}
 use Rattle.office_http.proofs.replying.reply.Goals as goal
 
@@ -33,7 +33,7 @@ returns-in-Err-clause-view g c = λ clean office now.
     let request = c.args.request.now in
     let said = reading request.method.now request.target.now (option_copied request.caller)
     request.body.now in
-    tells office office (plain_request request) (plain_reply c.reply.result)
+    replies_view office office (plain_request request) (plain_reply c.reply.result)
     (subst (λ (r : PlainReply). RepliesTo said office r office) (sym c.reply.ensures)
     (refused said c.in-Err.refusal office
     (subst (λ r. ReturnsCallerCommand said r) c.in-Err.is c.read_request.ensures.command)))
@@ -42,7 +42,7 @@ pub returns-in-Ok-clause-view : goal.returns-in-Ok-clause-view
 returns-in-Ok-clause-view g c = λ clean office now.
     let step = c.command_reply.ensures.step clean office now in
     let request = c.args.request.now in
-    tells office step.0 (plain_request request) (plain_reply c.command_reply.result)
+    replies_view office step.0 (plain_request request) (plain_reply c.command_reply.result)
     (subst (λ asked. RepliesTo asked office (plain_reply c.command_reply.result) step.0)
     (sym (subst (λ r. ReturnsCallerCommand (reading request.method.now request.target.now
     (option_copied request.caller) request.body.now) r) c.in-Ok.is c.read_request.ensures.command))

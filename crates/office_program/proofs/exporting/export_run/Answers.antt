@@ -22,7 +22,7 @@ returns-in-Ok-export_from-clause-done g c = λ clean there holds.
     subst (λ held. Exports there (state g.S.Store held)
     (g.W.Write.contents c.args.writer.now) (g.W.Write.contents c.export_from.new.writer))
     (sym c.release.ensures)
-    (c.in-Ok-export_from.ensures.done now there (λ opened. found.stands there holds))
+    (c.in-Ok-export_from.ensures.done now there (λ opened. found.represents there holds))
 
 -- the office that was found refuses
 pub returns-in-Err-export_from-clause-refused : goal.returns-in-Err-export_from-clause-refused
@@ -30,7 +30,7 @@ returns-in-Err-export_from-clause-refused g c = λ clean there holds.
     let now = subst (λ held. HasCleanDisk (state g.S.Store held))
     c.release-in-Err-export_from.ensures clean in
     let found = c.in-Ok.ensures.adopted (c.export_from.ensures.clean now) in
-    c.in-Err-export_from.ensures.refused now there (λ opened. found.stands there holds)
+    c.in-Err-export_from.ensures.refused now there (λ opened. found.represents there holds)
 
 -- no office was found, and the tables are unchanged
 pub returns-in-Err-clause-stays : goal.returns-in-Err-clause-stays
@@ -46,5 +46,5 @@ returns-in-Err-export_from-clause-stays g c = λ clean kept there is opened.
     let now = subst (λ held. HasCleanDisk (state g.S.Store held)) released clean in
     let found = c.in-Ok.ensures.adopted (c.export_from.ensures.clean now) in
     let after = subst (λ held. Represents (state g.S.Store held) there) (sym released)
-    (c.export_from.ensures.stays now there (λ opened. found.stands there is)) in
+    (c.export_from.ensures.stays now there (λ opened. found.represents there is)) in
     kept_holds _ there (after opened)

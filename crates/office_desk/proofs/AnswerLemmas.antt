@@ -33,62 +33,64 @@ use Rattle.office_desk.specs.Answers.{IsRefusal, plain_answer}
 use Rattle.office_desk.specs.declared.answer.Answer.{Answer}
 
 -- an `Ok` of a call becomes the command's answer
-pub ok_answered : {A : Type 0} (says : A → PlainAnswer) (old : OfficeState)
+pub ok_answered : {A : Type 0} (to_answer : A → PlainAnswer) (old : OfficeState)
     (gives : CommandResult A)
     (Stays : OfficeState → Type 0) (x : A) (final_answer : PlainAnswer)
-    → CommandOutcome gives old Stays (Ok x) → final_answer ≡ says x
-    → AnswersOutcome (outcome says old gives) old Stays final_answer
-ok_answered says old gives Stays x final_answer does same =
+    → CommandOutcome gives old Stays (Ok x) → final_answer ≡ to_answer x
+    → AnswersOutcome (outcome to_answer old gives) old Stays final_answer
+ok_answered to_answer old gives Stays x final_answer does same =
     let is = does.1 in
     inl (
-      same ∙ sym (ap (λ g. (outcome says old g).1) is),
-      subst (λ g. Stays (outcome says old g).0) (sym is) does.2,
+      same ∙ sym (ap (λ g. (outcome to_answer old g).1) is),
+      subst (λ g. Stays (outcome to_answer old g).0) (sym is) does.2,
     )
 
 -- a refusal of the command becomes its answer
-pub refusal_answered : {A : Type 0} (says : A → PlainAnswer) (old : OfficeState)
+pub refusal_answered : {A : Type 0} (to_answer : A → PlainAnswer) (old : OfficeState)
     (gives : CommandResult A)
     (Stays : OfficeState → Type 0) (f : StoreFault) (final_answer : PlainAnswer)
     → gives ≡ Err f → Stays old → final_answer ≡ refused f
-    → AnswersOutcome (outcome says old gives) old Stays final_answer
-refusal_answered says old gives Stays f final_answer is stays same =
+    → AnswersOutcome (outcome to_answer old gives) old Stays final_answer
+refusal_answered to_answer old gives Stays f final_answer is stays same =
     inl (
-      same ∙ sym (ap (λ g. (outcome says old g).1) is),
-      subst (λ g. Stays (outcome says old g).0) (sym is) stays,
+      same ∙ sym (ap (λ g. (outcome to_answer old g).1) is),
+      subst (λ g. Stays (outcome to_answer old g).0) (sym is) stays,
     )
 
 -- any fault of a call becomes an answer
-pub fault_answered : {A : Type 0} (says : A → PlainAnswer) (old : OfficeState)
+pub fault_answered : {A : Type 0} (to_answer : A → PlainAnswer) (old : OfficeState)
     (gives : CommandResult A)
     (Stays : OfficeState → Type 0) (f : StoreFault) (final_answer : PlainAnswer)
     → CommandOutcome gives old Stays (Err f) → final_answer ≡ refusal f
-    → AnswersOutcome (outcome says old gives) old Stays final_answer
-fault_answered says old gives Stays Store final_answer does same = inr (same, does.1)
-fault_answered says old gives Stays BadSchema final_answer does same = absurd does.0
-fault_answered says old gives Stays f final_answer does same =
-    refusal_answered says old gives Stays f final_answer does.0 does.1 same
+    → AnswersOutcome (outcome to_answer old gives) old Stays final_answer
+fault_answered to_answer old gives Stays Store final_answer does same = inr (same, does.1)
+fault_answered to_answer old gives Stays BadSchema final_answer does same = absurd does.0
+fault_answered to_answer old gives Stays f final_answer does same =
+    refusal_answered to_answer old gives Stays f final_answer does.0 does.1 same
 
 -- if the draft is returned too, the answer with only its penalty is the same
-priced_as_shown : (says : Penalty → PlainAnswer) (d : ℕ) (office : OfficeState)
-    → outcome says office (draft_priced d office)
-    ≡ outcome (λ found. says found.1) office (draft_shown d office)
-priced_as_shown says d office = go (draft_shown d office)
+priced_as_shown : (to_answer : Penalty → PlainAnswer) (d : ℕ) (office : OfficeState)
+    → outcome to_answer office (draft_priced d office)
+    ≡ outcome (λ found. to_answer found.1) office (draft_shown d office)
+priced_as_shown to_answer d office = go (draft_shown d office)
   where
     go : (shown : CommandResult (Placing × Penalty))
-        → outcome says office (shown >>= (λ found. Ok (found.0.1, found.1)))
-        ≡ outcome (λ found. says found.1) office shown
+        → outcome to_answer office (shown >>= (λ found. Ok (found.0.1, found.1)))
+        ≡ outcome (λ found. to_answer found.1) office shown
     go (Ok body_or_answer) = refl
     go (Err fault) = refl
 
-pub priced_answered : (says : Penalty → PlainAnswer) (d : ℕ) (office : OfficeState)
+pub priced_answered : (to_answer : Penalty → PlainAnswer) (d : ℕ) (office : OfficeState)
     (Stays : OfficeState → Type 0) (penalty : Penalty) (final_answer : PlainAnswer)
-    → CommandOutcome (draft_priced d office) office Stays (Ok penalty) → final_answer ≡ says penalty
-    → AnswersOutcome (outcome (λ found. says found.1) office (draft_shown d office)) office Stays
+    → CommandOutcome (draft_priced d office) office Stays (Ok penalty) → final_answer
+    ≡ to_answer penalty
+    → AnswersOutcome (outcome (λ found. to_answer found.1) office
+    (draft_shown d office)) office Stays
     final_answer
-priced_answered says d office Stays penalty final_answer does same =
+priced_answered to_answer d office Stays penalty final_answer does same =
     subst (λ outcome. AnswersOutcome outcome office Stays final_answer)
-    (priced_as_shown says d office)
-    (ok_answered says office (draft_priced d office) Stays penalty final_answer does same)
+    (priced_as_shown to_answer d office)
+    (ok_answered to_answer office (draft_priced d office) Stays penalty final_answer does same)
 
 -- `?` turns a fault into its answer
 pub err_answered : (r : Result Answer Answer) (f : StoreFault)
@@ -132,17 +134,17 @@ body_refused body answer (inr long) = subst IsRefusal (sym long.1) tt
 -- ---- candidates
 
 -- an answer made from the candidate's view is the answer to the candidate
-pub view_answered : (who : Caller) (asked : CandidateQuestion) (says : ShownView → PlainAnswer)
+pub view_answered : (who : Caller) (asked : CandidateQuestion) (to_answer : ShownView → PlainAnswer)
     (old : OfficeState)
     (Stays : OfficeState → Type 0) (view : ShownView) (final_answer : PlainAnswer)
-    → ((s : ℕ) → says (shown_to s (view_of s old))
+    → ((s : ℕ) → to_answer (shown_to s (view_of s old))
     ≡ candidates.candidate_answer s asked (view_of s old))
-    → AnswersView who old Stays (Ok view) → final_answer ≡ says view
+    → AnswersView who old Stays (Ok view) → final_answer ≡ to_answer view
     → AnswersOutcome (candidate_outcome who asked old) old Stays final_answer
-view_answered caller.Office asked says old Stays view final_answer same shows is = absurd shows
-view_answered (Dept d) asked says old Stays view final_answer same shows is = absurd shows
-view_answered (Cand s) asked says old Stays view final_answer same shows is =
-    inl (is ∙ ap says shows.0 ∙ same s, shows.1)
+view_answered caller.Office asked to_answer old Stays view final_answer same shows is = absurd shows
+view_answered (Dept d) asked to_answer old Stays view final_answer same shows is = absurd shows
+view_answered (Cand s) asked to_answer old Stays view final_answer same shows is =
+    inl (is ∙ ap to_answer shows.0 ∙ same s, shows.1)
 
 -- the same for one exam
 pub exam_answered : (who : Caller) (exam : ℕ) (old : OfficeState) (Stays : OfficeState → Type 0)
@@ -169,8 +171,10 @@ penalty_answered (Cand s) old Stays penalty final_answer shows is =
 -- ---- what is published
 
 -- a text of the publication is the answer
-pub text_answered : (says : Session → Publication → List ℕ) (found : Option (Session × Publication))
+pub text_answered : (to_text : Session → Publication → List ℕ)
+    (found : Option (Session × Publication))
     (p : Session × Publication) (final_answer : List ℕ) → found ≡ Some p → final_answer
-    ≡ says p.0 p.1
-    → text final_answer ≡ of_published says found
-text_answered says found p final_answer is same = ap text same ∙ sym (ap (of_published says) is)
+    ≡ to_text p.0 p.1
+    → text final_answer ≡ of_published to_text found
+text_answered to_text found p final_answer is same = ap text same
+    ∙ sym (ap (of_published to_text) is)
