@@ -1,6 +1,7 @@
 -- The cost over conflicts is the cost over pairs of exams.
 use Rattle.std.specs.Prelude.{All}
 use Rattle.std.proofs.Common.{◌≡◌, ℕ, ◌+◌, ◌*◌, ◌<◌, ◌≤◌, List, Option, Some, None, length, take, refl, get_or, sym, ◌∙◌, ap, ap₂, subst, arith, mul-zero}
+use Rattle.std.proofs.Math.Nat.{mul_comm}
 use Rattle.std.proofs.lemmas.List.Sums.{sum_by_more}
 use Rattle.exam_model.specs.Conflicts.{conflicts_of}
 use Rattle.exam_model.specs.Enrolments.{Enrolled, AreEnrolments}
@@ -11,11 +12,11 @@ use Rattle.exam_model.specs.declared.conflicts.Conflict.{Conflict}
 use Rattle.exam_model.proofs.ConflictLemmas.{conflicts_exist, sum_of_conflicts}
 use Rattle.exam_model.proofs.SumLemmas.{sum_by-same, sum_by-zeros}
 use Rattle.exam_model.specs.Instance.{Session, IsInstance}
-use Rattle.exam_score.specs.Cost.{row_cost, day_cost, spread_cost, night_cost}
-use Rattle.exam_score.specs.CostOrder.{spread_cost-small}
+use Rattle.exam_score.specs.Kinds.{TableKind, over_night, cost_in, table_cost, table_amount, by_table, with_night}
 use Rattle.exam_score.specs.PairSums.{ArePairParts}
-use Rattle.exam_score.specs.Penalty.{PersonalPenalty}
-use Rattle.exam_score.proofs.CostLemmas.{row_cost-small, day_cost-small, night_cost-small}
+use Rattle.exam_score.specs.declared.amounts.Amounts.{Amounts}
+use Rattle.exam_score.proofs.CostLemmas.{cost_in-small}
+use Rattle.exam_score.proofs.KindLemmas.{at_table, of_kinds}
 use Rattle.exam_score.specs.ConflictCosts.{AreInTimetable, IsSmallCost, conflict_cost, conflicts_cost}
 use Rattle.exam_score.specs.Regrouping.{pair_part}
 use Rattle.exam_score.proofs.PairsLemmas.{IsPart, of_parts, part_small}
@@ -41,12 +42,23 @@ in_timetable E T long =
 -- ---- one conflict more
 
 pub cost_more : (cost : ℕ → ℕ → ℕ) (T : Placing) (xs : List Conflict) (i : ℕ) (x : Conflict)
-    (total more : ℕ)
+    (total one : ℕ)
     → i < length xs → x ≡ get_or xs i x → total ≡ conflicts_cost cost T (take i xs)
-    → more ≡ conflict_cost cost T x → total + more ≡ conflicts_cost cost T (take (i + 1) xs)
-cost_more cost T xs i x total more lt here was is =
-    ap₂ (λ a b. a + b) was (is ∙ ap (conflict_cost cost T) here)
+    → one ≡ cost_between cost (period_of T x.exam) (period_of T x.other)
+    → total + one * x.students ≡ conflicts_cost cost T (take (i + 1) xs)
+cost_more cost T xs i x total one lt here was is =
+    ap₂ (λ a b. a + b) was
+    (mul_comm one x.students ∙ ap (λ n. x.students * n) is ∙ ap (conflict_cost cost T) here)
     ∙ sym (sum_by_more (conflict_cost cost T) xs i x lt)
+
+-- the costs of its exams' periods
+pub between_at : (I : Session) (T : Placing) (x : Conflict) (costs : Amounts ℕ)
+    → costs ≡ by_table (λ k. cost_between (table_cost I k) (period_of T x.exam)
+    (period_of T x.other)) → (k : TableKind)
+    → table_amount costs k
+    ≡ cost_between (table_cost I k) (period_of T x.exam) (period_of T x.other)
+between_at I T x costs are k = ap (λ a. table_amount a k) are
+    ∙ at_table (λ k. cost_between (table_cost I k) (period_of T x.exam) (period_of T x.other)) k
 
 -- ---- a cost of nothing
 
@@ -77,22 +89,12 @@ is_part cost E T xs n known small listed is =
 
 -- the costs of row, day, spread and night over all conflicts
 pub parts_by_conflicts : (I : Session) (E : Enrolled) (T : Placing) (xs : List Conflict)
-    (sums : PersonalPenalty)
+    (sums : Amounts ℕ) (night : ℕ)
     → IsInstance I → AreEnrolments E → xs ≡ conflicts_of E
-    → sums.row ≡ conflicts_cost (row_cost I.periods I.weights) T xs
-    → sums.day ≡ conflicts_cost (day_cost I.periods I.weights) T xs
-    → sums.spread ≡ conflicts_cost (spread_cost I.periods I.weights) T xs
-    → sums.night ≡ conflicts_cost (night_cost I.periods I.weights) T xs
-    → ArePairParts I E T sums
-parts_by_conflicts I E T xs sums known enrolled listed row_is day_is spread_is night_is =
-    let one : (p q : ℕ) → spread_cost I.periods I.weights p q ≤ 100000 =
-    λ p q. omega (arith, spread_cost-small I.periods I.weights p q) in
-    let row = is_part (row_cost I.periods I.weights) E T xs sums.row enrolled
-    (row_cost-small I known) listed row_is in
-    let day = is_part (day_cost I.periods I.weights) E T xs sums.day enrolled
-    (day_cost-small I known) listed day_is in
-    let spread = is_part (spread_cost I.periods I.weights) E T xs sums.spread enrolled one
-    listed spread_is in
-    let night = is_part (night_cost I.periods I.weights) E T xs sums.night enrolled
-    (night_cost-small I known) listed night_is in
-    of_parts I E T sums row day spread night
+    → ((k : TableKind) → table_amount sums k ≡ conflicts_cost (table_cost I k) T xs)
+    → night ≡ conflicts_cost (cost_in I over_night) T xs
+    → ArePairParts I E T (with_night sums night)
+parts_by_conflicts I E T xs sums night known enrolled listed sums_are night_is =
+    of_parts I E T (with_night sums night)
+    (λ k. is_part (cost_in I k) E T xs _ enrolled (cost_in-small I known k) listed
+    (of_kinds sums night (λ k. conflicts_cost (cost_in I k) T xs) sums_are night_is k))

@@ -8,25 +8,21 @@ use Rattle.exam_model.specs.Instance.{Session, IsInstance}
 use Rattle.exam_model.specs.Limits.{PeriodInLimits}
 use Rattle.exam_model.specs.declared.parts.Period.{Period}
 use Rattle.exam_model.specs.Distances.{gap, next_day, is_same_day}
-use Rattle.exam_score.specs.Cost.{row_cost, day_cost, night_cost}
+use Rattle.exam_score.specs.CostOrder.{spread_cost-small}
+use Rattle.exam_score.specs.Kinds.{in_row, in_day, in_spread, Kind, in_table, over_night, cost_in}
 
 picked : (b : Bool) (w : ℕ) → w ≤ 100000 → (if b then w else 0) ≤ 100000
 picked true w h = h
 picked false w h = omega arith
 
-pub row_cost-small : (I : Session) → IsInstance I → (p q : ℕ)
-    → row_cost I.periods I.weights p q ≤ 100000
-row_cost-small I known p q =
+pub cost_in-small : (I : Session) → IsInstance I → (k : Kind) (p q : ℕ) → cost_in I k p q ≤ 100000
+cost_in-small I known (in_table in_row) p q =
     picked (is_same_day I.periods p q && (gap p q == 1)) I.weights.row known.limits.weights.0
-
-pub day_cost-small : (I : Session) → IsInstance I → (p q : ℕ)
-    → day_cost I.periods I.weights p q ≤ 100000
-day_cost-small I known p q =
+cost_in-small I known (in_table in_day) p q =
     picked (is_same_day I.periods p q && nat_le 2 (gap p q)) I.weights.day known.limits.weights.1
-
-pub night_cost-small : (I : Session) → IsInstance I → (p q : ℕ)
-    → night_cost I.periods I.weights p q ≤ 100000
-night_cost-small I known p q =
+cost_in-small I known (in_table in_spread) p q =
+    omega (arith, spread_cost-small I.periods I.weights p q)
+cost_in-small I known over_night p q =
     picked (next_day I.periods p q && (gap p q == 1)) I.weights.night known.limits.weights.7
 
 min-small : (n : ℕ) → n ≤ 100000 → min n 100000 ≡ n

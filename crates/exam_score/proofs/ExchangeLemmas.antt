@@ -15,14 +15,14 @@ use Rattle.exam_model.specs.Timetable.{Placing, place_of}
 use Rattle.exam_model.proofs.PairLemmas.{are_pairs}
 use Rattle.exam_model.proofs.SumLemmas.{IsChain, sum_by-none, sum_pairs-agree, sum_pairs-IsPermutation, each_weaker, sum_by-add, sum_by-same, sum_below-same, sum_below-within, sum_below-add}
 use Rattle.exam_score.specs.Changes.{DiffersAtMost}
-use Rattle.exam_score.specs.Cost.{row_cost, day_cost, spread_cost, night_cost}
-use Rattle.exam_score.specs.CostOrder.{row_cost-swap, day_cost-swap, spread_cost-swap, night_cost-swap, row_cost-none, day_cost-none, spread_cost-none, night_cost-none}
+use Rattle.exam_score.specs.CostOrder.{kind_cost-swap, kind_cost-none}
 use Rattle.exam_score.specs.Exchanges.{CannotExchange, IsExchanged, IsOfEdit, coming, going, pairs_concerned, sits_among}
 use Rattle.exam_score.specs.Touched.{is_touched, mixed_cost_if, room_mixed_cost_if, sum_over_exams}
 use Rattle.exam_score.specs.Folds.{Folded, RepresentsPairs}
 use Rattle.exam_score.specs.EditedCosts.{edited_cost, personal_sum, students_cost}
+use Rattle.exam_score.specs.Kinds.{Kind, cost_in, amount}
 use Rattle.exam_score.specs.Front.{AreSizes, front_by}
-use Rattle.exam_score.specs.Penalty.{Penalty, PersonalPenalty, plus, total_of}
+use Rattle.exam_score.specs.Penalty.{Penalty, PersonalPenalty, pairs_in, plus, total_of}
 use Rattle.exam_score.specs.Regrouping.{pair_part}
 use Rattle.exam_score.specs.Track.{exam_period, exam_room, track}
 use Rattle.exam_score.specs.FrontLoad.{exam_front, front_part, is_largest, is_late}
@@ -30,6 +30,7 @@ use Rattle.exam_score.specs.MixedDurations.{duration_count, durations, is_at, mi
 use Rattle.exam_score.proofs.EditedLemmas.{between_none, between_swap}
 use Rattle.exam_score.proofs.FoldLemmas.{others_each, sum_apart}
 use Rattle.exam_score.proofs.FrontLemmas.{front_by_sizes}
+use Rattle.exam_score.proofs.KindLemmas.{at_kind, each_kind}
 use Rattle.exam_score.proofs.PairsLemmas.{by_placed, eqb-swap, part_of_rows}
 use Rattle.exam_score.proofs.RegroupingLemmas.{later_cost}
 use Rattle.exam_score.proofs.SmallLemmas.{penalty_small}
@@ -360,38 +361,22 @@ track_exchanged fold E pairs sizes old h is =
     h.parts others in
     let after = sums_of_all I fold.later fold.edited fold.after h.closed fold.current pairs h.after
     h.parts others in
-    let row = part_exchanged (row_cost I.periods I.weights) E fold.earlier fold.later fold.edited
-    pairs (row_cost-swap I.periods I.weights)
-    (row_cost-none I.periods I.weights) is.enrolments is.concerned is.others in
-    let day = part_exchanged (day_cost I.periods I.weights) E fold.earlier fold.later fold.edited
-    pairs (day_cost-swap I.periods I.weights)
-    (day_cost-none I.periods I.weights) is.enrolments is.concerned is.others in
-    let spread =
-    part_exchanged (spread_cost I.periods I.weights) E fold.earlier fold.later fold.edited pairs
-    (spread_cost-swap I.periods I.weights)
-    (spread_cost-none I.periods I.weights) is.enrolments is.concerned is.others in
-    let night = part_exchanged (night_cost I.periods I.weights) E fold.earlier fold.later fold.edited
-    pairs (night_cost-swap I.periods I.weights)
-    (night_cost-none I.periods I.weights) is.enrolments is.concerned is.others in
+    let exchanged : (k : Kind) → amount (pairs_in (track I E fold.later)) k
+    + amount (pairs_in (going fold sizes)) k
+    ≡ amount (pairs_in old) k + amount (pairs_in (coming fold sizes)) k
+    = λ k. (let part = part_exchanged (cost_in I k) E fold.earlier fold.later fold.edited pairs
+    (kind_cost-swap I.periods I.weights k) (kind_cost-none I.periods I.weights k)
+    is.enrolments is.concerned is.others in
+    let was = ap (λ p. amount (pairs_in p) k) is.scored
+    ∙ at_kind (λ k. pair_part (cost_in I k) E (period_of fold.earlier)) k in
+    let now = at_kind (λ k. pair_part (cost_in I k) E (period_of fold.later)) k in
+    let goes = ap (λ p. amount p k) before
+    ∙ at_kind (λ k. students_cost (cost_in I k) fold.earlier fold.edited pairs) k in
+    let comes = ap (λ p. amount p k) after
+    ∙ at_kind (λ k. students_cost (cost_in I k) fold.later fold.edited pairs) k in
+    omega arith) in
     record {
-      row = ap (λ p. pair_part (row_cost I.periods I.weights) E (period_of fold.later) + p.row)
-          before
-          ∙ row
-          ∙ ap₂ (λ a b. a + b) (ap (λ p. p.row) (sym is.scored)) (ap (λ p. p.row) (sym after));
-      day = ap (λ p. pair_part (day_cost I.periods I.weights) E (period_of fold.later) + p.day)
-          before
-          ∙ day
-          ∙ ap₂ (λ a b. a + b) (ap (λ p. p.day) (sym is.scored)) (ap (λ p. p.day) (sym after));
-      spread = ap (λ p. pair_part (spread_cost I.periods I.weights) E
-          (period_of fold.later) + p.spread)
-          before
-          ∙ spread ∙ ap₂ (λ a b. a + b) (ap (λ p. p.spread) (sym is.scored))
-          (ap (λ p. p.spread) (sym after));
-      night = ap (λ p. pair_part (night_cost I.periods I.weights) E
-          (period_of fold.later) + p.night)
-          before
-          ∙ night ∙ ap₂ (λ a b. a + b) (ap (λ p. p.night) (sym is.scored))
-          (ap (λ p. p.night) (sym after));
+      pairs = each_kind exchanged;
       mixed = mixed_exchanged I fold.edited fold.earlier fold.later is.others
           ∙ ap (λ p. p.mixed + (coming fold sizes).mixed) (sym is.scored);
       front = front_exchanged I E fold.earlier fold.later fold.edited sizes is.sized
@@ -411,10 +396,10 @@ track_exchanged fold E pairs sizes old h is =
 pub exchanged_once : (old goes comes new x : Penalty) → IsExchanged old goes comes x
     → IsExchanged old goes comes new → x ≡ new
 exchanged_once old goes comes new x made is =
-    let row : x.row ≡ new.row = omega (arith, made.row, is.row) in
-    let day : x.day ≡ new.day = omega (arith, made.day, is.day) in
-    let spread : x.spread ≡ new.spread = omega (arith, made.spread, is.spread) in
-    let night : x.night ≡ new.night = omega (arith, made.night, is.night) in
+    let row : x.row ≡ new.row = omega (arith, made.pairs.0, is.pairs.0) in
+    let day : x.day ≡ new.day = omega (arith, made.pairs.1, is.pairs.1) in
+    let spread : x.spread ≡ new.spread = omega (arith, made.pairs.2, is.pairs.2) in
+    let night : x.night ≡ new.night = omega (arith, made.pairs.3, is.pairs.3) in
     let mixed : x.mixed ≡ new.mixed = omega (arith, made.mixed, is.mixed) in
     let front : x.front ≡ new.front = omega (arith, made.front, is.front) in
     let period : x.period ≡ new.period = omega (arith, made.period, is.period) in

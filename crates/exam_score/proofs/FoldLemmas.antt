@@ -8,7 +8,7 @@ use Rattle.exam_model.specs.Pairs.{Pair}
 use Rattle.exam_model.specs.Sums.{sum_pairs}
 use Rattle.exam_model.specs.Timetable.{Placing}
 use Rattle.exam_model.proofs.SumLemmas.{IsChain, chain_from_index, sum_by-none, each_weaker}
-use Rattle.exam_score.specs.Cost.{row_cost, day_cost, spread_cost, night_cost}
+use Rattle.exam_score.specs.Kinds.{cost_in, by_kind}
 use Rattle.exam_score.specs.Folds.{Folded, RepresentsPairs, CanFollow, ComesEarlier, pairs_sat}
 use Rattle.exam_score.specs.EditedCosts.{edited_cost, exams_cost, personal_at, personal_sum, students_cost}
 use Rattle.exam_score.specs.Penalty.{PersonalPenalty, plus}
@@ -74,12 +74,7 @@ pub sum_apart : (I : Session) (T : Placing) (edited : List ℕ) (ps qs : List Pa
     → AllByRecursion (λ p. AllByRecursion (λ q. p.student < q.student) qs) ps
     → personal_sum I T edited (ps ++ qs)
     ≡ plus (personal_sum I T edited ps) (personal_sum I T edited qs)
-sum_apart I T edited ps qs h = λ i. record {
-  row = cost_apart (row_cost I.periods I.weights) T edited ps qs h i;
-  day = cost_apart (day_cost I.periods I.weights) T edited ps qs h i;
-  spread = cost_apart (spread_cost I.periods I.weights) T edited ps qs h i;
-  night = cost_apart (night_cost I.periods I.weights) T edited ps qs h i;
-}
+sum_apart I T edited ps qs h = λ i. by_kind (λ k. cost_apart (cost_in I k) T edited ps qs h i)
 
 -- the pairs of one student
 own_beside : (w : ℕ → ℕ → ℕ) (s e : ℕ) (es : List ℕ)
@@ -107,12 +102,8 @@ cost_of_student cost T edited (Some s) es none = sym (own_cost (edited_cost cost
 pub sum_of_student : (I : Session) (T : Placing) (edited : List ℕ) (student : Option ℕ)
     (es : List ℕ) → (student ≡ None → es ≡ [])
     → personal_at I T edited es ≡ personal_sum I T edited (pairs_sat student es)
-sum_of_student I T edited student es none = λ i. record {
-  row = cost_of_student (row_cost I.periods I.weights) T edited student es none i;
-  day = cost_of_student (day_cost I.periods I.weights) T edited student es none i;
-  spread = cost_of_student (spread_cost I.periods I.weights) T edited student es none i;
-  night = cost_of_student (night_cost I.periods I.weights) T edited student es none i;
-}
+sum_of_student I T edited student es none =
+    λ i. by_kind (λ k. cost_of_student (cost_in I k) T edited student es none i)
 
 -- ---- the student of a pair
 

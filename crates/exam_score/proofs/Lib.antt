@@ -1,5 +1,6 @@
 pub mod RegroupingLemmas
 pub mod CostLemmas
+pub mod KindLemmas
 pub mod RowLemmas
 pub mod SittingLemmas
 pub mod TallyLemmas

@@ -1,17 +1,18 @@
 -- The table of costs, line by line, and periods beyond it.
-use Rattle.std.proofs.Common.{◌≡◌, ℕ, zero, suc, ◌<◌, ◌≤◌, List, [], ◌∷◌, ◌++◌, length, Some, refl, sym, ◌∙◌, ap, arith, inl, inr, le-ltb, length-append, subst}
+use Rattle.std.proofs.Common.{◌≡◌, ℕ, zero, suc, ◌<◌, ◌≤◌, List, [], ◌∷◌, ◌++◌, length, Some, refl, sym, ◌∙◌, ap, arith, get_or, inl, inr, le-ltb, length-append, subst}
 use Rattle.std.specs.Prelude.{slice_get, nat_lt, nat_le, ◌&&◌, ◌==◌, if◌then◌else◌}
 use Rattle.std.proofs.lemmas.Bool.{cases_lt}
-use Rattle.std.proofs.lemmas.Option.{slice_get_past, slice_get_within}
+use Rattle.std.proofs.lemmas.Option.{slice_get-get_or, slice_get_past, slice_get_within}
 use Rattle.exam_model.specs.Instance.{Session}
 use Rattle.exam_model.specs.Distances.{gap, share_date}
 use Rattle.exam_model.specs.declared.parts.Period.{Period}
 use Rattle.exam_model.specs.declared.parts.Weights.{Weights}
-use Rattle.exam_score.specs.Cost.{row_cost, day_cost, spread_cost}
-use Rattle.exam_score.specs.CostOrder.{row_cost-swap, day_cost-swap, spread_cost-swap}
+use Rattle.exam_score.specs.CostOrder.{kind_cost-swap}
+use Rattle.exam_score.specs.Kinds.{TableKind, in_row, in_day, in_spread, in_table, kind_cost, table_cost, table_amount, by_table}
 use Rattle.exam_score.specs.Lines.{costs_of}
-use Rattle.exam_score.specs.declared.lines.PairCosts.{PairCosts}
+use Rattle.exam_score.specs.declared.amounts.Amounts.{Amounts}
 use Rattle.exam_score.specs.declared.lines.Line.{Line}
+use Rattle.exam_score.proofs.KindLemmas.{at_table}
 
 -- ---- one more
 
@@ -28,7 +29,7 @@ slice_get-kept [] x q lt = absurd (omega arith)
 slice_get-kept (y ∷ ys) x zero lt = refl
 slice_get-kept (y ∷ ys) x (suc q) lt = slice_get-kept ys x q (omega arith)
 
-pub line_more : (I : Session) (p : ℕ) (line : List PairCosts)
+pub line_more : (I : Session) (p : ℕ) (line : List (Amounts ℕ))
     → ((q : ℕ) → q < length line → slice_get line q ≡ Some (costs_of I p q))
     → (q : ℕ) → q < length (line ++ costs_of I p (length line) ∷ [])
     → slice_get (line ++ costs_of I p (length line) ∷ []) q ≡ Some (costs_of I p q)
@@ -56,37 +57,43 @@ table_more P lines new is each p line found = elim (cases_lt p (length lines)) a
       subst (λ v. P p v) one (subst (λ n. P n new) (sym last) is))
 ]
 
+-- ---- one line
+
+-- the line that was found at an index
+pub line_found : (lines : List Line) (n p : ℕ) (line : Line) → n ≡ p → n < length lines
+    → line ≡ get_or lines n line → slice_get lines p ≡ Some line
+line_found lines n p line same within is =
+    subst (λ m. slice_get lines m ≡ Some line) same
+    (slice_get-get_or lines n line within ∙ ap Some (sym is))
+
+pub cost_at : (I : Session) (p q : ℕ) (a : Amounts ℕ) → a ≡ costs_of I p q → (k : TableKind)
+    → table_amount a k ≡ table_cost I k q p
+cost_at I p q a is k = ap (λ z. table_amount z k) is ∙ at_table (λ k. table_cost I k q p) k
+
+pub free_at : (I : Session) (p q : ℕ) → costs_of I p q ≡ by_table (λ k. 0) → (k : TableKind)
+    → table_cost I k q p ≡ 0
+free_at I p q free in_row = ap (λ a. a.row) free
+free_at I p q free in_day = ap (λ a. a.day) free
+free_at I p q free in_spread = ap (λ a. a.spread) free
+
 -- ---- beyond the periods
 
-no_row : (periods : List Period) (weights : Weights) (p q : ℕ) → length periods ≤ q
-    → row_cost periods weights q p ≡ 0
-no_row periods weights p q h =
+none_beyond : (periods : List Period) (weights : Weights) (k : TableKind) (p q : ℕ)
+    → length periods ≤ q → kind_cost periods weights (in_table k) q p ≡ 0
+none_beyond periods weights in_row p q h =
     ap (λ o. if share_date o (slice_get periods p) && (gap q p == 1) then weights.row else 0)
     (slice_get_past periods q h)
-
-no_day : (periods : List Period) (weights : Weights) (p q : ℕ) → length periods ≤ q
-    → day_cost periods weights q p ≡ 0
-no_day periods weights p q h =
+none_beyond periods weights in_day p q h =
     ap (λ o. if share_date o (slice_get periods p) && nat_le 2 (gap q p) then weights.day else 0)
     (slice_get_past periods q h)
-
-no_spread : (periods : List Period) (weights : Weights) (p q : ℕ) → length periods ≤ q
-    → spread_cost periods weights q p ≡ 0
-no_spread periods weights p q h =
+none_beyond periods weights in_spread p q h =
     ap (λ b. if (b && nat_lt p (length periods))
     && (nat_le 1 (gap q p) && nat_le (gap q p) weights.spread) then 1 else 0)
     (le-ltb q (length periods) h)
 
 -- no period costs anything with one beyond them
-pub row_beyond : (I : Session) (p q : ℕ) → length I.periods ≤ p
-    → row_cost I.periods I.weights q p ≡ 0
-row_beyond I p q past = row_cost-swap I.periods I.weights q p ∙ no_row I.periods I.weights q p past
-
-pub day_beyond : (I : Session) (p q : ℕ) → length I.periods ≤ p
-    → day_cost I.periods I.weights q p ≡ 0
-day_beyond I p q past = day_cost-swap I.periods I.weights q p ∙ no_day I.periods I.weights q p past
-
-pub spread_beyond : (I : Session) (p q : ℕ) → length I.periods ≤ p
-    → spread_cost I.periods I.weights q p ≡ 0
-spread_beyond I p q past =
-    spread_cost-swap I.periods I.weights q p ∙ no_spread I.periods I.weights q p past
+pub table_beyond : (I : Session) (k : TableKind) (p q : ℕ) → length I.periods ≤ p
+    → table_cost I k q p ≡ 0
+table_beyond I k p q past =
+    kind_cost-swap I.periods I.weights (in_table k) q p
+    ∙ none_beyond I.periods I.weights k q p past

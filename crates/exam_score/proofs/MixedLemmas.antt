@@ -216,10 +216,6 @@ back_minutes x y z xy yz zp zr zm =
     let b = yz.minutes (place.0 ∙ sym zp) (place.1 ∙ sym zr) in
     omega arith
 
-self_after : (x : Stay) → NotAfter x x
-self_after x =
-    record { periods = omega arith; rooms = λ _. omega arith; minutes = λ _ _. omega arith }
-
 -- the next stay has another place: then so have all later ones
 next_elsewhere : (x y : Stay) (ys : List Stay) → NotAfter x y → AllByRecursion (NotAfter y) ys
     → (y.period ≡ x.period → y.room ≡ x.room → ⊥)

@@ -13,18 +13,20 @@ use Rattle.exam_model.specs.Timetable.{Placing}
 use Rattle.exam_model.specs.Fits.{period_of}
 use Rattle.exam_model.proofs.PairLemmas.{are_pairs}
 use Rattle.exam_model.proofs.SumLemmas.{sum_by-same, sum_by-times, sum_by-zeros, sum_pairs-twice}
-use Rattle.exam_score.specs.Cost.{row_cost, day_cost, spread_cost, night_cost}
-use Rattle.exam_score.specs.CostOrder.{row_cost-swap, day_cost-swap, spread_cost-swap, night_cost-swap, row_cost-none, day_cost-none, spread_cost-none, night_cost-none, spread_cost-small}
+use Rattle.exam_score.specs.CostOrder.{kind_cost-swap, kind_cost-none}
+use Rattle.exam_score.specs.Kinds.{TableKind, Kind, over_night, cost_in, table_cost, table_amount, with_night, amount}
 use Rattle.exam_score.specs.PairSums.{ArePairParts}
 use Rattle.exam_score.specs.Penalty.{PersonalPenalty}
 use Rattle.exam_score.specs.Regrouping.{pair_part}
 use Rattle.exam_score.specs.Rows.{row_at, row_of}
 use Rattle.exam_score.specs.Tallies.{if_placed, tally_sum, tally_pair, tally_cost, row_count, AreCounted}
 use Rattle.exam_score.specs.Walk.{row_pair, cost_with}
+use Rattle.exam_score.specs.declared.amounts.Amounts.{Amounts}
 use Rattle.exam_score.specs.declared.rows.Row.{Row}
 use Rattle.exam_score.specs.declared.sittings.Sitting.{Sitting}
 use Rattle.exam_score.specs.declared.tallies.Tally.{Tally}
-use Rattle.exam_score.proofs.CostLemmas.{row_cost-small, day_cost-small, night_cost-small}
+use Rattle.exam_score.proofs.CostLemmas.{cost_in-small}
+use Rattle.exam_score.proofs.KindLemmas.{by_kinds, each_kind, of_kinds}
 use Rattle.exam_score.proofs.RegroupingLemmas.{later_cost, part_by_rows}
 use Rattle.exam_score.proofs.RowLemmas.{rows_few}
 use Rattle.exam_score.proofs.SittingLemmas.{rows_by_exam}
@@ -223,47 +225,28 @@ is_part cost E T n tallies known either nothing small counted is =
 
 -- the four parts of the pairs
 pub of_parts : (I : Session) (E : Enrolled) (T : Placing) (sums : PersonalPenalty)
-    → IsPart (row_cost I.periods I.weights) E T sums.row
-    → IsPart (day_cost I.periods I.weights) E T sums.day
-    → IsPart (spread_cost I.periods I.weights) E T sums.spread
-    → IsPart (night_cost I.periods I.weights) E T sums.night → ArePairParts I E T sums
-of_parts I E T sums row day spread night = record {
-  row = row.sum;
-  day = day.sum;
-  spread = spread.sum;
-  night = night.sum;
-  few_rows = row.small;
-  few_days = day.small;
-  few_spread = spread.small;
-  few_nights = night.small;
+    → ((k : Kind) → IsPart (cost_in I k) E T (amount sums k)) → ArePairParts I E T sums
+of_parts I E T sums are = record {
+  parts = by_kinds sums _ (λ k. (are k).sum);
+  few = each_kind small;
 }
+  where
+    small : (k : Kind) → amount sums k ≤ 4000000000000000
+    small k = (are k).small
 
 -- these by the tallies
 pub pair_parts_tallied : (I : Session) (E : Enrolled) (T : Placing) (sittings : List Sitting)
-    (tallies : List Tally) (sums : PersonalPenalty)
+    (tallies : List Tally) (sums : Amounts ℕ) (night : ℕ)
     → IsInstance I → AreEnrolments E → length T ≡ length E
     → ((g : ℕ → ℕ → ℕ) → sum_by (λ x. g x.exam x.period) sittings
     ≡ sum_below (length T) (λ e. if_placed (g e) (period_of T e)))
     → AreCounted E sittings tallies
-    → sums.row ≡ tally_cost (row_cost I.periods I.weights) tallies
-    → sums.day ≡ tally_cost (day_cost I.periods I.weights) tallies
-    → sums.spread ≡ tally_cost (spread_cost I.periods I.weights) tallies
-    → sums.night ≡ tally_cost (night_cost I.periods I.weights) tallies → ArePairParts I E T sums
-pair_parts_tallied I E T sittings tallies sums known enrolled long all counted row_is day_is
-    spread_is night_is =
-    let rows = tallied_rows E T sittings tallies long all counted in
-    let one : (p q : ℕ) → spread_cost I.periods I.weights p q ≤ 100000 =
-    λ p q. omega (arith, spread_cost-small I.periods I.weights p q) in
-    let row = is_part (row_cost I.periods I.weights) E T sums.row tallies enrolled
-    (row_cost-swap I.periods I.weights) (row_cost-none I.periods I.weights)
-    (row_cost-small I known) rows row_is in
-    let day = is_part (day_cost I.periods I.weights) E T sums.day tallies enrolled
-    (day_cost-swap I.periods I.weights) (day_cost-none I.periods I.weights)
-    (day_cost-small I known) rows day_is in
-    let spread = is_part (spread_cost I.periods I.weights) E T sums.spread tallies enrolled
-    (spread_cost-swap I.periods I.weights) (spread_cost-none I.periods I.weights) one rows
-    spread_is in
-    let night = is_part (night_cost I.periods I.weights) E T sums.night tallies enrolled
-    (night_cost-swap I.periods I.weights) (night_cost-none I.periods I.weights)
-    (night_cost-small I known) rows night_is in
-    of_parts I E T sums row day spread night
+    → ((k : TableKind) → table_amount sums k ≡ tally_cost (table_cost I k) tallies)
+    → night ≡ tally_cost (cost_in I over_night) tallies → ArePairParts I E T (with_night sums night)
+pair_parts_tallied I E T sittings tallies sums night known enrolled long all counted sums_are
+    night_is =
+    of_parts I E T (with_night sums night)
+    (λ k. is_part (cost_in I k) E T _ tallies enrolled (kind_cost-swap I.periods I.weights k)
+    (kind_cost-none I.periods I.weights k) (cost_in-small I known k)
+    (tallied_rows E T sittings tallies long all counted)
+    (of_kinds sums night (λ k. tally_cost (cost_in I k) tallies) sums_are night_is k))

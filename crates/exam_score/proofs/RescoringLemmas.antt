@@ -15,15 +15,15 @@ use Rattle.exam_model.specs.Pairs.{Pair, pairs_at, pairs_from, pairs_of}
 use Rattle.exam_model.specs.Timetable.{Placing}
 use Rattle.exam_model.proofs.PairLemmas.{are_pairs}
 use Rattle.exam_model.proofs.SumLemmas.{IsChain, each_weaker, sum_by-same}
-use Rattle.exam_score.specs.Cost.{row_cost, day_cost, spread_cost, night_cost}
-use Rattle.exam_score.specs.CostOrder.{spread_cost-small}
+use Rattle.exam_score.specs.Kinds.{Kind, cost_in, amount, by_kind}
 use Rattle.exam_score.specs.Exchanges.{IsExchanged}
 use Rattle.exam_score.specs.Penalty.{Penalty, PersonalPenalty, personal_total, plus}
 use Rattle.exam_score.specs.Regrouping.{candidate_cost, exams_of, pair_part, periods_of}
 use Rattle.exam_score.specs.Rescoring.{OthersUnchanged, each_once, sat_period, student_penalty, students_cost, students_penalty, students_share}
 use Rattle.exam_score.specs.Track.{track}
-use Rattle.exam_score.proofs.CostLemmas.{row_cost-small, day_cost-small, night_cost-small}
+use Rattle.exam_score.proofs.CostLemmas.{cost_in-small}
 use Rattle.exam_score.proofs.ExchangeLemmas.{exchanged_once}
+use Rattle.exam_score.proofs.KindLemmas.{each_kind}
 use Rattle.exam_score.proofs.PairsLemmas.{part_small}
 use Rattle.exam_score.proofs.RegroupingLemmas.{AreStudents, by_students, part_by_rows, sum_pairs-placed}
 use Rattle.exam_model.proofs.PairLemmas.{pairs_more}
@@ -250,14 +250,9 @@ cost_small cost E T changed known small =
 pub students_small : (I : Session) (E : Enrolled) (T : Placing) (changed : List ℕ) → IsInstance I
     → AreEnrolments E → personal_total (students_penalty I E T changed) ≤ 16000000000000000
 students_small I E T changed known enrolled =
-    let one : (p q : ℕ) → spread_cost I.periods I.weights p q ≤ 100000 =
-    λ p q. omega (arith, spread_cost-small I.periods I.weights p q) in
-    let row = cost_small (row_cost I.periods I.weights) E T changed enrolled (row_cost-small I known) in
-    let day = cost_small (day_cost I.periods I.weights) E T changed enrolled (day_cost-small I known) in
-    let spread = cost_small (spread_cost I.periods I.weights) E T changed enrolled one in
-    let night = cost_small (night_cost I.periods I.weights) E T changed enrolled
-    (night_cost-small I known) in
-    omega (arith, row, day, spread, night)
+    let small : (k : Kind) → students_cost (cost_in I k) E T changed ≤ 4000000000000000
+    = λ k. cost_small (cost_in I k) E T changed enrolled (cost_in-small I known k) in
+    omega (arith, each_kind small)
 
 -- a part of their sum and one more student's penalty are small
 pub sums_small : (sum more others rest all : PersonalPenalty) → plus sum rest ≡ all
@@ -273,13 +268,7 @@ pub sum_whole : (I : Session) (E : Enrolled) (T : Placing) (rest : List ℕ)
     (sum all : PersonalPenalty) → plus sum (students_penalty I E T rest) ≡ all → length rest ≡ 0
     → sum ≡ all
 sum_whole I E T [] sum all whole none =
-    (λ i. record {
-      row = sym (add-zero sum.row) i;
-      day = sym (add-zero sum.day) i;
-      spread = sym (add-zero sum.spread) i;
-      night = sym (add-zero sum.night) i;
-    })
-    ∙ whole
+    (λ i. by_kind (λ k. sym (add-zero (amount sum k)) i)) ∙ whole
 sum_whole I E T (s ∷ rest) sum all whole none = absurd (omega arith)
 
 -- one more student
@@ -296,40 +285,25 @@ pub penalty_more : (I : Session) (E : Enrolled) (T : Placing) (s : ℕ) (others 
     → has_number others s ≡ false
     → plus (student_penalty I E T s) (students_penalty I E T others)
     ≡ students_penalty I E T (s ∷ others)
-penalty_more I E T s others new = λ i. record {
-  row = cost_more (row_cost I.periods I.weights) E T s others new i;
-  day = cost_more (day_cost I.periods I.weights) E T s others new i;
-  spread = cost_more (spread_cost I.periods I.weights) E T s others new i;
-  night = cost_more (night_cost I.periods I.weights) E T s others new i;
-}
-
--- a student who is one of the others
-pub penalty_same : (I : Session) (E : Enrolled) (T : Placing) (s : ℕ) (others : List ℕ)
-    → has_number others s ≡ true → students_penalty I E T others ≡ students_penalty I E T (s ∷ others)
-penalty_same I E T s others there =
-    let same : each_once others ≡ each_once (s ∷ others) =
-    ap (λ b. cond b (each_once others) (s ∷ each_once others)) (sym there) in
-    λ i. record {
-      row = sum_by (λ s. candidate_cost (row_cost I.periods I.weights) (periods_of (pairs_of E) (period_of T) s)) (same i);
-      day = sum_by (λ s. candidate_cost (day_cost I.periods I.weights) (periods_of (pairs_of E) (period_of T) s)) (same i);
-      spread = sum_by (λ s. candidate_cost (spread_cost I.periods I.weights) (periods_of (pairs_of E) (period_of T) s)) (same i);
-      night = sum_by (λ s. candidate_cost (night_cost I.periods I.weights) (periods_of (pairs_of E) (period_of T) s)) (same i);
-    }
+penalty_more I E T s others new =
+    λ i. by_kind (λ k. cost_more (cost_in I k) E T s others new i)
 
 track_exchanged : (I : Session) (E F : Enrolled) (T : Placing) (changed : List ℕ)
     → AreEnrolments E → AreEnrolments F → length E ≡ length F → OthersUnchanged changed E F
     → IsExchanged (track I E T) (students_share I E T changed) (students_share I F T changed)
     (track I F T)
 track_exchanged I E F T changed known known' len same = record {
-  row = part_exchanged (row_cost I.periods I.weights) E F T changed known known' len same;
-  day = part_exchanged (day_cost I.periods I.weights) E F T changed known known' len same;
-  spread = part_exchanged (spread_cost I.periods I.weights) E F T changed known known' len same;
-  night = part_exchanged (night_cost I.periods I.weights) E F T changed known known' len same;
+  pairs = each_kind part;
   mixed = refl;
   front = omega arith;
   period = refl;
   room = refl;
 }
+  where
+    part : (k : Kind)
+        → pair_part (cost_in I k) F (period_of T) + students_cost (cost_in I k) E T changed
+        ≡ pair_part (cost_in I k) E (period_of T) + students_cost (cost_in I k) F T changed
+    part k = part_exchanged (cost_in I k) E F T changed known known' len same
 
 -- so the result is the new penalty
 pub rescored : (I : Session) (E F : Enrolled) (T : Placing) (changed : List ℕ)

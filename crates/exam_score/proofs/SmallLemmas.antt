@@ -5,7 +5,7 @@ use Rattle.std.specs.List.{AllByRecursion}
 use Rattle.std.proofs.Math.Nat.{mul-le-mul}
 use Rattle.std.proofs.lemmas.List.Elements.{recursion_from_All}
 use Rattle.exam_model.specs.Enrolments.{Enrolled, AreEnrolments}
-use Rattle.exam_model.specs.Fits.{Fits}
+use Rattle.exam_model.specs.Fits.{Fits, period_of}
 use Rattle.exam_model.specs.Instance.{Session, IsInstance}
 use Rattle.exam_model.specs.Limits.{PeriodInLimits, RoomInLimits}
 use Rattle.exam_model.specs.Sums.{count_below}
@@ -14,14 +14,15 @@ use Rattle.exam_model.specs.declared.parts.Period.{Period}
 use Rattle.exam_model.specs.declared.parts.Room.{Room}
 use Rattle.exam_terms.specs.declared.place.Place.{Place}
 use Rattle.exam_model.proofs.SumLemmas.{sum_below-le}
-use Rattle.exam_score.specs.Cost.{row_cost, day_cost, spread_cost, night_cost}
-use Rattle.exam_score.specs.CostOrder.{spread_cost-small}
+use Rattle.exam_score.specs.Kinds.{Kind, cost_in}
+use Rattle.exam_score.specs.Regrouping.{pair_part}
 use Rattle.exam_score.specs.Touched.{mixed_cost_if, room_mixed_cost_if}
 use Rattle.exam_score.specs.Penalty.{total_of}
 use Rattle.exam_score.specs.Track.{period_penalty, room_penalty, exam_period, exam_room, track}
 use Rattle.exam_score.specs.FrontLoad.{is_largest, is_late, exam_front}
 use Rattle.exam_score.specs.MixedDurations.{duration_count, lasting, durations}
-use Rattle.exam_score.proofs.CostLemmas.{row_cost-small, day_cost-small, night_cost-small}
+use Rattle.exam_score.proofs.CostLemmas.{cost_in-small}
+use Rattle.exam_score.proofs.KindLemmas.{each_kind}
 use Rattle.exam_score.proofs.PairsLemmas.{part_small}
 
 picked : (b : Bool) (w : ℕ) → w ≤ 100000 → cond b w 0 ≤ 100000
@@ -93,12 +94,9 @@ mixed_where_small I T touched known =
 pub penalty_small : (I : Session) (E : Enrolled) (T : Placing) → IsInstance I → AreEnrolments E
     → Fits I E T → total_of (track I E T) < 2 ^ 62
 penalty_small I E T known enrolled fits =
-    let row = part_small (row_cost I.periods I.weights) E T enrolled (row_cost-small I known) in
-    let day = part_small (day_cost I.periods I.weights) E T enrolled (day_cost-small I known) in
-    let one : (p q : ℕ) → spread_cost I.periods I.weights p q ≤ 100000 =
-    λ p q. omega (arith, spread_cost-small I.periods I.weights p q) in
-    let spread = part_small (spread_cost I.periods I.weights) E T enrolled one in
-    let night = part_small (night_cost I.periods I.weights) E T enrolled (night_cost-small I known) in
+    let part : (k : Kind) → pair_part (cost_in I k) E (period_of T) ≤ 4000000000000000
+    = λ k. part_small (cost_in I k) E T enrolled (cost_in-small I known k) in
+    let pairs = each_kind part in
     let mixed = mixed_where_small I T (λ p r. true) known in
     let exams : length I.exams ≤ 2000 = known.limits.counts.0.1 in
     let front = sum_below-le (exam_front I E T) 100000 (length I.exams)

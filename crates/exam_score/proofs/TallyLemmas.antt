@@ -3,7 +3,7 @@ use Rattle.std.proofs.Common.{◌≡◌, ◌≢◌, ℕ, ◌+◌, ◌-◌, ◌*�
 use Rattle.std.proofs.Math.Nat.{mul_comm}
 use Rattle.std.proofs.lemmas.Bool.{cases_eq, cases_lt}
 use Rattle.std.proofs.lemmas.List.{get_or-set_same, get_or-set_other, get_or_append_left, get_or_push, get_or_read, length_push}
-use Rattle.std.proofs.lemmas.List.Sums.{sum_by_push, sum_by-set}
+use Rattle.std.proofs.lemmas.List.Sums.{sum_by-set}
 use Rattle.exam_score.specs.Rows.{row_at}
 use Rattle.exam_score.specs.Tallies.{tally_sum}
 use Rattle.exam_score.specs.TallyLinks.{slot_of_student, IsLast, AreCrowded, AreLinkedIn, AreFiled, Extends, Grows}
@@ -104,14 +104,6 @@ filed_alike m xs ys last same h = record {
       (last_same m xs ys slot (get_or last slot 0) (length xs) (λ j e l. same.student j e)
       (h.lasts slot lt));
   linked = linked_alike m xs ys same h.linked;
-}
-
-pub grown_alike : (xs ys : List Tally) (p : ℕ) → AreAlike xs ys → Grows xs ys p 1
-grown_alike xs ys p same = record {
-  longer = let c = same.count in omega arith;
-  few = let c = same.count in omega arith;
-  kept = λ k d lt. sym (same.period k d);
-  added = λ k d from lt. absurd (let c = same.count in omega arith);
 }
 
 -- the sum grows by one row
@@ -224,23 +216,6 @@ filed_push m xs last x slot h within own before not_later = record {
       (subst (λ b. IsLast xs m b (get_or last slot 0) (length xs)) (sym own) (h.lasts slot within)))
       h.linked;
 }
-
-pub grown_push : (xs : List Tally) (x : Tally) → Grows xs (xs ++ x ∷ []) x.period 1
-grown_push xs x = record {
-  longer = let c = length_push xs x in omega arith;
-  few = let c = length_push xs x in omega arith;
-  kept = λ k d lt. ap (λ z. z.period) (get_kept xs x k d lt);
-  added = λ k d from lt.
-      let last : k ≡ length xs = omega (arith, length_push xs x) in
-      ap (λ n. (get_or (xs ++ x ∷ []) n d).period) last ∙ ap (λ z. z.period) (get_new xs x d);
-}
-
-pub counted_push : (f : Row → ℕ) (xs : List Tally) (x : Tally) → x.exams ≡ 1
-    → sum_by (tally_sum f) (xs ++ x ∷ []) ≡ sum_by (tally_sum f) xs + f (row_at x.period x.student)
-counted_push f xs x one =
-    sum_by_push (tally_sum f) xs x
-    ∙ ap (λ n. sum_by (tally_sum f) xs + n * f (row_at x.period x.student)) one
-    ∙ (let w = f (row_at x.period x.student) in omega arith)
 
 -- ---- along the students of an exam, and along the sittings
 

@@ -1,10 +1,11 @@
 -- A walk along the tallies of a slot.
-use Rattle.std.proofs.Common.{◌≡◌, ◌≢◌, ℕ, ◌+◌, ◌-◌, ◌*◌, ◌<◌, ◌≤◌, cond, eqb, Bool, true, false, List, length, take, drop, get_or, sum_by, All, mul-zero, inl, inr, refl, sym, subst, ◌∙◌, ap, arith, length-take, length-drop}
+use Rattle.std.proofs.Common.{◌≡◌, ◌≢◌, ℕ, ◌+◌, ◌-◌, ◌*◌, ◌<◌, ◌≤◌, cond, eqb, Bool, true, false, List, length, take, drop, get_or, sum_by, All, mul-zero, eq-eqb, inl, inr, refl, sym, subst, ◌∙◌, ap, arith, length-take, length-drop}
 use Rattle.std.proofs.lemmas.Bool.{cases_eq, cond-false, ne_eqb}
-use Rattle.std.proofs.lemmas.List.{take-take, get_or-take, get_or-drop}
+use Rattle.std.proofs.lemmas.List.{get_or_default, take-take, get_or-take, get_or-drop}
 use Rattle.std.proofs.lemmas.List.Elements.{recursion_from_All}
-use Rattle.std.proofs.lemmas.List.Sums.{sum_by-take-drop, sum_by_more, sum_by-take-le, sum_by-le-sum_by, get_or-le-sum_by}
+use Rattle.std.proofs.lemmas.List.Sums.{sum_by-take-drop, sum_by_more, sum_by-take-le, sum_by-le-sum_by}
 use Rattle.std.proofs.lemmas.Nat.{mul-le}
+use Rattle.std.proofs.Math.Nat.{mul_comm}
 use Rattle.exam_model.proofs.SumLemmas.{sum_by-none, sum_by-same, sum_by-zeros, sum_by-times, sum_pairs-more, sum_pairs-le}
 use Rattle.exam_score.specs.Tallies.{tally_sum, cost_with_tally, tally_pair, tally_cost, row_count}
 use Rattle.exam_score.specs.TallyLinks.{slot_of_student, IsLast, IsOnWay, IsOwnPlace, AreLinkedIn}
@@ -59,7 +60,7 @@ skipped m cost xs y n k last le =
 
 -- ---- one step
 
-pub link_of : (m : ℕ) (xs : List Tally) (y : Tally) (k : ℕ) → AreLinkedIn xs m → k < length xs
+link_of : (m : ℕ) (xs : List Tally) (y : Tally) (k : ℕ) → AreLinkedIn xs m → k < length xs
     → ((d : Tally) → get_or xs k d ≡ y) → IsLast xs m (slot_of_student m y.student) y.before k
 link_of m xs y k linked within here =
     subst_link (get_or xs k y) y (here y) (linked.links k y within)
@@ -69,12 +70,16 @@ link_of m xs y k linked within here =
     subst_link z w e h = subst (λ v. IsLast xs m (slot_of_student m v.student) v.before k) e h
 
 -- before the first step
-pub walk_starts : (m : ℕ) (cost : ℕ → ℕ → ℕ) (xs : List Tally) (y : Tally) (k : ℕ)
-    → AreLinkedIn xs m → k < length xs → ((d : Tally) → get_or xs k d ≡ y)
-    → sum_by (cost_with_tally cost y) (take y.before xs)
-    ≡ sum_by (cost_with_tally cost y) (take k xs)
-walk_starts m cost xs y k linked within here =
-    sym (skipped m cost xs y y.before k (link_of m xs y k linked within here) (omega arith))
+pub way_starts : (m : ℕ) (xs : List Tally) (y : Tally) (k : ℕ) → AreLinkedIn xs m → k < length xs
+    → ((d : Tally) → get_or xs k d ≡ y) → IsOnWay xs y.before y.student
+way_starts m xs y k linked within here =
+    let link = link_of m xs y k linked within here in
+    record {
+      slots = m;
+      links = linked;
+      within = omega (arith, link.within);
+      slot = link.here;
+    }
 
 -- a tally of the slot, followed by the one before it
 pub walk_on : (m : ℕ) (cost : ℕ → ℕ → ℕ) (xs : List Tally) (y x : Tally) (n : ℕ) → AreLinkedIn xs m
@@ -94,68 +99,102 @@ walk_on m cost xs y x n linked some le here slot =
     ap (λ m. sum_by f (take m xs)) (let e : n ≡ n - 1 + 1 = omega arith in e) in
     omega arith
 
--- the next tally is of the slot too
-pub slot_on : (m : ℕ) (xs : List Tally) (x : Tally) (n s : ℕ) → AreLinkedIn xs m → 0 < n
-    → n ≤ length xs → ((d : Tally) → get_or xs (n - 1) d ≡ x) → slot_of_student m x.student ≡ s
-    → (d : Tally) → 0 < x.before → slot_of_student m (get_or xs (x.before - 1) d).student ≡ s
-slot_on m xs x n s linked some le here slot d before =
-    (link_of m xs x (n - 1) linked (omega arith) here).here d before ∙ slot
-
-pub link_below : (m : ℕ) (xs : List Tally) (x : Tally) (n : ℕ) → AreLinkedIn xs m → 0 < n
+link_below : (m : ℕ) (xs : List Tally) (x : Tally) (n : ℕ) → AreLinkedIn xs m → 0 < n
     → n ≤ length xs → ((d : Tally) → get_or xs (n - 1) d ≡ x) → x.before < n
 link_below m xs x n linked some le here =
     let w = (link_of m xs x (n - 1) linked (omega arith) here).within in omega arith
 
--- the walk continues from a tally
-pub on_way : (m : ℕ) (xs : List Tally) (x : Tally) (n s : ℕ) → AreLinkedIn xs m → 0 < n
-    → n ≤ length xs → ((d : Tally) → get_or xs (n - 1) d ≡ x) → x.student ≡ s
-    → IsOnWay xs x.before s
-on_way m xs x n s linked some le here own =
-    let link = link_of m xs x (n - 1) linked (omega arith) here in
-    record {
-      slots = m;
-      links = linked;
-      within = omega (arith, link.within);
-      slot = λ d before. link.here d before ∙ ap (λ t. slot_of_student m t) own;
-    }
+-- a tally on the way is of the slot of the student
+slot_at : (xs : List Tally) (x : Tally) (n s : ℕ) (way : IsOnWay xs n s) → 0 < n
+    → ((d : Tally) → get_or xs (n - 1) d ≡ x)
+    → slot_of_student way.slots x.student ≡ slot_of_student way.slots s
+slot_at xs x n s way some here =
+    ap (λ z. slot_of_student way.slots z.student) (sym (here x)) ∙ way.slot x some
 
--- a tally of another student on the way, and on to the one before it
+-- and on to the one before it
 pub way_on : (xs : List Tally) (x : Tally) (n s : ℕ) → IsOnWay xs n s → 0 < n
     → ((d : Tally) → get_or xs (n - 1) d ≡ x) → IsOnWay xs x.before s
 way_on xs x n s way some here =
-    let slot : slot_of_student way.slots x.student ≡ slot_of_student way.slots s =
-    ap (λ z. slot_of_student way.slots z.student) (sym (here x)) ∙ way.slot x some in
+    let link = link_of way.slots xs x (n - 1) way.links (omega (arith, way.within)) here in
     record {
       slots = way.slots;
       links = way.links;
-      within = omega (arith, link_below way.slots xs x n way.links some way.within here, way.within);
-      slot = slot_on way.slots xs x n (slot_of_student way.slots s) way.links some way.within here
-          slot;
+      within = omega (arith, link.within, way.within);
+      slot = λ d before. link.here d before ∙ slot_at xs x n s way some here;
     }
 
 pub way_below : (xs : List Tally) (x : Tally) (n s : ℕ) → IsOnWay xs n s → 0 < n
     → ((d : Tally) → get_or xs (n - 1) d ≡ x) → x.before < n
 way_below xs x n s way some here = link_below way.slots xs x n way.links some way.within here
 
+pub cost_on_way : (cost : ℕ → ℕ → ℕ) (xs : List Tally) (y x : Tally) (n s : ℕ) → IsOnWay xs n s
+    → 0 < n → ((d : Tally) → get_or xs (n - 1) d ≡ x) → y.student ≡ s
+    → sum_by (cost_with_tally cost y) (take n xs)
+    ≡ cost_with_tally cost y x + sum_by (cost_with_tally cost y) (take x.before xs)
+cost_on_way cost xs y x n s way some here own =
+    walk_on way.slots cost xs y x n way.links some way.within here
+    (slot_at xs x n s way some here ∙ ap (λ t. slot_of_student way.slots t) (sym own))
+
 pub passed : (cost : ℕ → ℕ → ℕ) (xs : List Tally) (y x : Tally) (n s : ℕ) → IsOnWay xs n s → 0 < n
     → ((d : Tally) → get_or xs (n - 1) d ≡ x) → x.student ≢ s → y.student ≡ s
     → sum_by (cost_with_tally cost y) (take n xs)
     ≡ sum_by (cost_with_tally cost y) (take x.before xs)
 passed cost xs y x n s way some here other own =
-    let slot : slot_of_student way.slots x.student ≡ slot_of_student way.slots y.student =
-    ap (λ z. slot_of_student way.slots z.student) (sym (here x)) ∙ way.slot x some
-    ∙ ap (λ t. slot_of_student way.slots t) (sym own) in
-    let step = walk_on way.slots cost xs y x n way.links some way.within here slot in
+    let step = cost_on_way cost xs y x n s way some here own in
     let none = other_student cost y x (λ same. other (sym same ∙ own)) in
     omega arith
 
--- a tally of the student, and on to the one before it
-pub own_on : (m : ℕ) (cost : ℕ → ℕ → ℕ) (xs : List Tally) (y x : Tally) (n : ℕ) → AreLinkedIn xs m
-    → 0 < n → n ≤ length xs → ((d : Tally) → get_or xs (n - 1) d ≡ x) → x.student ≡ y.student
+-- x is the tally just before place n, and is of the student of y
+pub record IsOwnTally (m : ℕ) (xs : List Tally) (y x : Tally) (n : ℕ) : Type 0 where
+  pub linked : AreLinkedIn xs m
+  pub some : 0 < n
+  pub within : n ≤ length xs
+  pub here : (d : Tally) → get_or xs (n - 1) d ≡ x
+  pub own : x.student ≡ y.student
+
+pub own_tally : (m : ℕ) (xs : List Tally) (y x : Tally) (n : ℕ) → AreLinkedIn xs m → 0 < n
+    → n ≤ length xs → x ≡ get_or xs (n - 1) x
+    → ((d : Tally) → 0 < n → (get_or xs (n - 1) d).student ≡ y.student) → IsOwnTally m xs y x n
+own_tally m xs y x n linked some within is own =
+    let here : (d : Tally) → get_or xs (n - 1) d ≡ x =
+    λ d. get_or_default xs (n - 1) d x (omega arith) ∙ sym is in
+    record {
+      linked = linked;
+      some = some;
+      within = within;
+      here = here;
+      own = ap (λ z. z.student) (sym (here x)) ∙ own x some;
+    }
+
+pub below_own : (m : ℕ) (xs : List Tally) (y x : Tally) (n : ℕ) → IsOwnTally m xs y x n
+    → x.before < n
+below_own m xs y x n at = link_below m xs x n at.linked at.some at.within at.here
+
+-- the walk continues from it
+pub way_from : (m : ℕ) (xs : List Tally) (y x : Tally) (n : ℕ) → IsOwnTally m xs y x n
+    → IsOnWay xs x.before y.student
+way_from m xs y x n at =
+    let link = link_of m xs x (n - 1) at.linked (omega (arith, at.some, at.within)) at.here in
+    record {
+      slots = m;
+      links = at.linked;
+      within = omega (arith, link.within, at.some, at.within);
+      slot = λ d before. link.here d before ∙ ap (λ t. slot_of_student m t) at.own;
+    }
+
+-- its cost, and on to the one before it
+pub own_on : (m : ℕ) (cost : ℕ → ℕ → ℕ) (xs : List Tally) (y x : Tally) (n one : ℕ)
+    → IsOwnTally m xs y x n → one ≡ cost x.period y.period
     → sum_by (cost_with_tally cost y) (take n xs)
-    ≡ cost_with_tally cost y x + sum_by (cost_with_tally cost y) (take x.before xs)
-own_on m cost xs y x n linked some le here own =
-    walk_on m cost xs y x n linked some le here (ap (λ s. slot_of_student m s) own)
+    ≡ one * x.exams + sum_by (cost_with_tally cost y) (take x.before xs)
+own_on m cost xs y x n one at is =
+    let step = walk_on m cost xs y x n at.linked at.some at.within at.here
+    (ap (λ s. slot_of_student m s) at.own) in
+    let own : cost_with_tally cost y x ≡ one * x.exams =
+    ap (λ b. x.exams * cond b (cost x.period y.period) 0)
+    (eq-eqb y.student x.student (sym at.own))
+    ∙ ap (λ n. x.exams * n) (sym is) ∙ mul_comm x.exams one in
+    omega arith
 
 -- an earlier tally is of no later period
 pub not_later : (m : ℕ) (xs : List Tally) (y : Tally) (n k : ℕ) → AreLinkedIn xs m → n < k
@@ -195,8 +234,8 @@ walk_ends m cost xs y n first linked le free below =
 
 -- ---- the student's own tallies
 
-starts_alike : (m : ℕ) (cost : ℕ → ℕ → ℕ) (xs : List Tally) (z y : Tally) (k : ℕ) → AreLinkedIn xs m
-    → k < length xs → ((d : Tally) → get_or xs k d ≡ z) → y.student ≡ z.student
+pub starts_alike : (m : ℕ) (cost : ℕ → ℕ → ℕ) (xs : List Tally) (z y : Tally) (k : ℕ)
+    → AreLinkedIn xs m → k < length xs → ((d : Tally) → get_or xs k d ≡ z) → y.student ≡ z.student
     → sum_by (cost_with_tally cost y) (take z.before xs)
     ≡ sum_by (cost_with_tally cost y) (take k xs)
 starts_alike m cost xs z y k linked within here own =
@@ -253,14 +292,9 @@ beside_small cost xs y k small few =
         (small x.period y.period)) in
         omega arith
 
-pub exams_few : (xs : List Tally) (k : ℕ) (d : Tally) → k < length xs → row_count xs ≤ 200000
-    → (get_or xs k d).exams ≤ 200000
-exams_few xs k d within few = let h = get_or-le-sum_by (tally_sum (λ r. 1)) xs k d within in
-    omega arith
-
 -- ---- one more tally
 
-pub pairs_more : (cost : ℕ → ℕ → ℕ) (xs : List Tally) (k total more : ℕ) (y : Tally) → k < length xs
+pairs_more : (cost : ℕ → ℕ → ℕ) (xs : List Tally) (k total more : ℕ) (y : Tally) → k < length xs
     → y ≡ get_or xs k y
     → total ≡ tally_cost cost (take k xs) → more ≡ sum_by (cost_with_tally cost y) (take k xs)
     → total + more * y.exams ≡ tally_cost cost (take (k + 1) xs)
@@ -274,7 +308,7 @@ pairs_more cost xs k total more y within here was is =
     ap (λ n. n * y.exams) is in
     omega arith
 
-pub small_more : (xs : List Tally) (k total more : ℕ) (y : Tally) → k < length xs
+small_more : (xs : List Tally) (k total more : ℕ) (y : Tally) → k < length xs
     → y ≡ get_or xs k y
     → total ≤ row_count (take k xs) * 20000000000 → more ≤ 20000000000
     → total + more * y.exams ≤ row_count (take (k + 1) xs) * 20000000000
@@ -285,23 +319,36 @@ small_more xs k total more y within here was small =
     let product = mul-le more y.exams 20000000000 y.exams small (omega arith) in
     omega arith
 
--- one that costs nothing
-pub pairs_same : (cost : ℕ → ℕ → ℕ) (xs : List Tally) (k total : ℕ) (y : Tally) → k < length xs
-    → y ≡ get_or xs k y
-    → total ≡ tally_cost cost (take k xs) → 0 ≡ sum_by (cost_with_tally cost y) (take k xs)
-    → total ≡ tally_cost cost (take (k + 1) xs)
-pairs_same cost xs k total y within here was is =
-    omega (arith, pairs_more cost xs k total 0 y within here was is)
+-- n is the cost over all pairs of the first k tallies, and is small
+pub record IsCostTo (cost : ℕ → ℕ → ℕ) (xs : List Tally) (k n : ℕ) : Type 0 where
+  pub sum : n ≡ tally_cost cost (take k xs)
+  pub small : n ≤ row_count (take k xs) * 20000000000
 
-pub small_same : (xs : List Tally) (k total : ℕ) (y : Tally) → k < length xs → y ≡ get_or xs k y
-    → total ≤ row_count (take k xs) * 20000000000
-    → total ≤ row_count (take (k + 1) xs) * 20000000000
-small_same xs k total y within here was =
-    omega (arith, small_more xs k total 0 y within here was (omega arith))
+-- with one more tally
+pub cost_to_more : (cost : ℕ → ℕ → ℕ) (xs : List Tally) (k total more : ℕ) (y : Tally)
+    → k < length xs → y ≡ get_or xs k y → ((p q : ℕ) → cost p q ≤ 100000) → row_count xs ≤ 200000
+    → IsCostTo cost xs k total → more ≡ sum_by (cost_with_tally cost y) (take k xs)
+    → IsCostTo cost xs (k + 1) (total + more * y.exams)
+cost_to_more cost xs k total more y within here low few was is = record {
+  sum = pairs_more cost xs k total more y within here was.sum is;
+  small = small_more xs k total more y within here was.small
+      (subst (λ n. n ≤ 20000000000) (sym is) (beside_small cost xs y k low few));
+}
 
-pub small_within : (xs : List Tally) (k total : ℕ) → row_count xs ≤ 200000
-    → total ≤ row_count (take k xs) * 20000000000 → total ≤ 4000000000000000
-small_within xs k total few was = let h = sum_by-take-le (tally_sum (λ r. 1)) xs k in omega arith
+-- with one that costs nothing
+pub cost_to_same : (cost : ℕ → ℕ → ℕ) (xs : List Tally) (k total : ℕ) (y : Tally)
+    → k < length xs → y ≡ get_or xs k y → ((p q : ℕ) → cost p q ≤ 100000) → row_count xs ≤ 200000
+    → IsCostTo cost xs k total → 0 ≡ sum_by (cost_with_tally cost y) (take k xs)
+    → IsCostTo cost xs (k + 1) total
+cost_to_same cost xs k total y within here low few was is =
+    let same : total + 0 * y.exams ≡ total = omega arith in
+    subst (IsCostTo cost xs (k + 1)) same
+    (cost_to_more cost xs k total 0 y within here low few was is)
+
+pub cost_to-small : (cost : ℕ → ℕ → ℕ) (xs : List Tally) (k total : ℕ) → row_count xs ≤ 200000
+    → IsCostTo cost xs k total → total ≤ 4000000000000000
+cost_to-small cost xs k total few is =
+    let some = sum_by-take-le (tally_sum (λ r. 1)) xs k in omega (arith, is.small)
 
 -- ---- rows
 

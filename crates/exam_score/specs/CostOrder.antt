@@ -7,7 +7,8 @@ use Rattle.exam_model.specs.Distances.{gap, next_day, is_same_day}
 use Rattle.exam_model.proofs.DayLemmas.{next_day-swap, is_same_day-swap}
 use Rattle.exam_model.specs.declared.parts.Period.{Period}
 use Rattle.exam_model.specs.declared.parts.Weights.{Weights}
-use Rattle.exam_score.specs.Cost.{row_cost, day_cost, spread_cost, night_cost}
+use Rattle.exam_score.specs.Cost.{spread_cost}
+use Rattle.exam_score.specs.Kinds.{in_row, in_day, in_spread, Kind, in_table, over_night, kind_cost}
 
 -- two periods are as far apart in either order
 gap-swap : (p q : ℕ) → gap p q ≡ gap q p
@@ -29,57 +30,33 @@ pub pick-none : (a : Bool) (n : ℕ) → (if a && false then n else 0) ≡ 0
 pick-none true n = refl
 pick-none false n = refl
 
--- two in a row, in either order
-pub row_cost-swap : (periods : List Period) (weights : Weights) (p q : ℕ)
-    → row_cost periods weights p q ≡ row_cost periods weights q p
-row_cost-swap periods weights p q =
+-- the costs in either order
+pub kind_cost-swap : (periods : List Period) (weights : Weights) (k : Kind) (p q : ℕ)
+    → kind_cost periods weights k p q ≡ kind_cost periods weights k q p
+kind_cost-swap periods weights (in_table in_row) p q =
     λ i. if is_same_day-swap periods p q i && (gap-swap p q i == 1) then weights.row else 0
-
--- two in a day
-pub day_cost-swap : (periods : List Period) (weights : Weights) (p q : ℕ)
-    → day_cost periods weights p q ≡ day_cost periods weights q p
-day_cost-swap periods weights p q =
+kind_cost-swap periods weights (in_table in_day) p q =
     λ i. if is_same_day-swap periods p q i && nat_le 2 (gap-swap p q i) then weights.day else 0
-
--- within the spread
-pub spread_cost-swap : (periods : List Period) (weights : Weights) (p q : ℕ)
-    → spread_cost periods weights p q ≡ spread_cost periods weights q p
-spread_cost-swap periods weights p q =
+kind_cost-swap periods weights (in_table in_spread) p q =
     λ i. if and-swap (nat_lt p (length periods)) (nat_lt q (length periods)) i
     && (nat_le 1 (gap-swap p q i) && nat_le (gap-swap p q i) weights.spread) then 1 else 0
-
--- over night
-pub night_cost-swap : (periods : List Period) (weights : Weights) (p q : ℕ)
-    → night_cost periods weights p q ≡ night_cost periods weights q p
-night_cost-swap periods weights p q =
+kind_cost-swap periods weights over_night p q =
     λ i. if next_day-swap periods p q i && (gap-swap p q i == 1) then weights.night else 0
 
--- two in a row, within one period
-pub row_cost-none : (periods : List Period) (weights : Weights) (p : ℕ)
-    → row_cost periods weights p p ≡ 0
-row_cost-none periods weights p =
+-- the costs within one period
+pub kind_cost-none : (periods : List Period) (weights : Weights) (k : Kind) (p : ℕ)
+    → kind_cost periods weights k p p ≡ 0
+kind_cost-none periods weights (in_table in_row) p =
     ap (λ g. if is_same_day periods p p && (g == 1) then weights.row else 0) (gap-none p)
     ∙ pick-none (is_same_day periods p p) weights.row
-
--- two in a day
-pub day_cost-none : (periods : List Period) (weights : Weights) (p : ℕ)
-    → day_cost periods weights p p ≡ 0
-day_cost-none periods weights p =
+kind_cost-none periods weights (in_table in_day) p =
     ap (λ g. if is_same_day periods p p && nat_le 2 g then weights.day else 0) (gap-none p)
     ∙ pick-none (is_same_day periods p p) weights.day
-
--- within the spread
-pub spread_cost-none : (periods : List Period) (weights : Weights) (p : ℕ)
-    → spread_cost periods weights p p ≡ 0
-spread_cost-none periods weights p =
+kind_cost-none periods weights (in_table in_spread) p =
     ap (λ g. if (nat_lt p (length periods) && nat_lt p (length periods))
     && (nat_le 1 g && nat_le g weights.spread) then 1 else 0) (gap-none p)
     ∙ pick-none (nat_lt p (length periods) && nat_lt p (length periods)) 1
-
--- over night
-pub night_cost-none : (periods : List Period) (weights : Weights) (p : ℕ)
-    → night_cost periods weights p p ≡ 0
-night_cost-none periods weights p =
+kind_cost-none periods weights over_night p =
     ap (λ g. if next_day periods p p && (g == 1) then weights.night else 0) (gap-none p)
     ∙ pick-none (next_day periods p p) weights.night
 

@@ -7,7 +7,7 @@ use Rattle.exam_model.specs.Pairs.{Pair}
 use Rattle.exam_model.specs.Sums.{sum_pairs}
 use Rattle.exam_model.specs.Timetable.{Placing}
 use Rattle.exam_model.specs.Enrolments.{has_number}
-use Rattle.exam_score.specs.Cost.{row_cost, day_cost, spread_cost, night_cost}
+use Rattle.exam_score.specs.Kinds.{cost_in, by_kind}
 use Rattle.exam_score.specs.Penalty.{PersonalPenalty}
 
 -- the cost of two exams of a student if one of them is edited, else 0: an edit doesn't change the
@@ -24,12 +24,7 @@ students_cost cost T edited pairs = sum_pairs (λ p q.
 
 -- the share of the edited exams in the personal penalties of all students of these pairs, added up
 abbrev pub personal_sum : Session → Placing → List ℕ → List Pair → PersonalPenalty
-personal_sum I T edited pairs = record {
-  row = students_cost (row_cost I.periods I.weights) T edited pairs;
-  day = students_cost (day_cost I.periods I.weights) T edited pairs;
-  spread = students_cost (spread_cost I.periods I.weights) T edited pairs;
-  night = students_cost (night_cost I.periods I.weights) T edited pairs;
-}
+personal_sum I T edited pairs = by_kind (λ k. students_cost (cost_in I k) T edited pairs)
 
 -- the cost of the pairs of these exams that have an edited one
 abbrev pub exams_cost : (ℕ → ℕ → ℕ) → Placing → List ℕ → List ℕ → ℕ
@@ -43,9 +38,4 @@ cost_at cost T edited e f =
 
 -- the share of the edited exams in the personal penalty of a student who sits these exams
 abbrev pub personal_at : Session → Placing → List ℕ → List ℕ → PersonalPenalty
-personal_at I T edited exams = record {
-  row = exams_cost (row_cost I.periods I.weights) T edited exams;
-  day = exams_cost (day_cost I.periods I.weights) T edited exams;
-  spread = exams_cost (spread_cost I.periods I.weights) T edited exams;
-  night = exams_cost (night_cost I.periods I.weights) T edited exams;
-}
+personal_at I T edited exams = by_kind (λ k. exams_cost (cost_in I k) T edited exams)

@@ -10,7 +10,8 @@ use Rattle.exam_score.specs.Changes.{DiffersAtMost}
 use Rattle.exam_score.specs.Folds.{Folded}
 use Rattle.exam_score.specs.EditedCosts.{personal_sum}
 use Rattle.exam_score.specs.Front.{AreSizes, front_by}
-use Rattle.exam_score.specs.Penalty.{Penalty, PersonalPenalty, plus, total_of}
+use Rattle.exam_score.specs.Kinds.{EachKind, amount}
+use Rattle.exam_score.specs.Penalty.{Penalty, PersonalPenalty, pairs_in, plus, total_of, whole}
 use Rattle.exam_score.specs.Track.{exam_period, exam_room, track}
 use Rattle.exam_score.specs.Touched.{is_touched, mixed_cost_if, sum_over_exams}
 
@@ -20,16 +21,11 @@ use Rattle.exam_score.specs.Touched.{is_touched, mixed_cost_if, sum_over_exams}
 -- periods and rooms, and of its exams
 abbrev pub edit_share : Session → Placing → List ℕ → (ℕ → ℕ → Bool) → List ℕ → PersonalPenalty
     → Penalty
-edit_share I T edited touched sizes students = record {
-  row = students.row;
-  day = students.day;
-  spread = students.spread;
-  night = students.night;
-  mixed = mixed_cost_if I T touched;
-  front = sum_over_exams I edited (λ e. front_by I sizes (place_of T e) e);
-  period = sum_over_exams I edited (λ e. exam_period I (place_of T e));
-  room = sum_over_exams I edited (λ e. exam_room I (place_of T e));
-}
+edit_share I T edited touched sizes students =
+    whole students (mixed_cost_if I T touched)
+    (sum_over_exams I edited (λ e. front_by I sizes (place_of T e) e))
+    (sum_over_exams I edited (λ e. exam_period I (place_of T e)))
+    (sum_over_exams I edited (λ e. exam_room I (place_of T e)))
 
 -- the old amounts
 abbrev pub going : Folded → List ℕ → Penalty
@@ -45,12 +41,15 @@ coming fold sizes =
     (is_touched fold.edited fold.earlier fold.later) sizes
     (plus fold.after (personal_sum fold.instance fold.later fold.edited fold.current))
 
+-- the new parts of pairs are the old ones with the old amounts replaced by the new ones
+abbrev pub AreExchanged : PersonalPenalty → PersonalPenalty → PersonalPenalty → PersonalPenalty
+    → Type 0
+AreExchanged old goes comes new =
+    EachKind (λ k. amount new k + amount goes k ≡ amount old k + amount comes k)
+
 -- the new penalty is the old one with the old amounts replaced by the new ones, in each part
 pub record IsExchanged (old goes comes new : Penalty) : Type 0 where
-  pub row : new.row + goes.row ≡ old.row + comes.row
-  pub day : new.day + goes.day ≡ old.day + comes.day
-  pub spread : new.spread + goes.spread ≡ old.spread + comes.spread
-  pub night : new.night + goes.night ≡ old.night + comes.night
+  pub pairs : AreExchanged (pairs_in old) (pairs_in goes) (pairs_in comes) (pairs_in new)
   pub mixed : new.mixed + goes.mixed ≡ old.mixed + comes.mixed
   pub front : new.front + goes.front ≡ old.front + comes.front
   pub period : new.period + goes.period ≡ old.period + comes.period

@@ -6,6 +6,7 @@ use Rattle.exam_model.specs.Pairs.{Pair}
 use Rattle.exam_model.specs.Timetable.{Placing}
 use Rattle.exam_score.specs.Penalty.{PersonalPenalty}
 use Rattle.exam_score.specs.EditedCosts.{personal_sum}
+use Rattle.exam_score.specs.Kinds.{EachKind, amount}
 
 -- ---- the order of the pairs
 
@@ -57,18 +58,13 @@ pairs_sat (Some s) exams = map (λ e. record { exam = e; student = s }) exams
 -- ---- bounds
 
 -- each part of a student's share is small, by the number of their exams
-pub record IsSmall (p : PersonalPenalty) (exams : ℕ) : Type 0 where
-  pub row : p.row ≤ exams * (MAX_PAIRS * MAX_AMOUNT)
-  pub day : p.day ≤ exams * (MAX_PAIRS * MAX_AMOUNT)
-  pub spread : p.spread ≤ exams * (MAX_PAIRS * MAX_AMOUNT)
-  pub night : p.night ≤ exams * (MAX_PAIRS * MAX_AMOUNT)
+abbrev pub IsSmall : PersonalPenalty → ℕ → Type 0
+IsSmall p exams = EachKind (λ k. amount p k ≤ exams * (MAX_PAIRS * MAX_AMOUNT))
 
 -- after that many pairs, each part leaves room for the cost of the open student's exams
-pub record LeavesRoom (p : PersonalPenalty) (exams count : ℕ) : Type 0 where
-  pub row : p.row + exams * (MAX_PAIRS * MAX_AMOUNT) ≤ count * (MAX_PAIRS * MAX_AMOUNT)
-  pub day : p.day + exams * (MAX_PAIRS * MAX_AMOUNT) ≤ count * (MAX_PAIRS * MAX_AMOUNT)
-  pub spread : p.spread + exams * (MAX_PAIRS * MAX_AMOUNT) ≤ count * (MAX_PAIRS * MAX_AMOUNT)
-  pub night : p.night + exams * (MAX_PAIRS * MAX_AMOUNT) ≤ count * (MAX_PAIRS * MAX_AMOUNT)
+abbrev pub LeavesRoom : PersonalPenalty → ℕ → ℕ → Type 0
+LeavesRoom p exams count = EachKind (λ k.
+    amount p k + exams * (MAX_PAIRS * MAX_AMOUNT) ≤ count * (MAX_PAIRS * MAX_AMOUNT))
 
 -- the invariant of every fold
 pub record IsBounded (count : ℕ) (before after : PersonalPenalty) (student : Option ℕ)

@@ -1,5 +1,6 @@
 pub mod Penalty
 pub mod Cost
+pub mod Kinds
 pub mod TraitCosts
 pub mod CostOrder
 pub mod CostLaws

@@ -32,6 +32,23 @@ pub record Penalty : Type 0 where
   pub period : ℕ
   pub room : ℕ
 
+-- the parts of pairs and the others as one penalty
+abbrev pub whole : PersonalPenalty → ℕ → ℕ → ℕ → ℕ → Penalty
+whole pairs mixed front period room = record {
+  row = pairs.row;
+  day = pairs.day;
+  spread = pairs.spread;
+  night = pairs.night;
+  mixed = mixed;
+  front = front;
+  period = period;
+  room = room;
+}
+
+-- its parts of pairs
+abbrev pub pairs_in : Penalty → PersonalPenalty
+pairs_in p = record { row = p.row; day = p.day; spread = p.spread; night = p.night }
+
 -- all eight together
 abbrev pub total_of : Penalty → ℕ
 total_of p = p.row + p.day + p.spread + p.night + p.mixed + p.front + p.period + p.room

@@ -5,9 +5,9 @@ use Rattle.exam_model.specs.Fits.{period_of}
 use Rattle.exam_model.specs.Instance.{Session}
 use Rattle.exam_model.specs.Pairs.{pairs_of}
 use Rattle.exam_model.specs.Timetable.{Placing}
-use Rattle.exam_score.specs.Cost.{row_cost, day_cost, spread_cost, night_cost}
+use Rattle.exam_score.specs.Kinds.{cost_in, by_kind}
 use Rattle.exam_score.specs.FrontLoad.{front_part}
-use Rattle.exam_score.specs.Penalty.{Penalty, PersonalPenalty}
+use Rattle.exam_score.specs.Penalty.{Penalty, PersonalPenalty, whole}
 use Rattle.exam_score.specs.Personal.{personal_of}
 use Rattle.exam_score.specs.Regrouping.{candidate_cost, periods_of}
 
@@ -36,22 +36,9 @@ students_cost cost E T students =
 
 -- their personal penalties, added up
 abbrev pub students_penalty : Session → Enrolled → Placing → List ℕ → PersonalPenalty
-students_penalty I E T students = record {
-  row = students_cost (row_cost I.periods I.weights) E T students;
-  day = students_cost (day_cost I.periods I.weights) E T students;
-  spread = students_cost (spread_cost I.periods I.weights) E T students;
-  night = students_cost (night_cost I.periods I.weights) E T students;
-}
+students_penalty I E T students = by_kind (λ k. students_cost (cost_in I k) E T students)
 
 -- the share of these students and of the front load in the penalty of a timetable
 abbrev pub students_share : Session → Enrolled → Placing → List ℕ → Penalty
-students_share I E T students = record {
-  row = (students_penalty I E T students).row;
-  day = (students_penalty I E T students).day;
-  spread = (students_penalty I E T students).spread;
-  night = (students_penalty I E T students).night;
-  mixed = 0;
-  front = front_part I E T;
-  period = 0;
-  room = 0;
-}
+students_share I E T students =
+    whole (students_penalty I E T students) 0 (front_part I E T) 0 0

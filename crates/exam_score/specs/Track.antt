@@ -8,9 +8,9 @@ use Rattle.exam_model.specs.Sums.{sum_below}
 use Rattle.exam_model.specs.declared.parts.Period.{Period}
 use Rattle.exam_model.specs.declared.parts.Room.{Room}
 use Rattle.exam_terms.specs.declared.place.Place.{Place}
-use Rattle.exam_score.specs.Cost.{row_cost, day_cost, spread_cost, night_cost}
+use Rattle.exam_score.specs.Kinds.{cost_in, by_kind}
 use Rattle.exam_score.specs.Regrouping.{pair_part}
-use Rattle.exam_score.specs.Penalty.{Penalty}
+use Rattle.exam_score.specs.Penalty.{Penalty, PersonalPenalty, whole}
 use Rattle.exam_score.specs.MixedDurations.{mixed_part}
 use Rattle.exam_score.specs.FrontLoad.{front_part}
 
@@ -46,15 +46,11 @@ room_part I T = sum_below (length I.exams) (λ e. exam_room I (place_of T e))
 
 -- ---- the whole
 
+-- the parts of pairs of exams
+abbrev pub pair_parts : Session → Enrolled → Placing → PersonalPenalty
+pair_parts I E T = by_kind (λ k. pair_part (cost_in I k) E (period_of T))
+
 -- all eight parts
 abbrev pub track : Session → Enrolled → Placing → Penalty
-track I E T = record {
-  row = pair_part (row_cost I.periods I.weights) E (period_of T);
-  day = pair_part (day_cost I.periods I.weights) E (period_of T);
-  spread = pair_part (spread_cost I.periods I.weights) E (period_of T);
-  night = pair_part (night_cost I.periods I.weights) E (period_of T);
-  mixed = mixed_part I T;
-  front = front_part I E T;
-  period = period_part I T;
-  room = room_part I T;
-}
+track I E T =
+    whole (pair_parts I E T) (mixed_part I T) (front_part I E T) (period_part I T) (room_part I T)

@@ -3,19 +3,14 @@ ghost use Rattle.std.specs.Prelude.{◌≡◌, ◌<◌, ◌≤◌, length};
 ghost use Rattle.exam_model.specs.Fits.{period_of};
 ghost use Rattle.exam_model.specs.PairCost.{cost_between};
 ghost use Rattle.exam_score.specs.ConflictCosts.{AreInTimetable, IsSmallCost, conflicts_cost};
-ghost use Rattle.exam_score.specs.Cost.{row_cost, day_cost, spread_cost, night_cost};
+ghost use Rattle.exam_score.specs.Cost.{night_cost};
+ghost use Rattle.exam_score.specs.Kinds.{TableKind, by_table, table_amount, table_cost};
 ghost use Rattle.exam_score.specs.Lines.{costs_of, IsTable};
 
-use crate::lines::{Line, PairCosts, costs_in};
+use crate::amounts::{Amounts, NOTHING};
+use crate::lines::{Line, costs_in};
 use crate::pair_costs::NightCost;
-use crate::walk::PairSums;
 use exam_model::{Conflict, Instance, PairCost, PeriodNo, Timetable};
-
-const FREE: PairCosts = PairCosts {
-    row: 0,
-    day: 0,
-    spread: 0,
-};
 
 // Returns the cost of row, day and spread over all conflicts.
 pub(crate) fn sums_of_conflicts(
@@ -23,31 +18,20 @@ pub(crate) fn sums_of_conflicts(
     lines: &[Line],
     timetable: &Timetable,
     conflicts: &[Conflict],
-) -> PairSums
+) -> Amounts<u64>
     requires table { IsTable instance.now lines.now }
     requires exist { AreInTimetable timetable.now conflicts.now }
-    requires few_rows { IsSmallCost (row_cost instance.now.periods instance.now.weights)
-        timetable.now conflicts.now }
-    requires few_days { IsSmallCost (day_cost instance.now.periods instance.now.weights)
-        timetable.now conflicts.now }
-    requires few_spread { IsSmallCost (spread_cost instance.now.periods instance.now.weights)
-        timetable.now conflicts.now }
-    ensures row { result.row ≡ conflicts_cost
-        (row_cost instance.now.periods instance.now.weights) timetable.now conflicts.now }
-    ensures day { result.day ≡ conflicts_cost
-        (day_cost instance.now.periods instance.now.weights) timetable.now conflicts.now }
-    ensures spread { result.spread ≡ conflicts_cost
-        (spread_cost instance.now.periods instance.now.weights) timetable.now conflicts.now }
+    requires few { (k : TableKind) →
+        IsSmallCost (table_cost instance.now k) timetable.now conflicts.now }
+    ensures { (k : TableKind) → table_amount result k
+        ≡ conflicts_cost (table_cost instance.now k) timetable.now conflicts.now }
 {
-    let (mut row, mut day, mut spread) = (0, 0, 0);
+    let mut sums = NOTHING;
     for conflict in conflicts {
         let costs = costs_at(instance, lines, timetable, conflict);
-        let students = u64::from(conflict.students);
-        row += students * u64::from(costs.row);
-        day += students * u64::from(costs.day);
-        spread += students * u64::from(costs.spread);
+        sums.add(costs, conflict.students);
     }
-    PairSums { row, day, spread }
+    sums
 }
 
 // Returns the costs of the periods of a conflict's exams; nothing if one of them is not placed.
@@ -56,26 +40,27 @@ fn costs_at(
     lines: &[Line],
     timetable: &Timetable,
     conflict: &Conflict,
-) -> PairCosts
+) -> Amounts<u64>
     requires table { IsTable instance.now lines.now }
     requires exists { conflict.now.exam < length timetable.now }
     requires other_exists { conflict.now.other < length timetable.now }
-    ensures row { result.row ≡ cost_between (row_cost instance.now.periods instance.now.weights)
-        (period_of timetable.now conflict.now.exam) (period_of timetable.now conflict.now.other) }
-    ensures day { result.day ≡ cost_between (day_cost instance.now.periods instance.now.weights)
-        (period_of timetable.now conflict.now.exam) (period_of timetable.now conflict.now.other) }
-    ensures spread { result.spread
-        ≡ cost_between (spread_cost instance.now.periods instance.now.weights)
-        (period_of timetable.now conflict.now.exam) (period_of timetable.now conflict.now.other) }
+    ensures { result ≡ by_table (λ k. cost_between (table_cost instance.now k)
+        (period_of timetable.now conflict.now.exam)
+        (period_of timetable.now conflict.now.other)) }
 {
     match (timetable.get(conflict.exam), timetable.get(conflict.other)) {
         (Some(one), Some(two)) => costs_between(instance, lines, two.period, one.period),
-        _ => FREE,
+        _ => NOTHING,
     }
 }
 
 // Returns the costs of two periods, by the line of the later one.
-fn costs_between(instance: &Instance, lines: &[Line], one: PeriodNo, other: PeriodNo) -> PairCosts
+fn costs_between(
+    instance: &Instance,
+    lines: &[Line],
+    one: PeriodNo,
+    other: PeriodNo,
+) -> Amounts<u64>
     requires table { IsTable instance.now lines.now }
     ensures { result ≡ costs_of instance.now one other }
 {
@@ -91,16 +76,16 @@ fn costs_below(
     lines: &[Line],
     period: PeriodNo,
     earlier: PeriodNo,
-) -> PairCosts
+) -> Amounts<u64>
     requires table { IsTable instance.now lines.now }
     requires earlier { earlier ≤ period }
     ensures { result ≡ costs_of instance.now period earlier }
 {
     let Some(line) = lines.get(period.get() as usize) else {
-        return FREE; // there is no such period
+        return NOTHING; // there is no such period
     };
     if earlier.get() < line.first {
-        return FREE; // as for most pairs of periods
+        return NOTHING; // as for most pairs of periods
     }
     costs_in(instance, &line.costs, period, earlier)
 }

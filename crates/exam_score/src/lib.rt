@@ -1,6 +1,7 @@
 //! The penalty of a timetable (ITC 2007, examination track).
 #![tactic(auto)]
 
+mod amounts;
 mod candidate;
 mod changes;
 mod concerned;

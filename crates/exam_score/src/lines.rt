@@ -1,23 +1,17 @@
 // The costs of pairs of periods, each looked up once.
 ghost use Rattle.std.specs.Prelude.{◌≡◌, ◌<◌, ◌≤◌, ℕ, ◌↔◌, IsTrue, length, IfOk};
+ghost use Rattle.exam_score.specs.Kinds.{by_table};
 ghost use Rattle.exam_score.specs.Lines.{costs_of, IsFirstCost, IsLine, IsTable};
 
+use crate::amounts::Amounts;
 use crate::pair_costs::{DayCost, RowCost, SpreadCost};
 use exam_model::{Instance, PairCost, PeriodNo};
 use std::alloc::{AllocError, Global};
 
-// The costs of two periods.
-#[derive(Clone, Copy)]
-pub(crate) struct PairCosts {
-    pub row: u32,
-    pub day: u32,
-    pub spread: u32,
-}
-
 // The costs of a period with each period up to itself, and the first of these that costs anything.
 #[derive(Drop)]
 pub(crate) struct Line {
-    pub costs: Vec<PairCosts>,
+    pub costs: Vec<Amounts<u32>>,
     pub first: u32,
 }
 
@@ -40,7 +34,7 @@ fn line_of(
     alloc: Global,
     instance: &Instance,
     period: PeriodNo,
-) -> Result<Vec<PairCosts>, AllocError>
+) -> Result<Vec<Amounts<u32>>, AllocError>
     requires exists { period < length instance.now.periods }
     ensures { IfOk result (λ line. IsLine instance.now period line.items) }
 {
@@ -53,10 +47,10 @@ fn line_of(
     Ok(line)
 }
 
-fn costs_between(instance: &Instance, period: PeriodNo, other: PeriodNo) -> PairCosts
+fn costs_between(instance: &Instance, period: PeriodNo, other: PeriodNo) -> Amounts<u32>
     ensures { result ≡ costs_of instance.now period other }
 {
-    PairCosts {
+    Amounts {
         row: RowCost(instance).cost(other, period) as u32,
         day: DayCost(instance).cost(other, period) as u32,
         spread: SpreadCost(instance).cost(other, period) as u32,
@@ -65,7 +59,7 @@ fn costs_between(instance: &Instance, period: PeriodNo, other: PeriodNo) -> Pair
 
 // Returns the first period up to this one that costs anything with it, by its line; if there is
 // none, the period after it.
-fn first_cost(instance: &Instance, line: &[PairCosts], period: PeriodNo) -> u32
+fn first_cost(instance: &Instance, line: &[Amounts<u32>], period: PeriodNo) -> u32
     requires exists { period < length instance.now.periods }
     requires line { IsLine instance.now period line.now }
     ensures { IsFirstCost instance.now period result }
@@ -81,8 +75,8 @@ fn first_cost(instance: &Instance, line: &[PairCosts], period: PeriodNo) -> u32
     count
 }
 
-fn is_free(costs: PairCosts) -> bool
-    ensures { IsTrue result ↔ (costs ≡ record { row = 0; day = 0; spread = 0 }) }
+fn is_free(costs: Amounts<u64>) -> bool
+    ensures { IsTrue result ↔ (costs ≡ by_table (λ k. 0)) }
 {
     costs.row == 0 && costs.day == 0 && costs.spread == 0
 }
@@ -90,13 +84,13 @@ fn is_free(costs: PairCosts) -> bool
 // Returns the costs of a period with one that isn't later, by its line.
 pub(crate) fn costs_in(
     instance: &Instance,
-    line: &[PairCosts],
+    line: &[Amounts<u32>],
     period: PeriodNo,
     other: PeriodNo,
-) -> PairCosts
+) -> Amounts<u64>
     requires line { IsLine instance.now period line.now }
     requires earlier { other ≤ period }
     ensures { result ≡ costs_of instance.now period other }
 {
-    line[other.get() as usize]
+    line[other.get() as usize].widened()
 }

@@ -1,7 +1,7 @@
 // The numbers of a penalty: contracts see them as a record.
 ghost use Rattle.std.specs.Prelude.{◌≡◌, ◌+◌, ◌^◌, ◌<◌, ◌≤◌, Some, None, IfSome, IfNone};
 ghost use Rattle.exam_score.specs.Exchanges.{CannotExchange, IsExchanged};
-ghost use Rattle.exam_score.specs.Penalty.{Penalty, total_of};
+ghost use Rattle.exam_score.specs.Penalty.{Penalty, pairs_in, total_of, whole};
 
 use crate::personal_parts::PersonalParts;
 use crate::places::PlaceSums;
@@ -14,10 +14,7 @@ pub(crate) const TOTAL_LIMIT: u64 = 1 << 62;
 /// night. The total is below 2^62.
 #[derive(Clone, Copy, Debug, PartialEq, Eq)]
 pub struct Parts {
-    row: u64,
-    day: u64,
-    spread: u64,
-    night: u64,
+    pairs: PersonalParts,
     mixed: u64,
     front: u64,
     period: u64,
@@ -27,25 +24,12 @@ pub struct Parts {
 impl Model for Parts {
     ghost Value = { Penalty };
 
-    ghost view = { λ a. record {
-      row = a.row;
-      day = a.day;
-      spread = a.spread;
-      night = a.night;
-      mixed = a.mixed;
-      front = a.front;
-      period = a.period;
-      room = a.room;
-    } };
+    ghost view = { λ a. whole a.pairs a.mixed a.front a.period a.room };
 
-    ghost invariant = { λ a.
-        a.row + a.day + a.spread + a.night + a.mixed + a.front + a.period + a.room < 2 ^ 62 };
+    ghost invariant = { λ a. total_of (whole a.pairs a.mixed a.front a.period a.room) < 2 ^ 62 };
 
     ghost inverse = { λ p. record {
-      row = p.row;
-      day = p.day;
-      spread = p.spread;
-      night = p.night;
+      pairs = pairs_in p;
       mixed = p.mixed;
       front = p.front;
       period = p.period;
@@ -79,17 +63,13 @@ impl Parts {
         ensures beyond { IfNone result
             (2 ^ 62 ≤ row + day + spread + night + mixed + front + period + room) }
     {
+        let pairs = PersonalParts::new(row, day, spread, night)?;
         // A sum beyond u64 becomes the greatest u64, which is beyond the limit too.
-        let pairs = row.saturating_add(day).saturating_add(spread);
-        let pairs = pairs.saturating_add(night);
-        let exams = pairs.saturating_add(mixed).saturating_add(front);
+        let exams = pairs.total().saturating_add(mixed).saturating_add(front);
         let total = exams.saturating_add(period).saturating_add(room);
         if total < TOTAL_LIMIT {
             Some(Parts {
-                row,
-                day,
-                spread,
-                night,
+                pairs,
                 mixed,
                 front,
                 period,
@@ -102,24 +82,11 @@ impl Parts {
 
     // Returns the same, if the total is known to be within the limit.
     pub(crate) fn of(pairs: PersonalParts, mixed: u64, front: u64, places: PlaceSums) -> Parts
-        requires { pairs.row + pairs.day + pairs.spread + pairs.night + mixed + front
-            + places.periods + places.rooms < 2 ^ 62 }
-        ensures { result ≡ record {
-          row = pairs.row;
-          day = pairs.day;
-          spread = pairs.spread;
-          night = pairs.night;
-          mixed = mixed;
-          front = front;
-          period = places.periods;
-          room = places.rooms;
-        } }
+        requires { total_of (whole pairs mixed front places.periods places.rooms) < 2 ^ 62 }
+        ensures { result ≡ whole pairs mixed front places.periods places.rooms }
     {
         Parts {
-            row: pairs.row(),
-            day: pairs.day(),
-            spread: pairs.spread(),
-            night: pairs.night(),
+            pairs,
             mixed,
             front,
             period: places.periods,
@@ -133,11 +100,12 @@ impl Parts {
         ensures made { IfSome result (IsExchanged self goes comes) }
         ensures none { IfNone result (CannotExchange self goes comes) }
     {
+        let (pairs, less, more) = (self.pairs, goes.pairs, comes.pairs);
         Parts::new(
-            exchanged(self.row, goes.row, comes.row)?,
-            exchanged(self.day, goes.day, comes.day)?,
-            exchanged(self.spread, goes.spread, comes.spread)?,
-            exchanged(self.night, goes.night, comes.night)?,
+            exchanged(pairs.row(), less.row(), more.row())?,
+            exchanged(pairs.day(), less.day(), more.day())?,
+            exchanged(pairs.spread(), less.spread(), more.spread())?,
+            exchanged(pairs.night(), less.night(), more.night())?,
             exchanged(self.mixed, goes.mixed, comes.mixed)?,
             exchanged(self.front, goes.front, comes.front)?,
             exchanged(self.period, goes.period, comes.period)?,
@@ -149,28 +117,28 @@ impl Parts {
     pub fn row(&self) -> u64
         ensures { result ≡ self.now.row }
     {
-        self.row
+        self.pairs.row()
     }
 
     /// Returns the part for exams in a day.
     pub fn day(&self) -> u64
         ensures { result ≡ self.now.day }
     {
-        self.day
+        self.pairs.day()
     }
 
     /// Returns the part for exams within the period spread.
     pub fn spread(&self) -> u64
         ensures { result ≡ self.now.spread }
     {
-        self.spread
+        self.pairs.spread()
     }
 
     /// Returns the part for exams over night.
     pub fn night(&self) -> u64
         ensures { result ≡ self.now.night }
     {
-        self.night
+        self.pairs.night()
     }
 
     /// Returns the part for mixed durations.
@@ -206,7 +174,7 @@ impl Parts {
         ensures total { result ≡ total_of self.now }
         ensures within { result < 2 ^ 62 }
     {
-        let pairs = self.row + self.day + self.spread + self.night;
+        let pairs = self.pairs.total();
         let exams = self.mixed + self.front;
         pairs + exams + self.period + self.room
     }

@@ -2,41 +2,24 @@
 ghost use Rattle.std.specs.Prelude.{◌≡◌, ℕ, ◌-◌, ◌≤◌, ◌<◌, length, take, slice_index_or, sum_by, IfSome, IfNone};
 ghost use Rattle.exam_terms.specs.declared.limits.TheConstants.{MAX_PAIRS};
 ghost use Rattle.exam_model.specs.Instance.{Session};
-ghost use Rattle.exam_score.specs.Cost.{row_cost, day_cost, spread_cost};
+ghost use Rattle.exam_score.specs.Kinds.{TableKind, table_amount, table_cost};
 ghost use Rattle.exam_score.specs.Lines.{IsLine, IsTable, IsFirstCost};
 ghost use Rattle.exam_score.specs.Tallies.{cost_with_tally, tally_cost, row_count};
 ghost use Rattle.exam_score.specs.TallyLinks.{AreLinked, IsOnWay, IsOwnPlace, IsReached};
 ghost use Rattle.exam_score.specs.declared.tallies.Tally.{Tally};
 
-use crate::lines::{Line, PairCosts, costs_in};
+use crate::amounts::{Amounts, NOTHING};
+use crate::lines::{Line, costs_in};
 use crate::tallies::Tally;
 use exam_model::{Instance, StudentNo};
 
-// The costs of pairs of exams.
-#[derive(Clone, Copy)]
-pub(crate) struct PairSums {
-    pub row: u64,
-    pub day: u64,
-    pub spread: u64,
-}
-
-const NOTHING: PairSums = PairSums {
-    row: 0,
-    day: 0,
-    spread: 0,
-};
-
 // Returns the cost over all pairs of tallies.
-pub(crate) fn sums_of_pairs(instance: &Instance, lines: &[Line], tallies: &[Tally]) -> PairSums
+pub(crate) fn sums_of_pairs(instance: &Instance, lines: &[Line], tallies: &[Tally]) -> Amounts<u64>
     requires table { IsTable instance.now lines.now }
     requires linked { AreLinked tallies.now }
     requires few { row_count tallies.now ≤ MAX_PAIRS }
-    ensures row { result.row
-        ≡ tally_cost (row_cost instance.now.periods instance.now.weights) tallies.now }
-    ensures day { result.day
-        ≡ tally_cost (day_cost instance.now.periods instance.now.weights) tallies.now }
-    ensures spread { result.spread
-        ≡ tally_cost (spread_cost instance.now.periods instance.now.weights) tallies.now }
+    ensures { (k : TableKind) → table_amount result k
+        ≡ tally_cost (table_cost instance.now k) tallies.now }
 {
     let _kept = instance.periods(); // read for the limits of its weights
     let mut sums = NOTHING;
@@ -45,10 +28,7 @@ pub(crate) fn sums_of_pairs(instance: &Instance, lines: &[Line], tallies: &[Tall
             continue; // as for most tallies
         };
         let more = cost_along_line(instance, line, tallies, place, tally);
-        let exams = u64::from(tally.exams);
-        sums.row += more.row * exams;
-        sums.day += more.day * exams;
-        sums.spread += more.spread * exams;
+        sums.add(more, tally.exams);
     }
     sums
 }
@@ -70,13 +50,8 @@ fn line_beside<'a>(
         → IfSome result (λ found. IsFirstCost I tally.now.period found.0.now.first) }
     ensures place { IfSome result (λ found.
         IsOwnPlace tallies.now at tally.now.student found.0.now.first found.1) }
-    ensures row { (I : Session) → IsTable I lines.now → IfNone result (0
-        ≡ sum_by (cost_with_tally (row_cost I.periods I.weights) tally.now) (take at tallies.now)) }
-    ensures day { (I : Session) → IsTable I lines.now → IfNone result (0
-        ≡ sum_by (cost_with_tally (day_cost I.periods I.weights) tally.now) (take at tallies.now)) }
-    ensures spread { (I : Session) → IsTable I lines.now → IfNone result (0
-        ≡ sum_by (cost_with_tally (spread_cost I.periods I.weights) tally.now)
-        (take at tallies.now)) }
+    ensures none { (I : Session) (k : TableKind) → IsTable I lines.now → IfNone result (0
+        ≡ sum_by (cost_with_tally (table_cost I k) tally.now) (take at tallies.now)) }
 {
     let Some(line) = lines.get(tally.period.get() as usize) else {
         return None;
@@ -95,7 +70,7 @@ fn cost_along_line(
     tallies: &[Tally],
     place: u32,
     tally: &Tally,
-) -> PairSums
+) -> Amounts<u64>
     requires within { place ≤ length tallies.now }
     requires own { (d : Tally) → 0 < place
         → (slice_index_or tallies.now (place - 1) d).student ≡ tally.now.student }
@@ -105,25 +80,16 @@ fn cost_along_line(
     requires first { IsFirstCost instance.now tally.now.period line.now.first }
     requires linked { AreLinked tallies.now }
     requires few { row_count tallies.now ≤ MAX_PAIRS }
-    ensures row { result.row
-        ≡ sum_by (cost_with_tally (row_cost instance.now.periods instance.now.weights) tally.now)
-        (take place tallies.now) }
-    ensures day { result.day
-        ≡ sum_by (cost_with_tally (day_cost instance.now.periods instance.now.weights) tally.now)
-        (take place tallies.now) }
-    ensures spread { result.spread
-        ≡ sum_by (cost_with_tally (spread_cost instance.now.periods instance.now.weights) tally.now)
-        (take place tallies.now) }
+    ensures { (k : TableKind) → table_amount result k
+        ≡ sum_by (cost_with_tally (table_cost instance.now k) tally.now) (take place tallies.now) }
 {
     let _kept = instance.periods(); // read for the limits of its weights
     let mut sums = NOTHING;
     let mut next = place;
     while next != 0 {
         let other = tallies[next as usize - 1];
-        let more = between(instance, &line.costs, tally, &other);
-        sums.row += more.row;
-        sums.day += more.day;
-        sums.spread += more.spread;
+        let costs = costs_in(instance, &line.costs, tally.period, other.period);
+        sums.add(costs, other.exams);
         next = own_place(tallies, other.before, line.first, tally.student);
     }
     sums
@@ -162,25 +128,4 @@ pub(crate) fn reached(tallies: &[Tally], next: u32, first: u32) -> Option<Tally>
         return None;
     }
     Some(tally)
-}
-
-// Returns the cost of one exam of a tally with those of another one of its student.
-fn between(instance: &Instance, line: &[PairCosts], tally: &Tally, other: &Tally) -> PairSums
-    requires line { IsLine instance.now tally.now.period line.now }
-    requires own { other.now.student ≡ tally.now.student }
-    requires earlier { other.now.period ≤ tally.now.period }
-    ensures row { result.row
-        ≡ cost_with_tally (row_cost instance.now.periods instance.now.weights) tally.now other.now }
-    ensures day { result.day
-        ≡ cost_with_tally (day_cost instance.now.periods instance.now.weights) tally.now other.now }
-    ensures spread { result.spread
-        ≡ cost_with_tally (spread_cost instance.now.periods instance.now.weights) tally.now
-        other.now }
-{
-    let costs = costs_in(instance, line, tally.period, other.period);
-    let exams = u64::from(other.exams);
-    let row = exams * u64::from(costs.row);
-    let day = exams * u64::from(costs.day);
-    let spread = exams * u64::from(costs.spread);
-    PairSums { row, day, spread }
 }

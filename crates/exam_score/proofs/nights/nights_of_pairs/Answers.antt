@@ -1,10 +1,10 @@
-use Rattle.std.proofs.Common.{◌≡◌, ◌≤◌, ◌+◌, ◌*◌, take, arith, sym, ◌∙◌, ap}
+use Rattle.std.proofs.Common.{◌+◌, ◌*◌, sym, ◌∙◌, ap, subst, arith}
 use Rattle.std.proofs.lemmas.List.{get_or_default}
 use Rattle.exam_score.specs.Cost.{night_cost}
-use Rattle.exam_score.specs.Tallies.{row_count}
-use Rattle.exam_score.proofs.CostLemmas.{night_cost-small}
+use Rattle.exam_score.specs.Kinds.{over_night}
+use Rattle.exam_score.proofs.CostLemmas.{cost_in-small}
 use Rattle.exam_score.proofs.NightLemmas.{weightless_tallies}
-use Rattle.exam_score.proofs.WalkLemmas.{beside_small, pairs_more, small_more, small_within}
+use Rattle.exam_score.proofs.WalkLemmas.{IsCostTo, cost_to_more, cost_to-small}
 use Rattle.exam_score.proofs.nights.nights_of_pairs.Goals as goal
 
 pub nights_with_exam-more-requires : goal.nights_with_exam-more-requires
@@ -17,47 +17,31 @@ nights_with_exam-more-requires c = record {
   few = c.requires.few;
 }
 
--- the sum after one more tally
-most : (c : goal.After-from-exams)
-    → c.loop-at.total + c.nights_with_exam-more.result * c.from-exams.result
-    ≤ row_count (take (c.loop-at.at + 1) c.args.tallies.now) * 20000000000
-most c =
+-- the sum with one more tally
+more : (c : goal.After-from-exams)
+    → IsCostTo (night_cost c.args.instance.now.periods c.args.instance.now.weights)
+    c.args.tallies.now (c.loop-at.at + 1)
+    (c.loop-at.total + c.nights_with_exam-more.result * c.from-exams.result)
+more c =
     let I = c.args.instance.now in
-    let xs = c.args.tallies.now in
-    let y = c.index-tallies-at.result in
-    let at = c.loop-at.at in
-    let small : c.nights_with_exam-more.result ≤ 20000000000 =
-    rw c.nights_with_exam-more.ensures
-    (beside_small (night_cost I.periods I.weights) xs
-    y at (night_cost-small I c.periods-kept.ensures.kept) c.requires.few) in
-    let all : c.loop-at.total + c.nights_with_exam-more.result * y.exams
-    ≤ row_count (take (at + 1) xs) * 20000000000
-    = small_more xs at c.loop-at.total c.nights_with_exam-more.result y c.loop-at-test.true
-    c.index-tallies-at.is c.loop-at.invariant.small small in
-    let same : c.nights_with_exam-more.result * c.from-exams.result
-    ≡ c.nights_with_exam-more.result * y.exams =
-    ap (λ n. c.nights_with_exam-more.result * n) c.from-exams.ensures in
-    omega arith
+    let cost = night_cost I.periods I.weights in
+    subst (λ n. IsCostTo cost c.args.tallies.now (c.loop-at.at + 1)
+    (c.loop-at.total + c.nights_with_exam-more.result * n)) (sym c.from-exams.ensures)
+    (cost_to_more cost c.args.tallies.now c.loop-at.at _ _ c.index-tallies-at.result
+    c.loop-at-test.true c.index-tallies-at.is
+    (cost_in-small I c.periods-kept.ensures.kept over_night) c.requires.few c.loop-at.invariant
+    c.nights_with_exam-more.ensures)
 
 pub loop-at-preserved : goal.loop-at-preserved
-loop-at-preserved c = record {
-  sum = ap (λ n. c.loop-at.total + c.nights_with_exam-more.result * n) c.from-exams.ensures
-      ∙ pairs_more (night_cost c.args.instance.now.periods c.args.instance.now.weights)
-      c.args.tallies.now c.loop-at.at c.loop-at.total c.nights_with_exam-more.result
-      c.index-tallies-at.result c.loop-at-test.true c.index-tallies-at.is
-      c.loop-at.invariant.sum c.nights_with_exam-more.ensures;
-  small = most c;
-}
+loop-at-preserved c = more c
 
 pub overflow_add-total : goal.overflow_add-total
 overflow_add-total c =
-    let within = small_within c.args.tallies.now (c.loop-at.at + 1) _ c.requires.few (most c) in
-    omega arith
+    let small = cost_to-small _ c.args.tallies.now _ _ c.requires.few (more c) in omega arith
 
 pub overflow_mul-total : goal.overflow_mul-total
 overflow_mul-total c =
-    let within = small_within c.args.tallies.now (c.loop-at.at + 1) _ c.requires.few (most c) in
-    omega arith
+    let small = cost_to-small _ c.args.tallies.now _ _ c.requires.few (more c) in omega arith
 
 pub returns-then-weights-eq0 : goal.returns-then-weights-eq0
 returns-then-weights-eq0 c =

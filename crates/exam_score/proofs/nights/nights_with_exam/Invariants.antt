@@ -1,18 +1,13 @@
-use Rattle.std.proofs.Common.{◌≡◌, ◌≤◌, ◌<◌, ◌+◌, ◌-◌, sum_by, take, get_or}
+use Rattle.std.proofs.Common.{◌≡◌, ◌+◌, sum_by, take}
 use Rattle.exam_score.specs.Cost.{night_cost}
 use Rattle.exam_score.specs.Tallies.{cost_with_tally}
-use Rattle.exam_score.specs.TallyLinks.{slot_of_student, AreLinked}
-use Rattle.exam_score.specs.declared.tallies.Tally.{Tally}
+use Rattle.exam_score.specs.TallyLinks.{IsOnWay}
 use Rattle.exam_score.proofs.nights.nights_with_exam.Given as goal
 
 -- the sum and the rest of the slot add up to the whole
 abbrev pub invariant-loop-other : goal.invariant-loop-other
 invariant-loop-other l = record {
-  within : l.next ≤ l.at;
-  linked : AreLinked l.tallies;
-  slot : (d : Tally) → 0 < l.next
-      → slot_of_student linked.slots (get_or l.tallies (l.next - 1) d).student
-      ≡ slot_of_student linked.slots l.tally.student;
+  way : IsOnWay l.tallies l.next l.tally.student;
   night : l.total + sum_by
       (cost_with_tally (night_cost l.instance.periods l.instance.weights) l.tally)
       (take l.next l.tallies)

@@ -1,5 +1,5 @@
 use Rattle.std.proofs.Common.{arith, ◌∙◌, ap, subst}
-use Rattle.exam_score.specs.Cost.{row_cost, day_cost, spread_cost, night_cost}
+use Rattle.exam_score.specs.Kinds.{over_night, cost_in, table_cost}
 use Rattle.exam_score.specs.Tallies.{tally_cost, AreCounted}
 use Rattle.exam_score.proofs.PairsLemmas.{pair_parts_tallied, tallied_rows, few_seats, few_tallied}
 use Rattle.exam_score.proofs.pairs.parts_of_tallies.Goals as goal
@@ -54,52 +54,30 @@ pub of-requires : goal.of-requires
 of-requires c =
     let I = c.args.instance.now in
     let E = c.args.enrolments.now in
-    let tallies = c.in_ok-tallies.tallies.items in
-    let counted : AreCounted E c.in_ok-sittings.sittings.items tallies =
-    subst (λ xs. AreCounted E xs tallies) c.deref.ensures.value
-    c.in_ok-tallies.ensures.counted in
-    let parts = pair_parts_tallied I E c.args.timetable.now c.in_ok-sittings.sittings.items tallies
-    (record {
-      row = c.sums_of_pairs-sums.result.row;
-      day = c.sums_of_pairs-sums.result.day;
-      spread = c.sums_of_pairs-sums.result.spread;
-      night = c.nights_of_pairs-night.result;
-    })
+    let parts = pair_parts_tallied I E c.args.timetable.now c.in_ok-sittings.sittings.items
+    c.in_ok-tallies.tallies.items c.sums_of_pairs-sums.result c.nights_of_pairs-night.result
     c.periods-known.ensures.kept c.pairs-kept.ensures.kept c.requires.exams
-    c.in_ok-sittings.ensures.all counted
-    (c.sums_of_pairs-sums.ensures.row
-    ∙ ap (tally_cost (row_cost I.periods I.weights)) c.deref-3.ensures.value)
-    (c.sums_of_pairs-sums.ensures.day
-    ∙ ap (tally_cost (day_cost I.periods I.weights)) c.deref-3.ensures.value)
-    (c.sums_of_pairs-sums.ensures.spread
-    ∙ ap (tally_cost (spread_cost I.periods I.weights)) c.deref-3.ensures.value)
+    c.in_ok-sittings.ensures.all
+    (subst (λ xs. AreCounted E xs c.in_ok-tallies.tallies.items) c.deref.ensures.value
+    c.in_ok-tallies.ensures.counted)
+    (λ k. c.sums_of_pairs-sums.ensures k
+    ∙ ap (tally_cost (table_cost I k)) c.deref-3.ensures.value)
     (c.nights_of_pairs-night.ensures
-    ∙ ap (tally_cost (night_cost I.periods I.weights)) c.deref-4.ensures.value) in
-    omega (arith, parts.few_rows, parts.few_days, parts.few_spread, parts.few_nights)
+    ∙ ap (tally_cost (cost_in I over_night)) c.deref-4.ensures.value) in
+    omega (arith, parts.few)
 
 pub returns : goal.returns
 returns c =
     let I = c.args.instance.now in
     let E = c.args.enrolments.now in
-    let tallies = c.in_ok-tallies.tallies.items in
-    let counted : AreCounted E c.in_ok-sittings.sittings.items tallies =
-    subst (λ xs. AreCounted E xs tallies) c.deref.ensures.value
-    c.in_ok-tallies.ensures.counted in
-    let parts = pair_parts_tallied I E c.args.timetable.now c.in_ok-sittings.sittings.items tallies
-    (record {
-      row = c.sums_of_pairs-sums.result.row;
-      day = c.sums_of_pairs-sums.result.day;
-      spread = c.sums_of_pairs-sums.result.spread;
-      night = c.nights_of_pairs-night.result;
-    })
+    rw c.of.ensures
+    (pair_parts_tallied I E c.args.timetable.now c.in_ok-sittings.sittings.items
+    c.in_ok-tallies.tallies.items c.sums_of_pairs-sums.result c.nights_of_pairs-night.result
     c.periods-known.ensures.kept c.pairs-kept.ensures.kept c.requires.exams
-    c.in_ok-sittings.ensures.all counted
-    (c.sums_of_pairs-sums.ensures.row
-    ∙ ap (tally_cost (row_cost I.periods I.weights)) c.deref-3.ensures.value)
-    (c.sums_of_pairs-sums.ensures.day
-    ∙ ap (tally_cost (day_cost I.periods I.weights)) c.deref-3.ensures.value)
-    (c.sums_of_pairs-sums.ensures.spread
-    ∙ ap (tally_cost (spread_cost I.periods I.weights)) c.deref-3.ensures.value)
+    c.in_ok-sittings.ensures.all
+    (subst (λ xs. AreCounted E xs c.in_ok-tallies.tallies.items) c.deref.ensures.value
+    c.in_ok-tallies.ensures.counted)
+    (λ k. c.sums_of_pairs-sums.ensures k
+    ∙ ap (tally_cost (table_cost I k)) c.deref-3.ensures.value)
     (c.nights_of_pairs-night.ensures
-    ∙ ap (tally_cost (night_cost I.periods I.weights)) c.deref-4.ensures.value) in
-    rw c.of.ensures parts
+    ∙ ap (tally_cost (cost_in I over_night)) c.deref-4.ensures.value))
