@@ -12,15 +12,11 @@ use Rattle.office_tables.specs.ShareStudent.{with_student_share, without_student
 use Rattle.office_tables.specs.Slot.{with_slot, with_slots}
 use Rattle.office_tables.specs.Tables.{Tables}
 use Rattle.office_tables.specs.declared.draft.InsertDraft.{InsertDraft}
-use Rattle.office_tables.specs.declared.enrol.InsertEnrol.{InsertEnrol}
 use Rattle.office_tables.specs.declared.placed.DeletePlacement.{DeletePlacement}
-use Rattle.office_tables.specs.declared.placed.InsertPlacement.{InsertPlacement}
 use Rattle.office_tables.specs.declared.seat.DeleteStudentSeats.{DeleteStudentSeats}
-use Rattle.office_tables.specs.declared.seat.InsertSeat.{InsertSeat}
-use Rattle.office_tables.specs.declared.share_part.InsertPartShare.{InsertPartShare}
 use Rattle.office_tables.specs.declared.share_student.DeleteStudentShare.{DeleteStudentShare}
 use Rattle.office_tables.specs.declared.share_student.InsertStudentShare.{InsertStudentShare}
-use Rattle.office_tables.specs.declared.slot.InsertSlot.{InsertSlot}
+use Rattle.office_tables.specs.Inserted.{InsertPartShare, InsertSeat, InsertPlacement, InsertEnrol, InsertSlot}
 
 -- a row that comes before others comes last in their reverse
 pub first_last : {X : Type 0} (x : X) (xs ys : List X)

@@ -1,6 +1,6 @@
 -- The effect of a reader, and the answers of any query.
 use Rattle.std.proofs.Common.{◌≡◌, ◌+◌, IsSorted, is_lt, subst₂, inl, inr, ℕ, List, [], ◌∷◌, map, false, None, Ok, Err, Result, arith, subst, refl, sym, ap, ◌∙◌, IsTrue}
-use Rattle.std.specs.Prelude.{IsPermutation, nat_le, unwrap_or, ◌^◌}
+use Rattle.std.specs.Prelude.{IsPermutation, OnOk, nat_le, unwrap_or, ◌^◌}
 use Rattle.std.proofs.lemmas.List.{get_or-map, length-map}
 use Rattle.sqlite_value.specs.Order.{Row}
 use Rattle.sqlite_value.specs.declared.keys.Key.{Key}
@@ -9,6 +9,7 @@ use Rattle.sqlite_trees.specs.Tree.{Trees}
 use Rattle.sqlite_trees.proofs.ListLemmas.{map-map, pull_back}
 use Rattle.sqlite_resolve.specs.declared.compiled.Compiled.{Compiled}
 use Rattle.sqlite_resolve.specs.declared.error.CompileError.{CompileError}
+use Rattle.sqlite.specs.declared.error.Error.{Error}
 use Rattle.sqlite.specs.Command.TheVariants.{Select}
 use Rattle.sqlite.specs.Given.{HasBegun}
 use Rattle.sqlite.specs.Held.{Held, state}
@@ -22,6 +23,7 @@ use Rattle.sqlite.proofs.StateLemmas.{survives_weaker}
 use Rattle.sqlite.proofs.Callers.{IsPlain, command_of, reads_as}
 use Rattle.office_schema.specs.Schema.{office_schema}
 use Rattle.office_tables.specs.Asking.{asks, Means, Selects}
+use Rattle.office_tables.specs.Readers.{LeavesIfPlain, LeavesTables}
 use Rattle.office_tables.specs.Tables.{Tables}
 use Rattle.office_tables.specs.TablesHeld.{HoldsTables, HoldsTablesIn}
 use Rattle.office_tables.specs.Versions.{schema_of}
@@ -66,6 +68,28 @@ module _ (version : Version) (q : Query) (sql : List ℕ) (means : Means (schema
 
   pub means_at : Means old.now.schema q sql
   means_at = subst (λ s. Means s q sql) (sym represents.schema) means
+
+-- a reader that makes one query and answers `Ok` only if the query did
+pub leaves_after : {S X Y : Type 0} {asked : Result X Error} {result : Result Y Error}
+    (g : Ghosts S) (q : Query) (sql : List ℕ) → Means office_schema q sql → (old new : Held S)
+    → LeavesIfPlain sql g old new asked → ((P : Type 0) → OnOk asked P → OnOk result P)
+    → LeavesTables g old new result
+leaves_after g q sql means old new h on_ok = record {
+  open_on_ok = λ clean. on_ok _ (h.open_on_ok clean);
+  was_open = h.was_open;
+  same = λ clean t represents. on_ok _
+      (h.same clean (plain_in q sql means (state g old) (state g new) t represents));
+  kept = λ clean t represents.
+      h.kept clean (plain_in q sql means (state g old) (state g new) t represents);
+  mode = h.mode;
+  survives = silent_in q sql means (state g old) (state g new) h.survives;
+}
+
+-- one that returns what the query did
+pub leaves_tables : {S X : Type 0} {result : Result X Error} (g : Ghosts S) (q : Query)
+    (sql : List ℕ) → Means office_schema q sql → (old new : Held S)
+    → LeavesIfPlain sql g old new result → LeavesTables g old new result
+leaves_tables g q sql means old new h = leaves_after g q sql means old new h (λ _ p. p)
 
 -- a permutation of a list's images is the images of a permutation of the list
 pub unmapped : {X Y : Type 0} (f : X → Y) (xs : List X) (ys : List Y) → IsPermutation (map f xs) ys

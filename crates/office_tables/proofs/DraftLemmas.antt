@@ -20,7 +20,7 @@ use Rattle.office_tables.specs.Stored.{Holds, keyed}
 use Rattle.office_tables.specs.Draft.{draft_columns, night_draft_columns}
 use Rattle.office_tables.proofs.Casts.{cast_int, cast_null}
 use Rattle.office_tables.proofs.Frames.{OneChanged, Others, drafts_changed, still}
-use Rattle.office_tables.proofs.KeyedLemmas.{keyed_cleared, keyed_deleted, night_added, night_terms}
+use Rattle.office_tables.proofs.DeleteLemmas.{deleted_all, keyed_deleted, night_added, night_terms}
 use Rattle.office_tables.proofs.Statements.{inserts}
 use Rattle.office_tables.proofs.TableLemmas.{holds_more}
 use Rattle.office_tables.proofs.Queries.{equal_numbers, one_table, equals, rowids}
@@ -179,9 +179,9 @@ pub cleared : (old mid new : State) (first second : ℕ) (t : Tables) → HoldsT
     → Executes clear_text [] old mid (Ok first) → Executes clear_night_text [] mid new (Ok second)
     → HoldsTables new.now (record t { draft = [] })
 cleared old mid new first second t represents h k =
-    let one = keyed_cleared clear_text clear_plain 3 draft_table refl (λ taken news. refl) clear_is
-    (map draft_columns t.draft) first old mid represents.schema represents.draft h in
+    let one = deleted_all clear_text clear_plain 3 draft_table refl (λ taken news. refl) clear_is
+    keyed (map draft_columns t.draft) first old mid represents.schema represents.draft h in
     drafts_changed old.now mid.now new.now t represents [] one
-    (keyed_cleared clear_night_text clear_night_plain 10 night_draft_table refl (λ taken news. refl)
-    clear_night_is (map night_draft_columns t.draft) second mid new one.schema
+    (deleted_all clear_night_text clear_night_plain 10 night_draft_table refl (λ taken news. refl)
+    clear_night_is keyed (map night_draft_columns t.draft) second mid new one.schema
     (nights_beside old.now mid.now t represents one.others) k)

@@ -8,6 +8,7 @@ use Rattle.sqlite_trees.proofs.ListLemmas.{all_both}
 use Rattle.sqlite_schema.specs.declared.schema.Table.{Table}
 use Rattle.sqlite.specs.Effect.{Database}
 use Rattle.office_schema.specs.Schema.{office_schema}
+pub use Rattle.office_tables.specs.Inserting.{Others}
 use Rattle.office_tables.specs.Tables.{Tables, Meta, Batch}
 use Rattle.office_tables.specs.TablesHeld.{HoldsTables}
 use Rattle.office_tables.specs.Stored.{Holds, keyless, keyed}
@@ -31,11 +32,6 @@ use Rattle.office_tables.specs.declared.seat.SeatRow.{SeatRow}
 use Rattle.office_tables.specs.declared.share_student.StudentShareRow.{StudentShareRow}
 use Rattle.office_tables.specs.declared.share_part.PartShareRow.{PartShareRow}
 
--- the trees of all tables but one stay
-abbrev pub Others : ℕ → Trees → Trees → Type 0
-Others tree old new =
-    AllByRecursion (λ (t : Table). t.tree ≢ tree → new t.tree ≡ old t.tree) office_schema.tables
-
 -- the trees of all tables but two stay
 abbrev pub BothOthers : ℕ → ℕ → Trees → Trees → Type 0
 BothOthers one two old new =
@@ -51,10 +47,15 @@ both_others one two old mid new =
     (λ t first second p q. second q ∙ first p) office_schema.tables
 
 -- a statement has changed one table, which now holds these rows
-pub record OneChanged (tree : ℕ) (rows : List Row) (old new : Database) : Type 0 where
+pub record OneShown (show : Row → Row) (tree : ℕ) (rows : List Row) (old new : Database)
+    : Type 0 where
   pub schema : new.schema ≡ office_schema
   pub others : Others tree old.trees new.trees
-  pub holds : Holds keyed rows (new.trees tree)
+  pub holds : Holds show rows (new.trees tree)
+
+-- the same for a table that has the row's number as its first column
+abbrev pub OneChanged : ℕ → List Row → Database → Database → Type 0
+OneChanged = OneShown keyed
 
 pub still : (show : Row → Row) (rows old new : List Row) → new ≡ old → Holds show rows old
     → Holds show rows new

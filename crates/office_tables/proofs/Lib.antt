@@ -6,15 +6,16 @@ pub mod BatchLemmas
 pub mod BatchTexts
 pub mod Casts
 pub mod Creates
+pub mod DeleteLemmas
 pub mod DraftLemmas
 pub mod EnrolLemmas
 pub mod EnrolTexts
 pub mod Frames
 pub mod Gathered
+pub mod InsertLemmas
 pub mod Inside
 pub mod JoinLemmas
 pub mod JoinedTexts
-pub mod KeyedLemmas
 pub mod ListTexts
 pub mod ListedTables
 pub mod LookLemmas

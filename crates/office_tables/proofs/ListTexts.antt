@@ -1,20 +1,18 @@
 -- The texts that list whole tables.
-use Rattle.std.proofs.Common.{◌≡◌, ℕ, pos, List, [], ◌∷◌, codes, take, refl, sym, ap, arith}
+use Rattle.std.proofs.Common.{◌≡◌, ℕ, List, [], ◌∷◌, codes, take, refl, sym, ap, arith}
 use Rattle.std.specs.List.{AllByRecursion}
 use Rattle.sqlite_trees.proofs.ListLemmas.{all_of, all_weaker}
 use Rattle.sqlite_value.specs.declared.keys.Collation.TheVariants.{Binary}
 use Rattle.sqlite_value.specs.declared.keys.Key.{Key}
 use Rattle.sqlite_value.specs.Keys.{ascending}
-use Rattle.sqlite_value.specs.declared.value.Value.TheVariants.{Int}
 use Rattle.sqlite_value.specs.Order.{Row, column}
 use Rattle.sqlite.specs.Effect.{Database, IsDatabase}
 use Rattle.sqlite.specs.Listing.{understood}
-use Rattle.sqlite.specs.Term.{Term, col, lit}
+use Rattle.sqlite.specs.Term.{Term, col}
 use Rattle.sqlite_tied.specs.Compute.{everything}
 use Rattle.office_tables.specs.declared.version.Version.{Version}
 use Rattle.office_tables.specs.declared.version.Version.TheVariants.{One, Two}
 use Rattle.office_tables.specs.Listings.{Lists, ListsKeyed, ListsTable, IsListed, listed}
-use Rattle.office_tables.specs.Nights.{with_no_night}
 use Rattle.office_tables.specs.Versions.{schema_of}
 use Rattle.office_schema.specs.Schema.{int, blob, meta_table, owner_table, enrol_table, draft_table, slot_table, placed_table, seat_table, share_student_table, share_part_table, night_draft_table, night_share_table, office_schema}
 use Rattle.office_tables.specs.Stored.{keyed, keyless}
@@ -113,24 +111,24 @@ enrol_lists version = record {
 -- ---- draft
 
 abbrev pub draft_text : List ℕ
-draft_text = codes "SELECT 0, no, in_row, in_day, spread, mixed, front, period, room, rowid FROM draft ORDER BY rowid"
+draft_text = codes "SELECT no, in_row, in_day, spread, mixed, front, period, room, rowid FROM draft ORDER BY rowid"
 
 abbrev draft_terms : List Term
 draft_terms =
-    lit (Int (pos 0)) ∷ col 1 0 ∷ col 1 2 ∷ col 1 3 ∷ col 1 4 ∷ col 1 5 ∷ col 1 6 ∷ col 1 7
+    col 1 0 ∷ col 1 2 ∷ col 1 3 ∷ col 1 4 ∷ col 1 5 ∷ col 1 6 ∷ col 1 7
     ∷ col 1 8 ∷ col 1 0 ∷ []
 
 draft_is : (version : Version) → Lists version 4 draft_terms by_number draft_text
 unfolding understood everything
 draft_is One = record {
-  names = codes "0" ∷ codes "no" ∷ codes "in_row" ∷ codes "in_day" ∷ codes "spread" ∷ codes "mixed"
+  names = codes "no" ∷ codes "in_row" ∷ codes "in_day" ∷ codes "spread" ∷ codes "mixed"
       ∷ codes "front" ∷ codes "period" ∷ codes "room" ∷ codes "no" ∷ [];
   selects = refl;
   unlisted = refl;
   plain = (refl, refl);
 }
 draft_is Two = record {
-  names = codes "0" ∷ codes "no" ∷ codes "in_row" ∷ codes "in_day" ∷ codes "spread" ∷ codes "mixed"
+  names = codes "no" ∷ codes "in_row" ∷ codes "in_day" ∷ codes "spread" ∷ codes "mixed"
       ∷ codes "front" ∷ codes "period" ∷ codes "room" ∷ codes "no" ∷ [];
   selects = refl;
   unlisted = refl;
@@ -139,11 +137,11 @@ draft_is Two = record {
 
 draft_whole : (version : Version) (db : Database) → db.schema ≡ schema_of version
     → IsDatabase db
-    → AllByRecursion (λ r. IsListed 9 with_no_night r (listed draft_terms r)) (db.trees 4)
+    → AllByRecursion (λ r. IsListed 8 keyed r (listed draft_terms r)) (db.trees 4)
 draft_whole version db is sound =
-    all_weaker _ (λ r. IsListed 9 with_no_night r (listed draft_terms r))
+    all_weaker _ (λ r. IsListed 8 keyed r (listed draft_terms r))
     (λ r long. record {
-      columns = ap (λ l. Int (pos 0) ∷ column r 0 ∷ l) (sym (dropped 2 7 r long));
+      columns = ap (λ l. column r 0 ∷ l) (sym (dropped 2 7 r long));
       number = refl;
       wide = omega arith;
     })
@@ -152,7 +150,7 @@ draft_whole version db is sound =
     (int (codes "room")) refl refl refl (schema_of version) db.trees (db.trees 4)
     (typed_rows version db is sound).1.1.1.0 (present_rows version db is sound).1.1.1.0)
 
-pub draft_lists : (version : Version) → ListsKeyed version 1 9 4 with_no_night draft_text
+pub draft_lists : (version : Version) → ListsKeyed version 0 8 4 keyed draft_text
 draft_lists version = record {
   table = record { terms = draft_terms; lists = draft_is version; whole = draft_whole version };
   within = omega arith;
@@ -296,17 +294,17 @@ seat_lists version = record {
 
 abbrev pub share_student_text : List ℕ
 share_student_text =
-    codes "SELECT 0, student, in_row, in_day, spread, rowid FROM share_student ORDER BY rowid"
+    codes "SELECT student, in_row, in_day, spread, rowid FROM share_student ORDER BY rowid"
 
 abbrev share_student_terms : List Term
-share_student_terms = lit (Int (pos 0)) ∷ col 1 0 ∷ col 1 2 ∷ col 1 3 ∷ col 1 4 ∷ col 1 0 ∷ []
+share_student_terms = col 1 0 ∷ col 1 2 ∷ col 1 3 ∷ col 1 4 ∷ col 1 0 ∷ []
 
 share_student_is : (version : Version)
     → Lists version 11 share_student_terms by_number share_student_text
 unfolding understood everything
 share_student_is One = record {
   names =
-      codes "0" ∷ codes "student" ∷ codes "in_row" ∷ codes "in_day" ∷ codes "spread"
+      codes "student" ∷ codes "in_row" ∷ codes "in_day" ∷ codes "spread"
       ∷ codes "student" ∷ [];
   selects = refl;
   unlisted = refl;
@@ -314,7 +312,7 @@ share_student_is One = record {
 }
 share_student_is Two = record {
   names =
-      codes "0" ∷ codes "student" ∷ codes "in_row" ∷ codes "in_day" ∷ codes "spread"
+      codes "student" ∷ codes "in_row" ∷ codes "in_day" ∷ codes "spread"
       ∷ codes "student" ∷ [];
   selects = refl;
   unlisted = refl;
@@ -323,11 +321,11 @@ share_student_is Two = record {
 
 share_student_whole : (version : Version) (db : Database) → db.schema ≡ schema_of version
     → IsDatabase db
-    → AllByRecursion (λ r. IsListed 5 with_no_night r (listed share_student_terms r)) (db.trees 11)
+    → AllByRecursion (λ r. IsListed 4 keyed r (listed share_student_terms r)) (db.trees 11)
 share_student_whole version db is sound =
-    all_weaker _ (λ r. IsListed 5 with_no_night r (listed share_student_terms r))
+    all_weaker _ (λ r. IsListed 4 keyed r (listed share_student_terms r))
     (λ r long. record {
-      columns = ap (λ l. Int (pos 0) ∷ column r 0 ∷ l) (sym (dropped 2 3 r long));
+      columns = ap (λ l. column r 0 ∷ l) (sym (dropped 2 3 r long));
       number = refl;
       wide = omega arith;
     })
@@ -338,7 +336,7 @@ share_student_whole version db is sound =
     (present_rows version db is sound).1.1.1.1.1.1.1.0)
 
 pub share_student_lists : (version : Version)
-    → ListsKeyed version 1 5 11 with_no_night share_student_text
+    → ListsKeyed version 0 4 11 keyed share_student_text
 share_student_lists version = record {
   table = record {
     terms = share_student_terms;

@@ -21,9 +21,10 @@ use Rattle.office_tables.specs.Meta.{flag, meta_columns}
 use Rattle.office_tables.specs.Stored.{keyed, keyless}
 use Rattle.office_tables.proofs.Casts.{cast_int, cast_null}
 use Rattle.office_tables.proofs.Frames.{meta_changed, holds_none}
-use Rattle.office_tables.proofs.Statements.{inserts, deletes}
+use Rattle.office_tables.proofs.DeleteLemmas.{deleted_all}
+use Rattle.office_tables.proofs.Statements.{inserts}
 use Rattle.office_tables.proofs.TableLemmas.{holds_more}
-use Rattle.office_tables.proofs.Queries.{answered, left_of, none_left, one_table, rowids}
+use Rattle.office_tables.proofs.Queries.{one_table, rowids}
 
 -- ---- INSERT
 
@@ -77,15 +78,9 @@ delete_plain = (refl, refl)
 pub deleted : (old new : State) (count : ℕ) (t : Tables) → HoldsTables old.now t
     → Executes delete_text [] old new (Ok count) → HoldsTables new.now (record t { meta = [] })
 deleted old new count t represents h =
-    let done = deletes delete_text [] old new count office_schema represents.schema delete_plain
-    0 meta_table refl _ delete_is (λ taken news. refl) h in
-    let is = done.3 in
-    let stored = old.now.trees 0 in
-    let answer = answered 0 [] _ [] old.now.trees [] done.0 done.2 in
-    let rows : new.now.trees 0 ≡ [] =
-    is.rows ∙ left_of (λ r. true) stored done.0 represents.meta.rowids answer ∙ none_left stored in
-    meta_changed old.now new.now t represents done.1 [] is.tables
-    (holds_none keyed (new.now.trees 0) rows)
+    let one = deleted_all delete_text delete_plain 0 meta_table refl (λ taken news. refl) delete_is
+    keyed _ count old new represents.schema represents.meta h in
+    meta_changed old.now new.now t represents one.schema [] one.others one.holds
 
 -- tables without rows hold none
 pub blank_represents : (db : Database) → IsBlank office_schema db

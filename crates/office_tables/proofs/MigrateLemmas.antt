@@ -40,7 +40,7 @@ use Rattle.office_tables.proofs.AskLemmas.{unmapped}
 use Rattle.office_tables.proofs.Casts.{cast_int, cast_null}
 use Rattle.office_tables.proofs.Creates.{ten}
 use Rattle.office_tables.proofs.Frames.{OneChanged, holds_none, still}
-use Rattle.office_tables.proofs.KeyedLemmas.{keyed_cleared}
+use Rattle.office_tables.proofs.DeleteLemmas.{deleted_all}
 use Rattle.office_tables.proofs.MetaLemmas.{delete_text, delete_is, delete_plain}
 use Rattle.office_tables.proofs.Queries.{answered_by, every, map_agree, one_table, passes, shown_of}
 use Rattle.office_tables.proofs.Statements.{inserts_from, simple}
@@ -260,7 +260,7 @@ nights_filled t a b c d first second third wide h k l =
     let rows = wide.widened.rows in
     let before = wide.represents in
     let one =
-    keyed_cleared delete_text delete_plain 0 meta_table refl (λ taken news. refl) delete_is
+    deleted_all delete_text delete_plain 0 meta_table refl (λ taken news. refl) delete_is keyed
     (map (meta_columns One) t.meta) first a b wide.widened.schema_is
     (still keyed _ _ _ rows.0 before.meta) h in
     let two = filled fill_drafts_text fill_drafts_plain 10 15 4 (codes "night_draft") (codes "no")

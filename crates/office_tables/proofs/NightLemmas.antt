@@ -9,17 +9,18 @@ use Rattle.sqlite_rules.specs.Edit.{id_in}
 use Rattle.sqlite_rules.specs.Lists.{Has}
 use Rattle.sqlite_rules.proofs.ListLemmas.{all_from, all_has}
 use Rattle.sqlite_trees.specs.Tree.{IsAscending}
-use Rattle.sqlite_trees.proofs.ListLemmas.{all_from_map, all_of, all-map, all-permutation, map-map}
+use Rattle.sqlite_trees.proofs.ListLemmas.{all_of, all-map, all-permutation, map-map}
 use Rattle.sqlite_value.specs.declared.value.Value.TheVariants.{Int}
 use Rattle.sqlite_value.specs.Order.{Row, column}
 use Rattle.office_tables.specs.declared.nights.NightRow.{NightRow}
 use Rattle.office_tables.specs.declared.version.Version.TheVariants.{One, Two}
 use Rattle.office_tables.specs.Finders.{IsFound}
 use Rattle.office_tables.specs.Joining.{AreFound, AreNights, HaveRows, IsJoined, IsJoinedWith, Splits}
-use Rattle.office_tables.specs.Nights.{night_columns, with_no_night, FitsNight}
+use Rattle.office_tables.specs.Nights.{bare_columns, night_columns, FitsNight}
 use Rattle.office_tables.specs.Readings.{ColumnRises}
 use Rattle.office_tables.specs.Stored.{Holds, keyed}
 use Rattle.office_tables.proofs.Queries.{map_agree}
+use Rattle.office_tables.proofs.RecordLemmas.{full_night, IsFull}
 
 -- ---- numbers that rise strictly have no other order
 
@@ -126,67 +127,45 @@ keys_moved row_of key is other_of number are xs ys same =
     ∙ sym (map-map pos number ys) in
     rw (sym left, sym right) ids
 
--- ---- rows that show an amount of 0 in front of what is stored
-
-abbrev later_columns : Row → Row
-later_columns [] = []
-later_columns (v ∷ vs) = vs
+-- ---- rows whose amount over night is 0
 
 module _ {X : Type 0} (fits : X → Type 0) (shown columns_of nights_of : X → Row)
     (number night : X → ℕ) (splits : Splits fits shown columns_of nights_of number night) where
-  -- without the first column they are the stored rows
-  bare_holds : (stored : List Row) (rows : List X) → Holds with_no_night (map shown rows) stored
-      → Holds keyed (map columns_of rows) stored
-  bare_holds stored rows holds = record {
-    rowids = holds.rowids;
-    same =
-        let left : map later_columns (map with_no_night stored) ≡ map keyed stored =
-        map-map later_columns with_no_night stored in
-        let right : map later_columns (map shown rows) ≡ map columns_of rows =
-        map-map later_columns shown rows
-        ∙ map_agree (λ x. later_columns (shown x)) columns_of
-        (λ x. ap later_columns (splits.shown_is x)) rows in
-        rw (sym left, sym right) (IsPermutation-map later_columns _ _ holds.same);
-  }
+  -- rows that are read from only the first table have no amounts
+  pub no_nights : (rows : List X) → AllByRecursion IsFull (map shown rows)
+      → AllByRecursion (λ x. night x ≡ 0) rows
+  no_nights [] full = tt
+  no_nights (x ∷ xs) full = (
+    full_night (night x) (columns_of x) (subst IsFull (splits.shown_is x) full.0),
+    no_nights xs full.1,
+  )
 
-  none_over_night : (stored : List Row) (rows : List X)
-      → IsPermutation (map with_no_night stored) (map shown rows)
+  pub none_over_night : (stored : List Row) (rows : List X)
+      → IsPermutation (map keyed stored) (map shown rows)
       → AllByRecursion (λ x. night x ≡ 0) rows
   none_over_night stored rows same =
-      let First = λ (r : Row). column r 0 ≡ Int (pos 0) in
-      let here = all-permutation First (map with_no_night stored) (map shown rows) same
-      (all-map First with_no_night stored (all_of _ (λ r. refl) stored)) in
-      go rows (all_from_map First shown rows here)
-    where
-      go : (xs : List X) → AllByRecursion (λ x. column (shown x) 0 ≡ Int (pos 0)) xs
-          → AllByRecursion (λ x. night x ≡ 0) xs
-      go [] all = tt
-      go (x ∷ xs) all =
-          let same_amount : Int (pos (night x)) ≡ Int (pos 0) =
-          ap (λ (r : Row). column r 0) (sym (splits.shown_is x)) ∙ all.0 in
-          (let e = same_amount in cc, go xs all.1)
+      no_nights rows (all-permutation IsFull (map keyed stored) (map shown rows) same
+      (all-map IsFull keyed stored (all_of _ (λ r. tt) stored)))
 
-  -- with a first column of 0 they are the rows shown
+  -- they show their columns in the first table
+  pub bare_columns_are : (rows : List X) → AllByRecursion (λ x. night x ≡ 0) rows
+      → map shown rows ≡ map columns_of rows
+  bare_columns_are [] none = refl
+  bare_columns_are (x ∷ xs) none =
+      ap₂ (λ r rs. r ∷ rs)
+      (splits.shown_is x ∙ ap (λ n. bare_columns n (columns_of x)) none.0)
+      (bare_columns_are xs none.1)
+
+  pub bare_holds : (stored : List Row) (rows : List X) → Holds keyed (map shown rows) stored
+      → Holds keyed (map columns_of rows) stored
+  bare_holds stored rows holds =
+      subst (λ l. Holds keyed l stored)
+      (bare_columns_are rows (none_over_night stored rows holds.same)) holds
+
   pub shown_holds : (stored : List Row) (rows : List X) → Holds keyed (map columns_of rows) stored
-      → AllByRecursion (λ x. night x ≡ 0) rows → Holds with_no_night (map shown rows) stored
-  shown_holds stored rows holds none = record {
-    rowids = holds.rowids;
-    same =
-        let front = λ (r : Row). Int (pos 0) ∷ r in
-        let left : map front (map keyed stored) ≡ map with_no_night stored =
-        map-map front keyed stored in
-        let right : map front (map columns_of rows) ≡ map shown rows =
-        map-map front columns_of rows ∙ each rows none in
-        rw (sym left, sym right) (IsPermutation-map front _ _ holds.same);
-  }
-    where
-      each : (xs : List X) → AllByRecursion (λ x. night x ≡ 0) xs
-          → map (λ x. Int (pos 0) ∷ columns_of x) xs ≡ map shown xs
-      each [] all = refl
-      each (x ∷ xs) all =
-          ap₂ (λ r rs. r ∷ rs)
-          (ap (λ n. Int (pos n) ∷ columns_of x) (sym all.0) ∙ sym (splits.shown_is x))
-          (each xs all.1)
+      → AllByRecursion (λ x. night x ≡ 0) rows → Holds keyed (map shown rows) stored
+  shown_holds stored rows holds none =
+      subst (λ l. Holds keyed l stored) (sym (bare_columns_are rows none)) holds
 
   -- rows with an amount of 0 have the columns of any rows
   pub bare_rows : (rows : List X) → map columns_of (map splits.bare rows) ≡ map columns_of rows
@@ -195,7 +174,7 @@ module _ {X : Type 0} (fits : X → Type 0) (shown columns_of nights_of : X → 
       ∙ map_agree (λ x. columns_of (splits.bare x)) columns_of splits.bare_same rows
 
   pub bare_shown : (stored : List Row) (rows : List X) → Holds keyed (map columns_of rows) stored
-      → Holds with_no_night (map shown (map splits.bare rows)) stored
+      → Holds keyed (map shown (map splits.bare rows)) stored
   bare_shown stored rows holds =
       shown_holds stored (map splits.bare rows)
       (subst (λ l. Holds keyed l stored) (sym (bare_rows rows)) holds)
@@ -207,7 +186,7 @@ module _ {X : Type 0} (fits : X → Type 0) (shown columns_of nights_of : X → 
 
   unread : (stored : List Row)
       → ((rows : List X) → AllByRecursion fits rows
-      → Holds with_no_night (map shown rows) stored → ⊥)
+      → Holds keyed (map shown rows) stored → ⊥)
       → (rows : List X) → AllByRecursion fits rows → Holds keyed (map columns_of rows) stored → ⊥
   unread stored none rows fit holds =
       none (map splits.bare rows) (bare_fit rows fit) (bare_shown stored rows holds)
@@ -215,7 +194,7 @@ module _ {X : Type 0} (fits : X → Type 0) (shown columns_of nights_of : X → 
   apart : (stored nights_stored : List Row) (rows : List X) (nights : List NightRow)
       → Holds keyed (map columns_of rows) stored
       → Holds keyed (map night_columns nights) nights_stored
-      → ColumnRises 1 (map shown rows) → ColumnRises 0 (map night_columns nights)
+      → ColumnRises 0 (map columns_of rows) → ColumnRises 0 (map night_columns nights)
       → map number rows ≢ map (λ (n : NightRow). n.number) nights
       → (xs : List X) → Holds keyed (map columns_of xs) stored
       → Holds keyed (map nights_of xs) nights_stored → ⊥
@@ -228,8 +207,7 @@ module _ {X : Type 0} (fits : X → Type 0) (shown columns_of nights_of : X → 
       keys_moved nights_of number (λ x. ap (λ (r : Row). column r 0) (splits.nights_are x))
       night_columns amount (λ n. refl) xs nights
       (IsPermutation-trans _ _ _ (IsPermutation-sym _ _ two.same) second.same) in
-      let first_up = keys_rise shown 1 number
-      (λ x. ap (λ (r : Row). column r 1) (splits.shown_is x) ∙ splits.number_is x) rows up in
+      let first_up = keys_rise columns_of 0 number splits.number_is rows up in
       let second_up = keys_rise night_columns 0 amount (λ n. refl) nights rise in
       differ (same_numbers (map number rows) (map amount nights)
       (one_order (map pos (map number rows)) (map pos (map amount nights)) first_up second_up
@@ -249,7 +227,7 @@ module _ {X : Type 0} (fits : X → Type 0) (shown columns_of nights_of : X → 
 
   -- version 1
   pub before_found : (stored nights_stored : List Row) (found : Option (Vec X Global))
-      → IsFound fits shown with_no_night stored found
+      → IsFound fits shown keyed stored found
       → AreFound fits (HaveRows One columns_of nights_of night stored nights_stored) found
   before_found stored nights_stored None none = λ xs fit have. unread stored none xs fit have.first
   before_found stored nights_stored (Some rows) holds = record {
@@ -258,8 +236,8 @@ module _ {X : Type 0} (fits : X → Type 0) (shown columns_of nights_of : X → 
   }
 
   both_found : (stored nights_stored : List Row) (rows : Option (Vec X Global))
-      (nights : Option (Vec NightRow Global)) → IsFound fits shown with_no_night stored rows
-      → IfSome rows (λ records. ColumnRises 1 (map shown records.items))
+      (nights : Option (Vec NightRow Global)) → IsFound fits shown keyed stored rows
+      → IfSome rows (λ records. ColumnRises 0 (map shown records.items))
       → AreNights nights_stored nights → (found : Option (Vec X Global))
       → IsJoined columns_of nights_of number rows nights found
       → AreFound fits (HaveRows Two columns_of nights_of night stored nights_stored) found
@@ -276,12 +254,14 @@ module _ {X : Type 0} (fits : X → Type 0) (shown columns_of nights_of : X → 
   }
   both_found stored nights_stored (Some rows) (Some nights) holds up are None differ =
       λ xs fit have. apart stored nights_stored rows.items nights.items
-      (bare_holds stored rows.items holds) are.0 up are.1 differ xs have.first have.second
+      (bare_holds stored rows.items holds) are.0 (subst (ColumnRises 0)
+      (bare_columns_are rows.items (none_over_night stored rows.items holds.same)) up)
+      are.1 differ xs have.first have.second
 
   -- version 2
   pub joined_found : (stored nights_stored : List Row)
-      (rows : Option (Vec X Global)) → IsFound fits shown with_no_night stored rows
-      → IfSome rows (λ records. ColumnRises 1 (map shown records.items))
+      (rows : Option (Vec X Global)) → IsFound fits shown keyed stored rows
+      → IfSome rows (λ records. ColumnRises 0 (map shown records.items))
       → (found : Option (Vec X Global))
       → IsJoinedWith columns_of nights_of number rows nights_stored found
       → AreFound fits (HaveRows Two columns_of nights_of night stored nights_stored) found

@@ -147,6 +147,17 @@ pub typed : {R X : Type 0} (row_of : X → Row) (row : R → X) (width : ℕ) (p
 typed row_of row width params q trees records h =
     (h.0, map-map row_of row records ∙ h.1, h.2)
 
+-- if the typed rows rise, so do the records
+pub rises_typed : {R X : Type 0} (key : X → List ℕ) (row : R → X) (records : List R)
+    → Rises key (map row records) → Rises (λ r. key (row r)) records
+rises_typed key row records up =
+    λ k d low within.
+    let long = length-map records row in
+    subst₂ (λ m n. is_lt (numbers_cmp m n) ≡ false)
+    (ap key (get_or-map row records (k + 1) d (row d) within))
+    (ap key (get_or-map row records k d (row d) (omega arith)))
+    (up k (row d) low (omega (arith, long)))
+
 module _ {R : Type 0} (record_of : Row → R) (row_of : R → Row) (width : ℕ)
     (back : (x : R) → record_of (row_of x) ≡ x)
     (whole : (x : R) → columns_from 0 width (row_of x) ≡ row_of x) (from : Join)

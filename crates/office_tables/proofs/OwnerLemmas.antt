@@ -1,5 +1,5 @@
 -- The meaning of each statement on the table owner, and its effect.
-use Rattle.std.proofs.Common.{◌≡◌, ℕ, pos, List, [], ◌∷◌, map, filter, not, ◌==◌, codes, true, Ok, refl, ap, ◌∙◌}
+use Rattle.std.proofs.Common.{◌≡◌, ℕ, pos, List, [], ◌∷◌, map, filter, not, ◌==◌, codes, true, Ok, refl, ◌∙◌}
 use Rattle.sqlite_trees.specs.Tree.{put_row}
 use Rattle.sqlite_value.specs.declared.value.Value.TheVariants.{Null, Int}
 use Rattle.sqlite_value.specs.Order.{Row}
@@ -19,9 +19,10 @@ use Rattle.office_tables.specs.Stored.{keyed}
 use Rattle.office_tables.specs.Owner.{owner_columns}
 use Rattle.office_tables.proofs.Casts.{cast_int, cast_null}
 use Rattle.office_tables.proofs.Frames.{owner_changed}
-use Rattle.office_tables.proofs.Statements.{inserts, deletes}
-use Rattle.office_tables.proofs.TableLemmas.{holds_more, rowids_filter}
-use Rattle.office_tables.proofs.Queries.{answered, passes, shown_filter, left_of, equal_numbers, one_table, equals, rowids}
+use Rattle.office_tables.proofs.DeleteLemmas.{keyed_deleted}
+use Rattle.office_tables.proofs.Statements.{inserts}
+use Rattle.office_tables.proofs.TableLemmas.{holds_more}
+use Rattle.office_tables.proofs.Queries.{equal_numbers, one_table, equals, rowids}
 
 -- ---- INSERT
 
@@ -73,22 +74,7 @@ pub deleted : (old new : State) (exam : ℕ) (count : ℕ) (t : Tables) → Hold
     → Executes delete_text (Int (pos exam) ∷ []) old new (Ok count)
     → HoldsTables new.now (record t { owner = filter (λ r. not (r.exam == exam)) t.owner })
 deleted old new exam count t represents h =
-    let params = Int (pos exam) ∷ [] in
-    let done = deletes delete_text params old new count office_schema represents.schema delete_plain
-    1 owner_table refl _ delete_is (λ taken news. refl) h in
-    let is = done.3 in
-    let stored = old.now.trees 1 in
-    let test = passes params (equals 0 0 ∷ []) in
-    let shown_test = λ (row : Row). passes params (equals 0 0 ∷ []) row in
-    let answer = answered 1 (equals 0 0 ∷ []) _ [] old.now.trees params done.0 done.2 in
-    let rows : new.now.trees 1 ≡ filter (λ r. not (test r)) stored =
-    is.rows ∙ left_of test stored done.0 represents.owner.rowids answer in
-    let same = shown_filter keyed owner_columns (λ r. not (test r)) (λ row. not (shown_test row))
-    (λ r. not (r.exam == exam))
-    (λ r. refl) (λ x. ap not (equal_numbers x.exam exam)) stored t.owner represents.owner.same in
-    owner_changed old.now new.now t represents done.1
-    (filter (λ r. not (r.exam == exam)) t.owner) is.tables
-    (rw rows (record {
-      rowids = rowids_filter (λ r. not (test r)) stored represents.owner.rowids;
-      same = same;
-    }))
+    let one = keyed_deleted delete_text delete_plain 1 owner_table refl (λ taken news. refl) delete_is
+    owner_columns (λ (r : OwnerRow). r.exam) exam count old new (λ x. equal_numbers x.exam exam) t.owner
+    represents.schema represents.owner h in
+    owner_changed old.now new.now t represents one.schema _ one.others one.holds

@@ -1,5 +1,5 @@
 -- Rows that are read as records, and rows that are not those of a record.
-use Rattle.std.proofs.Common.{◌≡◌, ◌≢◌, ℕ, ◌+◌, List, [], ◌∷◌, ◌++◌, map, take, get_or, ap, sym, pos, ◌^◌, ◌<◌, ◌≤◌, length, Result, Ok, Err, ◌∙◌, arith, IfErr}
+use Rattle.std.proofs.Common.{◌≡◌, ◌≢◌, ℕ, zero, suc, ◌+◌, List, [], ◌∷◌, ◌++◌, map, take, get_or, ap, refl, subst, sym, pos, ◌^◌, ◌<◌, ◌≤◌, length, Result, Ok, Err, ◌∙◌, arith, IfErr}
 use Rattle.std.proofs.lemmas.List.{map-append, take_more}
 use Rattle.std.specs.Result.{IsErrAnd}
 use Rattle.sqlite_value.specs.declared.value.Value.{Value}
@@ -8,7 +8,24 @@ use Rattle.sqlite_value.specs.Order.{Row, column}
 use Rattle.sqlite.specs.declared.error.Error.{Error}
 use Rattle.sqlite.specs.declared.error.Error.TheVariants.{SqliteFailure}
 use Rattle.sqlite.specs.declared.error.ErrorCode.TheVariants.{OutOfMemory}
+use Rattle.office_tables.specs.Nights.{bare_columns}
 use Rattle.office_tables.specs.Records.{columns_from}
+
+-- a row with columns
+abbrev pub IsFull : Row → Type 0
+IsFull [] = ⊥
+IsFull (v ∷ vs) = Unit {0}
+
+-- a row that is read from only the first table has an amount over night of 0
+pub full_night : (night : ℕ) (columns : Row) → IsFull (bare_columns night columns) → night ≡ 0
+full_night zero columns full = refl
+full_night (suc n) columns full = absurd full
+
+-- its columns are those that were read
+pub bare_is : (night : ℕ) (columns row : Row) → bare_columns night columns ≡ row → IsFull row
+    → columns ≡ row
+bare_is zero columns row is full = is
+bare_is (suc n) columns row is full = absurd (subst IsFull (sym is) full)
 
 -- a number, and one of 32 bits
 abbrev pub IsWide : Value → Type 0

@@ -12,7 +12,7 @@ use Rattle.office_tables.specs.declared.draft.DraftRow.{DraftRow}
 use Rattle.office_tables.specs.declared.share_student.StudentShareRow.{StudentShareRow}
 use Rattle.office_tables.specs.declared.version.Version.{Version}
 use Rattle.office_tables.specs.declared.version.Version.TheVariants.{One, Two}
-use Rattle.office_tables.specs.Draft.{draft_columns, draft_shown, night_draft_columns}
+use Rattle.office_tables.specs.Draft.{draft_columns, night_draft_columns}
 use Rattle.office_tables.specs.ShareStudent.{night_share_columns, share_shown, share_student_columns}
 use Rattle.office_tables.specs.TablesHeld.{HoldsTablesIn}
 use Rattle.office_tables.specs.Stored.{Holds, keyed}
@@ -122,6 +122,10 @@ stored_alike one two stored p q =
     IsPermutation-trans _ _ _ (IsPermutation-sym _ _ p.same) q.same
 
 -- ---- drafts, and shares of students
+
+-- all columns of a draft
+abbrev draft_shown : DraftRow → Row
+draft_shown r = Int (pos r.night) ∷ draft_columns r
 
 pub same_drafts : (version : Version) (db : Database) (t u : Tables) → HoldsTablesIn version db t
     → HoldsTablesIn version db u → IsPermutation t.draft u.draft

@@ -1,12 +1,11 @@
 -- The meaning of each statement on the tables of shares, and its effect.
-use Rattle.std.proofs.Common.{◌≡◌, ℕ, pos, List, [], ◌∷◌, ◌++◌, map, filter, not, ◌==◌, codes, flat_map, length, reverse, true, Ok, arith, refl, sym, subst, ◌∙◌}
-use Rattle.std.proofs.lemmas.List.{length-map}
+use Rattle.std.proofs.Common.{◌≡◌, ℕ, pos, List, [], ◌∷◌, map, filter, not, ◌==◌, codes, true, Ok, arith, refl, ◌∙◌}
 use Rattle.sqlite_trees.specs.Tree.{put_row}
 use Rattle.sqlite_value.specs.declared.value.Value.TheVariants.{Null, Int}
 use Rattle.sqlite_value.specs.Order.{Row}
 use Rattle.sqlite.specs.Effect.{Database}
 use Rattle.sqlite.specs.Command.TheVariants.{Insert, Delete}
-use Rattle.sqlite.specs.Edit.{next_rowid, are_fresh}
+use Rattle.sqlite.specs.Edit.{are_fresh}
 use Rattle.sqlite.specs.Listing.{understood}
 use Rattle.sqlite.specs.Source.TheVariants.{Values}
 use Rattle.sqlite.specs.State.{State, Executes}
@@ -14,23 +13,17 @@ use Rattle.sqlite.specs.Term.{Term, lit, col}
 use Rattle.sqlite.proofs.Callers.{IsPlain, command_of}
 use Rattle.sqlite_tied.specs.Compute.{everything}
 use Rattle.office_tables.specs.declared.share_student.StudentShareRow.{StudentShareRow}
-use Rattle.office_tables.specs.Alterations.{after_all}
-use Rattle.office_tables.specs.declared.share_part.InsertPartShare.{InsertPartShare}
-use Rattle.office_tables.specs.declared.share_part.PartShareRow.{PartShareRow}
 use Rattle.office_schema.specs.Schema.{office_schema, share_student_table, share_part_table, night_share_table}
 use Rattle.office_tables.specs.Tables.{Tables}
 use Rattle.office_tables.specs.TablesHeld.{HoldsTables}
 use Rattle.office_tables.specs.Stored.{Holds, keyed, keyless}
 use Rattle.office_tables.specs.ShareStudent.{share_student_columns, night_share_columns}
-use Rattle.office_tables.specs.SharePart.{share_part_columns, with_part_share}
-use Rattle.office_tables.proofs.AlterationLemmas.{part_shares_put}
 use Rattle.office_tables.proofs.Casts.{cast_int, cast_null}
-use Rattle.office_tables.proofs.Frames.{OneChanged, Others, holds_none, student_shares_changed, share_part_changed, still}
-use Rattle.office_tables.proofs.KeyedLemmas.{keyed_deleted, night_added, night_terms}
-use Rattle.office_tables.proofs.ManyRows.{repeated, numberless, terms_from, added_numberless}
-use Rattle.office_tables.proofs.Statements.{inserts, deletes}
+use Rattle.office_tables.proofs.Frames.{OneChanged, Others, student_shares_changed, share_part_changed, still}
+use Rattle.office_tables.proofs.DeleteLemmas.{deleted_all, keyed_deleted, night_added, night_terms}
+use Rattle.office_tables.proofs.Statements.{inserts}
 use Rattle.office_tables.proofs.TableLemmas.{holds_more}
-use Rattle.office_tables.proofs.Queries.{answered, left_of, none_left, equal_numbers, one_table, equals, rowids}
+use Rattle.office_tables.proofs.Queries.{equal_numbers, one_table, equals, rowids}
 
 -- ---- INSERT INTO share_student
 
@@ -161,89 +154,6 @@ student_share_deleted old mid new number first second t represents h k =
     (λ x. equal_numbers x.student number) t.share_student one.schema
     (nights_beside old.now mid.now t represents one.others) k)
 
--- ---- INSERT INTO share_part
-
-abbrev pub insert_part_share_text : List ℕ
-insert_part_share_text = codes
-    "INSERT INTO share_part (kind, no, penalty, mixed) VALUES (?1, ?2, ?3, ?4)"
-
-abbrev insert_part_share_terms : List Term
-insert_part_share_terms = lit Null ∷ col 0 0 ∷ col 0 1 ∷ col 0 2 ∷ col 0 3 ∷ []
-
-insert_part_share_is : command_of (understood office_schema insert_part_share_text)
-    ≡ Insert 8 (Values insert_part_share_terms 5)
-unfolding understood everything
-insert_part_share_is = refl
-
-insert_part_share_plain : IsPlain (understood office_schema insert_part_share_text)
-unfolding understood everything
-insert_part_share_plain = (refl, refl)
-
-pub part_share_added : (old new : State) (row : PartShareRow) (count : ℕ) (t : Tables)
-    → HoldsTables old.now t
-    → Executes insert_part_share_text (share_part_columns row) old new (Ok count)
-    → HoldsTables new.now (record t { share_part = row ∷ t.share_part })
-part_share_added old new row count t represents h =
-    let done = inserts insert_part_share_text _ old new count office_schema represents.schema
-    insert_part_share_plain 8 share_part_table refl insert_part_share_terms 5 insert_part_share_is
-    (λ taken news. refl) h in
-    let is = done.1 in
-    let stored = old.now.trees 12 in
-    let new_row : Row = Int (next_rowid stored) ∷ share_part_columns row in
-    let rows : new.now.trees 12 ≡ put_row new_row stored =
-    is.rows ∙ rw (
-      cast_null,
-      cast_int row.kind,
-      cast_int row.no,
-      cast_int row.penalty,
-      cast_int
-          row.mixed,
-    ) refl in
-    let fresh : are_fresh stored (new_row ∷ []) ≡ true = rw (cast_null) at is.fresh in
-    share_part_changed old.now new.now t represents done.0 (row ∷ t.share_part) is.tables
-    (rw rows (holds_more keyless (map share_part_columns t.share_part) stored new_row
-    (share_part_columns row) refl refl fresh
-    represents.share_part))
-
--- ---- INSERT INTO share_part, sixteen rows
-
-abbrev pub insert_part_shares_text : List ℕ
-insert_part_shares_text = codes
-    "INSERT INTO share_part (kind, no, penalty, mixed) VALUES (?, ?, ?, ?)"
-    ++ repeated 15 (codes ", (?, ?, ?, ?)")
-
-insert_part_shares_is : command_of (understood office_schema insert_part_shares_text)
-    ≡ Insert 8 (Values (terms_from (numberless 4) 4 0 16) 5)
-unfolding understood everything
-insert_part_shares_is = refl
-
-insert_part_shares_plain : IsPlain (understood office_schema insert_part_shares_text)
-unfolding understood everything
-insert_part_shares_plain = (refl, refl)
-
-pub part_shares_added : (old new : State) (its : List InsertPartShare) → length its ≡ 16
-    → (count : ℕ) (t : Tables) → HoldsTables old.now t
-    → Executes insert_part_shares_text (flat_map share_part_columns (map (λ it. it.row) its)) old new
-    (Ok count)
-    → HoldsTables new.now (after_all (λ it. with_part_share it.row) its t)
-part_shares_added old new its long count t represents h =
-    let rows : List PartShareRow = map (λ it. it.row) its in
-    let done = added_numberless share_part_columns 4 (λ row. refl) insert_part_shares_text 16 8
-    share_part_table refl insert_part_shares_plain
-    insert_part_shares_is refl (λ taken news. refl)
-    (λ row. rw (
-      cast_null,
-      cast_int row.kind,
-      cast_int row.no,
-      cast_int row.penalty,
-      cast_int row.mixed,
-    ) refl)
-    old new rows t.share_part (length-map its (λ it. it.row) ∙ long) count represents.schema
-    represents.share_part h in
-    subst (HoldsTables new.now) (sym (part_shares_put its t))
-    (share_part_changed old.now new.now t represents done.0 (reverse rows ++ t.share_part) done.1
-    done.2)
-
 -- ---- DELETE FROM share_part
 
 abbrev pub delete_part_share_text : List ℕ
@@ -262,13 +172,7 @@ pub part_share_cleared : (old new : State) (count : ℕ) (t : Tables) → HoldsT
     → Executes delete_part_share_text [] old new (Ok count)
     → HoldsTables new.now (record t { share_part = [] })
 part_share_cleared old new count t represents h =
-    let done = deletes delete_part_share_text [] old new count office_schema represents.schema
-    delete_part_share_plain 8 share_part_table refl _ delete_part_share_is (λ taken news. refl) h in
-    let is = done.3 in
-    let stored = old.now.trees 12 in
-    let answer = answered 12 [] _ [] old.now.trees [] done.0 done.2 in
-    let rows : new.now.trees 12 ≡ [] =
-    is.rows ∙ left_of (λ r. true) stored done.0 represents.share_part.rowids answer
-    ∙ none_left stored in
-    share_part_changed old.now new.now t represents done.1 [] is.tables
-    (holds_none keyless (new.now.trees 12) rows)
+    let one = deleted_all delete_part_share_text delete_part_share_plain 8 share_part_table refl
+    (λ taken news. refl) delete_part_share_is keyless _ count old new represents.schema
+    represents.share_part h in
+    share_part_changed old.now new.now t represents one.schema [] one.others one.holds

@@ -1,84 +1,150 @@
 -- The rows that queries read from the tables of shares.
-use Rattle.std.proofs.Common.{◌≡◌, ℕ, pos, List, [], ◌∷◌, map, filter, true, ◌==◌, codes, refl, sym, ap, subst, ◌∙◌, arith, IsPermutation}
+use Rattle.std.proofs.Common.{◌≡◌, ℕ, pos, List, [], ◌∷◌, map, filter, true, ◌==◌, codes, refl, sym, ap, ap₂, subst, ◌∙◌, arith, IsPermutation}
+use Rattle.std.specs.List.{AllByRecursion}
 use Rattle.std.proofs.lemmas.List.Sorted.{IsPermutation-map, IsPermutation-sym}
-use Rattle.sqlite_trees.proofs.ListLemmas.{map-map}
+use Rattle.sqlite_trees.specs.Tree.{Trees}
+use Rattle.sqlite_trees.proofs.ListLemmas.{all_of, all-map, map-map}
 use Rattle.sqlite_value.specs.declared.value.Value.TheVariants.{Int}
 use Rattle.sqlite_value.specs.Order.{Row, column}
 use Rattle.sqlite.specs.Effect.{Database}
 use Rattle.sqlite.specs.Listing.{understood}
 use Rattle.sqlite.specs.Query.{Query, inner, end, matches}
-use Rattle.sqlite.specs.Term.{Term, col, lit, eval_all}
+use Rattle.sqlite.specs.Term.{Term, col, eval_all}
 use Rattle.sqlite_tied.specs.Compute.{everything}
 use Rattle.office_schema.specs.Schema.{office_schema}
 use Rattle.office_tables.specs.Asking.{asks, IsReadOf, Means}
 use Rattle.office_tables.specs.Joining.{IsReadWith}
-use Rattle.office_tables.specs.Nights.{night_columns, with_no_night}
+use Rattle.office_tables.specs.Nights.{night_columns}
 use Rattle.office_tables.specs.declared.nights.NightRow.{NightRow}
 use Rattle.office_tables.specs.declared.share_student.StudentShareRow.{StudentShareRow}
 use Rattle.office_tables.specs.declared.share_part.PartShareRow.{PartShareRow}
 use Rattle.office_tables.specs.Tables.{Tables}
 use Rattle.office_tables.specs.TablesHeld.{HoldsTables}
 use Rattle.office_tables.specs.Stored.{Holds, keyed, keyless}
-use Rattle.office_tables.specs.ShareStudent.{share_student_columns, night_share_columns, share_shown, HaveNoNight}
+use Rattle.office_tables.specs.ShareStudent.{bare_share_columns, share_student_columns, night_share_columns, share_shown, HaveNoNight}
+use Rattle.office_tables.specs.Records.{columns_from}
 use Rattle.office_tables.specs.SharePart.{share_part_columns}
-use Rattle.office_tables.proofs.NightLemmas.{bare_rows, bare_shown, shown_holds}
+use Rattle.office_tables.proofs.NightLemmas.{bare_columns_are, bare_holds, bare_rows, bare_shown, no_nights, none_over_night, shown_holds}
 use Rattle.office_tables.proofs.NightTexts.{joined_shown, same_number}
-use Rattle.office_tables.proofs.OrderLemmas.{Rises, columns_shown, int, read, rise_alike, rising, table_shown}
+use Rattle.office_tables.proofs.OrderLemmas.{Rises, columns_shown, int, read, rise_alike, rises_typed, rising, table_shown, typed}
 use Rattle.office_tables.proofs.Queries.{column_less, column_later, equal_pairs, equals, every}
+use Rattle.office_tables.proofs.RecordLemmas.{IsFull}
 use Rattle.office_tables.proofs.RecordsBack.{number, student_share_of, part_share_of}
 use Rattle.office_tables.proofs.SameRows.{alike_now}
 use Rattle.office_tables.proofs.Splitting.{share_student_splits}
 use Rattle.office_tables.proofs.TableLemmas.{holds_moved}
 
--- ---- SELECT 0, student, in_row, in_day, spread FROM share_student ORDER BY student
+-- ---- SELECT student, in_row, in_day, spread FROM share_student ORDER BY student
 
 abbrev pub student_shares_text : List ℕ
 student_shares_text =
-    codes "SELECT 0, student, in_row, in_day, spread FROM share_student ORDER BY student"
+    codes "SELECT student, in_row, in_day, spread FROM share_student ORDER BY student"
 
 abbrev first_terms : List Term
-first_terms = lit (Int (pos 0)) ∷ col 1 0 ∷ col 1 2 ∷ col 1 3 ∷ col 1 4 ∷ []
+first_terms = col 1 0 ∷ col 1 2 ∷ col 1 3 ∷ col 1 4 ∷ []
 
 abbrev pub student_shares_query : Query
-student_shares_query = asks (inner 11 end) [] first_terms (rising first_terms (1 ∷ []))
+student_shares_query = asks (inner 11 end) [] first_terms (rising first_terms (0 ∷ []))
 
 pub student_shares_means : Means office_schema student_shares_query student_shares_text
 unfolding understood everything
 student_shares_means = record {
-  names = codes "0" ∷ codes "student" ∷ codes "in_row" ∷ codes "in_day" ∷ codes "spread" ∷ [];
+  names = codes "student" ∷ codes "in_row" ∷ codes "in_day" ∷ codes "spread" ∷ [];
   selects = refl;
   unlisted = refl;
   plain = (refl, refl);
 }
 
 abbrev first_picked : Row → Row
-first_picked row =
-    column row 0 ∷ column row 1 ∷ column row 2 ∷ column row 3 ∷ column row 4 ∷ []
+first_picked row = column row 0 ∷ column row 1 ∷ column row 2 ∷ column row 3 ∷ []
 
 -- the columns that the text shows of a stored row
-first_shown : (r : Row) → int 0 ∷ column r 0 ∷ column r 2 ∷ column r 3 ∷ column r 4 ∷ []
-    ≡ first_picked (with_no_night r)
+first_shown : (r : Row) → column r 0 ∷ column r 2 ∷ column r 3 ∷ column r 4 ∷ []
+    ≡ first_picked (keyed r)
 first_shown r = rw (column_later r 0, column_later r 1, column_later r 2) refl
 
--- if the first table has these rows with 0 as each amount over night, the list has them, by student
+-- a share without its amount over night
+record BareShare : Type 0 where
+  student : ℕ
+  in_row : ℕ
+  in_day : ℕ
+  spread : ℕ
+
+abbrev bare_share : StudentShareRow → BareShare
+bare_share r =
+    record { student = r.student; in_row = r.in_row; in_day = r.in_day; spread = r.spread }
+
+abbrev columns_in : BareShare → Row
+columns_in b = int b.student ∷ int b.in_row ∷ int b.in_day ∷ int b.spread ∷ []
+
+abbrev bare_share_in : Row → BareShare
+bare_share_in row = record {
+  student = number (column row 0);
+  in_row = number (column row 1);
+  in_day = number (column row 2);
+  spread = number (column row 3);
+}
+
+-- the share with an amount of 0
+abbrev share_with_none : BareShare → StudentShareRow
+share_with_none b = record {
+  student = b.student;
+  in_row = b.in_row;
+  in_day = b.in_day;
+  spread = b.spread;
+  night = 0;
+}
+
+shares_back : (rows : List StudentShareRow) → HaveNoNight rows
+    → map share_with_none (map bare_share rows) ≡ rows
+shares_back [] none = refl
+shares_back (r ∷ rows) none =
+    ap₂ (λ x xs. x ∷ xs) (ap (λ n. record r { night = n }) (sym none.0)) (shares_back rows none.1)
+
+-- rows that are read from only the first table show their columns in it, and have no amounts over
+-- night
+first_columns : (trees : Trees) (rows : List StudentShareRow)
+    → IsReadOf bare_share_columns 4 [] student_shares_query trees rows
+    → HaveNoNight rows × IsReadOf share_student_columns 4 [] student_shares_query trees rows
+first_columns trees rows is =
+    let none = no_nights _ _ _ _ _ _ share_student_splits rows
+    (subst (AllByRecursion IsFull) (sym is.1)
+    (all-map IsFull (columns_from 0 4) is.0 (all_of _ (λ r. tt) is.0))) in
+    let columns = bare_columns_are _ _ _ _ _ _ share_student_splits rows none in
+    (none, (is.0, sym columns ∙ is.1, is.2))
+
+-- if the first table has these rows, and each amount over night is 0, the list has them, by student
 first_read : (db : Database) (xs rows : List StudentShareRow)
-    → Holds with_no_night (map share_shown xs) (db.trees 11)
-    → IsReadOf share_shown 5 [] student_shares_query db.trees rows
+    → Holds keyed (map bare_share_columns xs) (db.trees 11)
+    → IsReadOf bare_share_columns 4 [] student_shares_query db.trees rows
     → IsPermutation xs rows × Rises (λ (x : StudentShareRow). x.student ∷ []) rows
 first_read db xs rows holds is =
-    read student_share_of share_shown 5 (λ x. refl) (λ x. refl) (inner 11 end) [] first_terms
-    (1 ∷ []) (λ (x : StudentShareRow). x.student ∷ []) (λ x. refl) db.trees [] xs rows
+    let none = none_over_night _ _ _ _ _ _ share_student_splits (db.trees 11) xs holds.same in
+    let stored = bare_holds _ _ _ _ _ _ share_student_splits (db.trees 11) xs holds in
+    let columns = first_columns db.trees rows is in
+    let shows : IsPermutation (map (eval_all first_terms)
+    (matches db.trees [] (inner 11 end) ([] ∷ []))) (map columns_in (map bare_share xs)) =
+    rw (map-map columns_in bare_share xs)
     (subst (λ l. IsPermutation (map (eval_all first_terms)
-    (matches db.trees [] (inner 11 end) ([] ∷ []))) (map share_shown l))
+    (matches db.trees [] (inner 11 end) ([] ∷ []))) (map share_student_columns l))
     (every (λ _. true) xs (λ x. refl))
-    (table_shown share_shown with_no_night first_picked [] 11 [] first_terms first_shown (λ x. refl)
-    (λ _. true) (λ r. refl) (λ _. true) (λ x. refl) db.trees xs holds.same))
-    is
+    (table_shown share_student_columns keyed first_picked [] 11 [] first_terms first_shown
+    (λ x. refl) (λ _. true) (λ r. refl) (λ _. true) (λ x. refl) db.trees xs stored.same)) in
+    let found = read bare_share_in columns_in 4 (λ x. refl) (λ x. refl) (inner 11 end) []
+    first_terms (0 ∷ []) (λ (b : BareShare). b.student ∷ []) (λ x. refl) db.trees []
+    (map bare_share xs) (map bare_share rows) shows
+    (typed columns_in bare_share 4 [] student_shares_query db.trees rows columns.1) in (
+      subst (IsPermutation xs) (shares_back rows columns.0)
+          (subst (λ l. IsPermutation l (map share_with_none (map bare_share rows)))
+          (shares_back xs none)
+          (IsPermutation-map share_with_none _ _ found.0)),
+      rises_typed (λ (b : BareShare). b.student ∷ []) bare_share rows found.1,
+    )
 
 -- if no share has an amount over night, the first list has the shares
 pub bare_shares_read : (db : Database) (t : Tables) → HoldsTables db t
     → HaveNoNight t.share_student → (found : List StudentShareRow)
-    → IsReadOf share_shown 5 [] student_shares_query db.trees found
+    → IsReadOf bare_share_columns 4 [] student_shares_query db.trees found
     → IsPermutation t.share_student found × Rises (λ (x : StudentShareRow). x.student ∷ []) found
 bare_shares_read db t represents none found =
     first_read db t.share_student found
@@ -145,7 +211,7 @@ same_numbers xs ys same = sym (each xs) ∙ ap (map number_in) same ∙ each ys
 
 pub student_shares_read : (db : Database) (t : Tables) → HoldsTables db t
     → (found : List StudentShareRow)
-    → IsReadWith share_shown share_student_columns night_share_columns 5 student_shares_query
+    → IsReadWith bare_share_columns share_student_columns night_share_columns 4 student_shares_query
     share_nights_query db.trees found
     → IsPermutation t.share_student found × Rises (λ (x : StudentShareRow). x.student ∷ []) found
 student_shares_read db t represents found is =

@@ -22,6 +22,7 @@ use Rattle.sqlite.specs.Does.{Tally, Does, lacks_sequence}
 use Rattle.sqlite.specs.Change.{created, next_tree, KeepsRows}
 use Rattle.sqlite.specs.Compile.{table_defined_by}
 use Rattle.std.specs.List.{AllByRecursion}
+pub use Rattle.office_tables.specs.Inserting.{simple}
 use Rattle.office_tables.specs.Schema.{HasRows}
 use Rattle.sqlite.specs.Rows.{Written}
 use Rattle.sqlite.specs.State.{State, mode_of, Writes, Executes, Shown}
@@ -35,11 +36,6 @@ went (inr on) = on
 
 pub same_value : {B E : Type 0} {a b : B} → ◌≡◌ {A = Result B E} (Ok a) (Ok b) → a ≡ b
 same_value e = cc
-
--- a table with no AUTOINCREMENT and no default that reads the time
-abbrev pub simple : Table → Table
-simple base =
-    record base { stamps = record { places = []; terms = []; formats = [] }; is_counted = false }
 
 module _ (sql : List ℕ) (params : Row) (old new : State) (count : ℕ) (schema : Schema)
     (has : old.now.schema ≡ schema) (plain : IsPlain (understood schema sql))

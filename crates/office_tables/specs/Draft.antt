@@ -5,6 +5,7 @@ use Rattle.sqlite_value.specs.declared.value.Value.TheVariants.{Int}
 use Rattle.sqlite_value.specs.Order.{Row}
 use Rattle.office_tables.specs.declared.draft.DraftRow.{DraftRow}
 use Rattle.office_tables.specs.Amounts.{IsStorable}
+use Rattle.office_tables.specs.Nights.{bare_columns}
 use Rattle.office_tables.specs.Records.{IsNarrow}
 use Rattle.office_tables.specs.Tables.{Tables}
 
@@ -18,9 +19,9 @@ draft_columns r =
 abbrev pub night_draft_columns : DraftRow → Row
 night_draft_columns r = Int (pos r.no) ∷ Int (pos r.night) ∷ []
 
--- all of its columns, as a SELECT gives them
-abbrev pub draft_shown : DraftRow → Row
-draft_shown r = Int (pos r.night) ∷ draft_columns r
+-- its columns if it is read from only the table draft
+abbrev pub bare_draft_columns : DraftRow → Row
+bare_draft_columns r = bare_columns r.night (draft_columns r)
 
 -- with one more draft
 abbrev pub with_draft : DraftRow → Tables → Tables

@@ -10,7 +10,7 @@ use Rattle.office_tables.specs.Asking.{IsReadOf}
 use Rattle.office_tables.specs.declared.nights.NightRow.{NightRow}
 use Rattle.office_tables.specs.declared.version.Version.{Version}
 use Rattle.office_tables.specs.Finders.{IsFound}
-use Rattle.office_tables.specs.Nights.{night_columns, FitsNight, HoldsNights}
+use Rattle.office_tables.specs.Nights.{bare_columns, night_columns, FitsNight, HoldsNights}
 use Rattle.office_tables.specs.Readings.{ColumnRises}
 use Rattle.office_tables.specs.Records.{IsNarrow}
 use Rattle.office_tables.specs.Stored.{Holds, keyed}
@@ -67,11 +67,11 @@ pub record HaveRows {X : Type 0} (version : Version) (columns_of nights_of : X �
   pub first : Holds keyed (map columns_of rows) stored
   pub second : HoldsNights version nights_of night rows nights_stored
 
--- a SELECT shows a row's amount over night and then its columns in the first table; each row has a
--- copy whose amount is 0
+-- a row that is read from only the first table has an amount over night of 0; each row has a copy
+-- with that amount
 pub record Splits {X : Type 0} (fits : X → Type 0) (shown columns_of nights_of : X → Row)
     (number night : X → ℕ) : Type 0 where
-  pub shown_is : (x : X) → shown x ≡ Int (pos (night x)) ∷ columns_of x
+  pub shown_is : (x : X) → shown x ≡ bare_columns (night x) (columns_of x)
   pub number_is : (x : X) → column (columns_of x) 0 ≡ Int (pos (number x))
   pub nights_are : (x : X) → nights_of x ≡ Int (pos (number x)) ∷ Int (pos (night x)) ∷ []
   pub narrow : (x : X) → fits x → IsNarrow (number x)

@@ -6,6 +6,8 @@ pub mod Batch
 pub mod Draft
 pub mod Enrol
 pub mod Finders
+pub mod Inserted
+pub mod Inserting
 pub mod Joining
 pub mod Listings
 pub mod Meta

@@ -1,6 +1,6 @@
 -- Amounts over night. In version 2 those of drafts and of students have tables of their own; in
 -- version 1 there is no such table, and each amount is 0.
-use Rattle.std.specs.Prelude.{◌≡◌, ℕ, pos, List, [], ◌∷◌, map}
+use Rattle.std.specs.Prelude.{◌≡◌, ℕ, zero, suc, pos, List, [], ◌∷◌, map}
 use Rattle.std.specs.List.{AllByRecursion}
 use Rattle.sqlite_value.specs.declared.value.Value.TheVariants.{Int}
 use Rattle.sqlite_value.specs.Order.{Row}
@@ -18,9 +18,11 @@ night_columns r = Int (pos r.number) ∷ Int (pos r.night) ∷ []
 abbrev pub FitsNight : NightRow → Type 0
 FitsNight r = IsNarrow r.number
 
--- a stored row, with an amount of 0 in front of it
-abbrev pub with_no_night : Row → Row
-with_no_night row = Int (pos 0) ∷ keyed row
+-- the columns of a row that is read from only the first table: its amount over night is 0. A row
+-- with another amount is never read so, and has no columns here
+abbrev pub bare_columns : ℕ → Row → Row
+bare_columns zero columns = columns
+bare_columns (suc night) columns = []
 
 -- the table of amounts over night has these rows; in version 1 there is none, and each amount is 0
 abbrev pub HoldsNights : {X : Type 0} → Version → (X → Row) → (X → ℕ) → List X → List Row → Type 0

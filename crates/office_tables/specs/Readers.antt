@@ -1,9 +1,12 @@
 -- The effect of a reader on a connection to a database with the tables.
-use Rattle.std.specs.Prelude.{◌≡◌, ◌⊎◌, false, IsTrue, IfOk, OnOk, Result}
+use Rattle.std.specs.Prelude.{◌≡◌, ◌⊎◌, false, ℕ, IsTrue, IfOk, List, OnOk, Result}
 use Rattle.sqlite.specs.declared.error.Error.{Error}
+use Rattle.sqlite.specs.Given.{IsPlain}
 use Rattle.sqlite.specs.Held.{Held, state}
-use Rattle.sqlite.specs.State.{State, HasCleanDisk, IsUnchanged}
+use Rattle.sqlite.specs.Listing.{understood}
+use Rattle.sqlite.specs.State.{State, HasCleanDisk, IsUnchanged, Survives}
 use Rattle.sqlite.specs.Store.{Ghosts}
+use Rattle.office_schema.specs.Schema.{office_schema}
 use Rattle.office_tables.specs.Tables.{Tables}
 use Rattle.office_tables.specs.TablesHeld.{HoldsTablesIn}
 use Rattle.office_tables.specs.declared.version.Version.{Version}
@@ -60,3 +63,29 @@ LeavesAll = LeavesAllIn Two
 -- in version 2, whatever the result, the database is unchanged, or as the last commit left it
 abbrev pub LeavesCommitted : {S : Type 0} → Ghosts S → Held S → Held S → Type 0
 LeavesCommitted = LeavesCommittedIn Two
+
+-- what a reader leaves: an `Ok` leaves everything unchanged, an `Err` the database as it was or as the
+-- last commit left it; a later opening may find only what it might have found before
+pub record LeavesTables {S X : Type 0} (store : Ghosts S) (old new : Held S)
+    (result : Result X Error) : Type 0 where
+  pub open_on_ok : AnswersOpen store old new result
+  pub was_open : OpensNone store old new
+  pub same : LeavesAll store old new result
+  pub kept : LeavesCommitted store old new
+  pub mode : old.in_transaction ≡ false → new.in_transaction ≡ false
+  pub survives : Survives (state store old) (state store new) (λ _. ⊥)
+
+-- what a query leaves; `same`, `kept` and `survives` are about a text that only reads
+pub record LeavesIfPlain {S X : Type 0} (sql : List ℕ) (store : Ghosts S) (old new : Held S)
+    (result : Result X Error) : Type 0 where
+  pub open_on_ok : AnswersOpen store old new result
+  pub was_open : OpensNone store old new
+  pub same : HasCleanDisk (state store new)
+      → IsPlain (understood (state store old).now.schema sql)
+      → OnOk result (IsUnchanged (state store old) (state store new))
+  pub kept : HasCleanDisk (state store new)
+      → IsPlain (understood (state store old).now.schema sql)
+      → Keeps (state store old) (state store new)
+  pub mode : old.in_transaction ≡ false → new.in_transaction ≡ false
+  pub survives : Survives (state store old) (state store new)
+      (λ _. IsPlain (understood office_schema sql) → ⊥)

@@ -7,6 +7,7 @@ use Rattle.sqlite_value.specs.Order.{Row}
 use Rattle.sqlite_trees.specs.Tree.{IsAscending}
 use Rattle.office_tables.specs.declared.share_student.StudentShareRow.{StudentShareRow}
 use Rattle.office_tables.specs.Amounts.{IsStorable}
+use Rattle.office_tables.specs.Nights.{bare_columns}
 use Rattle.office_tables.specs.Records.{IsNarrow}
 use Rattle.office_tables.specs.Tables.{Tables}
 
@@ -19,7 +20,11 @@ share_student_columns r =
 abbrev pub night_share_columns : StudentShareRow → Row
 night_share_columns r = Int (pos r.student) ∷ Int (pos r.night) ∷ []
 
--- all of its columns, as a SELECT gives them
+-- its columns if it is read from only the table share_student
+abbrev pub bare_share_columns : StudentShareRow → Row
+bare_share_columns r = bare_columns r.night (share_student_columns r)
+
+-- its columns if it is read from both tables
 abbrev pub share_shown : StudentShareRow → Row
 share_shown r = Int (pos r.night) ∷ share_student_columns r
 

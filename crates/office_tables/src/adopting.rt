@@ -8,15 +8,16 @@ ghost use Rattle.office_tables.specs.Readers.{Keeps};
 
 use crate::batch::{BatchCountsRow, adopt_batches};
 use crate::draft::{DraftRow, adopt_drafts};
-use crate::enrol::{EnrolRow, adopt_enrols};
+use crate::enrol::EnrolRow;
 use crate::found::{Found, FoundDrafts, FoundPublication, FoundSession};
+use crate::listing::adopt;
 use crate::meta::{MetaRow, adopt_meta};
-use crate::owner::{OwnerRow, adopt_owners};
-use crate::placed::{PlacedRow, adopt_placements};
-use crate::seat::{SeatRow, adopt_seats};
-use crate::share_part::{PartShareRow, adopt_part_shares};
+use crate::owner::OwnerRow;
+use crate::placed::PlacedRow;
+use crate::seat::SeatRow;
+use crate::share_part::PartShareRow;
 use crate::share_student::{StudentShareRow, adopt_student_shares};
-use crate::slot::{SlotRow, adopt_slots};
+use crate::slot::SlotRow;
 use crate::version::{Version, version_of};
 use sqlite::{Alter, Connection, Error};
 use std::alloc::Global;
@@ -74,8 +75,8 @@ fn find_session<S: Alter>(
     ensures looks { Looks version (state S.Store conn.old) (state S.Store conn.new) }
 {
     let meta = adopt_meta(conn, version)?;
-    let owners = adopt_owners(alloc, conn)?;
-    let enrols = adopt_enrols(alloc, conn)?;
+    let owners = adopt::<_, OwnerRow>(alloc, conn)?;
+    let enrols = adopt::<_, EnrolRow>(alloc, conn)?;
     Ok(session_of(meta, owners, enrols))
 }
 
@@ -90,7 +91,7 @@ fn find_drafts<S: Alter>(
     ensures looks { Looks version (state S.Store conn.old) (state S.Store conn.new) }
 {
     let drafts = adopt_drafts(alloc, conn, version)?;
-    let slots = adopt_slots(alloc, conn)?;
+    let slots = adopt::<_, SlotRow>(alloc, conn)?;
     Ok(drafts_of(drafts, slots))
 }
 
@@ -104,10 +105,10 @@ fn find_publication<S: Alter>(
     ensures same { Leaves version S.Store conn.old conn.new result }
     ensures looks { Looks version (state S.Store conn.old) (state S.Store conn.new) }
 {
-    let placements = adopt_placements(alloc, conn)?;
-    let seats = adopt_seats(alloc, conn)?;
+    let placements = adopt::<_, PlacedRow>(alloc, conn)?;
+    let seats = adopt::<_, SeatRow>(alloc, conn)?;
     let students = adopt_student_shares(alloc, conn, version)?;
-    let parts = adopt_part_shares(alloc, conn)?;
+    let parts = adopt::<_, PartShareRow>(alloc, conn)?;
     Ok(publication_of(placements, seats, students, parts))
 }
 

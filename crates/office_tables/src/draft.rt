@@ -1,9 +1,9 @@
 // Drafts and their penalties. The part over night is in a table of its own.
-ghost use Rattle.std.specs.Prelude.{◌≡◌, [], false};
+ghost use Rattle.std.specs.Prelude.{◌≡◌, []};
 ghost use Rattle.sqlite.specs.Held.{state};
 ghost use Rattle.sqlite.specs.Values.{bound};
 ghost use Rattle.sqlite_trees.specs.Tree.{Trees};
-ghost use Rattle.office_tables.specs.Draft.{draft_columns, no_drafts, draft_shown, night_draft_columns, with_draft, without_draft, AreAmounts, FitsDraft};
+ghost use Rattle.office_tables.specs.Draft.{bare_draft_columns, draft_columns, no_drafts, night_draft_columns, with_draft, without_draft, AreAmounts, FitsDraft};
 ghost use Rattle.office_tables.specs.Adopting.{HaveDrafts};
 ghost use Rattle.office_tables.specs.Finders.{Finds, Leaves, Looks};
 ghost use Rattle.office_tables.specs.Joining.{AreFound};
@@ -66,25 +66,26 @@ pub(crate) fn create_night_draft<S: Alter>(tx: &mut Transaction<'_, S>) -> Resul
 }
 
 impl Record for DraftRow {
-    ghost WIDTH = { 9 };
+    ghost WIDTH = { 8 };
 
-    ghost columns_of = { draft_shown };
+    ghost columns_of = { bare_draft_columns };
 
     ghost fits = { FitsDraft };
 
-    const WIDTH: usize = 9;
+    const WIDTH: usize = 8;
 
+    // Returns the draft in a row of the first table, with an amount over night of 0.
     fn read(row: &Row) -> Result<DraftRow, Error> {
         Ok(DraftRow {
-            night: row.get(0)?,
-            no: row.get(1)?,
-            in_row: row.get(2)?,
-            in_day: row.get(3)?,
-            spread: row.get(4)?,
-            mixed: row.get(5)?,
-            front: row.get(6)?,
-            period: row.get(7)?,
-            room: row.get(8)?,
+            no: row.get(0)?,
+            in_row: row.get(1)?,
+            in_day: row.get(2)?,
+            spread: row.get(3)?,
+            mixed: row.get(4)?,
+            front: row.get(5)?,
+            period: row.get(6)?,
+            room: row.get(7)?,
+            night: 0,
         })
     }
 }
@@ -214,8 +215,8 @@ pub(crate) fn adopt_drafts<S: Alter>(
         alloc,
         conn,
         version,
-        "SELECT 0, no, in_row, in_day, spread, mixed, front, period, room, rowid FROM draft ORDER \
-         BY rowid",
+        "SELECT no, in_row, in_day, spread, mixed, front, period, room, rowid FROM draft ORDER BY \
+         rowid",
         "SELECT no, night, rowid FROM night_draft ORDER BY rowid",
     )
 }

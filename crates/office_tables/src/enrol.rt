@@ -2,24 +2,19 @@
 ghost use Rattle.std.specs.Prelude.{◌≡◌, ◌==◌, false, filter, IfSome, IsPermutation, IsSome};
 ghost use Rattle.std.specs.List.{AllByRecursion};
 ghost use Rattle.sqlite.specs.Held.{state};
-ghost use Rattle.sqlite.specs.State.{Survives};
-ghost use Rattle.sqlite.specs.Values.{bound};
-ghost use Rattle.office_tables.specs.declared.version.Version.{Version};
-ghost use Rattle.office_tables.specs.Enrol.{enrol_columns, with_enrol, without_enrol, FitsEnrol, StudentEnrolsRise};
-ghost use Rattle.office_tables.specs.Finders.{Finds, IsFound, Leaves, Looks};
+ghost use Rattle.office_tables.specs.Enrol.{enrol_columns, without_enrol, FitsEnrol, StudentEnrolsRise};
 ghost use Rattle.office_tables.specs.Schema.{schema_2, schema_3, IsBlank};
 ghost use Rattle.office_tables.specs.Selections.{IsInOrder};
 ghost use Rattle.office_tables.specs.Steps.{Grows, Within};
-ghost use Rattle.office_tables.specs.Readers.{AnswersOpen, LeavesAll, LeavesCommitted, OpensNone, Reads};
-ghost use Rattle.office_tables.specs.Stored.{keyless};
+ghost use Rattle.office_tables.specs.Readers.{LeavesTables, Reads};
 
-use crate::altering::{Alteration, Both, Each};
-use crate::listing::read_table;
+use crate::altering::Alteration;
+use crate::listing::Listed;
 use crate::records::Record;
-use crate::running::{number, run};
+use crate::running::run;
 use crate::streaming::stream_found;
+use crate::table::{Insert, InsertAll, InsertTexts, Table};
 use sqlite::{Alter, Connection, Error, Row, Transaction, params};
-use sqlite_value::value::ValueRef;
 use std::alloc::Global;
 
 /// The enrolment of a student in an exam.
@@ -61,77 +56,59 @@ impl Record for EnrolRow {
     }
 }
 
+impl Listed for EnrolRow {
+    ghost use Rattle.office_schema.specs.Schema.{enrol_table};
+
+    ghost table = { enrol_table };
+
+    fn whole() -> &'static str {
+        "SELECT student, exam, rowid FROM enrol ORDER BY rowid"
+    }
+}
+
+impl Table<2, 32> for EnrolRow {
+    ghost use Rattle.std.proofs.Common.{arith};
+    ghost use Rattle.office_schema.specs.Schema.{enrol_table};
+
+    ghost shape = { record {
+      at = 2;
+      table = enrol_table;
+      columns_of = enrol_columns;
+      rows = λ t. t.enrol;
+      with_rows = λ rows t. record t { enrol = rows };
+    } };
+
+    ghost limited = { false };
+
+    ghost fits = { λ _. Unit {0} };
+
+    fn values(&self) -> [i64; 2] {
+        [self.student, self.exam].map(i64::from)
+    }
+
+    fn inserts() -> InsertTexts {
+        InsertTexts {
+            one: "INSERT INTO enrol (student, exam) VALUES (?1, ?2)",
+            many: "INSERT INTO enrol (student, exam) VALUES \
+                   (?, ?), (?, ?), (?, ?), (?, ?), (?, ?), (?, ?), (?, ?), (?, ?), \
+                   (?, ?), (?, ?), (?, ?), (?, ?), (?, ?), (?, ?), (?, ?), (?, ?), \
+                   (?, ?), (?, ?), (?, ?), (?, ?), (?, ?), (?, ?), (?, ?), (?, ?), \
+                   (?, ?), (?, ?), (?, ?), (?, ?), (?, ?), (?, ?), (?, ?), (?, ?)",
+        }
+    }
+
+    ghost narrow = { Prim.omega arith };
+
+    ghost small = { Prim.omega arith };
+
+    ghost some = { Prim.omega arith };
+}
+
 /// Adds an enrolment.
-#[derive(Clone, Copy)]
-pub struct InsertEnrol {
-    pub row: EnrolRow,
-}
-
-impl Alteration for InsertEnrol {
-    ghost alteration = { λ it t. with_enrol it.row t };
-
-    ghost fits = { λ _. Unit {0} };
-
-    fn apply<S: Alter>(&self, tx: &mut Transaction<'_, S>) -> Result<(), Error> {
-        run(
-            tx,
-            "INSERT INTO enrol (student, exam) VALUES (?1, ?2)",
-            &columns(*self),
-        )
-    }
-}
-
-/// Adds thirty-two enrolments with one statement.
-impl Alteration for [InsertEnrol; 32] {
-    ghost use Rattle.office_tables.specs.Alterations.{after_all};
-
-    ghost alteration = { λ its t. after_all (λ it. with_enrol it.row) its t };
-
-    ghost fits = { λ _. Unit {0} };
-
-    fn apply<S: Alter>(&self, tx: &mut Transaction<'_, S>) -> Result<(), Error> {
-        run(
-            tx,
-            "INSERT INTO enrol (student, exam) VALUES \
-             (?, ?), (?, ?), (?, ?), (?, ?), (?, ?), (?, ?), (?, ?), (?, ?), \
-             (?, ?), (?, ?), (?, ?), (?, ?), (?, ?), (?, ?), (?, ?), (?, ?), \
-             (?, ?), (?, ?), (?, ?), (?, ?), (?, ?), (?, ?), (?, ?), (?, ?), \
-             (?, ?), (?, ?), (?, ?), (?, ?), (?, ?), (?, ?), (?, ?), (?, ?)",
-            self.map(columns).as_flattened(),
-        )
-    }
-}
-
-fn columns(it: InsertEnrol) -> [ValueRef<'static>; 2]
-    ensures { bound result ≡ enrol_columns it.row }
-{
-    [number(it.row.student), number(it.row.exam)]
-}
+pub type InsertEnrol = Insert<EnrolRow, 2, 32>;
 
 /// Adds enrolments in their order: thirty-two with each statement, and the rest one by one.
-#[derive(Clone, Copy)]
-pub struct InsertEnrols<'a> {
-    pub rows: &'a [InsertEnrol],
-}
-
-impl Alteration for InsertEnrols<'_> {
-    ghost use Rattle.office_tables.specs.Alterations.{after_all};
-
-    ghost alteration = { λ it t. after_all (λ it. with_enrol it.row) it.rows.now t };
-
-    ghost fits = { λ _. Unit {0} };
-
-    fn apply<S: Alter>(&self, tx: &mut Transaction<'_, S>) -> Result<(), Error> {
-        let (chunks, rest) = self.rows.as_chunks::<32>();
-        let all = Both {
-            first: Each {
-                alterations: chunks,
-            },
-            second: Each { alterations: rest },
-        };
-        all.apply(tx)
-    }
-}
+pub type InsertEnrols<'a> = InsertAll<'a, InsertEnrol>;
 
 /// Deletes the enrolment of a student in an exam.
 #[derive(Clone, Copy)]
@@ -166,12 +143,7 @@ pub fn enrols_of<S: Alter>(
     ensures in_order { Reads S.Store
         (λ t found. IsInOrder StudentEnrolsRise (filter (λ r. r.student == student) t.enrol)
         found.items) conn.old conn.new result }
-    ensures open { AnswersOpen S.Store conn.old conn.new result }
-    ensures was_open { OpensNone S.Store conn.old conn.new }
-    ensures same { LeavesAll S.Store conn.old conn.new result }
-    ensures kept { LeavesCommitted S.Store conn.old conn.new }
-    ensures mode { conn.old.in_transaction ≡ false → conn.new.in_transaction ≡ false }
-    ensures survives { Survives (state S.Store conn.old) (state S.Store conn.new) (λ _. ⊥) }
+    ensures leaves { LeavesTables S.Store conn.old conn.new result }
 {
     match find_enrols_of(alloc, conn, student)? {
         Some(rows) => Ok(rows),
@@ -196,36 +168,12 @@ pub fn find_enrols_of<S: Alter>(
     ensures found { Reads S.Store
         (λ t found. AllByRecursion FitsEnrol (filter (λ r. r.student == student) t.enrol)
         → IsSome found) conn.old conn.new result }
-    ensures open { AnswersOpen S.Store conn.old conn.new result }
-    ensures was_open { OpensNone S.Store conn.old conn.new }
-    ensures same { LeavesAll S.Store conn.old conn.new result }
-    ensures kept { LeavesCommitted S.Store conn.old conn.new }
-    ensures mode { conn.old.in_transaction ≡ false → conn.new.in_transaction ≡ false }
-    ensures survives { Survives (state S.Store conn.old) (state S.Store conn.new) (λ _. ⊥) }
+    ensures leaves { LeavesTables S.Store conn.old conn.new result }
 {
     stream_found(
         alloc,
         conn,
         "SELECT student, exam FROM enrol WHERE student = ?1 ORDER BY exam",
         params![student],
-    )
-}
-
-// Returns all enrolments. `None`: the table doesn't hold enrolments.
-pub(crate) fn adopt_enrols<S: Alter>(
-    alloc: Global,
-    conn: &mut Connection<S>,
-) -> Result<Option<Vec<EnrolRow>>, Error>
-    ensures found { (version : Version) → Finds version S.Store
-        (λ db. IsFound FitsEnrol enrol_columns keyless (db.trees 2))
-        conn.old conn.new result }
-    ensures same { (version : Version) → Leaves version S.Store conn.old conn.new result }
-    ensures looks { (version : Version)
-        → Looks version (state S.Store conn.old) (state S.Store conn.new) }
-{
-    read_table(
-        alloc,
-        conn,
-        "SELECT student, exam, rowid FROM enrol ORDER BY rowid",
     )
 }

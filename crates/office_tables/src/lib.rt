@@ -10,6 +10,7 @@ mod creation;
 mod draft;
 mod enrol;
 mod found;
+mod joined_share;
 mod listing;
 mod looking;
 mod meta;
@@ -24,6 +25,7 @@ mod share_part;
 mod share_student;
 mod slot;
 mod streaming;
+mod table;
 mod version;
 
 pub use adopting::adopt_tables;
@@ -47,4 +49,5 @@ pub use share_student::{
     student_shares_without_nights,
 };
 pub use slot::{DeleteSlot, DeleteSlots, InsertSlot, InsertSlots, SlotRow};
+pub use table::{Insert, InsertAll};
 pub use version::Version;

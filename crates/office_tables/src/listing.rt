@@ -8,12 +8,39 @@ ghost use Rattle.sqlite_value.specs.Order.{Row as Columns, column};
 ghost use Rattle.office_tables.specs.declared.version.Version.{Version};
 ghost use Rattle.office_tables.specs.Readings.{IsNext, IsRead, ColumnRises};
 ghost use Rattle.office_tables.specs.Finders.{Finds, IsFound, Leaves, Looks};
+ghost use Rattle.sqlite_schema.specs.declared.schema.Table.{Table};
+ghost use Rattle.office_tables.specs.Inserting.{shown_by};
 ghost use Rattle.office_tables.specs.Listings.{one_table, Lists, ListsKeyed, ListsTable};
 
 use crate::records::Record;
 use sqlite::types::ValueRef;
 use sqlite::{Alter, Connection, Error, ErrorCode, Row};
 use std::alloc::Global;
+
+// A record of a row of one table.
+pub(crate) trait Listed: Record {
+    ghost table: { Table };
+
+    // Returns the text that lists the whole table.
+    fn whole() -> &'static str
+        ensures { (version : Version)
+            → ListsTable version Self.WIDTH table.tree (shown_by table.key) result.now };
+}
+
+// Returns all rows of a table. `None`: a row of the table isn't one of this type.
+pub(crate) fn adopt<S: Alter, R: Listed + Drop>(
+    alloc: Global,
+    conn: &mut Connection<S>,
+) -> Result<Option<Vec<R>>, Error>
+    ensures found { (version : Version) → Finds version S.Store
+        (λ db. IsFound R.fits R.columns_of (shown_by R.table.key) (db.trees R.table.tree))
+        conn.old conn.new result }
+    ensures same { (version : Version) → Leaves version S.Store conn.old conn.new result }
+    ensures looks { (version : Version)
+        → Looks version (state S.Store conn.old) (state S.Store conn.new) }
+{
+    read_table(alloc, conn, R::whole())
+}
 
 // Returns a whole table, by a text that lists it: each row's number comes after its columns, and
 // the rows are in the order of these numbers. `None`: a row is not a record, two rows have the same

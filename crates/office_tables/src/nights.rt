@@ -11,7 +11,7 @@ ghost use Rattle.office_tables.specs.declared.version.Version.TheVariants.{Two};
 ghost use Rattle.office_tables.specs.Finders.{Finds, Leaves, Looks};
 ghost use Rattle.office_tables.specs.Listings.{ListsKeyed};
 ghost use Rattle.office_tables.specs.Joining.{AreFound, AreJoined, HaveRows, IsJoined, IsJoinedWith, IsReadWith, Splits};
-ghost use Rattle.office_tables.specs.Nights.{night_columns, with_no_night, FitsNight};
+ghost use Rattle.office_tables.specs.Nights.{night_columns, FitsNight};
 ghost use Rattle.office_tables.specs.Readers.{AnswersOpen, LeavesAll, LeavesCommitted, OpensNone, Reads};
 ghost use Rattle.office_tables.specs.Stored.{keyed};
 
@@ -67,8 +67,8 @@ pub(crate) trait HasNight: Copy {
             ≡ night_columns (record { number = number_in self.now; night = night }) };
 }
 
-// Returns the rows of a table; its text lists 0 as each amount over night. In version 2 the amounts
-// come from the second table. `None`: the tables hold no such rows.
+// Returns the rows of a table. In version 2 their amounts over night come from the second table; in
+// version 1 each amount is 0. `None`: the tables hold no such rows.
 pub(crate) fn adopt_with_nights<S: Alter, R: Record + HasNight + Drop>(
     alloc: Global,
     conn: &mut Connection<S>,
@@ -77,18 +77,18 @@ pub(crate) fn adopt_with_nights<S: Alter, R: Record + HasNight + Drop>(
     nights_sql: &str,
 ) -> Result<Option<Vec<R>>, Error>
     ensures found { (tree nights_tree : ℕ)
-        → ListsKeyed version 1 R.WIDTH tree with_no_night rows_sql.now
+        → ListsKeyed version 0 R.WIDTH tree keyed rows_sql.now
         → ListsKeyed Two 0 2 nights_tree keyed nights_sql.now
         → Splits R.fits R.columns_of R.columns_in_first R.columns_in_second R.number_in R.night_in
         → Finds version S.Store (λ db. AreFound R.fits (HaveRows version R.columns_in_first
         R.columns_in_second R.night_in (db.trees tree) (db.trees nights_tree)))
         conn.old conn.new result }
     ensures same { (tree nights_tree : ℕ)
-        → ListsKeyed version 1 R.WIDTH tree with_no_night rows_sql.now
+        → ListsKeyed version 0 R.WIDTH tree keyed rows_sql.now
         → ListsKeyed Two 0 2 nights_tree keyed nights_sql.now
         → Leaves version S.Store conn.old conn.new result }
     ensures looks { (tree nights_tree : ℕ)
-        → ListsKeyed version 1 R.WIDTH tree with_no_night rows_sql.now
+        → ListsKeyed version 0 R.WIDTH tree keyed rows_sql.now
         → ListsKeyed Two 0 2 nights_tree keyed nights_sql.now
         → Looks version (state S.Store conn.old) (state S.Store conn.new) }
 {
@@ -100,7 +100,7 @@ pub(crate) fn adopt_with_nights<S: Alter, R: Record + HasNight + Drop>(
 }
 
 // Returns the rows that the first text lists, with the amounts over night that the second lists in
-// the same order; the first lists 0 as each amount. `InvalidQuery`: their numbers differ.
+// the same order. `InvalidQuery`: their numbers differ.
 pub(crate) fn stream_with_nights<S: Alter, R: Record + HasNight + Drop>(
     alloc: Global,
     conn: &mut Connection<S>,

@@ -1,17 +1,13 @@
 // Owners of exams.
-ghost use Rattle.std.specs.Prelude.{◌≡◌, ◌==◌, false, filter, IsPermutation};
+ghost use Rattle.std.specs.Prelude.{◌≡◌, ◌==◌, filter, IsPermutation};
 ghost use Rattle.sqlite.specs.Held.{state};
-ghost use Rattle.sqlite.specs.State.{Survives};
-ghost use Rattle.office_tables.specs.declared.version.Version.{Version};
 ghost use Rattle.office_tables.specs.Owner.{owner_columns, with_owner, without_owner, FitsOwner};
-ghost use Rattle.office_tables.specs.Finders.{Finds, IsFound, Leaves, Looks};
 ghost use Rattle.office_tables.specs.Schema.{schema_1, schema_2, IsBlank};
 ghost use Rattle.office_tables.specs.Steps.{Grows, Within};
-ghost use Rattle.office_tables.specs.Readers.{AnswersOpen, LeavesAll, LeavesCommitted, OpensNone, Reads};
-ghost use Rattle.office_tables.specs.Stored.{keyed};
+ghost use Rattle.office_tables.specs.Readers.{LeavesTables, Reads};
 
 use crate::altering::Alteration;
-use crate::listing::read_table;
+use crate::listing::Listed;
 use crate::records::Record;
 use crate::running::run;
 use crate::streaming::stream;
@@ -53,6 +49,16 @@ impl Record for OwnerRow {
             exam: row.get(0)?,
             dept: row.get(1)?,
         })
+    }
+}
+
+impl Listed for OwnerRow {
+    ghost use Rattle.office_schema.specs.Schema.{owner_table};
+
+    ghost table = { owner_table };
+
+    fn whole() -> &'static str {
+        "SELECT exam, dept, rowid FROM owner ORDER BY rowid"
     }
 }
 
@@ -101,36 +107,12 @@ pub fn owners_of<S: Alter>(
     ensures rows { Reads S.Store
         (λ t rows. IsPermutation (filter (λ r. r.exam == exam) t.owner) rows.items)
         conn.old conn.new result }
-    ensures open { AnswersOpen S.Store conn.old conn.new result }
-    ensures was_open { OpensNone S.Store conn.old conn.new }
-    ensures same { LeavesAll S.Store conn.old conn.new result }
-    ensures kept { LeavesCommitted S.Store conn.old conn.new }
-    ensures mode { conn.old.in_transaction ≡ false → conn.new.in_transaction ≡ false }
-    ensures survives { Survives (state S.Store conn.old) (state S.Store conn.new) (λ _. ⊥) }
+    ensures leaves { LeavesTables S.Store conn.old conn.new result }
 {
     stream(
         alloc,
         conn,
         "SELECT exam, dept FROM owner WHERE exam = ?1 ORDER BY exam",
         params![exam],
-    )
-}
-
-// Returns all owners. `None`: the table doesn't hold owners.
-pub(crate) fn adopt_owners<S: Alter>(
-    alloc: Global,
-    conn: &mut Connection<S>,
-) -> Result<Option<Vec<OwnerRow>>, Error>
-    ensures found { (version : Version) → Finds version S.Store
-        (λ db. IsFound FitsOwner owner_columns keyed (db.trees 1))
-        conn.old conn.new result }
-    ensures same { (version : Version) → Leaves version S.Store conn.old conn.new result }
-    ensures looks { (version : Version)
-        → Looks version (state S.Store conn.old) (state S.Store conn.new) }
-{
-    read_table(
-        alloc,
-        conn,
-        "SELECT exam, dept, rowid FROM owner ORDER BY rowid",
     )
 }

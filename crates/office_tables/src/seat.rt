@@ -1,24 +1,19 @@
 // Seats of students.
 ghost use Rattle.std.specs.Prelude.{◌≡◌, ◌==◌, false, filter, IsPermutation};
 ghost use Rattle.sqlite.specs.Held.{state};
-ghost use Rattle.sqlite.specs.State.{Survives};
-ghost use Rattle.sqlite.specs.Values.{bound};
-ghost use Rattle.office_tables.specs.declared.version.Version.{Version};
-ghost use Rattle.office_tables.specs.Finders.{Finds, IsFound, Leaves, Looks};
 ghost use Rattle.office_tables.specs.Schema.{schema_6, schema_7, IsBlank};
-ghost use Rattle.office_tables.specs.Seat.{seat_columns, with_seat, without_student_seats, FitsSeat, StudentSeatsRise};
+ghost use Rattle.office_tables.specs.Seat.{seat_columns, without_student_seats, FitsSeat, StudentSeatsRise};
 ghost use Rattle.office_tables.specs.Selections.{IsInOrder};
 ghost use Rattle.office_tables.specs.Steps.{Grows, Within};
-ghost use Rattle.office_tables.specs.Readers.{AnswersOpen, LeavesAll, LeavesCommitted, OpensNone, Reads};
-ghost use Rattle.office_tables.specs.Stored.{keyless};
+ghost use Rattle.office_tables.specs.Readers.{LeavesTables, Reads};
 
-use crate::altering::{Alteration, Both, Each};
-use crate::listing::read_table;
+use crate::altering::Alteration;
+use crate::listing::Listed;
 use crate::records::Record;
-use crate::running::{number, run};
+use crate::running::run;
 use crate::streaming::stream;
+use crate::table::{Insert, InsertAll, InsertTexts, Table};
 use sqlite::{Alter, Connection, Error, Row, Transaction, params};
-use sqlite_value::value::ValueRef;
 use std::alloc::Global;
 
 /// A published seat; seats are numbered from 1 in each room and period.
@@ -67,83 +62,59 @@ impl Record for SeatRow {
     }
 }
 
+impl Listed for SeatRow {
+    ghost use Rattle.office_schema.specs.Schema.{seat_table};
+
+    ghost table = { seat_table };
+
+    fn whole() -> &'static str {
+        "SELECT student, exam, period, room, seat, rowid FROM seat ORDER BY rowid"
+    }
+}
+
+impl Table<5, 16> for SeatRow {
+    ghost use Rattle.std.proofs.Common.{arith};
+    ghost use Rattle.office_schema.specs.Schema.{seat_table};
+
+    ghost shape = { record {
+      at = 6;
+      table = seat_table;
+      columns_of = seat_columns;
+      rows = λ t. t.seat;
+      with_rows = λ rows t. record t { seat = rows };
+    } };
+
+    ghost limited = { false };
+
+    ghost fits = { λ _. Unit {0} };
+
+    fn values(&self) -> [i64; 5] {
+        [self.student, self.exam, self.period, self.room, self.seat].map(i64::from)
+    }
+
+    fn inserts() -> InsertTexts {
+        InsertTexts {
+            one: "INSERT INTO seat (student, exam, period, room, seat) VALUES (?1, ?2, ?3, ?4, ?5)",
+            many: "INSERT INTO seat (student, exam, period, room, seat) VALUES \
+                   (?, ?, ?, ?, ?), (?, ?, ?, ?, ?), (?, ?, ?, ?, ?), (?, ?, ?, ?, ?), \
+                   (?, ?, ?, ?, ?), (?, ?, ?, ?, ?), (?, ?, ?, ?, ?), (?, ?, ?, ?, ?), \
+                   (?, ?, ?, ?, ?), (?, ?, ?, ?, ?), (?, ?, ?, ?, ?), (?, ?, ?, ?, ?), \
+                   (?, ?, ?, ?, ?), (?, ?, ?, ?, ?), (?, ?, ?, ?, ?), (?, ?, ?, ?, ?)",
+        }
+    }
+
+    ghost narrow = { Prim.omega arith };
+
+    ghost small = { Prim.omega arith };
+
+    ghost some = { Prim.omega arith };
+}
+
 /// Adds a seat.
-#[derive(Clone, Copy)]
-pub struct InsertSeat {
-    pub row: SeatRow,
-}
-
-impl Alteration for InsertSeat {
-    ghost alteration = { λ it t. with_seat it.row t };
-
-    ghost fits = { λ _. Unit {0} };
-
-    fn apply<S: Alter>(&self, tx: &mut Transaction<'_, S>) -> Result<(), Error> {
-        run(
-            tx,
-            "INSERT INTO seat (student, exam, period, room, seat) VALUES (?1, ?2, ?3, ?4, ?5)",
-            &columns(*self),
-        )
-    }
-}
-
-/// Adds sixteen seats with one statement.
-impl Alteration for [InsertSeat; 16] {
-    ghost use Rattle.office_tables.specs.Alterations.{after_all};
-
-    ghost alteration = { λ its t. after_all (λ it. with_seat it.row) its t };
-
-    ghost fits = { λ _. Unit {0} };
-
-    fn apply<S: Alter>(&self, tx: &mut Transaction<'_, S>) -> Result<(), Error> {
-        run(
-            tx,
-            "INSERT INTO seat (student, exam, period, room, seat) VALUES \
-             (?, ?, ?, ?, ?), (?, ?, ?, ?, ?), (?, ?, ?, ?, ?), (?, ?, ?, ?, ?), \
-             (?, ?, ?, ?, ?), (?, ?, ?, ?, ?), (?, ?, ?, ?, ?), (?, ?, ?, ?, ?), \
-             (?, ?, ?, ?, ?), (?, ?, ?, ?, ?), (?, ?, ?, ?, ?), (?, ?, ?, ?, ?), \
-             (?, ?, ?, ?, ?), (?, ?, ?, ?, ?), (?, ?, ?, ?, ?), (?, ?, ?, ?, ?)",
-            self.map(columns).as_flattened(),
-        )
-    }
-}
-
-fn columns(it: InsertSeat) -> [ValueRef<'static>; 5]
-    ensures { bound result ≡ seat_columns it.row }
-{
-    [
-        number(it.row.student),
-        number(it.row.exam),
-        number(it.row.period),
-        number(it.row.room),
-        number(it.row.seat),
-    ]
-}
+pub type InsertSeat = Insert<SeatRow, 5, 16>;
 
 /// Adds seats in their order: sixteen with each statement, and the rest one by one.
-#[derive(Clone, Copy)]
-pub struct InsertSeats<'a> {
-    pub rows: &'a [InsertSeat],
-}
-
-impl Alteration for InsertSeats<'_> {
-    ghost use Rattle.office_tables.specs.Alterations.{after_all};
-
-    ghost alteration = { λ it t. after_all (λ it. with_seat it.row) it.rows.now t };
-
-    ghost fits = { λ _. Unit {0} };
-
-    fn apply<S: Alter>(&self, tx: &mut Transaction<'_, S>) -> Result<(), Error> {
-        let (chunks, rest) = self.rows.as_chunks::<16>();
-        let all = Both {
-            first: Each {
-                alterations: chunks,
-            },
-            second: Each { alterations: rest },
-        };
-        all.apply(tx)
-    }
-}
+pub type InsertSeats<'a> = InsertAll<'a, InsertSeat>;
 
 /// Deletes a student's seats.
 #[derive(Clone, Copy)]
@@ -177,36 +148,12 @@ pub fn seats_of<S: Alter>(
     ensures in_order { Reads S.Store
         (λ t found. IsInOrder StudentSeatsRise (filter (λ r. r.student == student) t.seat) found.items)
         conn.old conn.new result }
-    ensures open { AnswersOpen S.Store conn.old conn.new result }
-    ensures was_open { OpensNone S.Store conn.old conn.new }
-    ensures same { LeavesAll S.Store conn.old conn.new result }
-    ensures kept { LeavesCommitted S.Store conn.old conn.new }
-    ensures mode { conn.old.in_transaction ≡ false → conn.new.in_transaction ≡ false }
-    ensures survives { Survives (state S.Store conn.old) (state S.Store conn.new) (λ _. ⊥) }
+    ensures leaves { LeavesTables S.Store conn.old conn.new result }
 {
     stream(
         alloc,
         conn,
         "SELECT student, exam, period, room, seat FROM seat WHERE student = ?1 ORDER BY exam",
         params![student],
-    )
-}
-
-// Returns all seats. `None`: the table doesn't hold seats.
-pub(crate) fn adopt_seats<S: Alter>(
-    alloc: Global,
-    conn: &mut Connection<S>,
-) -> Result<Option<Vec<SeatRow>>, Error>
-    ensures found { (version : Version) → Finds version S.Store
-        (λ db. IsFound FitsSeat seat_columns keyless (db.trees 8))
-        conn.old conn.new result }
-    ensures same { (version : Version) → Leaves version S.Store conn.old conn.new result }
-    ensures looks { (version : Version)
-        → Looks version (state S.Store conn.old) (state S.Store conn.new) }
-{
-    read_table(
-        alloc,
-        conn,
-        "SELECT student, exam, period, room, seat, rowid FROM seat ORDER BY rowid",
     )
 }

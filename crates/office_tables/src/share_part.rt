@@ -1,24 +1,19 @@
 // Shares of exams, periods and rooms in the penalty of the publication.
-ghost use Rattle.std.specs.Prelude.{◌≡◌, false, IsPermutation};
+ghost use Rattle.std.specs.Prelude.{◌≡◌, IsPermutation};
 ghost use Rattle.sqlite.specs.Held.{state};
-ghost use Rattle.sqlite.specs.State.{Survives};
-ghost use Rattle.sqlite.specs.Values.{bound};
-ghost use Rattle.office_tables.specs.declared.version.Version.{Version};
-ghost use Rattle.office_tables.specs.Finders.{Finds, IsFound, Leaves, Looks};
 ghost use Rattle.office_tables.specs.Schema.{schema_8, schema_9, IsBlank};
 ghost use Rattle.office_tables.specs.Selections.{IsInOrder};
-ghost use Rattle.office_tables.specs.SharePart.{no_part_shares, share_part_columns, with_part_share, ArePartAmounts, FitsPartShare, PartSharesRise};
+ghost use Rattle.office_tables.specs.SharePart.{no_part_shares, share_part_columns, ArePartAmounts, FitsPartShare, PartSharesRise};
 ghost use Rattle.office_tables.specs.Steps.{Grows, Within};
-ghost use Rattle.office_tables.specs.Readers.{AnswersOpen, LeavesAll, LeavesCommitted, OpensNone, Reads};
-ghost use Rattle.office_tables.specs.Stored.{keyless};
+ghost use Rattle.office_tables.specs.Readers.{LeavesTables, Reads};
 
-use crate::altering::{Alteration, Both, Each};
+use crate::altering::Alteration;
 use crate::amounts::signed;
-use crate::listing::read_table;
+use crate::listing::Listed;
 use crate::records::Record;
-use crate::running::{number, run};
+use crate::running::run;
 use crate::streaming::stream;
-use sqlite::types::ValueRef;
+use crate::table::{Insert, InsertAll, InsertTexts, Table};
 use sqlite::{Alter, Connection, Error, Row, Transaction};
 use std::alloc::Global;
 
@@ -65,85 +60,65 @@ impl Record for PartShareRow {
     }
 }
 
+impl Listed for PartShareRow {
+    ghost use Rattle.office_schema.specs.Schema.{share_part_table};
+
+    ghost table = { share_part_table };
+
+    fn whole() -> &'static str {
+        "SELECT kind, no, penalty, mixed, rowid FROM share_part ORDER BY rowid"
+    }
+}
+
+impl Table<4, 16> for PartShareRow {
+    ghost use Rattle.std.specs.Prelude.{true};
+    ghost use Rattle.std.proofs.Common.{arith};
+    ghost use Rattle.office_schema.specs.Schema.{share_part_table};
+
+    ghost shape = { record {
+      at = 8;
+      table = share_part_table;
+      columns_of = share_part_columns;
+      rows = λ t. t.share_part;
+      with_rows = λ rows t. record t { share_part = rows };
+    } };
+
+    ghost limited = { true };
+
+    ghost fits = { ArePartAmounts };
+
+    fn values(&self) -> [i64; 4] {
+        [
+            i64::from(self.kind),
+            i64::from(self.no),
+            signed(self.penalty),
+            signed(self.mixed),
+        ]
+    }
+
+    fn inserts() -> InsertTexts {
+        InsertTexts {
+            one: "INSERT INTO share_part (kind, no, penalty, mixed) VALUES (?1, ?2, ?3, ?4)",
+            many: "INSERT INTO share_part (kind, no, penalty, mixed) VALUES \
+                   (?, ?, ?, ?), (?, ?, ?, ?), (?, ?, ?, ?), (?, ?, ?, ?), \
+                   (?, ?, ?, ?), (?, ?, ?, ?), (?, ?, ?, ?), (?, ?, ?, ?), \
+                   (?, ?, ?, ?), (?, ?, ?, ?), (?, ?, ?, ?), (?, ?, ?, ?), \
+                   (?, ?, ?, ?), (?, ?, ?, ?), (?, ?, ?, ?), (?, ?, ?, ?)",
+        }
+    }
+
+    ghost narrow = { Prim.omega arith };
+
+    ghost small = { Prim.omega arith };
+
+    ghost some = { Prim.omega arith };
+}
+
 /// Adds the share of an exam, a period or a room.
-#[derive(Clone, Copy)]
-pub struct InsertPartShare {
-    pub row: PartShareRow,
-}
-
-impl Alteration for InsertPartShare {
-    ghost alteration = { λ it t. with_part_share it.row t };
-
-    ghost fits = { λ it. ArePartAmounts it.row };
-
-    fn apply<S: Alter>(&self, tx: &mut Transaction<'_, S>) -> Result<(), Error> {
-        run(
-            tx,
-            "INSERT INTO share_part (kind, no, penalty, mixed) VALUES (?1, ?2, ?3, ?4)",
-            &columns(*self),
-        )
-    }
-}
-
-/// Adds sixteen such shares with one statement.
-impl Alteration for [InsertPartShare; 16] {
-    ghost use Rattle.std.specs.Prelude.{All};
-    ghost use Rattle.office_tables.specs.Alterations.{after_all};
-
-    ghost alteration = { λ its t. after_all (λ it. with_part_share it.row) its t };
-
-    ghost fits = { λ its. All (λ it. ArePartAmounts it.row) its };
-
-    fn apply<S: Alter>(&self, tx: &mut Transaction<'_, S>) -> Result<(), Error> {
-        run(
-            tx,
-            "INSERT INTO share_part (kind, no, penalty, mixed) VALUES \
-             (?, ?, ?, ?), (?, ?, ?, ?), (?, ?, ?, ?), (?, ?, ?, ?), \
-             (?, ?, ?, ?), (?, ?, ?, ?), (?, ?, ?, ?), (?, ?, ?, ?), \
-             (?, ?, ?, ?), (?, ?, ?, ?), (?, ?, ?, ?), (?, ?, ?, ?), \
-             (?, ?, ?, ?), (?, ?, ?, ?), (?, ?, ?, ?), (?, ?, ?, ?)",
-            self.map(columns).as_flattened(),
-        )
-    }
-}
-
-fn columns(it: InsertPartShare) -> [ValueRef<'static>; 4]
-    requires { ArePartAmounts it.row }
-    ensures { bound result ≡ share_part_columns it.row }
-{
-    [
-        number(it.row.kind),
-        number(it.row.no),
-        ValueRef::Int(signed(it.row.penalty)),
-        ValueRef::Int(signed(it.row.mixed)),
-    ]
-}
+pub type InsertPartShare = Insert<PartShareRow, 4, 16>;
 
 /// Adds such shares in their order: sixteen with each statement, and the rest one by one.
-#[derive(Clone, Copy)]
-pub struct InsertPartShares<'a> {
-    pub rows: &'a [InsertPartShare],
-}
-
-impl Alteration for InsertPartShares<'_> {
-    ghost use Rattle.std.specs.Prelude.{All};
-    ghost use Rattle.office_tables.specs.Alterations.{after_all};
-
-    ghost alteration = { λ it t. after_all (λ it. with_part_share it.row) it.rows.now t };
-
-    ghost fits = { λ it. All (λ it. ArePartAmounts it.row) it.rows.now };
-
-    fn apply<S: Alter>(&self, tx: &mut Transaction<'_, S>) -> Result<(), Error> {
-        let (chunks, rest) = self.rows.as_chunks::<16>();
-        let all = Both {
-            first: Each {
-                alterations: chunks,
-            },
-            second: Each { alterations: rest },
-        };
-        all.apply(tx)
-    }
-}
+pub type InsertPartShares<'a> = InsertAll<'a, InsertPartShare>;
 
 /// Deletes all shares of exams, periods and rooms.
 #[derive(Clone, Copy)]
@@ -168,36 +143,12 @@ pub fn part_shares<S: Alter>(
         conn.old conn.new result }
     ensures in_order { Reads S.Store (λ t found. IsInOrder PartSharesRise t.share_part found.items)
         conn.old conn.new result }
-    ensures open { AnswersOpen S.Store conn.old conn.new result }
-    ensures was_open { OpensNone S.Store conn.old conn.new }
-    ensures same { LeavesAll S.Store conn.old conn.new result }
-    ensures kept { LeavesCommitted S.Store conn.old conn.new }
-    ensures mode { conn.old.in_transaction ≡ false → conn.new.in_transaction ≡ false }
-    ensures survives { Survives (state S.Store conn.old) (state S.Store conn.new) (λ _. ⊥) }
+    ensures leaves { LeavesTables S.Store conn.old conn.new result }
 {
     stream(
         alloc,
         conn,
         "SELECT kind, no, penalty, mixed FROM share_part ORDER BY kind, no",
         &[],
-    )
-}
-
-// Returns all shares of exams, periods and rooms. `None`: the table doesn't hold such shares.
-pub(crate) fn adopt_part_shares<S: Alter>(
-    alloc: Global,
-    conn: &mut Connection<S>,
-) -> Result<Option<Vec<PartShareRow>>, Error>
-    ensures found { (version : Version) → Finds version S.Store
-        (λ db. IsFound FitsPartShare share_part_columns keyless (db.trees 12))
-        conn.old conn.new result }
-    ensures same { (version : Version) → Leaves version S.Store conn.old conn.new result }
-    ensures looks { (version : Version)
-        → Looks version (state S.Store conn.old) (state S.Store conn.new) }
-{
-    read_table(
-        alloc,
-        conn,
-        "SELECT kind, no, penalty, mixed, rowid FROM share_part ORDER BY rowid",
     )
 }

@@ -1,8 +1,7 @@
 // Shares of students in the penalty of the publication. The part over night is in a table of its
 // own.
-ghost use Rattle.std.specs.Prelude.{◌≡◌, ◌==◌, [], false, filter, IsPermutation};
+ghost use Rattle.std.specs.Prelude.{◌≡◌, ◌==◌, [], filter, IsPermutation};
 ghost use Rattle.sqlite.specs.Held.{state};
-ghost use Rattle.sqlite.specs.State.{Survives};
 ghost use Rattle.sqlite.specs.Values.{bound};
 ghost use Rattle.sqlite_trees.specs.Tree.{Trees};
 ghost use Rattle.office_tables.specs.Adopting.{HaveShares};
@@ -10,12 +9,13 @@ ghost use Rattle.office_tables.specs.Finders.{Finds, Leaves, Looks};
 ghost use Rattle.office_tables.specs.Joining.{AreFound};
 ghost use Rattle.office_tables.specs.Schema.{schema_7, schema_8, schema_11, schema_12, HasRows, IsBlank};
 ghost use Rattle.office_tables.specs.Selections.{IsInOrder};
-ghost use Rattle.office_tables.specs.ShareStudent.{night_share_columns, share_shown, share_student_columns, with_student_share, without_student_share, AreStudentAmounts, FitsStudentShare, HaveNoNight, StudentSharesRise};
+ghost use Rattle.office_tables.specs.ShareStudent.{bare_share_columns, night_share_columns, share_student_columns, with_student_share, without_student_share, AreStudentAmounts, FitsStudentShare, HaveNoNight, StudentSharesRise};
 ghost use Rattle.office_tables.specs.Steps.{Grows, Within};
-ghost use Rattle.office_tables.specs.Readers.{AnswersOpen, LeavesAll, LeavesCommitted, OpensNone, Reads};
+ghost use Rattle.office_tables.specs.Readers.{LeavesTables, Reads};
 
 use crate::altering::Alteration;
 use crate::amounts::signed;
+use crate::joined_share::joined_rows;
 use crate::nights::{HasNight, adopt_with_nights, stream_with_nights};
 use crate::records::Record;
 use crate::running::run;
@@ -25,9 +25,9 @@ use sqlite::types::ValueRef;
 use sqlite::{Alter, Connection, Error, Row, Transaction, params};
 use std::alloc::Global;
 
-// Lists all rows of the first table, by student, each with an amount over night of 0.
+// Lists all rows of the first table, by student.
 const BARE_SHARES: &str =
-    "SELECT 0, student, in_row, in_day, spread FROM share_student ORDER BY student";
+    "SELECT student, in_row, in_day, spread FROM share_student ORDER BY student";
 
 /// A candidate's share of the penalty.
 #[derive(Clone, Copy, Debug, PartialEq, Eq)]
@@ -71,21 +71,22 @@ pub(crate) fn create_night_share<S: Alter>(tx: &mut Transaction<'_, S>) -> Resul
 }
 
 impl Record for StudentShareRow {
-    ghost WIDTH = { 5 };
+    ghost WIDTH = { 4 };
 
-    ghost columns_of = { share_shown };
+    ghost columns_of = { bare_share_columns };
 
     ghost fits = { FitsStudentShare };
 
-    const WIDTH: usize = 5;
+    const WIDTH: usize = 4;
 
+    // Returns the share in a row of the first table, with an amount over night of 0.
     fn read(row: &Row) -> Result<StudentShareRow, Error> {
         Ok(StudentShareRow {
-            night: row.get(0)?,
-            student: row.get(1)?,
-            in_row: row.get(2)?,
-            in_day: row.get(3)?,
-            spread: row.get(4)?,
+            student: row.get(0)?,
+            in_row: row.get(1)?,
+            in_day: row.get(2)?,
+            spread: row.get(3)?,
+            night: 0,
         })
     }
 }
@@ -194,12 +195,7 @@ pub fn student_shares<S: Alter>(
     ensures in_order { Reads S.Store
         (λ t found. IsInOrder StudentSharesRise t.share_student found.items)
         conn.old conn.new result }
-    ensures open { AnswersOpen S.Store conn.old conn.new result }
-    ensures was_open { OpensNone S.Store conn.old conn.new }
-    ensures same { LeavesAll S.Store conn.old conn.new result }
-    ensures kept { LeavesCommitted S.Store conn.old conn.new }
-    ensures mode { conn.old.in_transaction ≡ false → conn.new.in_transaction ≡ false }
-    ensures survives { Survives (state S.Store conn.old) (state S.Store conn.new) (λ _. ⊥) }
+    ensures leaves { LeavesTables S.Store conn.old conn.new result }
 {
     stream_with_nights(
         alloc,
@@ -221,12 +217,7 @@ pub fn student_shares_without_nights<S: Alter>(
     ensures in_order { Reads S.Store (λ t found. HaveNoNight t.share_student
         → IsInOrder StudentSharesRise t.share_student found.items)
         conn.old conn.new result }
-    ensures open { AnswersOpen S.Store conn.old conn.new result }
-    ensures was_open { OpensNone S.Store conn.old conn.new }
-    ensures same { LeavesAll S.Store conn.old conn.new result }
-    ensures kept { LeavesCommitted S.Store conn.old conn.new }
-    ensures mode { conn.old.in_transaction ≡ false → conn.new.in_transaction ≡ false }
-    ensures survives { Survives (state S.Store conn.old) (state S.Store conn.new) (λ _. ⊥) }
+    ensures leaves { LeavesTables S.Store conn.old conn.new result }
 {
     stream(alloc, conn, BARE_SHARES, &[])
 }
@@ -240,21 +231,17 @@ pub fn student_shares_of<S: Alter>(
     ensures rows { Reads S.Store
         (λ t found. IsPermutation (filter (λ r. r.student == student) t.share_student) found.items)
         conn.old conn.new result }
-    ensures open { AnswersOpen S.Store conn.old conn.new result }
-    ensures was_open { OpensNone S.Store conn.old conn.new }
-    ensures same { LeavesAll S.Store conn.old conn.new result }
-    ensures kept { LeavesCommitted S.Store conn.old conn.new }
-    ensures mode { conn.old.in_transaction ≡ false → conn.new.in_transaction ≡ false }
-    ensures survives { Survives (state S.Store conn.old) (state S.Store conn.new) (λ _. ⊥) }
+    ensures leaves { LeavesTables S.Store conn.old conn.new result }
 {
-    stream(
+    let joined = stream(
         alloc,
         conn,
         "SELECT night, share_student.student, in_row, in_day, spread FROM share_student, \
          night_share WHERE share_student.student = ?1 AND night_share.student = \
          share_student.student ORDER BY share_student.student",
         params![student],
-    )
+    )?;
+    Ok(joined_rows(alloc, &joined)?)
 }
 
 // Returns all shares of students in a file of this version. `None`: its tables don't hold shares.
@@ -272,7 +259,7 @@ pub(crate) fn adopt_student_shares<S: Alter>(
         alloc,
         conn,
         version,
-        "SELECT 0, student, in_row, in_day, spread, rowid FROM share_student ORDER BY rowid",
+        "SELECT student, in_row, in_day, spread, rowid FROM share_student ORDER BY rowid",
         "SELECT student, night, rowid FROM night_share ORDER BY rowid",
     )
 }

@@ -1,20 +1,16 @@
 // Placements of exams in drafts.
 ghost use Rattle.std.specs.Prelude.{◌≡◌};
 ghost use Rattle.sqlite.specs.Held.{state};
-ghost use Rattle.sqlite.specs.Values.{bound};
-ghost use Rattle.office_tables.specs.declared.version.Version.{Version};
-ghost use Rattle.office_tables.specs.Finders.{Finds, IsFound, Leaves, Looks};
 ghost use Rattle.office_tables.specs.Schema.{schema_4, schema_5, IsBlank};
-ghost use Rattle.office_tables.specs.Slot.{slot_columns, with_slot, without_slot, without_slots, FitsSlot};
+ghost use Rattle.office_tables.specs.Slot.{slot_columns, without_slot, without_slots, FitsSlot};
 ghost use Rattle.office_tables.specs.Steps.{Grows, Within};
-ghost use Rattle.office_tables.specs.Stored.{keyless};
 
-use crate::altering::{Alteration, Both, Each};
-use crate::listing::read_table;
+use crate::altering::Alteration;
+use crate::listing::Listed;
 use crate::records::Record;
-use crate::running::{number, run};
+use crate::running::run;
+use crate::table::{Insert, InsertAll, InsertTexts, Table};
 use sqlite::{Alter, Connection, Error, Row, Transaction, params};
-use sqlite_value::value::ValueRef;
 use std::alloc::Global;
 
 /// The placement of an exam in a draft.
@@ -60,82 +56,60 @@ impl Record for SlotRow {
     }
 }
 
+impl Listed for SlotRow {
+    ghost use Rattle.office_schema.specs.Schema.{slot_table};
+
+    ghost table = { slot_table };
+
+    fn whole() -> &'static str {
+        "SELECT draft, exam, period, room, rowid FROM slot ORDER BY rowid"
+    }
+}
+
+impl Table<4, 16> for SlotRow {
+    ghost use Rattle.std.specs.Prelude.{false};
+    ghost use Rattle.std.proofs.Common.{arith};
+    ghost use Rattle.office_schema.specs.Schema.{slot_table};
+
+    ghost shape = { record {
+      at = 4;
+      table = slot_table;
+      columns_of = slot_columns;
+      rows = λ t. t.slot;
+      with_rows = λ rows t. record t { slot = rows };
+    } };
+
+    ghost limited = { false };
+
+    ghost fits = { λ _. Unit {0} };
+
+    fn values(&self) -> [i64; 4] {
+        [self.draft, self.exam, self.period, self.room].map(i64::from)
+    }
+
+    fn inserts() -> InsertTexts {
+        InsertTexts {
+            one: "INSERT INTO slot (draft, exam, period, room) VALUES (?1, ?2, ?3, ?4)",
+            many: "INSERT INTO slot (draft, exam, period, room) VALUES \
+                   (?, ?, ?, ?), (?, ?, ?, ?), (?, ?, ?, ?), (?, ?, ?, ?), \
+                   (?, ?, ?, ?), (?, ?, ?, ?), (?, ?, ?, ?), (?, ?, ?, ?), \
+                   (?, ?, ?, ?), (?, ?, ?, ?), (?, ?, ?, ?), (?, ?, ?, ?), \
+                   (?, ?, ?, ?), (?, ?, ?, ?), (?, ?, ?, ?), (?, ?, ?, ?)",
+        }
+    }
+
+    ghost narrow = { Prim.omega arith };
+
+    ghost small = { Prim.omega arith };
+
+    ghost some = { Prim.omega arith };
+}
+
 /// Adds a placement.
-#[derive(Clone, Copy)]
-pub struct InsertSlot {
-    pub row: SlotRow,
-}
-
-impl Alteration for InsertSlot {
-    ghost alteration = { λ it t. with_slot it.row t };
-
-    ghost fits = { λ _. Unit {0} };
-
-    fn apply<S: Alter>(&self, tx: &mut Transaction<'_, S>) -> Result<(), Error> {
-        run(
-            tx,
-            "INSERT INTO slot (draft, exam, period, room) VALUES (?1, ?2, ?3, ?4)",
-            &columns(*self),
-        )
-    }
-}
-
-/// Adds sixteen placements with one statement.
-impl Alteration for [InsertSlot; 16] {
-    ghost use Rattle.office_tables.specs.Alterations.{after_all};
-
-    ghost alteration = { λ its t. after_all (λ it. with_slot it.row) its t };
-
-    ghost fits = { λ _. Unit {0} };
-
-    fn apply<S: Alter>(&self, tx: &mut Transaction<'_, S>) -> Result<(), Error> {
-        run(
-            tx,
-            "INSERT INTO slot (draft, exam, period, room) VALUES \
-             (?, ?, ?, ?), (?, ?, ?, ?), (?, ?, ?, ?), (?, ?, ?, ?), \
-             (?, ?, ?, ?), (?, ?, ?, ?), (?, ?, ?, ?), (?, ?, ?, ?), \
-             (?, ?, ?, ?), (?, ?, ?, ?), (?, ?, ?, ?), (?, ?, ?, ?), \
-             (?, ?, ?, ?), (?, ?, ?, ?), (?, ?, ?, ?), (?, ?, ?, ?)",
-            self.map(columns).as_flattened(),
-        )
-    }
-}
-
-fn columns(it: InsertSlot) -> [ValueRef<'static>; 4]
-    ensures { bound result ≡ slot_columns it.row }
-{
-    [
-        number(it.row.draft),
-        number(it.row.exam),
-        number(it.row.period),
-        number(it.row.room),
-    ]
-}
+pub type InsertSlot = Insert<SlotRow, 4, 16>;
 
 /// Adds placements in their order: sixteen with each statement, and the rest one by one.
-#[derive(Clone, Copy)]
-pub struct InsertSlots<'a> {
-    pub rows: &'a [InsertSlot],
-}
-
-impl Alteration for InsertSlots<'_> {
-    ghost use Rattle.office_tables.specs.Alterations.{after_all};
-
-    ghost alteration = { λ it t. after_all (λ it. with_slot it.row) it.rows.now t };
-
-    ghost fits = { λ _. Unit {0} };
-
-    fn apply<S: Alter>(&self, tx: &mut Transaction<'_, S>) -> Result<(), Error> {
-        let (chunks, rest) = self.rows.as_chunks::<16>();
-        let all = Both {
-            first: Each {
-                alterations: chunks,
-            },
-            second: Each { alterations: rest },
-        };
-        all.apply(tx)
-    }
-}
+pub type InsertSlots<'a> = InsertAll<'a, InsertSlot>;
 
 /// Deletes all placements of a draft.
 #[derive(Clone, Copy)]
@@ -172,23 +146,4 @@ impl Alteration for DeleteSlot {
             params![self.draft, self.exam],
         )
     }
-}
-
-// Returns all placements in drafts. `None`: the table doesn't hold placements.
-pub(crate) fn adopt_slots<S: Alter>(
-    alloc: Global,
-    conn: &mut Connection<S>,
-) -> Result<Option<Vec<SlotRow>>, Error>
-    ensures found { (version : Version) → Finds version S.Store
-        (λ db. IsFound FitsSlot slot_columns keyless (db.trees 5))
-        conn.old conn.new result }
-    ensures same { (version : Version) → Leaves version S.Store conn.old conn.new result }
-    ensures looks { (version : Version)
-        → Looks version (state S.Store conn.old) (state S.Store conn.new) }
-{
-    read_table(
-        alloc,
-        conn,
-        "SELECT draft, exam, period, room, rowid FROM slot ORDER BY rowid",
-    )
 }

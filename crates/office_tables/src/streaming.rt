@@ -1,16 +1,13 @@
 // The rows of a query's answer, as records.
-ghost use Rattle.std.specs.Prelude.{◌≡◌, ◌∷◌, ◌++◌, [], false, List, IfOk, OnOk};
-ghost use Rattle.sqlite.specs.Given.{IsPlain};
+ghost use Rattle.std.specs.Prelude.{◌∷◌, ◌++◌, [], List, IfOk};
 ghost use Rattle.sqlite.specs.Held.{state};
-ghost use Rattle.sqlite.specs.Listing.{understood};
 ghost use Rattle.sqlite.specs.Query.{Query};
-ghost use Rattle.sqlite.specs.State.{HasCleanDisk, IsUnchanged, Survives};
+ghost use Rattle.sqlite.specs.State.{HasCleanDisk};
 ghost use Rattle.sqlite.specs.Values.{bound};
 ghost use Rattle.sqlite_value.specs.Order.{Row as Columns};
-ghost use Rattle.office_schema.specs.Schema.{office_schema};
 ghost use Rattle.office_tables.specs.Asking.{IsReadOf, Means};
 ghost use Rattle.office_tables.specs.Readings.{IsGathered, IsReadAnswer};
-ghost use Rattle.office_tables.specs.Readers.{AnswersOpen, Keeps, OpensNone};
+ghost use Rattle.office_tables.specs.Readers.{LeavesIfPlain};
 
 use crate::listing::is_out_of_memory;
 use crate::records::Record;
@@ -29,17 +26,7 @@ pub(crate) fn stream<S: Alter, R: Record + Drop>(
         → HasCleanDisk (state S.Store conn.new)
         → IfOk result (λ records. IsReadOf R.columns_of R.WIDTH (bound params.now) q
         (state S.Store conn.old).now.trees records.items) }
-    ensures open { AnswersOpen S.Store conn.old conn.new result }
-    ensures was_open { OpensNone S.Store conn.old conn.new }
-    ensures same { HasCleanDisk (state S.Store conn.new)
-        → IsPlain (understood (state S.Store conn.old).now.schema sql.now)
-        → OnOk result (IsUnchanged (state S.Store conn.old) (state S.Store conn.new)) }
-    ensures kept { HasCleanDisk (state S.Store conn.new)
-        → IsPlain (understood (state S.Store conn.old).now.schema sql.now)
-        → Keeps (state S.Store conn.old) (state S.Store conn.new) }
-    ensures mode { conn.old.in_transaction ≡ false → conn.new.in_transaction ≡ false }
-    ensures survives { Survives (state S.Store conn.old) (state S.Store conn.new)
-        (λ _. IsPlain (understood office_schema sql.now) → ⊥) }
+    ensures leaves { LeavesIfPlain sql.now S.Store conn.old conn.new result }
 {
     match stream_found(alloc, conn, sql, params)? {
         Some(records) => Ok(records),
@@ -59,17 +46,7 @@ pub(crate) fn stream_found<S: Alter, R: Record + Drop>(
         → HasCleanDisk (state S.Store conn.new)
         → IfOk result (IsReadAnswer R.fits R.columns_of R.WIDTH (bound params.now) q
         (state S.Store conn.old).now.trees) }
-    ensures open { AnswersOpen S.Store conn.old conn.new result }
-    ensures was_open { OpensNone S.Store conn.old conn.new }
-    ensures same { HasCleanDisk (state S.Store conn.new)
-        → IsPlain (understood (state S.Store conn.old).now.schema sql.now)
-        → OnOk result (IsUnchanged (state S.Store conn.old) (state S.Store conn.new)) }
-    ensures kept { HasCleanDisk (state S.Store conn.new)
-        → IsPlain (understood (state S.Store conn.old).now.schema sql.now)
-        → Keeps (state S.Store conn.old) (state S.Store conn.new) }
-    ensures mode { conn.old.in_transaction ≡ false → conn.new.in_transaction ≡ false }
-    ensures survives { Survives (state S.Store conn.old) (state S.Store conn.new)
-        (λ _. IsPlain (understood office_schema sql.now) → ⊥) }
+    ensures leaves { LeavesIfPlain sql.now S.Store conn.old conn.new result }
 {
     let mut found = Some(Vec::new(alloc));
     let mut rows = conn.query(sql, params)?;

@@ -20,25 +20,25 @@ returns-clause-row g c version clean t represents =
 pub returns-clause-same : goal.returns-clause-same
 returns-clause-same g c version clean t represents =
     let old = state g.S.Store c.args.conn.now in
-    c.in_ok-found.ensures.same clean
+    c.in_ok-found.ensures.leaves.same clean
     (plain_at version batch_of_query batch_of_text (batch_of_means version) old t represents)
 
 pub returns-clause-kept : goal.returns-clause-kept
 returns-clause-kept g c version clean t represents =
     let old = state g.S.Store c.args.conn.now in
-    c.stream.ensures.kept clean
+    c.stream.ensures.leaves.kept clean
     (plain_at version batch_of_query batch_of_text (batch_of_means version) old t represents)
 
 pub returns-in_err-found-clause-kept : goal.returns-in_err-found-clause-kept
 returns-in_err-found-clause-kept g c version clean t represents =
     let old = state g.S.Store c.args.conn.now in
-    c.stream.ensures.kept clean
+    c.stream.ensures.leaves.kept clean
     (plain_at version batch_of_query batch_of_text (batch_of_means version) old t represents)
 
 pub returns-clause-survives : goal.returns-clause-survives
 returns-clause-survives g c =
-    silent_in batch_of_query batch_of_text (batch_of_means Two) _ _ c.stream.ensures.survives
+    silent_in batch_of_query batch_of_text (batch_of_means Two) _ _ c.stream.ensures.leaves.survives
 
 pub returns-in_err-found-clause-survives : goal.returns-in_err-found-clause-survives
 returns-in_err-found-clause-survives g c =
-    silent_in batch_of_query batch_of_text (batch_of_means Two) _ _ c.stream.ensures.survives
+    silent_in batch_of_query batch_of_text (batch_of_means Two) _ _ c.stream.ensures.leaves.survives

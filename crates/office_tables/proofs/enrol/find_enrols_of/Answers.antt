@@ -1,6 +1,6 @@
 use Rattle.std.proofs.lemmas.Result.{IfOk-weaker}
 use Rattle.sqlite.specs.Held.{state}
-use Rattle.office_tables.proofs.AskLemmas.{means_in, plain_in, silent_in}
+use Rattle.office_tables.proofs.AskLemmas.{leaves_tables, means_in}
 use Rattle.office_tables.proofs.EnrolTexts.{enrols_of_query, enrols_of_text, enrols_of_means, found_in_order, found_rows, found_where_fit}
 use Rattle.office_tables.proofs.enrol.find_enrols_of.Goals as goal
 
@@ -25,18 +25,6 @@ returns-clause-found g c clean t represents =
     (rw c.params-to_sql.ensures at (c.stream_found.ensures.shown _
     (means_in enrols_of_query enrols_of_text enrols_of_means old old t represents) clean))
 
-pub returns-clause-same : goal.returns-clause-same
-returns-clause-same g c clean t represents =
-    let old = state g.S.Store c.args.conn.now in
-    c.stream_found.ensures.same clean (plain_in enrols_of_query enrols_of_text enrols_of_means old
-    old t represents)
-
-pub returns-clause-kept : goal.returns-clause-kept
-returns-clause-kept g c clean t represents =
-    let old = state g.S.Store c.args.conn.now in
-    c.stream_found.ensures.kept clean (plain_in enrols_of_query enrols_of_text enrols_of_means old
-    old t represents)
-
-pub returns-clause-survives : goal.returns-clause-survives
-returns-clause-survives g c =
-    silent_in enrols_of_query enrols_of_text enrols_of_means _ _ c.stream_found.ensures.survives
+pub returns-clause-leaves : goal.returns-clause-leaves
+returns-clause-leaves g c =
+    leaves_tables g.S.Store enrols_of_query enrols_of_text enrols_of_means _ _ c.stream_found.ensures.leaves

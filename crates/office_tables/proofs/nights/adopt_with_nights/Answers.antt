@@ -2,7 +2,6 @@ use Rattle.std.proofs.Common.{sym, subst}
 use Rattle.sqlite.specs.Held.{state}
 use Rattle.office_tables.specs.Listings.{ListsKeyed}
 use Rattle.office_tables.specs.Joining.{AreFound, HaveRows, IsJoinedWith}
-use Rattle.office_tables.specs.Nights.{with_no_night}
 use Rattle.office_tables.specs.Stored.{keyed}
 use Rattle.office_tables.proofs.AdoptLemmas.{clean_before, found_ok_after, looks_then, still_then}
 use Rattle.office_tables.proofs.NightLemmas.{before_found, joined_found}
@@ -10,15 +9,15 @@ use Rattle.office_tables.proofs.nights.adopt_with_nights.Goals as goal
 
 pub returns-in_err-rows-clause-looks : goal.returns-in_err-rows-clause-looks
 returns-in_err-rows-clause-looks g c tree nights_tree first second =
-    c.read_table.ensures.looks c.args.version tree with_no_night first.table
+    c.read_table.ensures.looks c.args.version tree keyed first.table
 
 pub returns-in-One-clause-looks : goal.returns-in-One-clause-looks
 returns-in-One-clause-looks g c tree nights_tree first second =
-    c.read_table.ensures.looks c.args.version tree with_no_night first.table
+    c.read_table.ensures.looks c.args.version tree keyed first.table
 
 pub returns-in-One-clause-same : goal.returns-in-One-clause-same
 returns-in-One-clause-same g c tree nights_tree first second clean tables =
-    c.in_ok-rows.ensures.same c.args.version tree with_no_night first.table clean tables
+    c.in_ok-rows.ensures.same c.args.version tree keyed first.table clean tables
 
 pub returns-in-One-clause-found : goal.returns-in-One-clause-found
 returns-in-One-clause-found g c tree nights_tree first second splits clean tables =
@@ -28,7 +27,7 @@ returns-in-One-clause-found g c tree nights_tree first second splits clean table
     (old.now.trees nights_tree)) c.in_ok-rows.rows) (sym c.in-One.is)
     (before_found _ _ _ _ _ _ splits (old.now.trees tree) (old.now.trees nights_tree)
     c.in_ok-rows.rows
-    (c.in_ok-rows.ensures.found c.args.version tree with_no_night first.table clean tables))
+    (c.in_ok-rows.ensures.found c.args.version tree keyed first.table clean tables))
 
 pub returns-in-Two-clause-looks : goal.returns-in-Two-clause-looks
 returns-in-Two-clause-looks g c tree nights_tree first second =
@@ -39,9 +38,9 @@ returns-in-Two-clause-looks g c tree nights_tree first second =
     subst (λ v. ListsKeyed v 0 2 nights_tree keyed c.args.nights_sql.now) (sym c.in-Two.is)
     second in
     looks_then c.args.version at_0 at_1 at_2
-    (c.in_ok-rows.ensures.same c.args.version tree with_no_night first.table)
+    (c.in_ok-rows.ensures.same c.args.version tree keyed first.table)
     (c.add_nights.ensures.looks c.args.version nights_tree here)
-    (c.read_table.ensures.looks c.args.version tree with_no_night first.table)
+    (c.read_table.ensures.looks c.args.version tree keyed first.table)
 
 pub returns-in-Two-clause-same : goal.returns-in-Two-clause-same
 returns-in-Two-clause-same g c tree nights_tree first second clean tables =
@@ -52,7 +51,7 @@ returns-in-Two-clause-same g c tree nights_tree first second clean tables =
     subst (λ v. ListsKeyed v 0 2 nights_tree keyed c.args.nights_sql.now) (sym c.in-Two.is)
     second in
     still_then c.args.version at_0 at_1 at_2
-    (c.in_ok-rows.ensures.same c.args.version tree with_no_night first.table)
+    (c.in_ok-rows.ensures.same c.args.version tree keyed first.table)
     (c.add_nights.ensures.looks c.args.version nights_tree here) c.add_nights.result
     (c.add_nights.ensures.same c.args.version nights_tree here) clean tables
 
@@ -64,13 +63,13 @@ returns-in-Two-clause-found g c tree nights_tree first second splits clean table
     let here =
     subst (λ v. ListsKeyed v 0 2 nights_tree keyed c.args.nights_sql.now) (sym c.in-Two.is)
     second in
-    let same = c.in_ok-rows.ensures.same c.args.version tree with_no_night first.table in
+    let same = c.in_ok-rows.ensures.same c.args.version tree keyed first.table in
     let looks = c.add_nights.ensures.looks c.args.version nights_tree here in
     let clean_1 = clean_before c.args.version at_1 at_2 looks clean in
     let rows =
-    c.in_ok-rows.ensures.found c.args.version tree with_no_night first.table clean_1 tables
+    c.in_ok-rows.ensures.found c.args.version tree keyed first.table clean_1 tables
     in
-    let rise = c.in_ok-rows.ensures.rise c.args.version 1 tree with_no_night first clean_1 tables in
+    let rise = c.in_ok-rows.ensures.rise c.args.version 0 tree keyed first clean_1 tables in
     let Joined = IsJoinedWith g.R.HasNight.columns_in_first g.R.HasNight.columns_in_second
     g.R.HasNight.number_in c.in_ok-rows.rows in
     found_ok_after c.args.version at_0 at_1 at_2 same looks c.add_nights.result

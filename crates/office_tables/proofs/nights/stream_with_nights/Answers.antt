@@ -11,8 +11,8 @@ pub returns-in-Some-clause-shown : goal.returns-in-Some-clause-shown
 returns-in-Some-clause-shown g c q nights_q means nights_means clean t represents =
     let old = state g.S.Store c.args.conn.now in
     let mid = state g.S.Store c.stream.new.conn in
-    let before : HasCleanDisk mid = omega (arith, c.stream-2.ensures.survives.clean) in
-    let same = c.in_ok-rows.ensures.same before (plain_in q _ means old old t represents) in
+    let before : HasCleanDisk mid = omega (arith, c.stream-2.ensures.leaves.survives.clean) in
+    let same = c.in_ok-rows.ensures.leaves.same before (plain_in q _ means old old t represents) in
     let later = subst (λ db. HoldsTables db t) (sym same.0.now_is) represents in
     let nights = c.in_ok-nights.nights.items in
     let joined = rw c.in-Some.is at c.in_ok-found.ensures in

@@ -2,7 +2,7 @@ use Rattle.std.proofs.Common.{◌≡◌, ◌<◌, ◌⊎◌, [], ◌∷◌}
 use Rattle.std.proofs.lemmas.Result.{IfOk-weaker}
 use Rattle.sqlite.specs.Held.{state}
 use Rattle.office_tables.specs.declared.share_part.PartShareRow.{PartShareRow}
-use Rattle.office_tables.proofs.AskLemmas.{means_in, plain_in, silent_in}
+use Rattle.office_tables.proofs.AskLemmas.{leaves_tables, means_in}
 use Rattle.office_tables.proofs.OrderLemmas.{in_this_order, two_less}
 use Rattle.office_tables.proofs.ShareTexts.{part_shares_query, part_shares_text, part_shares_means, part_shares_read}
 use Rattle.office_tables.proofs.share_part.part_shares.Goals as goal
@@ -27,18 +27,6 @@ returns-clause-in_order g c clean t represents =
     (c.stream.ensures.shown _ (means_in part_shares_query part_shares_text part_shares_means old old
     t represents) clean)
 
-pub returns-clause-same : goal.returns-clause-same
-returns-clause-same g c clean t represents =
-    let old = state g.S.Store c.args.conn.now in
-    c.stream.ensures.same clean (plain_in part_shares_query part_shares_text part_shares_means old
-    old t represents)
-
-pub returns-clause-kept : goal.returns-clause-kept
-returns-clause-kept g c clean t represents =
-    let old = state g.S.Store c.args.conn.now in
-    c.stream.ensures.kept clean (plain_in part_shares_query part_shares_text part_shares_means old
-    old t represents)
-
-pub returns-clause-survives : goal.returns-clause-survives
-returns-clause-survives g c =
-    silent_in part_shares_query part_shares_text part_shares_means _ _ c.stream.ensures.survives
+pub returns-clause-leaves : goal.returns-clause-leaves
+returns-clause-leaves g c =
+    leaves_tables g.S.Store part_shares_query part_shares_text part_shares_means _ _ c.stream.ensures.leaves

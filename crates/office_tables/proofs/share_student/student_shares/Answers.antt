@@ -24,17 +24,17 @@ returns-clause-in_order g c clean t represents =
     (c.stream_with_nights.ensures.shown student_shares_query share_nights_query student_shares_means
     share_nights_means clean t represents)
 
-pub returns-clause-same : goal.returns-clause-same
-returns-clause-same g c =
-    c.stream_with_nights.ensures.same student_shares_query share_nights_query student_shares_means
-    share_nights_means
-
-pub returns-clause-kept : goal.returns-clause-kept
-returns-clause-kept g c =
-    c.stream_with_nights.ensures.kept student_shares_query share_nights_query student_shares_means
-    share_nights_means
-
-pub returns-clause-survives : goal.returns-clause-survives
-returns-clause-survives g c =
-    c.stream_with_nights.ensures.survives student_shares_query share_nights_query
-    student_shares_means share_nights_means
+pub returns-clause-leaves : goal.returns-clause-leaves
+returns-clause-leaves g c =
+    let read = c.stream_with_nights.ensures in
+    record {
+      open_on_ok = read.open;
+      was_open = read.was_open;
+      same = read.same student_shares_query share_nights_query student_shares_means
+          share_nights_means;
+      kept = read.kept student_shares_query share_nights_query student_shares_means
+          share_nights_means;
+      mode = read.mode;
+      survives = read.survives student_shares_query share_nights_query student_shares_means
+          share_nights_means;
+    }

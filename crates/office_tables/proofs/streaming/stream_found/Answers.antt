@@ -12,16 +12,6 @@ use Rattle.office_tables.proofs.Gathered.{gathered_read}
 use Rattle.office_tables.proofs.Reading.{kept_failed}
 use Rattle.office_tables.proofs.streaming.stream_found.Goals as goal
 
-pub returns-in_err-rows-clause-kept : goal.returns-in_err-rows-clause-kept
-returns-in_err-rows-clause-kept g c clean plain =
-    let refused = IfErr-at_err _ c.in_err-rows.was c.query.follows.holds-at-none in
-    kept_failed c.args.sql.now _ _ _ _ (IfErr-at_err _ c.in_err-rows.was (refused.err clean))
-
-pub returns-in_err-rows-clause-survives : goal.returns-in_err-rows-clause-survives
-returns-in_err-rows-clause-survives g c =
-    let refused = IfErr-at_err _ c.in_err-rows.was c.query.follows.holds-at-none in
-    silent c.args.sql.now _ _ _ refused.survives
-
 pub rows-init : goal.rows-init
 rows-init g c =
     let made = c.in_ok-rows.ensures in
@@ -80,8 +70,16 @@ returns-in_default-clause-shown g c q means clean =
           (state g.S.Store now) means was.2 was.0 moved,
     )
 
-pub returns-in_err-rows-clause-was_open : goal.returns-in_err-rows-clause-was_open
-returns-in_err-rows-clause-was_open g c clean =
+pub returns-in_err-rows-clause-leaves : goal.returns-in_err-rows-clause-leaves
+returns-in_err-rows-clause-leaves g c =
     let refused = IfErr-at_err _ c.in_err-rows.was c.query.follows.holds-at-none in
-    (kept_failed c.args.sql.now _ _ _ _ (IfErr-at_err _ c.in_err-rows.was
-    (refused.err clean))).was_open
+    record {
+      open_on_ok = search rules;
+      was_open = λ clean. (kept_failed c.args.sql.now _ _ _ _ (IfErr-at_err _ c.in_err-rows.was
+          (refused.err clean))).was_open;
+      same = search rules;
+      kept = λ clean plain. kept_failed c.args.sql.now _ _ _ _ (IfErr-at_err _ c.in_err-rows.was
+          (refused.err clean));
+      mode = search rules;
+      survives = silent c.args.sql.now _ _ _ refused.survives;
+    }

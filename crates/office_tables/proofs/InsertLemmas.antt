@@ -1,0 +1,178 @@
+-- The effect of the statements that insert rows of a table.
+use Rattle.std.proofs.Common.{◌≡◌, ◌+◌, ◌<◌, ℕ, ℤ, zero, suc, List, [], ◌∷◌, ◌++◌, drop, map, length, reverse, flat_map, slice_index_or, Option, Some, None, Ok, refl, sym, ap, ap₂, subst, ◌∙◌, arith, append-nil, take-append-drop, IsTrue, Bool, true, false}
+use Rattle.std.specs.Fn.{Called, Mut}
+use Rattle.std.specs.List.{IsSplitAt}
+use Rattle.std.specs.Array.{IsFromFnResult, IsFromFnResultFrom}
+use Rattle.std.proofs.lemmas.List.{map-append}
+use Rattle.std.proofs.lemmas.List.Elements.{All-drop, All-take}
+use Rattle.sqlite_value.specs.declared.value.Value.TheVariants.{Int, Null}
+use Rattle.sqlite_value.specs.Order.{Row, column}
+use Rattle.sqlite.specs.State.{State, Executes}
+use Rattle.sqlite.specs.Term.{eval_all}
+use Rattle.office_tables.specs.Alterations.{after_all}
+use Rattle.office_tables.specs.Inserting.{Inserts, IsInsert, Shape, given_row, next_params, row_terms, shown_by, with_row, row_fits, rows_fit}
+use Rattle.office_tables.specs.Steps.{Makes}
+use Rattle.office_tables.specs.Tables.{Tables}
+use Rattle.office_tables.specs.TablesHeld.{HoldsTables}
+use Rattle.office_tables.proofs.AlterationLemmas.{first_last}
+use Rattle.office_tables.proofs.ManyRows.{added_rows, after_append, values_there}
+
+-- ---- the terms of a row
+
+long_params : (w at : ℕ) → length (next_params w at) ≡ w
+long_params zero at = refl
+long_params (suc w) at = ap suc (long_params w (suc at))
+
+long_terms : (key : Option ℕ) (rest at : ℕ) → length (row_terms key (suc rest) at) ≡ suc (suc rest)
+long_terms None rest at = ap suc (long_params (suc rest) at)
+long_terms (Some key) rest at = ap (λ n. suc (suc n)) (long_params rest (suc at))
+
+terms_give : (key : Option ℕ) (rest : ℕ) (pre row post : Row) → length row ≡ suc rest
+    → eval_all (row_terms key (suc rest) (length pre)) ((pre ++ (row ++ post)) ∷ [])
+    ≡ given_row key row
+terms_give None rest pre row post wide =
+    ap (λ l. Null ∷ l) (subst (λ w. eval_all (next_params w (length pre))
+    ((pre ++ (row ++ post)) ∷ []) ≡ row) wide (values_there pre row post))
+terms_give (Some key) rest pre row post wide =
+    ap (λ l. column l 0 ∷ Null ∷ drop 1 l) (subst (λ w. eval_all (next_params w (length pre))
+    ((pre ++ (row ++ post)) ∷ []) ≡ row) wide (values_there pre row post))
+
+-- ---- rows of a table
+
+module _ {R : Type 0} (it : Shape R) (w n : ℕ) (one several : List ℕ)
+    (about : Inserts it w n one several) where
+  pub added : (k : ℕ) (sql : List ℕ) → IsInsert it.at it.table.key w k sql → (old new : State)
+      (rows : List R) → length rows ≡ k → (count : ℕ) (t : Tables) → HoldsTables old.now t
+      → Executes sql (flat_map it.columns_of rows) old new (Ok count)
+      → HoldsTables new.now (it.with_rows (reverse rows ++ it.rows t) t)
+  added k sql means old new rows long count t represents h =
+      let key = it.table.key in
+      let done = added_rows it.columns_of (λ x. given_row key (it.columns_of x)) (shown_by key) w
+      (suc w) (row_terms key w) about.wide
+      (λ at. subst (λ v. length (row_terms key v at) ≡ suc v) (sym about.filled.1)
+      (long_terms key about.filled.0 at))
+      (λ pre post x. subst (λ v. eval_all (row_terms key v (length pre))
+      ((pre ++ (it.columns_of x ++ post)) ∷ []) ≡ given_row key (it.columns_of x))
+      (sym about.filled.1)
+      (terms_give key about.filled.0 pre (it.columns_of x) post (about.wide x ∙ about.filled.1)))
+      about.int about.shown sql k it.at it.table about.found means.plain means.is means.many
+      about.quiet about.cast old new rows (it.rows t) long count represents.schema
+      (about.held old.now t represents) h in
+      about.changed old.now new.now t represents done.0 (reverse rows ++ it.rows t) done.1 done.2
+
+  pub added_one : (old new : State) (row : R) (count : ℕ) (t : Tables) → HoldsTables old.now t
+      → Executes one (it.columns_of row) old new (Ok count)
+      → HoldsTables new.now (with_row it row t)
+  added_one old new row count t represents h =
+      added 1 one about.one old new (row ∷ []) refl count t represents
+      (subst (λ ps. Executes one ps old new (Ok count)) (sym (append-nil (it.columns_of row))) h)
+
+  -- rows that are added one after another
+  pub rows_put : {X : Type 0} (row_of : X → R) (its : List X) (t : Tables)
+      → after_all (λ x. with_row it (row_of x)) its t
+      ≡ it.with_rows (reverse (map row_of its) ++ it.rows t) t
+  rows_put row_of [] t = sym (about.same t)
+  rows_put row_of (x ∷ rest) t =
+      rows_put row_of rest (with_row it (row_of x) t)
+      ∙ ap (λ l. it.with_rows (reverse (map row_of rest) ++ l) (with_row it (row_of x) t))
+      (about.read (row_of x ∷ it.rows t) t)
+      ∙ about.over (row_of x ∷ it.rows t) (reverse (map row_of rest) ++ (row_of x ∷ it.rows t)) t
+      ∙ ap (λ l. it.with_rows l t) (first_last (row_of x) (map row_of rest) (it.rows t))
+
+-- ---- the parameters of an array of rows, which a function gives at each index
+
+module _ {A F : Type 0} (g : Mut F (ℕ × Unit {0}) (List ℤ)) (f : F) (columns : A → Row)
+    (xs : List A) (ys : List (List ℤ))
+    (one : (i : ℕ) (y : List ℤ) (q : F) → Called g f (i, tt) y q
+    → (q ≡ f) × ((d : A) → map Int y ≡ columns (slice_index_or xs i d))) where
+  each_is : (p : F) → p ≡ f → (i m : ℕ) → IsFromFnResultFrom g p ys i m → (j : ℕ) → j < m
+      → (d : A) (e : List ℤ)
+      → map Int (slice_index_or ys (i + j) e) ≡ columns (slice_index_or xs (i + j) d)
+  each_is p same i zero is j below d e = absurd (omega (arith, below))
+  each_is p same i (suc m) (q, y, here, call, later) zero below d e =
+      let fact = one i y q (subst (λ r. Called g r (i, tt) y q) same call) in
+      let there : i + zero ≡ i = omega arith in
+      rw there (ap (map Int) (here.1 e) ∙ fact.1 d)
+  each_is p same i (suc m) (q, y, here, call, later) (suc j) below d e =
+      let fact = one i y q (subst (λ r. Called g r (i, tt) y q) same call) in
+      let there : i + suc j ≡ (i + 1) + j = omega arith in
+      rw there (each_is q fact.0 (i + 1) m later j (omega (arith, below)) d e)
+
+pub rows_valued : {A F : Type 0} (g : Mut F (ℕ × Unit {0}) (List ℤ)) (f : F)
+    (columns : A → Row) (xs : List A) (ys : List (List ℤ)) (n : ℕ)
+    → ((i : ℕ) (y : List ℤ) (q : F) → Called g f (i, tt) y q
+    → (q ≡ f) × ((d : A) → map Int y ≡ columns (slice_index_or xs i d)))
+    → length xs ≡ n → IsFromFnResult g f ys n
+    → map Int (flat_map (λ y. y) ys) ≡ flat_map columns xs
+rows_valued {A} g f columns xs ys n one long is =
+    go xs ys (long ∙ sym is.long) (λ i d e below.
+    let there : 0 + i ≡ i = omega arith in
+    subst (λ k. map Int (slice_index_or ys k e) ≡ columns (slice_index_or xs k d)) there
+    (each_is g f columns xs ys one f refl 0 n is.each i (omega (arith, below, long)) d e))
+  where
+    go : (xs : List A) (ys : List (List ℤ)) → length xs ≡ length ys
+        → ((i : ℕ) (d : A) (e : List ℤ) → i < length xs
+        → map Int (slice_index_or ys i e) ≡ columns (slice_index_or xs i d))
+        → map Int (flat_map (λ y. y) ys) ≡ flat_map columns xs
+    go [] [] same at = refl
+    go [] (y ∷ ys) same at = absurd (omega (arith, same))
+    go (x ∷ xs) [] same at = absurd (omega (arith, same))
+    go (x ∷ xs) (y ∷ ys) same at =
+        map-append _ y (flat_map (λ y. y) ys)
+        ∙ ap₂ (λ a b. a ++ b) (at 0 x y (omega arith))
+        (go xs ys (omega (arith, same)) (λ i d e lt. at (suc i) d e (omega (arith, lt))))
+
+pub flat_rows : {A B : Type 0} (row_of : A → B) (columns : B → Row) (xs : List A)
+    → flat_map (λ x. columns (row_of x)) xs ≡ flat_map columns (map row_of xs)
+flat_rows row_of columns [] = refl
+flat_rows row_of columns (x ∷ xs) =
+    ap (λ l. columns (row_of x) ++ l) (flat_rows row_of columns xs)
+
+-- ---- some rows after others
+
+-- the transaction continues, and inserting the rows that are left gives the tables after all rows
+abbrev pub Continues : {A : Type 0} → (List A → Tables → Tables) → List A → List A
+    → State → State → Type 0
+Continues f all left old now =
+    IsTrue now.in_transaction × ((t : Tables) → HoldsTables old.now t
+    → (reached : Tables) × HoldsTables now.now reached × (f left reached ≡ f all t))
+
+pub continued : {A : Type 0} (f : A → Tables → Tables) (n : ℕ) (all left chunk rest : List A)
+    (old mid new : State) → Continues (after_all f) all left old mid
+    → Makes (after_all f chunk) mid new → IsSplitAt left n chunk rest
+    → Continues (after_all f) all rest old new
+continued f n all left chunk rest old mid new before makes split = (
+  makes.0,
+  λ t h. let reached = before.1 t h in (
+    after_all f chunk reached.0,
+    makes.1 reached.0 reached.1,
+    after_append f chunk rest reached.0
+        ∙ ap (λ l. after_all f l reached.0) (ap₂ (λ a b. a ++ b) split.1 split.2
+        ∙ take-append-drop n left)
+        ∙ reached.2,
+  ),
+)
+
+pub finished : {A : Type 0} (f : A → Tables → Tables) (all left : List A) (old mid new : State)
+    → Continues (after_all f) all left old mid → Makes (after_all f left) mid new
+    → Makes (after_all f all) old new
+finished f all left old mid new before makes = (
+  makes.0,
+  λ t h. let reached = before.1 t h in
+      subst (HoldsTables new.now) reached.2 (makes.1 reached.0 reached.1),
+)
+
+-- ---- rows that fit
+
+pub one_fits : {R X : Type 0} (limited : Bool) (P : R → Type 0) (row_of : X → R) (xs : List X)
+    → rows_fit limited P row_of xs → (i : ℕ) (d : X) → i < length xs
+    → row_fits limited P (row_of (slice_index_or xs i d))
+one_fits false P row_of xs all i d below = tt
+one_fits true P row_of xs all i d below = all i d below
+
+pub parts_fit : {R X : Type 0} (limited : Bool) (P : R → Type 0) (row_of : X → R) (n : ℕ)
+    (xs chunk rest : List X) → IsSplitAt xs n chunk rest → rows_fit limited P row_of xs
+    → rows_fit limited P row_of chunk × rows_fit limited P row_of rest
+parts_fit false P row_of n xs chunk rest split all = (tt, tt)
+parts_fit true P row_of n xs chunk rest split all =
+    rw (split.1, split.2) (All-take (λ x. P (row_of x)) n xs all, All-drop (λ x. P (row_of x)) n xs all)

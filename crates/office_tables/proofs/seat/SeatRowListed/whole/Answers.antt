@@ -1,0 +1,5 @@
+use Rattle.office_tables.proofs.ListTexts.{seat_lists}
+use Rattle.office_tables.proofs.seat.SeatRowListed.whole.Goals as goal
+
+pub returns : goal.returns
+returns c version = seat_lists version

@@ -1,0 +1,24 @@
+use Rattle.std.proofs.Common.{◌≡◌, IsTrue, length}
+use Rattle.sqlite.specs.Held.{state}
+use Rattle.sqlite.specs.State.{HasCleanDisk}
+use Rattle.office_tables.specs.Alterations.{after_all}
+use Rattle.office_tables.specs.Inserting.{rows_fit, with_row}
+use Rattle.office_tables.specs.Steps.{Within}
+use Rattle.office_tables.proofs.InsertLemmas.{Continues}
+use Rattle.office_tables.proofs.table.InsertAllInsertAlteration.apply.Given as goal
+
+abbrev pub invariant-chunks : goal.invariant-chunks
+invariant-chunks g l =
+    let old = state g.S.Store l.fn.tx.conn.now in
+    let now = state g.S.Store l.tx.conn.now in
+    record {
+      same : l.tx.conn.ghost_name ≡ l.fn.tx.conn.ghost_name;
+      makes : HasCleanDisk now → IsTrue l.fn.tx.conn.now.in_transaction
+          → Continues (after_all (λ it. with_row g.R.Table.shape it.row)) l.fn.self.rows.now l.left
+          old now;
+      within : Within old now;
+      fits : rows_fit g.R.Table.limited g.R.Table.fits (λ it. it.row) l.left;
+    }
+
+abbrev pub decreases-chunks : goal.decreases-chunks
+decreases-chunks g l = length l.left
