@@ -17,7 +17,7 @@ use Rattle.office_tables.specs.Tables.{Tables}
 use Rattle.office_tables.specs.TablesHeld.{HoldsTables}
 use Rattle.office_tables.specs.declared.draft.DraftRow.{DraftRow}
 use Rattle.office_tables.specs.declared.slot.SlotRow.{SlotRow}
-use Rattle.office_tables.specs.declared.slot.InsertSlot.{InsertSlot}
+use Rattle.office_tables.specs.Inserted.{InsertSlot}
 use Rattle.office_tables.proofs.AlterationLemmas.{slots_put}
 use Rattle.office_model.specs.Office.{OfficeState, Records, set_at}
 use Rattle.office_store.specs.Memory.{HasPut, IsMemoryOf, draft_at, scored_by, scored_draft}

@@ -9,6 +9,7 @@ use Rattle.office_tables.specs.Alterations.{Undone}
 use Rattle.office_model.specs.Office.{OfficeState}
 use Rattle.office_records.specs.Representation.{RepresentsOffice}
 use Rattle.office_model.specs.Commands.{CommandResult}
+use Rattle.office_store.specs.Leaving.{LeavesUnchanged}
 use Rattle.office_store.specs.Memory.{IsMemoryOf}
 use Rattle.office_store.specs.Running.{CommandOutcome, MatchesMemory, IsCommitted, IsFault, StateUnchanged, Represents, QueryReturned, CommandRan, QueryOutcome}
 use Rattle.office_store.specs.Running.{StaysOnErr, ReturnsValue}
@@ -47,19 +48,18 @@ shown expected o Stays (Err fault) is here = (is, here)
 
 -- from the connection before a check of the file, which changes nothing, to the one after it, which
 -- the office has in memory
-module _ {S : Type 0} (g : Ghosts S) (before mid inside : Held S)
+module _ {S B F : Type 0} {x : B} (g : Ghosts S) (before mid inside : Held S)
     (m : OfficeMemory) (view : inside ≡ mid) (rest : MatchesMemory (state g inside) m)
-    (all_committed : HasCleanDisk (state g mid) → IsCommitted (state g mid))
-    (still : HasCleanDisk (state g mid) → StateUnchanged (state g before) (state g mid)) where
+    (looked : LeavesUnchanged {A = B} {E = F} g before mid (Ok x)) where
   -- the office from before the check is still represented, and its session is in memory
   there : HasCleanDisk (state g mid) → (o : OfficeState) → Represents (state g before) o
       → RepresentsOffice (state g mid).now o × IsMemoryOf o m
   there clean o now =
-      let here = now_still (state g before) (state g mid) o (still clean) now
-      (all_committed clean).0 in (
+      let opened = (looked.all_committed clean).0 in
+      let here = now_still (state g before) (state g mid) o (looked.unchanged clean) now opened in (
         here,
-        at_hand (state g mid) m o (subst (λ h. MatchesMemory (state g h) m) view rest) clean
-            (all_committed clean).0 here,
+        at_hand (state g mid) m o (subst (λ h. MatchesMemory (state g h) m) view rest) clean opened
+            here,
       )
 
   -- the result is the office's value
@@ -72,14 +72,13 @@ module _ {S : Type 0} (g : Ghosts S) (before mid inside : Held S)
       shown (expected o) o (Represents (state g mid)) result (meaning clean o here.0 here.1)
       (λ _. here.0)
 
-module _ {S A : Type 0} (g : Ghosts S) (command : OfficeState → CommandResult A)
+module _ {S A B F : Type 0} {x : B} (g : Ghosts S) (command : OfficeState → CommandResult A)
     (before mid inside : Held S)
     (m : OfficeMemory) (view : inside ≡ mid) (rest : MatchesMemory (state g inside) m)
-    (all_committed : HasCleanDisk (state g mid) → IsCommitted (state g mid))
-    (still : HasCleanDisk (state g mid) → StateUnchanged (state g before) (state g mid)) where
+    (looked : LeavesUnchanged {A = B} {E = F} g before mid (Ok x)) where
   found : HasCleanDisk (state g mid) → (o : OfficeState) → Represents (state g before) o
       → RepresentsOffice (state g mid).now o × IsMemoryOf o m
-  found = there g before mid inside m view rest all_committed still
+  found = there g before mid inside m view rest looked
 
   pub refuses : (fault : StoreFault)
       → (HasCleanDisk (state g mid) → Denies command fault (state g mid).now m)
@@ -139,11 +138,12 @@ refuses_on g command start inside after m view rest all_committed clean still fa
     )
 
 -- the office stays if a check of the file changed nothing
-pub stays_by : {S : Type 0} (g : Ghosts S) (before mid : Held S)
-    → (HasCleanDisk (state g mid) → StateUnchanged (state g before) (state g mid))
-    → HasCleanDisk (state g mid) → (o : OfficeState) → Represents (state g before) o
+pub stays_by : {S B F : Type 0} {r : Result B F} (g : Ghosts S) (before mid : Held S)
+    → LeavesUnchanged g before mid r → HasCleanDisk (state g mid) → (o : OfficeState) → Represents
+    (state g before) o
     → Represents (state g mid) o
-stays_by g before mid still clean o = now_still (state g before) (state g mid) o (still clean)
+stays_by g before mid leaves clean o =
+    now_still (state g before) (state g mid) o (leaves.unchanged clean)
 
 -- a refusal after further reading has changed nothing either
 pub stays_on : {S A : Type 0} (g : Ghosts S) (start inside after : Held S) → inside ≡ start
@@ -154,56 +154,51 @@ stays_on g start inside after view still (Err fault) clean =
     subst (λ h. StateUnchanged (state g h) (state g after)) view (still clean)
 
 -- a transaction that failed after the check has changed nothing either
-pub stays_undone : {S A : Type 0} (g : Ghosts S) (before mid inside after : Held S) → inside ≡ mid
-    → (HasCleanDisk (state g mid) → StateUnchanged (state g before) (state g mid))
-    → (HasCleanDisk (state g mid) → IsCommitted (state g mid))
+pub stays_undone : {S A B F : Type 0} {x : B} (g : Ghosts S) (before mid inside after : Held S)
+    → inside ≡ mid → LeavesUnchanged {A = B} {E = F} g before mid (Ok x)
     → (HasCleanDisk (state g after) → HasCleanDisk (state g inside))
     → (HasCleanDisk (state g after) → Undone (state g inside) (state g after))
     → (result : Result A StoreFault) → StaysOnErr g before after result
-stays_undone g before mid inside after view still all_committed clean undone (Ok x) is_clean = tt
-stays_undone g before mid inside after view still all_committed clean undone (Err fault) is_clean =
+stays_undone g before mid inside after view looked clean undone (Ok x) is_clean = tt
+stays_undone g before mid inside after view looked clean undone (Err fault) is_clean =
     let was = subst (λ h. HasCleanDisk (state g h)) view (clean is_clean) in
-    still_then (state g before) (state g mid) (state g after) (still was)
-    (still_undone (state g mid) (state g after) (λ _. (all_committed was).1)
+    still_then (state g before) (state g mid) (state g after) (looked.unchanged was)
+    (still_undone (state g mid) (state g after) (λ _. (looked.all_committed was).1)
     (subst (λ h. Undone (state g h) (state g after)) view (undone is_clean)))
 
 -- so the command was refused with a failed statement
-pub runs_undone : {S A : Type 0} (g : Ghosts S) (command : OfficeState → CommandResult A)
-    (before mid inside after : Held S) → inside ≡ mid
-    → (HasCleanDisk (state g mid) → StateUnchanged (state g before) (state g mid))
-    → (HasCleanDisk (state g mid) → IsCommitted (state g mid))
+pub runs_undone : {S A B F : Type 0} {x : B} (g : Ghosts S)
+    (command : OfficeState → CommandResult A) (before mid inside after : Held S) → inside ≡ mid
+    → LeavesUnchanged {A = B} {E = F} g before mid (Ok x)
     → (HasCleanDisk (state g after) → HasCleanDisk (state g inside))
     → (HasCleanDisk (state g after) → Undone (state g inside) (state g after))
     → (result : Result A StoreFault) → IsErrAnd result (λ e. e ≡ Store)
     → CommandRan g command before after result
-runs_undone g command before mid inside after view still all_committed clean undone (Ok x) is =
-    absurd is
-runs_undone g command before mid inside after view still all_committed clean undone (Err e) is =
+runs_undone g command before mid inside after view looked clean undone (Ok x) is = absurd is
+runs_undone g command before mid inside after view looked clean undone (Err e) is =
     λ k o now. subst (λ e. IsFault (command o) e × Represents (state g after) o) (sym is) (
       tt,
       now_still (state g before) (state g after) o
-          (stays_undone {A = Unit {0}} g before mid inside after view still all_committed clean
-          undone (Err e) k)
+          (stays_undone {A = Unit {0}} g before mid inside after view looked clean undone (Err e) k)
           now,
     )
 
 -- a command after a check of the file
-pub runs_then : {S A : Type 0} (g : Ghosts S) (command : OfficeState → CommandResult A)
-    (before mid after : Held S) (result : Result A StoreFault)
-    → (HasCleanDisk (state g mid) → StateUnchanged (state g before) (state g mid))
+pub runs_then : {S A B F : Type 0} {r : Result B F} (g : Ghosts S)
+    (command : OfficeState → CommandResult A) (before mid after : Held S)
+    (result : Result A StoreFault) → LeavesUnchanged g before mid r
     → (HasCleanDisk (state g after) → HasCleanDisk (state g mid))
     → CommandRan g command mid after result → CommandRan g command before after result
-runs_then g command before mid after result still clean run is_clean o now =
-    run is_clean o (stays_by g before mid still (clean is_clean) o now)
+runs_then g command before mid after result looked clean run is_clean o now =
+    run is_clean o (stays_by g before mid looked (clean is_clean) o now)
 
-pub stays_then : {S A : Type 0} (g : Ghosts S) (before mid after : Held S)
-    (result : Result A StoreFault)
-    → (HasCleanDisk (state g mid) → StateUnchanged (state g before) (state g mid))
+pub stays_then : {S A B F : Type 0} {r : Result B F} (g : Ghosts S) (before mid after : Held S)
+    (result : Result A StoreFault) → LeavesUnchanged g before mid r
     → (HasCleanDisk (state g after) → HasCleanDisk (state g mid))
     → StaysOnErr g mid after result → StaysOnErr g before after result
-stays_then g before mid after (Ok x) still clean stays is_clean = tt
-stays_then g before mid after (Err fault) still clean stays is_clean =
-    still_then (state g before) (state g mid) (state g after) (still (clean is_clean))
+stays_then g before mid after (Ok x) looked clean stays is_clean = tt
+stays_then g before mid after (Err fault) looked clean stays is_clean =
+    still_then (state g before) (state g mid) (state g after) (looked.unchanged (clean is_clean))
     (stays is_clean)
 
 -- a fact about each represented office holds inside the office

@@ -20,7 +20,7 @@ use Rattle.office_tables.specs.TablesHeld.{HoldsTables}
 use Rattle.office_tables.specs.declared.altering.Both.{Both}
 use Rattle.office_tables.specs.declared.draft.DraftRow.{DraftRow}
 use Rattle.office_tables.specs.declared.slot.DeleteSlot.{DeleteSlot}
-use Rattle.office_tables.specs.declared.slot.InsertSlot.{InsertSlot}
+use Rattle.office_tables.specs.Inserted.{InsertSlot}
 use Rattle.office_model.specs.Commands.{named}
 use Rattle.office_model.specs.DraftCommands.{draft_edited, live_penalty}
 use Rattle.office_model.specs.Office.{OfficeState, Records, set_at}

@@ -1,6 +1,7 @@
 -- What a later opening may find after calls, one after another.
 use Rattle.std.proofs.Common.{◌≡◌, ◌∙◌, [], ◌∷◌, Ok, Err, Result, IsTrue, arith, false, inl, inr, refl, sym, subst, true}
-use Rattle.std.specs.Prelude.{IfErr}
+use Rattle.std.proofs.lemmas.Result.{on_err_weaker, on_ok_weaker}
+use Rattle.std.specs.Prelude.{IfErr, OnOk}
 use Rattle.std.specs.Result.{IsErrAnd}
 use Rattle.sqlite.specs.Effect.{Database}
 use Rattle.sqlite.specs.Held.{Held, state}
@@ -20,12 +21,12 @@ use Rattle.office_model.specs.Office.{OfficeState}
 use Rattle.office_model.specs.declared.fault.StoreFault.{StoreFault}
 use Rattle.office_model.specs.declared.fault.StoreFault.TheVariants.{Store}
 use Rattle.office_records.specs.Representation.{RepresentsOffice}
-use Rattle.office_store.specs.FoldReads.{RowsUnchanged}
-use Rattle.office_store.specs.Leaving.{HoldsNext, MayCommit, MayMake, found_in}
-use Rattle.office_store.specs.Running.{MatchesMemory, IsCommitted, StateUnchanged}
-use Rattle.office_store.specs.Transactions.{Turned}
+use Rattle.office_store.specs.FoldReads.{HasRead, RowsUnchanged}
+use Rattle.office_store.specs.Leaving.{HoldsNext, LeavesNext, LeavesUnchanged, MayCommit, MayMake, found_in}
+use Rattle.office_store.specs.Running.{CommandRan, MatchesMemory, IsCommitted, StateUnchanged}
+use Rattle.office_store.specs.Transactions.{TablesAltered, Turned}
 use Rattle.office_store.specs.declared.memory.OfficeMemory.{OfficeMemory}
-use Rattle.office_store.proofs.CommandLemmas.{Moves}
+use Rattle.office_store.proofs.CommandLemmas.{Moves, runs, runs_undone, stays_then, stays_undone}
 use Rattle.office_store.proofs.RunLemmas.{made_on}
 
 -- ---- nothing is committed
@@ -40,12 +41,20 @@ survives_same a = record {
   crash = λ _ db may. inl may;
 }
 
+-- a call that read nothing
+pub leaves_itself : {S : Type 0} (g : Ghosts S) (a : Held S)
+    → (HasCleanDisk (state g a) → IsCommitted (state g a))
+    → LeavesUnchanged {A = Unit {0}} {E = StoreFault} g a a (Ok tt)
+leaves_itself g a all_committed = record {
+  clean = λ clean. clean;
+  unchanged = λ _ opened. (opened, refl);
+  all_committed = all_committed;
+  survives = survives_same (state g a);
+}
+
 pub survives_on : (a b c : State) → Survives a b (λ _. ⊥) → Survives b c (λ _. ⊥)
     → Survives a c (λ _. ⊥)
 survives_on a b c = survives_then a b c _ _ _ (λ _ db none. none) (λ _ db none. none)
-
-pub survives_more : (a b : State) (P : Trees → Type 0) → Survives a b (λ _. ⊥) → Survives a b P
-survives_more a b P = survives_weaker a b _ P (λ _ db none. absurd none)
 
 -- a call on the connection inside an office
 pub survives_at : {S : Type 0} (g : Ghosts S) (start inside after : Held S) (P : Trees → Type 0)
@@ -79,34 +88,35 @@ next_before command before mid still found next =
     }
 
 -- a command after a reader
-pub survives_next : {S A : Type 0} (g : Ghosts S) (command : OfficeState → CommandResult A)
-    (before mid after : Held S) (result : Result A StoreFault)
-    → Survives (state g before) (state g mid) (λ _. ⊥)
-    → (HasCleanDisk (state g mid) → StateUnchanged (state g before) (state g mid))
-    → (HasCleanDisk (state g after) → HasCleanDisk (state g mid))
-    → SurvivesNext g command mid after result → SurvivesNext g command before after result
-survives_next g command before mid after result read still clean =
-    survives_then (state g before) (state g mid) (state g after) (λ _. ⊥)
-    (MayCommit command (state g mid) result) (MayCommit command (state g before) result)
-    (λ _ db none. absurd none)
-    (λ k found may. (
-      may.0,
-      next_before command (state g before) (state g mid) (still (clean k)) found may.1,
-    )) read
+pub leaves_then : {S A B F : Type 0} {r : Result B F} (g : Ghosts S)
+    (command : OfficeState → CommandResult A) (before mid after : Held S)
+    (result : Result A StoreFault) → LeavesUnchanged g before mid r
+    → LeavesNext g command mid after result → LeavesNext g command before after result
+leaves_then g command before mid after result read next = record {
+  clean = λ k. read.clean (next.clean k);
+  unchanged_on_err = stays_then g before mid after result read next.clean next.unchanged_on_err;
+  all_committed = next.all_committed;
+  survives = survives_then (state g before) (state g mid) (state g after) (λ _. ⊥)
+      (MayCommit command (state g mid) result) (MayCommit command (state g before) result)
+      (λ _ db none. absurd none)
+      (λ k found may. (
+        may.0,
+        next_before command (state g before) (state g mid) (read.unchanged (next.clean k)) found
+            may.1,
+      )) read.survives next.survives;
+}
 
 -- a failed statement is not a refusal with a named fault
-pub is_failed : {A : Type 0} (result : Result A StoreFault) → IsErrAnd result (λ e. e ≡ Store)
+is_failed : {A : Type 0} (result : Result A StoreFault) → IsErrAnd result (λ e. e ≡ Store)
     → IfErr result (λ e. e ≡ Store)
 is_failed (Ok x) is = tt
 is_failed (Err e) is = is
 
 -- readers, and then a transaction that leads to the office after the command
-module _ {S A : Type 0} (g : Ghosts S) (command : OfficeState → CommandResult A)
+module _ {S A B F : Type 0} {y : B} (g : Ghosts S) (command : OfficeState → CommandResult A)
     (before mid inside after : Held S) (m : OfficeMemory) (view : inside ≡ mid)
     (rest : MatchesMemory (state g inside) m)
-    (all_committed : HasCleanDisk (state g mid) → IsCommitted (state g mid))
-    (still : HasCleanDisk (state g mid) → StateUnchanged (state g before) (state g mid))
-    (read : Survives (state g before) (state g mid) (λ _. ⊥)) (f : Tables → Tables) (x : A)
+    (read : LeavesUnchanged {A = B} {E = F} g before mid (Ok y)) (f : Tables → Tables) (x : A)
     (put : Survives (state g inside) (state g after) (HoldsChanged f (state g inside)))
     (moves : HasCleanDisk (state g after) → (found : Trees)
     → HoldsChanged f (state g inside) found
@@ -116,9 +126,9 @@ module _ {S A : Type 0} (g : Ghosts S) (command : OfficeState → CommandResult 
   next_held after_clean found changed =
       let clean : HasCleanDisk (state g inside) = omega (arith, put.clean, after_clean) in
       let there = subst (λ h. HasCleanDisk (state g h)) view clean in
-      let was = still there (all_committed there).0 in
+      let was = read.unchanged there (read.all_committed there).0 in
       let stood = rest clean (subst (λ h. IsCommitted (state g h)) (sym view)
-      (all_committed there)).0 in
+      (read.all_committed there)).0 in
       let moved = moves after_clean found changed stood.0 stood.1 stood.2 in
       record {
         was_open = was.0;
@@ -131,27 +141,120 @@ module _ {S A : Type 0} (g : Ghosts S) (command : OfficeState → CommandResult 
         holds = moved.2;
       }
 
-  pub survives_by : (result : Result A StoreFault) → IfErr result (λ e. e ≡ Store)
+  survives_by : (result : Result A StoreFault) → IfErr result (λ e. e ≡ Store)
       → SurvivesNext g command before after result
   survives_by result unrefused =
       survives_then (state g before) (state g mid) (state g after) _ _
       (MayCommit command (state g before) result) (λ _ db none. absurd none)
-      (λ clean db changed. (unrefused, next_held clean db changed)) read
+      (λ clean db changed. (unrefused, next_held clean db changed)) read.survives
       (survives_at g mid inside after (HoldsChanged f (state g inside)) view put)
 
+-- the transaction is done: the command ran
+pub done_next : {S A B F U E : Type 0} {y : B} {u : U} (g : Ghosts S)
+    (command : OfficeState → CommandResult A) (before mid inside after : Held S)
+    (m : OfficeMemory) → inside ≡ mid → MatchesMemory (state g inside) m
+    → LeavesUnchanged {A = B} {E = F} g before mid (Ok y) → (f : Tables → Tables) (x : A)
+    → TablesAltered {A = U} {E = E} g f inside after (Ok u)
+    → (HasCleanDisk (state g after) → (db : Database)
+    → ((t : Tables) → HoldsTables (state g inside).now t → HoldsTables db (f t))
+    → Moves command x (state g inside).now db m)
+    → CommandRan g command before after (Ok x) × LeavesNext g command before after (Ok x)
+done_next g command before mid inside after m view rest read f x altered moves = (
+  runs g command before mid inside m view rest read after x altered.clean
+      (λ k. moves k (state g after).now (altered.done k).makes),
+  record {
+    clean = λ k. read.clean (subst (λ h. HasCleanDisk (state g h)) view (altered.clean k));
+    unchanged_on_err = λ k. tt;
+    all_committed = λ k. ((altered.done k).is_open, (altered.done k).committed);
+    survives = survives_by g command before mid inside after m view rest read f x altered.survives
+        (λ k found. moves k (found_in found)) (Ok x) tt;
+  },
+)
+
+nothing_done : {A : Type 0} (result : Result A StoreFault) (P : Type 0)
+    → IsErrAnd result (λ e. e ≡ Store) → OnOk result P
+nothing_done (Ok x) P is = absurd is
+nothing_done (Err e) P is = tt
+
+-- the transaction is undone: the command was refused with a failed statement
+pub undone_next : {S A B F U E : Type 0} {y : B} {e : E} (g : Ghosts S)
+    (command : OfficeState → CommandResult A) (before mid inside after : Held S)
+    (m : OfficeMemory) → inside ≡ mid → MatchesMemory (state g inside) m
+    → LeavesUnchanged {A = B} {E = F} g before mid (Ok y) → (f : Tables → Tables) (x : A)
+    → TablesAltered {A = U} {E = E} g f inside after (Err e)
+    → (HasCleanDisk (state g after) → (db : Database)
+    → ((t : Tables) → HoldsTables (state g inside).now t → HoldsTables db (f t))
+    → Moves command x (state g inside).now db m)
+    → (result : Result A StoreFault) → IsErrAnd result (λ e. e ≡ Store)
+    → CommandRan g command before after result × LeavesNext g command before after result
+undone_next g command before mid inside after m view rest read f x altered moves result is = (
+  runs_undone g command before mid inside after view read altered.clean altered.undone result is,
+  record {
+    clean = λ k. read.clean (subst (λ h. HasCleanDisk (state g h)) view (altered.clean k));
+    unchanged_on_err = stays_undone g before mid inside after view read altered.clean
+        altered.undone result;
+    all_committed = λ k. nothing_done result (IsCommitted (state g after)) is;
+    survives = survives_by g command before mid inside after m view rest read f x altered.survives
+        (λ k found. moves k (found_in found)) result (is_failed result is);
+  },
+)
+
 -- a transaction on what was read is one on what the tables held before
-pub changed_on : {S : Type 0} (g : Ghosts S) (a b c : Held S)
-    → Survives (state g a) (state g b) (λ _. ⊥) → RowsUnchanged g a b
-    → (HasCleanDisk (state g a) → IsTrue (state g a).is_open) → (make : Tables → Tables)
-    → Survives (state g b) (state g c) (HoldsChanged make (state g b))
-    → Survives (state g a) (state g c) (HoldsChanged make (state g a))
-changed_on g a b c read same opened make put =
-    survives_then (state g a) (state g b) (state g c) (λ _. ⊥) (HoldsChanged make (state g b))
-    (HoldsChanged make (state g a)) (λ _ db none. absurd none)
-    (λ clean found changed.
-    let mid : HasCleanDisk (state g b) = omega (arith, put.clean, clean) in
-    made_on g a b (found_in found) same mid (opened (omega (arith, read.clean, mid))) make changed)
-    read put
+pub altered_on : {S A E : Type 0} (g : Ghosts S) (a b c : Held S) (m : OfficeMemory)
+    → MatchesMemory (state g a) m → HasRead g a b → RowsUnchanged g a b
+    → (HasCleanDisk (state g a) → IsTrue (state g a).is_open) → (alter : Tables → Tables)
+    (result : Result A E) → TablesAltered g alter b c result → TablesAltered g alter a c result
+altered_on g a b c m rest read same opened alter result altered = record {
+  done = λ k. on_ok_weaker result (λ done. record {
+    was_open = read.was_open (altered.clean k) done.was_open;
+    is_open = done.is_open;
+    committed = done.committed;
+    makes = made_on g a b (state g c).now same (altered.clean k)
+        (read.was_open (altered.clean k) done.was_open) alter done.makes;
+  }) (altered.done k);
+  undone = λ k. on_err_weaker result (λ back. record {
+    was_open = λ opened. read.was_open (altered.clean k) (back.was_open opened);
+    now = λ opened. back.now opened ∙ kept k (back.was_open opened);
+    committed = λ opened. back.committed opened ∙ kept k (back.was_open opened);
+  }) (altered.undone k);
+  rests = altered.rests;
+  clean = λ k. read.clean (altered.clean k);
+  survives = survives_then (state g a) (state g b) (state g c) (λ _. ⊥)
+      (HoldsChanged alter (state g b)) (HoldsChanged alter (state g a))
+      (λ _ db none. absurd none)
+      (λ k found changed.
+      let mid = altered.clean k in
+      made_on g a b (found_in found) same mid (opened (read.clean mid)) alter changed)
+      read.survives altered.survives;
+}
+  where
+    kept : HasCleanDisk (state g c) → IsTrue (state g b).is_open
+        → (state g b).committed ≡ (state g a).committed
+    kept k opened =
+        let mid = altered.clean k in
+        let was = read.was_open mid opened in
+        let here = rest (read.clean mid) was in
+        (same mid here.1.held here.1.tables was).0.committed_is
+
+-- an alteration that makes the same tables
+pub same_altered : {S A E : Type 0} (g : Ghosts S) (old new : Held S) (f h : Tables → Tables)
+    (result : Result A E) → TablesAltered g f old new result → ((t : Tables) → f t ≡ h t)
+    → TablesAltered g h old new result
+same_altered g old new f h result altered same = record {
+  done = λ k. on_ok_weaker result (λ done. record {
+    was_open = done.was_open;
+    is_open = done.is_open;
+    committed = done.committed;
+    makes = λ t held. subst (HoldsTables (state g new).now) (same t) (done.makes t held);
+  }) (altered.done k);
+  undone = altered.undone;
+  rests = altered.rests;
+  clean = altered.clean;
+  survives = survives_weaker (state g old) (state g new) (HoldsChanged f (state g old))
+      (HoldsChanged h (state g old))
+      (λ _ found changed t held. subst (HoldsTables (found_in found)) (same t) (changed t held))
+      altered.survives;
+}
 
 -- ---- a new office
 
@@ -260,7 +363,8 @@ module _ {S : Type 0} (g : Ghosts S) (old last : Held S) where
 
   makes_later : (row : Meta) → ((t : Tables) → t.meta ≡ row ∷ []
       → Leads (λ db. HoldsOldTables db t) (λ db. HoldsTables db t) (state g old) (state g last))
-      → (t : Tables) → Leads (MakesLater row t) (λ db. HoldsTables db t) (state g old) (state g last)
+      → (t : Tables) → Leads (MakesLater row t) (λ db. HoldsTables db t) (state g old)
+      (state g last)
   makes_later row leads t = (
     (leads (record empty_tables { meta = row ∷ [] }) refl).0,
     λ before. (leads t before.0).1 before.1,
@@ -272,7 +376,8 @@ module _ {S : Type 0} (g : Ghosts S) (old begun last end : Held S)
     (within : Within (state g begun) (state g last))
     (survives : Survives (state g last) (state g end) (λ db. db ≡ (state g last).now.trees)) where
   pub made_survive : (HasCleanDisk (state g last) → IsTrue begun.in_transaction
-      → Leads (IsBlank no_schema) (λ db. HoldsTables db empty_tables) (state g begun) (state g last))
+      → Leads (IsBlank no_schema) (λ db. HoldsTables db empty_tables) (state g begun)
+      (state g last))
       → Survives (state g old) (state g end)
       (λ found. IsBlank no_schema (state g old).now → HoldsTables (found_in found) empty_tables)
   made_survive makes =
@@ -283,37 +388,38 @@ module _ {S : Type 0} (g : Ghosts S) (old begun last end : Held S)
 
   module _ (row : Meta) (makes : (t : Tables) → t.meta ≡ row ∷ []
       → HasCleanDisk (state g last) → IsTrue begun.in_transaction
-      → Leads (λ db. HoldsOldTables db t) (λ db. HoldsTables db t) (state g begun) (state g last)) where
-    all_later : HasCleanDisk (state g last) → IsTrue begun.in_transaction → (t : Tables)
-        → Leads (MakesLater row t) (λ db. HoldsTables db t) (state g begun) (state g last)
-    all_later clean inside = makes_later g begun last row (λ t is. makes t is clean inside)
+      → Leads (λ db. HoldsOldTables db t) (λ db. HoldsTables db t) (state g begun) (state g last))
+    where
+      all_later : HasCleanDisk (state g last) → IsTrue begun.in_transaction → (t : Tables)
+          → Leads (MakesLater row t) (λ db. HoldsTables db t) (state g begun) (state g last)
+      all_later clean inside = makes_later g begun last row (λ t is. makes t is clean inside)
 
-    pub migrated_survive : Survives (state g old) (state g end) (λ found. (t : Tables)
-        → t.meta ≡ row ∷ [] → HoldsOldTables (state g old).now t → HoldsTables (found_in found) t)
-    migrated_survive =
-        survives_weaker (state g old) (state g end) _ _
-        (λ _ found all t is before. all t (is, before))
-        (tables_survive g (MakesLater row) old begun last end begins within all_later survives)
+      pub migrated_survive : Survives (state g old) (state g end) (λ found. (t : Tables)
+          → t.meta ≡ row ∷ [] → HoldsOldTables (state g old).now t → HoldsTables (found_in found) t)
+      migrated_survive =
+          survives_weaker (state g old) (state g end) _ _
+          (λ _ found all t is before. all t (is, before))
+          (tables_survive g (MakesLater row) old begun last end begins within all_later survives)
 
-    pub migrated_turned : (HasCleanDisk (state g end) → IsTrue (state g last).in_transaction
-        × Shows (state g last) (state g end) (state g last).now (state g last).now false
-        × KeepsCounts (state g last) (state g end) × ((state g end).marks ≡ []))
-        → HasCleanDisk (state g end) → (t : Tables) → t.meta ≡ row ∷ []
-        → Turned (λ db. HoldsOldTables db t) (λ db. HoldsTables db t) (state g old) (state g end)
-    migrated_turned ok clean t is =
-        let all = turned g (MakesLater row) old begun last end begins within all_later survives ok
-        clean t in
-        record {
-          was_open = all.was_open;
-          is_open = all.is_open;
-          committed = all.committed;
-          leads = λ before. all.leads (is, before);
-        }
+      pub migrated_turned : (HasCleanDisk (state g end) → IsTrue (state g last).in_transaction
+          × Shows (state g last) (state g end) (state g last).now (state g last).now false
+          × KeepsCounts (state g last) (state g end) × ((state g end).marks ≡ []))
+          → HasCleanDisk (state g end) → (t : Tables) → t.meta ≡ row ∷ []
+          → Turned (λ db. HoldsOldTables db t) (λ db. HoldsTables db t) (state g old) (state g end)
+      migrated_turned ok clean t is =
+          let all = turned g (MakesLater row) old begun last end begins within all_later survives ok
+          clean t in
+          record {
+            was_open = all.was_open;
+            is_open = all.is_open;
+            committed = all.committed;
+            leads = λ before. all.leads (is, before);
+          }
 
-    pub migrated_undone : (e : Error) → FailsToCommit (state g last) (state g end) e
-        → HasCleanDisk (state g end) → Undone (state g old) (state g end)
-    migrated_undone =
-        unturned g (MakesLater row) old begun last end begins within all_later survives
+      pub migrated_undone : (e : Error) → FailsToCommit (state g last) (state g end) e
+          → HasCleanDisk (state g end) → Undone (state g old) (state g end)
+      migrated_undone =
+          unturned g (MakesLater row) old begun last end begins within all_later survives
 
 -- a database without a table has no row
 pub bare_blank : (db : Database) → db.schema ≡ no_schema → IsBlank no_schema db

@@ -16,7 +16,7 @@ use Rattle.office_tables.specs.Meta.{no_meta, with_meta}
 use Rattle.office_tables.specs.Enrol.{with_enrol}
 use Rattle.office_tables.specs.Tables.{Tables, empty_tables}
 use Rattle.office_tables.specs.TablesHeld.{HoldsTables}
-use Rattle.office_tables.specs.declared.enrol.InsertEnrol.{InsertEnrol}
+use Rattle.office_tables.specs.Inserted.{InsertEnrol}
 use Rattle.office_tables.specs.declared.enrol.EnrolRow.{EnrolRow}
 use Rattle.office_tables.proofs.AlterationLemmas.{enrols_put}
 use Rattle.office_store.specs.Changes.{session_put}

@@ -30,12 +30,12 @@ use Rattle.office_tables.proofs.AlterationLemmas.{part_shares_put, placements_go
 use Rattle.office_tables.proofs.AlterationLemmas.{student_seats_gone, student_shares_gone}
 use Rattle.office_tables.proofs.AlterationLemmas.{student_shares_put}
 use Rattle.office_tables.specs.declared.placed.DeletePlacement.{DeletePlacement}
-use Rattle.office_tables.specs.declared.placed.InsertPlacement.{InsertPlacement}
+use Rattle.office_tables.specs.Inserted.{InsertPlacement}
 use Rattle.office_tables.specs.declared.placed.PlacedRow.{PlacedRow}
 use Rattle.office_tables.specs.declared.seat.DeleteStudentSeats.{DeleteStudentSeats}
-use Rattle.office_tables.specs.declared.seat.InsertSeat.{InsertSeat}
+use Rattle.office_tables.specs.Inserted.{InsertSeat}
 use Rattle.office_tables.specs.declared.share_student.DeleteStudentShare.{DeleteStudentShare}
-use Rattle.office_tables.specs.declared.share_part.InsertPartShare.{InsertPartShare}
+use Rattle.office_tables.specs.Inserted.{InsertPartShare}
 use Rattle.office_tables.specs.declared.share_student.InsertStudentShare.{InsertStudentShare}
 use Rattle.office_model.specs.Office.{AreRecords, OfficeState}
 use Rattle.office_model.specs.Office.{Publication, Records}

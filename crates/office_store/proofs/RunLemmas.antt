@@ -1,12 +1,13 @@
 -- What a call leaves of the office.
-use Rattle.std.proofs.Common.{◌≡◌, Some, None, refl, sym, ◌∙◌, ap, subst, IsTrue, inl, inr}
+use Rattle.std.proofs.Common.{◌≡◌, Ok, Result, Some, None, arith, refl, sym, ◌∙◌, ap, subst, IsTrue, inl, inr}
 use Rattle.exam_model.specs.Enrolments.{Enrolled}
 use Rattle.exam_model.specs.Instance.{Session}
 use Rattle.sqlite.specs.Effect.{Database}
+use Rattle.sqlite.specs.declared.error.Error.{Error}
 use Rattle.sqlite.specs.Held.{Held, state}
 use Rattle.sqlite.specs.State.{State, HasCleanDisk, IsUnchanged}
 use Rattle.sqlite.specs.Store.{Ghosts}
-use Rattle.office_tables.specs.Readers.{Keeps}
+use Rattle.office_tables.specs.Readers.{Keeps, LeavesTables}
 use Rattle.office_tables.specs.Tables.{Tables}
 use Rattle.office_tables.specs.TablesHeld.{HoldsTables}
 use Rattle.office_model.specs.Office.{OfficeState, Records}
@@ -111,6 +112,25 @@ module _ (a b : State) (m : OfficeMemory) (rest : MatchesMemory a m)
   kept_read was_open same is_clean o =
       let here = rest (clean is_clean) (was_open is_clean) in
       subst (λ db. RepresentsOffice db o) (same is_clean here.1.held here.1.tables).0.now_is
+
+-- what is in memory matches the tables after a reader of them
+pub rest_after : {S X : Type 0} {result : Result X Error} (g : Ghosts S) (a b : Held S)
+    (m : OfficeMemory) → MatchesMemory (state g a) m
+    → (IsTrue (state g a).is_open → (state g a).now ≡ (state g a).committed)
+    → LeavesTables g a b result → MatchesMemory (state g b) m
+rest_after g a b m rest settled read =
+    rest_read (state g a) (state g b) m rest (λ k. omega (arith, read.survives.clean, k)) settled
+    read.was_open read.kept
+
+-- the office after a reader that succeeded is the office before it
+pub kept_after : {S X : Type 0} {x : X} (g : Ghosts S) (a b : Held S) (m : OfficeMemory)
+    → MatchesMemory (state g a) m
+    → (IsTrue (state g a).is_open → (state g a).now ≡ (state g a).committed)
+    → LeavesTables g a b (Ok x) → HasCleanDisk (state g b) → (o : OfficeState)
+    → RepresentsOffice (state g b).now o → RepresentsOffice (state g a).now o
+kept_after g a b m rest settled read =
+    kept_read (state g a) (state g b) m rest (λ k. omega (arith, read.survives.clean, k)) settled
+    read.open_on_ok read.same
 
 -- ---- readers that succeeded, and then a transaction that failed
 

@@ -19,7 +19,7 @@ use Rattle.office_tables.specs.Tables.{Tables}
 use Rattle.office_tables.specs.declared.altering.Both.{Both}
 use Rattle.office_tables.specs.declared.slot.SlotRow.{SlotRow}
 use Rattle.office_tables.specs.declared.slot.DeleteSlot.{DeleteSlot}
-use Rattle.office_tables.specs.declared.slot.InsertSlot.{InsertSlot}
+use Rattle.office_tables.specs.Inserted.{InsertSlot}
 use Rattle.office_store.specs.Changes.{moved, new_place, slot_put, slots_put}
 use Rattle.office_records.specs.TableRows.{slots_at, slots_from, slot_row}
 

@@ -14,7 +14,7 @@ use Rattle.office_tables.specs.declared.draft.DraftRow.{DraftRow}
 use Rattle.office_tables.specs.declared.enrol.EnrolRow.{EnrolRow}
 use Rattle.office_tables.specs.declared.slot.SlotRow.{SlotRow}
 use Rattle.office_tables.specs.declared.slot.DeleteSlot.{DeleteSlot}
-use Rattle.office_tables.specs.declared.slot.InsertSlot.{InsertSlot}
+use Rattle.office_tables.specs.Inserted.{InsertSlot}
 use Rattle.office_records.specs.TableRows.{slot_row}
 
 -- the tables after a session and its enrolments are inserted

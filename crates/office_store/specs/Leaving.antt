@@ -13,7 +13,7 @@ use Rattle.office_model.specs.declared.fault.StoreFault.{StoreFault}
 use Rattle.office_model.specs.declared.fault.StoreFault.TheVariants.{Store}
 use Rattle.office_records.specs.Representation.{RepresentsOffice}
 use Rattle.office_store.specs.Opening.{DatabaseUpgraded}
-use Rattle.office_store.specs.Running.{IsCommitted}
+use Rattle.office_store.specs.Running.{IsCommitted, StateUnchanged, StaysOnErr}
 
 -- the database of a file with these trees and the office's schema
 abbrev pub found_in : Trees → Database
@@ -38,19 +38,33 @@ abbrev pub MayCommit : {A : Type 0} → (OfficeState → CommandResult A) → St
 MayCommit command old result found =
     IfErr result (λ e. e ≡ Store) × HoldsNext command old found
 
--- what the file holds after a call that may commit such trees: on an Ok the database is open and
+-- what the file holds after an opening that may commit such trees: on an Ok the database is open and
 -- all is committed; a later opening may find what it might have found before, or such trees
 pub record Leaves {A E : Type 0} (may : Trees → Type 0) (old new : State) (result : Result A E)
     : Type 0 where
   pub all_committed : HasCleanDisk new → OnOk result (IsCommitted new)
   pub survives : Survives old new may
 
--- what the file holds after a command
-abbrev pub LeavesNext : {S A : Type 0} → Ghosts S → (OfficeState → CommandResult A) → Held S
-    → Held S
-    → Result A StoreFault → Type 0
-LeavesNext store command old new result =
-    Leaves (MayCommit command (state store old) result) (state store old) (state store new) result
+-- what a call that only reads leaves: while the database is open it is as it was, on an Ok it is open
+-- and all is committed, and a later opening may find only what it might have found before
+pub record LeavesUnchanged {S A E : Type 0} (store : Ghosts S) (old new : Held S)
+    (result : Result A E) : Type 0 where
+  pub clean : HasCleanDisk (state store new) → HasCleanDisk (state store old)
+  pub unchanged : HasCleanDisk (state store new)
+      → StateUnchanged (state store old) (state store new)
+  pub all_committed : HasCleanDisk (state store new) → OnOk result (IsCommitted (state store new))
+  pub survives : Survives (state store old) (state store new) (λ _. ⊥)
+
+-- what a call that changes the office leaves: on an Err the database is as it was while it is open,
+-- on an Ok it is open and all is committed, and a later opening may find what it might have found
+-- before, or the next office
+pub record LeavesNext {S A : Type 0} (store : Ghosts S) (command : OfficeState → CommandResult A)
+    (old new : Held S) (result : Result A StoreFault) : Type 0 where
+  pub clean : HasCleanDisk (state store new) → HasCleanDisk (state store old)
+  pub unchanged_on_err : StaysOnErr store old new result
+  pub all_committed : HasCleanDisk (state store new) → OnOk result (IsCommitted (state store new))
+  pub survives : Survives (state store old) (state store new)
+      (MayCommit command (state store old) result)
 
 -- the connection of an opened office, or the one that a refusal returns
 abbrev pub connection_of : {S : Type 0} → Result (Held S) (StoreFault × Held S) → Held S

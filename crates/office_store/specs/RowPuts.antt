@@ -1,15 +1,15 @@
 -- The rows of a publication as parts of a transaction.
 use Rattle.std.specs.Prelude.{ℕ}
 use Rattle.office_tables.specs.declared.placed.DeletePlacement.{DeletePlacement}
-use Rattle.office_tables.specs.declared.placed.InsertPlacement.{InsertPlacement}
+use Rattle.office_tables.specs.Inserted.{InsertPlacement}
 use Rattle.office_tables.specs.declared.share_part.PartShareRow.{PartShareRow}
 use Rattle.office_tables.specs.declared.placed.PlacedRow.{PlacedRow}
 use Rattle.office_tables.specs.declared.seat.SeatRow as stored
 use Rattle.office_tables.specs.declared.share_student.StudentShareRow.{StudentShareRow}
 use Rattle.office_tables.specs.declared.seat.DeleteStudentSeats.{DeleteStudentSeats}
-use Rattle.office_tables.specs.declared.seat.InsertSeat.{InsertSeat}
+use Rattle.office_tables.specs.Inserted.{InsertSeat}
 use Rattle.office_tables.specs.declared.share_student.DeleteStudentShare.{DeleteStudentShare}
-use Rattle.office_tables.specs.declared.share_part.InsertPartShare.{InsertPartShare}
+use Rattle.office_tables.specs.Inserted.{InsertPartShare}
 use Rattle.office_tables.specs.declared.share_student.InsertStudentShare.{InsertStudentShare}
 
 -- the delete of an exam's published place

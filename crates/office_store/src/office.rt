@@ -1,11 +1,10 @@
 // The office, and how its file is created and read.
-ghost use Rattle.std.specs.Prelude.{◌≡◌, ◌≢◌, ◌⊎◌, IfErr, IfOk, None, OnOk};
+ghost use Rattle.std.specs.Prelude.{◌≡◌, ◌≢◌, ◌⊎◌, IfErr, IfOk, None};
 ghost use Rattle.sqlite.specs.Held.{state};
-ghost use Rattle.sqlite.specs.State.{HasCleanDisk, Survives};
+ghost use Rattle.sqlite.specs.State.{HasCleanDisk};
 ghost use Rattle.office_tables.specs.Schema.{no_schema};
 ghost use Rattle.office_store.specs.Faults.{IsOfDatabase};
-ghost use Rattle.office_store.specs.Leaving.{Leaves, MayMake, connection_of};
-ghost use Rattle.office_store.specs.Running.{IsCommitted, StateUnchanged};
+ghost use Rattle.office_store.specs.Leaving.{Leaves, LeavesUnchanged, MayMake, connection_of};
 ghost use Rattle.office_tables.specs.Alterations.{Undone};
 ghost use Rattle.office_records.specs.Representation.{RepresentsOffice};
 
@@ -85,14 +84,8 @@ impl<S: Alter> Office<S> {
 
     /// Checks that the file can still be read. On `Ok` memory and the file agree.
     pub fn look(&mut self) -> Result<(), StoreFault>
-        ensures all_committed { HasCleanDisk (state S.Store self.new)
-            → OnOk result (IsCommitted (state S.Store self.new)) }
-        ensures unchanged { HasCleanDisk (state S.Store self.new)
-            → StateUnchanged (state S.Store self.old) (state S.Store self.new) }
         ensures fault { IfErr result (λ e. e ≡ StoreFault.Store) }
-        ensures clean { HasCleanDisk (state S.Store self.new)
-            → HasCleanDisk (state S.Store self.old) }
-        ensures survives { Survives (state S.Store self.old) (state S.Store self.new) (λ _. ⊥) }
+        ensures leaves { LeavesUnchanged S.Store self.old self.new result }
     {
         let _at_rest = self.conn.is_autocommit(); // its contract says that all is committed
         match look(&mut self.conn) {

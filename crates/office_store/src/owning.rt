@@ -1,13 +1,13 @@
 // The owner of an exam.
-ghost use Rattle.std.specs.Prelude.{◌≡◌, ◌≤◌, IfOk, OnOk, map};
+ghost use Rattle.std.specs.Prelude.{◌≡◌, ◌≤◌, IfOk, map};
 ghost use Rattle.sqlite.specs.Held.{state};
-ghost use Rattle.sqlite.specs.State.{HasCleanDisk, Survives};
+ghost use Rattle.sqlite.specs.State.{HasCleanDisk};
 ghost use Rattle.exam_terms.specs.declared.limits.TheConstants.{MAX_DEPARTMENT};
 ghost use Rattle.office_model.specs.Commands.{owned, owner_in};
 ghost use Rattle.office_model.specs.Office.{OfficeState};
 ghost use Rattle.office_store.specs.Changes.{new_owner};
-ghost use Rattle.office_store.specs.Leaving.{LeavesNext};
-ghost use Rattle.office_store.specs.Running.{IsCommitted, StateUnchanged, Represents, QueryReturned, CommandRan, StaysOnErr};
+ghost use Rattle.office_store.specs.Leaving.{LeavesNext, LeavesUnchanged};
+ghost use Rattle.office_store.specs.Running.{Represents, QueryReturned, CommandRan};
 ghost use Rattle.office_records.specs.TableRows.{some_dept};
 
 use crate::fault::Failed;
@@ -26,11 +26,8 @@ impl<S: Alter> Office<S> {
     pub fn set_owner(&mut self, exam: ExamNo, dept: u32) -> Result<(), StoreFault>
         requires dept { dept ≤ MAX_DEPARTMENT }
         ensures runs { CommandRan S.Store (owned exam dept) self.old self.new result }
-        // Whatever the refusal, the tables are as they were.
-        ensures stays { StaysOnErr S.Store self.old self.new result }
-        ensures clean { HasCleanDisk (state S.Store self.new)
-            → HasCleanDisk (state S.Store self.old) }
-        // On `Ok` the database is open, and the change is committed.
+        // Whatever the refusal, the tables are as they were. On `Ok` the database is open, and the
+        // change is committed.
         ensures leaves { LeavesNext S.Store (owned exam dept) self.old self.new result }
     {
         self.look()?;
@@ -52,15 +49,8 @@ impl<S: Alter> Office<S> {
     /// Returns the department that owns an exam; 0 if the exam has no owner or doesn't exist.
     pub fn owner(&mut self, alloc: Global, exam: ExamNo) -> Result<u32, StoreFault>
         ensures reads { QueryReturned S.Store (owner_in exam) self.old self.new result }
-        // While it is open, the database is as it was, row by row.
-        ensures unchanged { HasCleanDisk (state S.Store self.new)
-            → StateUnchanged (state S.Store self.old) (state S.Store self.new) }
-        // On `Ok` memory and the file agree.
-        ensures all_committed { HasCleanDisk (state S.Store self.new)
-            → OnOk result (IsCommitted (state S.Store self.new)) }
-        ensures clean { HasCleanDisk (state S.Store self.new)
-            → HasCleanDisk (state S.Store self.old) }
-        ensures survives { Survives (state S.Store self.old) (state S.Store self.new) (λ _. ⊥) }
+        // While it is open, the database is unchanged. On `Ok` memory and the file agree.
+        ensures leaves { LeavesUnchanged S.Store self.old self.new result }
     {
         let rows = self.owners(alloc, exam)?;
         match rows.as_slice() {
@@ -79,13 +69,7 @@ impl<S: Alter> Office<S> {
         ensures stays { HasCleanDisk (state S.Store self.new) → (office : OfficeState)
             → Represents (state S.Store self.old) office
             → Represents (state S.Store self.new) office }
-        ensures unchanged { HasCleanDisk (state S.Store self.new)
-            → StateUnchanged (state S.Store self.old) (state S.Store self.new) }
-        ensures all_committed { HasCleanDisk (state S.Store self.new)
-            → OnOk result (IsCommitted (state S.Store self.new)) }
-        ensures clean { HasCleanDisk (state S.Store self.new)
-            → HasCleanDisk (state S.Store self.old) }
-        ensures survives { Survives (state S.Store self.old) (state S.Store self.new) (λ _. ⊥) }
+        ensures leaves { LeavesUnchanged S.Store self.old self.new result }
     {
         let _at_rest = self.conn.is_autocommit(); // its contract says that all is committed
         let rows = owners_of(alloc, &mut self.conn, exam.get())?;

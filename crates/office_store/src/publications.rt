@@ -1,12 +1,13 @@
 // The publication, and its shares of the penalty.
-ghost use Rattle.std.specs.Prelude.{◌≡◌, IfOk, OnOk, Some};
+ghost use Rattle.std.specs.Prelude.{◌≡◌, IfOk, Some};
 ghost use Rattle.sqlite.specs.Held.{state};
-ghost use Rattle.sqlite.specs.State.{HasCleanDisk, Survives};
+ghost use Rattle.sqlite.specs.State.{HasCleanDisk};
 ghost use Rattle.office_model.specs.Office.{AreRecords, OfficeState, Records};
 ghost use Rattle.office_records.specs.SharesStored.{AreShared};
+ghost use Rattle.office_store.specs.Leaving.{LeavesUnchanged};
 ghost use Rattle.office_store.specs.Publications.{AddUpIn, plain, publication_shown, shares_in};
 ghost use Rattle.office_store.specs.Publications.{timetable_shown};
-ghost use Rattle.office_store.specs.Running.{IsCommitted, StateUnchanged, Represents, QueryReturned, ReturnsValue};
+ghost use Rattle.office_store.specs.Running.{Represents, QueryReturned, ReturnsValue};
 
 use crate::office::Office;
 use crate::share_rows::ShareRows;
@@ -25,15 +26,8 @@ impl<S: Alter> Office<S> {
         alloc: Global,
     ) -> Result<Option<(Timetable, Vec<SeatRow>)>, StoreFault>
         ensures reads { QueryReturned S.Store publication_shown self.old self.new (plain result) }
-        // While it is open, the database is as it was, row by row.
-        ensures unchanged { HasCleanDisk (state S.Store self.new)
-            → StateUnchanged (state S.Store self.old) (state S.Store self.new) }
-        // On `Ok` memory and the file agree.
-        ensures all_committed { HasCleanDisk (state S.Store self.new)
-            → OnOk result (IsCommitted (state S.Store self.new)) }
-        ensures clean { HasCleanDisk (state S.Store self.new)
-            → HasCleanDisk (state S.Store self.old) }
-        ensures survives { Survives (state S.Store self.old) (state S.Store self.new) (λ _. ⊥) }
+        // While it is open, the database is unchanged. On `Ok` memory and the file agree.
+        ensures leaves { LeavesUnchanged S.Store self.old self.new result }
     {
         self.look()?;
         let Some((timetable, rows)) = &self.memory.published else {
@@ -47,15 +41,8 @@ impl<S: Alter> Office<S> {
     /// Returns only the published timetable. `None`: nothing is published.
     pub fn published_timetable(&mut self, alloc: Global) -> Result<Option<Timetable>, StoreFault>
         ensures reads { QueryReturned S.Store timetable_shown self.old self.new result }
-        // While it is open, the database is as it was, row by row.
-        ensures unchanged { HasCleanDisk (state S.Store self.new)
-            → StateUnchanged (state S.Store self.old) (state S.Store self.new) }
-        // On `Ok` memory and the file agree.
-        ensures all_committed { HasCleanDisk (state S.Store self.new)
-            → OnOk result (IsCommitted (state S.Store self.new)) }
-        ensures clean { HasCleanDisk (state S.Store self.new)
-            → HasCleanDisk (state S.Store self.old) }
-        ensures survives { Survives (state S.Store self.old) (state S.Store self.new) (λ _. ⊥) }
+        // While it is open, the database is unchanged. On `Ok` memory and the file agree.
+        ensures leaves { LeavesUnchanged S.Store self.old self.new result }
     {
         self.look()?;
         let Some((timetable, _)) = &self.memory.published else {
@@ -72,14 +59,8 @@ impl<S: Alter> Office<S> {
         // The shares add up to the penalty of the publication.
         ensures add_up { HasCleanDisk (state S.Store self.new) → (office : OfficeState)
             → Represents (state S.Store self.old) office → IfOk result (AddUpIn office) }
-        // While it is open, the database is as it was, row by row.
-        ensures unchanged { HasCleanDisk (state S.Store self.new)
-            → StateUnchanged (state S.Store self.old) (state S.Store self.new) }
-        ensures all_committed { HasCleanDisk (state S.Store self.new)
-            → OnOk result (IsCommitted (state S.Store self.new)) }
-        ensures clean { HasCleanDisk (state S.Store self.new)
-            → HasCleanDisk (state S.Store self.old) }
-        ensures survives { Survives (state S.Store self.old) (state S.Store self.new) (λ _. ⊥) }
+        // While it is open, the database is unchanged. On `Ok` memory and the file agree.
+        ensures leaves { LeavesUnchanged S.Store self.old self.new result }
     {
         let found = self.share_rows(alloc)?;
         let Some((instance, _)) = &self.memory.kept else {

@@ -1,13 +1,11 @@
 // Publishing a draft.
-ghost use Rattle.sqlite.specs.Held.{state};
-ghost use Rattle.sqlite.specs.State.{HasCleanDisk};
 ghost use Rattle.office_model.specs.Publishing.{draft_published};
 ghost use Rattle.office_store.specs.Leaving.{LeavesNext};
-ghost use Rattle.office_store.specs.Running.{CommandRan, StaysOnErr};
+ghost use Rattle.office_store.specs.Running.{CommandRan};
 
 use crate::new_publication::new_publication;
 use crate::office::Office;
-use crate::putting::put_publication;
+use crate::transactions::put;
 use office_model::{Published, StoreFault};
 use sqlite::Alter;
 use std::alloc::Global;
@@ -19,16 +17,13 @@ impl<S: Alter> Office<S> {
     /// `Refused`: an exam has no place, or a hard rule is broken.
     pub fn publish(&mut self, alloc: Global, number: u32) -> Result<Published, StoreFault>
         ensures runs { CommandRan S.Store (draft_published number) self.old self.new result }
-        // Whatever the refusal, the tables are as they were.
-        ensures stays { StaysOnErr S.Store self.old self.new result }
-        ensures clean { HasCleanDisk (state S.Store self.new)
-            → HasCleanDisk (state S.Store self.old) }
-        // On `Ok` the database is open, and the change is committed.
+        // Whatever the refusal, the tables are as they were. On `Ok` the database is open, and the
+        // change is committed.
         ensures leaves { LeavesNext S.Store (draft_published number) self.old self.new result }
     {
         self.look()?;
         let (writes, published) = new_publication(alloc, &self.memory, number)?;
-        put_publication(&mut self.conn, &writes)?;
+        put(&mut self.conn, &writes)?;
         self.memory.publish(published);
         Ok(writes.counts)
     }

@@ -1,40 +1,17 @@
-// Writing a publication, all of it or nothing.
-ghost use Rattle.std.specs.Prelude.{◌≡◌, false, OnErr, OnOk};
+// The alteration of the tables by a publication.
+ghost use Rattle.std.specs.Prelude.{◌≡◌};
 ghost use Rattle.sqlite.specs.Held.{state};
-ghost use Rattle.sqlite.specs.State.{HasCleanDisk, Survives};
-ghost use Rattle.office_tables.specs.Alterations.{Changed, HoldsChanged, Undone};
 ghost use Rattle.office_tables.specs.Steps.{Changes, Within};
 ghost use Rattle.office_store.specs.PublicationChanges.{mark_put, places_put};
 ghost use Rattle.office_store.specs.PublicationChanges.{publication_put, shares_put};
 ghost use Rattle.office_store.specs.NewPublications.{AreSmallShares};
 
-use crate::fault::Failed;
 use crate::new_publication::NewPublication;
 use office_tables::{
     Alteration, Both, DeleteMeta, DeletePartShares, Each, InsertMeta, InsertPartShares,
-    InsertPlacements, InsertSeats, transact,
+    InsertPlacements, InsertSeats,
 };
-use sqlite::{Alter, Connection, Error, Transaction};
-
-// Replaces the present publication by a new one.
-pub(crate) fn put_publication<S: Alter>(
-    conn: &mut Connection<S>,
-    new: &NewPublication,
-) -> Result<(), Failed>
-    requires rests { conn.old.in_transaction ≡ false }
-    requires small { AreSmallShares new.now }
-    ensures done { HasCleanDisk (state S.Store conn.new) → OnOk result
-        (Changed (publication_put new.now) (state S.Store conn.old) (state S.Store conn.new)) }
-    ensures undone { HasCleanDisk (state S.Store conn.new)
-        → OnErr result (Undone (state S.Store conn.old) (state S.Store conn.new)) }
-    ensures rests { conn.new.in_transaction ≡ false }
-    ensures clean { HasCleanDisk (state S.Store conn.new) → HasCleanDisk (state S.Store conn.old) }
-    ensures survives { Survives (state S.Store conn.old) (state S.Store conn.new)
-        (HoldsChanged (publication_put new.now) (state S.Store conn.old)) }
-{
-    transact(conn, new)?;
-    Ok(())
-}
+use sqlite::{Alter, Error, Transaction};
 
 impl Alteration for NewPublication {
     ghost alteration = { publication_put };

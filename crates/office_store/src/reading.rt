@@ -1,15 +1,16 @@
 // What the office shows of its session and its drafts.
-ghost use Rattle.std.specs.Prelude.{◌≡◌, IfErr, IfOk, IsTrue, OnOk, length};
+ghost use Rattle.std.specs.Prelude.{◌≡◌, IfErr, IfOk, IsTrue, length};
 ghost use Rattle.sqlite.specs.Held.{state};
-ghost use Rattle.sqlite.specs.State.{HasCleanDisk, Survives};
+ghost use Rattle.sqlite.specs.State.{HasCleanDisk};
 ghost use Rattle.office_model.specs.Office.{OfficeState};
 ghost use Rattle.office_model.specs.Commands.{session_shown};
 ghost use Rattle.office_model.specs.DraftCommands.{draft_shown};
 ghost use Rattle.office_records.specs.Representation.{RepresentsOffice};
 ghost use Rattle.office_store.specs.Judging.{draft_judged, listed};
+ghost use Rattle.office_store.specs.Leaving.{LeavesUnchanged};
 ghost use Rattle.office_store.specs.OfficeRows.{shown};
 ghost use Rattle.office_store.specs.Pricing.{draft_priced};
-ghost use Rattle.office_store.specs.Running.{CommandOutcome, IsCommitted, StateUnchanged, CommandRan};
+ghost use Rattle.office_store.specs.Running.{CommandOutcome, CommandRan};
 
 use crate::office::Office;
 use exam_model::{Enrolments, Instance, Timetable};
@@ -42,15 +43,8 @@ impl<S: Alter> Office<S> {
     /// number.
     pub fn draft(&mut self, alloc: Global, number: u32) -> Result<(Timetable, Parts), StoreFault>
         ensures runs { CommandRan S.Store (draft_shown number) self.old self.new result }
-        // While it is open, the database is as it was, row by row.
-        ensures unchanged { HasCleanDisk (state S.Store self.new)
-            → StateUnchanged (state S.Store self.old) (state S.Store self.new) }
-        // On `Ok` memory and the file agree.
-        ensures all_committed { HasCleanDisk (state S.Store self.new)
-            → OnOk result (IsCommitted (state S.Store self.new)) }
-        ensures clean { HasCleanDisk (state S.Store self.new)
-            → HasCleanDisk (state S.Store self.old) }
-        ensures survives { Survives (state S.Store self.old) (state S.Store self.new) (λ _. ⊥) }
+        // While it is open, the database is unchanged. On `Ok` memory and the file agree.
+        ensures leaves { LeavesUnchanged S.Store self.old self.new result }
     {
         self.look()?;
         if self.memory.kept.is_none() {
@@ -66,15 +60,8 @@ impl<S: Alter> Office<S> {
     /// Returns the penalty of a draft. `NotLoaded`, then `NoDraft`: no draft has this number.
     pub fn penalty(&mut self, number: u32) -> Result<Parts, StoreFault>
         ensures runs { CommandRan S.Store (draft_priced number) self.old self.new result }
-        // While it is open, the database is as it was, row by row.
-        ensures unchanged { HasCleanDisk (state S.Store self.new)
-            → StateUnchanged (state S.Store self.old) (state S.Store self.new) }
-        // On `Ok` memory and the file agree.
-        ensures all_committed { HasCleanDisk (state S.Store self.new)
-            → OnOk result (IsCommitted (state S.Store self.new)) }
-        ensures clean { HasCleanDisk (state S.Store self.new)
-            → HasCleanDisk (state S.Store self.old) }
-        ensures survives { Survives (state S.Store self.old) (state S.Store self.new) (λ _. ⊥) }
+        // While it is open, the database is unchanged. On `Ok` memory and the file agree.
+        ensures leaves { LeavesUnchanged S.Store self.old self.new result }
     {
         self.look()?;
         if self.memory.kept.is_none() {
@@ -90,15 +77,8 @@ impl<S: Alter> Office<S> {
     /// this number.
     pub fn breaches(&mut self, alloc: Global, number: u32) -> Result<Vec<Breach>, StoreFault>
         ensures runs { CommandRan S.Store (draft_judged number) self.old self.new (listed result) }
-        // While it is open, the database is as it was, row by row.
-        ensures unchanged { HasCleanDisk (state S.Store self.new)
-            → StateUnchanged (state S.Store self.old) (state S.Store self.new) }
-        // On `Ok` memory and the file agree.
-        ensures all_committed { HasCleanDisk (state S.Store self.new)
-            → OnOk result (IsCommitted (state S.Store self.new)) }
-        ensures clean { HasCleanDisk (state S.Store self.new)
-            → HasCleanDisk (state S.Store self.old) }
-        ensures survives { Survives (state S.Store self.old) (state S.Store self.new) (λ _. ⊥) }
+        // While it is open, the database is unchanged. On `Ok` memory and the file agree.
+        ensures leaves { LeavesUnchanged S.Store self.old self.new result }
     {
         self.look()?;
         let memory = &self.memory;

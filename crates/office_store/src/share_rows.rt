@@ -1,14 +1,14 @@
 // The rows of the publication's shares.
-ghost use Rattle.std.specs.Prelude.{◌≡◌, false, IfOk, IsPermutation, IsTrue, OnOk};
+ghost use Rattle.std.specs.Prelude.{IfOk, IsPermutation, IsTrue};
 ghost use Rattle.sqlite.specs.Held.{state};
-ghost use Rattle.sqlite.specs.State.{HasCleanDisk, Survives};
-ghost use Rattle.office_tables.specs.Readers.{AnswersOpen, LeavesAll, LeavesCommitted, OpensNone, Reads};
+ghost use Rattle.sqlite.specs.State.{HasCleanDisk};
+ghost use Rattle.office_tables.specs.Readers.{LeavesTables, Reads};
 ghost use Rattle.office_tables.specs.ShareStudent.{HaveNoNight};
 ghost use Rattle.office_model.specs.Office.{OfficeState};
 ghost use Rattle.office_records.specs.Representation.{RepresentsOffice};
+ghost use Rattle.office_store.specs.Leaving.{LeavesUnchanged};
 ghost use Rattle.office_store.specs.OfficeRows.{AreShareRowsOf, part_rows_in};
 ghost use Rattle.office_store.specs.OfficeRows.{student_rows_in};
-ghost use Rattle.office_store.specs.Running.{IsCommitted, StateUnchanged};
 
 use crate::fault::Failed;
 use crate::office::Office;
@@ -31,13 +31,7 @@ impl<S: Alter> Office<S> {
         ensures rows { HasCleanDisk (state S.Store self.new) → (office : OfficeState)
             → RepresentsOffice (state S.Store self.new).now office
             → IfOk result (λ found. AreShareRowsOf office found.students.items found.parts.items) }
-        ensures unchanged { HasCleanDisk (state S.Store self.new)
-            → StateUnchanged (state S.Store self.old) (state S.Store self.new) }
-        ensures all_committed { HasCleanDisk (state S.Store self.new)
-            → OnOk result (IsCommitted (state S.Store self.new)) }
-        ensures clean { HasCleanDisk (state S.Store self.new)
-            → HasCleanDisk (state S.Store self.old) }
-        ensures survives { Survives (state S.Store self.old) (state S.Store self.new) (λ _. ⊥) }
+        ensures leaves { LeavesUnchanged S.Store self.old self.new result }
     {
         let students = self.student_shares(alloc)?;
         let parts = self.part_shares(alloc)?;
@@ -48,13 +42,7 @@ impl<S: Alter> Office<S> {
         ensures rows { HasCleanDisk (state S.Store self.new) → (office : OfficeState)
             → RepresentsOffice (state S.Store self.new).now office
             → IfOk result (λ rows. IsPermutation rows.items (student_rows_in office)) }
-        ensures unchanged { HasCleanDisk (state S.Store self.new)
-            → StateUnchanged (state S.Store self.old) (state S.Store self.new) }
-        ensures all_committed { HasCleanDisk (state S.Store self.new)
-            → OnOk result (IsCommitted (state S.Store self.new)) }
-        ensures clean { HasCleanDisk (state S.Store self.new)
-            → HasCleanDisk (state S.Store self.old) }
-        ensures survives { Survives (state S.Store self.old) (state S.Store self.new) (λ _. ⊥) }
+        ensures leaves { LeavesUnchanged S.Store self.old self.new result }
     {
         let _at_rest = self.conn.is_autocommit(); // its contract says that all is committed
         let bare = self.memory.has_no_night_weight();
@@ -66,13 +54,7 @@ impl<S: Alter> Office<S> {
         ensures rows { HasCleanDisk (state S.Store self.new) → (office : OfficeState)
             → RepresentsOffice (state S.Store self.new).now office
             → IfOk result (λ rows. IsPermutation rows.items (part_rows_in office)) }
-        ensures unchanged { HasCleanDisk (state S.Store self.new)
-            → StateUnchanged (state S.Store self.old) (state S.Store self.new) }
-        ensures all_committed { HasCleanDisk (state S.Store self.new)
-            → OnOk result (IsCommitted (state S.Store self.new)) }
-        ensures clean { HasCleanDisk (state S.Store self.new)
-            → HasCleanDisk (state S.Store self.old) }
-        ensures survives { Survives (state S.Store self.old) (state S.Store self.new) (λ _. ⊥) }
+        ensures leaves { LeavesUnchanged S.Store self.old self.new result }
     {
         let _at_rest = self.conn.is_autocommit(); // its contract says that all is committed
         let rows = part_shares(alloc, &mut self.conn)?;
@@ -90,12 +72,7 @@ fn student_rows<S: Alter>(
     ensures rows { Reads S.Store (λ t found. (IsTrue bare → HaveNoNight t.share_student)
         → IsPermutation t.share_student found.items)
         conn.old conn.new result }
-    ensures open { AnswersOpen S.Store conn.old conn.new result }
-    ensures was_open { OpensNone S.Store conn.old conn.new }
-    ensures same { LeavesAll S.Store conn.old conn.new result }
-    ensures kept { LeavesCommitted S.Store conn.old conn.new }
-    ensures mode { conn.old.in_transaction ≡ false → conn.new.in_transaction ≡ false }
-    ensures survives { Survives (state S.Store conn.old) (state S.Store conn.new) (λ _. ⊥) }
+    ensures leaves { LeavesTables S.Store conn.old conn.new result }
 {
     if bare {
         student_shares_without_nights(alloc, conn)

@@ -2,12 +2,12 @@
 ghost use Rattle.std.specs.Prelude.{◌≡◌, [], ◌∷◌, false, OnOk, OnErr};
 ghost use Rattle.sqlite.specs.Held.{state};
 ghost use Rattle.sqlite.specs.State.{HasCleanDisk, Survives};
-ghost use Rattle.office_tables.specs.Alterations.{Changed, HoldsChanged, Undone};
+ghost use Rattle.office_tables.specs.Alterations.{Undone};
 ghost use Rattle.office_tables.specs.Schema.{no_schema, IsBlank};
 ghost use Rattle.office_tables.specs.TablesHeld.{HoldsTables, HoldsOldTables};
 ghost use Rattle.office_tables.specs.Tables.{Tables, empty_tables};
 ghost use Rattle.office_store.specs.Leaving.{found_in};
-ghost use Rattle.office_store.specs.Transactions.{Turned};
+ghost use Rattle.office_store.specs.Transactions.{TablesAltered, Turned};
 
 use crate::fault::Failed;
 use office_tables::{Alteration, create_tables, migrate, transact};
@@ -65,14 +65,7 @@ pub(crate) fn put<S: Alter, A: Alteration>(
 ) -> Result<(), Failed>
     requires rests { conn.old.in_transaction ≡ false }
     requires fits { A.fits alteration.now }
-    ensures done { HasCleanDisk (state S.Store conn.new) → OnOk result
-        (Changed (A.alteration alteration.now) (state S.Store conn.old) (state S.Store conn.new)) }
-    ensures undone { HasCleanDisk (state S.Store conn.new)
-        → OnErr result (Undone (state S.Store conn.old) (state S.Store conn.new)) }
-    ensures rests { conn.new.in_transaction ≡ false }
-    ensures clean { HasCleanDisk (state S.Store conn.new) → HasCleanDisk (state S.Store conn.old) }
-    ensures survives { Survives (state S.Store conn.old) (state S.Store conn.new)
-        (HoldsChanged (A.alteration alteration.now) (state S.Store conn.old)) }
+    ensures { TablesAltered S.Store (A.alteration alteration.now) conn.old conn.new result }
 {
     transact(conn, alteration)?;
     Ok(())

@@ -1,7 +1,7 @@
 // A candidate's view of the office.
-ghost use Rattle.std.specs.Prelude.{◌≡◌, ◌==◌, ℕ, IfOk, IsPermutation, OnOk, Some, filter, find, map};
+ghost use Rattle.std.specs.Prelude.{◌≡◌, ◌==◌, ℕ, IfOk, IsPermutation, Some, filter, find, map};
 ghost use Rattle.sqlite.specs.Held.{state};
-ghost use Rattle.sqlite.specs.State.{HasCleanDisk, Survives};
+ghost use Rattle.sqlite.specs.State.{HasCleanDisk};
 ghost use Rattle.exam_publish.specs.Changed.{rows_of};
 ghost use Rattle.office_model.specs.Office.{AreRecords, OfficeState, Records};
 ghost use Rattle.office_model.specs.Publishing.{publication_rows};
@@ -12,8 +12,9 @@ ghost use Rattle.office_records.specs.Publications.{stored_seat};
 ghost use Rattle.office_records.specs.Representation.{RepresentsOffice};
 ghost use Rattle.office_store.specs.Judging.{listed};
 ghost use Rattle.office_records.specs.Memory.{published_in};
+ghost use Rattle.office_store.specs.Leaving.{LeavesUnchanged};
 ghost use Rattle.office_store.specs.OfficeRows.{student_rows_in};
-ghost use Rattle.office_store.specs.Running.{IsCommitted, StateUnchanged, QueryReturned, ReturnsValue};
+ghost use Rattle.office_store.specs.Running.{QueryReturned, ReturnsValue};
 ghost use Rattle.office_store.specs.Viewing.{AreCandidateRows, exams_in, place_in_row};
 
 use crate::candidate_share::personal_in;
@@ -48,15 +49,8 @@ impl<S: Alter> Office<S> {
     ) -> Result<CandidateView, StoreFault>
         ensures reads { QueryReturned S.Store (λ o. shown_to student (view_of student o))
             self.old self.new result }
-        // While it is open, the database is as it was, row by row.
-        ensures unchanged { HasCleanDisk (state S.Store self.new)
-            → StateUnchanged (state S.Store self.old) (state S.Store self.new) }
-        // On `Ok` memory and the file agree.
-        ensures all_committed { HasCleanDisk (state S.Store self.new)
-            → OnOk result (IsCommitted (state S.Store self.new)) }
-        ensures clean { HasCleanDisk (state S.Store self.new)
-            → HasCleanDisk (state S.Store self.old) }
-        ensures survives { Survives (state S.Store self.old) (state S.Store self.new) (λ _. ⊥) }
+        // While it is open, the database is unchanged. On `Ok` memory and the file agree.
+        ensures leaves { LeavesUnchanged S.Store self.old self.new result }
     {
         let exams = self.candidate_exams(alloc, student)?;
         let personal = self.candidate_penalty(alloc, student)?;
@@ -74,15 +68,8 @@ impl<S: Alter> Office<S> {
         ensures reads { QueryReturned S.Store
             (λ o. find (λ row. row.exam == exam) (shown_exams (view_of student o)))
             self.old self.new result }
-        // While it is open, the database is as it was, row by row.
-        ensures unchanged { HasCleanDisk (state S.Store self.new)
-            → StateUnchanged (state S.Store self.old) (state S.Store self.new) }
-        // On `Ok` memory and the file agree.
-        ensures all_committed { HasCleanDisk (state S.Store self.new)
-            → OnOk result (IsCommitted (state S.Store self.new)) }
-        ensures clean { HasCleanDisk (state S.Store self.new)
-            → HasCleanDisk (state S.Store self.old) }
-        ensures survives { Survives (state S.Store self.old) (state S.Store self.new) (λ _. ⊥) }
+        // While it is open, the database is unchanged. On `Ok` memory and the file agree.
+        ensures leaves { LeavesUnchanged S.Store self.old self.new result }
     {
         let rows = self.candidate_exams(alloc, student)?;
         Ok(row_of(&rows, exam))
@@ -96,15 +83,8 @@ impl<S: Alter> Office<S> {
     ) -> Result<PersonalParts, StoreFault>
         ensures reads { QueryReturned S.Store (λ o. shown_penalty (view_of student o))
             self.old self.new result }
-        // While it is open, the database is as it was, row by row.
-        ensures unchanged { HasCleanDisk (state S.Store self.new)
-            → StateUnchanged (state S.Store self.old) (state S.Store self.new) }
-        // On `Ok` memory and the file agree.
-        ensures all_committed { HasCleanDisk (state S.Store self.new)
-            → OnOk result (IsCommitted (state S.Store self.new)) }
-        ensures clean { HasCleanDisk (state S.Store self.new)
-            → HasCleanDisk (state S.Store self.old) }
-        ensures survives { Survives (state S.Store self.old) (state S.Store self.new) (λ _. ⊥) }
+        // While it is open, the database is unchanged. On `Ok` memory and the file agree.
+        ensures leaves { LeavesUnchanged S.Store self.old self.new result }
     {
         let rows = self.candidate_shares(alloc, student)?;
         personal_in(&rows)
@@ -118,13 +98,7 @@ impl<S: Alter> Office<S> {
     ) -> Result<Vec<ViewRow>, StoreFault>
         ensures reads { QueryReturned S.Store (λ o. shown_exams (view_of student o))
             self.old self.new (listed result) }
-        ensures unchanged { HasCleanDisk (state S.Store self.new)
-            → StateUnchanged (state S.Store self.old) (state S.Store self.new) }
-        ensures all_committed { HasCleanDisk (state S.Store self.new)
-            → OnOk result (IsCommitted (state S.Store self.new)) }
-        ensures clean { HasCleanDisk (state S.Store self.new)
-            → HasCleanDisk (state S.Store self.old) }
-        ensures survives { Survives (state S.Store self.old) (state S.Store self.new) (λ _. ⊥) }
+        ensures leaves { LeavesUnchanged S.Store self.old self.new result }
     {
         let found = self.candidate_rows(alloc, student)?;
         let Some((instance, _)) = &self.memory.kept else {
@@ -139,13 +113,7 @@ impl<S: Alter> Office<S> {
             → RepresentsOffice (state S.Store self.new).now office
             → IfOk result (λ found. AreCandidateRows office student found.enrols.items
             found.places.items found.seats.items) }
-        ensures unchanged { HasCleanDisk (state S.Store self.new)
-            → StateUnchanged (state S.Store self.old) (state S.Store self.new) }
-        ensures all_committed { HasCleanDisk (state S.Store self.new)
-            → OnOk result (IsCommitted (state S.Store self.new)) }
-        ensures clean { HasCleanDisk (state S.Store self.new)
-            → HasCleanDisk (state S.Store self.old) }
-        ensures survives { Survives (state S.Store self.old) (state S.Store self.new) (λ _. ⊥) }
+        ensures leaves { LeavesUnchanged S.Store self.old self.new result }
     {
         let enrols = self.candidate_enrols(alloc, student)?;
         let places = self.candidate_places(alloc, student)?;
@@ -165,13 +133,7 @@ impl<S: Alter> Office<S> {
         ensures rows { HasCleanDisk (state S.Store self.new) → (office : OfficeState)
             → RepresentsOffice (state S.Store self.new).now office
             → IfOk result (λ rows. map (λ row. row.exam) rows.items ≡ exams_in student office) }
-        ensures unchanged { HasCleanDisk (state S.Store self.new)
-            → StateUnchanged (state S.Store self.old) (state S.Store self.new) }
-        ensures all_committed { HasCleanDisk (state S.Store self.new)
-            → OnOk result (IsCommitted (state S.Store self.new)) }
-        ensures clean { HasCleanDisk (state S.Store self.new)
-            → HasCleanDisk (state S.Store self.old) }
-        ensures survives { Survives (state S.Store self.old) (state S.Store self.new) (λ _. ⊥) }
+        ensures leaves { LeavesUnchanged S.Store self.old self.new result }
     {
         let _at_rest = self.conn.is_autocommit(); // its contract says that all is committed
         let rows = enrols_of(alloc, &mut self.conn, student.get())?;
@@ -187,13 +149,7 @@ impl<S: Alter> Office<S> {
             → RepresentsOffice (state S.Store self.new).now office
             → IfOk result (λ rows. map place_in_row rows.items
             ≡ places_in (published_in office) (exams_in student office)) }
-        ensures unchanged { HasCleanDisk (state S.Store self.new)
-            → StateUnchanged (state S.Store self.old) (state S.Store self.new) }
-        ensures all_committed { HasCleanDisk (state S.Store self.new)
-            → OnOk result (IsCommitted (state S.Store self.new)) }
-        ensures clean { HasCleanDisk (state S.Store self.new)
-            → HasCleanDisk (state S.Store self.old) }
-        ensures survives { Survives (state S.Store self.old) (state S.Store self.new) (λ _. ⊥) }
+        ensures leaves { LeavesUnchanged S.Store self.old self.new result }
     {
         let _at_rest = self.conn.is_autocommit(); // its contract says that all is committed
         let rows = placements_of(alloc, &mut self.conn, student.get())?;
@@ -205,13 +161,7 @@ impl<S: Alter> Office<S> {
             → RepresentsOffice (state S.Store self.new).now office
             → IfOk result (λ rows. rows.items
             ≡ map stored_seat (rows_of student (publication_rows (published_in office)))) }
-        ensures unchanged { HasCleanDisk (state S.Store self.new)
-            → StateUnchanged (state S.Store self.old) (state S.Store self.new) }
-        ensures all_committed { HasCleanDisk (state S.Store self.new)
-            → OnOk result (IsCommitted (state S.Store self.new)) }
-        ensures clean { HasCleanDisk (state S.Store self.new)
-            → HasCleanDisk (state S.Store self.old) }
-        ensures survives { Survives (state S.Store self.old) (state S.Store self.new) (λ _. ⊥) }
+        ensures leaves { LeavesUnchanged S.Store self.old self.new result }
     {
         let _at_rest = self.conn.is_autocommit(); // its contract says that all is committed
         let rows = seats_of(alloc, &mut self.conn, student.get())?;
@@ -227,13 +177,7 @@ impl<S: Alter> Office<S> {
             → RepresentsOffice (state S.Store self.new).now office
             → IfOk result (λ rows. IsPermutation
             (filter (λ row. row.student == student) (student_rows_in office)) rows.items) }
-        ensures unchanged { HasCleanDisk (state S.Store self.new)
-            → StateUnchanged (state S.Store self.old) (state S.Store self.new) }
-        ensures all_committed { HasCleanDisk (state S.Store self.new)
-            → OnOk result (IsCommitted (state S.Store self.new)) }
-        ensures clean { HasCleanDisk (state S.Store self.new)
-            → HasCleanDisk (state S.Store self.old) }
-        ensures survives { Survives (state S.Store self.old) (state S.Store self.new) (λ _. ⊥) }
+        ensures leaves { LeavesUnchanged S.Store self.old self.new result }
     {
         let _at_rest = self.conn.is_autocommit(); // its contract says that all is committed
         let rows = student_shares_of(alloc, &mut self.conn, student.get())?;

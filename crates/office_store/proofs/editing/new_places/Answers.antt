@@ -2,7 +2,7 @@ use Rattle.std.proofs.Common.{◌≡◌, List, [], ◌∷◌, ◌++◌, map, tak
 use Rattle.std.proofs.lemmas.List.{map-append, take_more}
 use Rattle.office_tables.specs.declared.altering.Both.{Both}
 use Rattle.office_tables.specs.declared.slot.DeleteSlot.{DeleteSlot}
-use Rattle.office_tables.specs.declared.slot.InsertSlot.{InsertSlot}
+use Rattle.office_tables.specs.Inserted.{InsertSlot}
 use Rattle.office_store.specs.Changes.{moved, new_place}
 use Rattle.office_store.proofs.editing.new_places.Goals as goal
 

@@ -38,4 +38,4 @@ kept (Err e) p = tt
 
 pub returns-clause-same : goal.returns-clause-same
 returns-clause-same g c =
-    kept c.exams_in_order.result (λ clean t represents _. c.in-Ok.ensures.same clean t represents)
+    kept c.exams_in_order.result (λ clean t represents _. c.in-Ok.ensures.leaves.same clean t represents)

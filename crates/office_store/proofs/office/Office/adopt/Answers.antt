@@ -5,7 +5,6 @@ use Rattle.sqlite.specs.State.{IsUnchanged}
 use Rattle.office_tables.specs.declared.version.Version.TheVariants.{Two}
 use Rattle.office_store.proofs.AdoptLemmas.{awake_still, held_still, may_migrate, one_version}
 use Rattle.office_store.proofs.AdoptLemmas.{taken_over, undone_after, undone_reading}
-use Rattle.office_store.proofs.LeavingLemmas.{survives_more, survives_same}
 use Rattle.office_store.proofs.office.Office.adopt.Goals as goal
 
 at_rest : (answer within : Bool) → answer ≡ not within → answer ≡ true → within ≡ false
@@ -26,7 +25,8 @@ returns-in-Ok-bring_up-clause-adopted g c clean =
     let is = c.in-Ok.ensures.kept clean_mid in
     taken_over (state g.S.Store old).now _ _ _ is
     (c.in-Ok-bring_up.ensures.tables clean is.batches
-    (held_still g.S.Store old c.found_office.new.conn _ _ (c.in-Ok.ensures.same clean_mid) is.tables))
+    (held_still g.S.Store old c.found_office.new.conn _ _ (c.in-Ok.ensures.same clean_mid)
+    is.tables))
 
 pub invariant_of-result : goal.invariant_of-result
 invariant_of-result g c = (
@@ -37,7 +37,8 @@ invariant_of-result g c = (
       let is = c.in-Ok.ensures.kept clean_mid in
       let taken = taken_over (state g.S.Store old).now _ _ _ is
       (c.in-Ok-bring_up.ensures.tables clean is.batches
-      (held_still g.S.Store old c.found_office.new.conn _ _ (c.in-Ok.ensures.same clean_mid) is.tables))
+      (held_still g.S.Store old c.found_office.new.conn _ _ (c.in-Ok.ensures.same clean_mid)
+      is.tables))
       in
       (is.office, taken.represents is.office (_, is.kept, is.weighs), is.in_memory),
   c.in-Ok.ensures.together,
@@ -78,27 +79,14 @@ returns-clause-leaves g c = record {
 pub returns-clause-undone : goal.returns-clause-undone
 returns-clause-undone g c =
     inr (λ clean. undone_after g.S.Store c.args.conn c.found_office.new.conn c.bring_up.new.conn
-    (c.in-Ok.ensures.same (c.bring_up.ensures.clean clean)) (c.in-Err-bring_up.ensures.undone clean))
-
-pub returns-in-Err-clause-leaves : goal.returns-in-Err-clause-leaves
-returns-in-Err-clause-leaves g c = record {
-  all_committed = search rules;
-  survives = survives_more (state g.S.Store c.args.conn) (state g.S.Store c.found_office.new.conn) _
-      c.found_office.ensures.survives;
-}
+    (c.in-Ok.ensures.same (c.bring_up.ensures.clean clean))
+    (c.in-Err-bring_up.ensures.undone clean))
 
 pub returns-in-Err-clause-no_office : goal.returns-in-Err-clause-no_office
 returns-in-Err-clause-no_office g c bad clean o holds = c.in-Err.ensures.none clean bad o holds
 
 pub returns-in-Err-clause-undone : goal.returns-in-Err-clause-undone
 returns-in-Err-clause-undone g c =
-    inr (λ clean. undone_reading (state g.S.Store c.args.conn) (state g.S.Store c.found_office.new.conn)
+    inr (λ clean. undone_reading (state g.S.Store c.args.conn) (state g.S.Store
+    c.found_office.new.conn)
     (c.is_autocommit.ensures.settled c.if-not-is_autocommit.false) (c.in-Err.ensures.keeps clean))
-
-pub returns-then-not-is_autocommit-clause-leaves
-    : goal.returns-then-not-is_autocommit-clause-leaves
-returns-then-not-is_autocommit-clause-leaves g c = record {
-  all_committed = search rules;
-  survives = survives_more (state g.S.Store c.args.conn) (state g.S.Store c.args.conn) _
-      (survives_same (state g.S.Store c.args.conn));
-}

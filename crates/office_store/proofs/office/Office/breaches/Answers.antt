@@ -10,14 +10,14 @@ pub returns-in_default-clause-runs : goal.returns-in_default-clause-runs
 returns-in_default-clause-runs g c =
     refuses g.S.Store (draft_judged c.args.number) c.args.self.now c.look.new.self
     c.self.inside.conn c.self.inside.memory c.self.view_is c.self.invariant.1
-    c.in_ok-look.ensures.all_committed c.in_ok-look.ensures.unchanged NotLoaded
+    c.in_ok-look.ensures.leaves NotLoaded
     (λ _. not_loaded (draft_judged c.args.number) _ _ c.in_default.is refl)
 
 pub returns-in_default-draft-clause-runs : goal.returns-in_default-draft-clause-runs
 returns-in_default-draft-clause-runs g c =
     refuses g.S.Store (draft_judged c.args.number) c.args.self.now c.look.new.self
     c.self.inside.conn c.self.inside.memory c.self.view_is c.self.invariant.1
-    c.in_ok-look.ensures.all_committed c.in_ok-look.ensures.unchanged NoDraft
+    c.in_ok-look.ensures.leaves NoDraft
     (λ k o kept is. none_in_memory_judged c.self.inside.memory c.args.number o is
     c.in-Some.instance c.in-Some.enrolments c.in-Some.is c.in_default-draft.ensures.none)
 
@@ -30,7 +30,7 @@ pub returns-clause-runs : goal.returns-clause-runs
 returns-clause-runs g c =
     shows g.S.Store (draft_judged c.args.number) c.args.self.now c.look.new.self
     c.self.inside.conn c.self.inside.memory c.self.view_is c.self.invariant.1
-    c.in_ok-look.ensures.all_committed c.in_ok-look.ensures.unchanged
+    c.in_ok-look.ensures.leaves
     (listed (Ok c.in_ok-breaches.breaches))
     (λ k o kept is. in_memory_judged c.self.inside.memory c.args.number o is
     c.in-Some.instance c.in-Some.enrolments c.in-Some.is c.in-Some-draft.draft.now

@@ -1,43 +1,29 @@
-use Rattle.std.proofs.Common.{◌≡◌, ap, arith, map, not, subst, ◌∙◌}
-use Rattle.sqlite.specs.Held.{state}
+use Rattle.std.proofs.Common.{◌≡◌, ap, map, not, subst, ◌∙◌}
 use Rattle.office_tables.specs.declared.enrol.EnrolRow.{EnrolRow}
 use Rattle.office_store.specs.Viewing.{exams_in}
-use Rattle.office_store.proofs.RunLemmas.{kept_read, rest_read}
+use Rattle.office_store.proofs.RunLemmas.{kept_after, rest_after}
 use Rattle.office_store.proofs.ViewLemmas.{enrols_read}
-use Rattle.office_store.proofs.LeavingLemmas.{survives_at}
 use Rattle.office_store.proofs.office.Office.candidate_enrols.Goals as goal
 
 pub invariant_of-self : goal.invariant_of-self
 invariant_of-self g c = (
-  c.enrols_of.ensures.mode c.self.invariant.0,
-  rest_read (state g.S.Store c.self.inside.conn) (state g.S.Store c.enrols_of.new.conn)
-      c.self.inside.memory c.self.invariant.1
-      (λ k. omega (arith, c.enrols_of.ensures.survives.clean, k))
+  c.enrols_of.ensures.leaves.mode c.self.invariant.0,
+  rest_after g.S.Store c.self.inside.conn c.enrols_of.new.conn c.self.inside.memory
+      c.self.invariant.1
       (c.is_autocommit-at_rest.ensures.settled
       (c.is_autocommit-at_rest.ensures.value ∙ ap not c.self.invariant.0))
-      c.enrols_of.ensures.was_open c.enrols_of.ensures.kept,
+      c.enrols_of.ensures.leaves,
   c.self.invariant.2,
 )
 
 pub returns-clause-rows : goal.returns-clause-rows
 returns-clause-rows g c clean office here =
-    let kept = kept_read (state g.S.Store c.self.inside.conn) (state g.S.Store c.enrols_of.new.conn)
-    c.self.inside.memory c.self.invariant.1
-    (λ k. omega (arith, c.enrols_of.ensures.survives.clean, k))
+    let kept = kept_after g.S.Store c.self.inside.conn c.enrols_of.new.conn c.self.inside.memory
+    c.self.invariant.1
     (c.is_autocommit-at_rest.ensures.settled
     (c.is_autocommit-at_rest.ensures.value ∙ ap not c.self.invariant.0))
-    c.in_ok-rows.ensures.open c.in_ok-rows.ensures.same clean office here in
+    c.in_ok-rows.ensures.leaves clean office here in
     subst (λ n. map (λ (r : EnrolRow). r.exam) c.in_ok-rows.rows.items ≡ exams_in n office)
     c.get.ensures.number
     (enrols_read kept.held office c.get.result c.in_ok-rows.rows.items kept.represents kept.office
     (c.in_ok-rows.ensures.in_order clean kept.held kept.tables))
-
-pub returns-in_err-rows-clause-survives : goal.returns-in_err-rows-clause-survives
-returns-in_err-rows-clause-survives g c =
-    survives_at g.S.Store c.args.self.now c.self.inside.conn c.enrols_of.new.conn _ c.self.view_is
-    c.enrols_of.ensures.survives
-
-pub returns-clause-survives : goal.returns-clause-survives
-returns-clause-survives g c =
-    survives_at g.S.Store c.args.self.now c.self.inside.conn c.enrols_of.new.conn _ c.self.view_is
-    c.enrols_of.ensures.survives

@@ -10,8 +10,7 @@ pub returns-in_default-clause-reads : goal.returns-in_default-clause-reads
 returns-in_default-clause-reads g c =
     returns_value g.S.Store c.args.self.now c.candidate_rows.new.self c.self.inside.conn
     c.self.inside.memory
-    c.self.view_is c.self.invariant.1 c.in_ok-found.ensures.all_committed
-    c.in_ok-found.ensures.unchanged
+    c.self.view_is c.self.invariant.1 c.in_ok-found.ensures.leaves
     (λ o. shown_exams (view_of c.args.student o)) (listed (Ok c.new.result))
     (λ k o kept is. nothing_returned o c.self.inside.memory.kept c.in_default.is is.session
     c.args.student
@@ -21,8 +20,7 @@ pub returns-clause-reads : goal.returns-clause-reads
 returns-clause-reads g c =
     returns_value g.S.Store c.args.self.now c.candidate_rows.new.self c.self.inside.conn
     c.self.inside.memory
-    c.self.view_is c.self.invariant.1 c.in_ok-found.ensures.all_committed
-    c.in_ok-found.ensures.unchanged
+    c.self.view_is c.self.invariant.1 c.in_ok-found.ensures.leaves
     (λ o. shown_exams (view_of c.args.student o)) (listed c.exams_from.result)
     (λ k o kept is. exams_returned o c.in-Some.instance c.in-Some.field-0-1
     c.self.inside.memory.kept

@@ -9,8 +9,8 @@ use Rattle.office_store.proofs.office.Office.candidate_penalty.Goals as goal
 pub returns-clause-reads : goal.returns-clause-reads
 returns-clause-reads g c clean o now =
     let mid = c.candidate_shares.new.self in
-    let stays = stays_by g.S.Store c.args.self.now mid c.in_ok-rows.ensures.unchanged clean o now in
-    let kept = stays (c.in_ok-rows.ensures.all_committed clean).0 in
+    let stays = stays_by g.S.Store c.args.self.now mid c.in_ok-rows.ensures.leaves clean o now in
+    let kept = stays (c.in_ok-rows.ensures.leaves.all_committed clean).0 in
     let rows = c.in_ok-rows.rows.items in
     let penalty = shown_penalty (view_of c.args.student o) in
     shown penalty o (Represents (state g.S.Store mid)) c.personal_in.result

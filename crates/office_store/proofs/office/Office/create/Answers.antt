@@ -1,7 +1,7 @@
 use Rattle.std.proofs.Common.{rules, refl, sym, ap, Err, None, Ok, ◌≡◌}
 use Rattle.office_tables.specs.Tables.{empty_tables}
 use Rattle.sqlite.specs.Held.{state}
-use Rattle.office_store.proofs.LeavingLemmas.{survives_more, survives_same, may_make}
+use Rattle.office_store.proofs.LeavingLemmas.{may_make}
 use Rattle.office_tables.specs.Schema.{no_schema}
 use Rattle.office_records.specs.FoundPublications.{publication_from}
 use Rattle.office_model.specs.declared.fault.StoreFault.TheVariants.{Store}
@@ -38,21 +38,6 @@ returns-in-Ok-clause-made g c clean = record {
   represents = refl;
   sound = tt;
   office = tt;
-}
-
-pub returns-then-not-is_autocommit-clause-leaves
-    : goal.returns-then-not-is_autocommit-clause-leaves
-returns-then-not-is_autocommit-clause-leaves g c = record {
-  all_committed = search rules;
-  survives = survives_more (state g.S.Store c.args.conn) (state g.S.Store c.args.conn) _
-      (survives_same (state g.S.Store c.args.conn));
-}
-
-pub returns-then-not-is_bare-clause-leaves : goal.returns-then-not-is_bare-clause-leaves
-returns-then-not-is_bare-clause-leaves g c = record {
-  all_committed = search rules;
-  survives = survives_more (state g.S.Store c.args.conn) (state g.S.Store c.args.conn) _
-      (survives_same (state g.S.Store c.args.conn));
 }
 
 pub returns-in-Ok-clause-leaves : goal.returns-in-Ok-clause-leaves

@@ -10,14 +10,14 @@ returns-then-is_none-clause-runs g c =
     let empty : c.self.inside.memory.kept ≡ None = search rules in
     refuses g.S.Store (draft_shown c.args.number) c.args.self.now c.look.new.self
     c.self.inside.conn c.self.inside.memory c.self.view_is c.self.invariant.1
-    c.in_ok-look.ensures.all_committed c.in_ok-look.ensures.unchanged NotLoaded
+    c.in_ok-look.ensures.leaves NotLoaded
     (λ _. not_loaded (draft_shown c.args.number) _ _ empty refl)
 
 pub returns-in_default-clause-runs : goal.returns-in_default-clause-runs
 returns-in_default-clause-runs g c =
     refuses g.S.Store (draft_shown c.args.number) c.args.self.now c.look.new.self
     c.self.inside.conn c.self.inside.memory c.self.view_is c.self.invariant.1
-    c.in_ok-look.ensures.all_committed c.in_ok-look.ensures.unchanged NoDraft
+    c.in_ok-look.ensures.leaves NoDraft
     (λ k o kept is. none_in_memory_shown c.self.inside.memory c.args.number o is
     c.if-is_none.ensures c.in_default.ensures.none)
 
@@ -25,7 +25,7 @@ pub returns-clause-runs : goal.returns-clause-runs
 returns-clause-runs g c =
     shows g.S.Store (draft_shown c.args.number) c.args.self.now c.look.new.self
     c.self.inside.conn c.self.inside.memory c.self.view_is c.self.invariant.1
-    c.in_ok-look.ensures.all_committed c.in_ok-look.ensures.unchanged
+    c.in_ok-look.ensures.leaves
     (Ok (c.in_ok-timetable.timetable, c.in-Some.draft.now.parts))
     (λ k o kept is. in_memory_shown c.self.inside.memory c.args.number o is
     c.in-Some.draft.now c.in-Some.ensures.some c.in_ok-timetable.timetable

@@ -1,5 +1,4 @@
-use Rattle.std.proofs.Common.{rules, ◌≡◌, ◌∙◌, Err, Ok, ap, not, refl, subst, sym}
-use Rattle.std.proofs.lemmas.Result.{err_from_is_err_and}
+use Rattle.std.proofs.Common.{rules, ◌≡◌, ◌∙◌, Err, ap, not, refl, subst, sym}
 use Rattle.sqlite.specs.Held.{state}
 use Rattle.sqlite.specs.State.{HasCleanDisk}
 use Rattle.exam_score.specs.Penalty.{total_of}
@@ -7,24 +6,15 @@ use Rattle.office_tables.specs.Alterations.{after_all}
 use Rattle.office_tables.specs.Draft.{with_draft, without_draft}
 use Rattle.office_tables.specs.Tables.{Tables}
 use Rattle.office_model.specs.DraftCommands.{draft_edited}
-use Rattle.office_model.specs.declared.fault.StoreFault.TheVariants.{Store}
 use Rattle.office_store.specs.Running.{CommandRan}
-use Rattle.office_store.proofs.CommandLemmas.{awake_inside, refuses_on, rests, runs, runs_then}
+use Rattle.office_store.proofs.CommandLemmas.{awake_inside, refuses_on, rests, runs_then}
 use Rattle.office_store.proofs.CommandLemmas.{stays_on, stays_then}
 use Rattle.office_store.proofs.EditCallLemmas.{edit_moves, edit_remembers}
-use Rattle.office_store.proofs.RunLemmas.{made_on, rest_failed, rest_read, still_failed, still_read}
+use Rattle.office_store.proofs.RunLemmas.{made_on, rest_failed, rest_read, still_read}
 use Rattle.office_store.proofs.SlotLemmas.{move_made}
 use Rattle.office_store.proofs.TogetherLemmas.{draft_together}
-use Rattle.office_store.proofs.LeavingLemmas.{changed_on, is_failed, survives_by, survives_at}
-use Rattle.office_store.proofs.LeavingLemmas.{survives_more, survives_on}
+use Rattle.office_store.proofs.LeavingLemmas.{altered_on, done_next, undone_next}
 use Rattle.office_store.proofs.office.Office.edit.Goals as goal
-
-pub returns-in_err-look-clause-leaves : goal.returns-in_err-look-clause-leaves
-returns-in_err-look-clause-leaves g c = record {
-  all_committed = search rules;
-  survives = survives_more (state g.S.Store c.args.self.now) (state g.S.Store c.look.new.self) _
-      c.look.ensures.survives;
-}
 
 -- the edit is refused
 pub invariant_of-self : goal.invariant_of-self
@@ -49,10 +39,10 @@ returns-in_err-new-clause-runs g c =
     let is : c.from_residual-in_err-new.result ≡ Err fault = search rules in
     subst (CommandRan g.S.Store command c.args.self.now after) (sym is)
     (runs_then g.S.Store command c.args.self.now start after (Err fault)
-    c.in_ok-look.ensures.unchanged
+    c.in_ok-look.ensures.leaves
     (λ k. subst (λ h. HasCleanDisk (state g.S.Store h)) c.self.view_is (read.clean k))
     (refuses_on g.S.Store command start inside after c.self.inside.memory
-    c.self.view_is c.self.invariant.1 c.in_ok-look.ensures.all_committed read.clean
+    c.self.view_is c.self.invariant.1 c.in_ok-look.ensures.leaves.all_committed read.clean
     (still_read (state g.S.Store inside) (state g.S.Store after) c.self.inside.memory
     c.self.invariant.1 read.clean
     (c.is_autocommit-at_rest.ensures.settled
@@ -60,26 +50,9 @@ returns-in_err-new-clause-runs g c =
     read.was_open read.kept)
     fault
     (λ k o here is. c.in_err-new.ensures.edits k
-    (awake_inside g.S.Store start inside c.self.view_is c.in_ok-look.ensures.all_committed
+    (awake_inside g.S.Store start inside c.self.view_is c.in_ok-look.ensures.leaves.all_committed
     (read.clean k))
     o here is)))
-
-pub returns-in_err-new-clause-stays : goal.returns-in_err-new-clause-stays
-returns-in_err-new-clause-stays g c =
-    let start = c.look.new.self in
-    let inside = c.self.inside.conn in
-    let after = c.edited_draft.new.conn in
-    let read = c.edited_draft.ensures.read in
-    stays_then g.S.Store c.args.self.now start after c.from_residual-in_err-new.result
-    c.in_ok-look.ensures.unchanged
-    (λ k. subst (λ h. HasCleanDisk (state g.S.Store h)) c.self.view_is (read.clean k))
-    (stays_on g.S.Store start inside after c.self.view_is
-    (still_read (state g.S.Store inside) (state g.S.Store after) c.self.inside.memory
-    c.self.invariant.1 read.clean
-    (c.is_autocommit-at_rest.ensures.settled
-    (c.is_autocommit-at_rest.ensures.value ∙ ap not c.self.invariant.0))
-    read.was_open read.kept)
-    c.from_residual-in_err-new.result)
 
 -- the transaction fails
 pub invariant_of-self-in_err-put : goal.invariant_of-self-in_err-put
@@ -93,76 +66,6 @@ invariant_of-self-in_err-put g c = (
       c.in_err-put.ensures.undone,
   c.self.invariant.2,
 )
-
-pub returns-in_err-put-clause-runs : goal.returns-in_err-put-clause-runs
-returns-in_err-put-clause-runs g c =
-    let start = c.look.new.self in
-    let inside = c.self.inside.conn in
-    let mid = c.edited_draft.new.conn in
-    let after = c.put.new.conn in
-    let read = c.edited_draft.ensures.read in
-    let command = draft_edited c.args.number c.args.edit in
-    let given = err_from_is_err_and c.from_residual-in_err-put.result
-    c.from_residual-in_err-put.ensures.1 in
-    subst (CommandRan g.S.Store command c.args.self.now after)
-    (sym (given.1 ∙ ap Err given.2))
-    (runs_then g.S.Store command c.args.self.now start after (Err Store)
-    c.in_ok-look.ensures.unchanged
-    (λ k. subst (λ h. HasCleanDisk (state g.S.Store h)) c.self.view_is
-    (read.clean (c.put.ensures.clean k)))
-    (refuses_on g.S.Store command start inside after c.self.inside.memory
-    c.self.view_is c.self.invariant.1 c.in_ok-look.ensures.all_committed
-    (λ k. read.clean (c.put.ensures.clean k))
-    (still_failed g.S.Store inside mid after c.self.inside.memory c.self.invariant.1
-    (c.is_autocommit-at_rest.ensures.settled
-    (c.is_autocommit-at_rest.ensures.value ∙ ap not c.self.invariant.0))
-    read c.in_ok-new.ensures.same c.put.ensures.clean c.in_err-put.ensures.undone)
-    Store (λ k o kept is. tt)))
-
-pub returns-in_err-put-clause-stays : goal.returns-in_err-put-clause-stays
-returns-in_err-put-clause-stays g c =
-    let start = c.look.new.self in
-    let inside = c.self.inside.conn in
-    let after = c.put.new.conn in
-    let read = c.edited_draft.ensures.read in
-    stays_then g.S.Store c.args.self.now start after c.from_residual-in_err-put.result
-    c.in_ok-look.ensures.unchanged
-    (λ k. subst (λ h. HasCleanDisk (state g.S.Store h)) c.self.view_is
-    (read.clean (c.put.ensures.clean k)))
-    (stays_on g.S.Store start inside after c.self.view_is
-    (still_failed g.S.Store inside c.edited_draft.new.conn after c.self.inside.memory
-    c.self.invariant.1
-    (c.is_autocommit-at_rest.ensures.settled
-    (c.is_autocommit-at_rest.ensures.value ∙ ap not c.self.invariant.0))
-    read c.in_ok-new.ensures.same c.put.ensures.clean c.in_err-put.ensures.undone)
-    c.from_residual-in_err-put.result)
-
-pub returns-clause-runs : goal.returns-clause-runs
-returns-clause-runs g c =
-    let start = c.look.new.self in
-    let inside = c.self.inside.conn in
-    let mid = c.edited_draft.new.conn in
-    let after = c.put.new.conn in
-    let read = c.edited_draft.ensures.read in
-    let d = c.args.number in
-    let draft = c.in_ok-new.new.draft in
-    let row = c.draft_row.result in
-    let places = c.deref.result.now in
-    let make : Tables → Tables
-    = λ t. after_all move_made places (with_draft row (without_draft d t)) in
-    runs g.S.Store (draft_edited d c.args.edit) c.args.self.now start inside
-    c.self.inside.memory c.self.view_is c.self.invariant.1 c.in_ok-look.ensures.all_committed
-    c.in_ok-look.ensures.unchanged after c.total.result (λ k. read.clean (c.put.ensures.clean k))
-    (λ k. let all_committed = awake_inside g.S.Store start inside c.self.view_is
-    c.in_ok-look.ensures.all_committed
-    (read.clean (c.put.ensures.clean k)) in
-    edit_moves (state g.S.Store inside).now (state g.S.Store after).now c.self.inside.memory d
-    c.args.edit draft row c.total.result places
-    (λ o here is. c.in_ok-new.ensures.edits (c.put.ensures.clean k) all_committed o here is)
-    c.draft_row.ensures.number c.draft_row.ensures.parts c.total.ensures.total
-    (c.deref.ensures.value ∙ c.in_ok-new.ensures.places)
-    (made_on g.S.Store inside mid (state g.S.Store after).now c.in_ok-new.ensures.same
-    (c.put.ensures.clean k) all_committed.0 make (c.in_ok-put.ensures.done k).makes))
 
 pub invariant_of-self-2 : goal.invariant_of-self-2
 invariant_of-self-2 g c =
@@ -182,10 +85,10 @@ invariant_of-self-2 g c =
           c.self.inside.memory c.put-2.new.self c.total.result c.self.invariant.1
           (λ k. read.clean (c.put.ensures.clean k))
           (λ k. (awake_inside g.S.Store start inside c.self.view_is
-          c.in_ok-look.ensures.all_committed
+          c.in_ok-look.ensures.leaves.all_committed
           (read.clean (c.put.ensures.clean k))).0)
           (λ k. let all_committed = awake_inside g.S.Store start inside c.self.view_is
-          c.in_ok-look.ensures.all_committed (read.clean (c.put.ensures.clean k)) in
+          c.in_ok-look.ensures.leaves.all_committed (read.clean (c.put.ensures.clean k)) in
           edit_moves (state g.S.Store inside).now (state g.S.Store after).now
           c.self.inside.memory d c.args.edit draft row c.total.result places
           (λ o here is. c.in_ok-new.ensures.edits (c.put.ensures.clean k) all_committed o here is)
@@ -194,7 +97,7 @@ invariant_of-self-2 g c =
           (made_on g.S.Store inside mid (state g.S.Store after).now c.in_ok-new.ensures.same
           (c.put.ensures.clean k) all_committed.0 make (c.in_ok-put.ensures.done k).makes))
           (λ k. let all_committed = awake_inside g.S.Store start inside c.self.view_is
-          c.in_ok-look.ensures.all_committed (read.clean (c.put.ensures.clean k)) in
+          c.in_ok-look.ensures.leaves.all_committed (read.clean (c.put.ensures.clean k)) in
           edit_remembers (state g.S.Store inside).now c.self.inside.memory c.put-2.new.self d
           c.args.edit draft c.total.result
           (λ o here is. c.in_ok-new.ensures.edits (c.put.ensures.clean k) all_committed o here is)
@@ -208,73 +111,76 @@ edited_draft-requires g c = record { together = c.self.invariant.2 }
 
 pub returns-in_err-new-clause-leaves : goal.returns-in_err-new-clause-leaves
 returns-in_err-new-clause-leaves g c = record {
+  clean = search rules;
+  unchanged_on_err = let start = c.look.new.self in
+      let inside = c.self.inside.conn in
+      let after = c.edited_draft.new.conn in
+      let read = c.edited_draft.ensures.read in
+      stays_then g.S.Store c.args.self.now start after c.from_residual-in_err-new.result
+      c.in_ok-look.ensures.leaves
+      (λ k. subst (λ h. HasCleanDisk (state g.S.Store h)) c.self.view_is (read.clean k))
+      (stays_on g.S.Store start inside after c.self.view_is
+      (still_read (state g.S.Store inside) (state g.S.Store after) c.self.inside.memory
+      c.self.invariant.1 read.clean
+      (c.is_autocommit-at_rest.ensures.settled
+      (c.is_autocommit-at_rest.ensures.value ∙ ap not c.self.invariant.0))
+      read.was_open read.kept)
+      c.from_residual-in_err-new.result);
   all_committed = search rules;
-  survives = survives_more (state g.S.Store c.args.self.now) (state g.S.Store
-      c.edited_draft.new.conn) _
-      (survives_on (state g.S.Store c.args.self.now) (state g.S.Store c.look.new.self)
-      (state g.S.Store c.edited_draft.new.conn) c.look.ensures.survives
-      (survives_at g.S.Store c.look.new.self c.self.inside.conn c.edited_draft.new.conn _
-      c.self.view_is c.edited_draft.ensures.read.survives));
+  survives = search rules;
 }
 
-pub returns-in_err-put-clause-leaves : goal.returns-in_err-put-clause-leaves
-returns-in_err-put-clause-leaves g c = record {
-  all_committed = search rules;
-  survives = let start = c.look.new.self in
-      let inside = c.self.inside.conn in
-      let mid = c.edited_draft.new.conn in
-      let after = c.put.new.conn in
-      let read = c.edited_draft.ensures.read in
-      let d = c.args.number in
-      let draft = c.in_ok-new.new.draft in
-      let row = c.draft_row.result in
-      let places = c.deref.result.now in
-      let make : Tables → Tables
-      = λ t. after_all move_made places (with_draft row (without_draft d t)) in
-      survives_by g.S.Store (draft_edited d c.args.edit) c.args.self.now start inside after
-      c.self.inside.memory c.self.view_is c.self.invariant.1 c.in_ok-look.ensures.all_committed
-      c.in_ok-look.ensures.unchanged c.look.ensures.survives make (total_of draft.parts)
-      (changed_on g.S.Store inside mid after read.survives c.in_ok-new.ensures.same
-      (λ k. (awake_inside g.S.Store start inside c.self.view_is c.in_ok-look.ensures.all_committed
-      k).0)
-      make c.put.ensures.survives)
-      (λ k found changed. let all_committed = awake_inside g.S.Store start inside c.self.view_is
-      c.in_ok-look.ensures.all_committed (read.clean (c.put.ensures.clean k)) in
-      edit_moves (state g.S.Store inside).now _ c.self.inside.memory d c.args.edit draft row
-      (total_of draft.parts) places
-      (λ o here is. c.in_ok-new.ensures.edits (c.put.ensures.clean k) all_committed o here is)
-      c.draft_row.ensures.number c.draft_row.ensures.parts refl (c.deref.ensures.value
-      ∙ c.in_ok-new.ensures.places) changed)
-      c.from_residual-in_err-put.result (is_failed _ c.from_residual-in_err-put.ensures.1);
-}
+pub returns : goal.returns
+returns g c =
+    let start = c.look.new.self in
+    let inside = c.self.inside.conn in
+    let mid = c.edited_draft.new.conn in
+    let d = c.args.number in
+    let draft = c.in_ok-new.new.draft in
+    let row = c.draft_row.result in
+    let places = c.deref.result.now in
+    let make : Tables → Tables
+    = λ t. after_all move_made places (with_draft row (without_draft d t)) in
+    let committed = awake_inside g.S.Store start inside c.self.view_is
+    c.in_ok-look.ensures.leaves.all_committed in
+    let next = done_next g.S.Store (draft_edited d c.args.edit) c.args.self.now start inside
+    c.put.new.conn c.self.inside.memory c.self.view_is c.self.invariant.1
+    c.in_ok-look.ensures.leaves make c.total.result
+    (altered_on g.S.Store inside mid c.put.new.conn c.self.inside.memory c.self.invariant.1
+    c.edited_draft.ensures.read c.in_ok-new.ensures.same (λ k. (committed k).0) make _
+    c.in_ok-put.ensures)
+    (λ k db makes. edit_moves (state g.S.Store inside).now db c.self.inside.memory d c.args.edit
+    draft row c.total.result places
+    (λ o here is. c.in_ok-new.ensures.edits (c.put.ensures.clean k)
+    (committed (c.edited_draft.ensures.read.clean (c.put.ensures.clean k))) o here is)
+    c.draft_row.ensures.number c.draft_row.ensures.parts c.total.ensures.total
+    (c.deref.ensures.value ∙ c.in_ok-new.ensures.places) makes) in
+    record { runs = next.0; leaves = next.1 }
 
-pub returns-clause-leaves : goal.returns-clause-leaves
-returns-clause-leaves g c = record {
-  all_committed = search rules;
-  survives = let start = c.look.new.self in
-      let inside = c.self.inside.conn in
-      let mid = c.edited_draft.new.conn in
-      let after = c.put.new.conn in
-      let read = c.edited_draft.ensures.read in
-      let d = c.args.number in
-      let draft = c.in_ok-new.new.draft in
-      let row = c.draft_row.result in
-      let places = c.deref.result.now in
-      let make : Tables → Tables
-      = λ t. after_all move_made places (with_draft row (without_draft d t)) in
-      survives_by g.S.Store (draft_edited d c.args.edit) c.args.self.now start inside after
-      c.self.inside.memory c.self.view_is c.self.invariant.1 c.in_ok-look.ensures.all_committed
-      c.in_ok-look.ensures.unchanged c.look.ensures.survives make (total_of draft.parts)
-      (changed_on g.S.Store inside mid after read.survives c.in_ok-new.ensures.same
-      (λ k. (awake_inside g.S.Store start inside c.self.view_is c.in_ok-look.ensures.all_committed
-      k).0)
-      make c.put.ensures.survives)
-      (λ k found changed. let all_committed = awake_inside g.S.Store start inside c.self.view_is
-      c.in_ok-look.ensures.all_committed (read.clean (c.put.ensures.clean k)) in
-      edit_moves (state g.S.Store inside).now _ c.self.inside.memory d c.args.edit draft row
-      (total_of draft.parts) places
-      (λ o here is. c.in_ok-new.ensures.edits (c.put.ensures.clean k) all_committed o here is)
-      c.draft_row.ensures.number c.draft_row.ensures.parts refl (c.deref.ensures.value
-      ∙ c.in_ok-new.ensures.places) changed)
-      (Ok c.total.result) tt;
-}
+pub returns-in_err-put : goal.returns-in_err-put
+returns-in_err-put g c =
+    let start = c.look.new.self in
+    let inside = c.self.inside.conn in
+    let mid = c.edited_draft.new.conn in
+    let d = c.args.number in
+    let draft = c.in_ok-new.new.draft in
+    let row = c.draft_row.result in
+    let places = c.deref.result.now in
+    let make : Tables → Tables
+    = λ t. after_all move_made places (with_draft row (without_draft d t)) in
+    let committed = awake_inside g.S.Store start inside c.self.view_is
+    c.in_ok-look.ensures.leaves.all_committed in
+    let next = undone_next g.S.Store (draft_edited d c.args.edit) c.args.self.now start inside
+    c.put.new.conn c.self.inside.memory c.self.view_is c.self.invariant.1
+    c.in_ok-look.ensures.leaves make (total_of draft.parts)
+    (altered_on g.S.Store inside mid c.put.new.conn c.self.inside.memory c.self.invariant.1
+    c.edited_draft.ensures.read c.in_ok-new.ensures.same (λ k. (committed k).0) make _
+    c.in_err-put.ensures)
+    (λ k db makes. edit_moves (state g.S.Store inside).now db c.self.inside.memory d c.args.edit
+    draft row (total_of draft.parts) places
+    (λ o here is. c.in_ok-new.ensures.edits (c.put.ensures.clean k)
+    (committed (c.edited_draft.ensures.read.clean (c.put.ensures.clean k))) o here is)
+    c.draft_row.ensures.number c.draft_row.ensures.parts refl
+    (c.deref.ensures.value ∙ c.in_ok-new.ensures.places) makes)
+    c.from_residual-in_err-put.result c.from_residual-in_err-put.ensures.1 in
+    record { runs = next.0; leaves = next.1 }

@@ -1,5 +1,4 @@
 use Rattle.std.proofs.Common.{◌≡◌, ◌∙◌, Ok, Some, None, ap, rules, sym, subst}
-use Rattle.std.proofs.lemmas.Result.{on_err_weaker}
 use Rattle.sqlite.specs.Held.{state}
 use Rattle.office_model.specs.Batches.{batch_enrolled, batch_of_number}
 use Rattle.office_store.specs.NewBatches.{IsRowOf}
@@ -7,16 +6,15 @@ use Rattle.office_store.specs.Running.{CommandOutcome, Represents}
 use Rattle.office_store.proofs.CommandLemmas.{stays_by}
 use Rattle.office_store.proofs.KeptBatchLemmas.{again_does, no_row_of}
 use Rattle.office_store.proofs.ReadLemmas.{does_now}
-use Rattle.office_store.proofs.RunLemmas.{still_then}
-use Rattle.office_store.proofs.LeavingLemmas.{survives_more, survives_same, survives_next}
+use Rattle.office_store.proofs.LeavingLemmas.{leaves_then}
 use Rattle.office_store.proofs.office.Office.enrol_batch.Goals as goal
 
 -- a number that is kept
 pub returns-in-Some-clause-runs : goal.returns-in-Some-clause-runs
 returns-in-Some-clause-runs g c clean o now =
     let mid = c.kept_batch.new.self in
-    let still = stays_by g.S.Store c.args.self.now mid c.in_ok-kept.ensures.unchanged in
-    let opened = (c.in_ok-kept.ensures.all_committed clean).0 in
+    let still = stays_by g.S.Store c.args.self.now mid c.in_ok-kept.ensures.leaves in
+    let opened = (c.in_ok-kept.ensures.leaves.all_committed clean).0 in
     let here = still clean o now opened in
     let found : c.in_ok-kept.kept ≡ Some c.in-Some.row = search rules in
     does_now (batch_enrolled c.args.number c.args.text.now o) o (Represents (state g.S.Store mid))
@@ -24,25 +22,18 @@ returns-in-Some-clause-runs g c clean o now =
     (subst (CommandOutcome (batch_enrolled c.args.number c.args.text.now o) o (λ new. new ≡ o))
     (sym c.first_answer.ensures)
     (again_does o c.args.number c.args.text.now _ c.in-Some.row c.in-Ok.ensures.exact
-    (subst (IsRowOf (batch_of_number o c.args.number)) found (c.in_ok-kept.ensures.row clean o here))))
+    (subst (IsRowOf (batch_of_number o c.args.number)) found (c.in_ok-kept.ensures.row clean o
+    here))))
     (λ _. here)
 
 -- a number that isn't kept
 pub returns-clause-runs : goal.returns-clause-runs
 returns-clause-runs g c clean o now =
     c.enrol_new.ensures.runs clean o
-    (stays_by g.S.Store c.args.self.now c.kept_batch.new.self c.in_ok-kept.ensures.unchanged
-    (c.enrol_new.ensures.clean clean) o now)
+    (stays_by g.S.Store c.args.self.now c.kept_batch.new.self c.in_ok-kept.ensures.leaves
+    (c.enrol_new.ensures.leaves.clean clean) o now)
 
 -- nothing had changed before
-pub returns-clause-stays : goal.returns-clause-stays
-returns-clause-stays g c clean =
-    on_err_weaker c.enrol_new.result
-    (still_then (state g.S.Store c.args.self.now) (state g.S.Store c.kept_batch.new.self)
-    (state g.S.Store c.enrol_new.new.self)
-    (c.in_ok-kept.ensures.unchanged (c.enrol_new.ensures.clean clean)))
-    (c.enrol_new.ensures.stays clean)
-
 pub enrol_new-requires : goal.enrol_new-requires
 enrol_new-requires g c = record {
   number = c.requires.number;
@@ -50,37 +41,13 @@ enrol_new-requires g c = record {
   is_new = λ clean o kept.
       let none : c.in_ok-kept.kept ≡ None = search rules in
       no_row_of o c.args.number
-      (subst (IsRowOf (batch_of_number o c.args.number)) none (c.in_ok-kept.ensures.row clean o kept));
-  all_committed = λ clean. c.in_ok-kept.ensures.all_committed clean;
-}
-
-pub returns-in-Err-clause-leaves : goal.returns-in-Err-clause-leaves
-returns-in-Err-clause-leaves g c = record {
-  all_committed = search rules;
-  survives = survives_more (state g.S.Store c.args.self.now) (state g.S.Store c.args.self.now) _
-      (survives_same (state g.S.Store c.args.self.now));
-}
-
-pub returns-in_err-kept-clause-leaves : goal.returns-in_err-kept-clause-leaves
-returns-in_err-kept-clause-leaves g c = record {
-  all_committed = search rules;
-  survives = survives_more (state g.S.Store c.args.self.now) (state g.S.Store
-      c.kept_batch.new.self) _
-      c.kept_batch.ensures.survives;
-}
-
-pub returns-in-Some-clause-leaves : goal.returns-in-Some-clause-leaves
-returns-in-Some-clause-leaves g c = record {
-  all_committed = search rules;
-  survives = survives_more (state g.S.Store c.args.self.now) (state g.S.Store
-      c.kept_batch.new.self) _
-      c.kept_batch.ensures.survives;
+      (subst (IsRowOf (batch_of_number o c.args.number)) none (c.in_ok-kept.ensures.row clean o
+      kept));
+  all_committed = λ clean. c.in_ok-kept.ensures.leaves.all_committed clean;
 }
 
 pub returns-clause-leaves : goal.returns-clause-leaves
-returns-clause-leaves g c = record {
-  all_committed = search rules;
-  survives = survives_next g.S.Store (batch_enrolled c.args.number c.args.text.now) c.args.self.now
-      c.kept_batch.new.self c.enrol_new.new.self c.enrol_new.result c.kept_batch.ensures.survives
-      c.in_ok-kept.ensures.unchanged c.enrol_new.ensures.clean c.enrol_new.ensures.leaves.survives;
-}
+returns-clause-leaves g c =
+    leaves_then g.S.Store (batch_enrolled c.args.number c.args.text.now) c.args.self.now
+    c.kept_batch.new.self c.enrol_new.new.self c.enrol_new.result c.in_ok-kept.ensures.leaves
+    c.enrol_new.ensures.leaves

@@ -1,4 +1,4 @@
-use Rattle.std.proofs.Common.{rules, ◌≡◌, Err, None, Ok, arith, refl, sym, subst}
+use Rattle.std.proofs.Common.{rules, ◌≡◌, Err, None, arith, refl, sym, subst}
 use Rattle.sqlite.specs.Held.{state}
 use Rattle.office_model.specs.Batches.{batch_enrolled, batch_of_number}
 use Rattle.office_model.specs.declared.fault.StoreFault.TheVariants.{NotLoaded}
@@ -7,17 +7,16 @@ use Rattle.office_store.specs.Running.{CommandRan}
 use Rattle.office_records.specs.Memory.{AreTogether}
 use Rattle.office_store.proofs.BatchPuttingLemmas.{enrol_denied, enrol_moves, enrol_remembers}
 use Rattle.office_store.proofs.CommandLemmas.{not_loaded, refuses, rests}
-use Rattle.office_store.proofs.CommandLemmas.{runs, seen}
+use Rattle.office_store.proofs.CommandLemmas.{seen}
 use Rattle.office_store.proofs.TogetherLemmas.{renewed_together}
-use Rattle.office_store.proofs.LeavingLemmas.{survives_more, survives_same}
-use Rattle.office_store.proofs.LeavingLemmas.{is_failed, survives_by}
+use Rattle.office_store.proofs.LeavingLemmas.{done_next, leaves_itself, undone_next}
 use Rattle.office_store.proofs.office.Office.enrol_new.Goals as goal
 
 pub returns-in_default-clause-runs : goal.returns-in_default-clause-runs
 returns-in_default-clause-runs g c =
     refuses g.S.Store (batch_enrolled c.args.number c.args.text.now) c.args.self.now
     c.args.self.now c.self.inside.conn c.self.inside.memory c.self.view_is c.self.invariant.1
-    c.requires.all_committed (λ _ opened. (opened, refl)) NotLoaded
+    (leaves_itself g.S.Store c.args.self.now c.requires.all_committed) NotLoaded
     (λ _. not_loaded (batch_enrolled c.args.number c.args.text.now) _ _ c.in_default.is
     (rw c.requires.spelled refl))
 
@@ -32,38 +31,12 @@ returns-in_err-new-clause-runs g c =
     let is : c.from_residual.result ≡ Err fault = search rules in
     subst (CommandRan g.S.Store (batch_enrolled number text) start start) (sym is)
     (refuses g.S.Store (batch_enrolled number text) start start inside c.self.inside.memory
-    c.self.view_is c.self.invariant.1 c.requires.all_committed (λ _ opened. (opened, refl)) fault
+    c.self.view_is c.self.invariant.1 (leaves_itself g.S.Store c.args.self.now
+    c.requires.all_committed) fault
     (λ k. enrol_denied number text c.args.changes.now c.requires.spelled c.in-Some.instance
     c.in-Some.enrolments (state g.S.Store start).now c.self.inside.memory c.in-Some.is
     (c.requires.is_new k) fault
     (λ r here is memory. c.in_err-new.ensures.enrols _ r here is memory)))
-
-pub returns-clause-runs : goal.returns-clause-runs
-returns-clause-runs g c =
-    let number = c.args.number in
-    let text = c.args.text.now in
-    let changes = c.args.changes.now in
-    let start = c.args.self.now in
-    let inside = c.self.inside.conn in
-    let after = c.put_batch.new.conn in
-    let new = c.in_ok-new.new in
-    runs g.S.Store (batch_enrolled number text) start start inside c.self.inside.memory
-    c.self.view_is c.self.invariant.1 c.requires.all_committed (λ _ opened. (opened, refl)) after
-    new.counts c.put_batch.ensures.clean
-    (λ k. enrol_moves number text changes c.requires.spelled c.in-Some.instance
-    c.in-Some.enrolments (state g.S.Store inside).now c.self.inside.memory c.in-Some.is
-    (seen g.S.Store start inside c.self.view_is (λ o. batch_of_number o number ≡ None)
-    c.requires.is_new (c.put_batch.ensures.clean k))
-    c.requires.number
-    (λ E done is.
-    let each = c.lines_are_counted.ensures.counted changes E done is in
-    let few = c.lines_are_counted.ensures.few text changes c.requires.spelled in
-    omega (arith, each, few))
-    (λ old after counts is gives.
-    c.batch_leaves_an_office.ensures number text old after counts c.requires.number is gives)
-    (state g.S.Store after).now new
-    (λ r here is memory. c.in_ok-new.ensures.enrols _ r here is memory)
-    (c.in_ok-put_batch.ensures.done k).makes)
 
 pub invariant_of-self-2 : goal.invariant_of-self-2
 invariant_of-self-2 g c =
@@ -128,73 +101,55 @@ put_batch-requires g c = record {
   small = c.in_ok-new.ensures.small;
 }
 
-pub returns-in_default-clause-leaves : goal.returns-in_default-clause-leaves
-returns-in_default-clause-leaves g c = record {
-  all_committed = search rules;
-  survives = survives_more (state g.S.Store c.args.self.now) (state g.S.Store c.args.self.now) _
-      (survives_same (state g.S.Store c.args.self.now));
-}
+pub returns : goal.returns
+returns g c =
+    let number = c.args.number in
+    let text = c.args.text.now in
+    let changes = c.args.changes.now in
+    let start = c.args.self.now in
+    let inside = c.self.inside.conn in
+    let new = c.in_ok-new.new in
+    let next = done_next g.S.Store (batch_enrolled number text) start start inside
+    c.put_batch.new.conn c.self.inside.memory c.self.view_is c.self.invariant.1
+    (leaves_itself g.S.Store start c.requires.all_committed) (new_batch_put number text new)
+    new.counts c.in_ok-put_batch.ensures
+    (λ k db makes. enrol_moves number text changes c.requires.spelled c.in-Some.instance
+    c.in-Some.enrolments (state g.S.Store inside).now c.self.inside.memory c.in-Some.is
+    (seen g.S.Store start inside c.self.view_is (λ o. batch_of_number o number ≡ None)
+    c.requires.is_new (c.put_batch.ensures.clean k))
+    c.requires.number
+    (λ E done is.
+    let each = c.lines_are_counted.ensures.counted changes E done is in
+    let few = c.lines_are_counted.ensures.few text changes c.requires.spelled in
+    omega (arith, each, few))
+    (λ old after counts is gives.
+    c.batch_leaves_an_office.ensures number text old after counts c.requires.number is gives)
+    _ new (λ r here is memory. c.in_ok-new.ensures.enrols _ r here is memory) makes) in
+    record { runs = next.0; leaves = next.1 }
 
-pub returns-in_err-new-clause-leaves : goal.returns-in_err-new-clause-leaves
-returns-in_err-new-clause-leaves g c = record {
-  all_committed = search rules;
-  survives = survives_more (state g.S.Store c.args.self.now) (state g.S.Store c.args.self.now) _
-      (survives_same (state g.S.Store c.args.self.now));
-}
-
-pub returns-in_err-put_batch-clause-leaves : goal.returns-in_err-put_batch-clause-leaves
-returns-in_err-put_batch-clause-leaves g c = record {
-  all_committed = search rules;
-  survives = let number = c.args.number in
-      let text = c.args.text.now in
-      let changes = c.args.changes.now in
-      let start = c.args.self.now in
-      let inside = c.self.inside.conn in
-      let new = c.in_ok-new.new in
-      survives_by g.S.Store (batch_enrolled number text) start start inside c.put_batch.new.conn
-      c.self.inside.memory c.self.view_is c.self.invariant.1 c.requires.all_committed
-      (λ _ opened. (opened, refl)) (survives_same (state g.S.Store start))
-      (new_batch_put number text new) new.counts c.put_batch.ensures.survives
-      (λ k found changed. enrol_moves number text changes c.requires.spelled c.in-Some.instance
-      c.in-Some.enrolments (state g.S.Store inside).now c.self.inside.memory c.in-Some.is
-      (seen g.S.Store start inside c.self.view_is (λ o. batch_of_number o number ≡ None)
-      c.requires.is_new (c.put_batch.ensures.clean k))
-      c.requires.number
-      (λ E done is.
-      let each = c.lines_are_counted.ensures.counted changes E done is in
-      let few = c.lines_are_counted.ensures.few text changes c.requires.spelled in
-      omega (arith, each, few))
-      (λ old after counts is gives.
-      c.batch_leaves_an_office.ensures number text old after counts c.requires.number is gives)
-      _ new (λ r here is memory. c.in_ok-new.ensures.enrols _ r here is memory) changed)
-      c.from_residual-in_err-put_batch.result (is_failed _
-      c.from_residual-in_err-put_batch.ensures.1);
-}
-
-pub returns-clause-leaves : goal.returns-clause-leaves
-returns-clause-leaves g c = record {
-  all_committed = search rules;
-  survives = let number = c.args.number in
-      let text = c.args.text.now in
-      let changes = c.args.changes.now in
-      let start = c.args.self.now in
-      let inside = c.self.inside.conn in
-      let new = c.in_ok-new.new in
-      survives_by g.S.Store (batch_enrolled number text) start start inside c.put_batch.new.conn
-      c.self.inside.memory c.self.view_is c.self.invariant.1 c.requires.all_committed
-      (λ _ opened. (opened, refl)) (survives_same (state g.S.Store start))
-      (new_batch_put number text new) new.counts c.put_batch.ensures.survives
-      (λ k found changed. enrol_moves number text changes c.requires.spelled c.in-Some.instance
-      c.in-Some.enrolments (state g.S.Store inside).now c.self.inside.memory c.in-Some.is
-      (seen g.S.Store start inside c.self.view_is (λ o. batch_of_number o number ≡ None)
-      c.requires.is_new (c.put_batch.ensures.clean k))
-      c.requires.number
-      (λ E done is.
-      let each = c.lines_are_counted.ensures.counted changes E done is in
-      let few = c.lines_are_counted.ensures.few text changes c.requires.spelled in
-      omega (arith, each, few))
-      (λ old after counts is gives.
-      c.batch_leaves_an_office.ensures number text old after counts c.requires.number is gives)
-      _ new (λ r here is memory. c.in_ok-new.ensures.enrols _ r here is memory) changed)
-      (Ok new.counts) tt;
-}
+pub returns-in_err-put_batch : goal.returns-in_err-put_batch
+returns-in_err-put_batch g c =
+    let number = c.args.number in
+    let text = c.args.text.now in
+    let changes = c.args.changes.now in
+    let start = c.args.self.now in
+    let inside = c.self.inside.conn in
+    let new = c.in_ok-new.new in
+    let next = undone_next g.S.Store (batch_enrolled number text) start start inside
+    c.put_batch.new.conn c.self.inside.memory c.self.view_is c.self.invariant.1
+    (leaves_itself g.S.Store start c.requires.all_committed) (new_batch_put number text new)
+    new.counts c.in_err-put_batch.ensures
+    (λ k db makes. enrol_moves number text changes c.requires.spelled c.in-Some.instance
+    c.in-Some.enrolments (state g.S.Store inside).now c.self.inside.memory c.in-Some.is
+    (seen g.S.Store start inside c.self.view_is (λ o. batch_of_number o number ≡ None)
+    c.requires.is_new (c.put_batch.ensures.clean k))
+    c.requires.number
+    (λ E done is.
+    let each = c.lines_are_counted.ensures.counted changes E done is in
+    let few = c.lines_are_counted.ensures.few text changes c.requires.spelled in
+    omega (arith, each, few))
+    (λ old after counts is gives.
+    c.batch_leaves_an_office.ensures number text old after counts c.requires.number is gives)
+    _ new (λ r here is memory. c.in_ok-new.ensures.enrols _ r here is memory) makes)
+    c.from_residual-in_err-put_batch.result c.from_residual-in_err-put_batch.ensures.1 in
+    record { runs = next.0; leaves = next.1 }

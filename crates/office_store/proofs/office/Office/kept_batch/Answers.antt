@@ -3,7 +3,6 @@ use Rattle.sqlite.specs.Held.{state}
 use Rattle.office_tables.specs.declared.version.Version.TheVariants.{Two}
 use Rattle.office_store.proofs.KeptBatchLemmas.{batch_read}
 use Rattle.office_store.proofs.RunLemmas.{kept_read, rest_read}
-use Rattle.office_store.proofs.LeavingLemmas.{survives_at}
 use Rattle.office_store.proofs.office.Office.kept_batch.Goals as goal
 
 pub invariant_of-self : goal.invariant_of-self
@@ -28,13 +27,3 @@ returns-clause-row g c clean office here =
     c.in_ok-row.ensures.open (c.in_ok-row.ensures.same Two) clean office here in
     batch_read kept.held office c.args.number c.in_ok-row.row kept.represents kept.office
     (c.in_ok-row.ensures.row Two clean kept.held kept.tables)
-
-pub returns-in_err-row-clause-survives : goal.returns-in_err-row-clause-survives
-returns-in_err-row-clause-survives g c =
-    survives_at g.S.Store c.args.self.now c.self.inside.conn c.batch_of.new.conn _ c.self.view_is
-    c.batch_of.ensures.survives
-
-pub returns-clause-survives : goal.returns-clause-survives
-returns-clause-survives g c =
-    survives_at g.S.Store c.args.self.now c.self.inside.conn c.batch_of.new.conn _ c.self.view_is
-    c.batch_of.ensures.survives

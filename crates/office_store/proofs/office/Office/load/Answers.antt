@@ -1,4 +1,4 @@
-use Rattle.std.proofs.Common.{rules, ◌≡◌, ◌∙◌, true, false, Ok}
+use Rattle.std.proofs.Common.{rules, ◌≡◌, ◌∙◌, true, false}
 use Rattle.std.specs.Prelude.{is_some}
 use Rattle.sqlite.specs.Held.{state}
 use Rattle.exam_model.specs.Enrolments.{Enrolled}
@@ -6,37 +6,18 @@ use Rattle.exam_model.specs.Instance.{Session}
 use Rattle.office_model.specs.Loading.{loaded}
 use Rattle.office_model.specs.declared.fault.StoreFault.TheVariants.{Loaded}
 use Rattle.office_model.proofs.RecordLemmas.{are_enrolled}
-use Rattle.office_store.proofs.CommandLemmas.{refuses, rests, runs, runs_undone, stays_undone}
+use Rattle.office_store.proofs.CommandLemmas.{refuses, rests}
 use Rattle.office_store.proofs.LoadLemmas.{as_many, load_denied, load_moves, load_remembers, same_pairs}
 use Rattle.office_store.proofs.TogetherLemmas.{loaded_together}
-use Rattle.office_store.proofs.LeavingLemmas.{survives_more, is_failed, survives_by, survives_same}
+use Rattle.office_store.proofs.LeavingLemmas.{done_next, undone_next}
 use Rattle.office_store.proofs.office.Office.load.Goals as goal
 
 pub returns-then-is_some-clause-runs : goal.returns-then-is_some-clause-runs
 returns-then-is_some-clause-runs g c =
     let some : is_some c.self.inside.memory.kept ≡ true = search rules in
     refuses g.S.Store (loaded c.args.text.now) c.args.self.now c.look.new.self c.self.inside.conn
-    c.self.inside.memory c.self.view_is c.self.invariant.1 c.in_ok-look.ensures.all_committed
-    c.in_ok-look.ensures.unchanged Loaded
+    c.self.inside.memory c.self.view_is c.self.invariant.1 c.in_ok-look.ensures.leaves Loaded
     (λ _. load_denied c.args.text.now _ _ c.self.inside.memory c.in-Ok.ensures.exact some)
-
-pub returns-clause-runs : goal.returns-clause-runs
-returns-clause-runs g c =
-    let I : Session = c.in-Ok.read.0 in
-    let E : Enrolled = c.in-Ok.read.1 in
-    let no : is_some c.self.inside.memory.kept ≡ false = search rules in
-    let are = are_enrolled I E c.counts_of-loaded.ensures.enrolments
-    (as_many c.args.text.now I E c.in-Ok.ensures.reading) in
-    runs g.S.Store (loaded c.args.text.now) c.args.self.now c.look.new.self c.self.inside.conn
-    c.self.inside.memory c.self.view_is c.self.invariant.1 c.in_ok-look.ensures.all_committed
-    c.in_ok-look.ensures.unchanged c.put.new.conn c.counts_of-loaded.result
-    c.put.ensures.clean
-    (λ k. load_moves c.args.text.now I E c.counts_of-loaded.result c.deref.result.now
-    c.deref-2.result.now _ _ c.self.inside.memory c.in-Ok.ensures.exact
-    c.counts_of-loaded.ensures.counts (c.deref.ensures.value ∙ c.in_ok-stored.ensures.text)
-    (same_pairs _ _ E c.deref-2.ensures.value c.in_ok-rows.ensures)
-    c.counts_of-loaded.ensures.instance are no
-    (c.in_ok-put.ensures.done k).makes)
 
 pub invariant_of-self-2 : goal.invariant_of-self-2
 invariant_of-self-2 g c =
@@ -66,99 +47,49 @@ invariant_of-self-2 g c =
     )
 
 -- what was read is the session of the text
-pub returns-clause-counts : goal.returns-clause-counts
-returns-clause-counts g c = (
-  (c.in-Ok.read.0, c.in-Ok.read.1),
-  c.in-Ok.ensures.exact,
-  c.counts_of-loaded.ensures.counts,
-)
-
-pub returns-in_err-look-clause-leaves : goal.returns-in_err-look-clause-leaves
-returns-in_err-look-clause-leaves g c = record {
-  all_committed = search rules;
-  survives = survives_more (state g.S.Store c.args.self.now) (state g.S.Store c.look.new.self) _
-      c.look.ensures.survives;
-}
-
-pub returns-then-is_some-clause-leaves : goal.returns-then-is_some-clause-leaves
-returns-then-is_some-clause-leaves g c = record {
-  all_committed = search rules;
-  survives = survives_more (state g.S.Store c.args.self.now) (state g.S.Store c.look.new.self) _
-      c.look.ensures.survives;
-}
-
-pub returns-in_err-stored-clause-leaves : goal.returns-in_err-stored-clause-leaves
-returns-in_err-stored-clause-leaves g c = record {
-  all_committed = search rules;
-  survives = survives_more (state g.S.Store c.args.self.now) (state g.S.Store c.look.new.self) _
-      c.look.ensures.survives;
-}
-
-pub returns-in_err-rows-clause-leaves : goal.returns-in_err-rows-clause-leaves
-returns-in_err-rows-clause-leaves g c = record {
-  all_committed = search rules;
-  survives = survives_more (state g.S.Store c.args.self.now) (state g.S.Store c.look.new.self) _
-      c.look.ensures.survives;
-}
-
-pub returns-in_err-put-clause-leaves : goal.returns-in_err-put-clause-leaves
-returns-in_err-put-clause-leaves g c = record {
-  all_committed = search rules;
-  survives = let I : Session = c.in-Ok.read.0 in
-      let E : Enrolled = c.in-Ok.read.1 in
-      let no : is_some c.self.inside.memory.kept ≡ false = search rules in
-      let are = are_enrolled I E c.counts_of-loaded.ensures.enrolments
-      (as_many c.args.text.now I E c.in-Ok.ensures.reading) in
-      survives_by g.S.Store (loaded c.args.text.now) c.args.self.now c.look.new.self
-      c.self.inside.conn c.put.new.conn c.self.inside.memory c.self.view_is
-      c.self.invariant.1 c.in_ok-look.ensures.all_committed c.in_ok-look.ensures.unchanged
-      c.look.ensures.survives _ c.counts_of-loaded.result c.put.ensures.survives
-      (λ k found changed. load_moves c.args.text.now I E c.counts_of-loaded.result
-      c.deref.result.now c.deref-2.result.now _ _ c.self.inside.memory c.in-Ok.ensures.exact
-      c.counts_of-loaded.ensures.counts (c.deref.ensures.value ∙ c.in_ok-stored.ensures.text)
-      (same_pairs _ _ E c.deref-2.ensures.value c.in_ok-rows.ensures)
-      c.counts_of-loaded.ensures.instance are no changed)
-      c.from_residual-in_err-put.result (is_failed _ c.from_residual-in_err-put.ensures.1);
-}
-
-pub returns-clause-leaves : goal.returns-clause-leaves
-returns-clause-leaves g c = record {
-  all_committed = search rules;
-  survives = let I : Session = c.in-Ok.read.0 in
-      let E : Enrolled = c.in-Ok.read.1 in
-      let no : is_some c.self.inside.memory.kept ≡ false = search rules in
-      let are = are_enrolled I E c.counts_of-loaded.ensures.enrolments
-      (as_many c.args.text.now I E c.in-Ok.ensures.reading) in
-      survives_by g.S.Store (loaded c.args.text.now) c.args.self.now c.look.new.self
-      c.self.inside.conn c.put.new.conn c.self.inside.memory c.self.view_is
-      c.self.invariant.1 c.in_ok-look.ensures.all_committed c.in_ok-look.ensures.unchanged
-      c.look.ensures.survives _ c.counts_of-loaded.result c.put.ensures.survives
-      (λ k found changed. load_moves c.args.text.now I E c.counts_of-loaded.result
-      c.deref.result.now c.deref-2.result.now _ _ c.self.inside.memory c.in-Ok.ensures.exact
-      c.counts_of-loaded.ensures.counts (c.deref.ensures.value ∙ c.in_ok-stored.ensures.text)
-      (same_pairs _ _ E c.deref-2.ensures.value c.in_ok-rows.ensures)
-      c.counts_of-loaded.ensures.instance are no changed)
-      (Ok c.counts_of-loaded.result) tt;
-}
-
-pub returns-in-Err-clause-leaves : goal.returns-in-Err-clause-leaves
-returns-in-Err-clause-leaves g c = record {
-  all_committed = search rules;
-  survives = survives_more (state g.S.Store c.args.self.now) (state g.S.Store c.args.self.now) _
-      (survives_same (state g.S.Store c.args.self.now));
-}
-
 -- the transaction failed
-pub returns-in_err-put-clause-runs : goal.returns-in_err-put-clause-runs
-returns-in_err-put-clause-runs g c =
-    runs_undone g.S.Store (loaded c.args.text.now) c.args.self.now c.look.new.self
-    c.self.inside.conn c.put.new.conn c.self.view_is c.in_ok-look.ensures.unchanged
-    c.in_ok-look.ensures.all_committed c.put.ensures.clean c.in_err-put.ensures.undone
-    c.from_residual-in_err-put.result c.from_residual-in_err-put.ensures.1
 
-pub returns-in_err-put-clause-stays : goal.returns-in_err-put-clause-stays
-returns-in_err-put-clause-stays g c =
-    stays_undone g.S.Store c.args.self.now c.look.new.self c.self.inside.conn c.put.new.conn
-    c.self.view_is c.in_ok-look.ensures.unchanged c.in_ok-look.ensures.all_committed
-    c.put.ensures.clean
-    c.in_err-put.ensures.undone c.from_residual-in_err-put.result
+pub returns : goal.returns
+returns g c =
+    let I : Session = c.in-Ok.read.0 in
+    let E : Enrolled = c.in-Ok.read.1 in
+    let no : is_some c.self.inside.memory.kept ≡ false = search rules in
+    let are = are_enrolled I E c.counts_of-loaded.ensures.enrolments
+    (as_many c.args.text.now I E c.in-Ok.ensures.reading) in
+    let next = done_next g.S.Store (loaded c.args.text.now) c.args.self.now c.look.new.self
+    c.self.inside.conn c.put.new.conn c.self.inside.memory c.self.view_is c.self.invariant.1
+    c.in_ok-look.ensures.leaves _ c.counts_of-loaded.result c.in_ok-put.ensures
+    (λ k db makes. load_moves c.args.text.now I E c.counts_of-loaded.result c.deref.result.now
+    c.deref-2.result.now _ _ c.self.inside.memory c.in-Ok.ensures.exact
+    c.counts_of-loaded.ensures.counts (c.deref.ensures.value ∙ c.in_ok-stored.ensures.text)
+    (same_pairs _ _ E c.deref-2.ensures.value c.in_ok-rows.ensures)
+    c.counts_of-loaded.ensures.instance are no makes) in
+    record {
+      runs = next.0;
+      counts = ((I, E), c.in-Ok.ensures.exact, c.counts_of-loaded.ensures.counts);
+      first = tt;
+      leaves = next.1;
+    }
+
+pub returns-in_err-put : goal.returns-in_err-put
+returns-in_err-put g c =
+    let I : Session = c.in-Ok.read.0 in
+    let E : Enrolled = c.in-Ok.read.1 in
+    let no : is_some c.self.inside.memory.kept ≡ false = search rules in
+    let are = are_enrolled I E c.counts_of-loaded.ensures.enrolments
+    (as_many c.args.text.now I E c.in-Ok.ensures.reading) in
+    let next = undone_next g.S.Store (loaded c.args.text.now) c.args.self.now c.look.new.self
+    c.self.inside.conn c.put.new.conn c.self.inside.memory c.self.view_is c.self.invariant.1
+    c.in_ok-look.ensures.leaves _ c.counts_of-loaded.result c.in_err-put.ensures
+    (λ k db makes. load_moves c.args.text.now I E c.counts_of-loaded.result c.deref.result.now
+    c.deref-2.result.now _ _ c.self.inside.memory c.in-Ok.ensures.exact
+    c.counts_of-loaded.ensures.counts (c.deref.ensures.value ∙ c.in_ok-stored.ensures.text)
+    (same_pairs _ _ E c.deref-2.ensures.value c.in_ok-rows.ensures)
+    c.counts_of-loaded.ensures.instance are no makes)
+    c.from_residual-in_err-put.result c.from_residual-in_err-put.ensures.1 in
+    record {
+      runs = next.0;
+      counts = search rules;
+      first = search rules;
+      leaves = next.1;
+    }

@@ -1,12 +1,12 @@
-use Rattle.std.proofs.Common.{Err, ap, refl, ◌∙◌, sym, subst, Ok, rules}
+use Rattle.std.proofs.Common.{Err, ap, refl, ◌∙◌, sym, subst}
 use Rattle.std.proofs.lemmas.Result.{err_from_is_err_and}
 use Rattle.sqlite.specs.Held.{state}
 use Rattle.office_model.specs.DraftCommands.{draft_made}
 use Rattle.office_store.specs.Running.{CommandRan}
 use Rattle.office_model.specs.declared.fault.StoreFault.TheVariants.{DraftTaken, NoDraft, NotLoaded}
 use Rattle.office_store.proofs.CallLemmas.{made_moves, made_remembers, number_denied, taken_denied, text_denied}
-use Rattle.office_store.proofs.CommandLemmas.{not_loaded, refuses, rests, runs}
-use Rattle.office_store.proofs.LeavingLemmas.{survives_more, is_failed, survives_by}
+use Rattle.office_store.proofs.CommandLemmas.{not_loaded, refuses, rests}
+use Rattle.office_store.proofs.LeavingLemmas.{done_next, undone_next}
 use Rattle.exam_score.specs.Penalty.{total_of}
 use Rattle.office_store.proofs.TogetherLemmas.{draft_together, suits_of}
 use Rattle.office_store.proofs.office.Office.new_draft.Goals as goal
@@ -15,14 +15,14 @@ pub returns-in_default-clause-runs : goal.returns-in_default-clause-runs
 returns-in_default-clause-runs g c =
     refuses g.S.Store (draft_made c.args.number c.args.text.now) c.args.self.now c.look.new.self
     c.self.inside.conn c.self.inside.memory c.self.view_is c.self.invariant.1
-    c.in_ok-look.ensures.all_committed c.in_ok-look.ensures.unchanged NotLoaded
+    c.in_ok-look.ensures.leaves NotLoaded
     (λ _. not_loaded (draft_made c.args.number c.args.text.now) _ _ c.in_default.is refl)
 
 pub returns-then-not-is_draft_number-clause-runs : goal.returns-then-not-is_draft_number-clause-runs
 returns-then-not-is_draft_number-clause-runs g c =
     refuses g.S.Store (draft_made c.args.number c.args.text.now) c.args.self.now c.look.new.self
     c.self.inside.conn c.self.inside.memory c.self.view_is c.self.invariant.1
-    c.in_ok-look.ensures.all_committed c.in_ok-look.ensures.unchanged NoDraft
+    c.in_ok-look.ensures.leaves NoDraft
     (λ k. number_denied c.args.number _ c.self.inside.memory c.args.text.now c.in-Some.instance
     c.in-Some.enrolments c.in-Some.is c.if-not-is_draft_number.ensures)
 
@@ -30,7 +30,7 @@ pub returns-then-has_draft-clause-runs : goal.returns-then-has_draft-clause-runs
 returns-then-has_draft-clause-runs g c =
     refuses g.S.Store (draft_made c.args.number c.args.text.now) c.args.self.now c.look.new.self
     c.self.inside.conn c.self.inside.memory c.self.view_is c.self.invariant.1
-    c.in_ok-look.ensures.all_committed c.in_ok-look.ensures.unchanged DraftTaken
+    c.in_ok-look.ensures.leaves DraftTaken
     (λ k. taken_denied c.args.number _ c.self.inside.memory c.args.text.now c.in-Some.instance
     c.in-Some.enrolments c.in-Some.is c.if-not-is_draft_number.ensures c.if-has_draft.ensures)
 
@@ -43,7 +43,7 @@ returns-in_err-begun-clause-runs g c =
     (sym (given.1 ∙ ap Err given.2))
     (refuses g.S.Store (draft_made c.args.number c.args.text.now) c.args.self.now c.look.new.self
     c.self.inside.conn c.self.inside.memory c.self.view_is c.self.invariant.1
-    c.in_ok-look.ensures.all_committed c.in_ok-look.ensures.unchanged c.in_err-begun.field-0.0
+    c.in_ok-look.ensures.leaves c.in_err-begun.field-0.0
     (λ k. text_denied c.args.number _ c.self.inside.memory c.args.text.now c.in-Some.instance
     c.in-Some.enrolments c.in-Some.is c.if-not-is_draft_number.ensures c.if-has_draft.ensures
     c.in_err-begun.field-0.0 c.in_err-begun.ensures.err))
@@ -73,85 +73,30 @@ invariant_of-self-2 g c = (
       c.put-2.ensures.put c.put-2.ensures.beyond,
 )
 
-pub returns-clause-runs : goal.returns-clause-runs
-returns-clause-runs g c =
-    runs g.S.Store (draft_made c.args.number c.args.text.now) c.args.self.now c.look.new.self
-    c.self.inside.conn c.self.inside.memory c.self.view_is c.self.invariant.1
-    c.in_ok-look.ensures.all_committed c.in_ok-look.ensures.unchanged c.put.new.conn c.total.result
-    c.put.ensures.clean
-    (λ k. made_moves c.args.number _ c.self.inside.memory c.args.text.now c.in-Some.instance
-    c.in-Some.enrolments c.in-Some.is
+pub returns : goal.returns
+returns g c =
+    let next = done_next g.S.Store (draft_made c.args.number c.args.text.now) c.args.self.now
+    c.look.new.self c.self.inside.conn c.put.new.conn c.self.inside.memory c.self.view_is
+    c.self.invariant.1 c.in_ok-look.ensures.leaves _ c.total.result c.in_ok-put.ensures
+    (λ k db makes. made_moves c.args.number _ c.self.inside.memory c.args.text.now
+    c.in-Some.instance c.in-Some.enrolments c.in-Some.is
     c.if-not-is_draft_number.ensures c.if-has_draft.ensures c.in_ok-begun.begun
     c.in_ok-begun.slots.items c.deref.result.now c.deref.ensures.value c.in_ok-begun.ensures.ok
     c.total.result c.total.ensures.total _ c.draft_row.result c.draft_row.ensures.number
-    c.draft_row.ensures.parts (c.in_ok-put.ensures.done k).makes)
+    c.draft_row.ensures.parts makes) in
+    record { runs = next.0; leaves = next.1 }
 
-pub returns-in_err-look-clause-leaves : goal.returns-in_err-look-clause-leaves
-returns-in_err-look-clause-leaves g c = record {
-  all_committed = search rules;
-  survives = survives_more (state g.S.Store c.args.self.now) (state g.S.Store c.look.new.self) _
-      c.look.ensures.survives;
-}
-
-pub returns-in_default-clause-leaves : goal.returns-in_default-clause-leaves
-returns-in_default-clause-leaves g c = record {
-  all_committed = search rules;
-  survives = survives_more (state g.S.Store c.args.self.now) (state g.S.Store c.look.new.self) _
-      c.look.ensures.survives;
-}
-
-pub returns-then-not-is_draft_number-clause-leaves
-    : goal.returns-then-not-is_draft_number-clause-leaves
-returns-then-not-is_draft_number-clause-leaves g c = record {
-  all_committed = search rules;
-  survives = survives_more (state g.S.Store c.args.self.now) (state g.S.Store c.look.new.self) _
-      c.look.ensures.survives;
-}
-
-pub returns-then-has_draft-clause-leaves : goal.returns-then-has_draft-clause-leaves
-returns-then-has_draft-clause-leaves g c = record {
-  all_committed = search rules;
-  survives = survives_more (state g.S.Store c.args.self.now) (state g.S.Store c.look.new.self) _
-      c.look.ensures.survives;
-}
-
-pub returns-in_err-begun-clause-leaves : goal.returns-in_err-begun-clause-leaves
-returns-in_err-begun-clause-leaves g c = record {
-  all_committed = search rules;
-  survives = survives_more (state g.S.Store c.args.self.now) (state g.S.Store c.look.new.self) _
-      c.look.ensures.survives;
-}
-
-pub returns-in_err-put-clause-leaves : goal.returns-in_err-put-clause-leaves
-returns-in_err-put-clause-leaves g c = record {
-  all_committed = search rules;
-  survives = survives_by g.S.Store (draft_made c.args.number c.args.text.now) c.args.self.now
-      c.look.new.self c.self.inside.conn c.put.new.conn c.self.inside.memory
-      c.self.view_is c.self.invariant.1 c.in_ok-look.ensures.all_committed
-      c.in_ok-look.ensures.unchanged
-      c.look.ensures.survives _ (total_of c.in_ok-begun.begun.parts) c.put.ensures.survives
-      (λ k found changed. made_moves c.args.number _ c.self.inside.memory c.args.text.now
-      c.in-Some.instance c.in-Some.enrolments c.in-Some.is
-      c.if-not-is_draft_number.ensures c.if-has_draft.ensures c.in_ok-begun.begun
-      c.in_ok-begun.slots.items c.deref.result.now c.deref.ensures.value c.in_ok-begun.ensures.ok
-      (total_of c.in_ok-begun.begun.parts) refl _ c.draft_row.result c.draft_row.ensures.number
-      c.draft_row.ensures.parts changed)
-      c.from_residual-in_err-put.result (is_failed _ c.from_residual-in_err-put.ensures.1);
-}
-
-pub returns-clause-leaves : goal.returns-clause-leaves
-returns-clause-leaves g c = record {
-  all_committed = search rules;
-  survives = survives_by g.S.Store (draft_made c.args.number c.args.text.now) c.args.self.now
-      c.look.new.self c.self.inside.conn c.put.new.conn c.self.inside.memory
-      c.self.view_is c.self.invariant.1 c.in_ok-look.ensures.all_committed
-      c.in_ok-look.ensures.unchanged
-      c.look.ensures.survives _ (total_of c.in_ok-begun.begun.parts) c.put.ensures.survives
-      (λ k found changed. made_moves c.args.number _ c.self.inside.memory c.args.text.now
-      c.in-Some.instance c.in-Some.enrolments c.in-Some.is
-      c.if-not-is_draft_number.ensures c.if-has_draft.ensures c.in_ok-begun.begun
-      c.in_ok-begun.slots.items c.deref.result.now c.deref.ensures.value c.in_ok-begun.ensures.ok
-      (total_of c.in_ok-begun.begun.parts) refl _ c.draft_row.result c.draft_row.ensures.number
-      c.draft_row.ensures.parts changed)
-      (Ok c.total.result) tt;
-}
+pub returns-in_err-put : goal.returns-in_err-put
+returns-in_err-put g c =
+    let total = total_of c.in_ok-begun.begun.parts in
+    let next = undone_next g.S.Store (draft_made c.args.number c.args.text.now) c.args.self.now
+    c.look.new.self c.self.inside.conn c.put.new.conn c.self.inside.memory c.self.view_is
+    c.self.invariant.1 c.in_ok-look.ensures.leaves _ total c.in_err-put.ensures
+    (λ k db makes. made_moves c.args.number _ c.self.inside.memory c.args.text.now
+    c.in-Some.instance c.in-Some.enrolments c.in-Some.is
+    c.if-not-is_draft_number.ensures c.if-has_draft.ensures c.in_ok-begun.begun
+    c.in_ok-begun.slots.items c.deref.result.now c.deref.ensures.value c.in_ok-begun.ensures.ok
+    total refl _ c.draft_row.result c.draft_row.ensures.number
+    c.draft_row.ensures.parts makes)
+    c.from_residual-in_err-put.result c.from_residual-in_err-put.ensures.1 in
+    record { runs = next.0; leaves = next.1 }

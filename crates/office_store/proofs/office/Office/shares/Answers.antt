@@ -10,16 +10,14 @@ pub returns-in_default-clause-reads : goal.returns-in_default-clause-reads
 returns-in_default-clause-reads g c =
     returns_value g.S.Store c.args.self.now c.share_rows.new.self c.self.inside.conn
     c.self.inside.memory
-    c.self.view_is c.self.invariant.1 c.in_ok-found.ensures.all_committed
-    c.in_ok-found.ensures.unchanged
+    c.self.view_is c.self.invariant.1 c.in_ok-found.ensures.leaves
     shares_in (Ok None) (λ k o kept is. none_shared o _ c.in_default.is is.session)
 
 pub returns-clause-reads : goal.returns-clause-reads
 returns-clause-reads g c =
     returns_value g.S.Store c.args.self.now c.share_rows.new.self c.self.inside.conn
     c.self.inside.memory
-    c.self.view_is c.self.invariant.1 c.in_ok-found.ensures.all_committed
-    c.in_ok-found.ensures.unchanged
+    c.self.view_is c.self.invariant.1 c.in_ok-found.ensures.leaves
     shares_in c.shared_of.result
     (λ k o kept is. shares_returned o c.in-Some.instance c.in-Some.field-0-1
     c.self.inside.memory.kept
@@ -29,7 +27,7 @@ returns-clause-reads g c =
 pub returns-clause-add_up : goal.returns-clause-add_up
 returns-clause-add_up g c clean o now =
     let stays = stays_by g.S.Store c.args.self.now c.share_rows.new.self
-    c.in_ok-found.ensures.unchanged clean o now in
+    c.in_ok-found.ensures.leaves clean o now in
     adds_up_in o (Represents (state g.S.Store c.share_rows.new.self)) c.shared_of.result
-    (stays (c.in_ok-found.ensures.all_committed clean).0).office
+    (stays (c.in_ok-found.ensures.leaves.all_committed clean).0).office
     (returns-clause-reads g c clean o now)
