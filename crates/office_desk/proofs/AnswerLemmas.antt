@@ -1,39 +1,36 @@
 -- The result of a call of the office becomes the answer to a command.
-use Rattle.std.specs.Prelude.{IfErr}
+use Rattle.std.specs.Borrow.{Bor}
 use Rattle.std.specs.Result.{IsErrAnd}
-use Rattle.sqlite.specs.Held.{Held}
+use Rattle.sqlite.specs.Held.{Held, state}
+use Rattle.sqlite.specs.State.{HasCleanDisk}
 use Rattle.sqlite.specs.Store.{Ghosts}
+use Rattle.office_policy.specs.CommandBodies.{plain_text}
 use Rattle.office_policy.specs.declared.command.Body.{Body}
 use Rattle.std.proofs.Common.{◌≡◌, ◌∙◌, ℕ, List, Option, Some, Result, Ok, Err, ap, inl, inr, subst, sym, refl}
 use Rattle.exam_model.specs.Instance.{Session}
 use Rattle.office_policy.specs.declared.callers.Caller.{Caller}
 use Rattle.office_policy.specs.declared.callers.Caller.TheVariants.{Cand, Dept}
 use Rattle.office_policy.specs.declared.callers.Caller.TheVariants as caller
-use Rattle.office_model.specs.Answers.{PlainAnswer, my_cost, refused, text, unavailable}
-use Rattle.office_model.specs.Candidates as candidates
-use Rattle.office_model.specs.Candidates.{CandidateQuestion}
+use Rattle.office_model.specs.Answers.{PlainAnswer, refused, text, unavailable}
+use Rattle.office_model.specs.Candidates.{CandidateQuestion, candidate_answer}
 use Rattle.office_model.specs.Commands.{CommandResult}
-use Rattle.office_model.specs.DraftCommands.{draft_shown}
 use Rattle.office_model.specs.Office.{OfficeState, Publication}
-use Rattle.office_model.specs.Step.{of_published, outcome, candidate_outcome}
-use Rattle.office_model.specs.Shown.{ShownView, shown_to}
+use Rattle.office_model.specs.Step.{Outcome, of_published, outcome, candidate_outcome, with_body}
 use Rattle.office_model.specs.Views.{view_of}
-use Rattle.office_model.specs.declared.views.ViewRow.{ViewRow}
 use Rattle.office_model.specs.declared.fault.StoreFault.{StoreFault}
 use Rattle.office_model.specs.declared.fault.StoreFault.TheVariants.{BadSchema, Store}
-use Rattle.exam_model.specs.Timetable.{Placing}
-use Rattle.exam_score.specs.Penalty.{Penalty, PersonalPenalty}
 use Rattle.exam_terms.specs.Refusing.{◌>>=◌}
-use Rattle.office_store.specs.Pricing.{draft_priced}
-use Rattle.office_store.specs.Running.{CommandOutcome}
+use Rattle.office_store.specs.Leaving.{LeavesUnchanged}
+use Rattle.office_store.specs.Running.{CommandOutcome, CommandRan, IsCommitted, Represents}
+use Rattle.office_store.proofs.CommandLemmas.{stays_by}
 use Rattle.office_desk.specs.Answers.{refusal}
-use Rattle.office_desk.specs.Performing.{AnswersExam, AnswersOutcome, AnswersPenalty, AnswersView}
-use Rattle.office_desk.specs.Performing.{CommittedUnlessRefused, IsBodyOrAnswer, answer_of}
+use Rattle.office_desk.specs.Performing.{AnswersCandidate, AnswersOutcome, CandidateAnswered}
+use Rattle.office_desk.specs.Performing.{IsBodyOrAnswer, OutcomeAnswered, answer_of}
 use Rattle.office_desk.specs.Answers.{IsRefusal, plain_answer}
 use Rattle.office_desk.specs.declared.answer.Answer.{Answer}
 
 -- an `Ok` of a call becomes the command's answer
-pub ok_answered : {A : Type 0} (to_answer : A → PlainAnswer) (old : OfficeState)
+ok_answered : {A : Type 0} (to_answer : A → PlainAnswer) (old : OfficeState)
     (gives : CommandResult A)
     (Stays : OfficeState → Type 0) (x : A) (final_answer : PlainAnswer)
     → CommandOutcome gives old Stays (Ok x) → final_answer ≡ to_answer x
@@ -46,7 +43,7 @@ ok_answered to_answer old gives Stays x final_answer does same =
     )
 
 -- a refusal of the command becomes its answer
-pub refusal_answered : {A : Type 0} (to_answer : A → PlainAnswer) (old : OfficeState)
+refusal_answered : {A : Type 0} (to_answer : A → PlainAnswer) (old : OfficeState)
     (gives : CommandResult A)
     (Stays : OfficeState → Type 0) (f : StoreFault) (final_answer : PlainAnswer)
     → gives ≡ Err f → Stays old → final_answer ≡ refused f
@@ -58,7 +55,7 @@ refusal_answered to_answer old gives Stays f final_answer is stays same =
     )
 
 -- any fault of a call becomes an answer
-pub fault_answered : {A : Type 0} (to_answer : A → PlainAnswer) (old : OfficeState)
+fault_answered : {A : Type 0} (to_answer : A → PlainAnswer) (old : OfficeState)
     (gives : CommandResult A)
     (Stays : OfficeState → Type 0) (f : StoreFault) (final_answer : PlainAnswer)
     → CommandOutcome gives old Stays (Err f) → final_answer ≡ refusal f
@@ -68,32 +65,8 @@ fault_answered to_answer old gives Stays BadSchema final_answer does same = absu
 fault_answered to_answer old gives Stays f final_answer does same =
     refusal_answered to_answer old gives Stays f final_answer does.0 does.1 same
 
--- if the draft is returned too, the answer with only its penalty is the same
-priced_as_shown : (to_answer : Penalty → PlainAnswer) (d : ℕ) (office : OfficeState)
-    → outcome to_answer office (draft_priced d office)
-    ≡ outcome (λ found. to_answer found.1) office (draft_shown d office)
-priced_as_shown to_answer d office = go (draft_shown d office)
-  where
-    go : (shown : CommandResult (Placing × Penalty))
-        → outcome to_answer office (shown >>= (λ found. Ok (found.0.1, found.1)))
-        ≡ outcome (λ found. to_answer found.1) office shown
-    go (Ok body_or_answer) = refl
-    go (Err fault) = refl
-
-pub priced_answered : (to_answer : Penalty → PlainAnswer) (d : ℕ) (office : OfficeState)
-    (Stays : OfficeState → Type 0) (penalty : Penalty) (final_answer : PlainAnswer)
-    → CommandOutcome (draft_priced d office) office Stays (Ok penalty) → final_answer
-    ≡ to_answer penalty
-    → AnswersOutcome (outcome (λ found. to_answer found.1) office
-    (draft_shown d office)) office Stays
-    final_answer
-priced_answered to_answer d office Stays penalty final_answer does same =
-    subst (λ outcome. AnswersOutcome outcome office Stays final_answer)
-    (priced_as_shown to_answer d office)
-    (ok_answered to_answer office (draft_priced d office) Stays penalty final_answer does same)
-
 -- `?` turns a fault into its answer
-pub err_answered : (r : Result Answer Answer) (f : StoreFault)
+err_answered : (r : Result Answer Answer) (f : StoreFault)
     → IsErrAnd r (λ answer. plain_answer answer ≡ refusal f) → answer_of r ≡ refusal f
 err_answered (Ok answer) f is = absurd is
 err_answered (Err answer) f is = is
@@ -105,68 +78,163 @@ is_refusal Store = tt
 is_refusal BadSchema = tt
 is_refusal f = tt
 
--- `?` turns a fault into a refusal
-pub fault_refused : {S : Type 0} (g : Ghosts S) (new : Held S) (r : Result Answer Answer)
-    (f : StoreFault) → IsErrAnd r (λ answer. plain_answer answer ≡ refusal f)
-    → CommittedUnlessRefused g new r
-fault_refused g new r f is clean =
-    inl (subst IsRefusal (sym (err_answered r f is)) (is_refusal f))
+-- ---- what a command does
 
--- also for a candidate's command
-pub fault_refuses : {X : Type 0} (r : Result X Answer) (f : StoreFault)
-    → IsErrAnd r (λ answer. plain_answer answer ≡ refusal f)
-    → IfErr r (λ answer. IsRefusal (plain_answer answer))
-fault_refuses (Ok x) f is = tt
-fault_refuses (Err answer) f is = subst IsRefusal (sym is) (is_refusal f)
+-- an `Ok` of the office becomes the command's answer
+pub ok_performed : {S A : Type 0} (g : Ghosts S) (to_answer : A → PlainAnswer)
+    (command : OfficeState → CommandResult A) (old new : Held S) (x : A) (answer : Answer)
+    → CommandRan g command old new (Ok x)
+    → (HasCleanDisk (state g new) → HasCleanDisk (state g old))
+    → (HasCleanDisk (state g new) → IsCommitted (state g new))
+    → plain_answer answer ≡ to_answer x
+    → OutcomeAnswered g (λ office. outcome to_answer office (command office)) old new (Ok answer)
+ok_performed g to_answer command old new x answer ran clean committed is = record {
+  answers = λ k office now. ok_answered to_answer office (command office)
+      (Represents (state g new)) x (plain_answer answer) (ran k office now) is;
+  all_committed = λ k. inr (committed k);
+  clean = clean;
+}
 
--- `?` turns out of memory into a refusal
-pub memory_refused : {S : Type 0} (g : Ghosts S) (new : Held S) (r : Result Answer Answer)
-    → IsErrAnd r (λ answer. plain_answer answer ≡ unavailable) → CommittedUnlessRefused g new r
-memory_refused g new (Ok answer) is clean = absurd is
-memory_refused g new (Err answer) is clean = inl (subst IsRefusal (sym is) tt)
+-- a fault of the office becomes a refusal
+pub fault_performed : {S A : Type 0} (g : Ghosts S) (to_answer : A → PlainAnswer)
+    (command : OfficeState → CommandResult A) (old new : Held S) (fault : StoreFault)
+    (result : Result Answer Answer) → CommandRan g command old new (Err fault)
+    → (HasCleanDisk (state g new) → HasCleanDisk (state g old))
+    → IsErrAnd result (λ answer. plain_answer answer ≡ refusal fault)
+    → OutcomeAnswered g (λ office. outcome to_answer office (command office)) old new result
+fault_performed g to_answer command old new fault result ran clean is = record {
+  answers = λ k office now. fault_answered to_answer office (command office)
+      (Represents (state g new)) fault (answer_of result) (ran k office now)
+      (err_answered result fault is);
+  all_committed = λ k. inl (subst IsRefusal (sym (err_answered result fault is)) (is_refusal fault));
+  clean = clean;
+}
+
+-- an outcome that is the same in each office
+pub same_answered : {S : Type 0} (g : Ghosts S) (f h : OfficeState → Outcome) (old new : Held S)
+    (result : Result Answer Answer) → OutcomeAnswered g f old new result
+    → ((office : OfficeState) → f office ≡ h office) → OutcomeAnswered g h old new result
+same_answered g f h old new result answered same = record {
+  answers = λ k office now. subst (λ outcome. AnswersOutcome outcome office
+      (Represents (state g new)) (answer_of result)) (same office) (answered.answers k office now);
+  all_committed = answered.all_committed;
+  clean = answered.clean;
+}
+
+-- only a part of what the command returns is in the answer
+part_outcome : {A B : Type 0} (part : A → B) (to_answer : B → PlainAnswer) (old : OfficeState)
+    (gives : CommandResult A)
+    → outcome to_answer old (gives >>= (λ found. Ok (part found.0, found.1)))
+    ≡ outcome (λ found. to_answer (part found)) old gives
+part_outcome part to_answer old (Ok given) = refl
+part_outcome part to_answer old (Err fault) = refl
+
+pub part_performed : {S A B : Type 0} (g : Ghosts S) (part : A → B) (to_answer : B → PlainAnswer)
+    (command : OfficeState → CommandResult A) (old new : Held S) (result : Result Answer Answer)
+    → OutcomeAnswered g (λ office. outcome to_answer office
+    (command office >>= (λ found. Ok (part found.0, found.1)))) old new result
+    → OutcomeAnswered g (λ office. outcome (λ found. to_answer (part found)) office
+    (command office)) old new result
+part_performed g part to_answer command old new result answered =
+    same_answered g _ _ old new result answered
+    (λ office. part_outcome part to_answer office (command office))
+
+-- out of memory after a reader becomes a refusal
+pub memory_performed : {S B F : Type 0} {r : Result B F} (g : Ghosts S)
+    (outcome_in : OfficeState → Outcome) (old new : Held S) (result : Result Answer Answer)
+    → LeavesUnchanged g old new r → IsErrAnd result (λ answer. plain_answer answer ≡ unavailable)
+    → OutcomeAnswered g outcome_in old new result
+memory_performed g outcome_in old new result read is = record {
+  answers = λ k office now. inr (
+    err_answered result Store is,
+    stays_by g old new read k office now,
+  );
+  all_committed = λ k. inl (subst IsRefusal (sym (err_answered result Store is)) tt);
+  clean = read.clean;
+}
 
 -- a faulty body is answered with a refusal
-pub body_refused : {A : Type 0} (body : Body A) (answer : Answer) → IsBodyOrAnswer body (Err answer)
+body_answered : {A : Type 0} (go : A → Outcome) (body : Body A) (old : OfficeState)
+    (Stays : OfficeState → Type 0) (answer : Answer) → IsBodyOrAnswer body (Err answer) → Stays old
+    → AnswersOutcome (with_body old go body) old Stays (plain_answer answer)
+body_answered go body old Stays answer (inl bad) now =
+    subst (λ body. AnswersOutcome (with_body old go body) old Stays (plain_answer answer))
+    (sym bad.0) (inl (bad.1, now))
+body_answered go body old Stays answer (inr long) now =
+    subst (λ body. AnswersOutcome (with_body old go body) old Stays (plain_answer answer))
+    (sym long.0) (inl (long.1, now))
+
+body_refused : {A : Type 0} (body : Body A) (answer : Answer) → IsBodyOrAnswer body (Err answer)
     → IsRefusal (plain_answer answer)
 body_refused body answer (inl bad) = subst IsRefusal (sym bad.1) tt
 body_refused body answer (inr long) = subst IsRefusal (sym long.1) tt
 
+pub body_performed : {S A : Type 0} (g : Ghosts S) (go : OfficeState → A → Outcome) (body : Body A)
+    (old : Held S) (answer : Answer) (result : Result Answer Answer) → result ≡ Err answer
+    → IsBodyOrAnswer body (Err answer)
+    → OutcomeAnswered g (λ office. with_body office (go office) body) old old result
+body_performed g go body old answer result is faulty =
+    subst (OutcomeAnswered g (λ office. with_body office (go office) body) old old) (sym is)
+    (record {
+      answers = λ k office now. body_answered (go office) body office (Represents (state g old))
+          answer faulty now;
+      all_committed = λ k. inl (body_refused body answer faulty);
+      clean = λ k. k;
+    })
+
+-- a faulty text is a faulty list of bytes
+pub text_faulty : (body : Body (Bor (List ℕ))) (answer : Answer) → IsBodyOrAnswer body (Err answer)
+    → IsBodyOrAnswer (plain_text body) (Err answer)
+text_faulty body answer (inl bad) = inl (ap plain_text bad.0, bad.1)
+text_faulty body answer (inr long) = inr (ap plain_text long.0, long.1)
+
 -- ---- candidates
 
--- an answer made from the candidate's view is the answer to the candidate
-pub view_answered : (who : Caller) (asked : CandidateQuestion) (to_answer : ShownView → PlainAnswer)
-    (old : OfficeState)
-    (Stays : OfficeState → Type 0) (view : ShownView) (final_answer : PlainAnswer)
-    → ((s : ℕ) → to_answer (shown_to s (view_of s old))
-    ≡ candidates.candidate_answer s asked (view_of s old))
-    → AnswersView who old Stays (Ok view) → final_answer ≡ to_answer view
+-- what is shown to a candidate becomes the answer
+candidate_answered : {X : Type 0} (who : Caller) (asked : CandidateQuestion)
+    (shown : ℕ → OfficeState → X) (to_answer : X → PlainAnswer) (old : OfficeState)
+    (Stays : OfficeState → Type 0) (x : X) (final_answer : PlainAnswer)
+    → ((s : ℕ) → to_answer (shown s old) ≡ candidate_answer s asked (view_of s old))
+    → AnswersCandidate who shown old Stays (Ok x) → final_answer ≡ to_answer x
     → AnswersOutcome (candidate_outcome who asked old) old Stays final_answer
-view_answered caller.Office asked to_answer old Stays view final_answer same shows is = absurd shows
-view_answered (Dept d) asked to_answer old Stays view final_answer same shows is = absurd shows
-view_answered (Cand s) asked to_answer old Stays view final_answer same shows is =
+candidate_answered caller.Office asked shown to_answer old Stays x final_answer same shows is =
+    absurd shows
+candidate_answered (Dept d) asked shown to_answer old Stays x final_answer same shows is =
+    absurd shows
+candidate_answered (Cand s) asked shown to_answer old Stays x final_answer same shows is =
     inl (is ∙ ap to_answer shows.0 ∙ same s, shows.1)
 
--- the same for one exam
-pub exam_answered : (who : Caller) (exam : ℕ) (old : OfficeState) (Stays : OfficeState → Type 0)
-    (found : Option ViewRow) (final_answer : PlainAnswer)
-    → AnswersExam who exam old Stays (Ok found)
-    → final_answer ≡ candidates.exam_answer found
-    → AnswersOutcome (candidate_outcome who (candidates.one exam) old) old Stays final_answer
-exam_answered caller.Office exam old Stays found final_answer shows is = absurd shows
-exam_answered (Dept d) exam old Stays found final_answer shows is = absurd shows
-exam_answered (Cand s) exam old Stays found final_answer shows is =
-    inl (is ∙ ap candidates.exam_answer shows.0, shows.1)
+candidate_refused : {X : Type 0} (who : Caller) (outcome : Outcome) (shown : ℕ → OfficeState → X)
+    (old : OfficeState) (Stays : OfficeState → Type 0) (answer : Answer)
+    → AnswersCandidate who shown old Stays (Err answer)
+    → AnswersOutcome outcome old Stays (plain_answer answer)
+candidate_refused caller.Office outcome shown old Stays answer shows = inr shows
+candidate_refused (Dept d) outcome shown old Stays answer shows = inr shows
+candidate_refused (Cand s) outcome shown old Stays answer shows = inr shows
 
--- the same for the personal penalty
-pub penalty_answered : (who : Caller) (old : OfficeState) (Stays : OfficeState → Type 0)
-    (penalty : PersonalPenalty) (final_answer : PlainAnswer)
-    → AnswersPenalty who old Stays (Ok penalty)
-    → final_answer ≡ my_cost penalty
-    → AnswersOutcome (candidate_outcome who candidates.cost old) old Stays final_answer
-penalty_answered caller.Office old Stays penalty final_answer shows is = absurd shows
-penalty_answered (Dept d) old Stays penalty final_answer shows is = absurd shows
-penalty_answered (Cand s) old Stays penalty final_answer shows is =
-    inl (is ∙ ap my_cost shows.0, shows.1)
+module _ {S X : Type 0} (g : Ghosts S) (who : Caller) (asked : CandidateQuestion)
+    (shown : ℕ → OfficeState → X) (old new : Held S) where
+  pub candidate_performed : (to_answer : X → PlainAnswer) (x : X) (answer : Answer)
+      → ((s : ℕ) (office : OfficeState)
+      → to_answer (shown s office) ≡ candidate_answer s asked (view_of s office))
+      → CandidateAnswered g who shown old new (Ok x) → plain_answer answer ≡ to_answer x
+      → OutcomeAnswered g (candidate_outcome who asked) old new (Ok answer)
+  candidate_performed to_answer x answer same answered is = record {
+    answers = λ k office now. candidate_answered who asked shown to_answer office
+        (Represents (state g new)) x (plain_answer answer) (λ s. same s office)
+        (answered.shows k office now) is;
+    all_committed = λ k. inr (answered.all_committed k);
+    clean = answered.clean;
+  }
+
+  pub candidate_failed : (answer : Answer) → CandidateAnswered g who shown old new (Err answer)
+      → OutcomeAnswered g (candidate_outcome who asked) old new (Err answer)
+  candidate_failed answer answered = record {
+    answers = λ k office now. candidate_refused who (candidate_outcome who asked office) shown
+        office (Represents (state g new)) answer (answered.shows k office now);
+    all_committed = λ k. inl answered.refuses;
+    clean = answered.clean;
+  }
 
 -- ---- what is published
 

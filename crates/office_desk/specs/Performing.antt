@@ -1,10 +1,8 @@
 -- The effect of a command on the office that the desk's file represents, and its answer.
-use Rattle.std.specs.Prelude.{◌≡◌, ◌⊎◌, ◌==◌, ℕ, Option, Result, Ok, Err}
-use Rattle.std.specs.List.{find}
+use Rattle.std.specs.Prelude.{◌≡◌, ◌⊎◌, ℕ, IfErr, OnOk, Result, Ok, Err}
 use Rattle.sqlite.specs.Held.{Held, state}
 use Rattle.sqlite.specs.State.{HasCleanDisk}
 use Rattle.sqlite.specs.Store.{Ghosts}
-use Rattle.exam_score.specs.Penalty.{PersonalPenalty}
 use Rattle.office_policy.specs.Commands.{PlainCommand}
 use Rattle.office_policy.specs.declared.callers.Caller.{Caller}
 use Rattle.office_policy.specs.declared.callers.Caller.TheVariants.{Cand}
@@ -13,9 +11,6 @@ use Rattle.office_policy.specs.declared.command.Body.TheVariants.{Given, Bad, Lo
 use Rattle.office_model.specs.Answers.{PlainAnswer, bad_body, long_body, unavailable}
 use Rattle.office_model.specs.Office.{OfficeState}
 use Rattle.office_model.specs.Step.{Outcome, permitted}
-use Rattle.office_model.specs.Shown.{ShownView, shown_exams, shown_penalty, shown_to}
-use Rattle.office_model.specs.Views.{view_of}
-use Rattle.office_model.specs.declared.views.ViewRow.{ViewRow}
 use Rattle.office_store.specs.Running.{IsCommitted, Represents}
 use Rattle.office_desk.specs.Answers.{IsRefusal, plain_answer}
 use Rattle.office_desk.specs.declared.answer.Answer.{Answer}
@@ -31,75 +26,42 @@ abbrev pub AnswersOutcome : Outcome → OfficeState → (OfficeState → Type 0)
 AnswersOutcome outcome old Stays answer =
     ((answer ≡ outcome.1) × Stays outcome.0) ⊎ ((answer ≡ unavailable) × Stays old)
 
--- the same, assuming the disk returns what was written
-abbrev pub Yields : {S : Type 0} → Ghosts S → (OfficeState → Outcome) → Held S → Held S
+-- assuming the disk returns what was written, this is the outcome; and if it isn't a refusal, the
+-- database is open, and all writes are committed
+pub record OutcomeAnswered {S : Type 0} (store : Ghosts S) (outcome_in : OfficeState → Outcome)
+    (old new : Held S) (result : Result Answer Answer) : Type 0 where
+  pub answers : HasCleanDisk (state store new) → (office : OfficeState)
+      → Represents (state store old) office
+      → AnswersOutcome (outcome_in office) office (Represents (state store new)) (answer_of result)
+  pub all_committed : HasCleanDisk (state store new)
+      → IsRefusal (answer_of result) ⊎ IsCommitted (state store new)
+  pub clean : HasCleanDisk (state store new) → HasCleanDisk (state store old)
+
+-- the command was performed as a permitted one of this caller
+abbrev pub CommandPerformed : {S : Type 0} → Ghosts S → Caller → PlainCommand → Held S → Held S
     → Result Answer Answer → Type 0
-Yields store command old new result =
-    HasCleanDisk (state store new) → (office : OfficeState) → Represents (state store old) office
-    → AnswersOutcome (command office) office (Represents (state store new)) (answer_of result)
+CommandPerformed store caller command old new result =
+    OutcomeAnswered store (λ office. permitted office caller command) old new result
 
--- the command is performed as a permitted one, whoever the caller is
-abbrev pub Performs : {S : Type 0} → Ghosts S → PlainCommand → Held S → Held S
-    → Result Answer Answer → Type 0
-Performs store command old new result =
-    (caller : Caller) → Yields store (λ office. permitted office caller command) old new result
+-- `Ok`, only for a candidate, is the part of the office that is shown to the candidate; an `Err` is
+-- answered with `unavailable`; the office is unchanged
+abbrev pub AnswersCandidate : {X : Type 0} → Caller → (ℕ → OfficeState → X) → OfficeState
+    → (OfficeState → Type 0) → Result X Answer → Type 0
+AnswersCandidate (Cand s) shown old Stays (Ok x) = (x ≡ shown s old) × Stays old
+AnswersCandidate caller shown old Stays (Ok x) = ⊥
+AnswersCandidate caller shown old Stays (Err answer) =
+    (plain_answer answer ≡ unavailable) × Stays old
 
--- the command is performed as a permitted one of this caller
-abbrev pub PerformsFor : {S : Type 0} → Ghosts S → Caller → PlainCommand → Held S → Held S
-    → Result Answer Answer → Type 0
-PerformsFor store caller command old new result =
-    Yields store (λ office. permitted office caller command) old new result
-
--- assuming the disk returns what was written, a command that isn't refused leaves the database
--- open, and all writes committed
-abbrev pub CommittedUnlessRefused : {S : Type 0} → Ghosts S → Held S → Result Answer Answer → Type 0
-CommittedUnlessRefused store new result =
-    HasCleanDisk (state store new) → IsRefusal (answer_of result) ⊎ IsCommitted (state store new)
-
--- `Ok`, only for a candidate, is the candidate's view; an `Err` is answered with `unavailable`; the
--- office is unchanged
-abbrev pub AnswersView : Caller → OfficeState → (OfficeState → Type 0) → Result ShownView Answer
-    → Type 0
-AnswersView (Cand s) old Stays (Ok view) = (view ≡ shown_to s (view_of s old)) × Stays old
-AnswersView caller old Stays (Ok view) = ⊥
-AnswersView caller old Stays (Err answer) = (plain_answer answer ≡ unavailable) × Stays old
-
--- the same, assuming the disk returns what was written
-abbrev pub ShowsView : {S : Type 0} → Ghosts S → Caller → Held S → Held S
-    → Result ShownView Answer → Type 0
-ShowsView store caller old new result =
-    HasCleanDisk (state store new) → (office : OfficeState) → Represents (state store old) office
-    → AnswersView caller office (Represents (state store new)) result
-
--- likewise, the result is one of the candidate's exams
-abbrev pub AnswersExam : Caller → ℕ → OfficeState → (OfficeState → Type 0)
-    → Result (Option ViewRow) Answer → Type 0
-AnswersExam (Cand s) exam old Stays (Ok found) =
-    (found ≡ find (λ row. row.exam == exam) (shown_exams (view_of s old))) × Stays old
-AnswersExam caller exam old Stays (Ok found) = ⊥
-AnswersExam caller exam old Stays (Err answer) = (plain_answer answer ≡ unavailable) × Stays old
-
--- the same, assuming the disk returns what was written
-abbrev pub ShowsExam : {S : Type 0} → Ghosts S → Caller → ℕ → Held S → Held S
-    → Result (Option ViewRow) Answer → Type 0
-ShowsExam store caller exam old new result =
-    HasCleanDisk (state store new) → (office : OfficeState) → Represents (state store old) office
-    → AnswersExam caller exam office (Represents (state store new)) result
-
--- likewise, the result is the candidate's penalty
-abbrev pub AnswersPenalty : Caller → OfficeState → (OfficeState → Type 0)
-    → Result PersonalPenalty Answer → Type 0
-AnswersPenalty (Cand s) old Stays (Ok penalty) =
-    (penalty ≡ shown_penalty (view_of s old)) × Stays old
-AnswersPenalty caller old Stays (Ok penalty) = ⊥
-AnswersPenalty caller old Stays (Err answer) = (plain_answer answer ≡ unavailable) × Stays old
-
--- the same, assuming the disk returns what was written
-abbrev pub ShowsPenalty : {S : Type 0} → Ghosts S → Caller → Held S → Held S
-    → Result PersonalPenalty Answer → Type 0
-ShowsPenalty store caller old new result =
-    HasCleanDisk (state store new) → (office : OfficeState) → Represents (state store old) office
-    → AnswersPenalty caller office (Represents (state store new)) result
+-- the same, assuming the disk returns what was written; and after an `Ok` the database is open, and
+-- all writes are committed
+pub record CandidateAnswered {S X : Type 0} (store : Ghosts S) (caller : Caller)
+    (shown : ℕ → OfficeState → X) (old new : Held S) (result : Result X Answer) : Type 0 where
+  pub shows : HasCleanDisk (state store new) → (office : OfficeState)
+      → Represents (state store old) office
+      → AnswersCandidate caller shown office (Represents (state store new)) result
+  pub all_committed : HasCleanDisk (state store new) → OnOk result (IsCommitted (state store new))
+  pub refuses : IfErr result (λ answer. IsRefusal (plain_answer answer))
+  pub clean : HasCleanDisk (state store new) → HasCleanDisk (state store old)
 
 -- `Ok` is the value of the body; `Err` is the answer to a faulty or too long body
 abbrev pub IsBodyOrAnswer : {A : Type 0} → Body A → Result A Answer → Type 0

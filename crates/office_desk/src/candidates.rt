@@ -1,12 +1,10 @@
 // Commands of candidates. Each answer depends only on the candidate's view. On `Err` the answer
 // shows nothing of it.
-ghost use Rattle.std.specs.Prelude.{IfErr, OnOk};
-ghost use Rattle.sqlite.specs.Held.{state};
-ghost use Rattle.sqlite.specs.State.{HasCleanDisk};
+ghost use Rattle.std.specs.Prelude.{◌==◌, find};
 ghost use Rattle.office_policy.specs.Commands.{me, my_exam, my_penalty};
-ghost use Rattle.office_store.specs.Running.{IsCommitted};
-ghost use Rattle.office_desk.specs.Answers.{IsRefusal, plain_answer};
-ghost use Rattle.office_desk.specs.Performing.{CommittedUnlessRefused, PerformsFor, ShowsExam, ShowsPenalty, ShowsView};
+ghost use Rattle.office_model.specs.Shown.{shown_exams, shown_penalty, shown_to};
+ghost use Rattle.office_model.specs.Views.{view_of};
+ghost use Rattle.office_desk.specs.Performing.{CandidateAnswered, CommandPerformed};
 
 use crate::answer::Answer;
 use exam_score::PersonalParts;
@@ -23,10 +21,7 @@ pub(crate) fn me<S: Alter>(
     alloc: Global,
     caller: Caller,
 ) -> Result<Answer, Answer>
-    ensures performs { PerformsFor S.Store caller me office.old office.new result }
-    ensures all_committed { CommittedUnlessRefused S.Store office.new result }
-    ensures clean { HasCleanDisk (state S.Store office.new)
-        → HasCleanDisk (state S.Store office.old) }
+    ensures { CommandPerformed S.Store caller me office.old office.new result }
 {
     let view = view_of_caller(office, alloc, caller)?;
     Ok(Answer::Me(view))
@@ -39,10 +34,7 @@ pub(crate) fn my_exam<S: Alter>(
     caller: Caller,
     exam: ExamNo,
 ) -> Result<Answer, Answer>
-    ensures performs { PerformsFor S.Store caller (my_exam exam) office.old office.new result }
-    ensures all_committed { CommittedUnlessRefused S.Store office.new result }
-    ensures clean { HasCleanDisk (state S.Store office.new)
-        → HasCleanDisk (state S.Store office.old) }
+    ensures { CommandPerformed S.Store caller (my_exam exam) office.old office.new result }
 {
     let found = exam_of_caller(office, alloc, caller, exam)?;
     match found {
@@ -57,10 +49,7 @@ pub(crate) fn my_penalty<S: Alter>(
     alloc: Global,
     caller: Caller,
 ) -> Result<Answer, Answer>
-    ensures performs { PerformsFor S.Store caller my_penalty office.old office.new result }
-    ensures all_committed { CommittedUnlessRefused S.Store office.new result }
-    ensures clean { HasCleanDisk (state S.Store office.new)
-        → HasCleanDisk (state S.Store office.old) }
+    ensures { CommandPerformed S.Store caller my_penalty office.old office.new result }
 {
     let penalty = penalty_of_caller(office, alloc, caller)?;
     Ok(Answer::MyPenalty(penalty))
@@ -72,12 +61,8 @@ fn view_of_caller<S: Alter>(
     alloc: Global,
     caller: Caller,
 ) -> Result<CandidateView, Answer>
-    ensures shows { ShowsView S.Store caller office.old office.new result }
-    ensures all_committed { HasCleanDisk (state S.Store office.new)
-        → OnOk result (IsCommitted (state S.Store office.new)) }
-    ensures refuses { IfErr result (λ answer. IsRefusal (plain_answer answer)) }
-    ensures clean { HasCleanDisk (state S.Store office.new)
-        → HasCleanDisk (state S.Store office.old) }
+    ensures { CandidateAnswered S.Store caller (λ s o. shown_to s (view_of s o))
+        office.old office.new result }
 {
     let Caller::Cand(student) = caller else {
         return Err(Answer::Unavailable);
@@ -93,12 +78,9 @@ fn exam_of_caller<S: Alter>(
     caller: Caller,
     exam: ExamNo,
 ) -> Result<Option<ViewRow>, Answer>
-    ensures shows { ShowsExam S.Store caller exam office.old office.new result }
-    ensures all_committed { HasCleanDisk (state S.Store office.new)
-        → OnOk result (IsCommitted (state S.Store office.new)) }
-    ensures refuses { IfErr result (λ answer. IsRefusal (plain_answer answer)) }
-    ensures clean { HasCleanDisk (state S.Store office.new)
-        → HasCleanDisk (state S.Store office.old) }
+    ensures { CandidateAnswered S.Store caller
+        (λ s o. find (λ row. row.exam == exam) (shown_exams (view_of s o)))
+        office.old office.new result }
 {
     let Caller::Cand(student) = caller else {
         return Err(Answer::Unavailable);
@@ -113,12 +95,8 @@ fn penalty_of_caller<S: Alter>(
     alloc: Global,
     caller: Caller,
 ) -> Result<PersonalParts, Answer>
-    ensures shows { ShowsPenalty S.Store caller office.old office.new result }
-    ensures all_committed { HasCleanDisk (state S.Store office.new)
-        → OnOk result (IsCommitted (state S.Store office.new)) }
-    ensures refuses { IfErr result (λ answer. IsRefusal (plain_answer answer)) }
-    ensures clean { HasCleanDisk (state S.Store office.new)
-        → HasCleanDisk (state S.Store office.old) }
+    ensures { CandidateAnswered S.Store caller (λ s o. shown_penalty (view_of s o))
+        office.old office.new result }
 {
     let Caller::Cand(student) = caller else {
         return Err(Answer::Unavailable);

@@ -1,14 +1,13 @@
 // Commands that change the office. On `Err` the office is unchanged.
-ghost use Rattle.std.specs.Prelude.{◌≤◌};
-ghost use Rattle.sqlite.specs.Held.{state};
-ghost use Rattle.sqlite.specs.State.{HasCleanDisk};
-ghost use Rattle.office_policy.specs.CommandBodies.{IfBodyHasValue};
-ghost use Rattle.office_policy.specs.Commands.{batch, clear, drop_draft, load, move};
-ghost use Rattle.office_policy.specs.CommandBodies.{plain_text};
-ghost use Rattle.office_policy.specs.Commands.{new_draft, place, publish, set_owner, swap};
+ghost use Rattle.std.specs.Prelude.{◌≡◌, ◌≤◌};
+ghost use Rattle.office_policy.specs.CommandBodies.{IfBodyHasValue, plain_text};
+ghost use Rattle.office_policy.specs.Commands.{batch, drop_draft, load, new_draft, publish, set_owner};
+ghost use Rattle.office_policy.specs.declared.callers.Caller.{Caller};
 ghost use Rattle.exam_terms.specs.declared.limits.TheConstants.{MAX_BATCH, MAX_DEPARTMENT};
-ghost use Rattle.office_model.specs.Step.{edit_outcome};
-ghost use Rattle.office_desk.specs.Performing.{CommittedUnlessRefused, IsBodyOrAnswer, Performs, Yields};
+ghost use Rattle.exam_draft.specs.declared.edit.Edit.{Edit as DraftEdit};
+ghost use Rattle.office_model.specs.Office.{OfficeState};
+ghost use Rattle.office_model.specs.Step.{Outcome, edit_outcome, with_body};
+ghost use Rattle.office_desk.specs.Performing.{CommandPerformed, IsBodyOrAnswer, OutcomeAnswered};
 
 use crate::answer::Answer;
 use exam_draft::Edit;
@@ -23,11 +22,8 @@ pub(crate) fn load<S: Alter>(
     alloc: Global,
     body: Body<&[u8]>,
 ) -> Result<Answer, Answer>
-    ensures performs { Performs S.Store (load (plain_text body.entry))
+    ensures { (caller : Caller) → CommandPerformed S.Store caller (load (plain_text body.entry))
         office.old office.new result }
-    ensures all_committed { CommittedUnlessRefused S.Store office.new result }
-    ensures clean { HasCleanDisk (state S.Store office.new)
-        → HasCleanDisk (state S.Store office.old) }
 {
     let text = body_or_answer(body)?;
     let loaded = office.load(alloc, text)?;
@@ -40,10 +36,8 @@ pub(crate) fn set_owner<S: Alter>(
     body: Body<u32>,
 ) -> Result<Answer, Answer>
     requires { IfBodyHasValue body (λ dept. dept ≤ MAX_DEPARTMENT) }
-    ensures performs { Performs S.Store (set_owner exam body) office.old office.new result }
-    ensures all_committed { CommittedUnlessRefused S.Store office.new result }
-    ensures clean { HasCleanDisk (state S.Store office.new)
-        → HasCleanDisk (state S.Store office.old) }
+    ensures { (caller : Caller) → CommandPerformed S.Store caller (set_owner exam body)
+        office.old office.new result }
 {
     let dept = body_or_answer(body)?;
     office.set_owner(exam, dept)?;
@@ -56,11 +50,8 @@ pub(crate) fn new_draft<S: Alter>(
     number: u32,
     body: Body<&[u8]>,
 ) -> Result<Answer, Answer>
-    ensures performs { Performs S.Store (new_draft number (plain_text body.entry))
-        office.old office.new result }
-    ensures all_committed { CommittedUnlessRefused S.Store office.new result }
-    ensures clean { HasCleanDisk (state S.Store office.new)
-        → HasCleanDisk (state S.Store office.old) }
+    ensures { (caller : Caller) → CommandPerformed S.Store caller
+        (new_draft number (plain_text body.entry)) office.old office.new result }
 {
     let text = body_or_answer(body)?;
     let penalty = office.new_draft(alloc, number, text)?;
@@ -68,74 +59,49 @@ pub(crate) fn new_draft<S: Alter>(
 }
 
 pub(crate) fn drop_draft<S: Alter>(office: &mut Office<S>, number: u32) -> Result<Answer, Answer>
-    ensures performs { Performs S.Store (drop_draft number) office.old office.new result }
-    ensures all_committed { CommittedUnlessRefused S.Store office.new result }
-    ensures clean { HasCleanDisk (state S.Store office.new)
-        → HasCleanDisk (state S.Store office.old) }
+    ensures { (caller : Caller) → CommandPerformed S.Store caller (drop_draft number)
+        office.old office.new result }
 {
     office.drop_draft(number)?;
     Ok(Answer::Dropped(number))
 }
 
-pub(crate) fn place_exam<S: Alter>(
+pub(crate) fn edit<S: Alter>(
     office: &mut Office<S>,
     alloc: Global,
     number: u32,
-    exam: ExamNo,
-    body: Body<Place>,
+    change: Body<Edit>,
 ) -> Result<Answer, Answer>
-    ensures performs { Performs S.Store (place number exam body) office.old office.new result }
-    ensures all_committed { CommittedUnlessRefused S.Store office.new result }
-    ensures clean { HasCleanDisk (state S.Store office.new)
-        → HasCleanDisk (state S.Store office.old) }
+    ensures { OutcomeAnswered S.Store (λ o. with_body o (λ edit. edit_outcome number edit o) change)
+        office.old office.new result }
 {
-    let place = body_or_answer(body)?;
-    edit(office, alloc, number, Edit::Place(exam, place))
+    let change = body_or_answer(change)?;
+    let penalty = office.edit(alloc, number, change)?;
+    Ok(Answer::Edited(number, penalty))
 }
 
-pub(crate) fn move_exam<S: Alter>(
-    office: &mut Office<S>,
-    alloc: Global,
-    number: u32,
-    exam: ExamNo,
-    body: Body<Place>,
-) -> Result<Answer, Answer>
-    ensures performs { Performs S.Store (move number exam body) office.old office.new result }
-    ensures all_committed { CommittedUnlessRefused S.Store office.new result }
-    ensures clean { HasCleanDisk (state S.Store office.new)
-        → HasCleanDisk (state S.Store office.old) }
+// Returns the edit that places an exam, if the body has a place.
+pub(crate) fn place_edit(exam: ExamNo, body: Body<Place>) -> Body<Edit>
+    ensures { (old : OfficeState) (go : DraftEdit → Outcome)
+        → with_body old go result ≡ with_body old (λ place. go (Edit.Place exam place)) body }
 {
-    let place = body_or_answer(body)?;
-    edit(office, alloc, number, Edit::Move(exam, place))
+    match body {
+        Body::Given(place) => Body::Given(Edit::Place(exam, place)),
+        Body::Bad => Body::Bad,
+        Body::Long => Body::Long,
+    }
 }
 
-pub(crate) fn clear_exam<S: Alter>(
-    office: &mut Office<S>,
-    alloc: Global,
-    number: u32,
-    exam: ExamNo,
-) -> Result<Answer, Answer>
-    ensures performs { Performs S.Store (clear number exam) office.old office.new result }
-    ensures all_committed { CommittedUnlessRefused S.Store office.new result }
-    ensures clean { HasCleanDisk (state S.Store office.new)
-        → HasCleanDisk (state S.Store office.old) }
+// Returns the edit that moves an exam, if the body has a place.
+pub(crate) fn move_edit(exam: ExamNo, body: Body<Place>) -> Body<Edit>
+    ensures { (old : OfficeState) (go : DraftEdit → Outcome)
+        → with_body old go result ≡ with_body old (λ place. go (Edit.Move exam place)) body }
 {
-    edit(office, alloc, number, Edit::Clear(exam))
-}
-
-pub(crate) fn swap_exams<S: Alter>(
-    office: &mut Office<S>,
-    alloc: Global,
-    number: u32,
-    a: ExamNo,
-    b: ExamNo,
-) -> Result<Answer, Answer>
-    ensures performs { Performs S.Store (swap number a b) office.old office.new result }
-    ensures all_committed { CommittedUnlessRefused S.Store office.new result }
-    ensures clean { HasCleanDisk (state S.Store office.new)
-        → HasCleanDisk (state S.Store office.old) }
-{
-    edit(office, alloc, number, Edit::Swap(a, b))
+    match body {
+        Body::Given(place) => Body::Given(Edit::Move(exam, place)),
+        Body::Bad => Body::Bad,
+        Body::Long => Body::Long,
+    }
 }
 
 pub(crate) fn publish<S: Alter>(
@@ -143,10 +109,8 @@ pub(crate) fn publish<S: Alter>(
     alloc: Global,
     number: u32,
 ) -> Result<Answer, Answer>
-    ensures performs { Performs S.Store (publish number) office.old office.new result }
-    ensures all_committed { CommittedUnlessRefused S.Store office.new result }
-    ensures clean { HasCleanDisk (state S.Store office.new)
-        → HasCleanDisk (state S.Store office.old) }
+    ensures { (caller : Caller) → CommandPerformed S.Store caller (publish number)
+        office.old office.new result }
 {
     let published = office.publish(alloc, number)?;
     Ok(Answer::Published(number, published))
@@ -159,30 +123,12 @@ pub(crate) fn enrol_batch<S: Alter>(
     body: Body<&[u8]>,
 ) -> Result<Answer, Answer>
     requires { number ≤ MAX_BATCH }
-    ensures performs { Performs S.Store (batch number (plain_text body.entry))
-        office.old office.new result }
-    ensures all_committed { CommittedUnlessRefused S.Store office.new result }
-    ensures clean { HasCleanDisk (state S.Store office.new)
-        → HasCleanDisk (state S.Store office.old) }
+    ensures { (caller : Caller) → CommandPerformed S.Store caller
+        (batch number (plain_text body.entry)) office.old office.new result }
 {
     let text = body_or_answer(body)?;
     let counts = office.enrol_batch(alloc, number, text)?;
     Ok(Answer::Enrolled(number, counts))
-}
-
-fn edit<S: Alter>(
-    office: &mut Office<S>,
-    alloc: Global,
-    number: u32,
-    change: Edit,
-) -> Result<Answer, Answer>
-    ensures edits { Yields S.Store (edit_outcome number change) office.old office.new result }
-    ensures all_committed { CommittedUnlessRefused S.Store office.new result }
-    ensures clean { HasCleanDisk (state S.Store office.new)
-        → HasCleanDisk (state S.Store office.old) }
-{
-    let penalty = office.edit(alloc, number, change)?;
-    Ok(Answer::Edited(number, penalty))
 }
 
 // Returns the value of a body, or the answer to a faulty one.

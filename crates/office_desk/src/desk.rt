@@ -8,19 +8,18 @@ ghost use Rattle.office_model.specs.Step.{Steps};
 ghost use Rattle.office_store.specs.Running.{IsCommitted, StateUnchanged, Represents};
 ghost use Rattle.office_store.specs.Shut.{IsShut};
 ghost use Rattle.office_desk.specs.Answers.{IsRefusal, plain_answer};
-ghost use Rattle.office_desk.specs.Performing.{CommittedUnlessRefused, PerformsFor, answer_of};
+ghost use Rattle.office_desk.specs.Performing.{CommandPerformed, answer_of};
 
 use crate::answer::Answer;
 use crate::candidates::{me, my_exam, my_penalty};
 use crate::changing::{
-    clear_exam, drop_draft, enrol_batch, load, move_exam, new_draft, place_exam, publish,
-    set_owner, swap_exams,
+    drop_draft, edit, enrol_batch, load, move_edit, new_draft, place_edit, publish, set_owner,
 };
 use crate::judging::judged;
 use crate::publications::{publication, publication_penalty, publication_rooms, publication_seats};
 use crate::showing::{draft, instance, penalty, violations};
-use office_policy::{Caller, Command};
-use office_store::{Office, StoreFault};
+use office_policy::{Body, Caller, Command};
+use office_store::{Edit, Office, StoreFault};
 use sqlite::Alter;
 use std::alloc::Global;
 use std::marker::Model;
@@ -113,11 +112,8 @@ fn perform<S: Alter>(
     command: &Command<'_>,
 ) -> Result<Answer, Answer>
     requires { HasSmallNumbers (plain_command command.now) }
-    ensures performs { PerformsFor S.Store caller (plain_command command.now)
+    ensures { CommandPerformed S.Store caller (plain_command command.now)
         office.old office.new result }
-    ensures all_committed { CommittedUnlessRefused S.Store office.new result }
-    ensures clean { HasCleanDisk (state S.Store office.new)
-        → HasCleanDisk (state S.Store office.old) }
 {
     match *command {
         Command::Me => me(office, alloc, caller),
@@ -131,10 +127,10 @@ fn perform<S: Alter>(
         Command::DraftPenalty(number) => penalty(office, alloc, number),
         Command::DraftViolations(number) => violations(office, alloc, number),
         Command::DropDraft(number) => drop_draft(office, number),
-        Command::Place(number, exam, body) => place_exam(office, alloc, number, exam, body),
-        Command::Move(number, exam, body) => move_exam(office, alloc, number, exam, body),
-        Command::Clear(number, exam) => clear_exam(office, alloc, number, exam),
-        Command::Swap(number, a, b) => swap_exams(office, alloc, number, a, b),
+        Command::Place(number, exam, body) => edit(office, alloc, number, place_edit(exam, body)),
+        Command::Move(number, exam, body) => edit(office, alloc, number, move_edit(exam, body)),
+        Command::Clear(number, exam) => edit(office, alloc, number, Body::Given(Edit::Clear(exam))),
+        Command::Swap(number, a, b) => edit(office, alloc, number, Body::Given(Edit::Swap(a, b))),
         Command::Publish(number) => publish(office, alloc, number),
         Command::Publication => publication(office, alloc),
         Command::PublicationPenalty => publication_penalty(office, alloc),

@@ -1,9 +1,8 @@
 // Commands that show the publication. On `Err` the answer shows nothing of it.
-ghost use Rattle.sqlite.specs.Held.{state};
-ghost use Rattle.sqlite.specs.State.{HasCleanDisk};
 ghost use Rattle.office_policy.specs.Commands.{publication, publication_penalty};
 ghost use Rattle.office_policy.specs.Commands.{publication_rooms, publication_seats};
-ghost use Rattle.office_desk.specs.Performing.{CommittedUnlessRefused, Performs};
+ghost use Rattle.office_policy.specs.declared.callers.Caller.{Caller};
+ghost use Rattle.office_desk.specs.Performing.{CommandPerformed};
 
 use crate::answer::Answer;
 use office_files::write_solution;
@@ -14,10 +13,8 @@ use std::alloc::Global;
 
 // Answers with the published timetable, as a solution file.
 pub(crate) fn publication<S: Alter>(office: &mut Office<S>, alloc: Global) -> Result<Answer, Answer>
-    ensures performs { Performs S.Store publication office.old office.new result }
-    ensures all_committed { CommittedUnlessRefused S.Store office.new result }
-    ensures clean { HasCleanDisk (state S.Store office.new)
-        → HasCleanDisk (state S.Store office.old) }
+    ensures { (caller : Caller) → CommandPerformed S.Store caller publication
+        office.old office.new result }
 {
     let Some(timetable) = office.published_timetable(alloc)? else {
         return Ok(Answer::Unpublished);
@@ -33,10 +30,8 @@ pub(crate) fn publication_penalty<S: Alter>(
     office: &mut Office<S>,
     alloc: Global,
 ) -> Result<Answer, Answer>
-    ensures performs { Performs S.Store publication_penalty office.old office.new result }
-    ensures all_committed { CommittedUnlessRefused S.Store office.new result }
-    ensures clean { HasCleanDisk (state S.Store office.new)
-        → HasCleanDisk (state S.Store office.old) }
+    ensures { (caller : Caller) → CommandPerformed S.Store caller publication_penalty
+        office.old office.new result }
 {
     let Some(shares) = office.shares(alloc)? else {
         return Ok(Answer::Unpublished);
@@ -53,10 +48,8 @@ pub(crate) fn publication_rooms<S: Alter>(
     office: &mut Office<S>,
     alloc: Global,
 ) -> Result<Answer, Answer>
-    ensures performs { Performs S.Store publication_rooms office.old office.new result }
-    ensures all_committed { CommittedUnlessRefused S.Store office.new result }
-    ensures clean { HasCleanDisk (state S.Store office.new)
-        → HasCleanDisk (state S.Store office.old) }
+    ensures { (caller : Caller) → CommandPerformed S.Store caller publication_rooms
+        office.old office.new result }
 {
     let Some((timetable, seats)) = office.publication(alloc)? else {
         return Ok(Answer::Unpublished);
@@ -71,10 +64,8 @@ pub(crate) fn publication_seats<S: Alter>(
     office: &mut Office<S>,
     alloc: Global,
 ) -> Result<Answer, Answer>
-    ensures performs { Performs S.Store publication_seats office.old office.new result }
-    ensures all_committed { CommittedUnlessRefused S.Store office.new result }
-    ensures clean { HasCleanDisk (state S.Store office.new)
-        → HasCleanDisk (state S.Store office.old) }
+    ensures { (caller : Caller) → CommandPerformed S.Store caller publication_seats
+        office.old office.new result }
 {
     let Some((_, seats)) = office.publication(alloc)? else {
         return Ok(Answer::Unpublished);

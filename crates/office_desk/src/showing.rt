@@ -1,8 +1,7 @@
 // Commands that show the office and change nothing. On `Err` the answer shows nothing of it.
-ghost use Rattle.sqlite.specs.Held.{state};
-ghost use Rattle.sqlite.specs.State.{HasCleanDisk};
 ghost use Rattle.office_policy.specs.Commands.{draft, draft_penalty, draft_violations, instance};
-ghost use Rattle.office_desk.specs.Performing.{CommittedUnlessRefused, Performs};
+ghost use Rattle.office_policy.specs.declared.callers.Caller.{Caller};
+ghost use Rattle.office_desk.specs.Performing.{CommandPerformed};
 
 use crate::answer::Answer;
 use office_files::write_instance;
@@ -13,10 +12,8 @@ use std::alloc::Global;
 
 // Answers with the session and its live enrolments, as an instance file.
 pub(crate) fn instance<S: Alter>(office: &mut Office<S>, alloc: Global) -> Result<Answer, Answer>
-    ensures performs { Performs S.Store instance office.old office.new result }
-    ensures all_committed { CommittedUnlessRefused S.Store office.new result }
-    ensures clean { HasCleanDisk (state S.Store office.new)
-        → HasCleanDisk (state S.Store office.old) }
+    ensures { (caller : Caller) → CommandPerformed S.Store caller instance
+        office.old office.new result }
 {
     office.look()?;
     let (instance, enrolments) = office.session()?;
@@ -31,10 +28,8 @@ pub(crate) fn draft<S: Alter>(
     alloc: Global,
     number: u32,
 ) -> Result<Answer, Answer>
-    ensures performs { Performs S.Store (draft number) office.old office.new result }
-    ensures all_committed { CommittedUnlessRefused S.Store office.new result }
-    ensures clean { HasCleanDisk (state S.Store office.new)
-        → HasCleanDisk (state S.Store office.old) }
+    ensures { (caller : Caller) → CommandPerformed S.Store caller (draft number)
+        office.old office.new result }
 {
     let (timetable, parts) = office.draft(alloc, number)?;
     Ok(Answer::Draft(number, timetable, parts.total()))
@@ -45,10 +40,8 @@ pub(crate) fn penalty<S: Alter>(
     alloc: Global,
     number: u32,
 ) -> Result<Answer, Answer>
-    ensures performs { Performs S.Store (draft_penalty number) office.old office.new result }
-    ensures all_committed { CommittedUnlessRefused S.Store office.new result }
-    ensures clean { HasCleanDisk (state S.Store office.new)
-        → HasCleanDisk (state S.Store office.old) }
+    ensures { (caller : Caller) → CommandPerformed S.Store caller (draft_penalty number)
+        office.old office.new result }
 {
     let parts = office.penalty(number)?;
     let report = penalty_report(alloc, parts)?;
@@ -60,10 +53,8 @@ pub(crate) fn violations<S: Alter>(
     alloc: Global,
     number: u32,
 ) -> Result<Answer, Answer>
-    ensures performs { Performs S.Store (draft_violations number) office.old office.new result }
-    ensures all_committed { CommittedUnlessRefused S.Store office.new result }
-    ensures clean { HasCleanDisk (state S.Store office.new)
-        → HasCleanDisk (state S.Store office.old) }
+    ensures { (caller : Caller) → CommandPerformed S.Store caller (draft_violations number)
+        office.old office.new result }
 {
     let breaches = office.breaches(alloc, number)?;
     let report = violation_report(alloc, &breaches)?;

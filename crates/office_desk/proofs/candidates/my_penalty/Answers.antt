@@ -1,11 +1,13 @@
 use Rattle.std.proofs.Common.{refl}
-use Rattle.sqlite.specs.Held.{state}
-use Rattle.office_store.specs.Running.{Represents}
-use Rattle.office_desk.proofs.AnswerLemmas.{penalty_answered}
+use Rattle.office_model.specs.Answers.{my_cost}
+use Rattle.office_model.specs.Candidates.{cost}
+use Rattle.office_model.specs.Shown.{shown_penalty}
+use Rattle.office_model.specs.Views.{view_of}
+use Rattle.office_desk.proofs.AnswerLemmas.{candidate_performed}
 use Rattle.office_desk.proofs.candidates.my_penalty.Goals as goal
 
-pub returns-clause-performs : goal.returns-clause-performs
-returns-clause-performs g c = λ clean office now.
-    penalty_answered c.args.caller office
-    (Represents (state g.S.Store c.penalty_of_caller.new.office))
-    c.in_ok-penalty.penalty _ (c.in_ok-penalty.ensures.shows clean office now) refl
+pub returns : goal.returns
+returns g c =
+    candidate_performed g.S.Store c.args.caller cost (λ s o. shown_penalty (view_of s o))
+    c.args.office.now c.penalty_of_caller.new.office my_cost c.in_ok-penalty.penalty _
+    (λ s o. refl) c.in_ok-penalty.ensures refl

@@ -1,18 +1,20 @@
-use Rattle.sqlite.specs.Held.{state}
+use Rattle.std.proofs.Common.{◌≡◌, Err, rules}
 use Rattle.office_model.specs.Answers.{now_edited}
 use Rattle.office_model.specs.DraftCommands.{draft_edited}
-use Rattle.office_store.specs.Running.{Represents}
-use Rattle.office_desk.proofs.AnswerLemmas.{err_answered, fault_refused, fault_answered}
+use Rattle.office_model.specs.Step.{edit_outcome}
+use Rattle.office_desk.proofs.AnswerLemmas.{body_performed, fault_performed}
 use Rattle.office_desk.proofs.changing.edit.Goals as goal
 
-pub returns-in_err-penalty-clause-edits : goal.returns-in_err-penalty-clause-edits
-returns-in_err-penalty-clause-edits g c clean office now =
-    fault_answered (now_edited c.args.number) office
-    (draft_edited c.args.number c.args.change office)
-    (Represents (state g.S.Store c.edit.new.self)) _ _
-    (c.in_err-penalty.ensures.runs clean office now)
-    (err_answered _ _ c.from_residual.ensures.1)
+pub returns-in_err-change : goal.returns-in_err-change
+returns-in_err-change g c =
+    let is : c.from_residual.result ≡ Err c.in_err-change.field-0.0 = search rules in
+    body_performed g.S.Store (λ office edit. edit_outcome c.args.number edit office)
+    c.args.change c.args.office.now _ _ is c.in_err-change.ensures
 
-pub returns-in_err-penalty-clause-all_committed : goal.returns-in_err-penalty-clause-all_committed
-returns-in_err-penalty-clause-all_committed g c =
-    fault_refused g.S.Store c.edit.new.self _ _ c.from_residual.ensures.1
+pub returns-in_err-penalty : goal.returns-in_err-penalty
+returns-in_err-penalty g c =
+    rw c.in_ok-change.ensures
+    (fault_performed g.S.Store (now_edited c.args.number)
+    (draft_edited c.args.number c.in_ok-change.change) c.args.office.now c.edit.new.self _ _
+    c.in_err-penalty.ensures.runs c.in_err-penalty.ensures.leaves.clean
+    c.from_residual-in_err-penalty.ensures.1)

@@ -1,24 +1,21 @@
-use Rattle.sqlite.specs.Held.{state}
+use Rattle.std.proofs.Common.{◌≡◌, Err, rules}
+use Rattle.office_policy.specs.CommandBodies.{plain_text}
 use Rattle.office_model.specs.Answers.{now_loaded}
 use Rattle.office_model.specs.Loading.{loaded}
-use Rattle.office_store.specs.Running.{Represents}
-use Rattle.office_desk.proofs.AnswerLemmas.{body_refused, err_answered, fault_refused, fault_answered}
-use Rattle.std.proofs.Common.{◌≡◌, Err, inl, rules, subst, sym}
-use Rattle.office_desk.specs.Answers.{IsRefusal}
-use Rattle.office_desk.specs.Performing.{answer_of}
+use Rattle.office_model.specs.Step.{outcome}
+use Rattle.office_desk.proofs.AnswerLemmas.{body_performed, fault_performed, text_faulty}
 use Rattle.office_desk.proofs.changing.load.Goals as goal
 
-pub returns-in_err-loaded-clause-performs : goal.returns-in_err-loaded-clause-performs
-returns-in_err-loaded-clause-performs g c caller clean office now =
-    rw c.in_ok-text.ensures (fault_answered now_loaded office (loaded c.in_ok-text.text.now office)
-    (Represents (state g.S.Store c.load.new.self)) _ _
-    (c.in_err-loaded.ensures.runs clean office now)
-    (err_answered _ _ c.from_residual-in_err-loaded.ensures.1))
-
-pub returns-in_err-text-clause-all_committed : goal.returns-in_err-text-clause-all_committed
-returns-in_err-text-clause-all_committed g c clean =
+pub returns-in_err-text : goal.returns-in_err-text
+returns-in_err-text g c caller =
     let is : c.from_residual.result ≡ Err c.in_err-text.field-0.0 = search rules in
-    inl (subst (λ r. IsRefusal (answer_of r)) (sym is) (body_refused _ _ c.in_err-text.ensures))
+    body_performed g.S.Store (λ office bytes. outcome now_loaded office (loaded bytes office))
+    (plain_text c.args.body) c.args.office.now _ _ is (text_faulty _ _ c.in_err-text.ensures)
 
-pub returns-in_err-loaded-clause-all_committed : goal.returns-in_err-loaded-clause-all_committed
-returns-in_err-loaded-clause-all_committed g c = fault_refused g.S.Store c.load.new.self _ _ c.from_residual-in_err-loaded.ensures.1
+pub returns-in_err-loaded : goal.returns-in_err-loaded
+returns-in_err-loaded g c caller =
+    rw c.in_ok-text.ensures
+    (fault_performed g.S.Store now_loaded (loaded c.in_ok-text.text.now) c.args.office.now
+    c.load.new.self _ _
+    c.in_err-loaded.ensures.runs c.in_err-loaded.ensures.leaves.clean
+    c.from_residual-in_err-loaded.ensures.1)

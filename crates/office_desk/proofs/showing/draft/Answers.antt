@@ -1,15 +1,22 @@
 use Rattle.std.proofs.Common.{ap}
-use Rattle.sqlite.specs.Held.{state}
 use Rattle.exam_score.specs.Penalty.{total_of}
 use Rattle.office_model.specs.Answers.{shown_draft}
 use Rattle.office_model.specs.DraftCommands.{draft_shown}
-use Rattle.office_store.specs.Running.{Represents}
-use Rattle.office_desk.proofs.AnswerLemmas.{ok_answered}
+use Rattle.office_desk.proofs.AnswerLemmas.{fault_performed, ok_performed}
 use Rattle.office_desk.proofs.showing.draft.Goals as goal
 
-pub returns-clause-performs : goal.returns-clause-performs
-returns-clause-performs g c caller clean office now =
-    ok_answered (λ found. shown_draft c.args.number found.0 (total_of found.1)) office
-    (draft_shown c.args.number office) (Represents (state g.S.Store c.draft.new.self)) _ _
-    (c.in_ok-timetable.ensures.runs clean office now)
+pub returns-in_err-timetable : goal.returns-in_err-timetable
+returns-in_err-timetable g c caller =
+    fault_performed g.S.Store
+    (λ found. shown_draft c.args.number found.0 (total_of found.1))
+    (draft_shown c.args.number) c.args.office.now c.draft.new.self _ _
+    c.in_err-timetable.ensures.runs c.in_err-timetable.ensures.leaves.clean
+    c.from_residual.ensures.1
+
+pub returns : goal.returns
+returns g c caller =
+    ok_performed g.S.Store (λ found. shown_draft c.args.number found.0 (total_of found.1))
+    (draft_shown c.args.number) c.args.office.now c.draft.new.self _ _
+    c.in_ok-timetable.ensures.runs c.in_ok-timetable.ensures.leaves.clean
+    c.in_ok-timetable.ensures.leaves.all_committed
     (ap (shown_draft c.args.number c.in_ok-timetable.timetable) c.total.ensures.total)

@@ -1,14 +1,33 @@
 use Rattle.std.proofs.Common.{ap}
-use Rattle.sqlite.specs.Held.{state}
+use Rattle.exam_model.specs.Timetable.{Placing}
+use Rattle.exam_score.specs.Penalty.{Penalty}
 use Rattle.office_reports.specs.Reports.{penalty_text}
 use Rattle.office_model.specs.Answers.{text}
-use Rattle.office_store.specs.Running.{Represents}
-use Rattle.office_desk.proofs.AnswerLemmas.{priced_answered}
+use Rattle.office_model.specs.DraftCommands.{draft_shown}
+use Rattle.office_store.specs.Pricing.{draft_priced}
+use Rattle.office_desk.proofs.AnswerLemmas.{fault_performed, memory_performed, ok_performed, part_performed}
 use Rattle.office_desk.proofs.showing.penalty.Goals as goal
 
-pub returns-clause-performs : goal.returns-clause-performs
-returns-clause-performs g c caller clean office now =
-    priced_answered (λ parts. text (penalty_text parts)) c.args.number office
-    (Represents (state g.S.Store c.penalty.new.self)) _ _
-    (c.in_ok-parts.ensures.runs clean office now)
-    (ap text (rw c.into_bytes.ensures.value c.in_ok-report.ensures))
+pub returns-in_err-report : goal.returns-in_err-report
+returns-in_err-report g c caller =
+    memory_performed g.S.Store _ c.args.office.now c.penalty.new.self _
+    c.in_ok-parts.ensures.leaves c.from_residual-in_err-report.ensures.1
+
+pub returns-in_err-parts : goal.returns-in_err-parts
+returns-in_err-parts g c caller =
+    part_performed g.S.Store (λ (found : Placing × Penalty). found.1)
+    (λ parts. text (penalty_text parts)) (draft_shown c.args.number) c.args.office.now
+    c.penalty.new.self _
+    (fault_performed g.S.Store (λ parts. text (penalty_text parts)) (draft_priced c.args.number)
+    c.args.office.now c.penalty.new.self _ _ c.in_err-parts.ensures.runs
+    c.in_err-parts.ensures.leaves.clean c.from_residual.ensures.1)
+
+pub returns : goal.returns
+returns g c caller =
+    part_performed g.S.Store (λ (found : Placing × Penalty). found.1)
+    (λ parts. text (penalty_text parts)) (draft_shown c.args.number) c.args.office.now
+    c.penalty.new.self _
+    (ok_performed g.S.Store (λ parts. text (penalty_text parts)) (draft_priced c.args.number)
+    c.args.office.now c.penalty.new.self _ _ c.in_ok-parts.ensures.runs
+    c.in_ok-parts.ensures.leaves.clean c.in_ok-parts.ensures.leaves.all_committed
+    (ap text (rw c.into_bytes.ensures.value c.in_ok-report.ensures)))

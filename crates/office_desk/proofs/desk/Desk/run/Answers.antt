@@ -11,4 +11,4 @@ returns-in-Ok-Ok-clause-runs g c clean office now =
     let read = c.in-Ok-Ok.ensures.reads (c.perform.ensures.clean clean) office inside in
     rw c.into_answer.ensures (permitted_step office c.args.caller (plain_command c.args.command.now)
     (Represents (state g.S.Store c.perform.new.office)) _ (sym c.in-Ok-Ok.field-0-is ∙ read.0)
-    (c.perform.ensures.performs clean office read.1))
+    (c.perform.ensures.answers clean office read.1))
