@@ -21,6 +21,10 @@ use std::alloc::{AllocError, Global};
 use std::io::Read;
 use std::marker::Model;
 
+// From this many solutions on, a session's conflicts are listed: judging 10 to 18 solutions by the
+// list saves the time that the listing takes.
+pub(crate) const LISTED_FROM: usize = 20;
+
 /// A session for judging solutions.
 #[derive(Drop)]
 pub struct Judge {
@@ -58,7 +62,12 @@ pub enum LineForm {
 
 impl Judge {
     /// Reads the session, in at most 5,000,000 reads; an interrupted read counts, and is retried.
-    pub fn new<R: Read>(alloc: Global, reader: &mut R) -> Result<Judge, InputFault>
+    /// `solutions` is how many will be judged: it changes only how long that takes.
+    pub fn new<R: Read>(
+        alloc: Global,
+        reader: &mut R,
+        solutions: usize,
+    ) -> Result<Judge, InputFault>
         ensures reading { IfOk result (λ judge. IfSome (R.remaining reader.old)
             (λ input. InstanceText input judge.0 judge.1)) }
         ensures spelled { IfOk result (λ judge.
@@ -69,11 +78,14 @@ impl Judge {
         ensures taken { ReadsAtMost (INSTANCE_BYTES + 1)
             (R.remaining reader.old) (R.remaining reader.new) }
     {
-        let (instance, enrolments) = instance_of(alloc, reader)?;
-        Ok(Judge {
-            instance,
-            enrolments,
-        })
+        let (instance, mut enrolments) = instance_of(alloc, reader)?;
+        match prepare(alloc, &mut enrolments, solutions) {
+            Ok(()) => Ok(Judge {
+                instance,
+                enrolments,
+            }),
+            Err(_) => Err(InputFault::NoMemory),
+        }
     }
 
     /// Judges the solution of a reader, in at most as many reads.
@@ -90,6 +102,17 @@ impl Judge {
     {
         judge_by(alloc, &self.instance, &self.enrolments, reader)
     }
+}
+
+// Lists the conflicts if that saves time for this many solutions.
+fn prepare(alloc: Global, enrolments: &mut Enrolments, solutions: usize) -> Result<(), AllocError>
+    ensures { enrolments.new ≡ enrolments.old }
+{
+    let pays = solutions >= LISTED_FROM;
+    if pays {
+        enrolments.list_conflicts(alloc)?;
+    }
+    Ok(())
 }
 
 // Returns the verdict by a session's parts.

@@ -51,7 +51,7 @@ pub(crate) fn check_all<'a, R: Files + AllocGlobal, W: Write, E: Write>(
     ensures unwritten { IfErr result (λ fault. fault ≢ ProgramFault.CannotWrite
         → Keeps (W.contents out.old) (W.contents out.new)) }
 {
-    let judge = match judge_at(rt, session) {
+    let judge = match judge_at(rt, session, solutions.len()) {
         Ok(judge) => judge,
         Err(fault) => return Err(fault_of_input(fault, session)),
     };
@@ -64,14 +64,18 @@ pub(crate) fn check_all<'a, R: Files + AllocGlobal, W: Write, E: Write>(
     }
 }
 
-// Reads the session of this path.
-fn judge_at<R: Files + AllocGlobal>(rt: &R, path: &str) -> Result<Judge, InputFault>
+// Reads the session of this path, for this many solutions.
+fn judge_at<R: Files + AllocGlobal>(
+    rt: &R,
+    path: &str,
+    solutions: usize,
+) -> Result<Judge, InputFault>
     ensures { IfOk result (λ judge. (text : List ℕ) × InstanceText text judge.0 judge.1) }
 {
     let Ok(mut file) = fs::open(rt, path) else {
         return Err(InputFault::Read);
     };
-    Judge::new(rt.alloc(), &mut file)
+    Judge::new(rt.alloc(), &mut file, solutions)
 }
 
 // Returns the exit status.

@@ -6,6 +6,8 @@ mod batches;
 #[cfg(test)]
 mod checks;
 #[cfg(test)]
+mod conflicts;
+#[cfg(test)]
 mod drafts;
 #[cfg(test)]
 mod enrolments;

@@ -9,7 +9,7 @@ use office_reports::{rule_name, violation_report};
 use std::alloc::Global;
 use std::test::Fail;
 
-fn breach(rule: BreachRule, exam: u32, other: u32) -> Breach {
+pub(crate) fn breach(rule: BreachRule, exam: u32, other: u32) -> Breach {
     Breach {
         rule,
         exam: ExamNo::new(exam),

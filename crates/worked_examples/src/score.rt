@@ -167,7 +167,7 @@ fn personal_penalties(rt: HostRuntime) -> Result<(), Fail> {
 }
 
 // The weights of the small session, and 6 for a night.
-const WITH_NIGHTS: Weights = Weights {
+pub(crate) const WITH_NIGHTS: Weights = Weights {
     night: 6,
     ..WEIGHTS
 };
@@ -221,11 +221,11 @@ fn over_night(rt: HostRuntime) -> Result<(), Fail> {
         return Err("a place that doesn't exist")?;
     }
     let before = score(alloc, &instance, &enrolments, &old)?;
-    assert_same(&rt, numbers(&before), [7, 0, 3, 0, 0, 0, 15, 7], "before");
-    let after = score(alloc, &instance, &enrolments, &new)?;
-    assert_same(&rt, numbers(&after), [7, 0, 3, 6, 0, 0, 20, 7], "after");
     let edited = [two];
     let parts = difference(alloc, &instance, &enrolments, &old, &new, &edited, before)?;
+    let after = score(alloc, &instance, &enrolments, &new)?;
+    assert_same(&rt, numbers(&before), [7, 0, 3, 0, 0, 0, 15, 7], "before");
+    assert_same(&rt, numbers(&after), [7, 0, 3, 6, 0, 0, 20, 7], "after");
     assert_same(&rt, numbers(&parts), numbers(&after), "difference");
     Ok(())
 }
