@@ -1,9 +1,9 @@
 #!/usr/bin/env python3
-"""The invariants of the architecture that docs/ARCHITECTURE.md states, held against the crates.
+"""The invariants of the architecture that docs/ARCHITECTURE.md states, compared with the crates.
 
-What a crate stands on is read from crates.txt, what it names from the `use` lines of its sources,
-definitions and proofs. The list of the crates has to go in the order of crates.txt.
-Prints a line for each failure; status 1 where there is one.
+The libraries of a crate are read from crates.txt, what it names from the `use` lines of its sources,
+definitions and proofs. The list of the crates has to have the order of crates.txt.
+Prints a line for each failure; status 1 if there is one.
 """
 
 import pathlib
@@ -85,7 +85,7 @@ def is_test(crate):
 
 
 def session_knows_no_file_and_no_database(crates, knows):
-    """An exam_ crate stands on exam_ crates alone, but for dates, and names no device."""
+    """An exam_ crate uses only exam_ crates, except for dates, and names no device."""
     for crate in filter(is_session, crates):
         for name, where in knows[crate].items():
             if not is_session(name) and name not in ("jiff", "jiff_core", "std"):
@@ -118,7 +118,7 @@ def sql_is_known_below(crates, knows):
 
 
 def messages_know_no_route(crates, knows):
-    """office_messages stands on no crate of the repository, and on no router."""
+    """office_messages uses no crate of the repository, and no router."""
     for name, where in knows["office_messages"].items():
         if name in crates or name in ("matchit", "serde_json"):
             yield f"office_messages knows {name} ({where})"

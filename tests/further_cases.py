@@ -1,4 +1,4 @@
-"""Further cases of the office over sockets, which run_serve.py asks and no sweep does: streams that are
+"""Further cases of the office over sockets, which run_serve.py sends and no sweep does: streams that are
 no plain requests, edits and owners, and the texts of batches."""
 from serve_cases import (
     COINCIDING, EMPTY, FROM_SOLUTION, NIGHTLY, NIGHTS, PENALTY, SHOWN, SMALL, SMALLEST, VIOLATIONS,

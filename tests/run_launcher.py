@@ -189,6 +189,11 @@ def releases(repository, banned):
     yield from asked_builds(repository)
     specs.unlink()
     yield ("the program is not what its sources are built to", 1, repository.checked()[0])
+    kit = repository.top / "release" / "KIT"
+    kit.write_text("another kit\n")
+    yield ("a release of another kit can't be compared", (0, "release: it is whole, and was built with another "
+           "kit (another kit), so its bytes are not compared\n"), repository.checked())
+    kit.write_text("a kit\n")
     with open(repository.top / "release" / "examoffice", "a", encoding="utf-8") as program:
         program.write("\n")
     yield ("a release that was changed", (1, "release: examoffice is not the program of SHA256\n"),

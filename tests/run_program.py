@@ -268,6 +268,13 @@ CASES = [
                b"none.sol: examoffice: cannot read none.sol\n"
                b"long.sol: examoffice: solution line 0: fault 1\n"
                b"a folder: examoffice: cannot read a folder\n"),
+    *check_all("one solution less than the 20 for which conflicts are listed",
+               ["crowded.sol", *["together.sol", "early.sol"] * 9], 3),
+    *check_all("20 solutions, for which conflicts are listed",
+               ["crowded.sol", "small.sol", *["together.sol", "early.sol"] * 9], 3),
+    *check_all("20 solutions of which one has a fault",
+               ["crowded.sol", "three.sol", *["together.sol", "early.sol"] * 9], 1,
+               b"three.sol: examoffice: solution line 4: fault 3\n"),
     *check_all("no solution that can be judged", ["odd.sol"], 1,
                b"odd.sol: examoffice: solution line 2: fault 4\n"),
     Case("a solution over night", ("check-all", "nights.exam", "early.sol"), 3,
@@ -275,6 +282,8 @@ CASES = [
     Case("a solution over night, as JSON", ("check-all", "--json", "nights.exam", "early.sol"), 3,
          b'{"breaches":1,"day":0,"front":4,"mixed":0,"night":6,"path":"early.sol","period":20,'
          b'"room":7,"row":0,"spread":3,"total":40}\n'),
+    Case("20 solutions over night", ("check-all", "nights.exam", *["early.sol"] * 20), 3,
+         b"1 40 0 0 3 6 0 4 20 7 early.sol\n" * 20),
     Case("solutions of a faulty session", ("check-all", "five.exam", "small.sol", "none.sol"), 1,
          b"", b"examoffice: instance line 1: fault 3\n"),
     Case("solutions of a session that isn't there", ("check-all", "none.exam", "small.sol"), 1,

@@ -1,12 +1,12 @@
 #!/usr/bin/env python3
-"""run_using.py PROGRAM [PAGE..]: what README.md, USING.md, WEEK.md and OPERATING.md tell the reader to type
-answers what they say.
+"""run_using.py PROGRAM [PAGE..]: whether the commands of README.md, USING.md, WEEK.md and OPERATING.md print
+what these pages say.
 
 A page's blocks of commands are typed into one shell, in a fresh folder that has the examples, tools and
-the program, and what each prints is held against the block below it, byte for byte; but for the
-port, which is a free one, and for the line end behind a reply that has none. Each request has to
-stand in docs/openapi.yaml, with its status and type. A failing block is printed with what was
-expected and what came, and the last line counts the blocks.
+the program. The output of each is compared with the block below it, byte for byte, except for the port,
+which is a free one, and the line end after a reply that has none. Each request has to be in
+docs/openapi.yaml, with its status and type. A failing block is printed with the expected and the actual
+output, and the last line counts the blocks.
 """
 import os
 import pathlib
@@ -48,7 +48,7 @@ class Shell:
                 env={**os.environ, "CURL_HOME": str(folder)}, start_new_session=True)
 
     def answer(self, commands, expected):
-        """What the commands print. What runs on behind them may print a moment later."""
+        """What the commands print; a program that they leave running may print a moment later."""
         self.process.stdin.write(commands.encode() + b"printf '\\001'\n")
         self.process.stdin.flush()
         came, end = b"", time.monotonic() + SECONDS

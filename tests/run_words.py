@@ -1,5 +1,5 @@
 #!/usr/bin/env python3
-"""run_words.py: whether `./words` prints what a word of a contract means.
+"""run_words.py: whether `./words` prints what words of a contract mean.
 
 Each command that a page of docs/ or README.md names is run. Its page has to end with the word that was
 asked for, and may use no word of a page that it prints before that word is defined.
@@ -38,6 +38,10 @@ def main():
     _, text, _ = asked("exam_rules", "breaches_of")
     order = [word for word in defined(text) if word in ("place_satisfies", "breaks", "pairs_breaking", "breaches_of")]
     judged.judge("what is used comes first", ["place_satisfies", "breaks", "pairs_breaking", "breaches_of"], order)
+    both = ("exam_rules", "breaks"), ("exam_score", "total_of")
+    judged.judge("two words: the definitions of both", set(defined(asked(*both[0], *both[1])[1])),
+                 {name for one in both for name in defined(asked(*one)[1])})
+    judged.judge("a crate without a word", 1, asked("exam_rules")[0])
     judged.judge("no such word", (1, "", "words: exam_rules defines no word nothing\n"),
                  asked("exam_rules", "nothing"))
     judged.judge("no such crate", (1, "", "words: there is no crate exam_rule with definitions\n"),
