@@ -1,24 +1,22 @@
 -- Conflicts: the students whom two exams share, counted along the sitters, and sums over conflicts.
 use Rattle.std.specs.List.{list_any, AllByRecursion}
-use Rattle.std.specs.List.Sorted.{IsNonDecreasingBy, IsPermutation}
 use Rattle.std.specs.Prelude.{◌==◌, ◌&&◌, ◌||◌, All}
-use Rattle.std.proofs.Common.{◌≡◌, ℕ, zero, suc, ◌+◌, ◌-◌, ◌*◌, ◌<◌, ◌≤◌, Bool, true, false, cond, eqb, ltb, lt-ltb, le-ltb, inl, inr, List, [], ◌∷◌, length, take, drop, map, get_or, sum_by, count_by, refl, ap, ap₂, sym, ◌∙◌, subst, arith, zero-mul, add-zero, zero-add, eqb-true, length-take}
+use Rattle.std.proofs.Common.{◌≡◌, ◌≢◌, ◌++◌, append_assoc, append-nil, add-one, ℕ, zero, suc, ◌+◌, ◌*◌, ◌<◌, ◌≤◌, Bool, true, false, cond, eqb, ltb, lt-ltb, le-ltb, inl, inr, List, [], ◌∷◌, length, take, drop, map, get_or, sum_by, count_by, refl, ap, ap₂, sym, ◌∙◌, subst, arith, zero-mul, add-zero, zero-add, eqb-true}
 use Rattle.std.proofs.lemmas.Bool.{cases_eq, cases_lt, eq-eqb, ne_eqb}
 use Rattle.std.proofs.lemmas.Bool.Decides.{nat_tests}
-use Rattle.std.proofs.lemmas.List.{get_or-take, get_or-drop, get_or_default, get_or_past, length-drop, length-map}
+use Rattle.std.proofs.lemmas.List.{get_or-drop, get_or_past, length-drop}
 use Rattle.std.proofs.lemmas.List.Elements.{All-append, All-from_recursion, All-nil}
-use Rattle.std.proofs.lemmas.List.Folds.{fold-map, list_any-append}
-use Rattle.std.proofs.lemmas.List.Sorted.{All-permutation, length_permutation, sum_by-IsPermutation}
+use Rattle.std.proofs.lemmas.List.Folds.{list_any-append}
 use Rattle.std.proofs.lemmas.List.Sums.{sum_by-append, sum_by-cons, sum_by-take-drop}
-use Rattle.exam_model.specs.Conflicts.{AreFewEach, AreSitters, conflict_if, conflicts_below, conflicts_of, conflicts_with, is_conflict}
-use Rattle.exam_model.specs.Enrolments.{AreEnrolments, Enrolled, IsAscending, has, has_number, shared, students}
-use Rattle.exam_model.specs.Pairs.{Pair, pairs_of}
-use Rattle.exam_model.specs.Sitters.{is_sitter, pair_of}
+use Rattle.exam_model.specs.Conflicts.{conflict_if, conflicts_below, conflicts_of, conflicts_with, is_conflict}
+use Rattle.exam_model.specs.Enrolments.{AreEnrolments, Enrolled, IsAscending, has_number, shared, students}
+use Rattle.exam_model.specs.Pairs.{Pair}
+use Rattle.exam_model.specs.Sitters.{is_sitter}
 use Rattle.exam_model.specs.Sums.{sum_below, sum_pairs_below}
 use Rattle.exam_model.specs.declared.conflicts.Conflict.{Conflict}
 use Rattle.exam_model.specs.declared.sitter.Sitter.{Sitter}
 use Rattle.exam_model.proofs.EnrolmentLemmas.{and-false, and-true}
-use Rattle.exam_model.proofs.PairLemmas.{are_pairs, count_from, from_within, or-false}
+use Rattle.exam_model.proofs.PairLemmas.{or-false}
 use Rattle.exam_model.proofs.SameSet.{first_once, tail_ascends}
 use Rattle.exam_model.proofs.SumLemmas.{sum_by-same, sum_by-turned, sum_by-zeros}
 
@@ -71,14 +69,6 @@ none_counted t (x ∷ xs) none =
     let others = none_counted t xs (λ k d lt. none (suc k) d (omega arith)) in
     omega (arith, sum_by-cons (λ y. cond (t y) 1 0) x xs, first, others)
 
--- nothing is counted before index i
-pub none_before : {X : Type 0} (t : X → Bool) (xs : List X) (i : ℕ)
-    → ((k : ℕ) (d : X) → k < i → t (get_or xs k d) ≡ false) → count_by t (take i xs) ≡ 0
-none_before t xs i none =
-    none_counted t (take i xs) (λ k d lt.
-    let within : k < i = (let l = length-take i xs in omega (arith, l, lt)) in
-    ap t (get_or-take i xs k d within) ∙ none k d within)
-
 -- nothing is counted from index i on
 pub none_after : {X : Type 0} (t : X → Bool) (xs : List X) (i : ℕ)
     → ((k : ℕ) (d : X) → i ≤ k → k < length xs → t (get_or xs k d) ≡ false)
@@ -124,58 +114,35 @@ shared_by_sitters E e f known lt =
     sum_by-same _ _ (λ s. ap (λ b. cond b 1 0) (eqb-swap t s)) (students E f)
     ∙ counted_once (students E f) t (known.ascending f lt)) (students E e)
 
--- a student is in an exam at most once
-pub sitter_once : (E : Enrolled) (sitters : List Sitter) (s e : ℕ) → AreEnrolments E
-    → AreSitters E sitters → e < length E → count_by (is_sitter s e) sitters ≤ 1
-sitter_once E sitters s e known are lt =
-    let once = counted_once (students E e) s (known.ascending e lt) in
-    let few = at_most_one (has E s e) in
-    omega (arith, are.counts s e, once, few)
-  where
-    at_most_one : (b : Bool) → cond b 1 0 ≤ 1
-    at_most_one true = omega arith
-    at_most_one false = omega arith
+-- a fact about the pairs that elements are mapped to
+pub each_mapped : {X : Type 0} (f : X → Pair) (P : Pair → Type 0) (xs : List X)
+    → AllByRecursion P (map f xs) → AllByRecursion (λ x. P (f x)) xs
+each_mapped f P [] h = tt
+each_mapped f P (x ∷ xs) h = (h.0, each_mapped f P xs h.1)
 
--- a student whom two sitters have, one 30 places after the other, has more than 30 exams
-pub too_many : (sitters : List Sitter) (i : ℕ) (x y : Sitter) → 30 ≤ i → i < length sitters
-    → (get_or sitters i x).student ≡ (get_or sitters (i - 30) y).student → AreFewEach sitters → ⊥
-too_many sitters i x y low lt same few =
-    let back : i ≡ i - 30 + 30 = omega arith in
-    few (i - 30) y (omega arith)
-    (sym same ∙ ap (λ (z : Sitter). z.student) (get_or_default sitters i x y lt)
-    ∙ ap (λ k. (get_or sitters k y).student) back)
+-- ---- one exam more
 
--- ---- the sitters of all exams
+-- it shares students
+pub with_some : (E : Enrolled) (f e n : ℕ) (old found : List Conflict) → n ≡ shared E e f → n ≢ 0
+    → found ≡ old ++ conflicts_with E f e
+    → found ++ record { exam = e; other = f; students = n } ∷ [] ≡ old ++ conflicts_with E f (e + 1)
+with_some E f e n old found is some was =
+    let y : Conflict = record { exam = e; other = f; students = n } in
+    let step : conflict_if e f (shared E e f) ≡ y ∷ [] =
+    ap (conflict_if e f) (sym is) ∙ ap (λ b. cond b [] (y ∷ [])) (ne_eqb n 0 some) in
+    ap (λ xs. xs ++ y ∷ []) was
+    ∙ append_assoc old (conflicts_with E f e) (y ∷ [])
+    ∙ ap (λ xs. old ++ (conflicts_with E f e ++ xs)) (sym step)
+    ∙ sym (ap (λ k. old ++ conflicts_with E f k) (add-one e))
 
--- a fact about the pairs of all sitters
-pub each_mapped : (P : Pair → Type 0) (xs : List Sitter) → AllByRecursion P (map pair_of xs)
-    → AllByRecursion (λ x. P (pair_of x)) xs
-each_mapped P [] h = tt
-each_mapped P (x ∷ xs) h = (h.0, each_mapped P xs h.1)
-
--- the pairs of all exams, in any order but that of the students, are the sitters
-pub are_sitters : (E : Enrolled) (sitters sorted : List Sitter) → AreEnrolments E
-    → map pair_of sitters ≡ pairs_of E → IsPermutation sitters sorted
-    → IsNonDecreasingBy (λ x. x.student) sorted → AreSitters E sorted
-are_sitters E sitters sorted known are moved order = record {
-  exist = All-permutation (λ x. x.exam < length E) sitters sorted moved
-      (All-from_recursion (λ x. x.exam < length E) sitters
-      (each_mapped (λ p. p.exam < length E) sitters
-      (subst (AllByRecursion (λ p. p.exam < length E)) (sym are)
-      (from_within (length E) 0 E (omega arith)))));
-  few =
-      let same = length_permutation sitters sorted moved in
-      let mapped = length-map sitters pair_of in
-      let paired = ap length are in
-      let all = (are_pairs E known).count in
-      omega (arith, same, mapped, paired, all, known.pairs);
-  counts = λ s e.
-      sum_by-IsPermutation (λ x. cond (is_sitter s e x) 1 0) sitters sorted moved
-      ∙ sym (fold-map (λ a p. a + cond ((p.exam == e) && (p.student == s)) 1 0) pair_of 0 sitters)
-      ∙ ap (count_by (λ p. (p.exam == e) && (p.student == s))) are
-      ∙ count_from e 0 e (λ t. t == s) E (omega arith);
-  in_order = order;
-}
+-- it shares none
+pub with_none : (E : Enrolled) (f e : ℕ) (old found : List Conflict) → 0 ≡ shared E e f
+    → found ≡ old ++ conflicts_with E f e → found ≡ old ++ conflicts_with E f (e + 1)
+with_none E f e old found is was =
+    was
+    ∙ ap (λ xs. old ++ xs) (sym (append-nil (conflicts_with E f e)))
+    ∙ ap (λ n. old ++ (conflicts_with E f e ++ conflict_if e f n)) is
+    ∙ sym (ap (λ k. old ++ conflicts_with E f k) (add-one e))
 
 -- ---- the exams of conflicts
 

@@ -1,4 +1,5 @@
 pub mod ConflictLemmas
+mod LinkLemmas
 mod CountLemmas
 mod EnrolLemmas
 mod EnrolmentLemmas

@@ -113,7 +113,7 @@ count_from e f (suc k) t (xs ∷ rest) here =
     ∙ rw (ne_eqb f e (omega arith))
     (omega (arith, count_none xs, count_from e (f + 1) k t rest (omega arith)))
 
-length_from : (f : ℕ) (E : Enrolled) → length (pairs_from f E) ≡ pair_count E
+pub length_from : (f : ℕ) (E : Enrolled) → length (pairs_from f E) ≡ pair_count E
 length_from f [] = refl
 length_from f (xs ∷ rest) =
     let both = length-append (pairs_at f xs) (pairs_from (f + 1) rest) in

@@ -1,5 +1,6 @@
 pub mod Sums
 pub mod Limits
+pub mod Links
 pub mod Instance
 pub mod Distances
 pub mod Enrolments

@@ -1,7 +1,8 @@
 -- A timetable: a partial map from the exams 0, 1, 2, .. to places.
-use Rattle.std.specs.Prelude.{◌≡◌, ℕ, ◌<◌, ◌≤◌, List, length, Option, None, IsSome, slice_index_or, replicate}
+use Rattle.std.specs.Prelude.{◌≡◌, ℕ, ◌<◌, ◌≤◌, List, length, Option, None, Some, IsSome, slice_index_or, replicate}
 use Rattle.exam_terms.specs.declared.limits.TheConstants.{MAX_EXAMS}
 use Rattle.exam_terms.specs.declared.place.Place.{Place}
+use Rattle.exam_model.specs.declared.timetable.TheConstants.{NO_PERIOD}
 
 -- each exam's place, if it has one, at the exam's number
 abbrev pub Placing : Type 0
@@ -10,6 +11,11 @@ Placing = List (Option Place)
 -- an exam's place, if it has one
 abbrev pub place_of : Placing → ℕ → Option Place
 place_of T e = slice_index_or T e None
+
+-- the number of a place's period; for none, a number that no period has
+abbrev pub period_number : Option Place → ℕ
+period_number None = NO_PERIOD
+period_number (Some at) = at.period
 
 -- a timetable of this many exams, none of which is placed
 abbrev pub unplaced : ℕ → Placing

@@ -131,14 +131,15 @@ impl Enrolments {
         both as u32
     }
 
-    /// Lists the conflicts of the exams, if they aren't listed and no student has more than 30 exams:
-    /// then timetables are judged faster, until the next change. `Err`: out of memory.
+    /// Lists the conflicts of the exams, if they aren't listed and students don't have so many
+    /// exams that this takes long: then timetables are judged faster, until the next change. `Err`:
+    /// out of memory.
     pub fn list_conflicts(&mut self, alloc: Global) -> Result<(), AllocError>
         ensures same { self.new ≡ self.old }
         ensures kept { AreEnrolments self.new }
     {
         if self.conflicts.is_none() {
-            self.conflicts = conflicts_of(alloc, &self.rolls)?;
+            self.conflicts = conflicts_of(alloc, &self.rolls, self.pairs)?;
         }
         Ok(())
     }

@@ -1,11 +1,15 @@
 // A timetable: contracts see a list with each exam's place, if it has one.
-ghost use Rattle.std.specs.Prelude.{◌≡◌, ◌<◌, ◌≤◌, ℕ, length, Some, None, IfOk, IfNone, IfSome, IsSome, slice_set};
+ghost use Rattle.std.specs.Prelude.{◌≡◌, ◌<◌, ◌≤◌, ℕ, length, map, Some, None, IfOk, IfNone, IfSome, IsSome, slice_set};
 ghost use Rattle.exam_terms.specs.declared.limits.TheConstants.{MAX_EXAMS};
-ghost use Rattle.exam_model.specs.Timetable.{Placing, place_of, unplaced, HasExams, IsFirstUnplaced};
+ghost use Rattle.exam_model.specs.Timetable.{Placing, period_number, place_of, unplaced, HasExams, IsFirstUnplaced};
 
 use exam_terms::{ExamNo, Place};
 use std::alloc::{AllocError, Global};
 use std::marker::Model;
+
+/// The number of the period of an exam without a place: a timetable that fits a session has no such
+/// period.
+pub const NO_PERIOD: u32 = u32::MAX;
 
 /// The place of each of 1 to 2,000 exams, if it has one.
 #[derive(Debug, Drop)]
@@ -57,6 +61,17 @@ impl Timetable {
         self.places[exam.get() as usize]
     }
 
+    /// Returns the number of each exam's period, or `NO_PERIOD`: faster to read many times than the
+    /// places. `Err`: out of memory.
+    pub fn periods(&self, alloc: Global) -> Result<Vec<u32>, AllocError>
+        ensures { IfOk result (λ periods. periods.items ≡ map period_number self.now) }
+    {
+        self.places
+            .iter()
+            .map(|place| period_number(*place))
+            .collect(alloc)
+    }
+
     /// Places the exam, whether or not it had a place.
     pub fn set(&mut self, exam: ExamNo, place: Place)
         requires exists { exam < length self.old }
@@ -83,5 +98,14 @@ impl Timetable {
     {
         let first = self.places.iter().position(|place| place.is_none())?;
         Some(ExamNo::new(first as u32))
+    }
+}
+
+fn period_number(place: Option<Place>) -> u32
+    ensures { result ≡ period_number place }
+{
+    match place {
+        Some(place) => place.period.get(),
+        None => NO_PERIOD,
     }
 }
