@@ -4,13 +4,10 @@ ghost use Rattle.std.specs.List.Sorted.{IsStrictlySortedBy};
 ghost use Rattle.exam_rules.specs.declared.breach.Breach.{Breach};
 ghost use Rattle.exam_rules.specs.Breach.{breach, breach_cmp};
 ghost use Rattle.exam_rules.specs.Places.{Fits};
-ghost use Rattle.exam_rules.specs.Groups.{AreGroups};
 ghost use Rattle.exam_rules.specs.Breaches.{is_breach, breaches_of, pairs_breaking};
 
 use crate::breach::{Breach, BreachRule, rules};
-use crate::exam_list::ExamList;
 use crate::exam_pair::ExamPair;
-use crate::groups::by_period;
 use crate::line_rules::{after_pairs, coincidence_pairs, exclusion_pairs};
 use crate::period_rules::{clash_pairs, duration_pairs};
 use crate::room_rules::{capacity_pairs, exclusive_pairs};
@@ -41,37 +38,29 @@ pub fn breaches(
         enrolments,
         timetable,
     };
-    let groups = by_period(alloc, instance, timetable)?;
     let mut found = Vec::new(alloc);
     'rules: for rule in &rules() {
-        let pairs = pairs_of(alloc, *rule, &site, &groups)?;
+        let pairs = pairs_of(alloc, *rule, &site)?;
         push_all(&mut found, *rule, &pairs)?;
     }
     Ok(found)
 }
 
 // Returns the pairs of exams that break a rule.
-fn pairs_of(
-    alloc: Global,
-    rule: BreachRule,
-    site: &Site,
-    groups: &[ExamList],
-) -> Result<Vec<ExamPair>, AllocError>
-    requires fits { Fits site.now.instance.now site.now.enrolments.now site.now.timetable.now }
-    requires grouped { AreGroups site.now.timetable.now (length site.now.instance.now.periods)
-        (length site.now.timetable.now) groups.now }
+fn pairs_of(alloc: Global, rule: BreachRule, site: &Site) -> Result<Vec<ExamPair>, AllocError>
+    requires { Fits site.now.instance.now site.now.enrolments.now site.now.timetable.now }
     ensures { IfOk result (λ pairs. pairs.items ≡ pairs_breaking site.now.instance.now
         site.now.enrolments.now site.now.timetable.now rule) }
 {
     let (instance, enrolments, timetable) = (site.instance, site.enrolments, site.timetable);
     match rule {
         BreachRule::Duration => duration_pairs(alloc, instance, timetable),
-        BreachRule::Clash => clash_pairs(alloc, instance, enrolments, timetable, groups),
+        BreachRule::Clash => clash_pairs(alloc, instance, enrolments, timetable),
         BreachRule::Capacity => capacity_pairs(alloc, instance, enrolments, timetable),
         BreachRule::After => after_pairs(alloc, instance, timetable),
         BreachRule::Coincidence => coincidence_pairs(alloc, instance, enrolments, timetable),
         BreachRule::Exclusion => exclusion_pairs(alloc, instance, timetable),
-        BreachRule::RoomExclusive => exclusive_pairs(alloc, instance, timetable, groups),
+        BreachRule::RoomExclusive => exclusive_pairs(alloc, instance, timetable),
     }
 }
 

@@ -1,5 +1,5 @@
 // The rules that depend only on the exams' periods: Duration and Clash.
-ghost use Rattle.std.specs.Prelude.{◌≡◌, ◌<◌, ℕ, Bool, true, ◌&&◌, ◌||◌, ◌==◌, nat_lt, length, All, IfOk, OnOk};
+ghost use Rattle.std.specs.Prelude.{◌≡◌, ◌<◌, ℕ, Bool, true, ◌&&◌, ◌||◌, ◌==◌, nat_lt, length, map, All, IfOk, OnOk};
 ghost use Rattle.std.specs.List.{list_any};
 ghost use Rattle.exam_model.specs.Conflicts.{conflicts_of};
 ghost use Rattle.exam_model.specs.Enrolments.{Enrolled};
@@ -8,14 +8,14 @@ ghost use Rattle.exam_rules.specs.declared.breach.BreachRule.TheVariants.{Durati
 ghost use Rattle.exam_rules.specs.Breach.{is_pair};
 ghost use Rattle.exam_model.specs.Enrolments.{has, has_number};
 ghost use Rattle.exam_model.specs.Fits.{Suits};
-ghost use Rattle.exam_rules.specs.Groups.{AreGroups};
+ghost use Rattle.exam_model.specs.Timetable.{period_number};
 ghost use Rattle.exam_rules.specs.Marks.{marks_of, Has};
 ghost use Rattle.exam_rules.specs.Places.{Fits, in_one_period, share_student};
 ghost use Rattle.exam_rules.specs.Breaches.{pairs_breaking, is_one_of};
 ghost use Rattle.exam_rules.specs.HardRules.{breaks, outlasts};
 
-use crate::exam_list::ExamList;
 use crate::exam_pair::{ExamPair, in_order, pair_if, push_some};
+use crate::groups::by_period;
 use crate::marks::{Marks, has};
 use crate::relations::{in_one_period, share_student};
 use crate::site::Site;
@@ -60,17 +60,14 @@ pub(crate) fn clash_pairs(
     instance: &Instance,
     enrolments: &Enrolments,
     timetable: &Timetable,
-    groups: &[ExamList],
 ) -> Result<Vec<ExamPair>, AllocError>
     requires fits { Fits instance.now enrolments.now timetable.now }
-    requires grouped { AreGroups timetable.now (length instance.now.periods)
-        (length timetable.now) groups.now }
     ensures { IfOk result (λ found. found.items
         ≡ pairs_breaking instance.now enrolments.now timetable.now Clash) }
 {
     match enrolments.conflicts() {
         Some(conflicts) => listed_clashes(alloc, timetable, conflicts),
-        None => grouped_clashes(alloc, instance, enrolments, timetable, groups),
+        None => grouped_clashes(alloc, instance, enrolments, timetable),
     }
 }
 
@@ -87,11 +84,25 @@ fn listed_clashes(
         ≡ pairs_breaking I E timetable.now Clash) }
 {
     let mut found = Vec::new(alloc);
+    let periods = timetable.periods(alloc)?;
     'conflicts: for conflict in conflicts {
-        let clash = in_one_period(timetable, conflict.exam, conflict.other);
+        let clash = is_listed_clash(timetable, &periods, conflict);
         push_some(&mut found, pair_if(clash, conflict.exam, conflict.other))?;
     }
     Ok(in_order(found))
+}
+
+// Returns whether the exams of a conflict are in one period. Places are read only if the numbers of
+// their periods are equal, as for few conflicts.
+fn is_listed_clash(timetable: &Timetable, periods: &[u32], conflict: &Conflict) -> bool
+    requires exists { conflict.now.exam < length timetable.now }
+    requires other_exists { conflict.now.other < length timetable.now }
+    requires periods { periods.now ≡ map period_number timetable.now }
+    ensures { result ≡ in_one_period timetable.now conflict.now.exam conflict.now.other }
+{
+    let (exam, other) = (conflict.exam, conflict.other);
+    let maybe = periods[exam.get() as usize] == periods[other.get() as usize];
+    maybe && in_one_period(timetable, exam, other)
 }
 
 // Returns the same by the students of the exams of each period.
@@ -100,17 +111,15 @@ fn grouped_clashes(
     instance: &Instance,
     enrolments: &Enrolments,
     timetable: &Timetable,
-    groups: &[ExamList],
 ) -> Result<Vec<ExamPair>, AllocError>
     requires fits { Fits instance.now enrolments.now timetable.now }
-    requires grouped { AreGroups timetable.now (length instance.now.periods)
-        (length timetable.now) groups.now }
     ensures { IfOk result (λ found. found.items
         ≡ pairs_breaking instance.now enrolments.now timetable.now Clash) }
 {
+    let groups = by_period(alloc, instance, timetable)?;
     let mut found = Vec::new(alloc);
     let mut marks = Marks::new(alloc, enrolments.pairs())?;
-    'groups: for group in groups {
+    'groups: for group in &groups {
         add_group(&mut found, &mut marks, group.as_slice(), enrolments)?;
     }
     Ok(in_order(found))

@@ -13,7 +13,7 @@ ghost use Rattle.exam_rules.specs.HardRules.{breaks, is_overfull};
 
 use crate::exam_list::ExamList;
 use crate::exam_pair::{ExamPair, in_order, pair_if, push_some};
-use crate::groups::group_of;
+use crate::groups::{by_period, group_of};
 use crate::loads::{is_too_small, load_at, loads_of};
 use crate::relations::in_one_place;
 use crate::site::Site;
@@ -50,23 +50,43 @@ pub(crate) fn exclusive_pairs(
     alloc: Global,
     instance: &Instance,
     timetable: &Timetable,
-    groups: &[ExamList],
 ) -> Result<Vec<ExamPair>, AllocError>
     requires fits { Suits instance.now timetable.now }
-    requires grouped { AreGroups timetable.now (length instance.now.periods)
-        (length timetable.now) groups.now }
     ensures { (E : Enrolled) → IfOk result (λ found. found.items
         ≡ pairs_breaking instance.now E timetable.now RoomExclusive) }
 {
     let mut found = Vec::new(alloc);
     let exclusive = exclusive_exams(alloc, instance)?;
+    let groups = groups_for(alloc, instance, timetable, &exclusive)?;
     'exams: for exam in &exclusive {
         let Some(place) = timetable.get(*exam) else {
             continue;
         };
-        add_intruders(&mut found, *exam, group_of(groups, place.period), timetable)?;
+        add_intruders(
+            &mut found,
+            *exam,
+            group_of(&groups, place.period),
+            timetable,
+        )?;
     }
     Ok(in_order(found))
+}
+
+// Returns the exams of each period, if there are exams to search them for.
+fn groups_for(
+    alloc: Global,
+    instance: &Instance,
+    timetable: &Timetable,
+    exams: &[ExamNo],
+) -> Result<Vec<ExamList>, AllocError>
+    requires { Suits instance.now timetable.now }
+    ensures { IfOk result (λ groups. 0 < length exams.now → AreGroups timetable.now
+        (length instance.now.periods) (length timetable.now) groups.items) }
+{
+    if exams.is_empty() {
+        return Ok(Vec::new(alloc));
+    }
+    by_period(alloc, instance, timetable)
 }
 
 // Returns the exams that must have their rooms to themselves, each once.

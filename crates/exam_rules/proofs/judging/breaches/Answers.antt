@@ -15,7 +15,7 @@ rules-preserved c =
     let n = c.rules.rule-index in
     let r : BreachRule = get_or all n Duration in
     next_rule f (take n all) r c.rules.invariant c.in_ok-push_all.ensures
-    (c.deref-in-rules.ensures.value ∙ c.in_ok-pairs.ensures)
+    (c.deref.ensures.value ∙ c.in_ok-pairs.ensures)
     ∙ ap (flat_map (λ r. map (breach r) (f r)))
     (sym (take_more all n Duration (omega (arith, ap length c.rules-2.ensures))))
 

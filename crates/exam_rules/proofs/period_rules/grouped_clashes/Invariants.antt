@@ -8,4 +8,4 @@ abbrev pub invariant-groups : goal.invariant-groups
 invariant-groups l =
     AreFound {X = List ℕ} (λ e f g. has_number g e && has_number g f)
     (λ e f. nat_lt e f && share_student l.enrolments e f)
-    [] l.groups l.group-index l.found.items
+    [] l.group-items l.group-index l.found.items

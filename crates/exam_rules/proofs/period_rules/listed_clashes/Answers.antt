@@ -26,7 +26,7 @@ conflicts-preserved c =
     found_more c.conflicts.invariant c.conflicts-test.true c.conflict-item.is
     c.in_ok-push_some.ensures
     (λ e f. c.pair_if.ensures e f
-    ∙ ap (λ b. ((x.exam == e) && (x.other == f)) && b) c.in_one_period-clash.ensures
+    ∙ ap (λ b. ((x.exam == e) && (x.other == f)) && b) c.is_listed_clash-clash.ensures
     ∙ of_both x.exam x.other (in_one_period T) e f)
 
 pub returns : goal.returns

@@ -1,5 +1,6 @@
-use Rattle.std.proofs.Common.{ℕ, ◌&&◌, ◌==◌, not, ◌∙◌, ap, sym, arith}
+use Rattle.std.proofs.Common.{ℕ, [], length, ◌&&◌, ◌==◌, not, ◌∙◌, ap, sym, arith}
 use Rattle.std.specs.List.{list_any}
+use Rattle.std.specs.Prelude.{slice_index_or}
 use Rattle.exam_rules.specs.declared.breach.BreachRule.TheVariants.{RoomExclusive}
 use Rattle.exam_rules.specs.Breach.{is_pair}
 use Rattle.exam_model.specs.Enrolments.{has_number}
@@ -23,19 +24,35 @@ exams-preserved-in_default c =
 pub add_intruders-requires-clause-others_exist : goal.add_intruders-requires-clause-others_exist
 add_intruders-requires-clause-others_exist c =
     let there = sym c.get.ensures ∙ c.in-Some.is in
+    let grouped = c.in_ok-groups.ensures
+    (omega (
+      arith,
+      c.exams-test.true,
+      ap length c.deref.ensures.value,
+      ap length c.deref-exam-items.ensures.value,
+    )) in
     let within = its_place_exists c.args.instance.now _ _ _ c.requires.fits.places there in
-    rw c.group_of.ensures (group_exists c.requires.grouped c.in-Some.place.period within.0)
+    rw (c.group_of.ensures, c.deref-in-exams.ensures.value)
+    (group_exists grouped c.in-Some.place.period within.0)
 
 pub exams-preserved : goal.exams-preserved
 exams-preserved c =
     let k : ℕ = c.exam-item.result in
     let there = sym c.get.ensures ∙ c.in-Some.is in
+    let grouped = c.in_ok-groups.ensures
+    (omega (
+      arith,
+      c.exams-test.true,
+      ap length c.deref.ensures.value,
+      ap length c.deref-exam-items.ensures.value,
+    )) in
     let within = its_place_exists c.args.instance.now _ _ _ c.requires.fits.places there in
     found_more c.exams.invariant c.exams-test.true c.exam-item.is c.in_ok-add_intruders.ensures
     (λ e f. ap (λ g. has_number g f
     && ((k == e) && (not (e == f) && in_one_place c.args.timetable.now e f)))
-    c.group_of.ensures
-    ∙ one_place_group c.requires.grouped (omega arith) k c.in-Some.place there within.0 e f)
+    (c.group_of.ensures
+    ∙ ap (λ gs. slice_index_or gs c.in-Some.place.period []) c.deref-in-exams.ensures.value)
+    ∙ one_place_group grouped (omega arith) k c.in-Some.place there within.0 e f)
 
 pub returns : goal.returns
 returns c E =
