@@ -67,7 +67,7 @@ each_of_mapped P (x ∷ xs) h = (h.0, each_of_mapped P xs h.1)
 chain_mapped : (xs : List Sitter) → IsChain ComesBefore (map pair_of xs)
     → IsChain (λ x y. ComesBefore (pair_of x) (pair_of y)) xs
 chain_mapped [] h = tt
-chain_mapped (x ∷ xs) h = (each_mapped (ComesBefore (pair_of x)) xs h.0, chain_mapped xs h.1)
+chain_mapped (x ∷ xs) h = (each_mapped pair_of (ComesBefore (pair_of x)) xs h.0, chain_mapped xs h.1)
 
 each_filter : {X : Type 0} (P : X → Type 0) (t : X → Bool) (xs : List X) → AllByRecursion P xs
     → AllByRecursion P (filter t xs)

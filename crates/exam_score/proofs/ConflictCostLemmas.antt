@@ -1,23 +1,35 @@
 -- The cost over conflicts is the cost over pairs of exams.
-use Rattle.std.specs.Prelude.{All}
-use Rattle.std.proofs.Common.{◌≡◌, ℕ, ◌+◌, ◌*◌, ◌<◌, ◌≤◌, List, Option, Some, None, length, take, refl, get_or, sym, ◌∙◌, ap, ap₂, subst, arith, mul-zero}
+use Rattle.std.specs.Prelude.{All, option_map, slice_get}
+use Rattle.std.proofs.Common.{◌≡◌, ℕ, ◌+◌, ◌*◌, ◌<◌, ◌≤◌, List, [], ◌∷◌, Option, Some, None, length, map, take, refl, inl, inr, ◌⊎◌, get_or, sym, ◌∙◌, ap, ap₂, subst, arith, mul-zero}
 use Rattle.std.proofs.Math.Nat.{mul_comm}
+use Rattle.std.proofs.lemmas.Bool.{cases_lt}
+use Rattle.std.proofs.lemmas.Option.{slice_get-get_or}
 use Rattle.std.proofs.lemmas.List.Sums.{sum_by_more}
 use Rattle.exam_model.specs.Conflicts.{conflicts_of}
 use Rattle.exam_model.specs.Enrolments.{Enrolled, AreEnrolments}
 use Rattle.exam_model.specs.Fits.{period_of}
 use Rattle.exam_model.specs.PairCost.{cost_between}
-use Rattle.exam_model.specs.Timetable.{Placing}
+use Rattle.exam_model.specs.Timetable.{Placing, period_number, place_of}
+use Rattle.exam_terms.specs.declared.place.Place.{Place}
 use Rattle.exam_model.specs.declared.conflicts.Conflict.{Conflict}
 use Rattle.exam_model.proofs.ConflictLemmas.{conflicts_exist, sum_of_conflicts}
+use Rattle.exam_model.proofs.PlaceLemmas.{number_at}
 use Rattle.exam_model.proofs.SumLemmas.{sum_by-same, sum_by-zeros}
 use Rattle.exam_model.specs.Instance.{Session, IsInstance}
-use Rattle.exam_score.specs.Kinds.{TableKind, over_night, cost_in, table_cost, table_amount, by_table, with_night}
+use Rattle.exam_score.specs.Kinds.{TableKind, in_table, over_night, cost_in, table_cost, table_amount, by_table, with_night}
 use Rattle.exam_score.specs.PairSums.{ArePairParts}
 use Rattle.exam_score.specs.declared.amounts.Amounts.{Amounts}
+use Rattle.exam_score.specs.CostOrder.{kind_cost-swap}
+use Rattle.exam_score.specs.Lines.{IsTable}
+use Rattle.exam_score.specs.declared.lines.Line.{Line}
+use Rattle.exam_score.proofs.LineLemmas.{free_at, table_beyond}
 use Rattle.exam_score.proofs.CostLemmas.{cost_in-small}
 use Rattle.exam_score.proofs.KindLemmas.{at_table, of_kinds}
-use Rattle.exam_score.specs.ConflictCosts.{AreInTimetable, IsSmallCost, conflict_cost, conflicts_cost}
+use Rattle.exam_model.specs.declared.parts.Period.{Period}
+use Rattle.exam_model.specs.declared.parts.Weights.{Weights}
+use Rattle.exam_score.specs.Cost.{night_cost}
+use Rattle.exam_score.proofs.NightLemmas.{night_apart}
+use Rattle.exam_score.specs.ConflictCosts.{AreInTimetable, IsReach, IsSmallCost, conflict_cost, conflicts_cost}
 use Rattle.exam_score.specs.Regrouping.{pair_part}
 use Rattle.exam_score.proofs.PairsLemmas.{IsPart, of_parts, part_small}
 
@@ -59,6 +71,66 @@ pub between_at : (I : Session) (T : Placing) (x : Conflict) (costs : Amounts ℕ
     ≡ cost_between (table_cost I k) (period_of T x.exam) (period_of T x.other)
 between_at I T x costs are k = ap (λ a. table_amount a k) are
     ∙ at_table (λ k. cost_between (table_cost I k) (period_of T x.exam) (period_of T x.other)) k
+
+-- ---- costs by the numbers of periods
+
+number_cost : (I : Session) (k : TableKind) (a b : Option Place) → length I.periods ≤ 200
+    → table_cost I k (period_number a) (period_number b)
+    ≡ cost_between (table_cost I k) (option_map (λ (at : Place). at.period) a)
+    (option_map (λ (at : Place). at.period) b)
+number_cost I k None b few =
+    kind_cost-swap I.periods I.weights (in_table k) 4294967295 (period_number b)
+    ∙ table_beyond I k 4294967295 (period_number b) (omega arith)
+number_cost I k (Some a) None few = table_beyond I k 4294967295 a.period (omega arith)
+number_cost I k (Some a) (Some b) few = refl
+
+-- the cost of two exams, by the numbers of all exams' periods
+pub cost_by_numbers : (I : Session) (k : TableKind) (T : Placing) (numbers : List ℕ) (e f : ℕ)
+    → length I.periods ≤ 200 → numbers ≡ map period_number T → e < length T → f < length T
+    → table_cost I k (get_or numbers e 0) (get_or numbers f 0)
+    ≡ cost_between (table_cost I k) (period_of T e) (period_of T f)
+cost_by_numbers I k T numbers e f few are lt other =
+    ap₂ (table_cost I k) (number_at T numbers e are lt) (number_at T numbers f are other)
+    ∙ number_cost I k (place_of T e) (place_of T f) few
+
+-- two periods farther apart than the reach, in either order
+pub apart_free : (I : Session) (n p q : ℕ) → IsReach I n → (q + n < p) ⊎ (p + n < q)
+    → (k : TableKind) → table_cost I k p q ≡ 0
+apart_free I n p q reach (inl after) k =
+    kind_cost-swap I.periods I.weights (in_table k) p q ∙ reach.free k p q after
+apart_free I n p q reach (inr before) k = reach.free k q p before
+
+-- no night is between periods that are farther apart than adjacent ones
+pub night_free : (periods : List Period) (weights : Weights) (a b : Option Place)
+    → (period_number b + 1 < period_number a) ⊎ (period_number a + 1 < period_number b)
+    → cost_between (night_cost periods weights) (option_map (λ (at : Place). at.period) a)
+    (option_map (λ (at : Place). at.period) b) ≡ 0
+night_free periods weights None b apart = refl
+night_free periods weights (Some a) None apart = refl
+night_free periods weights (Some a) (Some b) (inl after) =
+    kind_cost-swap periods weights over_night a.period b.period
+    ∙ night_apart periods weights a.period b.period (omega arith)
+night_free periods weights (Some a) (Some b) (inr before) =
+    night_apart periods weights b.period a.period (omega arith)
+
+some_line : (lines : List Line) (p : ℕ) → p < length lines
+    → (line : Line) × (slice_get lines p ≡ Some line)
+some_line [] p lt = absurd (omega arith)
+some_line (x ∷ xs) p lt = (get_or (x ∷ xs) p x, slice_get-get_or (x ∷ xs) p x lt)
+
+-- the periods of all lines reach no farther back than n
+pub is_reach : (I : Session) (lines : List Line) (n : ℕ) → IsTable I lines
+    → ((p : ℕ) (line : Line) → p < length lines → slice_get lines p ≡ Some line
+    → p ≤ line.first + n) → IsReach I n
+is_reach I lines n table back = record {
+  free = λ k p q far. elim (cases_lt p (length lines)) [
+    | inl within ↦
+        (let found = some_line lines p within in
+        let le = back p found.0 within found.1 in
+        free_at I p q ((table.first p found.0 found.1).free.each q (omega arith)) k)
+    | inr beyond ↦ table_beyond I k p q (omega (arith, table.count))
+  ];
+}
 
 -- ---- a cost of nothing
 

@@ -1,10 +1,12 @@
 -- The cost of a timetable over the pairs of exams that share students.
-use Rattle.std.specs.Prelude.{ℕ, ◌*◌, ◌<◌, ◌≤◌, List, length, sum_by, All}
+use Rattle.std.specs.Prelude.{◌≡◌, ℕ, ◌+◌, ◌*◌, ◌<◌, ◌≤◌, List, length, sum_by, All}
 use Rattle.exam_terms.specs.declared.limits.TheConstants.{MAX_AMOUNT, MAX_PAIRS}
 use Rattle.exam_model.specs.declared.conflicts.Conflict.{Conflict}
 use Rattle.exam_model.specs.Fits.{period_of}
+use Rattle.exam_model.specs.Instance.{Session}
 use Rattle.exam_model.specs.PairCost.{cost_between}
 use Rattle.exam_model.specs.Timetable.{Placing}
+use Rattle.exam_score.specs.Kinds.{TableKind, table_cost}
 
 -- the cost of the periods of two exams, for each student whom they share
 abbrev pub conflict_cost : (ℕ → ℕ → ℕ) → Placing → Conflict → ℕ
@@ -22,3 +24,7 @@ IsSmallCost cost T conflicts = conflicts_cost cost T conflicts ≤ MAX_PAIRS * M
 -- both exams of each conflict are in the timetable
 abbrev pub AreInTimetable : Placing → List Conflict → Type 0
 AreInTimetable T conflicts = All (λ c. (c.exam < length T) × (c.other < length T)) conflicts
+
+-- two periods farther apart than n cost nothing
+pub record IsReach (I : Session) (n : ℕ) : Type 0 where
+  pub free : (k : TableKind) (p q : ℕ) → q + n < p → table_cost I k q p ≡ 0

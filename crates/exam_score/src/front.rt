@@ -85,13 +85,13 @@ fn bar_of(alloc: Global, sizes: &[u32], most: u32) -> Result<Option<u32>, AllocE
     requires few { length sizes.now ≤ MAX_EXAMS }
     ensures { IfOk result (λ bar. IfSome bar (IsBar sizes.now most)) }
 {
-    let mut sorted = sizes.to_vec(alloc)?;
-    sorted.sort_unstable();
-    let at = sorted.len().saturating_sub(most as usize);
-    match sorted.get(at) {
-        Some(bar) => Ok(if_bar(sizes, *bar, most)),
-        None => Ok(None),
+    let mut reordered = sizes.to_vec(alloc)?;
+    let at = sizes.len().saturating_sub(most as usize);
+    if at >= sizes.len() {
+        return Ok(None);
     }
+    let (_, bar, _) = reordered.select_nth_unstable(at);
+    Ok(if_bar(sizes, *bar, most))
 }
 
 // Returns the size if it is such a bar.

@@ -47,8 +47,8 @@ fn parts_of_conflicts(
     let _kept = enrolments.pairs();
     let _known = instance.periods();
     let lines = table_of(alloc, instance)?;
-    let sums = sums_of_conflicts(instance, &lines, timetable, conflicts);
-    let night = nights_of_conflicts(instance, timetable, conflicts);
+    let sums = sums_of_conflicts(alloc, instance, &lines, timetable, conflicts)?;
+    let night = nights_of_conflicts(alloc, instance, timetable, conflicts)?;
     Ok(PersonalParts::of(sums.row, sums.day, sums.spread, night))
 }
 

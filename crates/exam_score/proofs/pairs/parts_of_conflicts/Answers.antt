@@ -4,28 +4,28 @@ use Rattle.exam_score.proofs.ConflictCostLemmas.{conflicts_small, in_timetable, 
 use Rattle.exam_score.proofs.CostLemmas.{cost_in-small}
 use Rattle.exam_score.proofs.pairs.parts_of_conflicts.Goals as goal
 
-pub sums_of_conflicts-sums-requires-clause-exist :
-    goal.sums_of_conflicts-sums-requires-clause-exist
-sums_of_conflicts-sums-requires-clause-exist c =
+pub sums_of_conflicts-requires-clause-exist :
+    goal.sums_of_conflicts-requires-clause-exist
+sums_of_conflicts-requires-clause-exist c =
     rw c.requires.listed
     (in_timetable c.args.enrolments.now c.args.timetable.now c.requires.exams)
 
-pub nights_of_conflicts-night-requires-clause-exist :
-    goal.nights_of_conflicts-night-requires-clause-exist
-nights_of_conflicts-night-requires-clause-exist c =
+pub nights_of_conflicts-requires-clause-exist :
+    goal.nights_of_conflicts-requires-clause-exist
+nights_of_conflicts-requires-clause-exist c =
     rw c.requires.listed
     (in_timetable c.args.enrolments.now c.args.timetable.now c.requires.exams)
 
-pub sums_of_conflicts-sums-requires-clause-few : goal.sums_of_conflicts-sums-requires-clause-few
-sums_of_conflicts-sums-requires-clause-few c = λ k.
+pub sums_of_conflicts-requires-clause-few : goal.sums_of_conflicts-requires-clause-few
+sums_of_conflicts-requires-clause-few c = λ k.
     let I = c.args.instance.now in
     rw c.requires.listed
     (conflicts_small (table_cost I k) c.args.enrolments.now c.args.timetable.now
     c.pairs-kept.ensures.kept (cost_in-small I c.periods-known.ensures.kept (in_table k)))
 
-pub nights_of_conflicts-night-requires-clause-few :
-    goal.nights_of_conflicts-night-requires-clause-few
-nights_of_conflicts-night-requires-clause-few c =
+pub nights_of_conflicts-requires-clause-few :
+    goal.nights_of_conflicts-requires-clause-few
+nights_of_conflicts-requires-clause-few c =
     let I = c.args.instance.now in
     rw c.requires.listed
     (conflicts_small (cost_in I over_night) c.args.enrolments.now c.args.timetable.now
@@ -34,15 +34,15 @@ nights_of_conflicts-night-requires-clause-few c =
 pub of-requires : goal.of-requires
 of-requires c =
     let parts = parts_by_conflicts c.args.instance.now c.args.enrolments.now c.args.timetable.now
-    c.args.conflicts.now c.sums_of_conflicts-sums.result c.nights_of_conflicts-night.result
+    c.args.conflicts.now c.in_ok-sums.sums c.in_ok-night.night
     c.periods-known.ensures.kept c.pairs-kept.ensures.kept c.requires.listed
-    c.sums_of_conflicts-sums.ensures c.nights_of_conflicts-night.ensures in
+    c.in_ok-sums.ensures c.in_ok-night.ensures in
     omega (arith, parts.few)
 
 pub returns : goal.returns
 returns c =
     rw c.of.ensures
     (parts_by_conflicts c.args.instance.now c.args.enrolments.now c.args.timetable.now
-    c.args.conflicts.now c.sums_of_conflicts-sums.result c.nights_of_conflicts-night.result
+    c.args.conflicts.now c.in_ok-sums.sums c.in_ok-night.night
     c.periods-known.ensures.kept c.pairs-kept.ensures.kept c.requires.listed
-    c.sums_of_conflicts-sums.ensures c.nights_of_conflicts-night.ensures)
+    c.in_ok-sums.ensures c.in_ok-night.ensures)
