@@ -21,9 +21,9 @@ use std::alloc::{AllocError, Global};
 use std::io::Read;
 use std::marker::Model;
 
-// From this many solutions on, a session's conflicts are listed: judging 10 to 18 solutions by the
-// list saves the time that the listing takes.
-pub(crate) const LISTED_FROM: usize = 20;
+// From this many solutions on, a session's conflicts are listed: judging one to three solutions by
+// the list saves the time that the listing takes.
+pub(crate) const LISTED_FROM: usize = 4;
 
 /// A session for judging solutions.
 #[derive(Drop)]
