@@ -58,11 +58,7 @@ plain_command (command.Batch n text) = batch n (plain_text text)
 
 -- each number of the command is in its limit
 abbrev pub HasSmallNumbers : PlainCommand → Type 0
-HasSmallNumbers me = Unit {0}
 HasSmallNumbers (my_exam e) = IsSmall e
-HasSmallNumbers my_penalty = Unit {0}
-HasSmallNumbers (load text) = Unit {0}
-HasSmallNumbers instance = Unit {0}
 HasSmallNumbers (set_owner e dept) = IsSmall e × IfBodyHasValue dept (λ d. d ≤ MAX_DEPARTMENT)
 HasSmallNumbers (new_draft d text) = IsSmall d
 HasSmallNumbers (draft d) = IsSmall d
@@ -74,8 +70,5 @@ HasSmallNumbers (move d e to) = IsSmall d × IsSmall e × IfBodyHasValue to IsSm
 HasSmallNumbers (clear d e) = IsSmall d × IsSmall e
 HasSmallNumbers (swap d a b) = IsSmall d × IsSmall a × IsSmall b
 HasSmallNumbers (publish d) = IsSmall d
-HasSmallNumbers publication = Unit {0}
-HasSmallNumbers publication_penalty = Unit {0}
-HasSmallNumbers publication_rooms = Unit {0}
-HasSmallNumbers publication_seats = Unit {0}
 HasSmallNumbers (batch n text) = IsSmall n
+HasSmallNumbers _ = Unit {0}

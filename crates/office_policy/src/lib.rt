@@ -9,4 +9,4 @@ mod policy;
 pub use callers::Caller;
 pub use command::{Body, Command};
 pub use numbers::read_number;
-pub use policy::{Denial, allowed};
+pub use policy::{Denial, Kind, allowed};

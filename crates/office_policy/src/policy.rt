@@ -1,11 +1,11 @@
 // Which caller may run which command.
 ghost use Rattle.std.specs.Prelude.{◌≡◌};
 ghost use Rattle.office_policy.specs.Commands.{plain_command};
-ghost use Rattle.office_policy.specs.Policy.{kind_of, owns, if_owned, permits};
+ghost use Rattle.office_policy.specs.Policy.{if_owned, is_owner, kind_of, permits};
 
 use crate::callers::Caller;
 use crate::command::Command;
-use exam_terms::DeptNo;
+use exam_terms::{DeptNo, ExamNo};
 
 /// Why a command is denied.
 #[derive(Clone, Copy, Debug, PartialEq, Eq)]
@@ -22,43 +22,32 @@ pub enum Denial {
 
 /// The kind of a command, by its callers.
 #[derive(Clone, Copy)]
-enum Kind {
+pub enum Kind {
     /// A candidate's own pages.
     Personal,
     /// Commands that only the office may run.
     Official,
     /// Reading a draft and its reports.
     Reading,
-    /// Placing, moving, clearing or swapping exams of a draft.
-    Editing,
+    /// Placing, moving or clearing an exam of a draft, or swapping it with another.
+    Editing(ExamNo, Option<ExamNo>),
 }
 
 impl Command<'_> {
-    // Returns the command's kind.
-    fn kind(&self) -> Kind
+    /// Returns the command's kind.
+    pub fn kind(&self) -> Kind
         ensures { result ≡ kind_of (plain_command self.now) }
     {
-        match self {
+        match *self {
             Command::Me | Command::MyExam(_) | Command::MyPenalty => Kind::Personal,
             Command::Draft(_) | Command::DraftPenalty(_) | Command::DraftViolations(_) => {
                 Kind::Reading
             }
-            Command::Place(..) | Command::Move(..) | Command::Clear(..) | Command::Swap(..) => {
-                Kind::Editing
+            Command::Place(_, exam, _) | Command::Move(_, exam, _) | Command::Clear(_, exam) => {
+                Kind::Editing(exam, None)
             }
+            Command::Swap(_, a, b) => Kind::Editing(a, Some(b)),
             _ => Kind::Official,
-        }
-    }
-
-    // Returns whether the department owns the edited exam; for a swap, both exams.
-    fn is_owned(&self, dept: DeptNo, owner_a: u32, owner_b: u32) -> bool
-        ensures { result ≡ owns dept (plain_command self.now) owner_a owner_b }
-    {
-        let owns_first = owner_a == dept.get();
-        let owns_second = owner_b == dept.get();
-        match self {
-            Command::Swap(..) => owns_first && owns_second,
-            _ => owns_first,
         }
     }
 }
@@ -83,12 +72,25 @@ pub fn allowed(
             Kind::Personal => Err(Denial::P4),
             Kind::Official => Err(Denial::P2),
             Kind::Reading => Ok(()),
-            Kind::Editing => owned(command.is_owned(dept, owner_a, owner_b)),
+            Kind::Editing(..) => owned(is_owner(dept, kind, owner_a, owner_b)),
         },
         Caller::Cand(_) => match kind {
             Kind::Personal => Ok(()),
             _ => Err(Denial::P1),
         },
+    }
+}
+
+// Returns whether the department owns each exam that a command of this kind edits.
+fn is_owner(dept: DeptNo, kind: Kind, owner_a: u32, owner_b: u32) -> bool
+    ensures { result ≡ is_owner (Caller.Dept dept) kind owner_a owner_b }
+{
+    let owns_first = owner_a == dept.get();
+    let owns_second = owner_b == dept.get();
+    match kind {
+        Kind::Editing(_, None) => owns_first,
+        Kind::Editing(_, Some(_)) => owns_first && owns_second,
+        _ => false,
     }
 }
 
