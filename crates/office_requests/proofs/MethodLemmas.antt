@@ -12,8 +12,8 @@ use Rattle.office_requests.specs.Paths.{numbers_of}
 use Rattle.office_requests.specs.Requests.{staff_command}
 use Rattle.office_requests.specs.declared.methods.Verb.{Verb}
 use Rattle.office_requests.specs.declared.methods.Verb.TheVariants.{Get, Put, Post, Delete, Other}
-use Rattle.office_requests.specs.declared.pages.Page.{Page}
-use Rattle.office_requests.specs.declared.pages.Page.TheVariants as page
+use Rattle.office_requests.specs.declared.routes.Page.{Page}
+use Rattle.office_requests.specs.declared.routes.Page.TheVariants as page
 use Rattle.office_requests.specs.declared.requests.Refusal.{Refusal}
 use Rattle.office_requests.specs.declared.requests.Refusal.TheVariants as refusal
 

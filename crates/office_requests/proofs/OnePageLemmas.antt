@@ -6,7 +6,7 @@ use Rattle.std.proofs.lemmas.Bool.{eqb-true}
 use Rattle.std.proofs.lemmas.Bool.Decides.{nat_tests}
 use Rattle.matchit.specs.Rows.{param_token}
 use Rattle.matchit.specs.Seek.{slash}
-use Rattle.office_requests.specs.declared.pages.Page.{Page}
+use Rattle.office_requests.specs.declared.routes.Page.{Page}
 use Rattle.office_requests.specs.Patterns.{takes, rest_of_segment}
 use Rattle.office_requests.specs.Pages.{IsIn}
 use Rattle.office_requests.specs.Pages.{pages, IsRouteTo}

@@ -8,7 +8,7 @@ use Rattle.matchit.specs.Level.{IsText}
 use Rattle.matchit.specs.Route.{scan}
 use Rattle.matchit.specs.Router.{RouteOf}
 use Rattle.matchit.specs.Seek.{slash, first}
-use Rattle.office_requests.specs.declared.pages.Page.{Page}
+use Rattle.office_requests.specs.declared.routes.Page.{Page}
 use Rattle.office_requests.specs.Patterns.{takes}
 use Rattle.office_requests.specs.Pages.{IsIn}
 use Rattle.office_requests.proofs.Plain.{EndsSegment, IsPlain, ArePlain}

@@ -14,7 +14,7 @@ use Rattle.office_policy.specs.Commands.{me, my_exam, my_penalty, load, set_owne
 use Rattle.office_policy.specs.Commands.{draft_penalty, draft_violations, drop_draft, place, move}
 use Rattle.office_policy.specs.Commands.{clear, swap, publish, batch}
 use Rattle.office_policy.specs.declared.callers.Caller.{Caller}
-use Rattle.office_policy.specs.declared.callers.Caller.TheVariants.{Office, Dept, Cand}
+use Rattle.office_policy.specs.declared.callers.Caller.TheVariants.{Cand}
 use Rattle.office_policy.specs.declared.command.Body.{Body}
 use Rattle.office_requests.specs.Commands.{command_of}
 use Rattle.office_requests.specs.Methods.{verb_of}
@@ -24,12 +24,11 @@ use Rattle.office_requests.specs.Paths.{numbers_in, three, numbers_of}
 use Rattle.office_requests.specs.Patterns.{takes}
 use Rattle.office_requests.specs.Printing.{row_of, path_with, path_of, method_of}
 use Rattle.office_requests.specs.PrintedBodies.{BodyHasValue, MaySendCommand}
-use Rattle.office_requests.specs.Requests.{caller_in, own_page_command, candidate_command, staff_command}
+use Rattle.office_requests.specs.Requests.{caller_in, candidate_command, staff_command}
 use Rattle.office_requests.specs.Requests.{command_by, reading}
 use Rattle.office_requests.specs.declared.methods.Verb.{Verb}
-use Rattle.office_requests.specs.declared.methods.Verb.TheVariants.{Get}
-use Rattle.office_requests.specs.declared.pages.Page.{Page}
-use Rattle.office_requests.specs.declared.pages.Page.TheVariants as page
+use Rattle.office_requests.specs.declared.routes.Page.{Page}
+use Rattle.office_requests.specs.declared.routes.Page.TheVariants as page
 use Rattle.office_requests.proofs.FindLemmas.{flip, both}
 use Rattle.office_requests.proofs.Plain.{EndsSegment}
 use Rattle.office_requests.proofs.PageLemmas.{page_some}
@@ -189,26 +188,18 @@ staff_asks c body small has_value =
     by (path_of c) body (row_of c).1 (three (row_of c).2) (verb_of (method_of c)) c
     (page_there c small) (numbers_there c small) (in_table c body has_value)
 
-own_by : (path : List ℕ) (p : Page) (c : PlainCommand) → page_of path ≡ Some p
-    → own_page_command p path ≡ Some c → candidate_command Get path ≡ Ok c
-own_by path p c there e = rw (there, e) refl
-
 -- a candidate asks for their own three pages
 candidate_asks : (n : ℕ) (c : PlainCommand) → HasSmallNumbers c → MaySendCommand (Cand n) c
     → candidate_command (verb_of (method_of c)) (path_of c) ≡ Ok c
-candidate_asks n me small is_own = own_by _ page.Me me (page_there me small) refl
-candidate_asks n (my_exam e) small is_own =
-    own_by _ page.MyExam (my_exam e) (page_there (my_exam e) small)
-    (ap (option_map my_exam) (number_here e [] small tt))
-candidate_asks n my_penalty small is_own =
-    own_by _ page.MyPenalty my_penalty (page_there my_penalty small) refl
+candidate_asks n me small is_own = rw (staff_asks me [] small tt) refl
+candidate_asks n (my_exam e) small is_own = rw (staff_asks (my_exam e) [] small tt) refl
+candidate_asks n my_penalty small is_own = rw (staff_asks my_penalty [] small tt) refl
 candidate_asks n _ small is_own = cc
 
 asked : (who : Caller) (c : PlainCommand) (body : List ℕ) → MaySendCommand who c → HasSmallNumbers c
     → BodyHasValue body c → command_by who (verb_of (method_of c)) (path_of c) body ≡ Ok c
-asked Office c body comes small has_value = staff_asks c body small has_value
-asked (Dept d) c body comes small has_value = staff_asks c body small has_value
 asked (Cand n) c body comes small has_value = candidate_asks n c small comes
+asked _ c body comes small has_value = staff_asks c body small has_value
 
 -- a request that is printed is read back
 pub read_back : (value : Option (List ℕ)) (who : Caller) (c : PlainCommand) (body : List ℕ)

@@ -8,9 +8,12 @@ use Rattle.std.proofs.lemmas.Bool.Decides.{nat_tests}
 use Rattle.exam_terms.specs.Refusing.{◌>>=◌, else_err}
 use Rattle.office_policy.specs.CommandBodies.{IfBodyHasValue}
 use Rattle.office_policy.specs.Numbers.{IsSmall, IsSmallPlace}
-use Rattle.office_policy.specs.Commands.{my_exam, HasSmallNumbers}
+use Rattle.office_policy.specs.Commands.{PlainCommand, HasSmallNumbers}
+use Rattle.office_policy.specs.Policy.{kind_of}
+use Rattle.office_policy.specs.declared.policy.Kind.{Kind}
+use Rattle.office_policy.specs.declared.policy.Kind.TheVariants.{Personal}
 use Rattle.office_policy.specs.declared.callers.Caller.{Caller}
-use Rattle.office_policy.specs.declared.callers.Caller.TheVariants.{Office, Dept, Cand}
+use Rattle.office_policy.specs.declared.callers.Caller.TheVariants.{Cand}
 use Rattle.office_policy.specs.declared.command.Body.{Body}
 use Rattle.office_policy.specs.declared.command.Body.TheVariants.{Long}
 use Rattle.office_policy.proofs.NumberLemmas.{number_small}
@@ -23,11 +26,12 @@ use Rattle.office_requests.specs.Commands.{command_of}
 use Rattle.office_requests.specs.Pages.{Part, word, number, parts_of, page_of}
 use Rattle.office_requests.specs.Paths.{rest_after_slash, segment, number_in, numbers_in}
 use Rattle.office_requests.specs.Paths.{three, numbers_of}
-use Rattle.office_requests.specs.Requests.{own_page_command, own_command, staff_command, command_by}
+use Rattle.office_requests.specs.Requests.{if_personal, personal_in, own_command, staff_command}
+use Rattle.office_requests.specs.Requests.{command_by}
 use Rattle.office_requests.specs.declared.methods.Verb.{Verb}
 use Rattle.office_requests.specs.declared.methods.Verb.TheVariants.{Get, Put, Post, Delete}
-use Rattle.office_requests.specs.declared.pages.Page.{Page}
-use Rattle.office_requests.specs.declared.pages.Page.TheVariants as page
+use Rattle.office_requests.specs.declared.routes.Page.{Page}
+use Rattle.office_requests.specs.declared.routes.Page.TheVariants as page
 use Rattle.office_requests.specs.declared.requests.Refusal.{Refusal}
 use Rattle.office_requests.specs.declared.requests.Refusal.TheVariants as refusal
 
@@ -165,19 +169,6 @@ command_small Post page.Publish n body small = small.0
 command_small Put page.Batch n body small = small.0
 command_small _ _ n body small = tt
 
-own_page_small : (p : Page) (path : List ℕ) → IfSome (own_page_command p path) HasSmallNumbers
-own_page_small page.Me path = tt
-own_page_small page.MyExam path =
-    mapped IsSmall HasSmallNumbers my_exam (number_in 3 path) (in_path 3 path) (λ e exam. exam)
-own_page_small page.MyPenalty path = tt
-own_page_small _ path = tt
-
-own_small : (verb : Verb) (path : List ℕ) → IfSome (own_command verb path) HasSmallNumbers
-own_small Get path =
-    chained (λ (p : Page). Unit {0}) HasSmallNumbers (λ p. own_page_command p path) (page_of path)
-    (anything _) (λ p any. own_page_small p path)
-own_small _ path = tt
-
 staff_small : (verb : Verb) (path body : List ℕ)
     → IfOk (staff_command verb path body) HasSmallNumbers
 staff_small verb path body =
@@ -188,10 +179,19 @@ staff_small verb path body =
     (λ n small. else_ok HasSmallNumbers (refusal.Method p) (command_of verb p n body)
     (command_small verb p n body small)))
 
+own_small : (said : Result PlainCommand Refusal) → IfOk said HasSmallNumbers
+    → IfSome (personal_in said) HasSmallNumbers
+own_small (Err e) small = tt
+own_small (Ok c) small = go (kind_of c)
+  where
+    go : (k : Kind) → IfSome (if_personal k c) HasSmallNumbers
+    go Personal = small
+    go _ = tt
+
 -- the command has small numbers, for each caller
 pub asked_small : (who : Caller) (verb : Verb) (path body : List ℕ)
     → IfOk (command_by who verb path body) HasSmallNumbers
-asked_small Office verb path body = staff_small verb path body
-asked_small (Dept d) verb path body = staff_small verb path body
 asked_small (Cand c) verb path body =
-    else_ok HasSmallNumbers refusal.Candidate (own_command verb path) (own_small verb path)
+    else_ok HasSmallNumbers refusal.Candidate (own_command verb path)
+    (own_small (staff_command verb path []) (staff_small verb path []))
+asked_small _ verb path body = staff_small verb path body

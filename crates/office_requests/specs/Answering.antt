@@ -7,7 +7,7 @@ use Rattle.office_requests.specs.Commands.{HasJson}
 use Rattle.office_policy.specs.declared.policy.Denial.TheVariants.{P1}
 use Rattle.office_requests.specs.Texts.{error_text, error_reply}
 use Rattle.office_requests.specs.Requests.{PlainCallerCommand, plain_caller_command}
-use Rattle.office_requests.specs.declared.pages.Page.{Page}
+use Rattle.office_requests.specs.declared.routes.Page.{Page}
 use Rattle.office_messages.specs.Reply.{PlainReply}
 use Rattle.office_messages.specs.FixedReplies.{unavailable}
 use Rattle.office_messages.specs.declared.replies.Content.TheVariants.{Json}

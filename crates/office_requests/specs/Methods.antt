@@ -5,7 +5,7 @@ use Rattle.std.specs.List.{list_any, onto_first, join_by}
 use Rattle.office_requests.specs.Commands.{command_of}
 use Rattle.office_requests.specs.declared.methods.Verb.{Verb}
 use Rattle.office_requests.specs.declared.methods.Verb.TheVariants.{Get, Put, Post, Delete, Other}
-use Rattle.office_requests.specs.declared.pages.Page.{Page}
+use Rattle.office_requests.specs.declared.routes.Page.{Page}
 
 -- a method by its name, in this case
 abbrev pub verb_of : List ℕ → Verb

@@ -4,8 +4,8 @@ use Rattle.std.specs.Prelude.{Option, option_map}
 use Rattle.matchit.specs.Rows.{RowsOf, param_token}
 use Rattle.matchit.specs.Seek.{slash}
 use Rattle.office_requests.specs.Patterns.{takes}
-use Rattle.office_requests.specs.declared.pages.Page.{Page}
-use Rattle.office_requests.specs.declared.pages.Page.TheVariants as page
+use Rattle.office_requests.specs.declared.routes.Page.{Page}
+use Rattle.office_requests.specs.declared.routes.Page.TheVariants as page
 
 -- a part of a page's path: a word, or a number
 pub data Part : Type 0 where

@@ -4,7 +4,7 @@ use Rattle.std.specs.Prelude.{Option, Some, option_map, option_and_then}
 use Rattle.matchit.specs.Seek.{slash}
 use Rattle.office_policy.specs.Numbers.{number_of}
 use Rattle.office_requests.specs.Pages.{Part, word, number, parts_of}
-use Rattle.office_requests.specs.declared.pages.Page.{Page}
+use Rattle.office_requests.specs.declared.routes.Page.{Page}
 
 -- the bytes before the first slash
 abbrev pub first_segment : List ℕ → List ℕ

@@ -7,8 +7,8 @@ use Rattle.office_policy.specs.Commands.{draft_violations, drop_draft, place, mo
 use Rattle.office_policy.specs.Commands.{publish, publication, publication_penalty}
 use Rattle.office_policy.specs.Commands.{publication_rooms, publication_seats, batch}
 use Rattle.office_requests.specs.Pages.{Part, word, number, parts_of}
-use Rattle.office_requests.specs.declared.pages.Page.{Page}
-use Rattle.office_requests.specs.declared.pages.Page.TheVariants as page
+use Rattle.office_requests.specs.declared.routes.Page.{Page}
+use Rattle.office_requests.specs.declared.routes.Page.TheVariants as page
 
 -- the method of a command, its page, and the numbers in its path
 abbrev pub row_of : PlainCommand → List ℕ × Page × List ℕ

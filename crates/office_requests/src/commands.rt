@@ -8,9 +8,9 @@ ghost use Rattle.office_requests.specs.declared.requests.Refusal.TheVariants as 
 
 use crate::bodies::{dept_body, place_body, text_body};
 use crate::methods::Verb;
-use crate::pages::Page;
 use crate::paths::numbers_in;
 use crate::requests::Refusal;
+use crate::routes::Page;
 use exam_terms::ExamNo;
 use office_policy::{Body, Command};
 use std::alloc::Global;

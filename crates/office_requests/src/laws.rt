@@ -7,7 +7,7 @@ ghost use Rattle.office_requests.specs.Pages.{page_of};
 ghost use Rattle.office_requests.specs.Printing.{path_of, method_of};
 ghost use Rattle.office_requests.specs.PrintedBodies.{BodyHasValue, MaySendCommand};
 ghost use Rattle.office_requests.specs.Requests.{caller_in, staff_command, reading};
-ghost use Rattle.office_requests.specs.declared.pages.Page.{Page};
+ghost use Rattle.office_requests.specs.declared.routes.Page.{Page};
 ghost use Rattle.office_requests.specs.declared.requests.Refusal.TheVariants as refusal;
 
 /// A page's `Allow` lists exactly the methods with a command there: unless the path is refused, a

@@ -5,7 +5,6 @@ mod bodies;
 mod commands;
 mod laws;
 mod methods;
-mod pages;
 mod paths;
 mod requests;
 mod routes;
@@ -18,7 +17,6 @@ pub use office_messages::{
     Allow, Content, End, Fault, Machine, Payload, Reply, Request, ServeFault, Served, Status,
     drain, fault_reply, fixed_reply, serve, unavailable,
 };
-pub use pages::Page;
 pub use requests::{CallerCommand, Refusal, read_request};
-pub use routes::{Routes, one_page};
+pub use routes::{Page, Routes, one_page};
 pub use texts::FixedError;

@@ -2,7 +2,7 @@
 ghost use Rattle.std.specs.Prelude.{◌≡◌, ◌≤◌, length};
 ghost use Rattle.office_requests.specs.Methods.{verb_of, allow_of};
 
-use crate::pages::Page;
+use crate::routes::Page;
 use http::Method;
 
 /// The kind of a method. The case matters: `get` is none of the four.

@@ -4,8 +4,8 @@ ghost use Rattle.office_requests.specs.Paths.{first_segment, rest_after_slash, s
 ghost use Rattle.office_requests.specs.Paths.{number_in, numbers_of};
 ghost use Rattle.office_requests.specs.declared.requests.Refusal.TheVariants as refusal;
 
-use crate::pages::Page;
 use crate::requests::Refusal;
+use crate::routes::Page;
 use office_policy::read_number;
 
 const SLASH: u8 = b'/';

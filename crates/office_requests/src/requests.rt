@@ -5,21 +5,18 @@ ghost use Rattle.office_messages.specs.Reply.{plain_reply};
 ghost use Rattle.office_policy.specs.CommandBodies.{HoldsText};
 ghost use Rattle.office_policy.specs.Commands.{plain_command, HasSmallNumbers};
 ghost use Rattle.office_requests.specs.Methods.{verb_of};
-ghost use Rattle.office_requests.specs.Requests.{caller_in, own_page_command, own_command};
-ghost use Rattle.office_requests.specs.Requests.{staff_command, command_by, reading};
+ghost use Rattle.office_requests.specs.Requests.{caller_in, own_command, staff_command};
+ghost use Rattle.office_requests.specs.Requests.{command_by, reading};
 ghost use Rattle.office_requests.specs.Answering.{ReturnsCallerCommand, ReturnsCommand};
 ghost use Rattle.office_requests.specs.Answering.{not_allowed, refusal_reply};
 ghost use Rattle.office_requests.specs.declared.requests.Refusal.TheVariants as refusal;
 
 use crate::commands::command_at;
 use crate::methods::{Verb, allow};
-use crate::pages::Page;
-use crate::paths::number_in;
-use crate::routes::Routes;
+use crate::routes::{Page, Routes};
 use crate::texts::FixedError;
-use exam_terms::ExamNo;
 use office_messages::{Allow, Reply, Request, unavailable};
-use office_policy::{Caller, Command, Denial};
+use office_policy::{Caller, Command, Denial, Kind};
 use std::alloc::{AllocError, Global};
 
 /// The caller and the command.
@@ -105,7 +102,7 @@ fn caller_in(value: Option<&[u8]>) -> Option<Caller>
     Caller::read(value?)
 }
 
-// Returns the command of that caller. A candidate may only ask for their own pages.
+// Returns the command of that caller.
 fn command_by<'a>(
     alloc: Global,
     routes: &Routes,
@@ -118,7 +115,7 @@ fn command_by<'a>(
 {
     let verb = Verb::read(request.method);
     match caller {
-        Caller::Cand(_) => match own_command(routes, verb, request.target) {
+        Caller::Cand(_) => match own_command(alloc, routes, verb, request.target) {
             Some(command) => Ok(command),
             None => Err(Refusal::Candidate),
         },
@@ -126,24 +123,16 @@ fn command_by<'a>(
     }
 }
 
-fn own_command<'a>(routes: &Routes, verb: Verb, target: &str) -> Option<Command<'a>>
+// Returns the command for one of a candidate's own pages; `None` whatever else the request lacks.
+fn own_command<'a>(alloc: Global, routes: &Routes, verb: Verb, target: &str) -> Option<Command<'a>>
     ensures command { option_map plain_command result ≡ own_command verb target.now }
     ensures text { (text : Bor (List ℕ)) → IfSome result (HoldsText text) }
 {
-    match verb {
-        Verb::Get => own_page_command(routes.page(target)?, target.as_bytes()),
-        _ => None,
-    }
-}
-
-fn own_page_command<'a>(page: Page, path: &[u8]) -> Option<Command<'a>>
-    ensures command { option_map plain_command result ≡ own_page_command page path.now }
-    ensures text { (text : Bor (List ℕ)) → IfSome result (HoldsText text) }
-{
-    match page {
-        Page::Me => Some(Command::Me),
-        Page::MyExam => Some(Command::MyExam(ExamNo::new(number_in(path, 3).ok()?))),
-        Page::MyPenalty => Some(Command::MyPenalty),
+    let Ok(command) = staff_command(alloc, routes, verb, target, b"") else {
+        return None;
+    };
+    match command.kind() {
+        Kind::Personal => Some(command),
         _ => None,
     }
 }

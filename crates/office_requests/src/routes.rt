@@ -1,13 +1,36 @@
 // The routes of the office.
 ghost use Rattle.std.specs.Prelude.{◌≡◌, ℕ, List, map, IfOk, OnOk, IfSome, IsNone};
-ghost use Rattle.office_requests.specs.declared.pages.Page.{Page};
+ghost use Rattle.office_requests.specs.declared.routes.Page.{Page};
 ghost use Rattle.office_requests.specs.Table.{Rows, adds, adds_all, table, page_at};
 ghost use Rattle.office_requests.specs.Pages.{IsRouteTo, page_of};
 
-use crate::pages::Page;
 use matchit::Router;
 use std::alloc::{AllocError, Global};
 use std::marker::Model;
+
+/// A page of the office: a path without its numbers, with up to three methods.
+#[derive(Clone, Copy, Debug, PartialEq, Eq)]
+pub enum Page {
+    Me,
+    MyExam,
+    MyPenalty,
+    Instance,
+    Owner,
+    Draft,
+    DraftPenalty,
+    DraftViolations,
+    Place,
+    Move,
+    /// An exam's place in a draft.
+    Slot,
+    Swap,
+    Publish,
+    Publication,
+    PublicationPenalty,
+    PublicationRooms,
+    PublicationSeats,
+    Batch,
+}
 
 // Each page with its route.
 const ROUTES: [(&str, Page); 18] = [
