@@ -16,12 +16,14 @@ use Rattle.office_policy.specs.Commands.{set_owner, new_draft, draft, draft_pena
 use Rattle.office_policy.specs.Commands.{draft_violations, drop_draft, place, move, clear, swap}
 use Rattle.office_policy.specs.Commands.{publish, publication, publication_penalty}
 use Rattle.office_policy.specs.Commands.{publication_rooms, publication_seats, batch}
-use Rattle.office_policy.specs.Policy.{permits}
+use Rattle.office_policy.specs.Policy.{kind_of, permits}
 use Rattle.office_policy.specs.declared.callers.Caller.{Caller}
 use Rattle.office_policy.specs.declared.callers.Caller.TheVariants.{Office, Dept, Cand}
 use Rattle.office_policy.specs.declared.command.Body.{Body}
 use Rattle.office_policy.specs.declared.command.Body.TheVariants.{Given, Bad, Long}
 use Rattle.office_policy.specs.declared.policy.Denial.{Denial}
+use Rattle.office_policy.specs.declared.policy.Kind.{Kind}
+use Rattle.office_policy.specs.declared.policy.Kind.TheVariants.{Editing}
 use Rattle.office_reports.specs.Reports.{penalty_text, violation_text}
 use Rattle.office_reports.specs.Rooms.{rooms_text}
 use Rattle.office_reports.specs.SeatList.{seats_text}
@@ -134,18 +136,16 @@ permitted old caller (batch number body) =
     with_body old (λ bytes. outcome (now_enrolled number) old (batch_enrolled number bytes old))
     body
 
--- the owners of the exams that a command edits; 0 if it edits none
-abbrev pub owners_in : OfficeState → PlainCommand → ℕ × ℕ
-owners_in old (place d exam body) = (owner_in exam old, 0)
-owners_in old (move d exam body) = (owner_in exam old, 0)
-owners_in old (clear d exam) = (owner_in exam old, 0)
-owners_in old (swap d a b) = (owner_in a old, owner_in b old)
-owners_in old _ = (0, 0)
+-- the owners of the exams that a command of this kind edits; 0 if it edits none
+abbrev pub owners_in : OfficeState → Kind → ℕ × ℕ
+owners_in old (Editing a None) = (owner_in a old, 0)
+owners_in old (Editing a (Some b)) = (owner_in a old, owner_in b old)
+owners_in old kind = (0, 0)
 
 -- the policy's decision about a command in this office
 abbrev pub allowed_in : OfficeState → Caller → PlainCommand → Result (Unit {0}) Denial
 allowed_in old caller command =
-    permits caller command (owners_in old command).0 (owners_in old command).1
+    permits caller command (owners_in old (kind_of command)).0 (owners_in old (kind_of command)).1
 
 -- a command that the caller may not run is denied, in each state of the office
 abbrev pub if_allowed : Result (Unit {0}) Denial → OfficeState → Caller → PlainCommand → Outcome
