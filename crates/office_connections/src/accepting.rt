@@ -6,7 +6,7 @@ ghost use Rattle.office_connections.specs.Lines.{connection_fault_number, fault_
 ghost use Rattle.office_connections.specs.Clients.{AreOfClients, IsNextConnection, ServesClients};
 ghost use Rattle.office_connections.specs.Clients.{ServesWhileOpen};
 
-use crate::serving::serve_client;
+use crate::serving::answer_client;
 use crate::shutting::MayShut;
 use crate::timed::Timed;
 use office_messages::{Machine, ServeFault};
@@ -37,7 +37,7 @@ pub struct Service {
 /// Serves clients, each a reader and a writer, one after another in the order of arrival, up to the
 /// plan's number, while the machine is open. For each connection that ends with a fault a line is
 /// printed to `err`.
-pub fn serve_clients<
+pub fn accept_all<
     C: Clock,
     M: Machine + MayShut,
     R: Read + Timed + Drop,
@@ -61,7 +61,7 @@ pub fn serve_clients<
         unwritten: 0,
     };
     while service.accepted < plan.connections && !machine.is_shut() {
-        let Some(is_err_written) = serve_next(alloc, clock, clients, plan.patience, machine, err)
+        let Some(is_err_written) = accept_next(alloc, clock, clients, plan.patience, machine, err)
         else {
             break;
         };
@@ -73,7 +73,7 @@ pub fn serve_clients<
 
 // Serves the next client, if there is one, and prints the fault of its connection. Returns whether
 // there is no line, or it was written.
-fn serve_next<
+fn accept_next<
     C: Clock,
     M: Machine,
     R: Read + Timed + Drop,
@@ -99,7 +99,7 @@ fn serve_next<
     ensures goes { IfSome result (λ _. I.can_next clients.new) }
 {
     let (from, to) = clients.next()?;
-    let (served, _) = serve_client(alloc, clock, from, to, machine, patience);
+    let (served, _) = answer_client(alloc, clock, from, to, machine, patience);
     match served {
         Ok(_) => Some(true),
         Err(fault) => Some(print_fault(fault, err).is_ok()),

@@ -10,9 +10,9 @@ mod serving;
 mod shutting;
 mod timed;
 
-pub use accepting::{Plan, Service, serve_clients};
+pub use accepting::{Plan, Service, accept_all};
 pub use listening::{Listening, MAX_PORT, Sockets, announce, listen};
 pub use running::{RunFault, serve_run};
-pub use serving::serve_client;
+pub use serving::answer_client;
 pub use shutting::MayShut;
 pub use timed::Timed;

@@ -4,7 +4,7 @@ ghost use Rattle.std.specs.Io.KnownBytes.{Appends};
 ghost use Rattle.office_connections.specs.Lines.{listening_line};
 ghost use Rattle.office_connections.specs.Clients.{AreOfClients, ServesPlan, ServesWhileOpen};
 
-use crate::accepting::{Plan, Service, serve_clients};
+use crate::accepting::{Plan, Service, accept_all};
 use crate::listening::announce;
 use crate::shutting::MayShut;
 use crate::timed::Timed;
@@ -59,7 +59,7 @@ pub fn serve_run<
     if announce(port, out).is_err() {
         return Err(RunFault::Write);
     }
-    let service = serve_clients(alloc, clock, clients, plan, machine, err);
+    let service = accept_all(alloc, clock, clients, plan, machine, err);
     if machine.is_shut() {
         return Err(RunFault::Shut);
     }

@@ -24,7 +24,7 @@ const LAST_TURNS: u64 = 100_000;
 /// and the reply to a fault of head or framing in such a piece has the time left over by the reply
 /// before it. If the office ends the connection, it stops sending and reads on for at most this
 /// timeout, so that the replies arrive.
-pub fn serve_client<C: Clock, M: Machine, R: Read + Timed + Drop, W: Write + Timed + Drop>(
+pub fn answer_client<C: Clock, M: Machine, R: Read + Timed + Drop, W: Write + Timed + Drop>(
     alloc: Global,
     clock: &C,
     from: R,
@@ -42,7 +42,7 @@ pub fn serve_client<C: Clock, M: Machine, R: Read + Timed + Drop, W: Write + Tim
     let pace = Pace::new(clock, patience);
     let mut reader = PacedReader::new(from, &pace);
     let mut writer = PacedWriter::new(to, &pace);
-    let served = serve_paced(alloc, &pace, &mut reader, &mut writer, machine);
+    let served = answer_paced(alloc, &pace, &mut reader, &mut writer, machine);
     if is_ended_by_office(served) {
         leave(&pace, &mut reader);
     }
@@ -50,7 +50,7 @@ pub fn serve_client<C: Clock, M: Machine, R: Read + Timed + Drop, W: Write + Tim
 }
 
 // Serves a client with the machine that records when a reply is made.
-fn serve_paced<C: Clock, M: Machine, R: Read + Timed + Drop, W: Write + Timed + Drop>(
+fn answer_paced<C: Clock, M: Machine, R: Read + Timed + Drop, W: Write + Timed + Drop>(
     alloc: Global,
     pace: &Pace<'_, C>,
     reader: &mut PacedReader<'_, C, R>,

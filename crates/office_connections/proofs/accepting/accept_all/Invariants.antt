@@ -1,6 +1,6 @@
 use Rattle.std.specs.Prelude.{◌-◌, ◌≤◌}
 use Rattle.office_connections.specs.Clients.{CameBetween, ServesClients, ServesWhileOpen}
-use Rattle.office_connections.proofs.accepting.serve_clients.Given as goal
+use Rattle.office_connections.proofs.accepting.accept_all.Given as goal
 
 -- each client so far was served
 abbrev pub invariant-loop-service : goal.invariant-loop-service

@@ -4,13 +4,13 @@ use Rattle.std.proofs.KnownBytes.{Appends-nil}
 use Rattle.office_messages.specs.Visits.{with_fault}
 use Rattle.office_connections.specs.Lines.{fault_lines}
 use Rattle.office_connections.proofs.LineLemmas.{one_line}
-use Rattle.office_connections.proofs.accepting.serve_next.Goals as goal
+use Rattle.office_connections.proofs.accepting.accept_next.Goals as goal
 
 -- a connection that ended without a fault has no line
 pub returns-in-Ok : goal.returns-in-Ok
 returns-in-Ok g c =
     let client = c.in_ok-from in
-    let served = c.serve_client-served in
+    let served = c.answer_client-served in
     record {
       some = (
         record {
@@ -39,7 +39,7 @@ returns-in-Ok g c =
 pub returns-in-Err : goal.returns-in-Err
 returns-in-Err g c =
     let client = c.in_ok-from in
-    let served = c.serve_client-served in
+    let served = c.answer_client-served in
     record {
       some = (
         record {

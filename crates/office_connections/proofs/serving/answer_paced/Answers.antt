@@ -1,5 +1,5 @@
 use Rattle.office_messages.proofs.RunLemmas.{lent_serves, lent_serves_front}
-use Rattle.office_connections.proofs.serving.serve_paced.Goals as goal
+use Rattle.office_connections.proofs.serving.answer_paced.Goals as goal
 
 pub returns : goal.returns
 returns g c = record {

@@ -2,7 +2,7 @@ use Rattle.std.proofs.Common.{◌++◌, ◌∷◌, [], arith, length-append, ref
 use Rattle.std.proofs.KnownBytes.{Appends-nil}
 use Rattle.office_connections.proofs.ClientLemmas.{came_more, no_client, open_more, printed_more}
 use Rattle.office_connections.proofs.LineLemmas.{counted, uncounted}
-use Rattle.office_connections.proofs.accepting.serve_clients.Goals as goal
+use Rattle.office_connections.proofs.accepting.accept_all.Goals as goal
 
 pub loop-service-init : goal.loop-service-init
 loop-service-init g c = record {
