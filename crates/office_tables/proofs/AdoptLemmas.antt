@@ -1,12 +1,16 @@
 -- The tables according to the parts found, and the effect of readers one after another.
-use Rattle.std.proofs.Common.{◌≡◌, inl, inr, map, length, Option, Some, None, Result, OnOk, IfOk, refl, sym, ap, subst, ◌∙◌, arith}
+use Rattle.std.proofs.Common.{◌≡◌, inl, inr, map, length, Option, Some, None, Result, Ok, Err, refl, sym, ap, subst, ◌∙◌, arith}
 use Rattle.std.proofs.lemmas.Result.{IfOk-weaker, on_ok_weaker}
 use Rattle.std.specs.Prelude.{Vec}
 use Rattle.std.specs.declared.alloc.Global.{Global}
+use Rattle.std.specs.Result.{IsErrAnd}
 use Rattle.sqlite.specs.Effect.{Database, IsDatabase}
+use Rattle.sqlite.specs.declared.error.Error.{Error}
+use Rattle.sqlite.specs.Held.{Held, state}
+use Rattle.sqlite.specs.Store.{Ghosts}
 use Rattle.sqlite.specs.State.{State, HasCleanDisk, IsUnchanged}
 use Rattle.sqlite.proofs.StateLemmas.{survives_then}
-use Rattle.office_tables.specs.Adopting.{HaveDrafts, HaveShares, IsFoundSession, IsFoundDrafts, IsFoundPublication, IsAdopted, IsForeign, IsForeignIn, tables_of, IsSession, IsDrafts, HasAllOfPublication, IsWhole}
+use Rattle.office_tables.specs.Adopting.{HaveDrafts, HaveShares, IsFoundPart, HoldsDrafts, HoldsPublication, HoldsSession, IsAdopted, IsForeign, IsForeignIn, tables_of, IsSession, IsDrafts, HasAllOfPublication, IsWhole}
 use Rattle.office_tables.specs.Batch.{IsFoundBatches}
 use Rattle.office_tables.specs.declared.found.Found.{Found}
 use Rattle.office_tables.specs.declared.found.FoundDrafts.{FoundDrafts}
@@ -22,7 +26,7 @@ use Rattle.office_tables.specs.declared.placed.PlacedRow.{PlacedRow}
 use Rattle.office_tables.specs.declared.seat.SeatRow.{SeatRow}
 use Rattle.office_tables.specs.declared.share_student.StudentShareRow.{StudentShareRow}
 use Rattle.office_tables.specs.declared.share_part.PartShareRow.{PartShareRow}
-use Rattle.office_tables.specs.Finders.{IsFound, HasTables, Looks}
+use Rattle.office_tables.specs.Finders.{Adopts, IsFound, HasTables, Looks}
 use Rattle.office_tables.specs.Meta.{IsFoundMeta, meta_columns}
 use Rattle.office_tables.specs.Owner.{FitsOwner, owner_columns}
 use Rattle.office_tables.specs.Enrol.{FitsEnrol, enrol_columns}
@@ -69,55 +73,73 @@ module _ (version : Version) where
         );
       }
 
-  -- the effect of a reader that answers `Ok`
-  abbrev pub Stays : State → State → Type 0
-  Stays a b = HasCleanDisk b → HasTables version a → IsUnchanged a b
-
-  pub clean_before : (a b : State) → Looks version a b → HasCleanDisk b → HasCleanDisk a
+  clean_before : (a b : State) → Looks version a b → HasCleanDisk b → HasCleanDisk a
   clean_before a b looks clean = omega (arith, looks.survives.clean)
 
-  module _ (a b c : State) (first : Stays a b) (looks : Looks version b c) where
-    pub found_after : (P : Database → Type 0) → (HasCleanDisk c → HasTables version b → P b.now)
-        → HasCleanDisk c → HasTables version a → P a.now
-    found_after P h clean tables =
-        let mid = first (clean_before b c looks clean) tables in
-        subst P mid.0.now_is (h clean (tables_still a b mid tables))
+-- a reader that failed
+pub failed_first : {S Y : Type 0} {version : Version} {store : Ghosts S} {js : Database → Y → Type 0}
+    {a b : Held S} {r : Result Y Error} (e : Error)
+    → Looks version (state store a) (state store b) → IsErrAnd r (λ y. y ≡ e)
+    → Adopts version store js a b r
+failed_first {r = Ok y} e looks err = absurd err
+failed_first {r = Err d} e looks err =
+    record { found = λ _ _. tt; same = λ _ _. tt; looks = looks }
 
-    pub stays_then : Stays b c → Stays a c
-    stays_then second clean tables =
-        let mid = first (clean_before b c looks clean) tables in
-        unchanged_then a b c mid (second clean (tables_still a b mid tables))
+module _ {S X : Type 0} {version : Version} {store : Ghosts S} {is : Database → X → Type 0}
+    {a b : Held S} {x : X} (first : Adopts version store is a b (Ok x)) where
+  mid_is : (c : Held S) → Looks version (state store b) (state store c)
+      → HasCleanDisk (state store c) → HasTables version (state store a)
+      → IsUnchanged (state store a) (state store b) × HasTables version (state store b)
+  mid_is c looks clean tables =
+      let same = first.same (clean_before version (state store b) (state store c) looks clean)
+      tables in
+      (same, tables_still version (state store a) (state store b) same tables)
 
-    -- the result of the last reader is the result of all
-    pub still_then : {T E : Type 0} (r : Result T E)
-        → (HasCleanDisk c → HasTables version b → OnOk r (IsUnchanged b c))
-        → HasCleanDisk c → HasTables version a → OnOk r (IsUnchanged a c)
-    still_then r second clean tables =
-        let mid = first (clean_before b c looks clean) tables in
-        on_ok_weaker r (λ last. unchanged_then a b c mid last)
-        (second clean (tables_still a b mid tables))
+  pub looks_then : (c : Held S) → Looks version (state store b) (state store c)
+      → Looks version (state store a) (state store c)
+  looks_then c looks = record {
+    kept = λ clean tables. let mid = mid_is c looks clean tables in
+        keeps_after (state store a) (state store b) (state store c) mid.0
+        (looks.kept clean mid.1);
+    mode = λ rests. looks.mode (first.looks.mode rests);
+    survives = survives_then (state store a) (state store b) (state store c) _ _ _
+        (λ clean db h. h) (λ clean db h tables. h (mid_is c looks clean tables).1)
+        first.looks.survives looks.survives;
+  }
 
-    pub found_ok_after : {T E : Type 0} (r : Result T E) (P Q : Database → T → Type 0)
-        → ((x : T) → P a.now x → Q a.now x)
-        → (HasCleanDisk c → HasTables version b → IfOk r (P b.now))
-        → HasCleanDisk c → HasTables version a → IfOk r (Q a.now)
-    found_ok_after r P Q more h clean tables =
-        let mid = first (clean_before b c looks clean) tables in
-        IfOk-weaker r (P b.now) (Q a.now)
-        (λ x is. more x (subst (λ db. P db x) mid.0.now_is is))
-        (h clean (tables_still a b mid tables))
+  -- a second reader: both find what the first database has
+  pub both_found : {Y : Type 0} {js ks : Database → Y → Type 0} {c : Held S} {r : Result Y Error}
+      → Adopts version store js b c r
+      → ((db : Database) (y : Y) → is db x → js db y → ks db y) → Adopts version store ks a c r
+  both_found {js = js} {c = c} {r = r} second more = record {
+    found = λ clean tables. let mid = mid_is c second.looks clean tables in
+        IfOk-weaker r _ _ (λ y found. more (state store a).now y
+        (first.found (clean_before version (state store b) (state store c) second.looks clean)
+        tables) (subst (λ db. js db y) mid.0.0.now_is found)) (second.found clean mid.1);
+    same = λ clean tables. let mid = mid_is c second.looks clean tables in
+        on_ok_weaker r (λ last. unchanged_then _ _ _ mid.0 last) (second.same clean mid.1);
+    looks = looks_then c second.looks;
+  }
 
-    pub looks_then : Looks version a b → Looks version a c
-    looks_then before = record {
-      kept = λ clean tables.
-          let mid = first (clean_before b c looks clean) tables in
-          keeps_after a b c mid (looks.kept clean (tables_still a b mid tables));
-      mode = λ rests. looks.mode (before.mode rests);
-      survives = survives_then a b c _ _ _ (λ clean db h. h)
-          (λ clean db h tables. h
-          (tables_still a b (first (clean_before b c looks clean) tables) tables)) before.survives
-          looks.survives;
-    }
+  pub both : {Y : Type 0} {js : Database → Y → Type 0} {c : Held S} {r : Result Y Error}
+      → Adopts version store js b c r → Adopts version store (λ db y. is db x × js db y) a c r
+  both second = both_found second (λ db y p q. (p, q))
+
+  -- a second reader that failed
+  pub failed : {Y : Type 0} {js : Database → Y → Type 0} {c : Held S} {r : Result Y Error}
+      (e : Error) → Looks version (state store b) (state store c) → IsErrAnd r (λ y. y ≡ e)
+      → Adopts version store js a c r
+  failed {c = c} e looks err = failed_first e (looks_then c looks) err
+
+  -- what is found says more
+  pub gives : {Y : Type 0} {js : Database → Y → Type 0} {y : Y}
+      → ((db : Database) → db.schema ≡ schema_of version → is db x → js db y)
+      → Adopts version store js a b (Ok y)
+  gives more = record {
+    found = λ clean tables. more (state store a).now tables.schema (first.found clean tables);
+    same = first.same;
+    looks = first.looks;
+  }
 
 -- ---- the rows found
 
@@ -127,7 +149,7 @@ pub session_found : (version : Version) (db : Database) (meta : Option MetaRow)
     → IsFound FitsOwner owner_columns keyed (db.trees 1) owners
     → IsFound FitsEnrol enrol_columns keyless (db.trees 2) enrols
     → (found : Option FoundSession) → IsSession meta owners enrols found
-    → IsFoundSession version db found
+    → IsFoundPart HoldsSession version db found
 session_found version db meta owners enrols m o e (Some found) is = record {
   meta = subst (IsFoundMeta version (db.trees 0)) is.0 m;
   owner = subst (IsFound FitsOwner owner_columns keyed (db.trees 1)) is.1 o;
@@ -149,7 +171,7 @@ pub drafts_found : (version : Version) (db : Database) (drafts : Option (Vec Dra
     → AreFound FitsDraft (HaveDrafts version db) drafts
     → IsFound FitsSlot slot_columns keyless (db.trees 5) slots
     → (found : Option FoundDrafts) → IsDrafts drafts slots found
-    → IsFoundDrafts version db found
+    → IsFoundPart HoldsDrafts version db found
 drafts_found version db drafts slots d s (Some found) is = record {
   draft = subst (AreFound FitsDraft (HaveDrafts version db)) is.0 d;
   slot = subst (IsFound FitsSlot slot_columns keyless (db.trees 5)) is.1 s;
@@ -169,7 +191,7 @@ pub publication_found : (version : Version) (db : Database)
     → AreFound FitsStudentShare (HaveShares version db) students
     → IsFound FitsPartShare share_part_columns keyless (db.trees 12) parts
     → (found : Option FoundPublication) → HasAllOfPublication placements seats students parts found
-    → IsFoundPublication version db found
+    → IsFoundPart HoldsPublication version db found
 publication_found version db placements seats students parts p s n k (Some found) is = record {
   placed = subst (IsFound FitsPlacement placed_columns keyed (db.trees 7)) is.0 p;
   seat = subst (IsFound FitsSeat seat_columns keyless (db.trees 8)) is.1 s;
@@ -217,14 +239,14 @@ in_no_version version db is foreign v t plain represents =
 pub rows_found : (version : Version) (db : Database) → db.schema ≡ schema_of version
     → (session : Option FoundSession) (drafts : Option FoundDrafts)
     (publication : Option FoundPublication) (batches : Option (Vec BatchCountsRow Global))
-    → IsFoundSession version db session → IsFoundDrafts version db drafts
-    → IsFoundPublication version db publication → IsFoundBatches db batches
+    → IsFoundPart HoldsSession version db session → IsFoundPart HoldsDrafts version db drafts
+    → IsFoundPart HoldsPublication version db publication → IsFoundBatches db batches
     → (found : Option Found) → IsWhole version session drafts publication batches found
     → IsAdopted db found
 rows_found version db schema session drafts publication batches s d p b (Some found) is =
-    let here = subst (IsFoundSession version db) is.1 s in
-    let plan = subst (IsFoundDrafts version db) is.2 d in
-    let public = subst (IsFoundPublication version db) is.3 p in
+    let here = subst (IsFoundPart HoldsSession version db) is.1 s in
+    let plan = subst (IsFoundPart HoldsDrafts version db) is.2 d in
+    let public = subst (IsFoundPart HoldsPublication version db) is.3 p in
     let kept = subst (IsFoundBatches db) is.4 b in
     let represents : HoldsTablesIn version db (tables_of found kept.0) = record {
       schema = schema;
@@ -243,12 +265,12 @@ rows_found version db schema session drafts publication batches s d p b (Some fo
     } in
     (kept.0, kept.1, subst (λ v. HoldsTablesIn v db (tables_of found kept.0)) (sym is.0) represents)
 rows_found version db schema session drafts publication batches s d p b None (inl none) =
-    in_no_version version db schema (subst (IsFoundSession version db) none s)
+    in_no_version version db schema (subst (IsFoundPart HoldsSession version db) none s)
 rows_found version db schema session drafts publication batches s d p b None (inr (inl none)) =
-    in_no_version version db schema (subst (IsFoundDrafts version db) none d)
+    in_no_version version db schema (subst (IsFoundPart HoldsDrafts version db) none d)
 rows_found version db schema session drafts publication batches s d p b None
     (inr (inr (inl none))) =
-    in_no_version version db schema (subst (IsFoundPublication version db) none p)
+    in_no_version version db schema (subst (IsFoundPart HoldsPublication version db) none p)
 rows_found version db schema session drafts publication batches s d p b None
     (inr (inr (inr none))) =
     in_no_version version db schema

@@ -1,7 +1,9 @@
 -- The effect of a reader, and the answers of any query.
 use Rattle.std.proofs.Common.{◌≡◌, ◌+◌, IsSorted, is_lt, subst₂, inl, inr, ℕ, List, [], ◌∷◌, map, false, None, Ok, Err, Result, arith, subst, refl, sym, ap, ◌∙◌, IsTrue}
-use Rattle.std.specs.Prelude.{IsPermutation, OnOk, nat_le, unwrap_or, ◌^◌}
+use Rattle.std.specs.Prelude.{IfOk, IsPermutation, OnOk, Vec, nat_le, unwrap_or, ◌^◌}
+use Rattle.std.specs.declared.alloc.Global.{Global}
 use Rattle.std.proofs.lemmas.List.{get_or-map, length-map}
+use Rattle.std.proofs.lemmas.Result.{IfOk-weaker}
 use Rattle.sqlite_value.specs.Order.{Row}
 use Rattle.sqlite_value.specs.declared.keys.Key.{Key}
 use Rattle.sqlite_value.specs.declared.value.Value.TheVariants.{Null}
@@ -11,19 +13,20 @@ use Rattle.sqlite_resolve.specs.declared.compiled.Compiled.{Compiled}
 use Rattle.sqlite_resolve.specs.declared.error.CompileError.{CompileError}
 use Rattle.sqlite.specs.declared.error.Error.{Error}
 use Rattle.sqlite.specs.Command.TheVariants.{Select}
+use Rattle.sqlite.specs.Effect.{Database}
 use Rattle.sqlite.specs.Given.{HasBegun}
 use Rattle.sqlite.specs.Held.{Held, state}
 use Rattle.sqlite.specs.Listing.{understood}
 use Rattle.sqlite.specs.Program.{overlay}
 use Rattle.sqlite.specs.Query.{Query, Join, Output, IsAnswer, output, output_cmp, sort_cmp, matches}
-use Rattle.sqlite.specs.State.{State, Survives, IsUnchanged, Shown, CommitsShowing}
+use Rattle.sqlite.specs.State.{State, HasCleanDisk, Survives, IsUnchanged, Shown, CommitsShowing}
 use Rattle.sqlite.specs.Store.{Ghosts}
 use Rattle.sqlite.specs.Term.{Term, Env, eval_all}
 use Rattle.sqlite.proofs.StateLemmas.{survives_weaker}
 use Rattle.sqlite.proofs.Callers.{IsPlain, command_of, reads_as}
 use Rattle.office_schema.specs.Schema.{office_schema}
-use Rattle.office_tables.specs.Asking.{asks, Means, Selects}
-use Rattle.office_tables.specs.Readers.{LeavesIfPlain, LeavesTables}
+use Rattle.office_tables.specs.Asking.{asks, IsReadOf, Means, Selects}
+use Rattle.office_tables.specs.Readers.{LeavesIfPlain, LeavesTables, Reads}
 use Rattle.office_tables.specs.Tables.{Tables}
 use Rattle.office_tables.specs.TablesHeld.{HoldsTables, HoldsTablesIn}
 use Rattle.office_tables.specs.Versions.{schema_of}
@@ -84,6 +87,20 @@ leaves_after g q sql means old new h on_ok = record {
   mode = h.mode;
   survives = silent_in q sql means (state g old) (state g new) h.survives;
 }
+
+-- if the rows that a query gives have a property, a reader that returns them reads rows with it
+pub reads_rows : {S R : Type 0} (g : Ghosts S) (q : Query) (sql : List ℕ)
+    → Means office_schema q sql → (old new : Held S) (result : Result (Vec R Global) Error)
+    → (columns_of : R → Row) (width : ℕ) (params : Row) (answers : Tables → List R → Type 0)
+    → ((db : Database) (t : Tables) → HoldsTables db t → (found : List R)
+    → IsReadOf columns_of width params q db.trees found → answers t found)
+    → ((q : Query) → Means (state g old).now.schema q sql → HasCleanDisk (state g new)
+    → IfOk result (λ found.
+    IsReadOf columns_of width params q (state g old).now.trees found.items))
+    → Reads g (λ t found. answers t found.items) old new result
+reads_rows g q sql means old new result columns_of width params answers read shown clean t holds =
+    IfOk-weaker result _ _ (λ found. read (state g old).now t holds found.items)
+    (shown q (means_in q sql means (state g old) (state g new) t holds) clean)
 
 -- one that returns what the query did
 pub leaves_tables : {S X : Type 0} {result : Result X Error} (g : Ghosts S) (q : Query)

@@ -25,7 +25,8 @@ use Rattle.office_tables.proofs.AskLemmas.{unmapped}
 use Rattle.office_tables.proofs.ListTexts.{counts_shown}
 use Rattle.office_tables.proofs.Queries.{column_later, id_map, map_agree}
 use Rattle.office_tables.proofs.RecordsBack.{batch_of, counts_in}
-use Rattle.office_tables.proofs.WholeRows.{dropped, rows_long, typed_rows, present_rows}
+use Rattle.office_tables.proofs.WholeRows.{dropped, rows_long}
+use Rattle.office_tables.proofs.WholeTables.{in_both}
 
 -- ---- the bytes
 
@@ -83,8 +84,8 @@ module _ (version : Version) (db : Database) (is : db.schema ≡ schema_of versi
   all_whole =
       let Typed = λ (r : Row). passes Datatype (schema_of version) db.trees batch_table r ≡ true in
       let Present = λ (r : Row). passes NotNull (schema_of version) db.trees batch_table r ≡ true in
-      let typed = (typed_rows version db is sound).1.1.1.1.1.1.1.1.1.0 in
-      let present = (present_rows version db is sound).1.1.1.1.1.1.1.1.1.0 in
+      let typed = in_both version 9 batch_table refl Datatype db is sound in
+      let present = in_both version 9 batch_table refl NotNull db is sound in
       let long = rows_long batch_table (take 4 batch_table.columns) (int (codes "unchanged")) refl
       refl refl (schema_of version) db.trees (db.trees 14) typed present in
       all-map IsWhole keyed (db.trees 14)

@@ -1,120 +1,169 @@
--- The effect of statements on any table: deletions, and insertions of a number and an amount.
-use Rattle.std.proofs.Common.{◌≡◌, ℕ, pos, List, [], ◌∷◌, map, filter, not, ◌==◌, true, Ok, Some, slice_get, refl, ap, ◌∙◌, Bool}
-use Rattle.sqlite_schema.specs.declared.schema.Keys.TheVariants.{Enforced}
+-- The effect of the statements that delete rows of a table.
+use Rattle.std.proofs.Common.{◌≡◌, ◌≤◌, ℕ, zero, suc, pos, List, [], ◌∷◌, ◌++◌, map, length, filter, not, ◌==◌, ◌&&◌, OnOk, Result, Bool, true, false, Option, Some, None, Ok, arith, sym, subst, ap, ap₂, ◌∙◌, refl}
+use Rattle.std.specs.Prelude.{slice_get, slice_set}
 use Rattle.sqlite_schema.specs.declared.schema.Table.{Table}
-use Rattle.sqlite_rules.specs.Action.{works}
-use Rattle.sqlite_rules.specs.Edit.{are_fresh}
-use Rattle.sqlite_trees.specs.Tree.{put_row}
-use Rattle.sqlite_value.specs.declared.value.Value.TheVariants.{Int, Null}
-use Rattle.sqlite_value.specs.Order.{Row}
-use Rattle.sqlite.specs.Command.TheVariants.{Insert, Delete}
+use Rattle.sqlite_sql.specs.Ops.{binary, is_true}
+use Rattle.sqlite_sql.specs.declared.ops.BinaryOp.TheVariants.{Compare}
+use Rattle.sqlite_sql.specs.declared.ops.CompareOp.TheVariants.{Eq}
+use Rattle.sqlite_value.specs.declared.keys.Collation.TheVariants.{Binary}
+use Rattle.sqlite_value.specs.declared.value.Value.{Value}
+use Rattle.sqlite_value.specs.declared.value.Value.TheVariants.{Int}
+use Rattle.sqlite_value.specs.Order.{Row, column}
+use Rattle.sqlite.specs.declared.error.Error.{Error}
+use Rattle.sqlite.specs.Command.TheVariants.{Delete}
 use Rattle.sqlite.specs.Listing.{understood}
-use Rattle.sqlite.specs.Source.TheVariants.{Values}
 use Rattle.sqlite.specs.State.{State, Executes}
-use Rattle.sqlite.specs.Term.{Term, lit, col}
+use Rattle.sqlite.specs.Term.{Term}
 use Rattle.sqlite.proofs.Callers.{IsPlain, command_of}
-use Rattle.office_schema.specs.Schema.{office_schema, keyed_table, int}
-use Rattle.office_tables.specs.Stored.{Holds, keyed}
-use Rattle.office_tables.proofs.Casts.{cast_int, cast_null}
-use Rattle.office_tables.proofs.Frames.{OneChanged, OneShown, holds_none}
-use Rattle.office_tables.proofs.Queries.{answered, passes, shown_filter, left_of, none_left, one_table, equals, rowids}
-use Rattle.office_tables.proofs.Statements.{inserts, deletes, simple}
-use Rattle.office_tables.proofs.TableLemmas.{holds_more, rowids_filter}
+use Rattle.office_schema.specs.Schema.{office_schema}
+use Rattle.office_tables.specs.Inserting.{IsTable, Stores, shown_by}
+use Rattle.office_tables.specs.Steps.{HasRun, Makes}
+use Rattle.office_tables.specs.Tables.{Tables}
+use Rattle.office_tables.specs.TablesHeld.{all_columns}
+use Rattle.office_tables.proofs.Frames.{AllShown, all_shown, own_shown, shown_next, tables_held}
+use Rattle.office_tables.proofs.Inside.{changes_by}
+use Rattle.office_tables.proofs.Queries.{answered, column_later, column_less, equal_numbers, equals, id_map, left_of, none_left, one_table, passes, rowids, shown_filter}
+use Rattle.office_tables.proofs.Statements.{deletes}
+use Rattle.office_tables.proofs.TableLemmas.{rowids_filter}
 
-module _ (sql : List ℕ) (plain : IsPlain (understood office_schema sql)) (at : ℕ) (base : Table)
-    (there : slice_get office_schema.tables at ≡ Some (simple base))
-    (quiet : (taken news : List Row)
-    → works office_schema Enforced 0 base.tree taken news ≡ []) where
-  -- DELETE .. WHERE, if what a row shows decides
-  pub deleted_where : (where_ : List Term) → command_of (understood office_schema sql)
-      ≡ Delete at (record { lets = []; body = one_table base.tree where_ rowids [] })
-      → (show : Row → Row) {X : Type 0} (row_of : X → Row) (params : Row) (shown_test : Row → Bool)
-      (p : X → Bool) → ((r : Row) → passes params where_ r ≡ shown_test (show r))
-      → ((x : X) → shown_test (row_of x) ≡ p x) → (count : ℕ) (old new : State) (xs : List X)
-      → old.now.schema ≡ office_schema → Holds show (map row_of xs) (old.now.trees base.tree)
-      → Executes sql params old new (Ok count)
-      → OneShown show base.tree (map row_of (filter (λ x. not (p x)) xs)) old.now new.now
-  deleted_where where_ is show row_of params shown_test p seen tests count old new xs schema holds
-      h =
-      let done =
-      deletes sql params old new count office_schema schema plain at base there _ is quiet h
-      in
+-- ---- rows by the first of their numbers
+
+abbrev pub number : ℕ → Value
+number n = Int (pos n)
+
+-- where a column is in a stored row
+abbrev pub stored_at : Option ℕ → ℕ → ℕ
+stored_at (Some key) zero = 0
+stored_at (Some key) (suc at) = suc (suc at)
+stored_at None at = suc at
+
+-- n columns, from one on, equal the parameters at their places
+abbrev pub first_are : Option ℕ → ℕ → ℕ → List Term
+first_are key at zero = []
+first_are key at (suc n) = equals (stored_at key at) at ∷ first_are key (suc at) n
+
+-- the same for the columns that the table shows
+abbrev starts : Row → ℕ → ℕ → Row → Bool
+starts params at zero row = true
+starts params at (suc n) row =
+    is_true (binary (Compare Eq Binary) (column row at) (column params at))
+    && starts params (suc at) n row
+
+-- the first numbers of a key
+abbrev pub agrees : List ℕ → List ℕ → Bool
+agrees [] key = true
+agrees (p ∷ ps) [] = false
+agrees (p ∷ []) (k ∷ key) = k == p
+agrees (p ∷ q ∷ ps) (k ∷ key) = (k == p) && agrees (q ∷ ps) key
+
+pub seen_at : (key : Option ℕ) (row : Row) (at : ℕ)
+    → column row (stored_at key at) ≡ column (shown_by key row) at
+seen_at (Some key) row zero = refl
+seen_at (Some key) row (suc at) = column_later row at
+seen_at None row at = column_less row at
+
+first_seen : (params : Row) (key : Option ℕ) (row : Row) (n at : ℕ)
+    → passes params (first_are key at n) row ≡ starts params at n (shown_by key row)
+first_seen params key row zero at = refl
+first_seen params key row (suc n) at =
+    ap₂ (λ v b. is_true (binary (Compare Eq Binary) v (column params at)) && b)
+    (seen_at key row at) (first_seen params key row n (suc at))
+
+starts_later : (v w : Value) (params row : Row) (n at : ℕ)
+    → starts (v ∷ params) (suc at) n (w ∷ row) ≡ starts params at n row
+starts_later v w params row zero at = refl
+starts_later v w params row (suc n) at =
+    ap (λ b. is_true (binary (Compare Eq Binary) (column row at) (column params at)) && b)
+    (starts_later v w params row n (suc at))
+
+and_true : (b : Bool) → (b && true) ≡ b
+and_true true = refl
+and_true false = refl
+
+agree : (first key : List ℕ) (rest : Row) → length first ≤ length key
+    → starts (map number first) 0 (length first) (map number key ++ rest) ≡ agrees first key
+agree [] key rest long = refl
+agree (p ∷ ps) [] rest long = absurd (omega arith)
+agree (p ∷ []) (k ∷ key) rest long = equal_numbers k p
+agree (p ∷ q ∷ ps) (k ∷ key) rest long =
+    ap₂ (λ a b. a && b) (sym (and_true _) ∙ equal_numbers k p)
+    (starts_later (number p) (number k) (map number (q ∷ ps)) (map number key ++ rest)
+    (length (q ∷ ps)) 0
+    ∙ agree (q ∷ ps) key rest (omega arith))
+
+-- ---- DELETE
+
+-- this text deletes the rows whose first n columns equal the parameters
+pub record IsDelete (at : ℕ) (table : Table) (n : ℕ) (sql : List ℕ) : Type 0 where
+  pub is : command_of (understood office_schema sql) ≡ Delete at (record {
+    lets = [];
+    body = one_table table.tree (first_are table.key 0 n) rowids [];
+  })
+  pub plain : IsPlain (understood office_schema sql)
+
+-- the table has a key whose numbers are the first columns
+abbrev pub IsKey : {X : Type 0} → (X → Row) → (X → List ℕ) → Type 0
+IsKey {X} columns_of key = (x : X) → (rest : Row) × (columns_of x ≡ map number (key x) ++ rest)
+
+module _ {at : ℕ} {table : Table} (is : IsTable at table) {X : Type 0} (columns_of : X → Row)
+    (key : X → List ℕ) (keyed : IsKey columns_of key) (first : List ℕ)
+    (short : (x : X) → length first ≤ length (key x)) (sql : List ℕ)
+    (means : IsDelete at table (length first) sql) where
+  pub deleted : (old new : State) (xs : List X) (count : ℕ) (all : List (List Row))
+      → slice_get all at ≡ Some (map columns_of xs) → AllShown all old.now
+      → Executes sql (map number first) old new (Ok count)
+      → AllShown (slice_set all at
+      (map columns_of (filter (λ x. not (agrees first (key x))) xs))) new.now
+  deleted old new xs count all there shown h =
+      let params = map number first in
+      let n = length first in
+      let where_ = first_are table.key 0 n in
+      let done = deletes sql params old new count office_schema shown.schema means.plain at table
+      is.found _ means.is is.quiet h in
       let edit = done.3 in
-      let stored = old.now.trees base.tree in
+      let stored = old.now.trees table.tree in
       let test = passes params where_ in
-      let answer = answered base.tree where_ _ [] old.now.trees params done.0 done.2 in
-      let rows : new.now.trees base.tree ≡ filter (λ r. not (test r)) stored =
+      let holds = own_shown is all (map columns_of xs) old.now there shown in
+      let answer = answered table.tree where_ rowids [] old.now.trees params done.0 done.2 in
+      let rows : new.now.trees table.tree ≡ filter (λ r. not (test r)) stored =
       edit.rows ∙ left_of test stored done.0 holds.rowids answer in
-      record {
+      shown_next is all _ old.now new.now shown (record {
         schema = done.1;
         others = edit.tables;
         holds = rw rows (record {
           rowids = rowids_filter (λ r. not (test r)) stored holds.rowids;
-          same = shown_filter show row_of (λ r. not (test r)) (λ row. not (shown_test row))
-              (λ x. not (p x)) (λ r. ap not (seen r)) (λ x. ap not (tests x)) stored xs holds.same;
+          same = shown_filter (shown_by table.key) columns_of (λ r. not (test r))
+              (λ (row : Row). not (starts params 0 n row)) (λ x. not (agrees first (key x)))
+              (λ r. ap not (first_seen params table.key r n 0))
+              (λ x. ap not (ap (starts params 0 n) (keyed x).1
+              ∙ agree first (key x) (keyed x).0 (short x)))
+              stored xs holds.same;
         });
-      }
+      })
 
-  -- DELETE .. WHERE the first column is a number
-  pub keyed_deleted : command_of (understood office_schema sql)
-      ≡ Delete at (record { lets = []; body = one_table base.tree (equals 0 0 ∷ []) rowids [] })
-      → {X : Type 0} (row_of : X → Row) (key : X → ℕ) (number count : ℕ) (old new : State)
-      → ((x : X) → passes (Int (pos number) ∷ []) (equals 0 0 ∷ []) (row_of x) ≡ (key x == number))
-      → (xs : List X) → old.now.schema ≡ office_schema
-      → Holds keyed (map row_of xs) (old.now.trees base.tree)
-      → Executes sql (Int (pos number) ∷ []) old new (Ok count)
-      → OneChanged base.tree (map row_of (filter (λ x. not (key x == number)) xs)) old.now new.now
-  keyed_deleted is row_of key number count old new tests =
-      let params = Int (pos number) ∷ [] in
-      deleted_where (equals 0 0 ∷ []) is keyed row_of params (passes params (equals 0 0 ∷ []))
-      (λ x. key x == number) (λ r. refl) tests count old new
+-- DELETE of all rows
+pub cleared : {at : ℕ} {table : Table} (is : IsTable at table) (sql : List ℕ)
+    → IsDelete at table 0 sql → (old new : State) (rows : List Row) (count : ℕ)
+    (all : List (List Row)) → slice_get all at ≡ Some rows → AllShown all old.now
+    → Executes sql [] old new (Ok count) → AllShown (slice_set all at []) new.now
+cleared {at} is sql means old new rows count all there shown h =
+    subst (λ l. AllShown (slice_set all at l) new.now) (ap (map (λ (r : Row). r)) (none_left rows))
+    (deleted is (λ (r : Row). r) (λ _. []) (λ r. (r, refl)) [] (λ _. omega arith) sql means old new
+    rows count all (rw (id_map (λ (r : Row). r) (λ _. refl) rows) there) shown h)
 
-  -- DELETE of all rows
-  pub deleted_all : command_of (understood office_schema sql)
-      ≡ Delete at (record { lets = []; body = one_table base.tree [] rowids [] })
-      → (show : Row → Row) (held : List Row) (count : ℕ) (old new : State)
-      → old.now.schema ≡ office_schema → Holds show held (old.now.trees base.tree)
-      → Executes sql [] old new (Ok count) → OneShown show base.tree [] old.now new.now
-  deleted_all is show held count old new schema holds h =
-      let done =
-      deletes sql [] old new count office_schema schema plain at base there _ is quiet h in
-      let edit = done.3 in
-      let stored = old.now.trees base.tree in
-      let answer = answered base.tree [] _ [] old.now.trees [] done.0 done.2 in
-      let rows : new.now.trees base.tree ≡ [] =
-      edit.rows ∙ left_of (λ r. true) stored done.0 holds.rowids answer ∙ none_left stored in
-      record {
-        schema = done.1;
-        others = edit.tables;
-        holds = holds_none show (new.now.trees base.tree) rows;
-      }
-
--- ---- two columns: a number and an amount
-
-abbrev pub night_terms : List Term
-night_terms = col 0 0 ∷ lit Null ∷ col 0 1 ∷ []
-
-module _ (sql : List ℕ) (plain : IsPlain (understood office_schema sql)) (at tree : ℕ)
-    (name first second : List ℕ)
-    (there : slice_get office_schema.tables at
-    ≡ Some (simple (keyed_table name tree (int first ∷ int second ∷ []))))
-    (quiet : (taken news : List Row) → works office_schema Enforced 0 tree taken news ≡ []) where
-  pub night_added : command_of (understood office_schema sql) ≡ Insert at (Values night_terms 3)
-      → (number night count : ℕ) (rows : List Row) (old new : State)
-      → old.now.schema ≡ office_schema → Holds keyed rows (old.now.trees tree)
-      → Executes sql (Int (pos number) ∷ Int (pos night) ∷ []) old new (Ok count)
-      → OneChanged tree ((Int (pos number) ∷ Int (pos night) ∷ []) ∷ rows) old.now new.now
-  night_added is number night count rows old new schema holds h =
-      let done = inserts sql _ old new count office_schema schema plain at
-      (keyed_table name tree (int first ∷ int second ∷ [])) there night_terms 3 is quiet h in
-      let edit = done.1 in
-      let stored = old.now.trees tree in
-      let new_row : Row = Int (pos number) ∷ Null ∷ Int (pos night) ∷ [] in
-      let now : new.now.trees tree ≡ put_row new_row stored =
-      edit.rows ∙ rw (cast_null, cast_int number, cast_int night) refl in
-      let fresh : are_fresh stored (new_row ∷ []) ≡ true = rw (cast_int number) at edit.fresh in
-      record {
-        schema = done.0;
-        others = edit.tables;
-        holds = rw now (holds_more keyed rows stored new_row _ refl refl fresh holds);
-      }
+-- the tables without the rows of one table that have these numbers
+pub rows_deleted : {X : Type 0} {at : ℕ} {table : Table} {columns_of : X → Row} {w : ℕ}
+    (about : Stores at table columns_of w) (key : X → List ℕ) → IsKey columns_of key
+    → (first : List ℕ) → ((x : X) → length first ≤ length (key x)) → (sql : List ℕ)
+    → IsDelete at table (length first) sql → (rows : Tables → List X) (f : Tables → Tables)
+    → ((t : Tables) → slice_get (all_columns t) at ≡ Some (map columns_of (rows t)))
+    → ((t : Tables) → all_columns (f t) ≡ slice_set (all_columns t) at
+    (map columns_of (filter (λ x. not (agrees first (key x))) (rows t))))
+    → (old new : State) (r : Result (Unit {0}) Error)
+    → OnOk r (HasRun sql (map number first) old new) → OnOk r (Makes f old new)
+rows_deleted {columns_of} about key keyed first short sql means rows f listed changed old new r =
+    changes_by f sql (map number first) old new r
+    (λ count t represents h. tables_held new.now (f t)
+    (subst (λ all. AllShown all new.now) (sym (changed t))
+    (deleted about.is columns_of key keyed first short sql means old new (rows t) count
+    (all_columns t) (listed t) (all_shown old.now t represents) h)))

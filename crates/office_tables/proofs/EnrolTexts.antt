@@ -1,7 +1,6 @@
 -- The rows that queries read from the table of enrolments.
-use Rattle.std.proofs.Common.{◌≡◌, ◌<◌, ℕ, pos, List, [], ◌∷◌, map, filter, true, ◌&&◌, ◌==◌, codes, refl, ap, arith, rules, IsPermutation, Option, Some, None}
-use Rattle.std.specs.List.{AllByRecursion}
-use Rattle.std.specs.Prelude.{IfSome, IsSome, Vec}
+use Rattle.std.proofs.Common.{◌≡◌, ℕ, pos, List, [], ◌∷◌, map, filter, true, ◌&&◌, ◌==◌, codes, refl, ap, arith, IsPermutation, Option, Some, None}
+use Rattle.std.specs.Prelude.{Vec}
 use Rattle.std.specs.declared.alloc.Global.{Global}
 use Rattle.sqlite_sql.specs.declared.ops.BinaryOp.TheVariants.{Compare}
 use Rattle.sqlite_sql.specs.declared.ops.CompareOp.TheVariants.{Eq}
@@ -18,12 +17,12 @@ use Rattle.office_schema.specs.Schema.{office_schema}
 use Rattle.office_tables.specs.Asking.{asks, IsReadOf, Means}
 use Rattle.office_tables.specs.Readings.{IsReadAnswer}
 use Rattle.office_tables.specs.Enrol.{FitsEnrol, StudentEnrolsRise, enrol_columns}
-use Rattle.office_tables.specs.Selections.{IsInOrder}
+use Rattle.office_tables.specs.Selections.{AreListed, AreListedIfFit}
 use Rattle.office_tables.specs.declared.enrol.EnrolRow.{EnrolRow}
 use Rattle.office_tables.specs.Tables.{Tables}
 use Rattle.office_tables.specs.TablesHeld.{HoldsTables}
 use Rattle.office_tables.specs.Stored.{keyless}
-use Rattle.office_tables.proofs.OrderLemmas.{Rises, columns_shown, in_this_order, one_less, read, rising, table_shown}
+use Rattle.office_tables.proofs.OrderLemmas.{by_number, columns_shown, read, rising, table_shown}
 use Rattle.office_tables.proofs.Queries.{column_less, equal_numbers, equals, passes}
 use Rattle.office_tables.proofs.RecordsBack.{enrol_of}
 
@@ -72,34 +71,23 @@ module _ (db : Database) (number : ℕ) (t : Tables) (represents : HoldsTables d
       (λ r. r.student == number) (λ x. equal_numbers x.student number) db.trees t.enrol
       represents.enrol.same
 
-  pub enrols_of_read : (found : List EnrolRow)
+  enrols_of_read : (found : List EnrolRow)
       → IsReadOf enrol_columns 2 given enrols_of_query db.trees found
-      → IsPermutation hers found × Rises (λ (x : EnrolRow). x.exam ∷ []) found
+      → AreListed StudentEnrolsRise hers found
   enrols_of_read found is =
-      read enrol_of enrol_columns 2 (λ x. refl) (λ x. refl) (inner 2 end) (equals 1 0 ∷ [])
+      by_number (λ (x : EnrolRow). x.exam) hers found
+      (read enrol_of enrol_columns 2 (λ x. refl) (λ x. refl) (inner 2 end) (equals 1 0 ∷ [])
       enrol_terms (1 ∷ []) (λ (x : EnrolRow). x.exam ∷ []) (λ x. refl) db.trees given hers found
-      shown is
+      shown is)
 
   abbrev pub Answered : Option (Vec EnrolRow Global) → Type 0
   Answered = IsReadAnswer FitsEnrol enrol_columns 2 given enrols_of_query db.trees
 
-  pub found_rows : (found : Option (Vec EnrolRow Global)) → Answered found
-      → IfSome found (λ rows. IsPermutation hers rows.items)
-  found_rows (Some rows) is = (enrols_of_read rows.items is).0
-  found_rows None is = tt
-
-  pub found_in_order : (found : Option (Vec EnrolRow Global)) → Answered found
-      → IfSome found (λ rows. IsInOrder StudentEnrolsRise hers rows.items)
-  found_in_order (Some rows) is =
-      in_this_order (λ (a b : EnrolRow). a.exam < b.exam) (λ (x : EnrolRow). x.exam ∷ [])
-      (λ x y low. one_less x.exam y.exam low) hers rows.items (enrols_of_read rows.items is)
-  found_in_order None is = tt
-
-  pub found_where_fit : (found : Option (Vec EnrolRow Global)) → Answered found
-      → AllByRecursion FitsEnrol hers → IsSome found
-  found_where_fit (Some rows) is fit = search rules
-  found_where_fit None (rows, none, answer) fit =
+  pub enrols_found : (found : Option (Vec EnrolRow Global)) → Answered found
+      → AreListedIfFit FitsEnrol StudentEnrolsRise hers found
+  enrols_found (Some rows) is = enrols_of_read rows.items is
+  enrols_found None (rows, none, answer) = λ fit.
       let same = columns_shown enrol_columns 2 (λ x. refl) (λ x. omega arith) (inner 2 end)
       (equals 1 0 ∷ []) enrol_terms (rising enrol_terms (1 ∷ [])) db.trees given hers rows shown
       answer in
-      absurd (none same.1 hers fit same.0)
+      none same.1 hers fit same.0

@@ -1,20 +1,23 @@
 -- The effect of the statements that insert rows of a table.
 use Rattle.std.proofs.Common.{◌≡◌, ◌+◌, ◌<◌, ℕ, ℤ, zero, suc, List, [], ◌∷◌, ◌++◌, drop, map, length, reverse, flat_map, slice_index_or, Option, Some, None, Ok, refl, sym, ap, ap₂, subst, ◌∙◌, arith, append-nil, take-append-drop, IsTrue, Bool, true, false}
 use Rattle.std.specs.Fn.{Called, Mut}
+use Rattle.std.specs.Prelude.{slice_get, slice_set}
 use Rattle.std.specs.List.{IsSplitAt}
 use Rattle.std.specs.Array.{IsFromFnResult, IsFromFnResultFrom}
 use Rattle.std.proofs.lemmas.List.{map-append}
 use Rattle.std.proofs.lemmas.List.Elements.{All-drop, All-take}
 use Rattle.sqlite_value.specs.declared.value.Value.TheVariants.{Int, Null}
+use Rattle.sqlite_schema.specs.declared.schema.Table.{Table}
 use Rattle.sqlite_value.specs.Order.{Row, column}
 use Rattle.sqlite.specs.State.{State, Executes}
 use Rattle.sqlite.specs.Term.{eval_all}
 use Rattle.office_tables.specs.Alterations.{after_all}
-use Rattle.office_tables.specs.Inserting.{Inserts, IsInsert, Shape, given_row, next_params, row_terms, shown_by, with_row, row_fits, rows_fit}
+use Rattle.office_tables.specs.Inserting.{Inserts, IsInsert, Shape, Stores, given_row, next_params, row_terms, shown_by, with_row, row_fits, rows_fit}
 use Rattle.office_tables.specs.Steps.{Makes}
 use Rattle.office_tables.specs.Tables.{Tables}
-use Rattle.office_tables.specs.TablesHeld.{HoldsTables}
+use Rattle.office_tables.specs.TablesHeld.{HoldsTables, all_columns}
 use Rattle.office_tables.proofs.AlterationLemmas.{first_last}
+use Rattle.office_tables.proofs.Frames.{AllShown, all_shown, own_shown, shown_next, tables_held}
 use Rattle.office_tables.proofs.ManyRows.{added_rows, after_append, values_there}
 
 -- ---- the terms of a row
@@ -39,6 +42,38 @@ terms_give (Some key) rest pre row post wide =
 
 -- ---- rows of a table
 
+module _ {X : Type 0} {at : ℕ} {table : Table} {columns_of : X → Row} {w : ℕ}
+    (about : Stores at table columns_of w) where
+  pub rows_added : (k : ℕ) (sql : List ℕ) → IsInsert at table.key w k sql → (old new : State)
+      (rows held : List X) → length rows ≡ k → (count : ℕ) (all : List (List Row))
+      → slice_get all at ≡ Some (map columns_of held) → AllShown all old.now
+      → Executes sql (flat_map columns_of rows) old new (Ok count)
+      → AllShown (slice_set all at (map columns_of (reverse rows ++ held))) new.now
+  rows_added k sql means old new rows held long count all there shown h =
+      let key = table.key in
+      let done = added_rows columns_of (λ x. given_row key (columns_of x)) (shown_by key) w
+      (suc w) (row_terms key w) about.wide
+      (λ at. subst (λ v. length (row_terms key v at) ≡ suc v) (sym about.filled.1)
+      (long_terms key about.filled.0 at))
+      (λ pre post x. subst (λ v. eval_all (row_terms key v (length pre))
+      ((pre ++ (columns_of x ++ post)) ∷ []) ≡ given_row key (columns_of x))
+      (sym about.filled.1)
+      (terms_give key about.filled.0 pre (columns_of x) post (about.wide x ∙ about.filled.1)))
+      about.int about.shown sql k at table about.is.found means.plain means.is means.many
+      about.is.quiet about.cast old new rows held long count shown.schema
+      (own_shown about.is all (map columns_of held) old.now there shown) h in
+      shown_next about.is all _ old.now new.now shown
+      (record { schema = done.0; others = done.1; holds = done.2 })
+
+  pub row_added : (sql : List ℕ) → IsInsert at table.key w 1 sql → (old new : State) (row : X)
+      (held : List X) (count : ℕ) (all : List (List Row))
+      → slice_get all at ≡ Some (map columns_of held) → AllShown all old.now
+      → Executes sql (columns_of row) old new (Ok count)
+      → AllShown (slice_set all at (map columns_of (row ∷ held))) new.now
+  row_added sql means old new row held count all there shown h =
+      rows_added 1 sql means old new (row ∷ []) held refl count all there shown
+      (subst (λ ps. Executes sql ps old new (Ok count)) (sym (append-nil (columns_of row))) h)
+
 module _ {R : Type 0} (it : Shape R) (w n : ℕ) (one several : List ℕ)
     (about : Inserts it w n one several) where
   pub added : (k : ℕ) (sql : List ℕ) → IsInsert it.at it.table.key w k sql → (old new : State)
@@ -46,19 +81,10 @@ module _ {R : Type 0} (it : Shape R) (w n : ℕ) (one several : List ℕ)
       → Executes sql (flat_map it.columns_of rows) old new (Ok count)
       → HoldsTables new.now (it.with_rows (reverse rows ++ it.rows t) t)
   added k sql means old new rows long count t represents h =
-      let key = it.table.key in
-      let done = added_rows it.columns_of (λ x. given_row key (it.columns_of x)) (shown_by key) w
-      (suc w) (row_terms key w) about.wide
-      (λ at. subst (λ v. length (row_terms key v at) ≡ suc v) (sym about.filled.1)
-      (long_terms key about.filled.0 at))
-      (λ pre post x. subst (λ v. eval_all (row_terms key v (length pre))
-      ((pre ++ (it.columns_of x ++ post)) ∷ []) ≡ given_row key (it.columns_of x))
-      (sym about.filled.1)
-      (terms_give key about.filled.0 pre (it.columns_of x) post (about.wide x ∙ about.filled.1)))
-      about.int about.shown sql k it.at it.table about.found means.plain means.is means.many
-      about.quiet about.cast old new rows (it.rows t) long count represents.schema
-      (about.held old.now t represents) h in
-      about.changed old.now new.now t represents done.0 (reverse rows ++ it.rows t) done.1 done.2
+      tables_held new.now _ (subst (λ all. AllShown all new.now)
+      (sym (about.changed (reverse rows ++ it.rows t) t))
+      (rows_added about.stores k sql means old new rows (it.rows t) long count (all_columns t)
+      (about.listed t) (all_shown old.now t represents) h))
 
   pub added_one : (old new : State) (row : R) (count : ℕ) (t : Tables) → HoldsTables old.now t
       → Executes one (it.columns_of row) old new (Ok count)

@@ -1,32 +1,15 @@
 -- The effect of a statement inside a transaction.
-use Rattle.std.proofs.Common.{◌+◌, ◌<◌, ◌++◌, ◌∷◌, [], take, get_or, length, ◌≡◌, inl, inr, ℕ, List, Bool, true, false, Ok, Err, Result, refl, sym, ap, ◌∙◌, IsTrue, arith, OnOk}
+use Rattle.std.proofs.Common.{◌+◌, ◌<◌, ◌++◌, ◌∷◌, [], take, get_or, length, ◌≡◌, inl, ℕ, List, Ok, Result, refl, sym, ap, ◌∙◌, arith, OnOk}
 use Rattle.std.proofs.lemmas.List.{take_more}
 use Rattle.sqlite_value.specs.Order.{Row}
 use Rattle.sqlite.specs.declared.error.Error.{Error}
-use Rattle.sqlite.specs.State.{State, HasCleanDisk, Executes, ExecutesInside, KeepsCommit}
+use Rattle.sqlite.specs.State.{State, HasCleanDisk, Executes}
 use Rattle.std.proofs.lemmas.Result.{on_ok_weaker}
 use Rattle.sqlite.proofs.StateLemmas.{survives_then}
 use Rattle.office_tables.specs.Alterations.{after_all}
 use Rattle.office_tables.specs.Tables.{Tables}
 use Rattle.office_tables.specs.TablesHeld.{HoldsTables}
 use Rattle.office_tables.specs.Steps.{Within, HasRun, Makes}
-
--- a connection that answers `Ok` was inside a transaction
-pub inside_of : {T E Z : Type 0} {x : T} {e : E} (b : Bool)
-    → (b ≡ false → (◌≡◌ {A = Result T E} (Ok x) (Err e)) × Z) → IsTrue b
-inside_of true h = refl
-inside_of false h = absurd (let is = (h refl).0 in cc)
-
-pub keeps_commit : (sql : List ℕ) (params : Row) (old new : State) (r : Result ℕ Error)
-    → ExecutesInside 0 sql params old new r → KeepsCommit old new
-keeps_commit sql params old new (Ok count) h =
-    record { was_open = λ _. h.1.was_open; committed = λ _. h.1.committed_is }
-keeps_commit sql params old new (Err e) (inl h) = elim h.1 [
-  | inl same ↦ record { was_open = λ _. same.0.was_open; committed = λ _. same.0.committed_is }
-  | inr undone ↦ record { was_open = undone.was_open; committed = λ o. (undone.undone o).1 }
-]
-keeps_commit sql params old new (Err e) (inr h) =
-    record { was_open = λ _. h.2.0.was_open; committed = λ _. h.2.0.committed_is }
 
 -- a state that is clean now was clean before
 pub clean_before : (old new : State) → Within old new → HasCleanDisk new → HasCleanDisk old

@@ -18,12 +18,13 @@ use Rattle.office_schema.specs.Schema.{office_schema}
 use Rattle.office_tables.specs.Asking.{asks, IsReadOf, Means}
 use Rattle.office_tables.specs.declared.enrol.EnrolRow.{EnrolRow}
 use Rattle.office_tables.specs.declared.placed.PlacedRow.{PlacedRow}
-use Rattle.office_tables.specs.Placed.{placed_of, placed_columns}
+use Rattle.office_tables.specs.Placed.{PlacementsRise, placed_of, placed_columns}
 use Rattle.office_tables.specs.Tables.{Tables}
 use Rattle.office_tables.specs.TablesHeld.{HoldsTables}
 use Rattle.office_tables.specs.Stored.{keyed, keyless}
 use Rattle.office_tables.specs.Enrol.{enrol_columns}
-use Rattle.office_tables.proofs.OrderLemmas.{Rises, read, rising}
+use Rattle.office_tables.specs.Selections.{AreListed}
+use Rattle.office_tables.proofs.OrderLemmas.{by_number, read, rising}
 use Rattle.office_tables.proofs.Queries.{column_less, column_later, equal_pairs, equals, map_agree}
 use Rattle.office_tables.proofs.RecordsBack.{placement_of}
 
@@ -168,7 +169,7 @@ only_rows_of_student student placed (e ∷ enrols) =
 pub placements_of_read : (db : Database) (student : ℕ) (t : Tables) → HoldsTables db t
     → (found : List PlacedRow)
     → IsReadOf placed_columns 3 (Int (pos student) ∷ []) placements_of_query db.trees found
-    → IsPermutation (placed_of student t) found × Rises (λ (x : PlacedRow). x.exam ∷ []) found
+    → AreListed PlacementsRise (placed_of student t) found
 placements_of_read db student t represents found is =
     let params : Row = Int (pos student) ∷ [] in
     let stored = IsPermutation-flat_map (suited params db.trees) _ _ represents.enrol.same in
@@ -180,6 +181,7 @@ placements_of_read db student t represents found is =
     rw (all_suited params db.trees, sym (only_rows_of_student student t.placed t.enrol))
     (IsPermutation-trans _ _ _ stored
     (rw (flat_map-map (suited params db.trees) enrol_columns t.enrol) typed)) in
-    read placement_of placed_columns 3 (λ x. refl) (λ x. refl) (inner 2 (inner 7 end)) tests columns
+    by_number (λ (x : PlacedRow). x.exam) _ found
+    (read placement_of placed_columns 3 (λ x. refl) (λ x. refl) (inner 2 (inner 7 end)) tests columns
     (0 ∷ []) (λ (x : PlacedRow). x.exam ∷ []) (λ x. refl) db.trees params
-    (placed_of student t) found rows is
+    (placed_of student t) found rows is)

@@ -3,7 +3,7 @@ use Rattle.std.proofs.Common.{◌≡◌, ℕ, pos, List, [], ◌∷◌, map, cod
 use Rattle.sqlite_trees.specs.Tree.{put_row}
 use Rattle.sqlite_value.specs.declared.value.Value.TheVariants.{Null, Int, Blob}
 use Rattle.sqlite_value.specs.Order.{Row}
-use Rattle.sqlite.specs.Command.TheVariants.{Insert, Delete}
+use Rattle.sqlite.specs.Command.TheVariants.{Insert}
 use Rattle.sqlite.specs.Effect.{Database}
 use Rattle.sqlite.specs.Edit.{are_fresh}
 use Rattle.sqlite.specs.Listing.{understood}
@@ -16,15 +16,15 @@ use Rattle.office_schema.specs.Schema.{office_schema, meta_table}
 use Rattle.office_tables.specs.declared.version.Version.TheVariants.{Two}
 use Rattle.office_tables.specs.Schema.{IsBlank}
 use Rattle.office_tables.specs.Tables.{Tables, Meta, empty_tables}
-use Rattle.office_tables.specs.TablesHeld.{HoldsTables}
+use Rattle.office_tables.specs.TablesHeld.{HoldsTables, all_columns}
 use Rattle.office_tables.specs.Meta.{flag, meta_columns}
-use Rattle.office_tables.specs.Stored.{keyed, keyless}
+use Rattle.office_tables.specs.Stored.{keyed}
 use Rattle.office_tables.proofs.Casts.{cast_int, cast_null}
-use Rattle.office_tables.proofs.Frames.{meta_changed, holds_none}
-use Rattle.office_tables.proofs.DeleteLemmas.{deleted_all}
+use Rattle.office_tables.proofs.Frames.{all_shown, none_shown, shown_next, tables_held}
+use Rattle.office_tables.proofs.DeleteLemmas.{IsDelete}
+use Rattle.office_tables.proofs.Rows.{meta_is}
 use Rattle.office_tables.proofs.Statements.{inserts}
 use Rattle.office_tables.proofs.TableLemmas.{holds_more}
-use Rattle.office_tables.proofs.Queries.{one_table, rowids}
 
 -- ---- INSERT
 
@@ -57,46 +57,23 @@ added old new row count t represents h =
     let rows : new.now.trees 0 ≡ put_row new_row stored =
     is.rows ∙ rw (cast_int 0, cast_int 2, cast_null, cast_int (flag row.published)) refl in
     let fresh : are_fresh stored (new_row ∷ []) ≡ true = rw (cast_int 0) at is.fresh in
-    meta_changed old.now new.now t represents done.0 (row ∷ t.meta) is.tables
-    (rw rows (holds_more keyed (map (meta_columns Two) t.meta) stored new_row
-    (meta_columns Two row) refl refl fresh represents.meta))
+    tables_held new.now (record t { meta = row ∷ t.meta })
+    (shown_next meta_is (all_columns t) (map (meta_columns Two) (row ∷ t.meta)) old.now new.now
+    (all_shown old.now t represents) (record {
+      schema = done.0;
+      others = is.tables;
+      holds = rw rows (holds_more keyed (map (meta_columns Two) t.meta) stored new_row
+          (meta_columns Two row) refl refl fresh represents.meta);
+    }))
 
 -- ---- DELETE
 
-abbrev pub delete_text : List ℕ
-delete_text = codes "DELETE FROM meta"
-
-pub delete_is : command_of (understood office_schema delete_text)
-    ≡ Delete 0 (record { lets = []; body = one_table 0 ([]) rowids [] })
+pub delete_means : IsDelete 0 meta_table 0 (codes "DELETE FROM meta")
 unfolding understood everything
-delete_is = refl
-
-pub delete_plain : IsPlain (understood office_schema delete_text)
-unfolding understood everything
-delete_plain = (refl, refl)
-
-pub deleted : (old new : State) (count : ℕ) (t : Tables) → HoldsTables old.now t
-    → Executes delete_text [] old new (Ok count) → HoldsTables new.now (record t { meta = [] })
-deleted old new count t represents h =
-    let one = deleted_all delete_text delete_plain 0 meta_table refl (λ taken news. refl) delete_is
-    keyed _ count old new represents.schema represents.meta h in
-    meta_changed old.now new.now t represents one.schema [] one.others one.holds
+delete_means = record { is = refl; plain = (refl, refl) }
 
 -- tables without rows hold none
 pub blank_represents : (db : Database) → IsBlank office_schema db
     → HoldsTables db (record empty_tables { meta = [] })
-blank_represents db blank = record {
-  schema = blank.schema_is;
-  meta = holds_none keyed _ (blank.rows.0);
-  owner = holds_none keyed _ (blank.rows.1.0);
-  enrol = holds_none keyless _ (blank.rows.1.1.0);
-  draft = holds_none keyed _ (blank.rows.1.1.1.0);
-  slot = holds_none keyless _ (blank.rows.1.1.1.1.0);
-  placed = holds_none keyed _ (blank.rows.1.1.1.1.1.0);
-  seat = holds_none keyless _ (blank.rows.1.1.1.1.1.1.0);
-  share_student = holds_none keyed _ (blank.rows.1.1.1.1.1.1.1.0);
-  share_part = holds_none keyless _ (blank.rows.1.1.1.1.1.1.1.1.0);
-  batch = holds_none keyed _ (blank.rows.1.1.1.1.1.1.1.1.1.0);
-  night_draft = holds_none keyed _ (blank.rows.1.1.1.1.1.1.1.1.1.1.0);
-  night_share = holds_none keyed _ (blank.rows.1.1.1.1.1.1.1.1.1.1.1.0);
-}
+blank_represents db blank =
+    tables_held db (record empty_tables { meta = [] }) (none_shown db blank.schema_is blank.rows)

@@ -1,11 +1,10 @@
 -- From version 1 to version 2: an amount of 0 for each row, and the row of the version.
-use Rattle.std.proofs.Common.{◌≡◌, ℕ, pos, List, [], ◌∷◌, ◌++◌, map, filter, drop, ◌&&◌, codes, true, Ok, Some, slice_get, refl, sym, ap, ap₂, subst, ◌∙◌, append-nil, arith, IsPermutation}
+use Rattle.std.proofs.Common.{◌≡◌, ℕ, pos, List, [], ◌∷◌, ◌++◌, map, filter, drop, ◌&&◌, codes, true, Ok, refl, sym, ap, ap₂, subst, subst₂, ◌∙◌, append-nil, arith, IsPermutation}
 use Rattle.std.specs.List.{AllByRecursion}
+use Rattle.std.specs.Prelude.{slice_set}
 use Rattle.std.proofs.lemmas.Bool.{and_parts}
-use Rattle.std.proofs.lemmas.List.Sorted.{IsPermutation-map, IsPermutation-middle, IsPermutation-sym, IsPermutation-trans}
-use Rattle.sqlite_schema.specs.declared.schema.Keys.TheVariants.{Enforced}
+use Rattle.std.proofs.lemmas.List.Sorted.{IsPermutation-map, IsPermutation-middle, IsPermutation-sym, IsPermutation-trans, length_permutation}
 use Rattle.sqlite_schema.specs.declared.schema.Table.{Table}
-use Rattle.sqlite_rules.specs.Action.{works}
 use Rattle.sqlite_rules.specs.Cast.{cast_row}
 use Rattle.sqlite_rules.specs.Edit.{are_fresh, numbered, put_all}
 use Rattle.sqlite_rules.specs.declared.error.Rowids.TheVariants.{Chosen}
@@ -24,25 +23,26 @@ use Rattle.sqlite.specs.Term.{Term, lit, col}
 use Rattle.sqlite.proofs.Callers.{IsPlain, command_of}
 use Rattle.sqlite_tied.specs.Compute.{everything}
 use Rattle.std.specs.Fmt.{digits}
-use Rattle.office_schema.specs.Schema.{office_schema, keyed_table, int, meta_table}
+use Rattle.office_schema.specs.Schema.{office_schema, schema_before, keyed_table, int}
 use Rattle.office_tables.specs.declared.draft.DraftRow.{DraftRow}
 use Rattle.office_tables.specs.declared.share_student.StudentShareRow.{StudentShareRow}
 use Rattle.office_tables.specs.declared.version.Version.TheVariants.{One}
 use Rattle.office_tables.specs.Draft.{draft_columns, night_draft_columns}
 use Rattle.office_tables.specs.Meta.{meta_columns}
+use Rattle.office_tables.specs.Inserting.{IsTable}
 use Rattle.office_tables.specs.Migrating.{IsWidened, without_nights}
-use Rattle.office_tables.specs.Schema.{HasRows, schema_10}
+use Rattle.office_tables.specs.Schema.{HasRows}
 use Rattle.office_tables.specs.ShareStudent.{share_student_columns, night_share_columns}
-use Rattle.office_tables.specs.TablesHeld.{HoldsTables, HoldsOldTables}
-use Rattle.office_tables.specs.Stored.{Holds, keyed, keyless}
+use Rattle.office_tables.specs.TablesHeld.{HoldsTables, HoldsOldTables, all_columns}
+use Rattle.office_tables.specs.Stored.{Holds, keyed}
 use Rattle.office_tables.specs.Tables.{Tables}
 use Rattle.office_tables.proofs.AskLemmas.{unmapped}
 use Rattle.office_tables.proofs.Casts.{cast_int, cast_null}
-use Rattle.office_tables.proofs.Creates.{ten}
-use Rattle.office_tables.proofs.Frames.{OneChanged, holds_none, still}
-use Rattle.office_tables.proofs.DeleteLemmas.{deleted_all}
-use Rattle.office_tables.proofs.MetaLemmas.{delete_text, delete_is, delete_plain}
+use Rattle.office_tables.proofs.Frames.{AllShown, OneShown, holds_none, shown_next, still, tables_held}
+use Rattle.office_tables.proofs.DeleteLemmas.{cleared}
+use Rattle.office_tables.proofs.MetaLemmas.{delete_means}
 use Rattle.office_tables.proofs.Queries.{answered_by, every, map_agree, one_table, passes, shown_of}
+use Rattle.office_tables.proofs.Rows.{draft_nights, meta_is, share_nights}
 use Rattle.office_tables.proofs.Statements.{inserts_from, simple}
 use Rattle.office_tables.proofs.TableLemmas.{holds_more}
 
@@ -84,9 +84,7 @@ put_holds (n ∷ ns) rows stored fresh holds =
 
 module _ (sql : List ℕ) (plain : IsPlain (understood office_schema sql)) (at tree from : ℕ)
     (name first second : List ℕ)
-    (there : slice_get office_schema.tables at
-    ≡ Some (simple (keyed_table name tree (int first ∷ int second ∷ []))))
-    (quiet : (taken news : List Row) → works office_schema Enforced 0 tree taken news ≡ [])
+    (there : IsTable at (keyed_table name tree (int first ∷ int second ∷ [])))
     (is : command_of (understood office_schema sql)
     ≡ Insert at (source.Query (record { lets = []; body = fill_query from }))) where
   abbrev table : Table
@@ -100,10 +98,12 @@ module _ (sql : List ℕ) (plain : IsPlain (understood office_schema sql)) (at t
       (old new : State) → old.now.schema ≡ office_schema
       → Holds keyed (map columns_of xs) (old.now.trees from) → old.now.trees tree ≡ []
       → Executes sql [] old new (Ok count)
-      → OneChanged tree (map (λ x. amounts (key x)) xs) old.now new.now
+      → OneShown (keyed_table name tree (int first ∷ int second ∷ []))
+      (map (λ x. amounts (key x)) xs) old.now new.now
   filled columns_of key firsts xs count old new schema holds none h =
       let done = inserts_from sql [] old new count office_schema schema plain at
-      (keyed_table name tree (int first ∷ int second ∷ [])) there (fill_query from) is quiet h in
+      (keyed_table name tree (int first ∷ int second ∷ [])) there.found (fill_query from) is
+      there.quiet h in
       let edit = done.3 in
       let front = λ (q : Row). column q 0 ∷ Null ∷ Int (pos 0) ∷ [] in
       let answer =
@@ -181,109 +181,97 @@ fill_shares_plain : IsPlain (understood office_schema fill_shares_text)
 unfolding understood everything digits
 fill_shares_plain = (refl, refl)
 
-draft_nights : (rows : List DraftRow) → AllByRecursion (λ r. r.night ≡ 0) rows
+drafts_filled : (rows : List DraftRow) → AllByRecursion (λ r. r.night ≡ 0) rows
     → map (λ (r : DraftRow). amounts r.no) rows ≡ map night_draft_columns rows
-draft_nights [] all = refl
-draft_nights (r ∷ rows) all =
+drafts_filled [] all = refl
+drafts_filled (r ∷ rows) all =
     ap₂ (λ x xs. x ∷ xs) (ap (λ n. Int (pos r.no) ∷ Int (pos n) ∷ []) (sym all.0))
-    (draft_nights rows all.1)
+    (drafts_filled rows all.1)
 
-share_nights : (rows : List StudentShareRow) → AllByRecursion (λ r. r.night ≡ 0) rows
+shares_filled : (rows : List StudentShareRow) → AllByRecursion (λ r. r.night ≡ 0) rows
     → map (λ (r : StudentShareRow). amounts r.student) rows ≡ map night_share_columns rows
-share_nights [] all = refl
-share_nights (r ∷ rows) all =
+shares_filled [] all = refl
+shares_filled (r ∷ rows) all =
     ap₂ (λ x xs. x ∷ xs) (ap (λ n. Int (pos r.student) ∷ Int (pos n) ∷ []) (sym all.0))
-    (share_nights rows all.1)
+    (shares_filled rows all.1)
 
-module _ (t : Tables) (a b c d : State) (wide : IsWidened t a.now)
-    (cleared : OneChanged 0 [] a.now b.now)
-    (drafts : OneChanged 15 (map (λ (r : DraftRow). amounts r.no) t.draft) b.now c.now)
-    (shares : OneChanged 16 (map (λ (r : StudentShareRow). amounts r.student) t.share_student)
-    c.now d.now) where
-  assembled : HoldsTables d.now (record t { meta = [] })
-  assembled =
-      let rows = wide.widened.rows in
-      let one = cleared.others in
-      let two = drafts.others in
-      let three = shares.others in
-      let before = wide.represents in
-      record {
-        schema = shares.schema;
-        meta = still keyed _ _ _ (three.0 (omega arith) ∙ two.0 (omega arith)) cleared.holds;
-        owner = still keyed _ _ _
-            (three.1.0 (omega arith) ∙ two.1.0 (omega arith) ∙ one.1.0 (omega arith) ∙ rows.1.0)
-            before.owner;
-        enrol = still keyless _ _ _
-            (three.1.1.0 (omega arith) ∙ two.1.1.0 (omega arith) ∙ one.1.1.0 (omega arith)
-            ∙ rows.1.1.0)
-            before.enrol;
-        draft = still keyed _ _ _
-            (three.1.1.1.0 (omega arith) ∙ two.1.1.1.0 (omega arith) ∙ one.1.1.1.0 (omega arith)
-            ∙ rows.1.1.1.0)
-            before.draft;
-        slot = still keyless _ _ _
-            (three.1.1.1.1.0 (omega arith) ∙ two.1.1.1.1.0 (omega arith)
-            ∙ one.1.1.1.1.0 (omega arith) ∙ rows.1.1.1.1.0)
-            before.slot;
-        placed = still keyed _ _ _
-            (three.1.1.1.1.1.0 (omega arith) ∙ two.1.1.1.1.1.0 (omega arith)
-            ∙ one.1.1.1.1.1.0 (omega arith) ∙ rows.1.1.1.1.1.0)
-            before.placed;
-        seat = still keyless _ _ _
-            (three.1.1.1.1.1.1.0 (omega arith) ∙ two.1.1.1.1.1.1.0 (omega arith)
-            ∙ one.1.1.1.1.1.1.0 (omega arith) ∙ rows.1.1.1.1.1.1.0)
-            before.seat;
-        share_student = still keyed _ _ _
-            (three.1.1.1.1.1.1.1.0 (omega arith) ∙ two.1.1.1.1.1.1.1.0 (omega arith)
-            ∙ one.1.1.1.1.1.1.1.0 (omega arith) ∙ rows.1.1.1.1.1.1.1.0)
-            before.share_student;
-        share_part = still keyless _ _ _
-            (three.1.1.1.1.1.1.1.1.0 (omega arith) ∙ two.1.1.1.1.1.1.1.1.0 (omega arith)
-            ∙ one.1.1.1.1.1.1.1.1.0 (omega arith) ∙ rows.1.1.1.1.1.1.1.1.0)
-            before.share_part;
-        batch = still keyed _ _ _
-            (three.1.1.1.1.1.1.1.1.1.0 (omega arith) ∙ two.1.1.1.1.1.1.1.1.1.0 (omega arith)
-            ∙ one.1.1.1.1.1.1.1.1.1.0 (omega arith) ∙ rows.1.1.1.1.1.1.1.1.1.0)
-            before.batch;
-        night_draft = still keyed _ _ _ (three.1.1.1.1.1.1.1.1.1.1.0 (omega arith))
-            (subst (λ l. Holds keyed l (c.now.trees 15)) (draft_nights t.draft before.night_draft)
-            drafts.holds);
-        night_share = subst (λ l. Holds keyed l (d.now.trees 16))
-            (share_nights t.share_student before.night_share) shares.holds;
-      }
+-- a table that shows no row has none
+still_none : (stored : List Row) → Holds keyed [] stored → stored ≡ []
+still_none [] holds = refl
+still_none (r ∷ stored) holds =
+    let long = length_permutation _ _ holds.same in absurd (omega (arith, long))
+
+-- the tables in front of the three statements
+begun : (t : Tables) (db : Database) → IsWidened t db
+    → AllShown (slice_set (slice_set (slice_set (all_columns t) 0 (map (meta_columns One) t.meta))
+    10 []) 11 []) db
+begun t db wide = let b = wide.represents in let r = wide.widened.rows in record {
+  schema = wide.widened.schema_is;
+  hold = (
+    still _ _ _ _ r.0 b.meta,
+    (
+      still _ _ _ _ r.1.0 b.owner,
+      (
+        still _ _ _ _ r.1.1.0 b.enrol,
+        (
+          still _ _ _ _ r.1.1.1.0 b.draft,
+          (
+            still _ _ _ _ r.1.1.1.1.0 b.slot,
+            (
+              still _ _ _ _ r.1.1.1.1.1.0 b.placed,
+              (
+                still _ _ _ _ r.1.1.1.1.1.1.0 b.seat,
+                (
+                  still _ _ _ _ r.1.1.1.1.1.1.1.0 b.share_student,
+                  (
+                    still _ _ _ _ r.1.1.1.1.1.1.1.1.0 b.share_part,
+                    (
+                      still _ _ _ _ r.1.1.1.1.1.1.1.1.1.0 b.batch,
+                      (
+                        holds_none _ _ r.1.1.1.1.1.1.1.1.1.1.0,
+                        (holds_none _ _ r.1.1.1.1.1.1.1.1.1.1.1.0, tt),
+                      ),
+                    ),
+                  ),
+                ),
+              ),
+            ),
+          ),
+        ),
+      ),
+    ),
+  );
+}
 
 -- the three statements migrate all rows but the one about the office
 pub nights_filled : (t : Tables) (a b c d : State) (first second third : ℕ) → IsWidened t a.now
-    → Executes delete_text [] a b (Ok first) → Executes fill_drafts_text [] b c (Ok second)
-    → Executes fill_shares_text [] c d (Ok third) → HoldsTables d.now (record t { meta = [] })
+    → Executes (codes "DELETE FROM meta") [] a b (Ok first)
+    → Executes fill_drafts_text [] b c (Ok second) → Executes fill_shares_text [] c d (Ok third)
+    → HoldsTables d.now (record t { meta = [] })
 nights_filled t a b c d first second third wide h k l =
-    let rows = wide.widened.rows in
     let before = wide.represents in
-    let one =
-    deleted_all delete_text delete_plain 0 meta_table refl (λ taken news. refl) delete_is keyed
-    (map (meta_columns One) t.meta) first a b wide.widened.schema_is
-    (still keyed _ _ _ rows.0 before.meta) h in
-    let two = filled fill_drafts_text fill_drafts_plain 10 15 4 (codes "night_draft") (codes "no")
-    (codes "night") refl (λ taken news. refl) fill_drafts_is draft_columns (λ (r : DraftRow). r.no)
-    (λ r. refl) t.draft second b c one.schema
-    (still keyed _ _ _ (one.others.1.1.1.0 (omega arith) ∙ rows.1.1.1.0) before.draft)
-    (one.others.1.1.1.1.1.1.1.1.1.1.0 (omega arith) ∙ rows.1.1.1.1.1.1.1.1.1.1.0) k in
-    let three = filled fill_shares_text fill_shares_plain 11 16 11 (codes "night_share")
-    (codes "student") (codes "night") refl (λ taken news. refl) fill_shares_is share_student_columns
-    (λ (r : StudentShareRow). r.student) (λ r. refl) t.share_student third c d two.schema
-    (still keyed _ _ _
-    (two.others.1.1.1.1.1.1.1.0 (omega arith) ∙ one.others.1.1.1.1.1.1.1.0 (omega arith)
-    ∙ rows.1.1.1.1.1.1.1.0) before.share_student)
-    (two.others.1.1.1.1.1.1.1.1.1.1.1.0 (omega arith)
-    ∙ one.others.1.1.1.1.1.1.1.1.1.1.1.0 (omega arith) ∙ rows.1.1.1.1.1.1.1.1.1.1.1.0) l in
-    assembled t a b c d wide one two three
+    let r = wide.widened.rows in
+    let one = cleared meta_is _ delete_means a b _ first _ refl (begun t a.now wide) h in
+    let two = shown_next draft_nights.is _ _ b.now c.now one
+    (filled fill_drafts_text fill_drafts_plain 10 15 4 (codes "night_draft") (codes "no")
+    (codes "night") draft_nights.is fill_drafts_is draft_columns (λ (r : DraftRow). r.no)
+    (λ _. refl) t.draft second b c one.schema one.hold.1.1.1.0
+    (still_none _ one.hold.1.1.1.1.1.1.1.1.1.1.0) k) in
+    let three = shown_next share_nights.is _ _ c.now d.now two
+    (filled fill_shares_text fill_shares_plain 11 16 11 (codes "night_share") (codes "student")
+    (codes "night") share_nights.is fill_shares_is share_student_columns
+    (λ (r : StudentShareRow). r.student) (λ _. refl) t.share_student third c d two.schema
+    two.hold.1.1.1.1.1.1.1.0 (still_none _ two.hold.1.1.1.1.1.1.1.1.1.1.1.0) l) in
+    tables_held d.now (record t { meta = [] })
+    (subst₂ (λ drafts shares. AllShown (slice_set (slice_set
+    (all_columns (record t { meta = [] })) 10 drafts) 11 shares) d.now)
+    (drafts_filled t.draft before.night_draft) (shares_filled t.share_student before.night_share)
+    three)
 
 -- the state before the two CREATEs
 pub begins : (db : Database) (t : Tables) → HoldsOldTables db t
-    → HasRows schema_10 (without_nights db.trees) db
-begins db t before =
-    subst (λ s. HasRows s (without_nights db.trees) db) (sym ten)
-    (record {
-      schema_is = before.schema;
-      rows = (refl, (refl, (refl, (refl, (refl, (refl, (refl, (refl, (refl, (refl, tt))))))))));
-    })
+    → HasRows schema_before (without_nights db.trees) db
+begins db t before = record {
+  schema_is = before.schema;
+  rows = (refl, (refl, (refl, (refl, (refl, (refl, (refl, (refl, (refl, (refl, tt))))))))));
+}

@@ -25,7 +25,7 @@ use Rattle.sqlite.specs.Query.{Query, Join, IsAnswer, key_cmp, sort_cmp, matches
 use Rattle.sqlite.specs.Term.{Term, Env, lit, eval, eval_all}
 use Rattle.office_tables.specs.Asking.{asks, IsReadOf}
 use Rattle.office_tables.specs.Records.{columns_from}
-use Rattle.office_tables.specs.Selections.{IsInOrder}
+use Rattle.office_tables.specs.Selections.{AreListed}
 use Rattle.office_tables.proofs.AskLemmas.{arranged, unmapped}
 use Rattle.office_tables.proofs.Queries.{matched, passes, map_agree, id_map}
 
@@ -131,11 +131,21 @@ rise_alike {R} key xs ys same up =
 pub in_this_order : {R : Type 0} (Before : R → R → Type 0) (key : R → List ℕ)
     → ((x y : R) → Before x y → numbers_cmp (key x) (key y) ≡ Less)
     → (rows found : List R) → IsPermutation rows found × Rises key found
-    → IsInOrder (IsAscending Before) rows found
-in_this_order Before key less rows found is ordered same up =
-    only_order key ordered found
-    (ascending_weaker Before (λ x y. numbers_cmp (key x) (key y) ≡ Less) less ordered up)
-    (IsPermutation-trans _ _ _ (IsPermutation-sym _ _ same) is.0) is.1
+    → AreListed (IsAscending Before) rows found
+in_this_order Before key less rows found is = record {
+  rows = is.0;
+  in_order = λ ordered same up. only_order key ordered found
+      (ascending_weaker Before (λ x y. numbers_cmp (key x) (key y) ≡ Less) less ordered up)
+      (IsPermutation-trans _ _ _ (IsPermutation-sym _ _ same) is.0) is.1;
+}
+
+-- the same for rows with one number each
+pub by_number : {R : Type 0} (number : R → ℕ) (rows found : List R)
+    → IsPermutation rows found × Rises (λ x. number x ∷ []) found
+    → AreListed (IsAscending (λ a b. number a < number b)) rows found
+by_number number =
+    in_this_order (λ a b. number a < number b) (λ x. number x ∷ [])
+    (λ x y. one_less (number x) (number y))
 
 -- ---- from matches to records
 

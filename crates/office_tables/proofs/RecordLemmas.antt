@@ -47,6 +47,36 @@ refuses row row_of Fits width at below Readable reads (Ok x) e is unread = absur
 refuses row row_of Fits width at below Readable reads (Err y) e is unread =
     λ other wide made fits same. unread (λ k. other (is ∙ k)) (omega arith) (reads made fits same)
 
+column_there : (row : Row) (width from at : ℕ) → at < width
+    → column (columns_from from width row) at ≡ column row (from + at)
+column_there row zero from at below = absurd (omega (arith, below))
+column_there row (suc width) from zero below =
+    let same : from ≡ from + 0 = omega arith in ap (column row) same
+column_there row (suc width) from (suc at) below =
+    let same : suc from + at ≡ from + suc at = omega arith in
+    column_there row width (suc from) at (omega (arith, below)) ∙ ap (column row) same
+
+full_row : (row : Row) (width at : ℕ) → at < width → IsFull (columns_from 0 width row)
+full_row row zero at below = absurd (omega (arith, below))
+full_row row (suc width) at below = tt
+
+-- the same for a row that is read from only the first table
+pub refuses_bare : {T : Type 0} (row : Row) (columns_of : T → Row) (night : T → ℕ)
+    (Fits : T → Type 0) (width at : ℕ) → at < width → (Readable : Value → Type 0)
+    → ((made : T) → Fits made → Readable (column (columns_of made) at))
+    → (r : Result T Error) (e : Error) → IsErrAnd r (λ y. y ≡ e)
+    → (e ≢ SqliteFailure OutOfMemory → at < length row → Readable (column row at) → ⊥)
+    → IfErr r (λ y. y ≢ SqliteFailure OutOfMemory → width ≤ length row
+    → (made : T) → Fits made → bare_columns (night made) (columns_of made) ≢ columns_from 0 width row)
+refuses_bare row columns_of night Fits width at below Readable reads =
+    let first : 0 + at ≡ at = omega arith in
+    refuses row (λ x. bare_columns (night x) (columns_of x)) Fits width at below Readable
+    (λ made fits same. subst Readable
+    (ap (λ (l : Row). column l at)
+    (bare_is (night made) (columns_of made) (columns_from 0 width row) same
+    (full_row row width at below)) ∙ column_there row width 0 at below ∙ ap (column row) first)
+    (reads made fits))
+
 -- the records read of one more row
 pub one_read : {T : Type 0} (row_of : T → Row) (shown : Row → Row) (made : List T) (rows : List Row)
     (at : ℕ) (d : Row)

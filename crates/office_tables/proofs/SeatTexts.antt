@@ -1,5 +1,5 @@
 -- The rows that a query reads from the table seat.
-use Rattle.std.proofs.Common.{◌≡◌, ℕ, pos, List, [], ◌∷◌, filter, true, ◌&&◌, ◌==◌, codes, refl, ap, IsPermutation}
+use Rattle.std.proofs.Common.{◌≡◌, ℕ, pos, List, [], ◌∷◌, filter, true, ◌&&◌, ◌==◌, codes, refl, ap}
 use Rattle.sqlite_sql.specs.declared.ops.BinaryOp.TheVariants.{Compare}
 use Rattle.sqlite_sql.specs.declared.ops.CompareOp.TheVariants.{Eq}
 use Rattle.sqlite_sql.specs.Ops.{binary, is_true}
@@ -17,8 +17,9 @@ use Rattle.office_tables.specs.declared.seat.SeatRow.{SeatRow}
 use Rattle.office_tables.specs.Tables.{Tables}
 use Rattle.office_tables.specs.TablesHeld.{HoldsTables}
 use Rattle.office_tables.specs.Stored.{keyless}
-use Rattle.office_tables.specs.Seat.{seat_columns}
-use Rattle.office_tables.proofs.OrderLemmas.{Rises, read, rising, table_shown}
+use Rattle.office_tables.specs.Seat.{StudentSeatsRise, seat_columns}
+use Rattle.office_tables.specs.Selections.{AreListed}
+use Rattle.office_tables.proofs.OrderLemmas.{by_number, read, rising, table_shown}
 use Rattle.office_tables.proofs.Queries.{column_less, equal_numbers, equals, passes}
 use Rattle.office_tables.proofs.RecordsBack.{seat_of}
 
@@ -60,15 +61,15 @@ seats_of_means = record {
 
 pub seats_of_read : (db : Database) (number : ℕ) (t : Tables) → HoldsTables db t → (found : List SeatRow)
     → IsReadOf seat_columns 5 (Int (pos number) ∷ []) seats_of_query db.trees found
-    → IsPermutation (filter (λ r. r.student == number) t.seat) found
-    × Rises (λ (x : SeatRow). x.exam ∷ []) found
+    → AreListed StudentSeatsRise (filter (λ r. r.student == number) t.seat) found
 seats_of_read db number t represents found is =
     let params : Row = Int (pos number) ∷ [] in
-    read seat_of seat_columns 5 (λ x. refl) (λ x. refl) (inner 8 end) (equals 1 0 ∷ []) seat_terms
+    by_number (λ (x : SeatRow). x.exam) _ found
+    (read seat_of seat_columns 5 (λ x. refl) (λ x. refl) (inner 8 end) (equals 1 0 ∷ []) seat_terms
     (1 ∷ []) (λ (x : SeatRow). x.exam ∷ []) (λ x. refl) db.trees params
     (filter (λ r. r.student == number) t.seat) found
     (table_shown seat_columns keyless seat_picked params 8 (equals 1 0 ∷ []) seat_terms seat_shown
     (λ x. refl) (passes params (equals 0 0 ∷ [])) (λ r.
     ap (λ v. is_true (binary (Compare Eq Binary) v (Int (pos number))) && true) (column_less r 0))
     (λ r. r.student == number) (λ x. equal_numbers x.student number) db.trees t.seat
-    represents.seat.same) is
+    represents.seat.same) is)

@@ -1,5 +1,5 @@
 -- The rows that queries read from the tables of shares.
-use Rattle.std.proofs.Common.{◌≡◌, ℕ, pos, List, [], ◌∷◌, map, filter, true, ◌==◌, codes, refl, sym, ap, ap₂, subst, ◌∙◌, arith, IsPermutation}
+use Rattle.std.proofs.Common.{◌≡◌, ◌<◌, ◌⊎◌, ℕ, pos, List, [], ◌∷◌, map, filter, true, ◌==◌, codes, refl, sym, ap, ap₂, subst, ◌∙◌, arith, IsPermutation}
 use Rattle.std.specs.List.{AllByRecursion}
 use Rattle.std.proofs.lemmas.List.Sorted.{IsPermutation-map, IsPermutation-sym}
 use Rattle.sqlite_trees.specs.Tree.{Trees}
@@ -21,12 +21,13 @@ use Rattle.office_tables.specs.declared.share_part.PartShareRow.{PartShareRow}
 use Rattle.office_tables.specs.Tables.{Tables}
 use Rattle.office_tables.specs.TablesHeld.{HoldsTables}
 use Rattle.office_tables.specs.Stored.{Holds, keyed, keyless}
-use Rattle.office_tables.specs.ShareStudent.{bare_share_columns, share_student_columns, night_share_columns, share_shown, HaveNoNight}
+use Rattle.office_tables.specs.ShareStudent.{bare_share_columns, share_student_columns, night_share_columns, share_shown, HaveNoNight, StudentSharesRise}
 use Rattle.office_tables.specs.Records.{columns_from}
-use Rattle.office_tables.specs.SharePart.{share_part_columns}
+use Rattle.office_tables.specs.SharePart.{share_part_columns, PartSharesRise}
+use Rattle.office_tables.specs.Selections.{AreListed}
 use Rattle.office_tables.proofs.NightLemmas.{bare_columns_are, bare_holds, bare_rows, bare_shown, no_nights, none_over_night, shown_holds}
 use Rattle.office_tables.proofs.NightTexts.{joined_shown, same_number}
-use Rattle.office_tables.proofs.OrderLemmas.{Rises, columns_shown, int, read, rise_alike, rises_typed, rising, table_shown, typed}
+use Rattle.office_tables.proofs.OrderLemmas.{Rises, by_number, columns_shown, in_this_order, int, read, rise_alike, rises_typed, rising, table_shown, two_less, typed}
 use Rattle.office_tables.proofs.Queries.{column_less, column_later, equal_pairs, equals, every}
 use Rattle.office_tables.proofs.RecordLemmas.{IsFull}
 use Rattle.office_tables.proofs.RecordsBack.{number, student_share_of, part_share_of}
@@ -145,12 +146,13 @@ first_read db xs rows holds is =
 pub bare_shares_read : (db : Database) (t : Tables) → HoldsTables db t
     → HaveNoNight t.share_student → (found : List StudentShareRow)
     → IsReadOf bare_share_columns 4 [] student_shares_query db.trees found
-    → IsPermutation t.share_student found × Rises (λ (x : StudentShareRow). x.student ∷ []) found
-bare_shares_read db t represents none found =
-    first_read db t.share_student found
+    → AreListed StudentSharesRise t.share_student found
+bare_shares_read db t represents none found is =
+    by_number (λ (x : StudentShareRow). x.student) _ found
+    (first_read db t.share_student found
     (shown_holds _ _ _ _ _ _ share_student_splits
     (db.trees 11) t.share_student represents.share_student
-    none)
+    none) is)
 
 -- ---- SELECT student, night FROM night_share ORDER BY student
 
@@ -213,7 +215,7 @@ pub student_shares_read : (db : Database) (t : Tables) → HoldsTables db t
     → (found : List StudentShareRow)
     → IsReadWith bare_share_columns share_student_columns night_share_columns 4 student_shares_query
     share_nights_query db.trees found
-    → IsPermutation t.share_student found × Rises (λ (x : StudentShareRow). x.student ∷ []) found
+    → AreListed StudentSharesRise t.share_student found
 student_shares_read db t represents found is =
     let xs = t.share_student in
     let first = first_read db (map share_student_splits.bare xs) is.rows
@@ -223,7 +225,8 @@ student_shares_read db t represents found is =
     rw (is.columns, sym (bare_rows _ _ _ _ _ _ share_student_splits xs))
     (IsPermutation-map share_student_columns _ _ first.0) in
     let amounts : IsPermutation (map night_share_columns xs) (map night_share_columns found) =
-    rw is.amounts (nights_read db xs is.nights represents.night_share is.second) in (
+    rw is.amounts (nights_read db xs is.nights represents.night_share is.second) in
+    by_number (λ (x : StudentShareRow). x.student) _ found (
       alike_now student_share_of share_shown (λ x. refl) share_student_columns night_share_columns
           (λ (x : StudentShareRow). x.student) (λ x. refl) (λ x y. refl) (λ x. refl) (db.trees 11)
           (db.trees 16) xs found represents.share_student
@@ -320,9 +323,13 @@ part_shares_means = record {
 
 pub part_shares_read : (db : Database) (t : Tables) → HoldsTables db t → (found : List PartShareRow)
     → IsReadOf share_part_columns 4 [] part_shares_query db.trees found
-    → IsPermutation t.share_part found × Rises (λ (x : PartShareRow). x.kind ∷ x.no ∷ []) found
+    → AreListed PartSharesRise t.share_part found
 part_shares_read db t represents found is =
-    read part_share_of share_part_columns 4 (λ x. refl) (λ x. refl) (inner 12 end) []
+    in_this_order
+    (λ (a b : PartShareRow). (a.kind < b.kind) ⊎ ((a.kind ≡ b.kind) × (a.no < b.no)))
+    (λ (x : PartShareRow). x.kind ∷ x.no ∷ []) (λ x y low. two_less x.kind y.kind x.no y.no low) _
+    found
+    (read part_share_of share_part_columns 4 (λ x. refl) (λ x. refl) (inner 12 end) []
     share_part_terms (0 ∷ 1 ∷ []) (λ (x : PartShareRow). x.kind ∷ x.no ∷ [])
     (λ x. refl) db.trees [] t.share_part found
     (subst (λ l. IsPermutation (map (eval_all share_part_terms)
@@ -332,4 +339,4 @@ part_shares_read db t represents found is =
     share_part_shown (λ x. refl)
     (λ _. true) (λ r. refl) (λ _. true) (λ x. refl) db.trees t.share_part
     represents.share_part.same))
-    is
+    is)

@@ -8,7 +8,7 @@ use Rattle.sqlite_value.specs.declared.value.Value.TheVariants.{Int}
 use Rattle.sqlite_value.specs.Order.{Row, column, value_cmp}
 use Rattle.sqlite_trees.specs.Tree.{IsAscending, rowid, put_row}
 use Rattle.sqlite_trees.specs.View.{is_int}
-use Rattle.sqlite_trees.proofs.ListLemmas.{along_permutation, all-permutation, all-filter, all-map, all_of, ascending-filter, ascending-map, ascending_from_map, ascending_weaker}
+use Rattle.sqlite_trees.proofs.ListLemmas.{along_permutation, all-permutation, all-filter, all-map, ascending-filter, ascending-map, ascending_from_map, ascending_weaker}
 use Rattle.sqlite_rules.specs.Edit.{is_taken, are_fresh}
 use Rattle.office_tables.specs.Stored.{HasRowids, Holds, keyed}
 use Rattle.std.proofs.lemmas.Bool.{and_parts, not-true}
@@ -119,21 +119,3 @@ keys_once row_of key first xs stored holds =
     ascending_weaker (λ a b. rowid (row_of a) ≢ rowid (row_of b)) (λ a b. key a ≢ key b)
     (λ a b apart same. apart (first a ∙ ap (λ n. Int (pos n)) same ∙ sym (first b))) xs
     (ascending_from_map (λ a b. rowid a ≢ rowid b) row_of xs typed.apart)
-
--- distinct numbers are distinct in any order
-pub once_moved : (ns ms : List ℕ) → IsPermutation ns ms → IsAscending (λ a b. a ≢ b) ns
-    → IsAscending (λ a b. a ≢ b) ms
-once_moved ns ms same up =
-    let row_of = λ (n : ℕ). Int (pos n) ∷ [] in
-    let rows : HasRowids (map row_of ns) = record {
-      ints = all-map (λ r. IsTrue (is_int (rowid r))) row_of ns (all_of _ (λ n. refl) ns);
-      apart = ascending-map (λ a b. rowid a ≢ rowid b) row_of ns
-          (ascending_weaker (λ a b. a ≢ b) (λ a b. Int (pos a) ≢ Int (pos b)) differ ns up);
-    } in
-    let moved = rowids_moved _ _ (IsPermutation-map row_of ns ms same) rows in
-    ascending_weaker (λ a b. Int (pos a) ≢ Int (pos b)) (λ a b. a ≢ b)
-    (λ a b apart e. apart (ap (λ n. Int (pos n)) e)) ms
-    (ascending_from_map (λ a b. rowid a ≢ rowid b) row_of ms moved.apart)
-  where
-    differ : (a b : ℕ) → a ≢ b → Int (pos a) ≢ Int (pos b)
-    differ a b apart e = apart (cc)

@@ -23,7 +23,7 @@ use Rattle.office_tables.specs.Versions.{schema_of}
 
 -- ---- the columns of a row of known length
 
-shift : (v : Value) (vs : Row) (n at : ℕ) → columns_from (suc at) n (v ∷ vs) ≡ columns_from at n vs
+pub shift : (v : Value) (vs : Row) (n at : ℕ) → columns_from (suc at) n (v ∷ vs) ≡ columns_from at n vs
 shift v vs zero at = refl
 shift v vs (suc n) at = ap (λ l. column vs at ∷ l) (shift v vs n (suc at))
 
@@ -112,33 +112,14 @@ KeepsTen rule version trees =
     AllByRecursion (λ t. AllByRecursion (λ r. passes rule (schema_of version) trees t r ≡ true)
     (trees t.tree)) schema_before.tables
 
-ten_keep : (rule : Constraint) (version : Version) (trees : Trees)
+pub ten_keep : (rule : Constraint) (version : Version) (trees : Trees)
     → Keeps rule (schema_of version) trees → KeepsTen rule version trees
 ten_keep rule One trees all = all
 ten_keep rule Two trees all =
     all_first (λ t. AllByRecursion (λ r. passes rule office_schema trees t r ≡ true) (trees t.tree))
     schema_before.tables (night_draft_table ∷ night_share_table ∷ []) all
 
-rows_keep : (rule : Constraint) (version : Version) (db : Database)
+pub rows_keep : (rule : Constraint) (version : Version) (db : Database)
     → db.schema ≡ schema_of version → IsDatabase db → Keeps rule (schema_of version) db.trees
 rows_keep rule version db is sound =
     subst (λ (s : Schema). Keeps rule s db.trees) is (sound.obeys.rules rule)
-
-pub typed_rows : (version : Version) (db : Database) → db.schema ≡ schema_of version → IsDatabase db
-    → KeepsTen Datatype version db.trees
-typed_rows version db is sound =
-    ten_keep Datatype version db.trees (rows_keep Datatype version db is sound)
-
-pub present_rows : (version : Version) (db : Database) → db.schema ≡ schema_of version
-    → IsDatabase db → KeepsTen NotNull version db.trees
-present_rows version db is sound =
-    ten_keep NotNull version db.trees (rows_keep NotNull version db is sound)
-
--- version 2 has two more
-pub all_typed : (db : Database) → db.schema ≡ office_schema → IsDatabase db
-    → Keeps Datatype office_schema db.trees
-all_typed = rows_keep Datatype Two
-
-pub all_present : (db : Database) → db.schema ≡ office_schema → IsDatabase db
-    → Keeps NotNull office_schema db.trees
-all_present = rows_keep NotNull Two

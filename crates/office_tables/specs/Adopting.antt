@@ -87,19 +87,10 @@ pub record HoldsPublication (version : Version) (db : Database) (found : FoundPu
   pub share_part : Holds keyless (map share_part_columns found.part_shares.items) (db.trees 12)
 
 -- `Some`: the tables hold the rows found. `None`: the database holds no office of this version
-abbrev pub IsFoundSession : Version → Database → Option FoundSession → Type 0
-IsFoundSession version db (Some found) = HoldsSession version db found
-IsFoundSession version db None = IsForeignIn version db
-
--- the same for the drafts
-abbrev pub IsFoundDrafts : Version → Database → Option FoundDrafts → Type 0
-IsFoundDrafts version db (Some found) = HoldsDrafts version db found
-IsFoundDrafts version db None = IsForeignIn version db
-
--- the same for the publication
-abbrev pub IsFoundPublication : Version → Database → Option FoundPublication → Type 0
-IsFoundPublication version db (Some found) = HoldsPublication version db found
-IsFoundPublication version db None = IsForeignIn version db
+abbrev pub IsFoundPart : {F : Type 0} → (Version → Database → F → Type 0)
+    → Version → Database → Option F → Type 0
+IsFoundPart HoldsPart version db (Some found) = HoldsPart version db found
+IsFoundPart HoldsPart version db None = IsForeignIn version db
 
 -- the tables with the rows found and with these batches
 abbrev pub tables_of : Found → List Batch → Tables

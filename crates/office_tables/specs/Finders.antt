@@ -37,6 +37,13 @@ pub record Looks (version : Version) (old new : State) : Type 0 where
   pub mode : old.in_transaction ≡ false → new.in_transaction ≡ false
   pub survives : Survives old new (λ _. HasTables version old → ⊥)
 
+-- a reader that finds: the value of an `Ok`, and the effect
+pub record Adopts {S X : Type 0} (version : Version) (store : Ghosts S) (is : Database → X → Type 0)
+    (old new : Held S) (result : Result X Error) : Type 0 where
+  pub found : Finds version store is old new result
+  pub same : Leaves version store old new result
+  pub looks : Looks version (state store old) (state store new)
+
 -- `Some`: the table holds the rows found. `None`: it holds no typed rows that fit
 abbrev pub IsFound : {X : Type 0} → (X → Type 0) → (X → Row) → (Row → Row) → List Row
     → Option (Vec X Global) → Type 0

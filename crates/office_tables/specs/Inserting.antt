@@ -1,6 +1,6 @@
 -- The rows of a table, and what the statements that insert them mean.
-use Rattle.std.specs.Prelude.{◌≡◌, ◌≢◌, ◌+◌, ◌/◌, ◌++◌, ℕ, zero, suc, pred, drop, false, true, List, [], ◌∷◌, map, length, Option, Some, None, slice_get, Bool}
-use Rattle.std.specs.List.{All, AllByRecursion}
+use Rattle.std.specs.Prelude.{◌≡◌, ◌≢◌, ◌+◌, ◌/◌, ◌++◌, ◌==◌, ◌&&◌, not, ℕ, zero, suc, pred, drop, false, true, List, [], ◌∷◌, map, length, Option, Some, None, slice_get, slice_set, Bool}
+use Rattle.std.specs.List.{All, AllByRecursion, list_all}
 use Rattle.sqlite_rules.specs.Action.{works}
 use Rattle.sqlite_rules.specs.Cast.{cast_row}
 use Rattle.sqlite_rules.specs.Edit.{with_rowid}
@@ -12,15 +12,14 @@ use Rattle.sqlite_trees.specs.View.{is_int}
 use Rattle.sqlite_value.specs.declared.value.Value.TheVariants.{Null}
 use Rattle.sqlite_value.specs.Order.{Row, column}
 use Rattle.sqlite.specs.Command.TheVariants.{Insert}
-use Rattle.sqlite.specs.Effect.{Database}
 use Rattle.sqlite.specs.Listing.{understood}
 use Rattle.sqlite.specs.Source.TheVariants.{Values}
 use Rattle.sqlite.specs.Term.{Term, lit, col}
 use Rattle.sqlite.proofs.Callers.{IsPlain, command_of}
 use Rattle.office_schema.specs.Schema.{office_schema}
-use Rattle.office_tables.specs.Stored.{Holds, keyed, keyless}
+use Rattle.office_tables.specs.Stored.{keyed, keyless}
 use Rattle.office_tables.specs.Tables.{Tables}
-use Rattle.office_tables.specs.TablesHeld.{HoldsTables}
+use Rattle.office_tables.specs.TablesHeld.{all_columns}
 
 -- a table with no AUTOINCREMENT and no default that reads the time
 abbrev pub simple : Table → Table
@@ -90,27 +89,41 @@ pub record IsInsert (at : ℕ) (key : Option ℕ) (w n : ℕ) (sql : List ℕ) :
   pub plain : IsPlain (understood office_schema sql)
   pub many : length (terms_from (row_terms key w) w 0 n) / suc w ≡ n
 
--- what an insert needs: the tables hold rows of this type, a change of them changes no other rows,
--- and these texts insert 1 and n of them
-pub record Inserts {R : Type 0} (it : Shape R) (w n : ℕ) (text long_text : List ℕ) : Type 0 where
-  pub found : slice_get office_schema.tables it.at ≡ Some (simple it.table)
-  pub quiet : (taken news : List Row)
-      → works office_schema Enforced 0 it.table.tree taken news ≡ []
-  pub wide : (x : R) → length (it.columns_of x) ≡ w
+-- no other table of the list has this tree
+abbrev pub is_alone : ℕ → ℕ → List Table → Bool
+is_alone tree at [] = true
+is_alone tree zero (t ∷ tables) = list_all (λ (other : Table). not (other.tree == tree)) tables
+is_alone tree (suc at) (t ∷ tables) = not (t.tree == tree) && is_alone tree at tables
+
+-- this table has this place in the schema and a tree of its own, and a change of its rows causes no
+-- other change
+pub record IsTable (at : ℕ) (table : Table) : Type 0 where
+  pub found : slice_get office_schema.tables at ≡ Some (simple table)
+  pub alone : is_alone table.tree at office_schema.tables ≡ true
+  pub quiet : (taken news : List Row) → works office_schema Enforced 0 table.tree taken news ≡ []
+
+-- the table stores rows of w such columns, and gives back what it stores
+pub record Stores {X : Type 0} (at : ℕ) (table : Table) (columns_of : X → Row) (w : ℕ)
+    : Type 0 where
+  pub is : IsTable at table
+  pub wide : (x : X) → length (columns_of x) ≡ w
   pub filled : (rest : ℕ) × (w ≡ suc rest)
-  pub int : (stored : List Row) (x : R)
-      → is_int (rowid (with_rowid Chosen stored (given_row it.table.key (it.columns_of x)))) ≡ true
-  pub shown : (stored : List Row) (x : R)
-      → shown_by it.table.key (with_rowid Chosen stored (given_row it.table.key (it.columns_of x)))
-      ≡ it.columns_of x
-  pub cast : (x : R) → cast_row (simple it.table) (given_row it.table.key (it.columns_of x))
-      ≡ given_row it.table.key (it.columns_of x)
-  pub held : (db : Database) (t : Tables) → HoldsTables db t
-      → Holds (shown_by it.table.key) (map it.columns_of (it.rows t)) (db.trees it.table.tree)
-  pub changed : (old new : Database) (t : Tables) → HoldsTables old t
-      → new.schema ≡ office_schema → (rows : List R) → Others it.table.tree old.trees new.trees
-      → Holds (shown_by it.table.key) (map it.columns_of rows) (new.trees it.table.tree)
-      → HoldsTables new (it.with_rows rows t)
+  pub int : (stored : List Row) (x : X)
+      → is_int (rowid (with_rowid Chosen stored (given_row table.key (columns_of x)))) ≡ true
+  pub shown : (stored : List Row) (x : X)
+      → shown_by table.key (with_rowid Chosen stored (given_row table.key (columns_of x)))
+      ≡ columns_of x
+  pub cast : (x : X) → cast_row (simple table) (given_row table.key (columns_of x))
+      ≡ given_row table.key (columns_of x)
+
+-- what an insert needs: the rows of this type are those of their table and of no other, and these
+-- texts insert 1 and n of them
+pub record Inserts {R : Type 0} (it : Shape R) (w n : ℕ) (text long_text : List ℕ) : Type 0 where
+  pub stores : Stores it.at it.table it.columns_of w
+  pub listed : (t : Tables)
+      → slice_get (all_columns t) it.at ≡ Some (map it.columns_of (it.rows t))
+  pub changed : (rows : List R) (t : Tables)
+      → all_columns (it.with_rows rows t) ≡ slice_set (all_columns t) it.at (map it.columns_of rows)
   pub same : (t : Tables) → it.with_rows (it.rows t) t ≡ t
   pub read : (rows : List R) (t : Tables) → it.rows (it.with_rows rows t) ≡ rows
   pub over : (rows more : List R) (t : Tables)

@@ -1,6 +1,7 @@
 -- When a database has the tables of an office, and which rows they hold.
-use Rattle.std.specs.Prelude.{◌≡◌, map}
+use Rattle.std.specs.Prelude.{◌≡◌, List, [], ◌∷◌, map}
 use Rattle.sqlite.specs.Effect.{Database}
+use Rattle.sqlite_value.specs.Order.{Row}
 use Rattle.office_tables.specs.declared.draft.DraftRow.{DraftRow}
 use Rattle.office_tables.specs.declared.share_student.StudentShareRow.{StudentShareRow}
 use Rattle.office_tables.specs.declared.version.Version.{Version}
@@ -47,3 +48,12 @@ HoldsTables = HoldsTablesIn Two
 -- version 1: the database has ten tables, they hold these rows, and each amount over night is 0
 abbrev pub HoldsOldTables : Database → Tables → Type 0
 HoldsOldTables = HoldsTablesIn One
+
+-- the columns of the rows of all twelve tables, in the order of the schema
+abbrev pub all_columns : Tables → List (List Row)
+all_columns t =
+    map (meta_columns Two) t.meta ∷ map owner_columns t.owner ∷ map enrol_columns t.enrol
+    ∷ map draft_columns t.draft ∷ map slot_columns t.slot ∷ map placed_columns t.placed
+    ∷ map seat_columns t.seat ∷ map share_student_columns t.share_student
+    ∷ map share_part_columns t.share_part ∷ map batch_columns t.batch
+    ∷ map night_draft_columns t.draft ∷ map night_share_columns t.share_student ∷ []

@@ -2,8 +2,8 @@
 ghost use Rattle.std.specs.Prelude.{◌≡◌, ◌⊎◌, false, IfOk, IsSome, IsTrue, OnOk};
 ghost use Rattle.sqlite.specs.Held.{state};
 ghost use Rattle.sqlite.specs.State.{HasCleanDisk, IsUnchanged, Survives};
-ghost use Rattle.office_tables.specs.Adopting.{IsAdopted, IsDrafts, IsFoundDrafts, IsFoundPublication, IsFoundSession, HasAllOfPublication, IsSession, IsWhole};
-ghost use Rattle.office_tables.specs.Finders.{Finds, Leaves, Looks};
+ghost use Rattle.office_tables.specs.Adopting.{IsAdopted, IsDrafts, IsFoundPart, HoldsDrafts, HoldsPublication, HoldsSession, HasAllOfPublication, IsSession, IsWhole};
+ghost use Rattle.office_tables.specs.Finders.{Adopts, Finds, Leaves, Looks};
 ghost use Rattle.office_tables.specs.Readers.{Keeps};
 
 use crate::batch::{BatchCountsRow, adopt_batches};
@@ -70,9 +70,7 @@ fn find_session<S: Alter>(
     conn: &mut Connection<S>,
     version: Version,
 ) -> Result<Option<FoundSession>, Error>
-    ensures found { Finds version S.Store (IsFoundSession version) conn.old conn.new result }
-    ensures same { Leaves version S.Store conn.old conn.new result }
-    ensures looks { Looks version (state S.Store conn.old) (state S.Store conn.new) }
+    ensures { Adopts version S.Store (IsFoundPart HoldsSession version) conn.old conn.new result }
 {
     let meta = adopt_meta(conn, version)?;
     let owners = adopt::<_, OwnerRow>(alloc, conn)?;
@@ -86,9 +84,7 @@ fn find_drafts<S: Alter>(
     conn: &mut Connection<S>,
     version: Version,
 ) -> Result<Option<FoundDrafts>, Error>
-    ensures found { Finds version S.Store (IsFoundDrafts version) conn.old conn.new result }
-    ensures same { Leaves version S.Store conn.old conn.new result }
-    ensures looks { Looks version (state S.Store conn.old) (state S.Store conn.new) }
+    ensures { Adopts version S.Store (IsFoundPart HoldsDrafts version) conn.old conn.new result }
 {
     let drafts = adopt_drafts(alloc, conn, version)?;
     let slots = adopt::<_, SlotRow>(alloc, conn)?;
@@ -101,9 +97,7 @@ fn find_publication<S: Alter>(
     conn: &mut Connection<S>,
     version: Version,
 ) -> Result<Option<FoundPublication>, Error>
-    ensures found { Finds version S.Store (IsFoundPublication version) conn.old conn.new result }
-    ensures same { Leaves version S.Store conn.old conn.new result }
-    ensures looks { Looks version (state S.Store conn.old) (state S.Store conn.new) }
+    ensures { Adopts version S.Store (IsFoundPart HoldsPublication version) conn.old conn.new result }
 {
     let placements = adopt::<_, PlacedRow>(alloc, conn)?;
     let seats = adopt::<_, SeatRow>(alloc, conn)?;

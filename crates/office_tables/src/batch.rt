@@ -4,9 +4,7 @@ ghost use Rattle.sqlite.specs.Held.{state};
 ghost use Rattle.sqlite.specs.State.{Survives};
 ghost use Rattle.office_tables.specs.declared.version.Version.{Version};
 ghost use Rattle.office_tables.specs.Batch.{batch_columns, batch_from, counts_columns, with_batch, FitsBatch, FitsCounts, IsFoundBatches};
-ghost use Rattle.office_tables.specs.Finders.{Finds, Leaves, Looks};
-ghost use Rattle.office_tables.specs.Schema.{schema_9, schema_10, IsBlank};
-ghost use Rattle.office_tables.specs.Steps.{Grows, Within};
+ghost use Rattle.office_tables.specs.Finders.{Adopts};
 ghost use Rattle.office_tables.specs.Readers.{AnswersOpen, LeavesAllIn, LeavesCommittedIn, OpensNone, ReadsIn};
 
 use crate::altering::Alteration;
@@ -34,21 +32,6 @@ pub struct BatchCountsRow {
     pub added: u32,
     pub dropped: u32,
     pub unchanged: u32,
-}
-
-// Creates the table of batches.
-pub(crate) fn create_batch<S: Alter>(tx: &mut Transaction<'_, S>) -> Result<(), Error>
-    ensures same_reference { tx.new.conn.ghost_name ≡ tx.old.conn.ghost_name }
-    ensures makes { Grows S.Store (IsBlank schema_9) (IsBlank schema_10)
-        tx.old.conn.now tx.new.conn.now result }
-    ensures within { Within (state S.Store tx.old.conn.now) (state S.Store tx.new.conn.now) }
-{
-    run(
-        tx,
-        "CREATE TABLE batch (no INTEGER NOT NULL PRIMARY KEY, bytes BLOB NOT NULL, added INTEGER \
-         NOT NULL, dropped INTEGER NOT NULL, unchanged INTEGER NOT NULL) STRICT",
-        &[],
-    )
 }
 
 impl Record for BatchRow {
@@ -156,11 +139,8 @@ pub(crate) fn adopt_batches<S: Alter>(
     alloc: Global,
     conn: &mut Connection<S>,
 ) -> Result<Option<Vec<BatchCountsRow>>, Error>
-    ensures found { (version : Version)
-        → Finds version S.Store IsFoundBatches conn.old conn.new result }
-    ensures same { (version : Version) → Leaves version S.Store conn.old conn.new result }
-    ensures looks { (version : Version)
-        → Looks version (state S.Store conn.old) (state S.Store conn.new) }
+    ensures { (version : Version)
+        → Adopts version S.Store IsFoundBatches conn.old conn.new result }
 {
     read_table(
         alloc,

@@ -1,14 +1,10 @@
 // Drafts and their penalties. The part over night is in a table of its own.
-ghost use Rattle.std.specs.Prelude.{◌≡◌, []};
-ghost use Rattle.sqlite.specs.Held.{state};
+ghost use Rattle.std.specs.Prelude.{◌≡◌};
 ghost use Rattle.sqlite.specs.Values.{bound};
-ghost use Rattle.sqlite_trees.specs.Tree.{Trees};
 ghost use Rattle.office_tables.specs.Draft.{bare_draft_columns, draft_columns, no_drafts, night_draft_columns, with_draft, without_draft, AreAmounts, FitsDraft};
 ghost use Rattle.office_tables.specs.Adopting.{HaveDrafts};
-ghost use Rattle.office_tables.specs.Finders.{Finds, Leaves, Looks};
+ghost use Rattle.office_tables.specs.Finders.{Adopts};
 ghost use Rattle.office_tables.specs.Joining.{AreFound};
-ghost use Rattle.office_tables.specs.Schema.{schema_3, schema_4, schema_10, schema_11, HasRows, IsBlank};
-ghost use Rattle.office_tables.specs.Steps.{Grows, Within};
 
 use crate::altering::Alteration;
 use crate::amounts::signed;
@@ -32,37 +28,6 @@ pub struct DraftRow {
     pub period: u64,
     pub room: u64,
     pub night: u64,
-}
-
-// Creates the table of drafts.
-pub(crate) fn create_draft<S: Alter>(tx: &mut Transaction<'_, S>) -> Result<(), Error>
-    ensures same_reference { tx.new.conn.ghost_name ≡ tx.old.conn.ghost_name }
-    ensures makes { Grows S.Store (IsBlank schema_3) (IsBlank schema_4)
-        tx.old.conn.now tx.new.conn.now result }
-    ensures within { Within (state S.Store tx.old.conn.now) (state S.Store tx.new.conn.now) }
-{
-    run(
-        tx,
-        "CREATE TABLE draft (no INTEGER NOT NULL PRIMARY KEY, in_row INTEGER NOT NULL, in_day \
-         INTEGER NOT NULL, spread INTEGER NOT NULL, mixed INTEGER NOT NULL, front INTEGER NOT \
-         NULL, period INTEGER NOT NULL, room INTEGER NOT NULL) STRICT",
-        &[],
-    )
-}
-
-// Creates the first table that version 2 adds: the amounts over night of drafts.
-pub(crate) fn create_night_draft<S: Alter>(tx: &mut Transaction<'_, S>) -> Result<(), Error>
-    ensures same_reference { tx.new.conn.ghost_name ≡ tx.old.conn.ghost_name }
-    ensures makes { (trees : Trees) → trees 15 ≡ []
-        → Grows S.Store (HasRows schema_10 trees) (HasRows schema_11 trees)
-        tx.old.conn.now tx.new.conn.now result }
-    ensures within { Within (state S.Store tx.old.conn.now) (state S.Store tx.new.conn.now) }
-{
-    run(
-        tx,
-        "CREATE TABLE night_draft (no INTEGER NOT NULL PRIMARY KEY, night INTEGER NOT NULL) STRICT",
-        &[],
-    )
 }
 
 impl Record for DraftRow {
@@ -206,10 +171,8 @@ pub(crate) fn adopt_drafts<S: Alter>(
     conn: &mut Connection<S>,
     version: Version,
 ) -> Result<Option<Vec<DraftRow>>, Error>
-    ensures found { Finds version S.Store (λ db. AreFound FitsDraft (HaveDrafts version db))
+    ensures { Adopts version S.Store (λ db. AreFound FitsDraft (HaveDrafts version db))
         conn.old conn.new result }
-    ensures same { Leaves version S.Store conn.old conn.new result }
-    ensures looks { Looks version (state S.Store conn.old) (state S.Store conn.new) }
 {
     adopt_with_nights(
         alloc,

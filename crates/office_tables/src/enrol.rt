@@ -1,42 +1,19 @@
 // Enrolments of students in exams.
-ghost use Rattle.std.specs.Prelude.{◌≡◌, ◌==◌, false, filter, IfSome, IsPermutation, IsSome};
-ghost use Rattle.std.specs.List.{AllByRecursion};
-ghost use Rattle.sqlite.specs.Held.{state};
-ghost use Rattle.office_tables.specs.Enrol.{enrol_columns, without_enrol, FitsEnrol, StudentEnrolsRise};
-ghost use Rattle.office_tables.specs.Schema.{schema_2, schema_3, IsBlank};
-ghost use Rattle.office_tables.specs.Selections.{IsInOrder};
-ghost use Rattle.office_tables.specs.Steps.{Grows, Within};
-ghost use Rattle.office_tables.specs.Readers.{LeavesTables, Reads};
+ghost use Rattle.std.specs.Prelude.{false};
+ghost use Rattle.office_tables.specs.Enrol.{enrol_columns, without_enrol, FitsEnrol};
 
 use crate::altering::Alteration;
 use crate::listing::Listed;
 use crate::records::Record;
 use crate::running::run;
-use crate::streaming::stream_found;
 use crate::table::{Insert, InsertAll, InsertTexts, Table};
-use sqlite::{Alter, Connection, Error, Row, Transaction, params};
-use std::alloc::Global;
+use sqlite::{Alter, Error, Row, Transaction, params};
 
 /// The enrolment of a student in an exam.
 #[derive(Clone, Copy, Debug, PartialEq, Eq)]
 pub struct EnrolRow {
     pub student: u32,
     pub exam: u32,
-}
-
-// Creates the table of enrolments.
-pub(crate) fn create_enrol<S: Alter>(tx: &mut Transaction<'_, S>) -> Result<(), Error>
-    ensures same_reference { tx.new.conn.ghost_name ≡ tx.old.conn.ghost_name }
-    ensures makes { Grows S.Store (IsBlank schema_2) (IsBlank schema_3)
-        tx.old.conn.now tx.new.conn.now result }
-    ensures within { Within (state S.Store tx.old.conn.now) (state S.Store tx.new.conn.now) }
-{
-    run(
-        tx,
-        "CREATE TABLE enrol (student INTEGER NOT NULL, exam INTEGER NOT NULL, PRIMARY KEY \
-         (student, exam)) STRICT",
-        &[],
-    )
 }
 
 impl Record for EnrolRow {
@@ -129,51 +106,4 @@ impl Alteration for DeleteEnrol {
             params![self.student, self.exam],
         )
     }
-}
-
-/// Returns a student's enrolments, by exam.
-pub fn enrols_of<S: Alter>(
-    alloc: Global,
-    conn: &mut Connection<S>,
-    student: u32,
-) -> Result<Vec<EnrolRow>, Error>
-    ensures rows { Reads S.Store
-        (λ t found. IsPermutation (filter (λ r. r.student == student) t.enrol) found.items)
-        conn.old conn.new result }
-    ensures in_order { Reads S.Store
-        (λ t found. IsInOrder StudentEnrolsRise (filter (λ r. r.student == student) t.enrol)
-        found.items) conn.old conn.new result }
-    ensures leaves { LeavesTables S.Store conn.old conn.new result }
-{
-    match find_enrols_of(alloc, conn, student)? {
-        Some(rows) => Ok(rows),
-        None => Err(Error::InvalidQuery),
-    }
-}
-
-/// Returns the same. `None`: one of these rows has an exam's number of more than 32 bits.
-pub fn find_enrols_of<S: Alter>(
-    alloc: Global,
-    conn: &mut Connection<S>,
-    student: u32,
-) -> Result<Option<Vec<EnrolRow>>, Error>
-    ensures rows { Reads S.Store
-        (λ t found. IfSome found
-        (λ rows. IsPermutation (filter (λ r. r.student == student) t.enrol) rows.items))
-        conn.old conn.new result }
-    ensures in_order { Reads S.Store
-        (λ t found. IfSome found
-        (λ rows. IsInOrder StudentEnrolsRise (filter (λ r. r.student == student) t.enrol)
-        rows.items)) conn.old conn.new result }
-    ensures found { Reads S.Store
-        (λ t found. AllByRecursion FitsEnrol (filter (λ r. r.student == student) t.enrol)
-        → IsSome found) conn.old conn.new result }
-    ensures leaves { LeavesTables S.Store conn.old conn.new result }
-{
-    stream_found(
-        alloc,
-        conn,
-        "SELECT student, exam FROM enrol WHERE student = ?1 ORDER BY exam",
-        params![student],
-    )
 }

@@ -1,5 +1,5 @@
-//! The twelve tables of an office's SQLite file: a type for each statement that changes them, and a
-//! function for each query.
+//! The twelve tables of an office's SQLite file: a type for each statement that changes them, and
+//! one for each query.
 #![tactic(auto)]
 
 mod adopting;
@@ -11,6 +11,7 @@ mod draft;
 mod enrol;
 mod found;
 mod joined_share;
+mod keyed_queries;
 mod listing;
 mod looking;
 mod meta;
@@ -18,10 +19,12 @@ mod migrating;
 mod nights;
 mod owner;
 mod placed;
+mod query;
 mod records;
 mod running;
 mod seat;
 mod share_part;
+mod share_queries;
 mod share_student;
 mod slot;
 mod streaming;
@@ -33,21 +36,19 @@ pub use altering::{Alteration, Both, Each, transact};
 pub use batch::{BatchCountsRow, BatchRow, InsertBatch, batch_of};
 pub use creation::{create_tables, is_bare};
 pub use draft::{DeleteDraft, DeleteDrafts, DraftRow, InsertDraft};
-pub use enrol::{DeleteEnrol, EnrolRow, InsertEnrol, InsertEnrols, enrols_of, find_enrols_of};
+pub use enrol::{DeleteEnrol, EnrolRow, InsertEnrol, InsertEnrols};
 pub use found::Found;
+pub use keyed_queries::{BatchOf, EnrolsOf, FindEnrolsOf, OwnersOf, PlacementsOf, SeatsOf};
 pub use looking::look;
 pub use meta::{DeleteMeta, InsertMeta, MetaRow};
 pub use migrating::migrate;
-pub use owner::{DeleteOwner, InsertOwner, OwnerRow, owners_of};
-pub use placed::{DeletePlacement, InsertPlacement, InsertPlacements, PlacedRow, placements_of};
-pub use seat::{DeleteStudentSeats, InsertSeat, InsertSeats, SeatRow, seats_of};
-pub use share_part::{
-    DeletePartShares, InsertPartShare, InsertPartShares, PartShareRow, part_shares,
-};
-pub use share_student::{
-    DeleteStudentShare, InsertStudentShare, StudentShareRow, student_shares, student_shares_of,
-    student_shares_without_nights,
-};
+pub use owner::{DeleteOwner, InsertOwner, OwnerRow};
+pub use placed::{DeletePlacement, InsertPlacement, InsertPlacements, PlacedRow};
+pub use query::Query;
+pub use seat::{DeleteStudentSeats, InsertSeat, InsertSeats, SeatRow};
+pub use share_part::{DeletePartShares, InsertPartShare, InsertPartShares, PartShareRow};
+pub use share_queries::{PartShares, StudentShares, StudentSharesOf};
+pub use share_student::{DeleteStudentShare, InsertStudentShare, StudentShareRow};
 pub use slot::{DeleteSlot, DeleteSlots, InsertSlot, InsertSlots, SlotRow};
 pub use table::{Insert, InsertAll};
 pub use version::Version;

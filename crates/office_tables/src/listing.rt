@@ -7,7 +7,7 @@ ghost use Rattle.sqlite_value.specs.declared.keys.Key.{Key};
 ghost use Rattle.sqlite_value.specs.Order.{Row as Columns, column};
 ghost use Rattle.office_tables.specs.declared.version.Version.{Version};
 ghost use Rattle.office_tables.specs.Readings.{IsNext, IsRead, ColumnRises};
-ghost use Rattle.office_tables.specs.Finders.{Finds, IsFound, Leaves, Looks};
+ghost use Rattle.office_tables.specs.Finders.{Adopts, Finds, IsFound, Leaves, Looks};
 ghost use Rattle.sqlite_schema.specs.declared.schema.Table.{Table};
 ghost use Rattle.office_tables.specs.Inserting.{shown_by};
 ghost use Rattle.office_tables.specs.Listings.{one_table, Lists, ListsKeyed, ListsTable};
@@ -32,12 +32,9 @@ pub(crate) fn adopt<S: Alter, R: Listed + Drop>(
     alloc: Global,
     conn: &mut Connection<S>,
 ) -> Result<Option<Vec<R>>, Error>
-    ensures found { (version : Version) → Finds version S.Store
+    ensures { (version : Version) → Adopts version S.Store
         (λ db. IsFound R.fits R.columns_of (shown_by R.table.key) (db.trees R.table.tree))
         conn.old conn.new result }
-    ensures same { (version : Version) → Leaves version S.Store conn.old conn.new result }
-    ensures looks { (version : Version)
-        → Looks version (state S.Store conn.old) (state S.Store conn.new) }
 {
     read_table(alloc, conn, R::whole())
 }

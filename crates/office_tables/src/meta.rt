@@ -2,12 +2,9 @@
 ghost use Rattle.std.specs.Prelude.{◌≡◌, ◌↔◌, ◌<◌, length, pos, option_map, IfErr, IfOk, IsTrue};
 ghost use Rattle.sqlite_value.specs.declared.value.Value.TheVariants.{Blob, Int};
 ghost use Rattle.sqlite_value.specs.Order.{column};
-ghost use Rattle.sqlite.specs.Held.{state};
 ghost use Rattle.office_tables.specs.Meta.{flag, no_meta, with_meta, IsFoundMeta, IsReadMeta};
 ghost use Rattle.office_tables.specs.Readings.{IsColumn};
-ghost use Rattle.office_tables.specs.Finders.{Finds, Leaves, Looks};
-ghost use Rattle.office_tables.specs.Schema.{no_schema, schema_1, IsBlank};
-ghost use Rattle.office_tables.specs.Steps.{Grows, Within};
+ghost use Rattle.office_tables.specs.Finders.{Adopts};
 
 use crate::altering::Alteration;
 use crate::listing::{is_out_of_memory, list_rows};
@@ -21,21 +18,6 @@ use sqlite::{Alter, Connection, Error, ErrorCode, Row, Transaction, params};
 pub struct MetaRow {
     pub published: bool,
     pub instance: Vec<u8>,
-}
-
-// Creates the table of the row about the office.
-pub(crate) fn create_meta<S: Alter>(tx: &mut Transaction<'_, S>) -> Result<(), Error>
-    ensures same_reference { tx.new.conn.ghost_name ≡ tx.old.conn.ghost_name }
-    ensures makes { Grows S.Store (IsBlank no_schema) (IsBlank schema_1)
-        tx.old.conn.now tx.new.conn.now result }
-    ensures within { Within (state S.Store tx.old.conn.now) (state S.Store tx.new.conn.now) }
-{
-    run(
-        tx,
-        "CREATE TABLE meta (id INTEGER NOT NULL PRIMARY KEY, version INTEGER NOT NULL, published \
-         INTEGER NOT NULL, instance BLOB NOT NULL) STRICT",
-        &[],
-    )
 }
 
 /// Inserts the row.
@@ -85,10 +67,8 @@ pub(crate) fn adopt_meta<S: Alter>(
     conn: &mut Connection<S>,
     version: Version,
 ) -> Result<Option<MetaRow>, Error>
-    ensures found { Finds version S.Store (λ db. IsFoundMeta version (db.trees 0))
+    ensures { Adopts version S.Store (λ db. IsFoundMeta version (db.trees 0))
         conn.old conn.new result }
-    ensures same { Leaves version S.Store conn.old conn.new result }
-    ensures looks { Looks version (state S.Store conn.old) (state S.Store conn.new) }
 {
     let rows = list_rows(conn, "SELECT id, version, published, instance FROM meta")?;
     if rows.len() != 1 {

@@ -8,10 +8,9 @@ ghost use Rattle.office_tables.specs.Steps.{Grows, Within};
 ghost use Rattle.office_tables.specs.Tables.{Tables};
 
 use crate::altering::Alteration;
-use crate::draft::create_night_draft;
+use crate::creation::create_night_tables;
 use crate::meta::InsertMeta;
 use crate::running::run;
-use crate::share_student::create_night_share;
 use sqlite::{Alter, Error, Transaction};
 
 /// Migrates the tables from version 1, with this row about the office, to version 2. The rows stay
@@ -28,8 +27,7 @@ pub fn migrate<S: Alter>(
         tx.old.conn.now tx.new.conn.now result }
     ensures within { Within (state S.Store tx.old.conn.now) (state S.Store tx.new.conn.now) }
 {
-    create_night_draft(tx)?;
-    create_night_share(tx)?;
+    create_night_tables(tx)?;
     fill_nights(tx)?;
     let row = InsertMeta {
         published,

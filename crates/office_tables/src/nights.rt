@@ -1,18 +1,17 @@
 // Amounts over night of drafts and students: in version 2 they have tables of their own.
-ghost use Rattle.std.specs.Prelude.{◌≡◌, false, ℕ, IfOk};
+ghost use Rattle.std.specs.Prelude.{◌≡◌, ℕ, IfOk};
 ghost use Rattle.sqlite.specs.Held.{state};
 ghost use Rattle.sqlite.specs.Query.{Query};
-ghost use Rattle.sqlite.specs.State.{Survives};
 ghost use Rattle.sqlite_value.specs.Order.{Row as Columns};
 ghost use Rattle.office_schema.specs.Schema.{office_schema};
 ghost use Rattle.office_tables.specs.Asking.{Means};
 ghost use Rattle.office_tables.specs.declared.version.Version.{Version};
 ghost use Rattle.office_tables.specs.declared.version.Version.TheVariants.{Two};
-ghost use Rattle.office_tables.specs.Finders.{Finds, Leaves, Looks};
+ghost use Rattle.office_tables.specs.Finders.{Adopts};
 ghost use Rattle.office_tables.specs.Listings.{ListsKeyed};
 ghost use Rattle.office_tables.specs.Joining.{AreFound, AreJoined, HaveRows, IsJoined, IsJoinedWith, IsReadWith, Splits};
 ghost use Rattle.office_tables.specs.Nights.{night_columns, FitsNight};
-ghost use Rattle.office_tables.specs.Readers.{AnswersOpen, LeavesAll, LeavesCommitted, OpensNone, Reads};
+ghost use Rattle.office_tables.specs.Readers.{LeavesTables, Reads};
 ghost use Rattle.office_tables.specs.Stored.{keyed};
 
 use crate::listing::read_table;
@@ -76,21 +75,13 @@ pub(crate) fn adopt_with_nights<S: Alter, R: Record + HasNight + Drop>(
     rows_sql: &str,
     nights_sql: &str,
 ) -> Result<Option<Vec<R>>, Error>
-    ensures found { (tree nights_tree : ℕ)
+    ensures { (tree nights_tree : ℕ)
         → ListsKeyed version 0 R.WIDTH tree keyed rows_sql.now
         → ListsKeyed Two 0 2 nights_tree keyed nights_sql.now
         → Splits R.fits R.columns_of R.columns_in_first R.columns_in_second R.number_in R.night_in
-        → Finds version S.Store (λ db. AreFound R.fits (HaveRows version R.columns_in_first
+        → Adopts version S.Store (λ db. AreFound R.fits (HaveRows version R.columns_in_first
         R.columns_in_second R.night_in (db.trees tree) (db.trees nights_tree)))
         conn.old conn.new result }
-    ensures same { (tree nights_tree : ℕ)
-        → ListsKeyed version 0 R.WIDTH tree keyed rows_sql.now
-        → ListsKeyed Two 0 2 nights_tree keyed nights_sql.now
-        → Leaves version S.Store conn.old conn.new result }
-    ensures looks { (tree nights_tree : ℕ)
-        → ListsKeyed version 0 R.WIDTH tree keyed rows_sql.now
-        → ListsKeyed Two 0 2 nights_tree keyed nights_sql.now
-        → Looks version (state S.Store conn.old) (state S.Store conn.new) }
 {
     let rows = read_table(alloc, conn, rows_sql)?;
     match version {
@@ -112,18 +103,9 @@ pub(crate) fn stream_with_nights<S: Alter, R: Record + HasNight + Drop>(
         → Reads S.Store (λ _ found. IsReadWith R.columns_of R.columns_in_first R.columns_in_second
         R.WIDTH q nights_q (state S.Store conn.old).now.trees found.items)
         conn.old conn.new result }
-    ensures open { AnswersOpen S.Store conn.old conn.new result }
-    ensures was_open { OpensNone S.Store conn.old conn.new }
-    ensures same { (q nights_q : Query) → Means office_schema q rows_sql.now
+    ensures leaves { (q nights_q : Query) → Means office_schema q rows_sql.now
         → Means office_schema nights_q nights_sql.now
-        → LeavesAll S.Store conn.old conn.new result }
-    ensures kept { (q nights_q : Query) → Means office_schema q rows_sql.now
-        → Means office_schema nights_q nights_sql.now
-        → LeavesCommitted S.Store conn.old conn.new }
-    ensures mode { conn.old.in_transaction ≡ false → conn.new.in_transaction ≡ false }
-    ensures survives { (q nights_q : Query) → Means office_schema q rows_sql.now
-        → Means office_schema nights_q nights_sql.now
-        → Survives (state S.Store conn.old) (state S.Store conn.new) (λ _. ⊥) }
+        → LeavesTables S.Store conn.old conn.new result }
 {
     let rows = stream(alloc, conn, rows_sql, &[])?;
     let nights = stream(alloc, conn, nights_sql, &[])?;
@@ -140,14 +122,10 @@ fn add_nights<S: Alter, R: HasNight + Drop>(
     rows: Option<Vec<R>>,
     sql: &str,
 ) -> Result<Option<Vec<R>>, Error>
-    ensures found { (version : Version) (tree : ℕ) → ListsKeyed version 0 2 tree keyed sql.now
-        → Finds version S.Store (λ db. IsJoinedWith R.columns_in_first R.columns_in_second
+    ensures { (version : Version) (tree : ℕ) → ListsKeyed version 0 2 tree keyed sql.now
+        → Adopts version S.Store (λ db. IsJoinedWith R.columns_in_first R.columns_in_second
         R.number_in rows (db.trees tree))
         conn.old conn.new result }
-    ensures same { (version : Version) (tree : ℕ) → ListsKeyed version 0 2 tree keyed sql.now
-        → Leaves version S.Store conn.old conn.new result }
-    ensures looks { (version : Version) (tree : ℕ) → ListsKeyed version 0 2 tree keyed sql.now
-        → Looks version (state S.Store conn.old) (state S.Store conn.new) }
 {
     let nights = read_table(alloc, conn, sql)?;
     joined(alloc, rows, nights)

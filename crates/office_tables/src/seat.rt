@@ -1,20 +1,13 @@
 // Seats of students.
-ghost use Rattle.std.specs.Prelude.{◌≡◌, ◌==◌, false, filter, IsPermutation};
-ghost use Rattle.sqlite.specs.Held.{state};
-ghost use Rattle.office_tables.specs.Schema.{schema_6, schema_7, IsBlank};
-ghost use Rattle.office_tables.specs.Seat.{seat_columns, without_student_seats, FitsSeat, StudentSeatsRise};
-ghost use Rattle.office_tables.specs.Selections.{IsInOrder};
-ghost use Rattle.office_tables.specs.Steps.{Grows, Within};
-ghost use Rattle.office_tables.specs.Readers.{LeavesTables, Reads};
+ghost use Rattle.std.specs.Prelude.{false};
+ghost use Rattle.office_tables.specs.Seat.{seat_columns, without_student_seats, FitsSeat};
 
 use crate::altering::Alteration;
 use crate::listing::Listed;
 use crate::records::Record;
 use crate::running::run;
-use crate::streaming::stream;
 use crate::table::{Insert, InsertAll, InsertTexts, Table};
-use sqlite::{Alter, Connection, Error, Row, Transaction, params};
-use std::alloc::Global;
+use sqlite::{Alter, Error, Row, Transaction, params};
 
 /// A published seat; seats are numbered from 1 in each room and period.
 #[derive(Clone, Copy, Debug, PartialEq, Eq)]
@@ -24,22 +17,6 @@ pub struct SeatRow {
     pub period: u32,
     pub room: u32,
     pub seat: u32,
-}
-
-// Creates the table of seats.
-pub(crate) fn create_seat<S: Alter>(tx: &mut Transaction<'_, S>) -> Result<(), Error>
-    ensures same_reference { tx.new.conn.ghost_name ≡ tx.old.conn.ghost_name }
-    ensures makes { Grows S.Store (IsBlank schema_6) (IsBlank schema_7)
-        tx.old.conn.now tx.new.conn.now result }
-    ensures within { Within (state S.Store tx.old.conn.now) (state S.Store tx.new.conn.now) }
-{
-    run(
-        tx,
-        "CREATE TABLE seat (student INTEGER NOT NULL, exam INTEGER NOT NULL, period INTEGER NOT \
-         NULL, room INTEGER NOT NULL, seat INTEGER NOT NULL, PRIMARY KEY (student, exam), UNIQUE \
-         (period, room, seat)) STRICT",
-        &[],
-    )
 }
 
 impl Record for SeatRow {
@@ -134,26 +111,4 @@ impl Alteration for DeleteStudentSeats {
             params![self.student],
         )
     }
-}
-
-/// Returns a student's seats, by exam.
-pub fn seats_of<S: Alter>(
-    alloc: Global,
-    conn: &mut Connection<S>,
-    student: u32,
-) -> Result<Vec<SeatRow>, Error>
-    ensures rows { Reads S.Store
-        (λ t found. IsPermutation (filter (λ r. r.student == student) t.seat) found.items)
-        conn.old conn.new result }
-    ensures in_order { Reads S.Store
-        (λ t found. IsInOrder StudentSeatsRise (filter (λ r. r.student == student) t.seat) found.items)
-        conn.old conn.new result }
-    ensures leaves { LeavesTables S.Store conn.old conn.new result }
-{
-    stream(
-        alloc,
-        conn,
-        "SELECT student, exam, period, room, seat FROM seat WHERE student = ?1 ORDER BY exam",
-        params![student],
-    )
 }

@@ -1,21 +1,13 @@
 // Shares of exams, periods and rooms in the penalty of the publication.
-ghost use Rattle.std.specs.Prelude.{◌≡◌, IsPermutation};
-ghost use Rattle.sqlite.specs.Held.{state};
-ghost use Rattle.office_tables.specs.Schema.{schema_8, schema_9, IsBlank};
-ghost use Rattle.office_tables.specs.Selections.{IsInOrder};
-ghost use Rattle.office_tables.specs.SharePart.{no_part_shares, share_part_columns, ArePartAmounts, FitsPartShare, PartSharesRise};
-ghost use Rattle.office_tables.specs.Steps.{Grows, Within};
-ghost use Rattle.office_tables.specs.Readers.{LeavesTables, Reads};
+ghost use Rattle.office_tables.specs.SharePart.{no_part_shares, share_part_columns, ArePartAmounts, FitsPartShare};
 
 use crate::altering::Alteration;
 use crate::amounts::signed;
 use crate::listing::Listed;
 use crate::records::Record;
 use crate::running::run;
-use crate::streaming::stream;
 use crate::table::{Insert, InsertAll, InsertTexts, Table};
-use sqlite::{Alter, Connection, Error, Row, Transaction};
-use std::alloc::Global;
+use sqlite::{Alter, Error, Row, Transaction};
 
 /// The share of an exam (kind 0), a period (1) or a room (2); only a room has a mixed part.
 #[derive(Clone, Copy, Debug, PartialEq, Eq)]
@@ -24,21 +16,6 @@ pub struct PartShareRow {
     pub no: u32,
     pub penalty: u64,
     pub mixed: u64,
-}
-
-// Creates the table of shares of exams, periods and rooms.
-pub(crate) fn create_share_part<S: Alter>(tx: &mut Transaction<'_, S>) -> Result<(), Error>
-    ensures same_reference { tx.new.conn.ghost_name ≡ tx.old.conn.ghost_name }
-    ensures makes { Grows S.Store (IsBlank schema_8) (IsBlank schema_9)
-        tx.old.conn.now tx.new.conn.now result }
-    ensures within { Within (state S.Store tx.old.conn.now) (state S.Store tx.new.conn.now) }
-{
-    run(
-        tx,
-        "CREATE TABLE share_part (kind INTEGER NOT NULL, no INTEGER NOT NULL, penalty INTEGER \
-         NOT NULL, mixed INTEGER NOT NULL, PRIMARY KEY (kind, no)) STRICT",
-        &[],
-    )
 }
 
 impl Record for PartShareRow {
@@ -132,23 +109,4 @@ impl Alteration for DeletePartShares {
     fn apply<S: Alter>(&self, tx: &mut Transaction<'_, S>) -> Result<(), Error> {
         run(tx, "DELETE FROM share_part", &[])
     }
-}
-
-/// Returns all shares of exams, periods and rooms, by kind and then by number.
-pub fn part_shares<S: Alter>(
-    alloc: Global,
-    conn: &mut Connection<S>,
-) -> Result<Vec<PartShareRow>, Error>
-    ensures rows { Reads S.Store (λ t found. IsPermutation t.share_part found.items)
-        conn.old conn.new result }
-    ensures in_order { Reads S.Store (λ t found. IsInOrder PartSharesRise t.share_part found.items)
-        conn.old conn.new result }
-    ensures leaves { LeavesTables S.Store conn.old conn.new result }
-{
-    stream(
-        alloc,
-        conn,
-        "SELECT kind, no, penalty, mixed FROM share_part ORDER BY kind, no",
-        &[],
-    )
 }

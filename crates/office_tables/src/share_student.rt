@@ -1,33 +1,22 @@
 // Shares of students in the penalty of the publication. The part over night is in a table of its
 // own.
-ghost use Rattle.std.specs.Prelude.{◌≡◌, ◌==◌, [], filter, IsPermutation};
+ghost use Rattle.std.specs.Prelude.{◌≡◌};
 ghost use Rattle.sqlite.specs.Held.{state};
 ghost use Rattle.sqlite.specs.Values.{bound};
-ghost use Rattle.sqlite_trees.specs.Tree.{Trees};
 ghost use Rattle.office_tables.specs.Adopting.{HaveShares};
-ghost use Rattle.office_tables.specs.Finders.{Finds, Leaves, Looks};
+ghost use Rattle.office_tables.specs.Finders.{Adopts};
 ghost use Rattle.office_tables.specs.Joining.{AreFound};
-ghost use Rattle.office_tables.specs.Schema.{schema_7, schema_8, schema_11, schema_12, HasRows, IsBlank};
-ghost use Rattle.office_tables.specs.Selections.{IsInOrder};
-ghost use Rattle.office_tables.specs.ShareStudent.{bare_share_columns, night_share_columns, share_student_columns, with_student_share, without_student_share, AreStudentAmounts, FitsStudentShare, HaveNoNight, StudentSharesRise};
-ghost use Rattle.office_tables.specs.Steps.{Grows, Within};
-ghost use Rattle.office_tables.specs.Readers.{LeavesTables, Reads};
+ghost use Rattle.office_tables.specs.ShareStudent.{bare_share_columns, night_share_columns, share_student_columns, with_student_share, without_student_share, AreStudentAmounts, FitsStudentShare};
 
 use crate::altering::Alteration;
 use crate::amounts::signed;
-use crate::joined_share::joined_rows;
-use crate::nights::{HasNight, adopt_with_nights, stream_with_nights};
+use crate::nights::{HasNight, adopt_with_nights};
 use crate::records::Record;
 use crate::running::run;
-use crate::streaming::stream;
 use crate::version::Version;
 use sqlite::types::ValueRef;
 use sqlite::{Alter, Connection, Error, Row, Transaction, params};
 use std::alloc::Global;
-
-// Lists all rows of the first table, by student.
-const BARE_SHARES: &str =
-    "SELECT student, in_row, in_day, spread FROM share_student ORDER BY student";
 
 /// A candidate's share of the penalty.
 #[derive(Clone, Copy, Debug, PartialEq, Eq)]
@@ -37,37 +26,6 @@ pub struct StudentShareRow {
     pub in_day: u64,
     pub spread: u64,
     pub night: u64,
-}
-
-// Creates the table of candidates' shares.
-pub(crate) fn create_share_student<S: Alter>(tx: &mut Transaction<'_, S>) -> Result<(), Error>
-    ensures same_reference { tx.new.conn.ghost_name ≡ tx.old.conn.ghost_name }
-    ensures makes { Grows S.Store (IsBlank schema_7) (IsBlank schema_8)
-        tx.old.conn.now tx.new.conn.now result }
-    ensures within { Within (state S.Store tx.old.conn.now) (state S.Store tx.new.conn.now) }
-{
-    run(
-        tx,
-        "CREATE TABLE share_student (student INTEGER NOT NULL PRIMARY KEY, in_row INTEGER NOT \
-         NULL, in_day INTEGER NOT NULL, spread INTEGER NOT NULL) STRICT",
-        &[],
-    )
-}
-
-// Creates the second table that version 2 adds: the amounts over night of candidates' shares.
-pub(crate) fn create_night_share<S: Alter>(tx: &mut Transaction<'_, S>) -> Result<(), Error>
-    ensures same_reference { tx.new.conn.ghost_name ≡ tx.old.conn.ghost_name }
-    ensures makes { (trees : Trees) → trees 16 ≡ []
-        → Grows S.Store (HasRows schema_11 trees) (HasRows schema_12 trees)
-        tx.old.conn.now tx.new.conn.now result }
-    ensures within { Within (state S.Store tx.old.conn.now) (state S.Store tx.new.conn.now) }
-{
-    run(
-        tx,
-        "CREATE TABLE night_share (student INTEGER NOT NULL PRIMARY KEY, night INTEGER NOT NULL) \
-         STRICT",
-        &[],
-    )
 }
 
 impl Record for StudentShareRow {
@@ -80,6 +38,7 @@ impl Record for StudentShareRow {
     const WIDTH: usize = 4;
 
     // Returns the share in a row of the first table, with an amount over night of 0.
+    #[inline]
     fn read(row: &Row) -> Result<StudentShareRow, Error> {
         Ok(StudentShareRow {
             student: row.get(0)?,
@@ -185,75 +144,14 @@ impl Alteration for DeleteStudentShare {
     }
 }
 
-/// Returns all students' shares, by student.
-pub fn student_shares<S: Alter>(
-    alloc: Global,
-    conn: &mut Connection<S>,
-) -> Result<Vec<StudentShareRow>, Error>
-    ensures rows { Reads S.Store (λ t found. IsPermutation t.share_student found.items)
-        conn.old conn.new result }
-    ensures in_order { Reads S.Store
-        (λ t found. IsInOrder StudentSharesRise t.share_student found.items)
-        conn.old conn.new result }
-    ensures leaves { LeavesTables S.Store conn.old conn.new result }
-{
-    stream_with_nights(
-        alloc,
-        conn,
-        BARE_SHARES,
-        "SELECT student, night FROM night_share ORDER BY student",
-    )
-}
-
-/// Returns all students' shares, by student, with 0 as each amount over night: it reads only the
-/// first table. Those are the students' shares if no share has an amount over night.
-pub fn student_shares_without_nights<S: Alter>(
-    alloc: Global,
-    conn: &mut Connection<S>,
-) -> Result<Vec<StudentShareRow>, Error>
-    ensures rows { Reads S.Store (λ t found. HaveNoNight t.share_student
-        → IsPermutation t.share_student found.items)
-        conn.old conn.new result }
-    ensures in_order { Reads S.Store (λ t found. HaveNoNight t.share_student
-        → IsInOrder StudentSharesRise t.share_student found.items)
-        conn.old conn.new result }
-    ensures leaves { LeavesTables S.Store conn.old conn.new result }
-{
-    stream(alloc, conn, BARE_SHARES, &[])
-}
-
-/// Returns a student's share: one row, or none.
-pub fn student_shares_of<S: Alter>(
-    alloc: Global,
-    conn: &mut Connection<S>,
-    student: u32,
-) -> Result<Vec<StudentShareRow>, Error>
-    ensures rows { Reads S.Store
-        (λ t found. IsPermutation (filter (λ r. r.student == student) t.share_student) found.items)
-        conn.old conn.new result }
-    ensures leaves { LeavesTables S.Store conn.old conn.new result }
-{
-    let joined = stream(
-        alloc,
-        conn,
-        "SELECT night, share_student.student, in_row, in_day, spread FROM share_student, \
-         night_share WHERE share_student.student = ?1 AND night_share.student = \
-         share_student.student ORDER BY share_student.student",
-        params![student],
-    )?;
-    Ok(joined_rows(alloc, &joined)?)
-}
-
 // Returns all shares of students in a file of this version. `None`: its tables don't hold shares.
 pub(crate) fn adopt_student_shares<S: Alter>(
     alloc: Global,
     conn: &mut Connection<S>,
     version: Version,
 ) -> Result<Option<Vec<StudentShareRow>>, Error>
-    ensures found { Finds version S.Store (λ db. AreFound FitsStudentShare (HaveShares version db))
+    ensures { Adopts version S.Store (λ db. AreFound FitsStudentShare (HaveShares version db))
         conn.old conn.new result }
-    ensures same { Leaves version S.Store conn.old conn.new result }
-    ensures looks { Looks version (state S.Store conn.old) (state S.Store conn.new) }
 {
     adopt_with_nights(
         alloc,

@@ -1,9 +1,5 @@
 // Placements of exams in drafts.
-ghost use Rattle.std.specs.Prelude.{◌≡◌};
-ghost use Rattle.sqlite.specs.Held.{state};
-ghost use Rattle.office_tables.specs.Schema.{schema_4, schema_5, IsBlank};
 ghost use Rattle.office_tables.specs.Slot.{slot_columns, without_slot, without_slots, FitsSlot};
-ghost use Rattle.office_tables.specs.Steps.{Grows, Within};
 
 use crate::altering::Alteration;
 use crate::listing::Listed;
@@ -20,21 +16,6 @@ pub struct SlotRow {
     pub exam: u32,
     pub period: u32,
     pub room: u32,
-}
-
-// Creates the table of placements in drafts.
-pub(crate) fn create_slot<S: Alter>(tx: &mut Transaction<'_, S>) -> Result<(), Error>
-    ensures same_reference { tx.new.conn.ghost_name ≡ tx.old.conn.ghost_name }
-    ensures makes { Grows S.Store (IsBlank schema_4) (IsBlank schema_5)
-        tx.old.conn.now tx.new.conn.now result }
-    ensures within { Within (state S.Store tx.old.conn.now) (state S.Store tx.new.conn.now) }
-{
-    run(
-        tx,
-        "CREATE TABLE slot (draft INTEGER NOT NULL, exam INTEGER NOT NULL, period INTEGER NOT \
-         NULL, room INTEGER NOT NULL, PRIMARY KEY (draft, exam)) STRICT",
-        &[],
-    )
 }
 
 impl Record for SlotRow {

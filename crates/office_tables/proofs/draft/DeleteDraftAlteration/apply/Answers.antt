@@ -1,6 +1,6 @@
 use Rattle.sqlite.specs.Held.{state}
 use Rattle.office_tables.proofs.Inside.{changes_by_two, clean_before}
-use Rattle.office_tables.proofs.DraftLemmas.{deleted}
+use Rattle.office_tables.proofs.DraftLemmas.{gone}
 use Rattle.office_tables.proofs.draft.DeleteDraftAlteration.apply.Goals as goal
 
 pub returns-clause-makes : goal.returns-clause-makes
@@ -11,5 +11,5 @@ returns-clause-makes g c clean inside =
     let clean_1 = clean_before mid new c.run-2.ensures.within clean in
     let first = rw c.params-to_sql.ensures at (c.in_ok-run.ensures.ran clean_1 inside) in
     changes_by_two _ _ _ _ _ old mid new c.run-2.result
-    (deleted old mid new c.args.self.now.no)
+    (gone old mid new c.args.self.now.no)
     first (rw c.params-to_sql-2.ensures at (c.run-2.ensures.ran clean first.inside))

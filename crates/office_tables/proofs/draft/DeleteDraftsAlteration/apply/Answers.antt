@@ -1,6 +1,6 @@
 use Rattle.sqlite.specs.Held.{state}
 use Rattle.office_tables.proofs.Inside.{changes_by_two, clean_before}
-use Rattle.office_tables.proofs.DraftLemmas.{cleared}
+use Rattle.office_tables.proofs.DraftLemmas.{all_gone}
 use Rattle.office_tables.proofs.draft.DeleteDraftsAlteration.apply.Goals as goal
 
 pub returns-clause-makes : goal.returns-clause-makes
@@ -11,5 +11,5 @@ returns-clause-makes g c clean inside =
     let clean_1 = clean_before mid new c.run-2.ensures.within clean in
     let first = c.in_ok-run.ensures.ran clean_1 inside in
     changes_by_two _ _ _ _ _ old mid new c.run-2.result
-    (cleared old mid new)
+    (all_gone old mid new)
     first (c.run-2.ensures.ran clean first.inside)

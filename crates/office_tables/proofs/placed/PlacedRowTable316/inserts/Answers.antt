@@ -1,25 +1,18 @@
 use Rattle.std.proofs.Common.{refl}
 use Rattle.sqlite.specs.Listing.{understood}
 use Rattle.sqlite_tied.specs.Compute.{everything}
-use Rattle.office_tables.proofs.Casts.{cast_int, cast_null}
-use Rattle.office_tables.proofs.Frames.{placed_changed}
+use Rattle.office_tables.proofs.Rows.{placements}
 use Rattle.office_tables.proofs.placed.PlacedRowTable316.inserts.Goals as goal
 
 pub returns : goal.returns
 unfolding understood everything
 returns c = record {
-  found = refl;
-  quiet = λ taken news. refl;
-  wide = λ x. refl;
-  filled = (2, refl);
-  int = λ stored x. refl;
-  shown = λ stored x. refl;
-  cast = λ x. rw (cast_null, cast_int x.exam, cast_int x.period, cast_int x.room) refl;
-  held = λ db t represents. represents.placed;
-  changed = placed_changed;
-  same = λ t. refl;
-  read = λ rows t. refl;
-  over = λ rows more t. refl;
+  stores = placements;
+  listed = λ _. refl;
+  changed = λ _ _. refl;
+  same = λ _. refl;
+  read = λ _ _. refl;
+  over = λ _ _ _. refl;
   one = record { is = refl; plain = (refl, refl); many = refl };
   several = record { is = refl; plain = (refl, refl); many = refl };
 }

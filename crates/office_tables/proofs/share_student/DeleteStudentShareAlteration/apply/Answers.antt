@@ -1,6 +1,6 @@
 use Rattle.sqlite.specs.Held.{state}
 use Rattle.office_tables.proofs.Inside.{changes_by_two, clean_before}
-use Rattle.office_tables.proofs.ShareLemmas.{student_share_deleted}
+use Rattle.office_tables.proofs.ShareLemmas.{gone}
 use Rattle.office_tables.proofs.share_student.DeleteStudentShareAlteration.apply.Goals as goal
 
 pub returns-clause-makes : goal.returns-clause-makes
@@ -11,5 +11,5 @@ returns-clause-makes g c clean inside =
     let clean_1 = clean_before mid new c.run-2.ensures.within clean in
     let first = rw c.params-to_sql.ensures at (c.in_ok-run.ensures.ran clean_1 inside) in
     changes_by_two _ _ _ _ _ old mid new c.run-2.result
-    (student_share_deleted old mid new c.args.self.now.student)
+    (gone old mid new c.args.self.now.student)
     first (rw c.params-to_sql-2.ensures at (c.run-2.ensures.ran clean first.inside))

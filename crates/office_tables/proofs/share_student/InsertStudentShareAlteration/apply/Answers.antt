@@ -1,6 +1,6 @@
 use Rattle.sqlite.specs.Held.{state}
 use Rattle.office_tables.proofs.Inside.{changes_by_two, clean_before}
-use Rattle.office_tables.proofs.ShareLemmas.{student_share_added}
+use Rattle.office_tables.proofs.ShareLemmas.{added}
 use Rattle.office_tables.proofs.share_student.InsertStudentShareAlteration.apply.Goals as goal
 
 pub returns-clause-makes : goal.returns-clause-makes
@@ -11,5 +11,5 @@ returns-clause-makes g c clean inside =
     let clean_1 = clean_before mid new c.run-2.ensures.within clean in
     let first = rw c.student_columns.ensures at (c.in_ok-run.ensures.ran clean_1 inside) in
     changes_by_two _ _ _ _ _ old mid new c.run-2.result
-    (student_share_added old mid new c.args.self.now.row)
+    (added old mid new c.args.self.now.row)
     first (rw c.night_columns.ensures at (c.run-2.ensures.ran clean first.inside))
