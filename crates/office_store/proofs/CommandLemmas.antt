@@ -145,6 +145,14 @@ pub stays_by : {S B F : Type 0} {r : Result B F} (g : Ghosts S) (before mid : He
 stays_by g before mid leaves clean o =
     now_still (state g before) (state g mid) o (leaves.unchanged clean)
 
+-- the tables represented the same office before a call that only read and succeeded
+pub represented : {S B F : Type 0} {x : B} (g : Ghosts S) (before mid : Held S)
+    → LeavesUnchanged {A = B} {E = F} g before mid (Ok x) → HasCleanDisk (state g mid)
+    → (o : OfficeState) → RepresentsOffice (state g mid).now o
+    → RepresentsOffice (state g before).now o
+represented g before mid leaves clean o =
+    subst (λ db. RepresentsOffice db o) (leaves.unchanged clean (leaves.all_committed clean).0).1
+
 -- a refusal after further reading has changed nothing either
 pub stays_on : {S A : Type 0} (g : Ghosts S) (start inside after : Held S) → inside ≡ start
     → (HasCleanDisk (state g after) → StateUnchanged (state g inside) (state g after))

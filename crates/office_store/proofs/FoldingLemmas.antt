@@ -1,6 +1,6 @@
 -- The fold of the rows of an edit's students.
-use Rattle.std.proofs.Common.{filter, eqb, IsPermutation, IfOk, Vec, ◌≡◌, ℕ, suc, ◌+◌, ◌<◌, ◌≤◌, inl, inr, Bool, true, false, true≢false, IsTrue, get_or, add-one, List, [], ◌∷◌, ◌++◌, length, map, All, Option, Some, Result, Ok, Err, refl, sym, ◌∙◌, ap, ap₂, subst, arith, append_assoc, length-append}
-use Rattle.std.specs.Prelude.{◌↔◌, IfSome, IsSome, nat_lt, ok_or}
+use Rattle.std.proofs.Common.{filter, eqb, IsPermutation, IfOk, Vec, ◌≡◌, ℕ, suc, ◌+◌, ◌<◌, ◌≤◌, inl, inr, Bool, true, false, true≢false, IsTrue, get_or, add-one, List, [], ◌∷◌, ◌++◌, length, map, All, Option, None, Some, Result, Ok, Err, refl, sym, ◌∙◌, ap, ap₂, subst, arith, append_assoc, length-append}
+use Rattle.std.specs.Prelude.{◌↔◌, nat_lt, ok_or}
 use Rattle.std.specs.declared.alloc.Global.{Global}
 use Rattle.std.specs.List.{AllByRecursion, IsAllAdjacentAnswer, flat_map}
 use Rattle.std.proofs.lemmas.Bool.Decides.{nat_tests}
@@ -29,7 +29,7 @@ use Rattle.office_records.specs.Representation.{RepresentsOffice}
 use Rattle.office_records.proofs.ReadableLemmas.{are_readable}
 use Rattle.office_tables.specs.Enrol.{FitsEnrol, StudentEnrolsRise}
 use Rattle.office_tables.specs.Readers.{LeavesCommitted, OpensNone}
-use Rattle.office_tables.specs.Selections.{IsInOrder}
+use Rattle.office_tables.specs.Selections.{AreListed, AreListedIfFit}
 use Rattle.office_tables.specs.Tables.{Tables}
 use Rattle.office_tables.specs.TablesHeld.{HoldsTables}
 use Rattle.office_tables.specs.declared.enrol.EnrolRow.{EnrolRow}
@@ -418,30 +418,36 @@ ok_weaker P Q (Err e) less h = tt
 
 -- the rows that are read of a student are those of the student's exams
 pub rows_had : {S : Type 0} (store : Ghosts S) (a b : Held S) (E : Enrolled)
-    → HadEnrolments store a b E → (s n : ℕ) → n ≡ s → (found : List EnrolRow)
+    → HadEnrolments store a b E → (s n : ℕ) → n ≡ s → (found : Option (Vec EnrolRow Global))
+    → (rows : Vec EnrolRow Global) → found ≡ Some rows
     → (HasCleanDisk (state store b) → (t : Tables) → HoldsTables (state store a).now t
-    → IsInOrder StudentEnrolsRise (filter (λ (x : EnrolRow). eqb x.student n) t.enrol) found)
-    → found ≡ map (candidate_enrol_row s) (exams_sat E s)
-rows_had store a b E had s n is found order =
-    subst (λ E. found ≡ map (candidate_enrol_row s) (exams_sat E s)) had.enrolments
-    (subst (λ k. found ≡ map (candidate_enrol_row k) (exams_sat had.records.enrolments k)) is
-    (rows_read had.kept.held had.records n found had.kept.represents had.kept.office
-    (order had.clean had.kept.held had.kept.tables)))
+    → AreListedIfFit FitsEnrol StudentEnrolsRise (filter (λ (x : EnrolRow). eqb x.student n) t.enrol)
+    found)
+    → rows.items ≡ map (candidate_enrol_row s) (exams_sat E s)
+rows_had store a b E had s n is found rows some reads =
+    let t = had.kept.held in
+    let listed : AreListed StudentEnrolsRise (filter (λ (x : EnrolRow). eqb x.student n) t.enrol)
+    rows.items = subst (AreListedIfFit FitsEnrol StudentEnrolsRise
+    (filter (λ (x : EnrolRow). eqb x.student n) t.enrol)) some
+    (reads had.clean t had.kept.tables) in
+    subst (λ E. rows.items ≡ map (candidate_enrol_row s) (exams_sat E s)) had.enrolments
+    (subst (λ k. rows.items ≡ map (candidate_enrol_row k) (exams_sat had.records.enrolments k)) is
+    (rows_read t had.records n rows.items had.kept.represents had.kept.office listed.in_order))
 
 -- the student's rows are valid
 pub rows_fit : {S : Type 0} (store : Ghosts S) (a b : Held S) (E : Enrolled)
-    → HadEnrolments store a b E → (n : ℕ) (found : Option (Vec EnrolRow Global))
+    → HadEnrolments store a b E → (n : ℕ) (found : Option (Vec EnrolRow Global)) → found ≡ None
     → (HasCleanDisk (state store b) → (t : Tables) → HoldsTables (state store a).now t
-    → AllByRecursion FitsEnrol (filter (λ (x : EnrolRow). eqb x.student n) t.enrol) → IsSome found)
-    → IsSome found
-rows_fit store a b E had n found reads =
+    → AreListedIfFit FitsEnrol StudentEnrolsRise (filter (λ (x : EnrolRow). eqb x.student n) t.enrol)
+    found) → ⊥
+rows_fit store a b E had n found none reads =
     let t = had.kept.held in
-    reads had.clean t had.kept.tables
-    (all-filter FitsEnrol (λ (x : EnrolRow). eqb x.student n) t.enrol
+    let unfit : AllByRecursion FitsEnrol (filter (λ (x : EnrolRow). eqb x.student n) t.enrol) → ⊥ =
+    subst (AreListedIfFit FitsEnrol StudentEnrolsRise
+    (filter (λ (x : EnrolRow). eqb x.student n) t.enrol)) none
+    (reads had.clean t had.kept.tables) in
+    unfit (all-filter FitsEnrol (λ (x : EnrolRow). eqb x.student n) t.enrol
     (are_readable t (Some had.records) had.kept.represents had.kept.sound had.kept.office).enrol)
-
-pub some_is : {X : Type 0} (P : X → Type 0) (o : Option X) (x : X) → o ≡ Some x → IfSome o P → P x
-some_is {X} P o x is h = subst (λ (o : Option X). IfSome o P) is h
 
 pub sat_up : (E : Enrolled) (s : ℕ) → IsAscending (exams_sat E s)
 sat_up E s = ascending_from_chain (exams_sat E s) (chained (exams_sat E s) (sat_rise E s))

@@ -1,5 +1,5 @@
 -- An owner in place of another.
-use Rattle.std.proofs.Common.{◌≡◌, ℕ, ◌<◌, ◌≤◌, Bool, true, false, cond, not, eqb, List, [], ◌∷◌, map, filter, refl, sym, ◌∙◌, ap, arith, subst, Ok, Err}
+use Rattle.std.proofs.Common.{◌≡◌, ℕ, ◌<◌, ◌≤◌, Bool, true, false, cond, not, eqb, List, [], ◌∷◌, map, filter, refl, sym, ◌∙◌, ap, arith, subst, Ok, Err, Result}
 use Rattle.std.proofs.lemmas.Bool.Decides.{nat_tests}
 use Rattle.std.specs.Prelude.{Option, Some, None, length, IsPermutation}
 use Rattle.std.proofs.lemmas.List.Sorted.{IsPermutation-map, length_permutation}
@@ -26,7 +26,9 @@ use Rattle.office_model.specs.Commands.{owned, owner_in}
 use Rattle.office_records.specs.Representation.{TablesRepresentOffice, TablesRepresentRecords, IsSound, RepresentsOffice}
 use Rattle.office_records.specs.TableRows.{owners_at, some_dept}
 use Rattle.office_model.specs.declared.fault.Refusal.TheVariants.{Edit}
+use Rattle.office_model.specs.declared.fault.StoreFault.{StoreFault}
 use Rattle.office_model.specs.declared.fault.StoreFault.TheVariants.{Refused}
+use Rattle.office_store.specs.Running.{ReturnsValue}
 use Rattle.office_records.proofs.KeyLemmas.{none_of, all_of_other}
 use Rattle.office_records.proofs.MemoryLemmas.{same_one}
 
@@ -198,3 +200,6 @@ owner_read t (Some r) e rows represents p =
     few (r.owner_of e) (eqb (r.owner_of e) 0) _
     (subst (λ l. IsPermutation l (map (λ (r : OwnerRow). r.dept) rows)) (represents.owner e)
     (IsPermutation-map (λ (r : OwnerRow). r.dept) _ _ p))
+
+pub owner_returned : (dept : ℕ) (r : Result ℕ StoreFault) → r ≡ Ok dept → ReturnsValue dept r
+owner_returned dept r is = subst (ReturnsValue dept) (sym is) refl

@@ -5,7 +5,7 @@ use Rattle.exam_model.specs.Instance.{Session}
 use Rattle.sqlite.specs.Effect.{Database}
 use Rattle.sqlite.specs.declared.error.Error.{Error}
 use Rattle.sqlite.specs.Held.{Held, state}
-use Rattle.sqlite.specs.State.{State, HasCleanDisk, IsUnchanged}
+use Rattle.sqlite.specs.State.{State, HasCleanDisk}
 use Rattle.sqlite.specs.Store.{Ghosts}
 use Rattle.office_tables.specs.Readers.{Keeps, LeavesTables}
 use Rattle.office_tables.specs.Tables.{Tables}
@@ -88,30 +88,21 @@ kept_of (Some r) I E h = record {
     some_is : {X : Type 0} {x y : X} → Some x ≡ Some y → x ≡ y
     some_is e = cc
 
--- ---- a reader of one table, which doesn't open a closed store
+-- ---- readers, which don't open a closed store
 
--- all was committed before
+-- all was committed before, and the reader leaves the tables, or what was committed
 module _ (a b : State) (m : OfficeMemory) (rest : MatchesMemory a m)
     (clean : HasCleanDisk b → HasCleanDisk a)
-    (settled : IsTrue a.is_open → a.now ≡ a.committed) where
-  -- the reader leaves the tables, or what was committed
-  module _ (was_open : HasCleanDisk b → IsTrue b.is_open → IsTrue a.is_open)
-      (reads : HasCleanDisk b → (t : Tables) → HoldsTables a.now t → Keeps a b) where
-    pub still_read : HasCleanDisk b → StateUnchanged a b
-    still_read is_clean opened =
-        let here = rest (clean is_clean) (was_open is_clean opened) in
-        still_kept a b settled (reads is_clean here.1.held here.1.tables) opened
+    (settled : HasCleanDisk a → IsTrue a.is_open → a.now ≡ a.committed)
+    (was_open : HasCleanDisk b → IsTrue b.is_open → IsTrue a.is_open)
+    (reads : HasCleanDisk b → (t : Tables) → HoldsTables a.now t → Keeps a b) where
+  pub still_read : HasCleanDisk b → StateUnchanged a b
+  still_read is_clean opened =
+      let here = rest (clean is_clean) (was_open is_clean opened) in
+      still_kept a b (settled (clean is_clean)) (reads is_clean here.1.held here.1.tables) opened
 
-    pub rest_read : MatchesMemory b m
-    rest_read = rest_still a b m clean still_read rest
-
-  -- the reader succeeded: the office after it is the office before it
-  pub kept_read : (HasCleanDisk b → IsTrue a.is_open)
-      → (HasCleanDisk b → (t : Tables) → HoldsTables a.now t → IsUnchanged a b)
-      → HasCleanDisk b → (o : OfficeState) → RepresentsOffice b.now o → RepresentsOffice a.now o
-  kept_read was_open same is_clean o =
-      let here = rest (clean is_clean) (was_open is_clean) in
-      subst (λ db. RepresentsOffice db o) (same is_clean here.1.held here.1.tables).0.now_is
+  pub rest_read : MatchesMemory b m
+  rest_read = rest_still a b m clean still_read rest
 
 -- what is in memory matches the tables after a reader of them
 pub rest_after : {S X : Type 0} {result : Result X Error} (g : Ghosts S) (a b : Held S)
@@ -119,25 +110,23 @@ pub rest_after : {S X : Type 0} {result : Result X Error} (g : Ghosts S) (a b : 
     → (IsTrue (state g a).is_open → (state g a).now ≡ (state g a).committed)
     → LeavesTables g a b result → MatchesMemory (state g b) m
 rest_after g a b m rest settled read =
-    rest_read (state g a) (state g b) m rest (λ k. omega (arith, read.survives.clean, k)) settled
-    read.was_open read.kept
+    rest_read (state g a) (state g b) m rest (λ k. omega (arith, read.survives.clean, k))
+    (λ _. settled) read.was_open read.kept
 
--- the office after a reader that succeeded is the office before it
-pub kept_after : {S X : Type 0} {x : X} (g : Ghosts S) (a b : Held S) (m : OfficeMemory)
-    → MatchesMemory (state g a) m
-    → (IsTrue (state g a).is_open → (state g a).now ≡ (state g a).committed)
-    → LeavesTables g a b (Ok x) → HasCleanDisk (state g b) → (o : OfficeState)
-    → RepresentsOffice (state g b).now o → RepresentsOffice (state g a).now o
-kept_after g a b m rest settled read =
-    kept_read (state g a) (state g b) m rest (λ k. omega (arith, read.survives.clean, k)) settled
-    read.open_on_ok read.same
+-- a reader that succeeded leaves the database as it was
+pub now_after : {S X : Type 0} {x : X} (g : Ghosts S) (a b : Held S) (m : OfficeMemory)
+    → MatchesMemory (state g a) m → LeavesTables g a b (Ok x) → HasCleanDisk (state g b)
+    → (state g b).now ≡ (state g a).now
+now_after g a b m rest read clean =
+    let here = rest (omega (arith, read.survives.clean, clean)) (read.open_on_ok clean) in
+    (read.same clean here.1.held here.1.tables).0.now_is
 
 -- ---- readers that succeeded, and then a transaction that failed
 
 module _ {S : Type 0} (g : Ghosts S) (a b c : Held S) (m : OfficeMemory)
     (rest : MatchesMemory (state g a) m)
-    (settled : IsTrue (state g a).is_open → (state g a).now ≡ (state g a).committed)
-    (read : HasRead g a b) (same : RowsUnchanged g a b)
+    (settled : HasCleanDisk (state g a) → IsTrue (state g a).is_open
+    → (state g a).now ≡ (state g a).committed) (read : HasRead g a b) (same : RowsUnchanged g a b)
     (clean : HasCleanDisk (state g c) → HasCleanDisk (state g b))
     (undone : HasCleanDisk (state g c) → Undone (state g b) (state g c)) where
   pub still_failed : HasCleanDisk (state g c) → StateUnchanged (state g a) (state g c)
@@ -147,7 +136,7 @@ module _ {S : Type 0} (g : Ghosts S) (a b c : Held S) (m : OfficeMemory)
       let was = read.was_open mid (back.was_open opened) in
       let here = rest (read.clean mid) was in
       let kept = same mid here.1.held here.1.tables was in
-      (was, back.now opened ∙ kept.0.committed_is ∙ sym (settled was))
+      (was, back.now opened ∙ kept.0.committed_is ∙ sym (settled (read.clean mid) was))
 
   -- the memory is still the office's
   pub rest_failed : MatchesMemory (state g c) m

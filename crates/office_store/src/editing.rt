@@ -56,7 +56,6 @@ impl<S: Alter> Office<S> {
         ensures leaves { LeavesNext S.Store (draft_edited number edit) self.old self.new result }
     {
         self.look()?;
-        let _at_rest = self.conn.is_autocommit(); // its contract says that all is committed
         let new = edited_draft(alloc, &mut self.conn, &self.memory, number, edit)?;
         let EditedDraft { draft, places } = new;
         let parts = draft.parts;

@@ -1,5 +1,5 @@
 // Batches of changes of enrolments.
-ghost use Rattle.std.specs.Prelude.{◌≡◌, ◌≤◌, IfOk, None, Ok};
+ghost use Rattle.std.specs.Prelude.{◌≡◌, ◌≤◌, None, Ok};
 ghost use Rattle.sqlite.specs.Held.{state};
 ghost use Rattle.sqlite.specs.State.{HasCleanDisk};
 ghost use Rattle.exam_terms.specs.declared.limits.TheConstants.{MAX_BATCH};
@@ -7,19 +7,18 @@ ghost use Rattle.office_batches.specs.BatchText.{batch_in};
 ghost use Rattle.office_model.specs.Batches.{batch_enrolled, batch_of_number};
 ghost use Rattle.office_model.specs.Office.{OfficeState};
 ghost use Rattle.office_records.specs.Representation.{RepresentsOffice};
-ghost use Rattle.office_store.specs.NewBatches.{IsRowOf, first_counts};
-ghost use Rattle.office_store.specs.Leaving.{LeavesNext, LeavesUnchanged};
+ghost use Rattle.office_store.specs.NewBatches.{first_counts};
+ghost use Rattle.office_store.specs.Leaving.{LeavesNext};
 ghost use Rattle.office_store.specs.Running.{IsCommitted, CommandRan};
 ghost use Rattle.office_tables.specs.Batch.{batch_from};
 
-use crate::fault::Failed;
 use crate::new_batch::{new_batch, put_batch};
 use crate::office::Office;
 use exam_model::Change;
 use office_batches::read_batch;
 use office_enrolment::{batch_leaves_an_office, lines_are_counted};
 use office_model::{Counts, StoreFault};
-use office_tables::{BatchRow, batch_of};
+use office_tables::{BatchOf, BatchRow};
 use sqlite::Alter;
 use std::alloc::Global;
 
@@ -49,7 +48,7 @@ impl<S: Alter> Office<S> {
             Ok(changes) => changes,
             Err(fault) => return Err(StoreFault::of_file(fault)),
         };
-        let kept = self.kept_batch(alloc, number)?;
+        let kept = self.ask(alloc, &BatchOf { no: number })?;
         match kept {
             Some(row) => first_answer(&row, text),
             None => self.enrol_new(alloc, number, text, &changes),
@@ -78,7 +77,6 @@ impl<S: Alter> Office<S> {
     {
         lines_are_counted();
         batch_leaves_an_office();
-        let _at_rest = self.conn.is_autocommit(); // its contract says that all is committed
         let memory = &self.memory;
         let Some((instance, enrolments)) = &memory.kept else {
             return Err(StoreFault::NotLoaded);
@@ -88,18 +86,6 @@ impl<S: Alter> Office<S> {
         put_batch(&mut self.conn, &new, number, text)?;
         self.memory.renew(new.enrolments, new.rescored);
         Ok(counts)
-    }
-
-    // Returns the batch that is kept under a number, if there is one.
-    fn kept_batch(&mut self, alloc: Global, number: u32) -> Result<Option<BatchRow>, Failed>
-        ensures row { HasCleanDisk (state S.Store self.new) → (office : OfficeState)
-            → RepresentsOffice (state S.Store self.new).now office
-            → IfOk result (IsRowOf (batch_of_number office number)) }
-        ensures leaves { LeavesUnchanged S.Store self.old self.new result }
-    {
-        let _at_rest = self.conn.is_autocommit(); // its contract says that all is committed
-        let row = batch_of(alloc, &mut self.conn, number)?;
-        Ok(row)
     }
 }
 

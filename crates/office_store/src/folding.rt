@@ -19,7 +19,7 @@ use exam_publish::in_order;
 use exam_score::{EditFold, Parts, sizes_of};
 use exam_terms::limits::MAX_PAIRS;
 use office_model::StoreFault;
-use office_tables::{EnrolRow, find_enrols_of};
+use office_tables::{EnrolRow, FindEnrolsOf, Query};
 use sqlite::{Alter, Connection};
 use std::alloc::{AllocError, Global};
 
@@ -143,7 +143,8 @@ fn read_exams<S: Alter>(
     ensures read { HasRead S.Store conn.old conn.new }
     ensures same { OnOk result (RowsUnchanged S.Store conn.old conn.new) }
 {
-    let Ok(found) = find_enrols_of(alloc, conn, student.get()) else {
+    let number = student.get();
+    let Ok(found) = FindEnrolsOf { student: number }.ask(alloc, conn) else {
         return Err(StoreFault::Store);
     };
     let Some(rows) = found else {

@@ -2,6 +2,7 @@
 #![tactic(auto)]
 
 mod adopting;
+mod asking;
 mod candidate_share;
 mod drafting;
 mod editing;

@@ -1,22 +1,18 @@
 // The owner of an exam.
-ghost use Rattle.std.specs.Prelude.{◌≡◌, ◌≤◌, IfOk, map};
-ghost use Rattle.sqlite.specs.Held.{state};
-ghost use Rattle.sqlite.specs.State.{HasCleanDisk};
+ghost use Rattle.std.specs.Prelude.{◌≡◌, ◌≤◌, ℕ, Ok, map};
 ghost use Rattle.exam_terms.specs.declared.limits.TheConstants.{MAX_DEPARTMENT};
 ghost use Rattle.office_model.specs.Commands.{owned, owner_in};
-ghost use Rattle.office_model.specs.Office.{OfficeState};
 ghost use Rattle.office_store.specs.Changes.{new_owner};
 ghost use Rattle.office_store.specs.Leaving.{LeavesNext, LeavesUnchanged};
-ghost use Rattle.office_store.specs.Running.{Represents, QueryReturned, CommandRan};
+ghost use Rattle.office_store.specs.Running.{QueryReturned, CommandRan};
 ghost use Rattle.office_records.specs.TableRows.{some_dept};
 
-use crate::fault::Failed;
 use crate::office::Office;
 use crate::transactions::put;
 use exam_draft::EditFault;
 use exam_model::ExamNo;
 use office_model::{Refusal, StoreFault};
-use office_tables::{Both, DeleteOwner, InsertOwner, OwnerRow, owners_of};
+use office_tables::{Both, DeleteOwner, InsertOwner, OwnerRow, OwnersOf};
 use sqlite::Alter;
 use std::alloc::Global;
 
@@ -52,28 +48,19 @@ impl<S: Alter> Office<S> {
         // While it is open, the database is unchanged. On `Ok` memory and the file agree.
         ensures leaves { LeavesUnchanged S.Store self.old self.new result }
     {
-        let rows = self.owners(alloc, exam)?;
-        match rows.as_slice() {
-            [] => Ok(0),
-            [row] => Ok(row.dept),
-            _ => Err(StoreFault::BadSchema),
-        }
+        let rows = self.ask(alloc, &OwnersOf { exam: exam.get() })?;
+        dept_in(&rows)
     }
+}
 
-    // Returns the rows of an exam's owner: one, or none.
-    fn owners(&mut self, alloc: Global, exam: ExamNo) -> Result<Vec<OwnerRow>, Failed>
-        ensures rows { HasCleanDisk (state S.Store self.new) → (office : OfficeState)
-            → Represents (state S.Store self.old) office
-            → IfOk result (λ rows.
-            map (λ r. r.dept) rows.items ≡ some_dept (owner_in exam office)) }
-        ensures stays { HasCleanDisk (state S.Store self.new) → (office : OfficeState)
-            → Represents (state S.Store self.old) office
-            → Represents (state S.Store self.new) office }
-        ensures leaves { LeavesUnchanged S.Store self.old self.new result }
-    {
-        let _at_rest = self.conn.is_autocommit(); // its contract says that all is committed
-        let rows = owners_of(alloc, &mut self.conn, exam.get())?;
-        Ok(rows)
+// Returns the department of an exam's owner; 0 if there is no row. `BadSchema`: there are two.
+fn dept_in(rows: &[OwnerRow]) -> Result<u32, StoreFault>
+    ensures { (dept : ℕ) → map (λ row. row.dept) rows.now ≡ some_dept dept → result ≡ Ok dept }
+{
+    match rows {
+        [] => Ok(0),
+        [row] => Ok(row.dept),
+        _ => Err(StoreFault::BadSchema),
     }
 }
 

@@ -1,21 +1,15 @@
 // A candidate's view of the office.
-ghost use Rattle.std.specs.Prelude.{◌≡◌, ◌==◌, ℕ, IfOk, IsPermutation, Some, filter, find, map};
+ghost use Rattle.std.specs.Prelude.{◌≡◌, ◌==◌, ℕ, IfOk, Some, find, map};
 ghost use Rattle.sqlite.specs.Held.{state};
 ghost use Rattle.sqlite.specs.State.{HasCleanDisk};
-ghost use Rattle.exam_publish.specs.Changed.{rows_of};
 ghost use Rattle.office_model.specs.Office.{AreRecords, OfficeState, Records};
-ghost use Rattle.office_model.specs.Publishing.{publication_rows};
-ghost use Rattle.office_model.specs.ViewRows.{places_in};
 ghost use Rattle.office_model.specs.Shown.{shown_exams, shown_penalty, shown_to};
 ghost use Rattle.office_model.specs.Views.{view_of};
-ghost use Rattle.office_records.specs.Publications.{stored_seat};
 ghost use Rattle.office_records.specs.Representation.{RepresentsOffice};
 ghost use Rattle.office_store.specs.Judging.{listed};
-ghost use Rattle.office_records.specs.Memory.{published_in};
 ghost use Rattle.office_store.specs.Leaving.{LeavesUnchanged};
-ghost use Rattle.office_store.specs.OfficeRows.{student_rows_in};
 ghost use Rattle.office_store.specs.Running.{QueryReturned, ReturnsValue};
-ghost use Rattle.office_store.specs.Viewing.{AreCandidateRows, exams_in, place_in_row};
+ghost use Rattle.office_store.specs.Viewing.{AreCandidateRows, place_in_row};
 
 use crate::candidate_share::personal_in;
 use crate::fault::Failed;
@@ -25,8 +19,7 @@ use exam_score::PersonalParts;
 use office_model::{CandidateView, StoreFault, ViewRow, view_rows};
 use office_records::own_seats;
 use office_tables::{
-    EnrolRow, PlacedRow, SeatRow, StudentShareRow, enrols_of, placements_of, seats_of,
-    student_shares_of,
+    EnrolRow, EnrolsOf, PlacedRow, PlacementsOf, SeatRow, SeatsOf, StudentSharesOf,
 };
 use sqlite::Alter;
 use std::alloc::{AllocError, Global};
@@ -86,7 +79,8 @@ impl<S: Alter> Office<S> {
         // While it is open, the database is unchanged. On `Ok` memory and the file agree.
         ensures leaves { LeavesUnchanged S.Store self.old self.new result }
     {
-        let rows = self.candidate_shares(alloc, student)?;
+        let number = student.get();
+        let rows = self.ask(alloc, &StudentSharesOf { student: number })?;
         personal_in(&rows)
     }
 
@@ -115,73 +109,15 @@ impl<S: Alter> Office<S> {
             found.places.items found.seats.items) }
         ensures leaves { LeavesUnchanged S.Store self.old self.new result }
     {
-        let enrols = self.candidate_enrols(alloc, student)?;
-        let places = self.candidate_places(alloc, student)?;
-        let seats = self.candidate_seats(alloc, student)?;
+        let number = student.get();
+        let enrols = self.ask(alloc, &EnrolsOf { student: number })?;
+        let places = self.ask(alloc, &PlacementsOf { student: number })?;
+        let seats = self.ask(alloc, &SeatsOf { student: number })?;
         Ok(CandidateRows {
             enrols,
             places,
             seats,
         })
-    }
-
-    fn candidate_enrols(
-        &mut self,
-        alloc: Global,
-        student: StudentNo,
-    ) -> Result<Vec<EnrolRow>, Failed>
-        ensures rows { HasCleanDisk (state S.Store self.new) → (office : OfficeState)
-            → RepresentsOffice (state S.Store self.new).now office
-            → IfOk result (λ rows. map (λ row. row.exam) rows.items ≡ exams_in student office) }
-        ensures leaves { LeavesUnchanged S.Store self.old self.new result }
-    {
-        let _at_rest = self.conn.is_autocommit(); // its contract says that all is committed
-        let rows = enrols_of(alloc, &mut self.conn, student.get())?;
-        Ok(rows)
-    }
-
-    fn candidate_places(
-        &mut self,
-        alloc: Global,
-        student: StudentNo,
-    ) -> Result<Vec<PlacedRow>, Failed>
-        ensures rows { HasCleanDisk (state S.Store self.new) → (office : OfficeState)
-            → RepresentsOffice (state S.Store self.new).now office
-            → IfOk result (λ rows. map place_in_row rows.items
-            ≡ places_in (published_in office) (exams_in student office)) }
-        ensures leaves { LeavesUnchanged S.Store self.old self.new result }
-    {
-        let _at_rest = self.conn.is_autocommit(); // its contract says that all is committed
-        let rows = placements_of(alloc, &mut self.conn, student.get())?;
-        Ok(rows)
-    }
-
-    fn candidate_seats(&mut self, alloc: Global, student: StudentNo) -> Result<Vec<SeatRow>, Failed>
-        ensures rows { HasCleanDisk (state S.Store self.new) → (office : OfficeState)
-            → RepresentsOffice (state S.Store self.new).now office
-            → IfOk result (λ rows. rows.items
-            ≡ map stored_seat (rows_of student (publication_rows (published_in office)))) }
-        ensures leaves { LeavesUnchanged S.Store self.old self.new result }
-    {
-        let _at_rest = self.conn.is_autocommit(); // its contract says that all is committed
-        let rows = seats_of(alloc, &mut self.conn, student.get())?;
-        Ok(rows)
-    }
-
-    fn candidate_shares(
-        &mut self,
-        alloc: Global,
-        student: StudentNo,
-    ) -> Result<Vec<StudentShareRow>, Failed>
-        ensures rows { HasCleanDisk (state S.Store self.new) → (office : OfficeState)
-            → RepresentsOffice (state S.Store self.new).now office
-            → IfOk result (λ rows. IsPermutation
-            (filter (λ row. row.student == student) (student_rows_in office)) rows.items) }
-        ensures leaves { LeavesUnchanged S.Store self.old self.new result }
-    {
-        let _at_rest = self.conn.is_autocommit(); // its contract says that all is committed
-        let rows = student_shares_of(alloc, &mut self.conn, student.get())?;
-        Ok(rows)
     }
 }
 

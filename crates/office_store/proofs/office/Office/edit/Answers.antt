@@ -1,4 +1,4 @@
-use Rattle.std.proofs.Common.{rules, ◌≡◌, ◌∙◌, Err, ap, not, refl, subst, sym}
+use Rattle.std.proofs.Common.{rules, ◌≡◌, ◌∙◌, Err, refl, subst, sym}
 use Rattle.sqlite.specs.Held.{state}
 use Rattle.sqlite.specs.State.{HasCleanDisk}
 use Rattle.exam_score.specs.Penalty.{total_of}
@@ -22,8 +22,8 @@ invariant_of-self g c = (
   c.edited_draft.ensures.read.mode c.self.invariant.0,
   rest_read (state g.S.Store c.self.inside.conn) (state g.S.Store c.edited_draft.new.conn)
       c.self.inside.memory c.self.invariant.1 c.edited_draft.ensures.read.clean
-      (c.is_autocommit-at_rest.ensures.settled
-      (c.is_autocommit-at_rest.ensures.value ∙ ap not c.self.invariant.0))
+      (λ k _. (awake_inside g.S.Store c.look.new.self c.self.inside.conn c.self.view_is
+      c.in_ok-look.ensures.leaves.all_committed k).1)
       c.edited_draft.ensures.read.was_open c.edited_draft.ensures.read.kept,
   c.self.invariant.2,
 )
@@ -45,8 +45,8 @@ returns-in_err-new-clause-runs g c =
     c.self.view_is c.self.invariant.1 c.in_ok-look.ensures.leaves.all_committed read.clean
     (still_read (state g.S.Store inside) (state g.S.Store after) c.self.inside.memory
     c.self.invariant.1 read.clean
-    (c.is_autocommit-at_rest.ensures.settled
-    (c.is_autocommit-at_rest.ensures.value ∙ ap not c.self.invariant.0))
+    (λ k _. (awake_inside g.S.Store start inside c.self.view_is
+    c.in_ok-look.ensures.leaves.all_committed k).1)
     read.was_open read.kept)
     fault
     (λ k o here is. c.in_err-new.ensures.edits k
@@ -60,8 +60,8 @@ invariant_of-self-in_err-put g c = (
   c.put.ensures.rests,
   rest_failed g.S.Store c.self.inside.conn c.edited_draft.new.conn c.put.new.conn
       c.self.inside.memory c.self.invariant.1
-      (c.is_autocommit-at_rest.ensures.settled
-      (c.is_autocommit-at_rest.ensures.value ∙ ap not c.self.invariant.0))
+      (λ k _. (awake_inside g.S.Store c.look.new.self c.self.inside.conn c.self.view_is
+      c.in_ok-look.ensures.leaves.all_committed k).1)
       c.edited_draft.ensures.read c.in_ok-new.ensures.same c.put.ensures.clean
       c.in_err-put.ensures.undone,
   c.self.invariant.2,
@@ -122,8 +122,8 @@ returns-in_err-new-clause-leaves g c = record {
       (stays_on g.S.Store start inside after c.self.view_is
       (still_read (state g.S.Store inside) (state g.S.Store after) c.self.inside.memory
       c.self.invariant.1 read.clean
-      (c.is_autocommit-at_rest.ensures.settled
-      (c.is_autocommit-at_rest.ensures.value ∙ ap not c.self.invariant.0))
+      (λ k _. (awake_inside g.S.Store c.look.new.self c.self.inside.conn c.self.view_is
+      c.in_ok-look.ensures.leaves.all_committed k).1)
       read.was_open read.kept)
       c.from_residual-in_err-new.result);
   all_committed = search rules;
