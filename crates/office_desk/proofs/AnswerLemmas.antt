@@ -8,15 +8,10 @@ use Rattle.office_policy.specs.CommandBodies.{plain_text}
 use Rattle.office_policy.specs.declared.command.Body.{Body}
 use Rattle.std.proofs.Common.{◌≡◌, ◌∙◌, ℕ, List, Option, Some, Result, Ok, Err, ap, inl, inr, subst, sym, refl}
 use Rattle.exam_model.specs.Instance.{Session}
-use Rattle.office_policy.specs.declared.callers.Caller.{Caller}
-use Rattle.office_policy.specs.declared.callers.Caller.TheVariants.{Cand, Dept}
-use Rattle.office_policy.specs.declared.callers.Caller.TheVariants as caller
 use Rattle.office_model.specs.Answers.{PlainAnswer, refused, text, unavailable}
-use Rattle.office_model.specs.Candidates.{CandidateQuestion, candidate_answer}
 use Rattle.office_model.specs.Commands.{CommandResult}
 use Rattle.office_model.specs.Office.{OfficeState, Publication}
-use Rattle.office_model.specs.Step.{Outcome, of_published, outcome, candidate_outcome, with_body}
-use Rattle.office_model.specs.Views.{view_of}
+use Rattle.office_model.specs.Step.{Outcome, of_published, outcome, with_body}
 use Rattle.office_model.specs.declared.fault.StoreFault.{StoreFault}
 use Rattle.office_model.specs.declared.fault.StoreFault.TheVariants.{BadSchema, Store}
 use Rattle.exam_terms.specs.Refusing.{◌>>=◌}
@@ -24,8 +19,7 @@ use Rattle.office_store.specs.Leaving.{LeavesUnchanged}
 use Rattle.office_store.specs.Running.{CommandOutcome, CommandRan, IsCommitted, Represents}
 use Rattle.office_store.proofs.CommandLemmas.{stays_by}
 use Rattle.office_desk.specs.Answers.{refusal}
-use Rattle.office_desk.specs.Performing.{AnswersCandidate, AnswersOutcome, CandidateAnswered}
-use Rattle.office_desk.specs.Performing.{IsBodyOrAnswer, OutcomeAnswered, answer_of}
+use Rattle.office_desk.specs.Performing.{AnswersOutcome, IsBodyOrAnswer, OutcomeAnswered, answer_of}
 use Rattle.office_desk.specs.Answers.{IsRefusal, plain_answer}
 use Rattle.office_desk.specs.declared.answer.Answer.{Answer}
 
@@ -111,7 +105,7 @@ fault_performed g to_answer command old new fault result ran clean is = record {
 }
 
 -- an outcome that is the same in each office
-pub same_answered : {S : Type 0} (g : Ghosts S) (f h : OfficeState → Outcome) (old new : Held S)
+same_answered : {S : Type 0} (g : Ghosts S) (f h : OfficeState → Outcome) (old new : Held S)
     (result : Result Answer Answer) → OutcomeAnswered g f old new result
     → ((office : OfficeState) → f office ≡ h office) → OutcomeAnswered g h old new result
 same_answered g f h old new result answered same = record {
@@ -187,54 +181,6 @@ pub text_faulty : (body : Body (Bor (List ℕ))) (answer : Answer) → IsBodyOrA
     → IsBodyOrAnswer (plain_text body) (Err answer)
 text_faulty body answer (inl bad) = inl (ap plain_text bad.0, bad.1)
 text_faulty body answer (inr long) = inr (ap plain_text long.0, long.1)
-
--- ---- candidates
-
--- what is shown to a candidate becomes the answer
-candidate_answered : {X : Type 0} (who : Caller) (asked : CandidateQuestion)
-    (shown : ℕ → OfficeState → X) (to_answer : X → PlainAnswer) (old : OfficeState)
-    (Stays : OfficeState → Type 0) (x : X) (final_answer : PlainAnswer)
-    → ((s : ℕ) → to_answer (shown s old) ≡ candidate_answer s asked (view_of s old))
-    → AnswersCandidate who shown old Stays (Ok x) → final_answer ≡ to_answer x
-    → AnswersOutcome (candidate_outcome who asked old) old Stays final_answer
-candidate_answered caller.Office asked shown to_answer old Stays x final_answer same shows is =
-    absurd shows
-candidate_answered (Dept d) asked shown to_answer old Stays x final_answer same shows is =
-    absurd shows
-candidate_answered (Cand s) asked shown to_answer old Stays x final_answer same shows is =
-    inl (is ∙ ap to_answer shows.0 ∙ same s, shows.1)
-
-candidate_refused : {X : Type 0} (who : Caller) (outcome : Outcome) (shown : ℕ → OfficeState → X)
-    (old : OfficeState) (Stays : OfficeState → Type 0) (answer : Answer)
-    → AnswersCandidate who shown old Stays (Err answer)
-    → AnswersOutcome outcome old Stays (plain_answer answer)
-candidate_refused caller.Office outcome shown old Stays answer shows = inr shows
-candidate_refused (Dept d) outcome shown old Stays answer shows = inr shows
-candidate_refused (Cand s) outcome shown old Stays answer shows = inr shows
-
-module _ {S X : Type 0} (g : Ghosts S) (who : Caller) (asked : CandidateQuestion)
-    (shown : ℕ → OfficeState → X) (old new : Held S) where
-  pub candidate_performed : (to_answer : X → PlainAnswer) (x : X) (answer : Answer)
-      → ((s : ℕ) (office : OfficeState)
-      → to_answer (shown s office) ≡ candidate_answer s asked (view_of s office))
-      → CandidateAnswered g who shown old new (Ok x) → plain_answer answer ≡ to_answer x
-      → OutcomeAnswered g (candidate_outcome who asked) old new (Ok answer)
-  candidate_performed to_answer x answer same answered is = record {
-    answers = λ k office now. candidate_answered who asked shown to_answer office
-        (Represents (state g new)) x (plain_answer answer) (λ s. same s office)
-        (answered.shows k office now) is;
-    all_committed = λ k. inr (answered.all_committed k);
-    clean = answered.clean;
-  }
-
-  pub candidate_failed : (answer : Answer) → CandidateAnswered g who shown old new (Err answer)
-      → OutcomeAnswered g (candidate_outcome who asked) old new (Err answer)
-  candidate_failed answer answered = record {
-    answers = λ k office now. candidate_refused who (candidate_outcome who asked office) shown
-        office (Represents (state g new)) answer (answered.shows k office now);
-    all_committed = λ k. inl answered.refuses;
-    clean = answered.clean;
-  }
 
 -- ---- what is published
 

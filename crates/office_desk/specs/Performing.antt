@@ -1,11 +1,10 @@
 -- The effect of a command on the office that the desk's file represents, and its answer.
-use Rattle.std.specs.Prelude.{◌≡◌, ◌⊎◌, ℕ, IfErr, OnOk, Result, Ok, Err}
+use Rattle.std.specs.Prelude.{◌≡◌, ◌⊎◌, Result, Ok, Err}
 use Rattle.sqlite.specs.Held.{Held, state}
 use Rattle.sqlite.specs.State.{HasCleanDisk}
 use Rattle.sqlite.specs.Store.{Ghosts}
 use Rattle.office_policy.specs.Commands.{PlainCommand}
 use Rattle.office_policy.specs.declared.callers.Caller.{Caller}
-use Rattle.office_policy.specs.declared.callers.Caller.TheVariants.{Cand}
 use Rattle.office_policy.specs.declared.command.Body.{Body}
 use Rattle.office_policy.specs.declared.command.Body.TheVariants.{Given, Bad, Long}
 use Rattle.office_model.specs.Answers.{PlainAnswer, bad_body, long_body, unavailable}
@@ -42,26 +41,6 @@ abbrev pub CommandPerformed : {S : Type 0} → Ghosts S → Caller → PlainComm
     → Result Answer Answer → Type 0
 CommandPerformed store caller command old new result =
     OutcomeAnswered store (λ office. permitted office caller command) old new result
-
--- `Ok`, only for a candidate, is the part of the office that is shown to the candidate; an `Err` is
--- answered with `unavailable`; the office is unchanged
-abbrev pub AnswersCandidate : {X : Type 0} → Caller → (ℕ → OfficeState → X) → OfficeState
-    → (OfficeState → Type 0) → Result X Answer → Type 0
-AnswersCandidate (Cand s) shown old Stays (Ok x) = (x ≡ shown s old) × Stays old
-AnswersCandidate caller shown old Stays (Ok x) = ⊥
-AnswersCandidate caller shown old Stays (Err answer) =
-    (plain_answer answer ≡ unavailable) × Stays old
-
--- the same, assuming the disk returns what was written; and after an `Ok` the database is open, and
--- all writes are committed
-pub record CandidateAnswered {S X : Type 0} (store : Ghosts S) (caller : Caller)
-    (shown : ℕ → OfficeState → X) (old new : Held S) (result : Result X Answer) : Type 0 where
-  pub shows : HasCleanDisk (state store new) → (office : OfficeState)
-      → Represents (state store old) office
-      → AnswersCandidate caller shown office (Represents (state store new)) result
-  pub all_committed : HasCleanDisk (state store new) → OnOk result (IsCommitted (state store new))
-  pub refuses : IfErr result (λ answer. IsRefusal (plain_answer answer))
-  pub clean : HasCleanDisk (state store new) → HasCleanDisk (state store old)
 
 -- `Ok` is the value of the body; `Err` is the answer to a faulty or too long body
 abbrev pub IsBodyOrAnswer : {A : Type 0} → Body A → Result A Answer → Type 0

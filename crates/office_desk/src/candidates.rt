@@ -1,15 +1,13 @@
 // Commands of candidates. Each answer depends only on the candidate's view. On `Err` the answer
 // shows nothing of it.
-ghost use Rattle.std.specs.Prelude.{◌==◌, find};
+ghost use Rattle.std.specs.Prelude.{◌≡◌, IfOk, IfErr};
 ghost use Rattle.office_policy.specs.Commands.{me, my_exam, my_penalty};
-ghost use Rattle.office_model.specs.Shown.{shown_exams, shown_penalty, shown_to};
-ghost use Rattle.office_model.specs.Views.{view_of};
-ghost use Rattle.office_desk.specs.Performing.{CandidateAnswered, CommandPerformed};
+ghost use Rattle.office_model.specs.Answers.{unavailable};
+ghost use Rattle.office_desk.specs.Answers.{plain_answer};
+ghost use Rattle.office_desk.specs.Performing.{CommandPerformed};
 
 use crate::answer::Answer;
-use exam_score::PersonalParts;
-use exam_terms::ExamNo;
-use office_model::{CandidateView, ViewRow};
+use exam_terms::{ExamNo, StudentNo};
 use office_policy::Caller;
 use office_store::Office;
 use sqlite::Alter;
@@ -19,11 +17,11 @@ use std::alloc::Global;
 pub(crate) fn me<S: Alter>(
     office: &mut Office<S>,
     alloc: Global,
-    caller: Caller,
+    student: StudentNo,
 ) -> Result<Answer, Answer>
-    ensures { CommandPerformed S.Store caller me office.old office.new result }
+    ensures { CommandPerformed S.Store (Caller.Cand student) me office.old office.new result }
 {
-    let view = view_of_caller(office, alloc, caller)?;
+    let view = office.candidate_view(alloc, student)?;
     Ok(Answer::Me(view))
 }
 
@@ -31,13 +29,13 @@ pub(crate) fn me<S: Alter>(
 pub(crate) fn my_exam<S: Alter>(
     office: &mut Office<S>,
     alloc: Global,
-    caller: Caller,
+    student: StudentNo,
     exam: ExamNo,
 ) -> Result<Answer, Answer>
-    ensures { CommandPerformed S.Store caller (my_exam exam) office.old office.new result }
+    ensures { CommandPerformed S.Store (Caller.Cand student) (my_exam exam)
+        office.old office.new result }
 {
-    let found = exam_of_caller(office, alloc, caller, exam)?;
-    match found {
+    match office.candidate_exam(alloc, student, exam)? {
         Some(row) => Ok(Answer::MyExam(row)),
         None => Ok(Answer::NotMine),
     }
@@ -47,60 +45,22 @@ pub(crate) fn my_exam<S: Alter>(
 pub(crate) fn my_penalty<S: Alter>(
     office: &mut Office<S>,
     alloc: Global,
-    caller: Caller,
+    student: StudentNo,
 ) -> Result<Answer, Answer>
-    ensures { CommandPerformed S.Store caller my_penalty office.old office.new result }
+    ensures { CommandPerformed S.Store (Caller.Cand student) my_penalty
+        office.old office.new result }
 {
-    let penalty = penalty_of_caller(office, alloc, caller)?;
+    let penalty = office.candidate_penalty(alloc, student)?;
     Ok(Answer::MyPenalty(penalty))
 }
 
-// Returns the view of the candidate who is the caller. No other caller is permitted.
-fn view_of_caller<S: Alter>(
-    office: &mut Office<S>,
-    alloc: Global,
-    caller: Caller,
-) -> Result<CandidateView, Answer>
-    ensures { CandidateAnswered S.Store caller (λ s o. shown_to s (view_of s o))
-        office.old office.new result }
+// Returns the candidate who is the caller. No other caller may ask for a candidate's pages.
+pub(crate) fn candidate(caller: Caller) -> Result<StudentNo, Answer>
+    ensures ok { IfOk result (λ student. caller ≡ Caller.Cand student) }
+    ensures err { IfErr result (λ answer. plain_answer answer ≡ unavailable) }
 {
-    let Caller::Cand(student) = caller else {
-        return Err(Answer::Unavailable);
-    };
-    let view = office.candidate_view(alloc, student)?;
-    Ok(view)
-}
-
-// Returns an exam in the view of the candidate who is the caller. No other caller is permitted.
-fn exam_of_caller<S: Alter>(
-    office: &mut Office<S>,
-    alloc: Global,
-    caller: Caller,
-    exam: ExamNo,
-) -> Result<Option<ViewRow>, Answer>
-    ensures { CandidateAnswered S.Store caller
-        (λ s o. find (λ row. row.exam == exam) (shown_exams (view_of s o)))
-        office.old office.new result }
-{
-    let Caller::Cand(student) = caller else {
-        return Err(Answer::Unavailable);
-    };
-    let found = office.candidate_exam(alloc, student, exam)?;
-    Ok(found)
-}
-
-// Returns the penalty of the candidate who is the caller. No other caller is permitted.
-fn penalty_of_caller<S: Alter>(
-    office: &mut Office<S>,
-    alloc: Global,
-    caller: Caller,
-) -> Result<PersonalParts, Answer>
-    ensures { CandidateAnswered S.Store caller (λ s o. shown_penalty (view_of s o))
-        office.old office.new result }
-{
-    let Caller::Cand(student) = caller else {
-        return Err(Answer::Unavailable);
-    };
-    let penalty = office.candidate_penalty(alloc, student)?;
-    Ok(penalty)
+    match caller {
+        Caller::Cand(student) => Ok(student),
+        _ => Err(Answer::Unavailable),
+    }
 }

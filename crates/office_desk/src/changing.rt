@@ -4,14 +4,12 @@ ghost use Rattle.office_policy.specs.CommandBodies.{IfBodyHasValue, plain_text};
 ghost use Rattle.office_policy.specs.Commands.{batch, drop_draft, load, new_draft, publish, set_owner};
 ghost use Rattle.office_policy.specs.declared.callers.Caller.{Caller};
 ghost use Rattle.exam_terms.specs.declared.limits.TheConstants.{MAX_BATCH, MAX_DEPARTMENT};
-ghost use Rattle.exam_draft.specs.declared.edit.Edit.{Edit as DraftEdit};
-ghost use Rattle.office_model.specs.Office.{OfficeState};
-ghost use Rattle.office_model.specs.Step.{Outcome, edit_outcome, with_body};
+ghost use Rattle.office_model.specs.Step.{edit_outcome};
 ghost use Rattle.office_desk.specs.Performing.{CommandPerformed, IsBodyOrAnswer, OutcomeAnswered};
 
 use crate::answer::Answer;
 use exam_draft::Edit;
-use exam_terms::{ExamNo, Place};
+use exam_terms::ExamNo;
 use office_policy::Body;
 use office_store::Office;
 use sqlite::Alter;
@@ -70,38 +68,12 @@ pub(crate) fn edit<S: Alter>(
     office: &mut Office<S>,
     alloc: Global,
     number: u32,
-    change: Body<Edit>,
+    change: Edit,
 ) -> Result<Answer, Answer>
-    ensures { OutcomeAnswered S.Store (λ o. with_body o (λ edit. edit_outcome number edit o) change)
-        office.old office.new result }
+    ensures { OutcomeAnswered S.Store (edit_outcome number change) office.old office.new result }
 {
-    let change = body_or_answer(change)?;
     let penalty = office.edit(alloc, number, change)?;
     Ok(Answer::Edited(number, penalty))
-}
-
-// Returns the edit that places an exam, if the body has a place.
-pub(crate) fn place_edit(exam: ExamNo, body: Body<Place>) -> Body<Edit>
-    ensures { (old : OfficeState) (go : DraftEdit → Outcome)
-        → with_body old go result ≡ with_body old (λ place. go (Edit.Place exam place)) body }
-{
-    match body {
-        Body::Given(place) => Body::Given(Edit::Place(exam, place)),
-        Body::Bad => Body::Bad,
-        Body::Long => Body::Long,
-    }
-}
-
-// Returns the edit that moves an exam, if the body has a place.
-pub(crate) fn move_edit(exam: ExamNo, body: Body<Place>) -> Body<Edit>
-    ensures { (old : OfficeState) (go : DraftEdit → Outcome)
-        → with_body old go result ≡ with_body old (λ place. go (Edit.Move exam place)) body }
-{
-    match body {
-        Body::Given(place) => Body::Given(Edit::Move(exam, place)),
-        Body::Bad => Body::Bad,
-        Body::Long => Body::Long,
-    }
 }
 
 pub(crate) fn publish<S: Alter>(
@@ -132,7 +104,7 @@ pub(crate) fn enrol_batch<S: Alter>(
 }
 
 // Returns the value of a body, or the answer to a faulty one.
-fn body_or_answer<T: Drop>(body: Body<T>) -> Result<T, Answer>
+pub(crate) fn body_or_answer<T: Drop>(body: Body<T>) -> Result<T, Answer>
     ensures { IsBodyOrAnswer body result }
 {
     match body {

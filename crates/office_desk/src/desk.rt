@@ -11,14 +11,14 @@ ghost use Rattle.office_desk.specs.Answers.{IsRefusal, plain_answer};
 ghost use Rattle.office_desk.specs.Performing.{CommandPerformed, answer_of};
 
 use crate::answer::Answer;
-use crate::candidates::{me, my_exam, my_penalty};
+use crate::candidates::{candidate, me, my_exam, my_penalty};
 use crate::changing::{
-    drop_draft, edit, enrol_batch, load, move_edit, new_draft, place_edit, publish, set_owner,
+    body_or_answer, drop_draft, edit, enrol_batch, load, new_draft, publish, set_owner,
 };
 use crate::judging::judged;
 use crate::publications::{publication, publication_penalty, publication_rooms, publication_seats};
 use crate::showing::{draft, instance, penalty, violations};
-use office_policy::{Body, Caller, Command};
+use office_policy::{Caller, Command};
 use office_store::{Edit, Office, StoreFault};
 use sqlite::Alter;
 use std::alloc::Global;
@@ -116,9 +116,9 @@ fn perform<S: Alter>(
         office.old office.new result }
 {
     match *command {
-        Command::Me => me(office, alloc, caller),
-        Command::MyExam(exam) => my_exam(office, alloc, caller, exam),
-        Command::MyPenalty => my_penalty(office, alloc, caller),
+        Command::Me => me(office, alloc, candidate(caller)?),
+        Command::MyExam(exam) => my_exam(office, alloc, candidate(caller)?, exam),
+        Command::MyPenalty => my_penalty(office, alloc, candidate(caller)?),
         Command::Load(body) => load(office, alloc, body),
         Command::Instance => instance(office, alloc),
         Command::SetOwner(exam, body) => set_owner(office, exam, body),
@@ -127,10 +127,16 @@ fn perform<S: Alter>(
         Command::DraftPenalty(number) => penalty(office, alloc, number),
         Command::DraftViolations(number) => violations(office, alloc, number),
         Command::DropDraft(number) => drop_draft(office, number),
-        Command::Place(number, exam, body) => edit(office, alloc, number, place_edit(exam, body)),
-        Command::Move(number, exam, body) => edit(office, alloc, number, move_edit(exam, body)),
-        Command::Clear(number, exam) => edit(office, alloc, number, Body::Given(Edit::Clear(exam))),
-        Command::Swap(number, a, b) => edit(office, alloc, number, Body::Given(Edit::Swap(a, b))),
+        Command::Place(number, exam, body) => {
+            let place = body_or_answer(body)?;
+            edit(office, alloc, number, Edit::Place(exam, place))
+        }
+        Command::Move(number, exam, body) => {
+            let place = body_or_answer(body)?;
+            edit(office, alloc, number, Edit::Move(exam, place))
+        }
+        Command::Clear(number, exam) => edit(office, alloc, number, Edit::Clear(exam)),
+        Command::Swap(number, a, b) => edit(office, alloc, number, Edit::Swap(a, b)),
         Command::Publish(number) => publish(office, alloc, number),
         Command::Publication => publication(office, alloc),
         Command::PublicationPenalty => publication_penalty(office, alloc),

@@ -6,7 +6,7 @@ ghost use Rattle.office_model.specs.Step.{allowed_in};
 ghost use Rattle.office_store.specs.Running.{QueryReturned};
 
 use exam_terms::DeptNo;
-use office_policy::{Caller, Command, Denial, allowed};
+use office_policy::{Caller, Command, Denial, Kind, allowed};
 use office_store::{Office, StoreFault};
 use sqlite::Alter;
 use std::alloc::Global;
@@ -45,19 +45,16 @@ fn judged_by_owners<S: Alter>(
         → HasCleanDisk (state S.Store office.old) }
 {
     let caller = Caller::Dept(dept);
-    match *command {
-        Command::Place(_, exam, _) | Command::Move(_, exam, _) | Command::Clear(_, exam) => {
-            let owner = office.owner(alloc, exam)?;
-            Ok(allowed(caller, command, owner, 0))
-        }
-        Command::Swap(_, a, b) => {
-            let first = office.owner(alloc, a)?;
-            if first != dept.get() {
-                return Ok(allowed(caller, command, first, 0));
-            }
-            let second = office.owner(alloc, b)?;
-            Ok(allowed(caller, command, first, second))
-        }
-        _ => Ok(allowed(caller, command, 0, 0)),
+    let Kind::Editing(a, b) = command.kind() else {
+        return Ok(allowed(caller, command, 0, 0));
+    };
+    let first = office.owner(alloc, a)?;
+    let Some(b) = b else {
+        return Ok(allowed(caller, command, first, 0));
+    };
+    if first != dept.get() {
+        return Ok(allowed(caller, command, first, 0));
     }
+    let second = office.owner(alloc, b)?;
+    Ok(allowed(caller, command, first, second))
 }
