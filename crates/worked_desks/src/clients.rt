@@ -1,7 +1,7 @@
 // Clients of an office, one after another: the replies to each, and the state after a fault.
 use crate::connections::{carry_out, new_desk};
 use crate::sides::{Calls, HandClock, Side};
-use office_connections::{MayShut, Plan, serve_clients};
+use office_connections::{MayShut, Plan, accept_all};
 use office_http::{AnsweringDesk, Reply, Request, Routes};
 use office_messages::Machine;
 use sqlite::MemStore;
@@ -276,7 +276,7 @@ fn serve_three(alloc: Global, case: &Case<'_>) -> Result<Outcome, Fail> {
         connections: 3,
         patience: Duration::from_secs(case.patience),
     };
-    let _ = serve_clients(
+    let _ = accept_all(
         alloc,
         &clock,
         &mut clients.into_iter(),

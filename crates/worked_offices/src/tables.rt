@@ -6,11 +6,11 @@ use crate::given::assert_same;
 use office_tables::{
     Alteration, Both, DeleteDraft, DeleteMeta, DeleteOwner, DeletePartShares, DeletePlacement,
     DeleteSlot, DeleteSlots, DeleteStudentSeats, DeleteStudentShare, DraftRow, Each, EnrolRow,
-    InsertDraft, InsertEnrol, InsertEnrols, InsertMeta, InsertOwner, InsertPartShare,
-    InsertPlacement, InsertPlacements, InsertSeat, InsertSeats, InsertSlot, InsertSlots,
-    InsertStudentShare, OwnerRow, PartShareRow, PlacedRow, SeatRow, SlotRow, StudentShareRow,
-    adopt_tables, create_tables, enrols_of, find_enrols_of, is_bare, look, owners_of, part_shares,
-    placements_of, seats_of, student_shares, student_shares_of, transact,
+    EnrolsOf, FindEnrolsOf, InsertDraft, InsertEnrol, InsertEnrols, InsertMeta, InsertOwner,
+    InsertPartShare, InsertPlacement, InsertPlacements, InsertSeat, InsertSeats, InsertSlot,
+    InsertSlots, InsertStudentShare, OwnerRow, OwnersOf, PartShareRow, PartShares, PlacedRow,
+    PlacementsOf, Query, SeatRow, SeatsOf, SlotRow, StudentShareRow, StudentShares,
+    StudentSharesOf, adopt_tables, create_tables, is_bare, look, transact,
 };
 use sqlite::{Connection, Error, MemStore, Transaction};
 use std::alloc::Global;
@@ -29,6 +29,10 @@ const DRAFT: DraftRow = DraftRow {
 };
 
 const OWNER: OwnerRow = OwnerRow { exam: 0, dept: 3 };
+
+const ALL_SHARES: StudentShares = StudentShares {
+    without_nights: false,
+};
 
 fn slot(draft: u32, exam: u32, period: u32, room: u32) -> SlotRow {
     SlotRow {
@@ -136,7 +140,7 @@ fn rows_come_back_in_order(rt: HostRuntime) -> Result<(), Fail> {
     let instance = found.meta.instance.as_slice();
     assert_same(&rt, instance, b"[Exams:3]".as_slice(), "instance");
     assert_same(&rt, found.enrols.len(), 3, "enrolments");
-    let owners = owners_of(alloc, &mut conn, 0)?;
+    let owners = OwnersOf { exam: 0 }.ask(alloc, &mut conn)?;
     assert_same(&rt, owners.as_slice(), [OWNER].as_slice(), "owners");
     assert_same(&rt, found.drafts.as_slice(), [DRAFT].as_slice(), "drafts");
     let wanted = [slot(1, 0, 0, 0), slot(1, 2, 3, 1), slot(2, 0, 1, 1)];
@@ -150,10 +154,10 @@ fn rows_come_back_in_order(rt: HostRuntime) -> Result<(), Fail> {
     );
     let wanted = [seated(2, 0, 2), seated(2, 2, 1), seated(1, 0, 1)];
     assert_same(&rt, found.seats.as_slice(), wanted.as_slice(), "seats");
-    let students = student_shares(alloc, &mut conn)?;
+    let students = ALL_SHARES.ask(alloc, &mut conn)?;
     let wanted = [cost(1, 0), cost(2, 7)];
     assert_same(&rt, students.as_slice(), wanted.as_slice(), "students");
-    let parts = part_shares(alloc, &mut conn)?;
+    let parts = PartShares.ask(alloc, &mut conn)?;
     let wanted = [part(0, 4), part(2, 0)];
     assert_same(&rt, parts.as_slice(), wanted.as_slice(), "parts");
     Ok(())
@@ -215,10 +219,10 @@ fn many_rows_go_in(rt: HostRuntime) -> Result<(), Fail> {
         found.seats.len(),
     ];
     assert_same(&rt, counts, [36, 20, 20, 20], "counts");
-    let enrolled = enrols_of(alloc, &mut conn, 9)?;
+    let enrolled = EnrolsOf { student: 9 }.ask(alloc, &mut conn)?;
     let wanted: Vec<EnrolRow> = (0..33).map(pair).collect(alloc)?;
     assert_same(&rt, enrolled.as_slice(), wanted.as_slice(), "enrolments");
-    let own_seats = seats_of(alloc, &mut conn, 9)?;
+    let own_seats = SeatsOf { student: 9 }.ask(alloc, &mut conn)?;
     let wanted: Vec<SeatRow> = (3..20).map(|exam| seated(9, exam, 1)).collect(alloc)?;
     assert_same(&rt, own_seats.as_slice(), wanted.as_slice(), "seats");
     Ok(())
@@ -229,18 +233,18 @@ fn many_rows_go_in(rt: HostRuntime) -> Result<(), Fail> {
 fn a_student_has_rows(rt: HostRuntime) -> Result<(), Fail> {
     let (alloc, mut conn) = (rt.alloc(), filled(rt.alloc())?);
     let _count = conn.execute("INSERT INTO enrol VALUES (1, 4294967296)", &[])?;
-    let found = find_enrols_of(alloc, &mut conn, 1)?;
+    let found = FindEnrolsOf { student: 1 }.ask(alloc, &mut conn)?;
     assert_same(&rt, found.is_none(), true, "a row that has no reading");
-    let enrolled = enrols_of(alloc, &mut conn, 2)?;
+    let enrolled = EnrolsOf { student: 2 }.ask(alloc, &mut conn)?;
     let wanted = [(2, 0), (2, 2)].map(|(student, exam)| EnrolRow { student, exam });
     assert_same(&rt, enrolled.as_slice(), wanted.as_slice(), "enrolments");
-    let places = placements_of(alloc, &mut conn, 2)?;
+    let places = PlacementsOf { student: 2 }.ask(alloc, &mut conn)?;
     let wanted = [place(0, 0, 0), place(2, 2, 0)];
     assert_same(&rt, places.as_slice(), wanted.as_slice(), "places");
-    let own_seats = seats_of(alloc, &mut conn, 2)?;
+    let own_seats = SeatsOf { student: 2 }.ask(alloc, &mut conn)?;
     let wanted = [seated(2, 0, 2), seated(2, 2, 1)];
     assert_same(&rt, own_seats.as_slice(), wanted.as_slice(), "seats");
-    let shares = student_shares_of(alloc, &mut conn, 2)?;
+    let shares = StudentSharesOf { student: 2 }.ask(alloc, &mut conn)?;
     assert_same(&rt, shares.as_slice(), [cost(2, 7)].as_slice(), "shares");
     Ok(())
 }
@@ -289,9 +293,9 @@ fn rows_go(rt: HostRuntime) -> Result<(), Fail> {
         return Err("no tables")?;
     };
     let left = [
-        owners_of(alloc, &mut conn, 0)?.len(),
+        OwnersOf { exam: 0 }.ask(alloc, &mut conn)?.len(),
         found.drafts.len(),
-        part_shares(alloc, &mut conn)?.len(),
+        PartShares.ask(alloc, &mut conn)?.len(),
     ];
     assert_same(&rt, left, [0; 3], "rows");
     let slots = found.slots.as_slice();
@@ -305,7 +309,7 @@ fn rows_go(rt: HostRuntime) -> Result<(), Fail> {
     );
     let seats = found.seats.as_slice();
     assert_same(&rt, seats, [seated(1, 0, 1)].as_slice(), "seats");
-    let students = student_shares(alloc, &mut conn)?;
+    let students = ALL_SHARES.ask(alloc, &mut conn)?;
     assert_same(
         &rt,
         students.as_slice(),
