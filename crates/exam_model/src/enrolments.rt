@@ -85,6 +85,14 @@ impl Enrolments {
         self.pairs // counted by `add`
     }
 
+    /// States what holds of all enrolments, for a proof: the students of each exam ascend, and there
+    /// are at most 200,000 pairs. It does nothing.
+    pub fn lemma_order(&self)
+        ensures { AreEnrolments self.now }
+    {
+        let _ = &self.rolls; // its invariant
+    }
+
     /// Returns the students of an exam, ascending.
     pub fn students(&self, exam: ExamNo) -> &[StudentNo]
         requires exists { exam < length self.now }
@@ -109,7 +117,7 @@ impl Enrolments {
         ensures size { result ≡ size_of self.now exam }
         ensures within { result ≤ pair_count self.now }
     {
-        let _pairs = self.pairs; // read for its bound: no exam has more students
+        self.lemma_order();
         self.students(exam).len() as u32
     }
 
@@ -121,7 +129,7 @@ impl Enrolments {
         ensures shared { result ≡ shared self.now exam other }
         ensures within { result ≤ size_of self.now exam }
     {
-        let _pairs = self.pairs; // read for its bound
+        self.lemma_order();
         let second = &self.rolls[other.get() as usize];
         let both = self
             .students(exam)
@@ -167,7 +175,7 @@ impl Enrolments {
         ensures kept { AreEnrolments self.new }
         ensures refused { IfErr result (RefusesPair self.old student exam) }
     {
-        let _number = student.get(); // read for its limit
+        student.lemma_limit();
         self.conflicts = None;
         let full = self.pairs >= MAX_PAIRS;
         let Some(roll) = self.rolls.get_mut(exam.get() as usize) else {

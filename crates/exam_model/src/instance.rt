@@ -147,7 +147,7 @@ impl Instance {
         ensures slot { result ≡ slot_of (length self.now.rooms) place }
         ensures within { result < length self.now.periods * length self.now.rooms }
     {
-        let _periods = self.periods(); // read for its limit
+        self.lemma_limits();
         let period = place.period.get() as usize;
         let room = place.room.get() as usize;
         period * self.rooms() as usize + room
@@ -175,5 +175,13 @@ impl Instance {
         ensures kept { IsInstance self.now }
     {
         self.weights
+    }
+
+    /// States what holds of each instance, for a proof: its numbers are within their limits, and its
+    /// rules name exams that exist. It does nothing.
+    pub fn lemma_limits(&self)
+        ensures { IsInstance self.now }
+    {
+        let _ = &self.exams; // its invariant
     }
 }

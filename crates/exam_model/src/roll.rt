@@ -105,6 +105,6 @@ fn numbers_identify(students: &[StudentNo])
     ensures { AreNumbers students.now }
 {
     for student in students {
-        let _number = student.get();
+        student.lemma_limit();
     }
 }

@@ -39,7 +39,7 @@ pub(crate) fn room_shares(
     requires { Suits instance.now timetable.now }
     ensures { IfOk result (λ shares. shares.items ≡ room_shares instance.now timetable.now) }
 {
-    let _kept = instance.rooms(); // read for its limits
+    instance.lemma_limits();
     let penalties = room_penalties(alloc, instance, timetable)?;
     let kinds = durations(alloc, instance, timetable)?;
     let mut shares = Vec::with_capacity(alloc, penalties.len())?;

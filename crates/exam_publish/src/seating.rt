@@ -35,7 +35,8 @@ pub fn seats(
     ensures published { IfOk result
         (λ rows. ArePublishedRows instance.now rows.items timetable.now) }
 {
-    let _known = (instance.rooms(), enrolments.pairs()); // read for their limits
+    instance.lemma_limits();
+    enrolments.lemma_order();
     let entrants = entrants_of(alloc, enrolments, timetable, old)?;
     let held = held_seats(alloc, instance, &entrants)?;
     let rows = seat_all(alloc, instance, &entrants, &held)?;

@@ -35,7 +35,7 @@ pub fn shares(
         (enrolled_in (length instance.now.exams) rows.now) timetable.now)) }
     ensures small { IfOk result AreSmall }
 {
-    let _kept = instance.periods(); // read for its limits
+    instance.lemma_limits();
     numbers_identify(rows);
     let students = student_shares(alloc, instance, rows, timetable)?;
     let exams = exam_shares(alloc, instance, rows, timetable)?;
@@ -59,7 +59,7 @@ pub fn shares_among(
         ≡ shares_among instance.now rows.now timetable.now students.now) }
     ensures small { IfOk result AreSmall }
 {
-    let _kept = instance.periods(); // read for its limits
+    instance.lemma_limits();
     numbers_identify(rows);
     let own = rows_among(alloc, rows, students)?;
     let personal = student_shares(alloc, instance, &own, timetable)?;
@@ -74,6 +74,6 @@ pub fn numbers_identify(rows: &[SeatRow])
     ensures { AreNumbered rows.now }
 {
     'rows: for row in rows {
-        let _number = row.student.get();
+        row.student.lemma_limit();
     }
 }

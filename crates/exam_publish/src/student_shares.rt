@@ -21,7 +21,7 @@ pub(crate) fn student_shares(
     requires { ArePublishedRows instance.now rows.now timetable.now }
     ensures { IfOk result (λ shares. shares.items ≡ student_shares instance.now rows.now) }
 {
-    let _kept = timetable.exams(); // read for its limit of exams
+    timetable.lemma_limit();
     let sorted = by_student(alloc, rows)?;
     let mut shares = Vec::new(alloc);
     let mut rest = sorted.as_slice();

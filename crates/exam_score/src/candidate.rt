@@ -14,8 +14,7 @@ pub fn personal(instance: &Instance, periods: &[PeriodNo]) -> PersonalParts
     requires { length periods.now ≤ MAX_EXAMS }
     ensures { result ≡ personal_of instance.now.periods instance.now.weights periods.now }
 {
-    // Read for the limits of its weights.
-    let _kept = instance.periods();
+    instance.lemma_limits();
     let row = cost_of_pairs(&RowCost(instance), periods);
     let day = cost_of_pairs(&DayCost(instance), periods);
     let spread = cost_of_pairs(&SpreadCost(instance), periods);

@@ -33,7 +33,7 @@ pub fn difference(
     requires scored { old_parts ≡ track instance.now enrolments.now old.now }
     ensures { IfOk result (λ parts. parts ≡ track instance.now enrolments.now new.now) }
 {
-    let _kept = enrolments.pairs(); // read for the order of the pairs
+    enrolments.lemma_order();
     let sitters = sitters_of(alloc, enrolments, edited)?;
     let sizes = sizes_of(alloc, enrolments)?;
     let fold = folded(alloc, instance, old, new, edited, &sitters)?;

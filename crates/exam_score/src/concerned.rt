@@ -22,7 +22,7 @@ pub(crate) fn sitters_of(
     ensures in_order { IfOk result (λ sitters. AllPairs IsSooner sitters.items) }
     ensures few { IfOk result (λ sitters. length sitters.items ≤ MAX_PAIRS) }
 {
-    let _kept = enrolments.pairs(); // read for the order of the pairs
+    enrolments.lemma_order();
     let mut sitters = sitters_by_exam(alloc, enrolments, edited)?;
     sitters.sort_unstable();
     Ok(sitters)

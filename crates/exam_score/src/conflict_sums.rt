@@ -38,7 +38,7 @@ pub(crate) fn sums_of_conflicts(
     ensures { IfOk result (λ sums. (k : TableKind) → table_amount sums k
         ≡ conflicts_cost (table_cost instance.now k) timetable.now conflicts.now) }
 {
-    let _kept = instance.periods(); // read for its limit
+    instance.lemma_limits();
     let periods = timetable.periods(alloc)?;
     let reach = reach_of(instance, lines);
     let costs = Costs {

@@ -140,7 +140,7 @@ impl<'a> EditFold<'a> {
         ensures none { IfNone result (CannotExchange old_parts
             (going self.entry sizes.now) (coming self.entry sizes.now)) }
     {
-        let _known = self.instance.periods(); // read for the limits of its weights
+        self.instance.lemma_limits();
         let touched = Touched {
             edited: self.edited,
             earlier: self.earlier,

@@ -38,7 +38,7 @@ fn line_of(
     requires exists { period < length instance.now.periods }
     ensures { IfOk result (λ line. IsLine instance.now period line.items) }
 {
-    let _periods = instance.periods(); // read for its limit
+    instance.lemma_limits();
     let count = period.get() + 1;
     let mut line = Vec::with_capacity(alloc, count as usize)?;
     for other in 0..count {
@@ -64,7 +64,7 @@ fn first_cost(instance: &Instance, line: &[Amounts<u32>], period: PeriodNo) -> u
     requires line { IsLine instance.now period line.now }
     ensures { IsFirstCost instance.now period result }
 {
-    let _periods = instance.periods(); // read for its limit
+    instance.lemma_limits();
     let count = period.get() + 1;
     for other in 0..count {
         let costs = costs_in(instance, line, period, PeriodNo::new(other));

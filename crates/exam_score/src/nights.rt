@@ -18,7 +18,7 @@ pub(crate) fn nights_of_pairs(instance: &Instance, tallies: &[Tally]) -> u64
     ensures { result
         ≡ tally_cost (night_cost instance.now.periods instance.now.weights) tallies.now }
 {
-    let _kept = instance.periods(); // read for the limits of its weights
+    instance.lemma_limits();
     let weights = instance.weights();
     if weights.night == 0 {
         return 0;
@@ -42,7 +42,7 @@ fn nights_with_exam(instance: &Instance, tallies: &[Tally], at: usize, tally: &T
         (cost_with_tally (night_cost instance.now.periods instance.now.weights) tally.now)
         (take at tallies.now) }
 {
-    let _kept = instance.periods(); // read for the limits of its weights
+    instance.lemma_limits();
     let first = tally.period.get().saturating_sub(1); // no earlier period costs anything
     let mut total = 0;
     let mut next = tally.before;

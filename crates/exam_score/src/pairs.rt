@@ -43,9 +43,8 @@ fn parts_of_conflicts(
     requires listed { conflicts.now ≡ conflicts_of enrolments.now }
     ensures { IfOk result (ArePairParts instance.now enrolments.now timetable.now) }
 {
-    // Read for their invariants: pairs in order, and weights within their limits.
-    let _kept = enrolments.pairs();
-    let _known = instance.periods();
+    enrolments.lemma_order();
+    instance.lemma_limits();
     let lines = table_of(alloc, instance)?;
     let sums = sums_of_conflicts(alloc, instance, &lines, timetable, conflicts)?;
     let night = nights_of_conflicts(alloc, instance, timetable, conflicts)?;
@@ -62,9 +61,8 @@ fn parts_of_tallies(
     requires exams { length timetable.now ≡ length enrolments.now }
     ensures { IfOk result (ArePairParts instance.now enrolments.now timetable.now) }
 {
-    // Read for their invariants: pairs in order, and weights within their limits.
-    let _kept = enrolments.pairs();
-    let _known = instance.periods();
+    enrolments.lemma_order();
+    instance.lemma_limits();
     let sittings = sittings_of(alloc, timetable)?;
     let tallies = tallies_of(alloc, enrolments, &sittings)?;
     let lines = table_of(alloc, instance)?;

@@ -124,4 +124,11 @@ impl PersonalParts {
         let is_same_day = self.row + self.day;
         is_same_day + self.spread + self.night
     }
+
+    /// States the limit of each personal penalty, for a proof. It does nothing.
+    pub fn lemma_limit(&self)
+        ensures { personal_total self.now < 2 ^ 62 }
+    {
+        let _ = &self.row; // its invariant
+    }
 }

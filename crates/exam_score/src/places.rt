@@ -40,8 +40,7 @@ pub(crate) fn penalty_of_period(instance: &Instance, period: PeriodNo) -> u64
     ensures penalty { result ≡ period_penalty (slice_get instance.now.periods period) }
     ensures small { result ≤ MAX_AMOUNT }
 {
-    // Read for the limits of their penalties.
-    let _kept = instance.periods();
+    instance.lemma_limits();
     u64::from(instance.period(period).penalty)
 }
 
@@ -50,7 +49,6 @@ pub(crate) fn penalty_of_room(instance: &Instance, room: RoomNo) -> u64
     ensures penalty { result ≡ room_penalty (slice_get instance.now.rooms room) }
     ensures small { result ≤ MAX_AMOUNT }
 {
-    // Read for the limits of their penalties.
-    let _kept = instance.rooms();
+    instance.lemma_limits();
     u64::from(instance.room(room).penalty)
 }

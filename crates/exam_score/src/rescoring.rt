@@ -42,8 +42,8 @@ pub fn rescore(
     if students.len() > FEW_STUDENTS {
         return score(alloc, instance, after, timetable);
     }
-    let _old = before.pairs(); // read for the order of the students
-    let _new = after.pairs();
+    before.lemma_order();
+    after.lemma_order();
     let goes = students_share(alloc, instance, before, timetable, students)?;
     let comes = students_share(alloc, instance, after, timetable, students)?;
     match parts.exchange(goes, comes) {
@@ -88,9 +88,8 @@ fn students_penalty(
     ensures small { IfOk result (λ sum.
         personal_total sum ≤ 4 * (MAX_PAIRS * MAX_PAIRS * MAX_AMOUNT)) }
 {
-    // Read for the limits of its weights, and of the pairs.
-    let _known = instance.periods();
-    let _kept = enrolments.pairs();
+    instance.lemma_limits();
+    enrolments.lemma_order();
     let mut sum = PersonalParts::of(0, 0, 0, 0);
     let mut rest = students;
     while let Some((student, others)) = rest.split_first() {

@@ -23,8 +23,7 @@ pub(crate) fn personal_at(
     ensures sum { result ≡ personal_at instance.now timetable.now edited.now exams.now }
     ensures small { IsSmall result (length exams.now) }
 {
-    // Read for the limits of its weights.
-    let _kept = instance.periods();
+    instance.lemma_limits();
     let row = cost_of_exams(&RowCost(instance), timetable, edited, exams);
     let day = cost_of_exams(&DayCost(instance), timetable, edited, exams);
     let spread = cost_of_exams(&SpreadCost(instance), timetable, edited, exams);

@@ -27,7 +27,7 @@ pub(crate) fn touched_mixed(instance: &Instance, timetable: &Timetable, touched:
         (is_touched touched.now.edited.now touched.now.earlier.now touched.now.later.now) }
     ensures small { result ≤ MAX_ROOMS * (MAX_PERIODS * (MAX_EXAMS * MAX_AMOUNT)) }
 {
-    let _known = instance.periods(); // read for the limits of its weights
+    instance.lemma_limits();
     let mut total = 0;
     let mut left = touched.edited;
     while let Some((exam, edited)) = left.split_first() {

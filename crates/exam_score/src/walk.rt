@@ -21,7 +21,7 @@ pub(crate) fn sums_of_pairs(instance: &Instance, lines: &[Line], tallies: &[Tall
     ensures { (k : TableKind) → table_amount result k
         ≡ tally_cost (table_cost instance.now k) tallies.now }
 {
-    let _kept = instance.periods(); // read for the limits of its weights
+    instance.lemma_limits();
     let mut sums = NOTHING;
     for (at, tally) in tallies.iter().enumerate() {
         let Some((line, place)) = line_beside(lines, tallies, at, tally) else {
@@ -83,7 +83,7 @@ fn cost_along_line(
     ensures { (k : TableKind) → table_amount result k
         ≡ sum_by (cost_with_tally (table_cost instance.now k) tally.now) (take place tallies.now) }
 {
-    let _kept = instance.periods(); // read for the limits of its weights
+    instance.lemma_limits();
     let mut sums = NOTHING;
     let mut next = place;
     while next != 0 {

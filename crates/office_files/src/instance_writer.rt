@@ -38,8 +38,8 @@ pub fn write_instance(
     ensures same { IfOk result (λ text.
         instance_in text.items ≡ Ok (instance.now, enrolments.now)) }
 {
-    let _exams = instance.exams(); // read for what every instance keeps
-    let _pairs = enrolments.pairs(); // and every set of enrolments
+    instance.lemma_limits();
+    enrolments.lemma_order();
     let mut text = String::new(alloc);
     add_exams(&mut text, instance, enrolments)?;
     add_periods(&mut text, instance)?;

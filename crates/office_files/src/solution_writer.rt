@@ -33,7 +33,7 @@ pub fn write_solution(alloc: Global, timetable: &Timetable) -> Result<Vec<u8>, F
     ensures same { IfOk result (λ text. (I : Session) → SuitsTimetable I timetable.now
         → solution_in I text.items ≡ Ok timetable.now) }
 {
-    let _exams = timetable.exams(); // read for its bound
+    timetable.lemma_limit();
     if let Some(exam) = timetable.complete() {
         let line = exam.get() + 1;
         return Err(FileFault {

@@ -158,7 +158,7 @@ fn published_text<S: Alter>(alloc: Global, office: &mut Office<S>) -> Result<Vec
     let Some((timetable, _)) = found else {
         return Err(ExportFault::NoPublication);
     };
-    let _exams = timetable.exams(); // read for its bound
+    timetable.lemma_limit();
     match write_solution(alloc, &timetable) {
         Ok(text) => Ok(text),
         Err(fault) => Err(text_fault(fault.what)),

@@ -31,7 +31,7 @@ pub(crate) fn check_shares(
         → AreShared instance.now (Some (publication timetable.now rows.now)) students.now parts.now
         → ⊥) }
 {
-    let _limits = instance.exams(); // read for its limits
+    instance.lemma_limits();
     let own = shares(alloc, instance, rows, timetable)?;
     let own_students = student_share_rows(alloc, &own)?;
     let own_parts = part_share_rows(alloc, &own)?;

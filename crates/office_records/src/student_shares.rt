@@ -33,7 +33,7 @@ fn share_row(share: (StudentNo, PersonalParts)) -> StudentShareRow
     ensures row { result ≡ student_share_row share }
     ensures amounts { AreStudentAmounts result }
 {
-    let _total = share.1.total(); // read for its limit
+    share.1.lemma_limit();
     StudentShareRow {
         student: share.0.get(),
         in_row: share.1.row(),

@@ -78,3 +78,7 @@ StaysOnErr store old new result =
 -- the store is open, and all that was written is committed
 abbrev pub IsCommitted : State → Type 0
 IsCommitted s = IsTrue s.is_open × (s.now ≡ s.committed)
+
+-- all that was written is committed, if the store is open
+abbrev pub IsAtRest : State → Type 0
+IsAtRest s = IsTrue s.is_open → s.now ≡ s.committed

@@ -20,7 +20,7 @@ impl<S: Alter> Office<S> {
             → IfOk result (Q.answers query.now kept.held) }
         ensures leaves { LeavesUnchanged S.Store self.old self.new result }
     {
-        let _at_rest = self.conn.is_autocommit(); // its contract says that all is committed
+        self.lemma_at_rest();
         let rows = query.ask(alloc, &mut self.conn)?;
         Ok(rows)
     }

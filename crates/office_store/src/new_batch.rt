@@ -63,7 +63,7 @@ pub(crate) fn new_batch(
         (λ E. AreRescored instance.now E memory.now.drafts new.rescored)) }
     ensures small { IfOk result (λ new. All (λ it. AreAmounts it.row) new.drafts.items) }
 {
-    let _kept = enrolments.pairs(); // read for the order of the students
+    enrolments.lemma_order();
     let made = after_batch(alloc, enrolments, changes)?;
     if memory.batches >= MAX_BATCHES as usize {
         return Err(StoreFault::TooMany);

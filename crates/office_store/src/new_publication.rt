@@ -120,7 +120,7 @@ fn publication_writes(
     ensures small { IfOk result AreSmallShares }
     ensures err { IfErr result (λ e. e ≡ StoreFault.Store) }
 {
-    let _limits = instance.exams(); // read for its limits
+    instance.lemma_limits();
     let candidates = rewritten(alloc, old, rows)?;
     let shares = shares_among(alloc, instance, rows, &draft.timetable, &candidates)?;
     let text = mark_text(alloc, instance, before)?;
@@ -169,7 +169,7 @@ fn count_of(candidates: &[StudentNo]) -> u32
     let Some(last) = candidates.last() else {
         return 0;
     };
-    let _within = last.get(); // read for its limit
+    last.lemma_limit();
     candidates.len() as u32
 }
 

@@ -5,6 +5,7 @@ ghost use Rattle.sqlite.specs.State.{HasCleanDisk};
 ghost use Rattle.office_tables.specs.Schema.{no_schema};
 ghost use Rattle.office_store.specs.Faults.{IsOfDatabase};
 ghost use Rattle.office_store.specs.Leaving.{Leaves, LeavesUnchanged, MayMake, connection_of};
+ghost use Rattle.office_store.specs.Running.{IsAtRest};
 ghost use Rattle.office_tables.specs.Alterations.{Undone};
 ghost use Rattle.office_records.specs.Representation.{RepresentsOffice};
 
@@ -87,7 +88,7 @@ impl<S: Alter> Office<S> {
         ensures fault { IfErr result (λ e. e ≡ StoreFault.Store) }
         ensures leaves { LeavesUnchanged S.Store self.old self.new result }
     {
-        let _at_rest = self.conn.is_autocommit(); // its contract says that all is committed
+        self.lemma_at_rest();
         match look(&mut self.conn) {
             Ok(()) => Ok(()),
             Err(_) => Err(StoreFault::Store),
@@ -100,5 +101,13 @@ impl<S: Alter> Office<S> {
     {
         let Office { conn, .. } = self;
         conn
+    }
+
+    // States for a proof that between two calls all is committed, if the store is open. It changes
+    // nothing.
+    pub(crate) fn lemma_at_rest(&self)
+        ensures { IsAtRest (state S.Store self.now) }
+    {
+        let _ = self.conn.is_autocommit();
     }
 }

@@ -23,7 +23,7 @@ impl<S: Alter> Office<S> {
             → HasCleanDisk (state S.Store self.old) }
         ensures survives { Survives (state S.Store self.old) (state S.Store self.new) (λ _. ⊥) }
     {
-        let _at_rest = self.conn.is_autocommit(); // its contract says that all is committed
+        self.lemma_at_rest();
         // The empty statement does nothing; only a closed store refuses it as `Closed`.
         is_shut_by(self.conn.prepare("").err())
     }

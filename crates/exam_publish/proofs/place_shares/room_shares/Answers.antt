@@ -14,7 +14,7 @@ overflow_cast-room c =
     let I = c.args.instance.now in
     let same = ap length (c.deref-penalty-items.ensures.value ∙ c.in_ok-penalties.ensures) in
     let long = length-map-range_with_len (penalty_in I c.args.timetable.now) 0 (length I.rooms) in
-    omega (arith, c.rooms-test.true, same, long, c.rooms-kept.ensures.kept.limits.counts.2.1)
+    omega (arith, c.rooms-test.true, same, long, c.lemma_limits.ensures.limits.counts.2.1)
 
 pub mixed_in-requires-clause-room : goal.mixed_in-requires-clause-room
 mixed_in-requires-clause-room c =

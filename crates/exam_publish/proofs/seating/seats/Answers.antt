@@ -21,7 +21,7 @@ held_seats-requires c =
     record {
       exist = subst (All (EntrantExists I)) (sym is) (entrants_exist I E T old c.requires.fits);
       small = subst (All KeepsSmallSeat) (sym is)
-          (entrants_keep I T old (pairs_of E) c.rooms.ensures.kept c.requires.old_seated.within);
+          (entrants_keep I T old (pairs_of E) c.lemma_limits.ensures c.requires.old_seated.within);
       placed = subst (All KeepsOwnPlace) (sym is) (entrants_placed T old (pairs_of E));
     }
 
@@ -37,7 +37,7 @@ seat_all-requires c =
     record {
       exist = subst (All (EntrantExists I)) (sym second) (entrants_exist I E T old c.requires.fits);
       few = subst (λ (xs : List Entrant). length xs ≤ 200000) (sym second)
-          (entrants_few E T old c.pairs.ensures.kept);
+          (entrants_few E T old c.lemma_order.ensures);
       held = subst (λ (xs : List Entrant). AreHeld xs c.deref-3.result.now)
           (first ∙ sym second)
           (subst (AreHeld c.deref.result.now)
@@ -52,7 +52,7 @@ returns c =
     let old = c.args.old.now in
     let rows : c.in_ok-rows.rows.items ≡ seat_rows (pairs_of E) T old =
     c.in_ok-rows.ensures ∙ ap rows_for (c.deref-2.ensures.value ∙ c.in_ok-entrants.ensures) in
-    let are = are_seats I E T old c.requires.fits c.pairs.ensures.kept c.requires.permitted
+    let are = are_seats I E T old c.requires.fits c.lemma_order.ensures c.requires.permitted
     c.requires.old_seated in
     record {
       rows = rows;

@@ -14,7 +14,7 @@ rows-preserved c k d lt within = elim (cases_lt k c.rows.row-index) [
       = ap (λ i. get_or rows i d) same ∙ get_or_default rows c.rows.row-index d x c.rows-test.true
       ∙ sym c.row-item.is in
       let known : x.student ≤ 999999999 =
-      omega (arith, c.get-number.ensures.number, c.get-number.ensures.within) in
+      omega (arith, c.lemma_limit.ensures) in
       subst (λ y. y.student ≤ 999999999) (sym here) known)
 ]
 

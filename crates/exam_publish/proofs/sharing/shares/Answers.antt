@@ -18,7 +18,7 @@ returns-clause-add_up c =
     = c.of.ensures
     ∙ (λ i. record { students = c.in_ok-students.ensures i; exams = c.in_ok-exams.ensures i; periods = c.in_ok-periods.ensures i; rooms = c.in_ok-rooms.ensures i }) in
     subst (AddUpTo (track I (enrolled_in (length I.exams) rows) T)) (sym is)
-    (adds_up I rows T c.periods-kept.ensures.kept c.requires c.numbers_identify.ensures)
+    (adds_up I rows T c.lemma_limits.ensures c.requires c.numbers_identify.ensures)
 
 pub returns-clause-small : goal.returns-clause-small
 returns-clause-small c =
@@ -30,8 +30,8 @@ returns-clause-small c =
     ∙ (λ i. record { students = c.in_ok-students.ensures i; exams = c.in_ok-exams.ensures i; periods = c.in_ok-periods.ensures i; rooms = c.in_ok-rooms.ensures i }) in
     subst AreSmall (sym is)
     (published_small I rows T
-    (shares_of I rows T) c.periods-kept.ensures.kept c.requires c.numbers_identify.ensures
-    (adds_up I rows T c.periods-kept.ensures.kept c.requires c.numbers_identify.ensures))
+    (shares_of I rows T) c.lemma_limits.ensures c.requires c.numbers_identify.ensures
+    (adds_up I rows T c.lemma_limits.ensures c.requires c.numbers_identify.ensures))
 
 pub returns-clause-ascending : goal.returns-clause-ascending
 returns-clause-ascending c =

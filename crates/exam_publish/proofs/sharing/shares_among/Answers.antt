@@ -27,9 +27,9 @@ returns c =
     = c.of.ensures
     ∙ (λ i. record { students = own i; exams = c.in_ok-exams.ensures i; periods = c.in_ok-periods.ensures i; rooms = c.in_ok-rooms.ensures i }) in
     let all = published_small I rows T
-    (shares_of I rows T) c.periods-kept.ensures.kept c.requires.published
+    (shares_of I rows T) c.lemma_limits.ensures c.requires.published
     c.numbers_identify.ensures
-    (adds_up I rows T c.periods-kept.ensures.kept c.requires.published
+    (adds_up I rows T c.lemma_limits.ensures c.requires.published
     c.numbers_identify.ensures) in
     record {
       shares = is;

@@ -26,7 +26,7 @@ personal-requires c =
     = c.deref.ensures.value ∙ c.in_ok-periods.ensures
     ∙ ap (map period) (c.split_at.ensures.front ∙ own) in
     let few = few_rows I rows T s c.requires
-    (omega (arith, c.exams-kept.ensures.kept, c.requires.exams)) in
+    (omega (arith, c.lemma_limit.ensures, c.requires.exams)) in
     omega (arith, ap length periods, length-map (rows_of s rows) period, few)
 
 pub students-preserved : goal.students-preserved

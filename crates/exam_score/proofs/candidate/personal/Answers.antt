@@ -12,7 +12,7 @@ returns c =
     let whole : (k : Kind) → candidate_cost (λ p q. min (cost_in I k p q) 100000) at
     ≡ candidate_cost (cost_in I k) at
     = λ k. ap (λ (cost : ℕ → ℕ → ℕ). candidate_cost cost at)
-    (uncapped (cost_in I k) (cost_in-small I c.periods-kept.ensures.kept k)) in
+    (uncapped (cost_in I k) (cost_in-small I c.lemma_limits.ensures k)) in
     c.of.ensures ∙ (λ i. record {
       row = (c.cost_of_pairs-row.ensures.cost ∙ whole (in_table in_row)) i;
       day = (c.cost_of_pairs-day.ensures.cost ∙ whole (in_table in_day)) i;

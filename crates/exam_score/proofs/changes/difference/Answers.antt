@@ -40,7 +40,7 @@ scored c =
     c.in_ok-fold.ensures.represents)
     (edit_is fold c.args.instance.now c.args.enrolments.now c.args.old.now c.args.new.now
     c.args.edited.now pairs c.deref-2.result.now c.args.old_parts c.in_ok-fold.ensures.of
-    c.pairs-kept.ensures.kept c.requires.new c.in_ok-sitters.ensures.concerned
+    c.lemma_order.ensures c.requires.new c.in_ok-sitters.ensures.concerned
     (subst (λ (ns : List ℕ). AreSizes c.args.enrolments.now ns)
     (sym c.deref-2.ensures.value) c.in_ok-sizes.ensures)
     c.requires.others c.requires.scored))
@@ -58,7 +58,7 @@ scored_last c =
     c.in_ok-fold.ensures.represents)
     (edit_is fold c.args.instance.now c.args.enrolments.now c.args.old.now c.args.new.now
     c.args.edited.now pairs c.deref-2.result.now c.args.old_parts c.in_ok-fold.ensures.of
-    c.pairs-kept.ensures.kept c.requires.new c.in_ok-sitters.ensures.concerned
+    c.lemma_order.ensures c.requires.new c.in_ok-sitters.ensures.concerned
     (subst (λ (ns : List ℕ). AreSizes c.args.enrolments.now ns)
     (sym c.deref-2.ensures.value) c.in_ok-sizes.ensures)
     c.requires.others c.requires.scored))

@@ -16,11 +16,11 @@ pub returns-clause-in_order : goal.returns-clause-in_order
 returns-clause-in_order c =
     sitters_in_order c.args.enrolments.now c.args.edited.now c.in_ok-sitters.sitters.items
     c.sort_unstable.new.self.items
-    c.pairs-kept.ensures.kept c.in_ok-sitters.ensures c.sort_unstable.ensures.permutation
+    c.lemma_order.ensures c.in_ok-sitters.ensures c.sort_unstable.ensures.permutation
     c.sort_unstable.ensures.sorted
 
 pub returns-clause-few : goal.returns-clause-few
 returns-clause-few c =
     sitters_few c.args.enrolments.now c.args.edited.now c.in_ok-sitters.sitters.items
     c.sort_unstable.new.self.items
-    c.pairs-kept.ensures.kept c.in_ok-sitters.ensures c.sort_unstable.ensures.permutation
+    c.lemma_order.ensures c.in_ok-sitters.ensures c.sort_unstable.ensures.permutation

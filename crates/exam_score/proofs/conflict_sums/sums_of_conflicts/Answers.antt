@@ -39,7 +39,7 @@ add_costs-requires-clause-room c = each_in_table room
         let sum = cost_more cost T xs i x _ _ c.loop-conflict-test.true c.conflict-item.is
         (c.loop-conflict.invariant k)
         (numbered c.args.instance.now k T c.args.conflicts.now c.loop-conflict.conflict-index x
-        c.deref.result.now c.periods-kept.ensures.kept.limits.counts.1.1
+        c.deref.result.now c.lemma_limits.ensures.limits.counts.1.1
         (c.deref.ensures.value ∙ c.in_ok-periods.ensures) c.requires.exist c.loop-conflict-test.true
         c.conflict-item.is) in
         let most = sum_by-take-le (conflict_cost cost T) xs (i + 1) in
@@ -53,6 +53,6 @@ loop-conflict-preserved c = λ k.
     ∙ cost_more (table_cost c.args.instance.now k) T c.args.conflicts.now _ x _ _
     c.loop-conflict-test.true c.conflict-item.is (c.loop-conflict.invariant k)
     (numbered c.args.instance.now k T c.args.conflicts.now c.loop-conflict.conflict-index x
-    c.deref.result.now c.periods-kept.ensures.kept.limits.counts.1.1
+    c.deref.result.now c.lemma_limits.ensures.limits.counts.1.1
     (c.deref.ensures.value ∙ c.in_ok-periods.ensures) c.requires.exist c.loop-conflict-test.true
     c.conflict-item.is)

@@ -29,7 +29,7 @@ more c =
     (c.loop-at.total + c.nights_with_exam-more.result * n)) (sym c.from-exams.ensures)
     (cost_to_more cost c.args.tallies.now c.loop-at.at _ _ c.index-tallies-at.result
     c.loop-at-test.true c.index-tallies-at.is
-    (cost_in-small I c.periods-kept.ensures.kept over_night) c.requires.few c.loop-at.invariant
+    (cost_in-small I c.lemma_limits.ensures over_night) c.requires.few c.loop-at.invariant
     c.nights_with_exam-more.ensures)
 
 pub loop-at-preserved : goal.loop-at-preserved

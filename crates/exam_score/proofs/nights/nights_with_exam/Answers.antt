@@ -58,7 +58,7 @@ overflow_add-total c =
     let was = c.loop-other.invariant.night in
     let more = c.night_between-more.ensures in
     let small = beside_small (night_cost I.periods I.weights) xs y c.args.at
-    (cost_in-small I c.periods-kept.ensures.kept over_night) c.requires.few in
+    (cost_in-small I c.lemma_limits.ensures over_night) c.requires.few in
     omega arith
 
 pub returns : goal.returns

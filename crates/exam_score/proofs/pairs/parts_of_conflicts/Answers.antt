@@ -21,7 +21,7 @@ sums_of_conflicts-requires-clause-few c = λ k.
     let I = c.args.instance.now in
     rw c.requires.listed
     (conflicts_small (table_cost I k) c.args.enrolments.now c.args.timetable.now
-    c.pairs-kept.ensures.kept (cost_in-small I c.periods-known.ensures.kept (in_table k)))
+    c.lemma_order.ensures (cost_in-small I c.lemma_limits.ensures (in_table k)))
 
 pub nights_of_conflicts-requires-clause-few :
     goal.nights_of_conflicts-requires-clause-few
@@ -29,13 +29,13 @@ nights_of_conflicts-requires-clause-few c =
     let I = c.args.instance.now in
     rw c.requires.listed
     (conflicts_small (cost_in I over_night) c.args.enrolments.now c.args.timetable.now
-    c.pairs-kept.ensures.kept (cost_in-small I c.periods-known.ensures.kept over_night))
+    c.lemma_order.ensures (cost_in-small I c.lemma_limits.ensures over_night))
 
 pub of-requires : goal.of-requires
 of-requires c =
     let parts = parts_by_conflicts c.args.instance.now c.args.enrolments.now c.args.timetable.now
     c.args.conflicts.now c.in_ok-sums.sums c.in_ok-night.night
-    c.periods-known.ensures.kept c.pairs-kept.ensures.kept c.requires.listed
+    c.lemma_limits.ensures c.lemma_order.ensures c.requires.listed
     c.in_ok-sums.ensures c.in_ok-night.ensures in
     omega (arith, parts.few)
 
@@ -44,5 +44,5 @@ returns c =
     rw c.of.ensures
     (parts_by_conflicts c.args.instance.now c.args.enrolments.now c.args.timetable.now
     c.args.conflicts.now c.in_ok-sums.sums c.in_ok-night.night
-    c.periods-known.ensures.kept c.pairs-kept.ensures.kept c.requires.listed
+    c.lemma_limits.ensures c.lemma_order.ensures c.requires.listed
     c.in_ok-sums.ensures c.in_ok-night.ensures)

@@ -9,7 +9,7 @@ tallies_of-requires c =
     let E = c.args.enrolments.now in
     let T = c.args.timetable.now in
     let all = c.in_ok-sittings.ensures.all in
-    let few = few_seats E T c.in_ok-sittings.sittings.items c.pairs-kept.ensures.kept
+    let few = few_seats E T c.in_ok-sittings.sittings.items c.lemma_order.ensures
     c.requires.exams all in
     let same = c.deref.ensures.value in
     record {
@@ -32,7 +32,7 @@ sums_of_pairs-sums-requires c =
     record {
       table = rw c.deref-2.ensures.value c.in_ok-lines.ensures;
       linked = rw c.deref-3.ensures.value c.in_ok-tallies.ensures.linked;
-      few = rw c.deref-3.ensures.value (few_tallied E T tallies c.pairs-kept.ensures.kept rows);
+      few = rw c.deref-3.ensures.value (few_tallied E T tallies c.lemma_order.ensures rows);
     }
 
 pub nights_of_pairs-night-requires : goal.nights_of_pairs-night-requires
@@ -47,7 +47,7 @@ nights_of_pairs-night-requires c =
     c.in_ok-sittings.ensures.all counted in
     record {
       linked = rw c.deref-4.ensures.value c.in_ok-tallies.ensures.linked;
-      few = rw c.deref-4.ensures.value (few_tallied E T tallies c.pairs-kept.ensures.kept rows);
+      few = rw c.deref-4.ensures.value (few_tallied E T tallies c.lemma_order.ensures rows);
     }
 
 pub of-requires : goal.of-requires
@@ -56,7 +56,7 @@ of-requires c =
     let E = c.args.enrolments.now in
     let parts = pair_parts_tallied I E c.args.timetable.now c.in_ok-sittings.sittings.items
     c.in_ok-tallies.tallies.items c.sums_of_pairs-sums.result c.nights_of_pairs-night.result
-    c.periods-known.ensures.kept c.pairs-kept.ensures.kept c.requires.exams
+    c.lemma_limits.ensures c.lemma_order.ensures c.requires.exams
     c.in_ok-sittings.ensures.all
     (subst (λ xs. AreCounted E xs c.in_ok-tallies.tallies.items) c.deref.ensures.value
     c.in_ok-tallies.ensures.counted)
@@ -73,7 +73,7 @@ returns c =
     rw c.of.ensures
     (pair_parts_tallied I E c.args.timetable.now c.in_ok-sittings.sittings.items
     c.in_ok-tallies.tallies.items c.sums_of_pairs-sums.result c.nights_of_pairs-night.result
-    c.periods-known.ensures.kept c.pairs-kept.ensures.kept c.requires.exams
+    c.lemma_limits.ensures c.lemma_order.ensures c.requires.exams
     c.in_ok-sittings.ensures.all
     (subst (λ xs. AreCounted E xs c.in_ok-tallies.tallies.items) c.deref.ensures.value
     c.in_ok-tallies.ensures.counted)

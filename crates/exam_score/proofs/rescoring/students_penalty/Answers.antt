@@ -11,8 +11,8 @@ plus-sum-requires c =
     let T = c.args.timetable.now in
     let rest : students_penalty I E T c.loop-student.rest.now ≡ _ =
     ap (λ (xs : List ℕ). students_penalty I E T xs) c.in-Some.ensures.cases.0 in
-    let small = students_small I E T c.args.students.now c.periods-known.ensures.kept
-    c.pairs-kept.ensures.kept in
+    let small = students_small I E T c.args.students.now c.lemma_limits.ensures
+    c.lemma_order.ensures in
     let sums = sums_small c.loop-student.sum c.in_ok-more.more
     (students_penalty I E T c.in-Some.others.now) (students_penalty I E T c.loop-student.rest.now)
     (students_penalty I E T c.args.students.now) c.loop-student.invariant
@@ -24,8 +24,8 @@ returns-clause-small c =
     let I = c.args.instance.now in
     let E = c.args.enrolments.now in
     let T = c.args.timetable.now in
-    let small = students_small I E T c.args.students.now c.periods-known.ensures.kept
-    c.pairs-kept.ensures.kept in
+    let small = students_small I E T c.args.students.now c.lemma_limits.ensures
+    c.lemma_order.ensures in
     let whole = sum_whole I E T c.loop-student.rest.now c.loop-student.sum
     (students_penalty I E T c.args.students.now) c.loop-student.invariant
     c.in_default.ensures.cases in

@@ -14,7 +14,7 @@ returns-clause-sum c =
     let whole : (k : Kind) → exams_cost (λ p q. min (cost_in I k p q) 100000) T edited exams
     ≡ exams_cost (cost_in I k) T edited exams
     = λ k. ap (λ (cost : ℕ → ℕ → ℕ). exams_cost cost T edited exams)
-    (uncapped (cost_in I k) (cost_in-small I c.periods-kept.ensures.kept k)) in
+    (uncapped (cost_in I k) (cost_in-small I c.lemma_limits.ensures k)) in
     c.of.ensures ∙ (λ i. record {
       row = (c.cost_of_exams-row.ensures.cost ∙ whole (in_table in_row)) i;
       day = (c.cost_of_exams-day.ensures.cost ∙ whole (in_table in_day)) i;

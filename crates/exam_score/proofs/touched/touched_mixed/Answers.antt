@@ -11,7 +11,7 @@ overflow_add-total c =
     let touched = c.args.touched.now in
     let all = mixed_where_small I c.args.timetable.now
     (is_touched touched.edited.now touched.earlier.now touched.later.now)
-    c.periods-known.ensures.kept in
+    c.lemma_limits.ensures in
     omega (arith, all, c.loop-exam.invariant, c.exam_mixed-total.ensures.small)
 
 whole : (c : goal.In_default) → c.loop-exam.total
@@ -39,5 +39,5 @@ returns-clause-small c =
     let touched = c.args.touched.now in
     let all = mixed_where_small I c.args.timetable.now
     (is_touched touched.edited.now touched.earlier.now touched.later.now)
-    c.periods-known.ensures.kept in
+    c.lemma_limits.ensures in
     omega (arith, all, whole c)

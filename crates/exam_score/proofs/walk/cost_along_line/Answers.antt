@@ -25,7 +25,7 @@ add-requires c = each_in_table room
         (cost_at I y.period x.period _ c.costs_in-costs.ensures k) in
         let was = c.loop-next.invariant.sums k in
         let small = beside_small (table_cost I k) xs y c.args.place
-        (cost_in-small I c.periods-kept.ensures.kept (in_table k)) c.requires.few in
+        (cost_in-small I c.lemma_limits.ensures (in_table k)) c.requires.few in
         omega arith
 
 pub own_place-next-requires : goal.own_place-next-requires

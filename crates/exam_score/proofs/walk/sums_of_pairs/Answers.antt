@@ -33,7 +33,7 @@ loop-at-preserved-in_default c = λ k.
     let I = c.args.instance.now in
     cost_to_same (table_cost I k) c.args.tallies.now c.loop-at.at _ c.index-tallies-at.result
     c.loop-at-test.true c.index-tallies-at.is
-    (cost_in-small I c.periods-kept.ensures.kept (in_table k)) c.requires.few
+    (cost_in-small I c.lemma_limits.ensures (in_table k)) c.requires.few
     (c.loop-at.invariant k) (c.in_default.ensures.none I k c.requires.table)
 
 pub add-requires : goal.add-requires
@@ -47,7 +47,7 @@ add-requires c = each_in_table room
         let first = c.in-Some.ensures.first I c.requires.table in
         let small = cost_to-small (table_cost I k) c.args.tallies.now _ _ c.requires.few
         (cost_to_more (table_cost I k) c.args.tallies.now c.loop-at.at _ _ y c.loop-at-test.true
-        c.index-tallies-at.is (cost_in-small I c.periods-kept.ensures.kept (in_table k))
+        c.index-tallies-at.is (cost_in-small I c.lemma_limits.ensures (in_table k))
         c.requires.few (c.loop-at.invariant k)
         (c.cost_along_line-more.ensures k
         ∙ sym (c.in-Some.ensures.place.sums (table_cost I k) y refl
@@ -61,7 +61,7 @@ loop-at-preserved c = λ k.
     let first = c.in-Some.ensures.first I c.requires.table in
     subst (IsCostTo (table_cost I k) c.args.tallies.now (c.loop-at.at + 1)) (sym (c.add.ensures k))
     (cost_to_more (table_cost I k) c.args.tallies.now c.loop-at.at _ _ y c.loop-at-test.true
-    c.index-tallies-at.is (cost_in-small I c.periods-kept.ensures.kept (in_table k))
+    c.index-tallies-at.is (cost_in-small I c.lemma_limits.ensures (in_table k))
     c.requires.few (c.loop-at.invariant k)
     (c.cost_along_line-more.ensures k
     ∙ sym (c.in-Some.ensures.place.sums (table_cost I k) y refl

@@ -18,7 +18,7 @@ returns-clause-spells c =
     let E = c.args.enrolments.now in
     let text : c.into_bytes.result.items ≡ canonical_instance I E = returns-clause-text c in
     subst (λ (b : List ℕ). InstanceText b I E) (sym text)
-    (instance_spelled I E c.exams-exams.ensures.kept c.pairs-pairs.ensures.kept c.requires.fits)
+    (instance_spelled I E c.lemma_limits.ensures c.lemma_order.ensures c.requires.fits)
 
 pub returns-clause-same : goal.returns-clause-same
 returns-clause-same c =
@@ -26,4 +26,4 @@ returns-clause-same c =
     let E = c.args.enrolments.now in
     let text : c.into_bytes.result.items ≡ canonical_instance I E = returns-clause-text c in
     ap instance_in text
-    ∙ instance_same I E c.exams-exams.ensures.kept c.pairs-pairs.ensures.kept c.requires.fits
+    ∙ instance_same I E c.lemma_limits.ensures c.lemma_order.ensures c.requires.fits

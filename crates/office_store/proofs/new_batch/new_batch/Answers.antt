@@ -35,7 +35,7 @@ drafts_after-requires c = record {
       (exams_after c.args.changes.now c.args.enrolments.now _ c.in_ok-made.ensures.ok
       ∙ c.requires.exams);
   others = made_others c.args.changes.now c.args.enrolments.now c.in_ok-made.made.enrolments
-      c.in_ok-made.made.counts c.in_ok-made.made.acting.items c.pairs-kept.ensures.kept
+      c.in_ok-made.made.counts c.in_ok-made.made.acting.items c.lemma_order.ensures
       c.in_ok-made.ensures.ok c.in_ok-made.ensures.acting;
   suited = c.requires.suited;
 }

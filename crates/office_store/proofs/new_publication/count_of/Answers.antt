@@ -6,4 +6,4 @@ pub overflow_cast-result : goal.overflow_cast-result
 overflow_cast-result c =
     let few = count_within c.args.candidates.now c.in-Some.last.now c.requires
     c.in-Some.ensures.value in
-    omega (arith, few, c.get-within.ensures.within, c.get-within.ensures.number)
+    omega (arith, few, c.lemma_limit.ensures)

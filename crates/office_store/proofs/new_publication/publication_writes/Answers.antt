@@ -22,7 +22,7 @@ pub part_shares_put-requires : goal.part_shares_put-requires
 part_shares_put-requires c = record {
   few = subst HasFewParts (sym c.in_ok-shares.ensures.shares)
       (few_parts c.args.instance.now c.args.rows.now c.args.draft.now.timetable c.deref.result.now
-      c.exams-limits.ensures.kept);
+      c.lemma_limits.ensures);
   small = c.in_ok-shares.ensures.small;
 }
 

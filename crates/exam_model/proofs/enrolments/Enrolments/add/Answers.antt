@@ -70,7 +70,7 @@ invariant_of-self-then-fresh c =
     ] in (
       counted_new c.self.inside.rolls.items c.get.result c.args.student c.self.inside.pairs
           c.in-Some.roll.now c.add.new.self c.in-Some.ensures.item.3.0
-          (omega (arith, c.get-number.ensures.number, c.get-number.ensures.within))
+          (omega (arith, c.lemma_limit.ensures))
           c.in-Some.ensures.value c.in_ok-fresh.ensures.ok absent room c.self.invariant.0,
       tt,
     )
@@ -79,7 +79,7 @@ pub invariant_of-self-else-fresh : goal.invariant_of-self-else-fresh
 invariant_of-self-else-fresh c = (
   counted_old c.self.inside.rolls.items c.get.result c.args.student c.self.inside.pairs
       c.in-Some.roll.now c.add.new.self c.in-Some.ensures.item.3.0
-      (omega (arith, c.get-number.ensures.number, c.get-number.ensures.within))
+      (omega (arith, c.lemma_limit.ensures))
       c.in-Some.ensures.value c.in_ok-fresh.ensures.ok
       (old_present c.in_ok-fresh.fresh _ c.in_ok-fresh.ensures.fresh c.if-fresh.false)
       c.self.invariant.0,

@@ -78,7 +78,7 @@ none_is c =
 pub returns-clause-scored : goal.returns-clause-scored
 returns-clause-scored c = λ E pairs h is.
     exchange_scores c.args.self E pairs c.args.sizes.now c.args.old_parts c.exchange.result
-    (subst (λ (v : Folded). IsInstance v.instance) c.self.view_is c.periods-known.ensures.kept)
+    (subst (λ (v : Folded). IsInstance v.instance) c.self.view_is c.lemma_limits.ensures)
     (made_is c) (none_is c) h is
 
 pub returns-clause-made : goal.returns-clause-made

@@ -1,5 +1,7 @@
-use Rattle.std.proofs.Common.{ap, not, subst, ◌∙◌}
+use Rattle.std.proofs.Common.{subst, sym}
+use Rattle.sqlite.specs.Held.{state}
 use Rattle.office_tables.specs.TablesHeld.{HoldsTables}
+use Rattle.office_store.specs.Running.{IsAtRest}
 use Rattle.office_store.proofs.RunLemmas.{now_after, rest_after}
 use Rattle.office_store.proofs.office.Office.ask.Goals as goal
 
@@ -7,8 +9,7 @@ pub invariant_of-self : goal.invariant_of-self
 invariant_of-self g c = (
   c.ask.ensures.leaves.mode c.self.invariant.0,
   rest_after g.S.Store c.self.inside.conn c.ask.new.conn c.self.inside.memory c.self.invariant.1
-      (c.is_autocommit-at_rest.ensures.settled
-      (c.is_autocommit-at_rest.ensures.value ∙ ap not c.self.invariant.0))
+      (subst (λ h. IsAtRest (state g.S.Store h)) (sym c.self.view_is) c.lemma_at_rest.ensures)
       c.ask.ensures.leaves,
   c.self.invariant.2,
 )

@@ -1,7 +1,7 @@
-use Rattle.std.proofs.Common.{ap, arith, not, subst, ◌∙◌}
+use Rattle.std.proofs.Common.{arith, subst, sym}
 use Rattle.sqlite.specs.Held.{state}
 use Rattle.sqlite.specs.State.{HasCleanDisk}
-use Rattle.office_store.specs.Running.{StateUnchanged}
+use Rattle.office_store.specs.Running.{IsAtRest, StateUnchanged}
 use Rattle.office_store.proofs.RunLemmas.{rest_still}
 use Rattle.office_store.proofs.ShutLemmas.{still_asked, returned_shut}
 use Rattle.office_store.proofs.LeavingLemmas.{survives_at}
@@ -13,8 +13,7 @@ invariant_of-self g c = (
   rest_still (state g.S.Store c.self.inside.conn) (state g.S.Store c.prepare.new.self)
       c.self.inside.memory (λ k. omega (arith, c.prepare.ensures.survives.clean, k))
       (still_asked (state g.S.Store c.self.inside.conn) (state g.S.Store c.prepare.new.self)
-      (c.is_autocommit-at_rest.ensures.settled
-      (c.is_autocommit-at_rest.ensures.value ∙ ap not c.self.invariant.0))
+      (subst (λ h. IsAtRest (state g.S.Store h)) (sym c.self.view_is) c.lemma_at_rest.ensures)
       _ c.prepare.result c.prepare.ensures.ok c.prepare.ensures.err)
       c.self.invariant.1,
   c.self.invariant.2,
@@ -23,8 +22,7 @@ invariant_of-self g c = (
 pub returns-clause-shut : goal.returns-clause-shut
 returns-clause-shut g c =
     returned_shut (state g.S.Store c.self.inside.conn) (state g.S.Store c.prepare.new.self)
-    (c.is_autocommit-at_rest.ensures.settled
-    (c.is_autocommit-at_rest.ensures.value ∙ ap not c.self.invariant.0))
+    (subst (λ h. IsAtRest (state g.S.Store h)) (sym c.self.view_is) c.lemma_at_rest.ensures)
     _ c.prepare.result c.prepare.ensures.ok c.prepare.ensures.err
     c.err.result c.err.ensures.value c.is_shut_by.result c.is_shut_by.ensures.shut
 
@@ -33,8 +31,7 @@ returns-clause-unchanged g c =
     subst (λ h. HasCleanDisk (state g.S.Store c.prepare.new.self)
     → StateUnchanged (state g.S.Store h) (state g.S.Store c.prepare.new.self)) c.self.view_is
     (still_asked (state g.S.Store c.self.inside.conn) (state g.S.Store c.prepare.new.self)
-    (c.is_autocommit-at_rest.ensures.settled
-    (c.is_autocommit-at_rest.ensures.value ∙ ap not c.self.invariant.0))
+    (subst (λ h. IsAtRest (state g.S.Store h)) (sym c.self.view_is) c.lemma_at_rest.ensures)
     _ c.prepare.result c.prepare.ensures.ok c.prepare.ensures.err)
 
 pub returns-clause-survives : goal.returns-clause-survives
