@@ -1,5 +1,5 @@
 -- Rows in the order of ORDER BY, as records in the order of their numbers.
-use Rattle.std.proofs.Common.{◌≡◌, ◌≤◌, ℕ, zero, suc, ◌+◌, ◌<◌, ◌⊎◌, inl, inr, pos, Bool, false, List, [], ◌∷◌, map, filter, length, get_or, nat_cmp, int_cmp, Ordering, Less, is_lt, refl, sym, ap, ap₂, subst, subst₂, ◌∙◌, arith, IsPermutation}
+use Rattle.std.proofs.Common.{◌≡◌, ◌≤◌, ℕ, zero, suc, ◌+◌, ◌<◌, pos, Bool, false, List, [], ◌∷◌, map, filter, length, get_or, nat_cmp, int_cmp, Ordering, Less, is_lt, refl, sym, ap, ap₂, subst, subst₂, ◌∙◌, arith, IsPermutation}
 use Rattle.std.specs.Prelude.{slice_index_or, IsSortedByKey}
 use Rattle.std.specs.List.{AllByRecursion}
 use Rattle.std.specs.Ordering.{ordering_then, on}
@@ -104,12 +104,6 @@ only_order key xs ys strict same up =
 
 pub one_less : (a b : ℕ) → a < b → numbers_cmp (a ∷ []) (b ∷ []) ≡ Less
 one_less a b low = grind (arith, nat_tests)
-
-pub two_less : (a b c d : ℕ) → (a < b) ⊎ ((a ≡ b) × (c < d))
-    → numbers_cmp (a ∷ c ∷ []) (b ∷ d ∷ []) ≡ Less
-two_less a b c d (inl low) = grind (arith, nat_tests)
-two_less a b c d (inr same) =
-    let here = same.0 in let next = same.1 in grind (arith, nat_tests)
 
 -- lists with the same numbers, in the same order, both rise or neither does
 pub rise_alike : {R : Type 0} (key : R → List ℕ) (xs ys : List R) → map key xs ≡ map key ys

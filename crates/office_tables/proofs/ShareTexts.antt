@@ -1,5 +1,5 @@
 -- The rows that queries read from the tables of shares.
-use Rattle.std.proofs.Common.{◌≡◌, ◌<◌, ◌⊎◌, ℕ, pos, List, [], ◌∷◌, map, filter, true, ◌==◌, codes, refl, sym, ap, ap₂, subst, ◌∙◌, arith, IsPermutation}
+use Rattle.std.proofs.Common.{◌≡◌, ℕ, pos, List, [], ◌∷◌, map, filter, true, ◌==◌, codes, refl, sym, ap, ap₂, subst, ◌∙◌, arith, IsPermutation}
 use Rattle.std.specs.List.{AllByRecursion}
 use Rattle.std.proofs.lemmas.List.Sorted.{IsPermutation-map, IsPermutation-sym}
 use Rattle.sqlite_trees.specs.Tree.{Trees}
@@ -23,11 +23,11 @@ use Rattle.office_tables.specs.TablesHeld.{HoldsTables}
 use Rattle.office_tables.specs.Stored.{Holds, keyed, keyless}
 use Rattle.office_tables.specs.ShareStudent.{bare_share_columns, share_student_columns, night_share_columns, share_shown, HaveNoNight, StudentSharesRise}
 use Rattle.office_tables.specs.Records.{columns_from}
-use Rattle.office_tables.specs.SharePart.{share_part_columns, PartSharesRise}
+use Rattle.office_tables.specs.SharePart.{share_part_columns}
 use Rattle.office_tables.specs.Selections.{AreListed}
 use Rattle.office_tables.proofs.NightLemmas.{bare_columns_are, bare_holds, bare_rows, bare_shown, no_nights, none_over_night, shown_holds}
 use Rattle.office_tables.proofs.NightTexts.{joined_shown, same_number}
-use Rattle.office_tables.proofs.OrderLemmas.{Rises, by_number, columns_shown, in_this_order, int, read, rise_alike, rises_typed, rising, table_shown, two_less, typed}
+use Rattle.office_tables.proofs.OrderLemmas.{Rises, by_number, columns_shown, int, read, rise_alike, rises_typed, rising, table_shown, typed}
 use Rattle.office_tables.proofs.Queries.{column_less, column_later, equal_pairs, equals, every}
 use Rattle.office_tables.proofs.RecordLemmas.{IsFull}
 use Rattle.office_tables.proofs.RecordsBack.{number, student_share_of, part_share_of}
@@ -303,14 +303,13 @@ share_part_shown : (r : Row) → column r 1 ∷ column r 2 ∷ column r 3 ∷ co
     ≡ share_part_picked (keyless r)
 share_part_shown r = rw (column_less r 0, column_less r 1, column_less r 2, column_less r 3) refl
 
--- ---- SELECT kind, no, penalty, mixed FROM share_part ORDER BY kind, no
+-- ---- SELECT kind, no, penalty, mixed FROM share_part
 
 abbrev pub part_shares_text : List ℕ
-part_shares_text = codes "SELECT kind, no, penalty, mixed FROM share_part ORDER BY kind, no"
+part_shares_text = codes "SELECT kind, no, penalty, mixed FROM share_part"
 
 abbrev pub part_shares_query : Query
-part_shares_query =
-    asks (inner 12 end) [] share_part_terms (rising share_part_terms (0 ∷ 1 ∷ []))
+part_shares_query = asks (inner 12 end) [] share_part_terms []
 
 pub part_shares_means : Means office_schema part_shares_query part_shares_text
 unfolding understood everything
@@ -323,14 +322,10 @@ part_shares_means = record {
 
 pub part_shares_read : (db : Database) (t : Tables) → HoldsTables db t → (found : List PartShareRow)
     → IsReadOf share_part_columns 4 [] part_shares_query db.trees found
-    → AreListed PartSharesRise t.share_part found
+    → IsPermutation t.share_part found
 part_shares_read db t represents found is =
-    in_this_order
-    (λ (a b : PartShareRow). (a.kind < b.kind) ⊎ ((a.kind ≡ b.kind) × (a.no < b.no)))
-    (λ (x : PartShareRow). x.kind ∷ x.no ∷ []) (λ x y low. two_less x.kind y.kind x.no y.no low) _
-    found
     (read part_share_of share_part_columns 4 (λ x. refl) (λ x. refl) (inner 12 end) []
-    share_part_terms (0 ∷ 1 ∷ []) (λ (x : PartShareRow). x.kind ∷ x.no ∷ [])
+    share_part_terms [] (λ (x : PartShareRow). [])
     (λ x. refl) db.trees [] t.share_part found
     (subst (λ l. IsPermutation (map (eval_all share_part_terms)
     (matches db.trees [] (inner 12 end) ([] ∷ []))) (map share_part_columns l))
@@ -339,4 +334,4 @@ part_shares_read db t represents found is =
     share_part_shown (λ x. refl)
     (λ _. true) (λ r. refl) (λ _. true) (λ x. refl) db.trees t.share_part
     represents.share_part.same))
-    is)
+    is).0

@@ -1,9 +1,8 @@
--- The table share_part: its columns, the effect of statements on it, which rows fit, their order
--- and their amounts.
-use Rattle.std.specs.Prelude.{◌≡◌, ◌<◌, ◌⊎◌, pos, List, [], ◌∷◌}
+-- The table share_part: its columns, the effect of statements on it, which rows fit, and their
+-- amounts.
+use Rattle.std.specs.Prelude.{pos, [], ◌∷◌}
 use Rattle.sqlite_value.specs.declared.value.Value.TheVariants.{Int}
 use Rattle.sqlite_value.specs.Order.{Row}
-use Rattle.sqlite_trees.specs.Tree.{IsAscending}
 use Rattle.office_tables.specs.declared.share_part.PartShareRow.{PartShareRow}
 use Rattle.office_tables.specs.Amounts.{IsStorable}
 use Rattle.office_tables.specs.Records.{IsNarrow}
@@ -25,11 +24,6 @@ no_part_shares t = record t { share_part = [] }
 -- the kind and the number of a share have 32 bits; its amounts may have 64
 abbrev pub FitsPartShare : PartShareRow → Type 0
 FitsPartShare r = IsNarrow r.kind × IsNarrow r.no
-
--- by kind, and in a kind by number, strictly ascending
-abbrev pub PartSharesRise : List PartShareRow → Type 0
-PartSharesRise =
-    IsAscending (λ (a b : PartShareRow). (a.kind < b.kind) ⊎ ((a.kind ≡ b.kind) × (a.no < b.no)))
 
 -- both parts of such a share are sums that the tables can hold
 pub record ArePartAmounts (row : PartShareRow) : Type 0 where

