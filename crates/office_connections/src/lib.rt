@@ -12,7 +12,7 @@ mod timed;
 
 pub use accepting::{Plan, Service, accept_all};
 pub use listening::{Listening, MAX_PORT, Sockets, announce, listen};
-pub use running::{RunFault, serve_run};
+pub use running::{RunFault, announce_and_accept};
 pub use serving::answer_client;
 pub use shutting::MayShut;
 pub use timed::Timed;

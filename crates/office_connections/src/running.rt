@@ -27,7 +27,7 @@ pub enum RunFault {
 /// Announces the port on `out`, then serves the plan's clients, one after another; for each
 /// connection that ends with a fault a line is printed to `err`. Returns how many of these lines
 /// could not be written.
-pub fn serve_run<
+pub fn announce_and_accept<
     C: Clock,
     M: Machine + MayShut,
     R: Read + Timed + Drop,

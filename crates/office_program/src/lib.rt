@@ -23,5 +23,5 @@ pub use ending::Ending;
 pub use exporting::{ExportFault, export_run};
 pub use loading::{LoadFault, load_run};
 pub use program::{refuse_arguments, run_program};
-pub use serving::{serve_at_desk, serve_desk, serve_stored};
+pub use serving::{listen_and_serve, serve_clients, serve_office};
 pub use words::{Task, Terms, read_words, words_of};

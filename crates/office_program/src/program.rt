@@ -26,7 +26,7 @@ use crate::faults::{ProgramFault, fault_of_input, fault_of_load, fault_of_open};
 use crate::judging::check_all;
 use crate::loading::load_run;
 use crate::notices::{LongWork, announce, announce_upgrade};
-use crate::serving::serve;
+use crate::serving::open_and_serve;
 use crate::words::{Task, read_words};
 use clap::Error;
 use clap::error::ErrorKind;
@@ -126,7 +126,7 @@ fn run_task<'a, W: Write, E: Write>(
             check_all(rt, session, solutions, *form, out, err)
         }
         Task::Load(database, instance) => load(rt, database, instance, out),
-        Task::Serve(database, terms) => serve(rt, database, *terms, out, err),
+        Task::Serve(database, terms) => open_and_serve(rt, database, *terms, out, err),
         Task::Export(database) => export(rt, database, out),
         Task::Explain(words) => explain(words, out),
     }

@@ -16,14 +16,14 @@ use crate::ending::Ending;
 use crate::faults::{ProgramFault, fault_of_open, fault_of_run};
 use crate::notices::{LongWork, announce, announce_new, announce_upgrade};
 use crate::words::Terms;
-use office_connections::{Plan, Timed, listen, serve_run};
+use office_connections::{Plan, Timed, announce_and_accept, listen};
 use office_http::{Alter, Connection, Desk, Office, Routes};
 use std::fs;
 use std::io::{Read, Write};
 use std::time::Duration;
 
 // Runs `serve`. It opens the database, and finds or creates its office, before it opens the port.
-pub(crate) fn serve<'a, O: Write, E: Write>(
+pub(crate) fn open_and_serve<'a, O: Write, E: Write>(
     rt: &HostRuntime,
     database: &str,
     terms: Terms,
@@ -46,7 +46,7 @@ pub(crate) fn serve<'a, O: Write, E: Write>(
         announce_new(rt, database);
     }
     announce_upgrade(rt, database, &conn);
-    let (conn, done) = serve_stored(rt, database, conn, terms, out, err);
+    let (conn, done) = serve_office(rt, database, conn, terms, out, err);
     // A log that can't be copied into the file stays next to it, and is read there.
     let _ = conn.close();
     done
@@ -54,7 +54,7 @@ pub(crate) fn serve<'a, O: Write, E: Write>(
 
 /// Serves the office of a database, and returns its connection. The office is created if the
 /// database has no table, index or view.
-pub fn serve_stored<'a, S: Alter, O: Write, E: Write>(
+pub fn serve_office<'a, S: Alter, O: Write, E: Write>(
     rt: &HostRuntime,
     database: &str,
     conn: Connection<S>,
@@ -69,7 +69,7 @@ pub fn serve_stored<'a, S: Alter, O: Write, E: Write>(
         → ((state S.Store conn).now ≡ (state S.Store conn).committed)
         → (there : OfficeState) → IsOfficeOf (state S.Store conn).now there
         → ReachesByServing terms.connections there (state S.Store result.0) }
-    // The same as for `serve_desk`.
+    // The same as for `listen_and_serve`.
     ensures served { IfOk result.1 (PrintsServed terms (O.contents out.old) (O.contents out.new)
         (E.contents err.old) (E.contents err.new)) }
     ensures fault { IfErr result.1 IsOfServe }
@@ -81,12 +81,12 @@ pub fn serve_stored<'a, S: Alter, O: Write, E: Write>(
         Err((fault, conn)) => return (conn, Err(ProgramFault::Store(fault))),
     };
     let mut desk = Desk::new(office);
-    let done = serve_desk(rt, database, terms, &mut desk, out, err);
+    let done = listen_and_serve(rt, database, terms, &mut desk, out, err);
     (desk.into_office().release(), done)
 }
 
 /// Serves the office at a desk to the clients of a port, one after another, as the terms say.
-pub fn serve_desk<'a, S: Alter, O: Write, E: Write>(
+pub fn listen_and_serve<'a, S: Alter, O: Write, E: Write>(
     rt: &HostRuntime,
     database: &str,
     terms: Terms,
@@ -112,7 +112,7 @@ pub fn serve_desk<'a, S: Alter, O: Write, E: Write>(
         return Err(ProgramFault::CannotListen);
     };
     let mut clients = listening.clients();
-    serve_at_desk(
+    serve_clients(
         rt,
         database,
         terms,
@@ -126,7 +126,7 @@ pub fn serve_desk<'a, S: Alter, O: Write, E: Write>(
 
 /// Serves the office at a desk to clients, each a reader and a writer, in the order of arrival:
 /// prints the port, then serves as many clients as the terms say, while the store is open.
-pub fn serve_at_desk<
+pub fn serve_clients<
     'a,
     S: Alter,
     R: Read + Timed + Drop,
@@ -177,7 +177,7 @@ pub fn serve_at_desk<
         is_shut: false,
     };
     let plan = plan_of(terms);
-    match serve_run(rt.alloc(), rt, port, clients, plan, &mut machine, out, err) {
+    match announce_and_accept(rt.alloc(), rt, port, clients, plan, &mut machine, out, err) {
         Ok(unwritten) => Ok(Ending {
             status: 0,
             is_err_written: unwritten == 0,

@@ -5,7 +5,7 @@ use Rattle.office_store.specs.Opening.{IsOfficeOf}
 use Rattle.office_store.specs.Running.{Represents}
 use Rattle.office_program.proofs.ServeFacts.{nobody_served}
 use Rattle.office_store.proofs.OpenLemmas.{kept_holds}
-use Rattle.office_program.proofs.serving.serve_stored.Goals as goal
+use Rattle.office_program.proofs.serving.serve_office.Goals as goal
 
 -- no office was found, and the tables are unchanged
 pub returns-in-Err-clause-reached : goal.returns-in-Err-clause-reached
@@ -28,10 +28,10 @@ returns-clause-reached g c = λ clean kept there is.
     let made = c.new-desk.ensures in
     let at_end = subst (λ held. HasCleanDisk (state g.S.Store held)) same clean in
     let begun = subst (λ held. HasCleanDisk (state g.S.Store held)) made
-    (c.serve_desk-done.ensures.clean at_end) in
+    (c.listen_and_serve-done.ensures.clean at_end) in
     let now = subst (λ held. Represents (state g.S.Store held) there) (sym made)
     (c.in-Ok.ensures.found begun there is) in
-    let x = c.serve_desk-done.ensures.reached in
+    let x = c.listen_and_serve-done.ensures.reached in
     let led = x.serves.served at_end there now in
     let after = subst (λ held. Represents (state g.S.Store held) led.0) (sym same) led.2 in (
       x.serves.visits,

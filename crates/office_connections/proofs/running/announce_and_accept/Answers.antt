@@ -1,7 +1,7 @@
 use Rattle.std.proofs.Common.{[], arith, inl, refl}
 use Rattle.std.proofs.KnownBytes.{Appends-nil}
 use Rattle.office_connections.proofs.ClientLemmas.{no_client}
-use Rattle.office_connections.proofs.running.serve_run.Goals as goal
+use Rattle.office_connections.proofs.running.announce_and_accept.Goals as goal
 
 -- no client was served
 pub returns-then-is_err-clause-served : goal.returns-then-is_err-clause-served

@@ -4,7 +4,7 @@ use Rattle.sqlite.specs.declared.error.Error.TheVariants.{SqliteFailure}
 use Rattle.sqlite.specs.declared.error.ErrorCode.TheVariants.{OutOfMemory}
 use Rattle.office_connections.proofs.ClientLemmas.{no_client}
 use Rattle.office_program.proofs.ServeFacts.{desk_clean, desk_serves, desk_shut, serves_nobody}
-use Rattle.office_program.proofs.serving.serve_at_desk.Goals as goal
+use Rattle.office_program.proofs.serving.serve_clients.Goals as goal
 
 pub returns-in_default-clause-served : goal.returns-in_default-clause-served
 returns-in_default-clause-served g c =
@@ -15,9 +15,9 @@ pub returns-in_default-clause-fault : goal.returns-in_default-clause-fault
 returns-in_default-clause-fault g c = inl (SqliteFailure OutOfMemory, refl)
 
 -- the planned number of clients was served
-pub returns-in-Ok-serve_run-clause-served : goal.returns-in-Ok-serve_run-clause-served
-returns-in-Ok-serve_run-clause-served g c =
-    let x = c.in-Ok-serve_run.ensures.served in
+pub returns-in-Ok-announce_and_accept-clause-served : goal.returns-in-Ok-announce_and_accept-clause-served
+returns-in-Ok-announce_and_accept-clause-served g c =
+    let x = c.in-Ok-announce_and_accept.ensures.served in
     let plan = c.plan_of-plan.ensures.connections in
     record {
       service = x.service;
@@ -28,10 +28,10 @@ returns-in-Ok-serve_run-clause-served g c =
       fewer = tt;
     }
 
-pub returns-in-Ok-serve_run-clause-clean : goal.returns-in-Ok-serve_run-clause-clean
-returns-in-Ok-serve_run-clause-clean g c =
+pub returns-in-Ok-announce_and_accept-clause-clean : goal.returns-in-Ok-announce_and_accept-clause-clean
+returns-in-Ok-announce_and_accept-clause-clean g c =
     desk_clean g.S.Store (λ m. m.desk.ghost_name) (λ m. m.desk.now) (λ m. m.is_shut) _ _ _
-    c.desk-1.given.1 _ _ _ _ c.in-Ok-serve_run.ensures.served.serves
+    c.desk-1.given.1 _ _ _ _ c.in-Ok-announce_and_accept.ensures.served.serves
 
 -- the store is closed; or fewer clients were served, or none
 pub returns-clause-served : goal.returns-clause-served
