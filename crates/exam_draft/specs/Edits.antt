@@ -35,7 +35,7 @@ unless_broken (Some breach) T = Err (Broken breach)
 
 -- the timetable, unless a breach names an edited exam: then the least one that does
 abbrev pub if_unbroken : Session → Enrolled → List ℕ → Placing → Edited
-if_unbroken I E edited T = unless_broken (least_breach_of I E T edited) T
+if_unbroken I E exams T = unless_broken (least_breach_of I E T exams) T
 
 -- an exam gets this place, whether or not it had one
 abbrev pub after_put : Session → Enrolled → Placing → ℕ → Place → Edited
@@ -71,8 +71,8 @@ after_clear I T e = do
   Ok (slice_set T e None)
 
 -- the result of any edit
-abbrev pub edited : Session → Enrolled → Placing → Edit → Edited
-edited I E T (edit.Place e at) = after_place I E T e at
-edited I E T (edit.Move e at) = after_move I E T e at
-edited I E T (edit.Swap a b) = after_swap I E T a b
-edited I E T (edit.Clear e) = after_clear I T e
+abbrev pub edit_result : Session → Enrolled → Placing → Edit → Edited
+edit_result I E T (edit.Place e at) = after_place I E T e at
+edit_result I E T (edit.Move e at) = after_move I E T e at
+edit_result I E T (edit.Swap a b) = after_swap I E T a b
+edit_result I E T (edit.Clear e) = after_clear I T e

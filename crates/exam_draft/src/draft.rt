@@ -1,10 +1,10 @@
 // A draft: contracts see the instance, the enrolments and the timetable.
 ghost use Rattle.std.specs.Prelude.{◌≡◌, ◌<◌, length, All, Ok, IfOk, IfErr, OnOk, OnErr};
-ghost use Rattle.exam_model.specs.Timetable.{unplaced};
+ghost use Rattle.exam_model.specs.Timetable.{empty_timetable};
 ghost use Rattle.exam_model.specs.Fits.{Fits};
 ghost use Rattle.exam_score.specs.Changes.{DiffersAtMost};
 ghost use Rattle.exam_score.specs.Track.{track};
-ghost use Rattle.exam_draft.specs.Edits.{edited};
+ghost use Rattle.exam_draft.specs.Edits.{edit_result};
 ghost use Rattle.exam_draft.specs.Judged.{edited_exams, IsEditedAt, Refuses};
 
 use crate::edit::Edit;
@@ -52,7 +52,7 @@ impl<'a> Draft<'a> {
         ensures { IfOk result (λ made. made ≡ record {
           instance = instance.now;
           enrolments = enrolments.now;
-          timetable = unplaced (length instance.now.exams);
+          timetable = empty_timetable (length instance.now.exams);
         }) }
     {
         let timetable = Timetable::new(alloc, instance.exams())?;
@@ -127,10 +127,10 @@ impl<'a> Draft<'a> {
     }
 
     // Returns the edited timetable, or why the edit is refused.
-    pub(crate) fn judged(&self, alloc: Global, edit: Edit) -> Result<Timetable, EditFault>
-        ensures ok { IfOk result (λ next. edited self.now.instance self.now.enrolments
+    pub(crate) fn edited_timetable(&self, alloc: Global, edit: Edit) -> Result<Timetable, EditFault>
+        ensures ok { IfOk result (λ next. edit_result self.now.instance self.now.enrolments
             self.now.timetable edit ≡ Ok next) }
-        ensures refused { IfErr result (Refuses (edited self.now.instance self.now.enrolments
+        ensures refused { IfErr result (Refuses (edit_result self.now.instance self.now.enrolments
             self.now.timetable edit)) }
         ensures kept { IfOk result (IsEditedAt self.now.instance self.now.enrolments
             self.now.timetable (edited_exams edit)) }

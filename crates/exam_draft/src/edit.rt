@@ -1,6 +1,6 @@
 // An edit of a timetable, as a value.
 ghost use Rattle.std.specs.Prelude.{◌≡◌, IfErr, IfOk, Ok, OnErr, OnOk};
-ghost use Rattle.exam_draft.specs.Edits.{edited};
+ghost use Rattle.exam_draft.specs.Edits.{edit_result};
 ghost use Rattle.exam_draft.specs.Judged.{Refuses, edited_exams};
 
 use crate::draft::Draft;
@@ -37,15 +37,15 @@ impl Edit {
 impl<'a> Draft<'a> {
     /// Makes the edit, or returns why it is refused.
     pub fn apply(&mut self, alloc: Global, edit: Edit) -> Result<(), EditFault>
-        ensures ok { OnOk result (edited self.old.instance self.old.enrolments
+        ensures ok { OnOk result (edit_result self.old.instance self.old.enrolments
             self.old.timetable edit ≡ Ok self.new.timetable) }
         // The first refusal that applies, or out of memory instead.
-        ensures refused { IfErr result (Refuses (edited self.old.instance self.old.enrolments
+        ensures refused { IfErr result (Refuses (edit_result self.old.instance self.old.enrolments
             self.old.timetable edit)) }
         ensures same { self.new ≡ record self.old { timetable = self.new.timetable } }
         ensures err { OnErr result (self.new ≡ self.old) }
     {
-        let next = self.judged(alloc, edit)?;
+        let next = self.edited_timetable(alloc, edit)?;
         let exams = edit.exams(alloc)?;
         self.accept(alloc, next, &exams)?;
         Ok(())

@@ -2,7 +2,7 @@
 ghost use Rattle.std.specs.Prelude.{◌≡◌, ◌<◌, ◌&&◌, [], ◌∷◌, length, All, Ok, Some, IfErr, IfOk, OnOk};
 ghost use Rattle.exam_model.specs.Fits.{Fits, PlaceExists};
 ghost use Rattle.exam_draft.specs.Edits.{after_place, after_move, after_swap, after_clear};
-ghost use Rattle.exam_draft.specs.Edits.{after_put, edited, if_unbroken};
+ghost use Rattle.exam_draft.specs.Edits.{after_put, edit_result, if_unbroken};
 ghost use Rattle.exam_draft.specs.Judged.{edited_exams, Refuses, IsEditedAt};
 ghost use Rattle.exam_draft.specs.Edits.{exam_exists, place_exists, is_placed};
 
@@ -23,10 +23,10 @@ pub fn judge(
     edit: Edit,
 ) -> Result<Timetable, EditFault>
     requires fits { Fits instance.now enrolments.now timetable.now }
-    ensures ok { IfOk result (λ next. edited instance.now enrolments.now timetable.now edit
+    ensures ok { IfOk result (λ next. edit_result instance.now enrolments.now timetable.now edit
         ≡ Ok next) }
     // The first refusal that applies, or out of memory instead.
-    ensures refused { IfErr result (Refuses (edited instance.now enrolments.now timetable.now
+    ensures refused { IfErr result (Refuses (edit_result instance.now enrolments.now timetable.now
         edit)) }
     ensures kept { IfOk result (IsEditedAt instance.now enrolments.now timetable.now
         (edited_exams edit)) }

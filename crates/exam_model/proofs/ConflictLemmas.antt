@@ -9,7 +9,7 @@ use Rattle.std.proofs.lemmas.List.Elements.{All-append, All-from_recursion, All-
 use Rattle.std.proofs.lemmas.List.Folds.{list_any-append}
 use Rattle.std.proofs.lemmas.List.Sums.{sum_by-append, sum_by-cons, sum_by-take-drop}
 use Rattle.exam_model.specs.Conflicts.{conflict_if, conflicts_below, conflicts_of, conflicts_with, is_conflict}
-use Rattle.exam_model.specs.Enrolments.{AreEnrolments, Enrolled, IsAscending, has_number, shared, students}
+use Rattle.exam_model.specs.Enrolments.{AreEnrolments, Enrolled, IsAscending, has_number, shared_students, students}
 use Rattle.exam_model.specs.Pairs.{Pair}
 use Rattle.exam_model.specs.Sitters.{is_sitter}
 use Rattle.exam_model.specs.Sums.{sum_below, sum_pairs_below}
@@ -37,14 +37,14 @@ sum_if g e f n =
     ] refl
 
 sum_with : (g : ℕ → ℕ → ℕ) (E : Enrolled) (f n : ℕ)
-    → sum_by (weighed g) (conflicts_with E f n) ≡ sum_below n (λ e. shared E e f * g e f)
+    → sum_by (weighed g) (conflicts_with E f n) ≡ sum_below n (λ e. shared_students E e f * g e f)
 sum_with g E f zero = refl
 sum_with g E f (suc n) =
-    sum_by-append (weighed g) (conflicts_with E f n) (conflict_if n f (shared E n f))
-    ∙ ap₂ (λ a b. a + b) (sum_with g E f n) (sum_if g n f (shared E n f))
+    sum_by-append (weighed g) (conflicts_with E f n) (conflict_if n f (shared_students E n f))
+    ∙ ap₂ (λ a b. a + b) (sum_with g E f n) (sum_if g n f (shared_students E n f))
 
 sum_less : (g : ℕ → ℕ → ℕ) (E : Enrolled) (n : ℕ)
-    → sum_by (weighed g) (conflicts_below E n) ≡ sum_pairs_below n (λ e f. shared E e f * g e f)
+    → sum_by (weighed g) (conflicts_below E n) ≡ sum_pairs_below n (λ e f. shared_students E e f * g e f)
 sum_less g E zero = refl
 sum_less g E (suc f) =
     sum_by-append (weighed g) (conflicts_below E f) (conflicts_with E f f)
@@ -53,7 +53,7 @@ sum_less g E (suc f) =
 -- the sum over all conflicts is the sum over all pairs of exams
 pub sum_of_conflicts : (g : ℕ → ℕ → ℕ) (E : Enrolled)
     → sum_by (λ c. c.students * g c.exam c.other) (conflicts_of E)
-    ≡ sum_pairs_below (length E) (λ e f. shared E e f * g e f)
+    ≡ sum_pairs_below (length E) (λ e f. shared_students E e f * g e f)
 sum_of_conflicts g E = sum_less g E (length E)
 
 -- ---- counts along a list
@@ -107,7 +107,7 @@ eqb-swap a b = grind (arith, nat_tests)
 
 -- each student of exam f counted among those of exam e: the students that they share
 pub shared_by_sitters : (E : Enrolled) (e f : ℕ) → AreEnrolments E → f < length E
-    → sum_by (λ s. count_by (λ t. t == s) (students E e)) (students E f) ≡ shared E e f
+    → sum_by (λ s. count_by (λ t. t == s) (students E e)) (students E f) ≡ shared_students E e f
 shared_by_sitters E e f known lt =
     sum_by-turned (λ s t. cond (t == s) 1 0) (students E f) (students E e)
     ∙ sum_by-same _ _ (λ t.
@@ -123,12 +123,12 @@ each_mapped f P (x ∷ xs) h = (h.0, each_mapped f P xs h.1)
 -- ---- one exam more
 
 -- it shares students
-pub with_some : (E : Enrolled) (f e n : ℕ) (old found : List Conflict) → n ≡ shared E e f → n ≢ 0
+pub with_some : (E : Enrolled) (f e n : ℕ) (old found : List Conflict) → n ≡ shared_students E e f → n ≢ 0
     → found ≡ old ++ conflicts_with E f e
     → found ++ record { exam = e; other = f; students = n } ∷ [] ≡ old ++ conflicts_with E f (e + 1)
 with_some E f e n old found is some was =
     let y : Conflict = record { exam = e; other = f; students = n } in
-    let step : conflict_if e f (shared E e f) ≡ y ∷ [] =
+    let step : conflict_if e f (shared_students E e f) ≡ y ∷ [] =
     ap (conflict_if e f) (sym is) ∙ ap (λ b. cond b [] (y ∷ [])) (ne_eqb n 0 some) in
     ap (λ xs. xs ++ y ∷ []) was
     ∙ append_assoc old (conflicts_with E f e) (y ∷ [])
@@ -136,7 +136,7 @@ with_some E f e n old found is some was =
     ∙ sym (ap (λ k. old ++ conflicts_with E f k) (add-one e))
 
 -- it shares none
-pub with_none : (E : Enrolled) (f e : ℕ) (old found : List Conflict) → 0 ≡ shared E e f
+pub with_none : (E : Enrolled) (f e : ℕ) (old found : List Conflict) → 0 ≡ shared_students E e f
     → found ≡ old ++ conflicts_with E f e → found ≡ old ++ conflicts_with E f (e + 1)
 with_none E f e old found is was =
     was
@@ -162,9 +162,9 @@ exist_with : (E : Enrolled) (f n m : ℕ) → n ≤ m → f < m
 exist_with E f zero m le lt = All-nil (λ (c : Conflict). (c.exam < m) × (c.other < m))
 exist_with E f (suc n) m le lt =
     All-append (λ (c : Conflict). (c.exam < m) × (c.other < m)) (conflicts_with E f n)
-    (conflict_if n f (shared E n f))
+    (conflict_if n f (shared_students E n f))
     (exist_with E f n m (omega arith) lt)
-    (exist_if n f (shared E n f) m (omega arith) lt)
+    (exist_if n f (shared_students E n f) m (omega arith) lt)
 
 exist_below : (E : Enrolled) (n m : ℕ) → n ≤ m
     → All (λ (c : Conflict). (c.exam < m) × (c.other < m)) (conflicts_below E n)
@@ -220,12 +220,12 @@ with_step e f b n s =
     with_other t se sn less same more k l = rw (k, l) (or-false ((more && t) && se))
 
 any_with : (E : Enrolled) (e f b n : ℕ) → list_any (is_conflict e f) (conflicts_with E b n)
-    ≡ ((ltb e n && (b == f)) && ltb 0 (shared E e b))
+    ≡ ((ltb e n && (b == f)) && ltb 0 (shared_students E e b))
 any_with E e f b zero = rw (le-ltb e 0 (omega arith)) refl
 any_with E e f b (suc n) =
-    list_any-append (is_conflict e f) (conflicts_with E b n) (conflict_if n b (shared E n b))
-    ∙ ap₂ (λ p q. p || q) (any_with E e f b n) (any_if e f n b (shared E n b))
-    ∙ with_step e f b n (λ k. ltb 0 (shared E k b))
+    list_any-append (is_conflict e f) (conflicts_with E b n) (conflict_if n b (shared_students E n b))
+    ∙ ap₂ (λ p q. p || q) (any_with E e f b n) (any_if e f n b (shared_students E n b))
+    ∙ with_step e f b n (λ k. ltb 0 (shared_students E k b))
 
 below_step : (e f b n : ℕ) (s : ℕ → Bool)
     → (((ltb f n && ltb e f) && s f) || ((ltb e n && (n == f)) && s n))
@@ -250,21 +250,21 @@ below_step e f b n s =
         ∙ or-false ((more && ef) && sf))
 
 any_below : (E : Enrolled) (e f n : ℕ) → list_any (is_conflict e f) (conflicts_below E n)
-    ≡ ((ltb f n && ltb e f) && ltb 0 (shared E e f))
+    ≡ ((ltb f n && ltb e f) && ltb 0 (shared_students E e f))
 any_below E e f zero = rw (le-ltb f 0 (omega arith)) refl
 any_below E e f (suc n) =
     list_any-append (is_conflict e f) (conflicts_below E n) (conflicts_with E n n)
     ∙ ap₂ (λ p q. p || q) (any_below E e f n) (any_with E e f n n)
-    ∙ below_step e f n n (λ k. ltb 0 (shared E e k))
+    ∙ below_step e f n n (λ k. ltb 0 (shared_students E e k))
 
-none_shared : (E : Enrolled) (e f : ℕ) → length E ≤ f → shared E e f ≡ 0
+none_shared : (E : Enrolled) (e f : ℕ) → length E ≤ f → shared_students E e f ≡ 0
 none_shared E e f past =
     ap (λ xs. count_by (λ s. has_number xs s) (students E e)) (get_or_past E f [] past)
     ∙ sum_by-zeros (students E e)
 
 -- the conflicts are the pairs of exams that share a student, the smaller one first
 pub conflict_members : (E : Enrolled) (e f : ℕ)
-    → list_any (is_conflict e f) (conflicts_of E) ≡ (ltb e f && ltb 0 (shared E e f))
+    → list_any (is_conflict e f) (conflicts_of E) ≡ (ltb e f && ltb 0 (shared_students E e f))
 conflict_members E e f =
     any_below E e f (length E)
     ∙ (elim (cases_lt f (length E)) [

@@ -1,6 +1,6 @@
 -- The pairs of exams that share students, and those of one list of enrolments in order.
 use Rattle.std.specs.Prelude.{◌≡◌, ℕ, zero, suc, ◌<◌, ◌≤◌, Bool, ◌&&◌, ◌==◌, if◌then◌else◌, List, [], ◌∷◌, ◌++◌, length, slice_index}
-use Rattle.exam_model.specs.Enrolments.{Enrolled, shared}
+use Rattle.exam_model.specs.Enrolments.{Enrolled, shared_students}
 use Rattle.exam_model.specs.declared.conflicts.Conflict.{Conflict}
 
 -- the conflict of two exams that share n students; none if n is 0
@@ -10,7 +10,7 @@ conflict_if e f n = if n == 0 then [] else record { exam = e; other = f; student
 -- the conflicts of exam f with the exams below n
 abbrev pub conflicts_with : Enrolled → ℕ → ℕ → List Conflict
 conflicts_with E f zero = []
-conflicts_with E f (suc n) = conflicts_with E f n ++ conflict_if n f (shared E n f)
+conflicts_with E f (suc n) = conflicts_with E f n ++ conflict_if n f (shared_students E n f)
 
 -- the conflicts of the exams below n with smaller ones
 abbrev pub conflicts_below : Enrolled → ℕ → List Conflict
@@ -31,5 +31,5 @@ AreZeros counts = (e : ℕ) → e < length counts → slice_index counts e ≡ 0
 
 -- how many students each exam below f shares with exam f, and nothing for the others
 pub record AreShared (E : Enrolled) (f : ℕ) (counts : List ℕ) : Type 0 where
-  pub each : (e : ℕ) → e < f → slice_index counts e ≡ shared E e f
+  pub each : (e : ℕ) → e < f → slice_index counts e ≡ shared_students E e f
   pub others : (e : ℕ) → f ≤ e → slice_index counts e ≡ 0

@@ -34,8 +34,8 @@ abbrev pub size_of : Enrolled → ℕ → ℕ
 size_of E e = length (students E e)
 
 -- how many students are paired with both exams
-abbrev pub shared : Enrolled → ℕ → ℕ → ℕ
-shared E e f = count_by (λ s. has E s f) (students E e)
+abbrev pub shared_students : Enrolled → ℕ → ℕ → ℕ
+shared_students E e f = count_by (λ s. has E s f) (students E e)
 
 -- how many pairs there are
 abbrev pub pair_count : Enrolled → ℕ

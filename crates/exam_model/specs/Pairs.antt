@@ -1,7 +1,7 @@
 -- Enrolments as one list of pairs, by exam and then by student.
 use Rattle.std.specs.Prelude.{◌≡◌, ℕ, ◌+◌, ◌<◌, ◌⊎◌, Bool, ◌&&◌, ◌==◌, List, [], ◌∷◌, ◌++◌, map, length, count_by, AllPairs}
 use Rattle.std.specs.List.{list_any}
-use Rattle.exam_model.specs.Enrolments.{Enrolled, has, size_of, shared, pair_count}
+use Rattle.exam_model.specs.Enrolments.{Enrolled, has, size_of, shared_students, pair_count}
 
 -- a student and an exam that they sit
 pub record Pair : Type 0 where
@@ -38,5 +38,6 @@ pub record ArePairsOf (E : Enrolled) (pairs : List Pair) : Type 0 where
   pub members : (s e : ℕ) → list_any (is_pair s e) pairs ≡ has E s e
   pub count : length pairs ≡ pair_count E
   pub sizes : (e : ℕ) → count_by (λ p. p.exam == e) pairs ≡ size_of E e
-  pub sharing : (e f : ℕ) → count_by (λ p. (p.exam == e) && has E p.student f) pairs ≡ shared E e f
+  pub sharing : (e f : ℕ) → count_by (λ p. (p.exam == e) && has E p.student f) pairs
+      ≡ shared_students E e f
   pub ordered : AreInOrder pairs

@@ -18,8 +18,8 @@ period_number None = NO_PERIOD
 period_number (Some at) = at.period
 
 -- a timetable of this many exams, none of which is placed
-abbrev pub unplaced : ℕ → Placing
-unplaced exams = replicate exams None
+abbrev pub empty_timetable : ℕ → Placing
+empty_timetable exams = replicate exams None
 
 -- the number of exams is within the limits of a timetable
 abbrev pub HasExams : Placing → Type 0

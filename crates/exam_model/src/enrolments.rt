@@ -3,7 +3,7 @@ ghost use Rattle.std.specs.Prelude.{◌≡◌, ◌<◌, ◌≤◌, [], not, leng
 ghost use Rattle.exam_terms.specs.declared.limits.TheConstants.{MAX_EXAMS};
 ghost use Rattle.exam_model.specs.Changes.{with_pair, without_pair};
 ghost use Rattle.exam_model.specs.Conflicts.{conflicts_of};
-ghost use Rattle.exam_model.specs.Enrolments.{Enrolled, AreEnrolments, IsAscending, Adds, Removes, RefusesPair, RefusesAll, students, has, size_of, shared, pair_count, no_pairs};
+ghost use Rattle.exam_model.specs.Enrolments.{Enrolled, AreEnrolments, IsAscending, Adds, Removes, RefusesPair, RefusesAll, students, has, size_of, shared_students, pair_count, no_pairs};
 
 use crate::conflicts::{Conflict, conflicts_of};
 use crate::fault::ModelFault;
@@ -126,7 +126,7 @@ impl Enrolments {
     pub fn shared(&self, exam: ExamNo, other: ExamNo) -> u32
         requires exists { exam < length self.now }
         requires other_exists { other < length self.now }
-        ensures shared { result ≡ shared self.now exam other }
+        ensures shared { result ≡ shared_students self.now exam other }
         ensures within { result ≤ size_of self.now exam }
     {
         self.lemma_order();

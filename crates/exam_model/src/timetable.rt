@@ -1,7 +1,7 @@
 // A timetable: contracts see a list with each exam's place, if it has one.
 ghost use Rattle.std.specs.Prelude.{◌≡◌, ◌<◌, ◌≤◌, ℕ, length, map, Some, None, IfOk, IfNone, IfSome, IsSome, slice_set};
 ghost use Rattle.exam_terms.specs.declared.limits.TheConstants.{MAX_EXAMS};
-ghost use Rattle.exam_model.specs.Timetable.{Placing, period_number, place_of, unplaced, HasExams, IsFirstUnplaced};
+ghost use Rattle.exam_model.specs.Timetable.{Placing, period_number, place_of, empty_timetable, HasExams, IsFirstUnplaced};
 
 use exam_terms::{ExamNo, Place};
 use std::alloc::{AllocError, Global};
@@ -30,7 +30,7 @@ impl Timetable {
     pub fn new(alloc: Global, exams: u32) -> Result<Timetable, AllocError>
         requires at_least { 1 ≤ exams }
         requires at_most { exams ≤ MAX_EXAMS }
-        ensures { IfOk result (λ made. made ≡ unplaced exams) }
+        ensures { IfOk result (λ made. made ≡ empty_timetable exams) }
     {
         let places = vec![in alloc; None; exams as usize]?;
         Ok(Timetable { places })

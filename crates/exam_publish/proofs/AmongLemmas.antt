@@ -16,7 +16,7 @@ use Rattle.exam_model.proofs.SumLemmas.{chain_from_index}
 use Rattle.exam_score.specs.Penalty.{PersonalPenalty, personal_total}
 use Rattle.exam_publish.specs.declared.seat_row.SeatRow.{SeatRow}
 use Rattle.exam_publish.specs.AddUp.{AreSmall, share_total}
-use Rattle.exam_publish.specs.Changed.{ascending, rows_among, rows_of, students_of}
+use Rattle.exam_publish.specs.Changed.{sorted_numbers, rows_among, rows_of, students_of}
 use Rattle.exam_publish.specs.Rows.{ArePublishedRows, IsAtExam, RowBefore}
 use Rattle.exam_publish.specs.Shares.{share_of, shares_among, shares_of, student_shares}
 use Rattle.exam_publish.proofs.ListLemmas.{ascending_from_chain, ascends, chain_ascending, chain_filter, each_filter, has_ascending, has_filter, index_from_chain}
@@ -112,14 +112,14 @@ students_among : (rows : List SeatRow) (students : List ℕ)
 students_among rows students =
     let p = has_number students in
     let numbers : List ℕ = map (λ row. row.student) rows in
-    ap ascending (map_filter (λ (row : SeatRow). row.student) p rows)
-    ∙ same_list (ascending (filter p numbers)) (filter p (ascending numbers))
+    ap sorted_numbers (map_filter (λ (row : SeatRow). row.student) p rows)
+    ∙ same_list (sorted_numbers (filter p numbers)) (filter p (sorted_numbers numbers))
     (ascends (filter p numbers))
-    (ascending_from_chain (filter p (ascending numbers))
-    (chain_filter (λ x y. x < y) p (ascending numbers) (chain_ascending numbers)))
+    (ascending_from_chain (filter p (sorted_numbers numbers))
+    (chain_filter (λ x y. x < y) p (sorted_numbers numbers) (chain_ascending numbers)))
     (λ t. has_ascending (filter p numbers) t ∙ has_filter p numbers t
     ∙ ap (λ b. p t && b) (sym (has_ascending numbers t))
-    ∙ sym (has_filter p (ascending numbers) t))
+    ∙ sym (has_filter p (sorted_numbers numbers) t))
 
 own_among : (students : List ℕ) (s : ℕ) → has_number students s ≡ true → (rows : List SeatRow)
     → rows_of s (rows_among students rows) ≡ rows_of s rows

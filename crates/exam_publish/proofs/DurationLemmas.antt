@@ -19,7 +19,7 @@ use Rattle.exam_model.specs.Instance.{Session}
 use Rattle.exam_model.specs.Sums.{sum_below}
 use Rattle.exam_model.specs.Timetable.{Placing}
 use Rattle.exam_model.proofs.SumLemmas.{IsChain, chain_weaker, each_weaker, sum_by-agree, sum_by-once, sum_below-same, sum_below-within, sum_below-turned, sum_below-at}
-use Rattle.exam_score.specs.MixedDurations.{duration_count, lasting, durations, room_mixed}
+use Rattle.exam_score.specs.MixedDurations.{duration_count, exams_with_duration, durations, room_mixed}
 use Rattle.exam_score.specs.Stays.{is_stay, StayExists, AreStays}
 use Rattle.exam_score.specs.declared.mixed.Stay.{Stay}
 use Rattle.exam_publish.specs.Durations.{is_in_slot, AreDurations}
@@ -105,7 +105,7 @@ any_dedup p xs =
 
 -- stays without repeats, one for each stay that some exam has
 pub record AreKinds (I : Session) (T : Placing) (kinds : List Stay) : Type 0 where
-  pub members : (p r m : ℕ) → list_any (is_stay p r m) kinds ≡ nat_lt 0 (lasting I T p r m)
+  pub members : (p r m : ℕ) → list_any (is_stay p r m) kinds ≡ nat_lt 0 (exams_with_duration I T p r m)
   pub once : IsChain (λ x y. stay_cmp x y ≡ Less) kinds
   pub exist : All (StayExists I) kinds
 

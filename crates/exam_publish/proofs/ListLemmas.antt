@@ -9,7 +9,7 @@ use Rattle.exam_model.specs.Enrolments.{IsAscending, has_number}
 use Rattle.exam_model.proofs.SumLemmas.{IsChain}
 use Rattle.exam_model.proofs.SameSet.{same_list}
 use Rattle.exam_model.proofs.StudentLemmas.{ascending-none, ascending-with, has-with}
-use Rattle.exam_publish.specs.Changed.{ascending}
+use Rattle.exam_publish.specs.Changed.{sorted_numbers}
 
 -- ---- chains
 
@@ -103,22 +103,22 @@ chain_from_ascending (x ∷ xs) h =
         (k 0 (omega arith), recursion_from_All (λ y. x < y) ys (above ys (λ j l. k (suc j) (omega arith))))
 
 -- the numbers stay
-pub has_ascending : (xs : List ℕ) (t : ℕ) → has_number (ascending xs) t ≡ has_number xs t
+pub has_ascending : (xs : List ℕ) (t : ℕ) → has_number (sorted_numbers xs) t ≡ has_number xs t
 has_ascending [] t = refl
-has_ascending (x ∷ xs) t = has-with x (ascending xs) t ∙ ap (λ b. eqb x t || b) (has_ascending xs t)
+has_ascending (x ∷ xs) t = has-with x (sorted_numbers xs) t ∙ ap (λ b. eqb x t || b) (has_ascending xs t)
 
-pub ascends : (xs : List ℕ) → IsAscending (ascending xs)
+pub ascends : (xs : List ℕ) → IsAscending (sorted_numbers xs)
 ascends [] = ascending-none
-ascends (x ∷ xs) = ascending-with x (ascending xs) (ascends xs)
+ascends (x ∷ xs) = ascending-with x (sorted_numbers xs) (ascends xs)
 
-pub chain_ascending : (xs : List ℕ) → IsChain (λ x y. x < y) (ascending xs)
-chain_ascending xs = chain_from_ascending (ascending xs) (ascends xs)
+pub chain_ascending : (xs : List ℕ) → IsChain (λ x y. x < y) (sorted_numbers xs)
+chain_ascending xs = chain_from_ascending (sorted_numbers xs) (ascends xs)
 
 -- the one ascending list of these numbers
 pub is_ascending : (xs ys : List ℕ) → IsAscending ys → ((t : ℕ) → has_number ys t ≡ has_number xs t)
-    → ys ≡ ascending xs
+    → ys ≡ sorted_numbers xs
 is_ascending xs ys up same =
-    same_list ys (ascending xs) up (ascends xs) (λ t. same t ∙ sym (has_ascending xs t))
+    same_list ys (sorted_numbers xs) up (ascends xs) (λ t. same t ∙ sym (has_ascending xs t))
 
 -- two tests that follow from one another
 pub alike : (a b : Bool) → (a ≡ true → b ≡ true) → (b ≡ true → a ≡ true) → a ≡ b

@@ -35,13 +35,13 @@ abbrev pub is_changed : List SeatRow → List SeatRow → ℕ → Bool
 is_changed old new s = not (same_rows (rows_of s old) (rows_of s new))
 
 -- the numbers of a list, ascending, each once
-abbrev pub ascending : List ℕ → List ℕ
-ascending [] = []
-ascending (s ∷ ss) = with_student s (ascending ss)
+abbrev pub sorted_numbers : List ℕ → List ℕ
+sorted_numbers [] = []
+sorted_numbers (s ∷ ss) = with_student s (sorted_numbers ss)
 
 -- the candidates of these rows, ascending, each once
 abbrev pub students_of : List SeatRow → List ℕ
-students_of rows = ascending (map (λ row. row.student) rows)
+students_of rows = sorted_numbers (map (λ row. row.student) rows)
 
 -- the candidates in either list whose rows differ
 abbrev pub changed_students : List SeatRow → List SeatRow → List ℕ

@@ -2,7 +2,7 @@
 ghost use Rattle.std.specs.Prelude.{◌≡◌, ℕ, ◌&&◌, ◌||◌, ◌==◌, IfOk, OnOk};
 ghost use Rattle.exam_model.specs.Enrolments.{IsAscending, has_number};
 ghost use Rattle.exam_publish.specs.Rows.{RowsInOrder, is_pair_before, row_pair};
-ghost use Rattle.exam_publish.specs.Changed.{is_changed, changed_students, ascending, has_row};
+ghost use Rattle.exam_publish.specs.Changed.{is_changed, changed_students, sorted_numbers, has_row};
 
 use crate::seat_row::SeatRow;
 use exam_model::StudentNo;
@@ -21,12 +21,16 @@ pub fn changed(
     ensures ascending { IfOk result (λ found. IsAscending found.items) }
     ensures listed { IfOk result (λ found. found.items ≡ changed_students old.now new.now) }
 {
-    let found = differing(alloc, old, new)?;
+    let found = differing_candidates(alloc, old, new)?;
     Ok(in_order(found))
 }
 
 // Returns the candidates of rows that are in one list only or differ, in one walk along both.
-fn differing(alloc: Global, old: &[SeatRow], new: &[SeatRow]) -> Result<Vec<StudentNo>, AllocError>
+fn differing_candidates(
+    alloc: Global,
+    old: &[SeatRow],
+    new: &[SeatRow],
+) -> Result<Vec<StudentNo>, AllocError>
     requires old_in_order { RowsInOrder old.now }
     requires new_in_order { RowsInOrder new.now }
     ensures { IfOk result (λ found. (s : ℕ) → has_number found.items s
@@ -87,7 +91,7 @@ fn push_students(found: &mut Vec<StudentNo>, rows: &[SeatRow]) -> Result<(), All
 
 /// Returns the students in order, each once.
 pub fn in_order(mut found: Vec<StudentNo>) -> Vec<StudentNo>
-    ensures { result.items ≡ ascending found.items }
+    ensures { result.items ≡ sorted_numbers found.items }
 {
     found.sort_unstable();
     found.dedup();

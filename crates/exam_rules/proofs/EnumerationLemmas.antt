@@ -6,7 +6,7 @@ use Rattle.std.proofs.lemmas.Bool.{and_from, lt-ltb}
 use Rattle.std.proofs.lemmas.Bool.Decides.{nat_tests}
 use Rattle.std.proofs.lemmas.List.Elements.{filter_passes, All-contains}
 use Rattle.std.proofs.lemmas.List.Kept.{IsStrictlySortedBy-filter}
-use Rattle.exam_rules.specs.Breach.{exam_pair_cmp, pair, is_pair, exam_pairs, passing, HasJust}
+use Rattle.exam_rules.specs.Breach.{exam_pair_cmp, pair, is_pair, exam_pairs, passing_pairs, HasJust}
 use Rattle.exam_rules.specs.declared.exam_pair.ExamPair.{ExamPair}
 use Rattle.exam_rules.proofs.OrderLemmas.{same_sorted, exam_pair_cmp_total, contains_head, contains_later, first_or_later, each_append, each_weaker, sorted_nil, sorted_cons, sorted_append}
 use Rattle.exam_rules.proofs.MemberLemmas.{any_rows, any_below, any_from_contains, contains_from_any}
@@ -90,13 +90,13 @@ kept {X} t (y ∷ ys) x h k = go (t y) refl (kept t ys x)
 
 -- the pairs that pass are in order
 pub passing_sorted : (test : ℕ → ℕ → Bool) (n : ℕ)
-    → IsStrictlySortedBy exam_pair_cmp (passing test n)
+    → IsStrictlySortedBy exam_pair_cmp (passing_pairs test n)
 passing_sorted test n =
     IsStrictlySortedBy-filter exam_pair_cmp (λ p. test p.exam p.other) (exam_pairs n)
     (rows_sorted n 0 n)
 
 -- each of them passes
-pub passing_only : (test : ℕ → ℕ → Bool) (n : ℕ) (p : ExamPair) → Contains (passing test n) p
+pub passing_only : (test : ℕ → ℕ → Bool) (n : ℕ) (p : ExamPair) → Contains (passing_pairs test n) p
     → test p.exam p.other ≡ true
 passing_only test n p h =
     let pass : ExamPair → Bool = λ p. test p.exam p.other in
@@ -105,7 +105,7 @@ passing_only test n p h =
 
 -- each pair that passes is in the list
 pub passing_all : (test : ℕ → ℕ → Bool) (n : ℕ) (p : ExamPair) → (p.exam < n) × (p.other < n)
-    → test p.exam p.other ≡ true → Contains (passing test n) p
+    → test p.exam p.other ≡ true → Contains (passing_pairs test n) p
 passing_all test n p exist passes =
     let there = pairs_have n p.exam p.other
     ∙ and_from (nat_lt p.exam n) (nat_lt p.other n) (lt-ltb p.exam n exist.0)
@@ -118,15 +118,15 @@ pub passing_is : (test : ℕ → ℕ → Bool) (n : ℕ) (found sorted : List Ex
     → IsStrictlySortedBy exam_pair_cmp sorted
     → ((p : ExamPair) → Contains found p → Contains sorted p)
     → ((p : ExamPair) → Contains sorted p → Contains found p)
-    → sorted ≡ passing test n
+    → sorted ≡ passing_pairs test n
 passing_is test n found sorted just up keeps adds_none =
-    same_sorted exam_pair_cmp_total sorted (passing test n) up (passing_sorted test n)
+    same_sorted exam_pair_cmp_total sorted (passing_pairs test n) up (passing_sorted test n)
     (λ p h. sound p (adds_none p h))
     (λ p h. keeps p
     (contains_from_any p.exam p.other found
     (just.members p.exam p.other ∙ passing_only test n p h)))
   where
-    sound : (p : ExamPair) → Contains found p → Contains (passing test n) p
+    sound : (p : ExamPair) → Contains found p → Contains (passing_pairs test n) p
     sound p h =
         let passes = sym (just.members p.exam p.other) ∙ any_from_contains p.exam p.other found h in
         passing_all test n p (just.exist p.exam p.other passes) passes

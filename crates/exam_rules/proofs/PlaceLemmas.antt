@@ -12,7 +12,7 @@ use Rattle.exam_rules.specs.declared.breach.BreachRule.{BreachRule}
 use Rattle.exam_rules.specs.declared.breach.BreachRule.TheVariants.{Duration, Clash, Capacity, After, Coincidence, Exclusion, RoomExclusive}
 use Rattle.exam_rules.specs.Lines.{is_after, is_coincidence, is_exclusion, is_exclusive}
 use Rattle.exam_rules.specs.Places.{PlaceExists, place_satisfies, both_satisfy, both_placed, in_one_period, in_two_periods, is_not_after, in_one_place, share_student}
-use Rattle.exam_rules.specs.HardRules.{breaks, outlasts, is_overfull}
+use Rattle.exam_rules.specs.HardRules.{breaks, is_too_long, is_overfull}
 
 -- an exam whose place passes a test exists
 pub placed_exists : (T : Placing) (test : Place → Bool) (e : ℕ)
@@ -47,7 +47,7 @@ pub breaking_exist : (I : Session) (E : Enrolled) (T : Placing) (r : BreachRule)
     → length T ≡ n → (e f : ℕ)
     → breaks I E T r e f ≡ true → (e < n) × (f < n)
 breaking_exist I E T Duration n same e f h =
-    let parts = and_parts (e == f) (outlasts I T e) h in
+    let parts = and_parts (e == f) (is_too_long I T e) h in
     let here : e < length T = placed_exists T _ e parts.1 in
     let twice : e ≡ f = eqb-true e f parts.0 in
     (omega arith, omega arith)

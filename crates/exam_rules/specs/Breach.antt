@@ -51,8 +51,8 @@ abbrev pub exam_pairs : ℕ → List ExamPair
 exam_pairs n = flat_map (λ e. map (pair e) (range_with_len 0 n)) (range_with_len 0 n)
 
 -- the pairs that pass a test, in order
-abbrev pub passing : (ℕ → ℕ → Bool) → ℕ → List ExamPair
-passing test n = filter (λ p. test p.exam p.other) (exam_pairs n)
+abbrev pub passing_pairs : (ℕ → ℕ → Bool) → ℕ → List ExamPair
+passing_pairs test n = filter (λ p. test p.exam p.other) (exam_pairs n)
 
 -- the list has exactly the pairs that pass a test, in any order and with repeats
 pub record HasJust (test : ℕ → ℕ → Bool) (n : ℕ) (found : List ExamPair) : Type 0 where

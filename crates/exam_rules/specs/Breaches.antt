@@ -8,7 +8,7 @@ use Rattle.exam_model.specs.Timetable.{Placing}
 use Rattle.exam_rules.specs.declared.breach.Breach.{Breach}
 use Rattle.exam_rules.specs.declared.breach.BreachRule.{BreachRule}
 use Rattle.exam_rules.specs.declared.exam_pair.ExamPair.{ExamPair}
-use Rattle.exam_rules.specs.Breach.{all_rules, breach, breach_cmp, passing}
+use Rattle.exam_rules.specs.Breach.{all_rules, breach, breach_cmp, passing_pairs}
 use Rattle.exam_rules.specs.HardRules.{breaks}
 
 -- the breach is one of the timetable's
@@ -17,7 +17,7 @@ is_breach I E T b = breaks I E T b.rule b.exam b.other
 
 -- the pairs of exams that break a rule, in order
 abbrev pub pairs_breaking : Session → Enrolled → Placing → BreachRule → List ExamPair
-pairs_breaking I E T r = passing (breaks I E T r) (length I.exams)
+pairs_breaking I E T r = passing_pairs (breaks I E T r) (length I.exams)
 
 -- all breaches: by rule, then by exam, then by the other exam
 abbrev pub breaches_of : Session → Enrolled → Placing → List Breach

@@ -19,8 +19,8 @@ is_longer (Some exam) None = false
 is_longer (Some exam) (Some period) = nat_lt period.length exam.minutes
 
 -- whether the exam lasts longer than its period
-abbrev pub outlasts : Session → Placing → ℕ → Bool
-outlasts I T e =
+abbrev pub is_too_long : Session → Placing → ℕ → Bool
+is_too_long I T e =
     place_satisfies (λ p. is_longer (slice_get I.exams e) (slice_get I.periods p.period))
     (place_of T e)
 
@@ -38,7 +38,7 @@ is_overfull I E T e =
 -- names one exam twice is never broken
 abbrev pub breaks : Session → Enrolled → Placing → BreachRule → ℕ → ℕ → Bool
 -- an exam lasts longer than its period: the exam, twice
-breaks I E T Duration e f = (e == f) && outlasts I T e
+breaks I E T Duration e f = (e == f) && is_too_long I T e
 -- two exams share a student and are in one period: the smaller first
 breaks I E T Clash e f = nat_lt e f && (in_one_period T e f && share_student E e f)
 -- the exams in a room and period have more students than the room holds: each of them, twice

@@ -1,7 +1,7 @@
 -- The places of exams in a timetable, and the students that they share.
 use Rattle.std.specs.Prelude.{ℕ, Bool, false, not, ◌&&◌, ◌==◌, nat_le, nat_lt, if◌then◌else◌, length, Option, Some, None}
 use Rattle.exam_model.specs.Sums.{sum_below}
-use Rattle.exam_model.specs.Enrolments.{Enrolled, size_of, shared}
+use Rattle.exam_model.specs.Enrolments.{Enrolled, size_of, shared_students}
 use Rattle.exam_model.specs.Timetable.{Placing, place_of}
 use Rattle.exam_terms.specs.declared.place.Place.{Place}
 pub use Rattle.exam_model.specs.Fits.{Fits, PlaceExists}
@@ -42,7 +42,7 @@ in_one_place T e f = both_placed T is_one_place e f
 
 -- whether two exams share a student
 abbrev pub share_student : Enrolled → ℕ → ℕ → Bool
-share_student E e f = nat_lt 0 (shared E e f)
+share_student E e f = nat_lt 0 (shared_students E e f)
 
 -- how many students sit in a room and period, over the exams below n that are there
 abbrev pub load_below : Enrolled → Placing → Place → ℕ → ℕ

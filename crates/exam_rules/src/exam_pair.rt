@@ -1,7 +1,7 @@
 // The pairs of exams that a rule finds.
 ghost use Rattle.std.specs.Prelude.{◌≡◌, ℕ, Bool, ◌&&◌, ◌||◌, ◌==◌, OnOk};
 ghost use Rattle.std.specs.List.{list_any};
-ghost use Rattle.exam_rules.specs.Breach.{HasJust, passing, is_pair, is_some_pair};
+ghost use Rattle.exam_rules.specs.Breach.{HasJust, passing_pairs, is_pair, is_some_pair};
 
 use exam_model::ExamNo;
 use std::alloc::AllocError;
@@ -37,7 +37,7 @@ pub(crate) fn push_some(found: &mut Vec<ExamPair>, pair: Option<ExamPair>) -> Re
 /// Returns the pairs in order, each once.
 pub(crate) fn in_order(mut found: Vec<ExamPair>) -> Vec<ExamPair>
     ensures { (test : ℕ → ℕ → Bool) (n : ℕ) → HasJust test n found.items
-        → result.items ≡ passing test n }
+        → result.items ≡ passing_pairs test n }
 {
     found.sort_unstable();
     found.dedup();

@@ -1,7 +1,7 @@
 // The first breach that names one of some exams, found among the pairs with these exams.
 ghost use Rattle.std.specs.Prelude.{◌≡◌, ◌<◌, ℕ, ◌&&◌, ◌||◌, length, All, IfOk, OnOk};
 ghost use Rattle.std.specs.List.{list_any};
-ghost use Rattle.exam_rules.specs.Breach.{is_pair, passing};
+ghost use Rattle.exam_rules.specs.Breach.{is_pair, passing_pairs};
 ghost use Rattle.exam_rules.specs.Places.{Fits};
 ghost use Rattle.exam_rules.specs.Breaches.{is_one_of, name_one, least_breach_of, IsLeastBreachOf};
 ghost use Rattle.exam_rules.specs.HardRules.{breaks};
@@ -9,7 +9,7 @@ ghost use Rattle.exam_rules.specs.HardRules.{breaks};
 use crate::breach::{Breach, BreachRule, rules};
 use crate::exam_pair::{ExamPair, in_order, pair_if, push_some};
 use crate::line_rules::{push_afters, push_coincidences, push_exclusions};
-use crate::period_rules::{outlasts, push_clashes};
+use crate::period_rules::{is_too_long, push_clashes};
 use crate::room_rules::{is_overfull, push_exclusives};
 use crate::site::Site;
 use exam_model::{Enrolments, ExamNo, Instance, Timetable};
@@ -61,7 +61,7 @@ fn broken_pairs(
 ) -> Result<Vec<ExamPair>, AllocError>
     requires exist { All (λ e. e < length site.now.timetable.now) edited.now }
     requires fits { Fits site.now.instance.now site.now.enrolments.now site.now.timetable.now }
-    ensures { IfOk result (λ found. found.items ≡ passing (λ e f. name_one edited.now e f
+    ensures { IfOk result (λ found. found.items ≡ passing_pairs (λ e f. name_one edited.now e f
         && breaks site.now.instance.now site.now.enrolments.now site.now.timetable.now rule e f)
         (length site.now.instance.now.exams)) }
 {
@@ -87,7 +87,7 @@ fn push_broken(
 {
     match rule {
         BreachRule::Duration => {
-            let too_long = outlasts(site.instance, site.timetable, exam);
+            let too_long = is_too_long(site.instance, site.timetable, exam);
             push_some(found, pair_if(too_long, exam, exam))
         }
         BreachRule::Clash => push_clashes(found, exam, site),

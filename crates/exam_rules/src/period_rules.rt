@@ -12,7 +12,7 @@ ghost use Rattle.exam_model.specs.Timetable.{period_number};
 ghost use Rattle.exam_rules.specs.Marks.{marks_of, Has};
 ghost use Rattle.exam_rules.specs.Places.{Fits, in_one_period, share_student};
 ghost use Rattle.exam_rules.specs.Breaches.{pairs_breaking, is_one_of};
-ghost use Rattle.exam_rules.specs.HardRules.{breaks, outlasts};
+ghost use Rattle.exam_rules.specs.HardRules.{breaks, is_too_long};
 
 use crate::exam_pair::{ExamPair, in_order, pair_if, push_some};
 use crate::groups::by_period;
@@ -35,7 +35,7 @@ pub(crate) fn duration_pairs(
     let mut found = Vec::new(alloc);
     'exams: for exam in 0..instance.exams() {
         let exam = ExamNo::new(exam);
-        let too_long = outlasts(instance, timetable, exam);
+        let too_long = is_too_long(instance, timetable, exam);
         push_some(&mut found, pair_if(too_long, exam, exam))?;
     }
     Ok(in_order(found))
@@ -43,10 +43,10 @@ pub(crate) fn duration_pairs(
 
 /// Returns whether the exam lasts longer than its period.
 #[tactic(auto, using(crate::proofs::PlaceLemmas::place_exists))]
-pub(crate) fn outlasts(instance: &Instance, timetable: &Timetable, exam: ExamNo) -> bool
+pub(crate) fn is_too_long(instance: &Instance, timetable: &Timetable, exam: ExamNo) -> bool
     requires exists { exam < length timetable.now }
     requires fits { Suits instance.now timetable.now }
-    ensures { result ≡ outlasts instance.now timetable.now exam }
+    ensures { result ≡ is_too_long instance.now timetable.now exam }
 {
     match timetable.get(exam) {
         Some(place) => instance.period(place.period).length < instance.exam(exam).minutes,

@@ -16,13 +16,13 @@ use Rattle.exam_model.proofs.PairLemmas.{are_pairs}
 use Rattle.exam_model.proofs.SumLemmas.{IsChain, sum_by-none, sum_pairs-agree, sum_pairs-IsPermutation, each_weaker, sum_by-add, sum_by-same, sum_below-same, sum_below-within, sum_below-add}
 use Rattle.exam_score.specs.Changes.{DiffersAtMost}
 use Rattle.exam_score.specs.CostOrder.{kind_cost-swap, kind_cost-none}
-use Rattle.exam_score.specs.Exchanges.{CannotExchange, IsExchanged, IsOfEdit, coming, going, pairs_concerned, sits_among}
+use Rattle.exam_score.specs.Exchanges.{CannotExchange, IsExchanged, IsOfEdit, new_amounts, old_amounts, pairs_concerned, sits_among}
 use Rattle.exam_score.specs.Touched.{is_touched, mixed_cost_if, room_mixed_cost_if, sum_over_exams}
 use Rattle.exam_score.specs.Folds.{Folded, RepresentsPairs}
 use Rattle.exam_score.specs.EditedCosts.{edited_cost, personal_sum, students_cost}
 use Rattle.exam_score.specs.Kinds.{Kind, cost_in, amount}
 use Rattle.exam_score.specs.Front.{AreSizes, front_by}
-use Rattle.exam_score.specs.Penalty.{Penalty, PersonalPenalty, pairs_in, plus, total_of}
+use Rattle.exam_score.specs.Penalty.{Penalty, PersonalPenalty, pairs_in, penalty_sum, total_of}
 use Rattle.exam_score.specs.Regrouping.{pair_part}
 use Rattle.exam_score.specs.Track.{exam_period, exam_room, track}
 use Rattle.exam_score.specs.FrontLoad.{exam_front, front_part, is_largest, is_late}
@@ -343,16 +343,16 @@ sums_of_all : (I : Session) (T : Placing) (edited : List ℕ) (sum : PersonalPen
     (closed current pairs : List Pair)
     → sum ≡ personal_sum I T edited closed → pairs ≡ closed ++ current
     → AllByRecursion (λ p. AllByRecursion (λ q. p.student < q.student) current) closed
-    → plus sum (personal_sum I T edited current) ≡ personal_sum I T edited pairs
+    → penalty_sum sum (personal_sum I T edited current) ≡ personal_sum I T edited pairs
 sums_of_all I T edited sum closed current pairs is parts others =
-    ap (λ p. plus p (personal_sum I T edited current)) is
+    ap (λ p. penalty_sum p (personal_sum I T edited current)) is
     ∙ sym (sum_apart I T edited closed current others)
     ∙ ap (personal_sum I T edited) (sym parts)
 
 pub track_exchanged : (fold : Folded) (E : Enrolled) (pairs : List Pair)
     (sizes : List ℕ) (old : Penalty)
     → RepresentsPairs fold pairs → IsOfEdit fold E pairs sizes old
-    → IsExchanged old (going fold sizes) (coming fold sizes) (track fold.instance E fold.later)
+    → IsExchanged old (old_amounts fold sizes) (new_amounts fold sizes) (track fold.instance E fold.later)
 track_exchanged fold E pairs sizes old h is =
     let I = fold.instance in
     let others = others_each h.closed fold.current h.others in
@@ -362,8 +362,8 @@ track_exchanged fold E pairs sizes old h is =
     let after = sums_of_all I fold.later fold.edited fold.after h.closed fold.current pairs h.after
     h.parts others in
     let exchanged : (k : Kind) → amount (pairs_in (track I E fold.later)) k
-    + amount (pairs_in (going fold sizes)) k
-    ≡ amount (pairs_in old) k + amount (pairs_in (coming fold sizes)) k
+    + amount (pairs_in (old_amounts fold sizes)) k
+    ≡ amount (pairs_in old) k + amount (pairs_in (new_amounts fold sizes)) k
     = λ k. (let part = part_exchanged (cost_in I k) E fold.earlier fold.later fold.edited pairs
     (kind_cost-swap I.periods I.weights k) (kind_cost-none I.periods I.weights k)
     is.enrolments is.concerned is.others in
@@ -378,18 +378,18 @@ track_exchanged fold E pairs sizes old h is =
     record {
       pairs = each_kind exchanged;
       mixed = mixed_exchanged I fold.edited fold.earlier fold.later is.others
-          ∙ ap (λ p. p.mixed + (coming fold sizes).mixed) (sym is.scored);
+          ∙ ap (λ p. p.mixed + (new_amounts fold sizes).mixed) (sym is.scored);
       front = front_exchanged I E fold.earlier fold.later fold.edited sizes is.sized
           is.fits.enrolments is.others
-          ∙ ap (λ p. p.front + (coming fold sizes).front) (sym is.scored);
+          ∙ ap (λ p. p.front + (new_amounts fold sizes).front) (sym is.scored);
       period = sums_exchanged (λ e. exam_period I (place_of fold.earlier e))
           (λ e. exam_period I (place_of fold.later e)) (has_number fold.edited)
           (λ e none. ap (exam_period I) (is.others e none)) (length I.exams)
-          ∙ ap (λ p. p.period + (coming fold sizes).period) (sym is.scored);
+          ∙ ap (λ p. p.period + (new_amounts fold sizes).period) (sym is.scored);
       room = sums_exchanged (λ e. exam_room I (place_of fold.earlier e))
           (λ e. exam_room I (place_of fold.later e)) (has_number fold.edited)
           (λ e none. ap (exam_room I) (is.others e none)) (length I.exams)
-          ∙ ap (λ p. p.room + (coming fold sizes).room) (sym is.scored);
+          ∙ ap (λ p. p.room + (new_amounts fold sizes).room) (sym is.scored);
     }
 
 -- an exchange has one result
@@ -418,12 +418,12 @@ exchange_is old goes comes new (Some x) made none is small =
 pub exchange_scores : (fold : Folded) (E : Enrolled) (pairs : List Pair) (sizes : List ℕ)
     (old : Penalty) (r : Option Penalty)
     → IsInstance fold.instance
-    → IfSome r (IsExchanged old (going fold sizes) (coming fold sizes))
-    → IfNone r (CannotExchange old (going fold sizes) (coming fold sizes))
+    → IfSome r (IsExchanged old (old_amounts fold sizes) (new_amounts fold sizes))
+    → IfNone r (CannotExchange old (old_amounts fold sizes) (new_amounts fold sizes))
     → RepresentsPairs fold pairs → IsOfEdit fold E pairs sizes old
     → r ≡ Some (track fold.instance E fold.later)
 exchange_scores fold E pairs sizes old r known made none h is =
-    exchange_is old (going fold sizes) (coming fold sizes)
+    exchange_is old (old_amounts fold sizes) (new_amounts fold sizes)
     (track fold.instance E fold.later) r made none
     (track_exchanged fold E pairs sizes old h is)
     (penalty_small fold.instance E fold.later known is.enrolments is.fits)

@@ -11,7 +11,7 @@ use Rattle.exam_model.proofs.SumLemmas.{IsChain, chain_from_index, sum_by-none, 
 use Rattle.exam_score.specs.Kinds.{cost_in, by_kind}
 use Rattle.exam_score.specs.Folds.{Folded, RepresentsPairs, CanFollow, ComesEarlier, pairs_sat}
 use Rattle.exam_score.specs.EditedCosts.{edited_cost, exams_cost, personal_at, personal_sum, students_cost}
-use Rattle.exam_score.specs.Penalty.{PersonalPenalty, plus}
+use Rattle.exam_score.specs.Penalty.{PersonalPenalty, penalty_sum}
 use Rattle.exam_score.proofs.RegroupingLemmas.{later_cost}
 
 -- ---- lists
@@ -73,7 +73,7 @@ cost_apart cost T edited ps qs h = apart_cost (edited_cost cost T edited) ps qs 
 pub sum_apart : (I : Session) (T : Placing) (edited : List ℕ) (ps qs : List Pair)
     → AllByRecursion (λ p. AllByRecursion (λ q. p.student < q.student) qs) ps
     → personal_sum I T edited (ps ++ qs)
-    ≡ plus (personal_sum I T edited ps) (personal_sum I T edited qs)
+    ≡ penalty_sum (personal_sum I T edited ps) (personal_sum I T edited qs)
 sum_apart I T edited ps qs h = λ i. by_kind (λ k. cost_apart (cost_in I k) T edited ps qs h i)
 
 -- the pairs of one student
@@ -213,8 +213,8 @@ pub represents_turn : (fold : Folded) (pairs : List Pair) (s e : ℕ) (student :
     → a ≡ personal_sum fold.instance fold.later fold.edited fold.current
     → RepresentsPairs (record fold {
       count = fold.count + 1;
-      before = plus fold.before b;
-      after = plus fold.after a;
+      before = penalty_sum fold.before b;
+      after = penalty_sum fold.after a;
       current = pairs_sat (Some s) (e ∷ []);
     })
     (pairs ++ record { exam = e; student = s } ∷ [])
@@ -235,9 +235,9 @@ represents_turn fold pairs s e student exams b a h own other started follows b_i
       parts = ap (λ rs. rs ++ pair ∷ []) h.parts;
       in_order = in_order_push h.closed fold.current pairs pair h.parts h.in_order below after;
       count = ap (λ n. n + 1) h.count ∙ sym (length-append pairs (pair ∷ []));
-      before = ap₂ plus h.before b_is
+      before = ap₂ penalty_sum h.before b_is
           ∙ sym (sum_apart fold.instance fold.earlier fold.edited h.closed fold.current others);
-      after = ap₂ plus h.after a_is
+      after = ap₂ penalty_sum h.after a_is
           ∙ sym (sum_apart fold.instance fold.later fold.edited h.closed fold.current others);
       others = each_others (h.closed ++ fold.current) (pair ∷ [])
           (each_weaker (λ p. p.student < s) (λ p. AllByRecursion (λ q. p.student < q.student)

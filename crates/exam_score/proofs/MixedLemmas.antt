@@ -17,8 +17,8 @@ use Rattle.exam_model.specs.Sums.{sum_below, count_below}
 use Rattle.exam_model.specs.declared.parts.Exam.{Exam}
 use Rattle.exam_terms.specs.declared.place.Place.{Place}
 use Rattle.exam_model.proofs.SumLemmas.{IsChain, chain_from_index, each_weaker, sum_by-none, sum_below-same, sum_below-zeros, sum_below-add, sum_below-times, sum_below-at, sum_below_more}
-use Rattle.exam_score.specs.MixedDurations.{duration_count, minutes_of, is_at, lasts, lasting, mixed_part}
-use Rattle.exam_score.specs.Stays.{is_stay, StayExists, AreStays, NotAfter, next_differs, further}
+use Rattle.exam_score.specs.MixedDurations.{duration_count, minutes_of, is_at, has_duration, exams_with_duration, mixed_part}
+use Rattle.exam_score.specs.Stays.{is_stay, StayExists, AreStays, NotAfter, next_differs, further_durations}
 use Rattle.exam_score.specs.declared.mixed.Stay.{Stay}
 use Rattle.exam_score.proofs.WalkLemmas.{none_or}
 
@@ -27,27 +27,27 @@ use Rattle.exam_score.proofs.WalkLemmas.{none_or}
 pub counts_more_some : (I : Session) (T : Placing) (e : ℕ) (stays : List Stay)
     (at : Place) (x : Exam)
     → place_of T e ≡ Some at → slice_get I.exams e ≡ Some x
-    → ((p r m : ℕ) → count_by (is_stay p r m) stays ≡ count_below e (lasts I T p r m))
+    → ((p r m : ℕ) → count_by (is_stay p r m) stays ≡ count_below e (has_duration I T p r m))
     → (p r m : ℕ)
     → count_by (is_stay p r m)
     (stays ++ record { period = at.period; room = at.room; minutes = x.minutes } ∷ [])
-    ≡ count_below (e + 1) (lasts I T p r m)
+    ≡ count_below (e + 1) (has_duration I T p r m)
 counts_more_some I T e stays at x placed is known p r m =
     sum_by_push (λ z. cond (is_stay p r m z) 1 0) stays
     (record { period = at.period; room = at.room; minutes = x.minutes })
     ∙ ap₂ (λ a b. a + b) (known p r m)
     (λ i. cond (is_at p r (sym placed i) && (minutes_of (sym is i) == m)) 1 0)
-    ∙ sym (sum_below_more (λ e. cond (lasts I T p r m e) 1 0) e)
+    ∙ sym (sum_below_more (λ e. cond (has_duration I T p r m e) 1 0) e)
 
 pub counts_more_none : (I : Session) (T : Placing) (e : ℕ) (stays : List Stay)
     → place_of T e ≡ None
-    → ((p r m : ℕ) → count_by (is_stay p r m) stays ≡ count_below e (lasts I T p r m))
-    → (p r m : ℕ) → count_by (is_stay p r m) stays ≡ count_below (e + 1) (lasts I T p r m)
+    → ((p r m : ℕ) → count_by (is_stay p r m) stays ≡ count_below e (has_duration I T p r m))
+    → (p r m : ℕ) → count_by (is_stay p r m) stays ≡ count_below (e + 1) (has_duration I T p r m)
 counts_more_none I T e stays unplaced known p r m =
-    known p r m ∙ sym (add-zero (count_below e (lasts I T p r m)))
-    ∙ (λ i. count_below e (lasts I T p r m)
+    known p r m ∙ sym (add-zero (count_below e (has_duration I T p r m)))
+    ∙ (λ i. count_below e (has_duration I T p r m)
     + cond (is_at p r (sym unplaced i) && (minutes_of (slice_get I.exams e) == m)) 1 0)
-    ∙ sym (sum_below_more (λ e. cond (lasts I T p r m e) 1 0) e)
+    ∙ sym (sum_below_more (λ e. cond (has_duration I T p r m e) 1 0) e)
 
 -- ---- durations by the stays
 
@@ -318,7 +318,7 @@ short I z e = let h = e.minutes in omega arith
 
 pub further_is : (I : Session) (xs : List Stay) → IsChain NotAfter xs
     → AllByRecursion (StayExists I) xs
-    → all_but_one xs (length I.periods) (length I.rooms) ≡ further xs
+    → all_but_one xs (length I.periods) (length I.rooms) ≡ further_durations xs
 further_is I [] chain exist =
     sum_below-same _ _
     (λ r. sum_below-same _ _ (λ p. ap (λ k. k - 1) (sum_below-zeros duration_count))
@@ -377,13 +377,13 @@ in_order xs h i j d l m =
 -- the part of the penalty along stays in order
 pub mixed_is : (I : Session) (T : Placing) (stays sorted : List Stay) → AreStays I T stays
     → IsPermutation stays sorted → IsSorted stay_cmp sorted
-    → further sorted * I.weights.mixed ≡ mixed_part I T
+    → further_durations sorted * I.weights.mixed ≡ mixed_part I T
 mixed_is I T stays sorted are moved order =
     let w = I.weights.mixed in
     let whole = further_is I sorted (chain_from_index NotAfter sorted (in_order sorted order))
     (recursion_from_All (StayExists I) sorted
     (All-permutation (StayExists I) stays sorted moved are.exist)) in
-    let counts : (p r m : ℕ) → count_by (is_stay p r m) sorted ≡ lasting I T p r m =
+    let counts : (p r m : ℕ) → count_by (is_stay p r m) sorted ≡ exams_with_duration I T p r m =
     λ p r m. sum_by-IsPermutation (λ z. cond (is_stay p r m z) 1 0) stays sorted moved
     ∙ are.counts p r m in
     ap (λ n. n * w) (sym whole)

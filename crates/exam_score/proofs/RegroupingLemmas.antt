@@ -7,7 +7,7 @@ use Rattle.std.proofs.lemmas.List.Elements.{recursion_from_All}
 use Rattle.std.proofs.lemmas.Bool.{cond-true, cond-false, and_parts}
 use Rattle.std.proofs.lemmas.Bool.Decides.{nat_tests}
 use Rattle.exam_model.specs.Sums.{sum_below, sum_pairs_below, sum_pairs}
-use Rattle.exam_model.specs.Enrolments.{Enrolled, shared, students}
+use Rattle.exam_model.specs.Enrolments.{Enrolled, shared_students, students}
 use Rattle.exam_model.specs.PairCost.{cost_between}
 use Rattle.exam_model.specs.Pairs.{Pair, pairs_of, is_pair, ComesBefore, ArePairsOf}
 use Rattle.exam_score.specs.Regrouping.{pair_part, exams_of, periods_of, candidate_cost, AreStudentsOf}
@@ -235,7 +235,7 @@ are_ordered E is = record {
 }
 
 pub shared_pairs : (E : Enrolled) → ArePairsOf E (pairs_of E) → (e f : ℕ)
-    → shared_in (pairs_of E) e f ≡ shared E e f
+    → shared_in (pairs_of E) e f ≡ shared_students E e f
 shared_pairs E is e f =
     (λ i. count_by (λ p. (p.exam == e) && is.members p.student f i) (pairs_of E)) ∙ is.sharing e f
 

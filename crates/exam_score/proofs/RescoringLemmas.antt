@@ -17,7 +17,7 @@ use Rattle.exam_model.proofs.PairLemmas.{are_pairs}
 use Rattle.exam_model.proofs.SumLemmas.{IsChain, each_weaker, sum_by-same}
 use Rattle.exam_score.specs.Kinds.{Kind, cost_in, amount, by_kind}
 use Rattle.exam_score.specs.Exchanges.{IsExchanged}
-use Rattle.exam_score.specs.Penalty.{Penalty, PersonalPenalty, personal_total, plus}
+use Rattle.exam_score.specs.Penalty.{Penalty, PersonalPenalty, personal_total, penalty_sum}
 use Rattle.exam_score.specs.Regrouping.{candidate_cost, exams_of, pair_part, periods_of}
 use Rattle.exam_score.specs.Rescoring.{OthersUnchanged, each_once, sat_period, student_penalty, students_cost, students_penalty, students_share}
 use Rattle.exam_score.specs.Track.{track}
@@ -255,17 +255,17 @@ students_small I E T changed known enrolled =
     omega (arith, each_kind small)
 
 -- a part of their sum and one more student's penalty are small
-pub sums_small : (sum more others rest all : PersonalPenalty) → plus sum rest ≡ all
-    → plus more others ≡ rest → personal_total all ≤ 16000000000000000
+pub sums_small : (sum more others rest all : PersonalPenalty) → penalty_sum sum rest ≡ all
+    → penalty_sum more others ≡ rest → personal_total all ≤ 16000000000000000
     → personal_total sum + personal_total more ≤ 16000000000000000
 sums_small sum more others rest all whole part small =
-    let total : (a b : PersonalPenalty) → personal_total (plus a b)
+    let total : (a b : PersonalPenalty) → personal_total (penalty_sum a b)
     ≡ personal_total a + personal_total b = λ a b. omega arith in
     omega (arith, total sum rest, total more others, ap personal_total whole, ap personal_total part, small)
 
 -- after all students the sum is the whole
 pub sum_whole : (I : Session) (E : Enrolled) (T : Placing) (rest : List ℕ)
-    (sum all : PersonalPenalty) → plus sum (students_penalty I E T rest) ≡ all → length rest ≡ 0
+    (sum all : PersonalPenalty) → penalty_sum sum (students_penalty I E T rest) ≡ all → length rest ≡ 0
     → sum ≡ all
 sum_whole I E T [] sum all whole none =
     (λ i. by_kind (λ k. sym (add-zero (amount sum k)) i)) ∙ whole
@@ -283,7 +283,7 @@ cost_more cost E T s others new =
 
 pub penalty_more : (I : Session) (E : Enrolled) (T : Placing) (s : ℕ) (others : List ℕ)
     → has_number others s ≡ false
-    → plus (student_penalty I E T s) (students_penalty I E T others)
+    → penalty_sum (student_penalty I E T s) (students_penalty I E T others)
     ≡ students_penalty I E T (s ∷ others)
 penalty_more I E T s others new =
     λ i. by_kind (λ k. cost_more (cost_in I k) E T s others new i)

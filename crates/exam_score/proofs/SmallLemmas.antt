@@ -20,7 +20,7 @@ use Rattle.exam_score.specs.Touched.{mixed_cost_if, room_mixed_cost_if}
 use Rattle.exam_score.specs.Penalty.{total_of}
 use Rattle.exam_score.specs.Track.{period_penalty, room_penalty, exam_period, exam_room, track}
 use Rattle.exam_score.specs.FrontLoad.{is_largest, is_late, exam_front}
-use Rattle.exam_score.specs.MixedDurations.{duration_count, lasting, durations}
+use Rattle.exam_score.specs.MixedDurations.{duration_count, exams_with_duration, durations}
 use Rattle.exam_score.proofs.CostLemmas.{cost_in-small}
 use Rattle.exam_score.proofs.KindLemmas.{each_kind}
 use Rattle.exam_score.proofs.PairsLemmas.{part_small}
@@ -67,7 +67,7 @@ counted_few n test =
 durations_small : (I : Session) (T : Placing) (p r : ℕ) → durations I T p r ≤ 1441
 durations_small I T p r =
     subst (λ n. durations I T p r ≤ n) most_durations
-    (counted_few duration_count (λ m. nat_lt 0 (lasting I T p r m)))
+    (counted_few duration_count (λ m. nat_lt 0 (exams_with_duration I T p r m)))
 
 -- the mixed part of the periods and rooms that pass
 pub mixed_where_small : (I : Session) (T : Placing) (touched : ℕ → ℕ → Bool) → IsInstance I

@@ -11,7 +11,7 @@ use Rattle.exam_model.specs.declared.parts.Exam.{Exam}
 use Rattle.exam_model.specs.Sums.{count_below}
 use Rattle.exam_model.specs.Timetable.{Placing, place_of}
 use Rattle.exam_model.proofs.SumLemmas.{sum_below-same, sum_below-within, sum_below_more}
-use Rattle.exam_score.specs.MixedDurations.{duration_count, is_at, lasts, minutes_of}
+use Rattle.exam_score.specs.MixedDurations.{duration_count, is_at, has_duration, minutes_of}
 
 -- one number more passes
 flipped : (n : ℕ) (f g : ℕ → Bool) (k : ℕ) → k < n → f k ≡ false → g k ≡ true
@@ -85,21 +85,21 @@ minutes_short I e known =
 -- one more exam
 pub durations_more : (I : Session) (T : Placing) (p r e : ℕ)
     → minutes_of (slice_get I.exams e) < duration_count
-    → count_below duration_count (λ m. nat_lt 0 (count_below (e + 1) (lasts I T p r m)))
-    ≡ count_below duration_count (λ m. nat_lt 0 (count_below e (lasts I T p r m)))
+    → count_below duration_count (λ m. nat_lt 0 (count_below (e + 1) (has_duration I T p r m)))
+    ≡ count_below duration_count (λ m. nat_lt 0 (count_below e (has_duration I T p r m)))
     + cond (is_at p r (place_of T e)
-    && not (nat_lt 0 (count_below e (lasts I T p r (minutes_of (slice_get I.exams e)))))) 1 0
+    && not (nat_lt 0 (count_below e (has_duration I T p r (minutes_of (slice_get I.exams e)))))) 1 0
 durations_more I T p r e short =
     sum_below-same _ _
     (λ m. ap (λ k. cond (nat_lt 0 k) 1 0)
-    (sum_below_more (λ e. cond (lasts I T p r m e) 1 0) e))
+    (sum_below_more (λ e. cond (has_duration I T p r m e) 1 0) e))
     duration_count
     ∙ one_more (is_at p r (place_of T e)) (minutes_of (slice_get I.exams e)) duration_count
-    (λ m. count_below e (lasts I T p r m)) short
+    (λ m. count_below e (has_duration I T p r m)) short
 
 -- none passes before the first exam
 pub durations_none : (I : Session) (T : Placing) (p r : ℕ)
-    → count_below duration_count (λ m. nat_lt 0 (count_below 0 (lasts I T p r m))) ≡ 0
+    → count_below duration_count (λ m. nat_lt 0 (count_below 0 (has_duration I T p r m))) ≡ 0
 durations_none I T p r = none duration_count
   where
     none : (n : ℕ) → count_below n (λ m. false) ≡ 0
@@ -127,27 +127,27 @@ marked_step before k m n lt known = go (eqb k m) refl
 -- an exam that is placed here marks its duration
 pub marked_here : (I : Session) (T : Placing) (p r e m : ℕ) (before : List Bool)
     → minutes_of (slice_get I.exams e) < length before → is_at p r (place_of T e) ≡ true
-    → get_or before m false ≡ nat_lt 0 (count_below e (lasts I T p r m))
+    → get_or before m false ≡ nat_lt 0 (count_below e (has_duration I T p r m))
     → get_or (set before (minutes_of (slice_get I.exams e)) true) m false
-    ≡ nat_lt 0 (count_below (e + 1) (lasts I T p r m))
+    ≡ nat_lt 0 (count_below (e + 1) (has_duration I T p r m))
 marked_here I T p r e m before lt here known =
     marked_step before (minutes_of (slice_get I.exams e)) m
-    (count_below e (lasts I T p r m)) lt known
+    (count_below e (has_duration I T p r m)) lt known
     ∙ ap (λ b. nat_lt 0
-    (count_below e (lasts I T p r m)
+    (count_below e (has_duration I T p r m)
     + cond (b && eqb (minutes_of (slice_get I.exams e)) m) 1 0))
     (sym here)
-    ∙ ap (nat_lt 0) (sym (sum_below_more (λ e. cond (lasts I T p r m e) 1 0) e))
+    ∙ ap (nat_lt 0) (sym (sum_below_more (λ e. cond (has_duration I T p r m e) 1 0) e))
 
 -- an exam that is placed elsewhere marks none
 pub marked_elsewhere : (I : Session) (T : Placing) (p r e m : ℕ) (before : List Bool)
     → is_at p r (place_of T e) ≡ false
-    → get_or before m false ≡ nat_lt 0 (count_below e (lasts I T p r m))
-    → get_or before m false ≡ nat_lt 0 (count_below (e + 1) (lasts I T p r m))
+    → get_or before m false ≡ nat_lt 0 (count_below e (has_duration I T p r m))
+    → get_or before m false ≡ nat_lt 0 (count_below (e + 1) (has_duration I T p r m))
 marked_elsewhere I T p r e m before here known =
-    known ∙ ap (nat_lt 0) (sym (add-zero (count_below e (lasts I T p r m))))
+    known ∙ ap (nat_lt 0) (sym (add-zero (count_below e (has_duration I T p r m))))
     ∙ ap (λ b. nat_lt 0
-    (count_below e (lasts I T p r m)
+    (count_below e (has_duration I T p r m)
     + cond (b && eqb (minutes_of (slice_get I.exams e)) m) 1 0))
     (sym here)
-    ∙ ap (nat_lt 0) (sym (sum_below_more (λ e. cond (lasts I T p r m e) 1 0) e))
+    ∙ ap (nat_lt 0) (sym (sum_below_more (λ e. cond (has_duration I T p r m e) 1 0) e))

@@ -11,7 +11,7 @@ use Rattle.exam_score.specs.Folds.{Folded}
 use Rattle.exam_score.specs.EditedCosts.{personal_sum}
 use Rattle.exam_score.specs.Front.{AreSizes, front_by}
 use Rattle.exam_score.specs.Kinds.{EachKind, amount}
-use Rattle.exam_score.specs.Penalty.{Penalty, PersonalPenalty, pairs_in, plus, total_of, whole}
+use Rattle.exam_score.specs.Penalty.{Penalty, PersonalPenalty, pairs_in, penalty_sum, total_of, whole}
 use Rattle.exam_score.specs.Track.{exam_period, exam_room, track}
 use Rattle.exam_score.specs.Touched.{is_touched, mixed_cost_if, sum_over_exams}
 
@@ -28,18 +28,18 @@ edit_share I T edited touched sizes students =
     (sum_over_exams I edited (λ e. exam_room I (place_of T e)))
 
 -- the old amounts
-abbrev pub going : Folded → List ℕ → Penalty
-going fold sizes =
+abbrev pub old_amounts : Folded → List ℕ → Penalty
+old_amounts fold sizes =
     edit_share fold.instance fold.earlier fold.edited
     (is_touched fold.edited fold.earlier fold.later) sizes
-    (plus fold.before (personal_sum fold.instance fold.earlier fold.edited fold.current))
+    (penalty_sum fold.before (personal_sum fold.instance fold.earlier fold.edited fold.current))
 
 -- the new amounts
-abbrev pub coming : Folded → List ℕ → Penalty
-coming fold sizes =
+abbrev pub new_amounts : Folded → List ℕ → Penalty
+new_amounts fold sizes =
     edit_share fold.instance fold.later fold.edited
     (is_touched fold.edited fold.earlier fold.later) sizes
-    (plus fold.after (personal_sum fold.instance fold.later fold.edited fold.current))
+    (penalty_sum fold.after (personal_sum fold.instance fold.later fold.edited fold.current))
 
 -- the new parts of pairs are the old ones with the old amounts replaced by the new ones
 abbrev pub AreExchanged : PersonalPenalty → PersonalPenalty → PersonalPenalty → PersonalPenalty

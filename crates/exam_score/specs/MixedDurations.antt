@@ -22,16 +22,16 @@ is_at p r None = false
 is_at p r (Some at) = (at.period == p) && (at.room == r)
 
 -- whether an exam is in a period and room and lasts that many minutes
-abbrev pub lasts : Session → Placing → ℕ → ℕ → ℕ → ℕ → Bool
-lasts I T p r m e = is_at p r (place_of T e) && (minutes_of (slice_get I.exams e) == m)
+abbrev pub has_duration : Session → Placing → ℕ → ℕ → ℕ → ℕ → Bool
+has_duration I T p r m e = is_at p r (place_of T e) && (minutes_of (slice_get I.exams e) == m)
 
 -- how many exams of the session are in that period and room and last that long
-abbrev pub lasting : Session → Placing → ℕ → ℕ → ℕ → ℕ
-lasting I T p r m = count_below (length I.exams) (lasts I T p r m)
+abbrev pub exams_with_duration : Session → Placing → ℕ → ℕ → ℕ → ℕ
+exams_with_duration I T p r m = count_below (length I.exams) (has_duration I T p r m)
 
 -- how many different durations there are in a period and room
 abbrev pub durations : Session → Placing → ℕ → ℕ → ℕ
-durations I T p r = count_below duration_count (λ m. nat_lt 0 (lasting I T p r m))
+durations I T p r = count_below duration_count (λ m. nat_lt 0 (exams_with_duration I T p r m))
 
 -- a room's share over all periods: each duration but one, and nothing if no exam is there
 abbrev pub room_mixed : Session → Placing → ℕ → ℕ

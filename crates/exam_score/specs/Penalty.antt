@@ -13,8 +13,8 @@ abbrev pub personal_total : PersonalPenalty → ℕ
 personal_total p = p.row + p.day + p.spread + p.night
 
 -- two of them together, part by part
-abbrev pub plus : PersonalPenalty → PersonalPenalty → PersonalPenalty
-plus a b = record {
+abbrev pub penalty_sum : PersonalPenalty → PersonalPenalty → PersonalPenalty
+penalty_sum a b = record {
   row = a.row + b.row;
   day = a.day + b.day;
   spread = a.spread + b.spread;

@@ -1,6 +1,6 @@
 -- The penalty by pairs of exams, and by pairs of a student's exams.
 use Rattle.std.specs.Prelude.{◌≡◌, ◌≢◌, ℕ, ◌*◌, ◌==◌, true, List, length, map, filter, filter_map, Option, All, AllPairs}
-use Rattle.exam_model.specs.Enrolments.{Enrolled, has_number, shared}
+use Rattle.exam_model.specs.Enrolments.{Enrolled, has_number, shared_students}
 use Rattle.exam_model.specs.PairCost.{cost_between}
 use Rattle.exam_model.specs.Pairs.{Pair, pairs_of}
 use Rattle.exam_model.specs.Sums.{sum_pairs, sum_pairs_below}
@@ -9,7 +9,7 @@ use Rattle.exam_model.specs.Sums.{sum_pairs, sum_pairs_below}
 -- the cost of their periods
 abbrev pub pair_part : (ℕ → ℕ → ℕ) → Enrolled → (ℕ → Option ℕ) → ℕ
 pair_part cost E at =
-    sum_pairs_below (length E) (λ e f. shared E e f * cost_between cost (at e) (at f))
+    sum_pairs_below (length E) (λ e f. shared_students E e f * cost_between cost (at e) (at f))
 
 -- the exams of a student, ascending
 abbrev pub exams_of : List Pair → ℕ → List ℕ

@@ -3,7 +3,7 @@ use Rattle.std.specs.Prelude.{◌≡◌, ℕ, ◌<◌, ◌≤◌, Bool, ◌&&◌
 use Rattle.exam_terms.specs.declared.limits.TheConstants.{MAX_EXAMS, MAX_MINUTES}
 use Rattle.exam_model.specs.Instance.{Session}
 use Rattle.exam_model.specs.Timetable.{Placing}
-use Rattle.exam_score.specs.MixedDurations.{lasting}
+use Rattle.exam_score.specs.MixedDurations.{exams_with_duration}
 use Rattle.exam_score.specs.declared.mixed.Stay.{Stay}
 
 -- whether a stay has this period, room and duration
@@ -18,7 +18,7 @@ pub record StayExists (I : Session) (x : Stay) : Type 0 where
 
 -- one stay for each placed exam
 pub record AreStays (I : Session) (T : Placing) (stays : List Stay) : Type 0 where
-  pub counts : (p r m : ℕ) → count_by (is_stay p r m) stays ≡ lasting I T p r m
+  pub counts : (p r m : ℕ) → count_by (is_stay p r m) stays ≡ exams_with_duration I T p r m
   pub few : length stays ≤ MAX_EXAMS
   pub exist : All (StayExists I) stays
 
@@ -35,6 +35,6 @@ next_differs x (y ∷ ys) =
     if ((y.period == x.period) && (y.room == x.room)) && not (y.minutes == x.minutes) then 1 else 0
 
 -- how many stays of a list are followed by one with the same place and another duration
-abbrev pub further : List Stay → ℕ
-further [] = 0
-further (x ∷ xs) = next_differs x xs + further xs
+abbrev pub further_durations : List Stay → ℕ
+further_durations [] = 0
+further_durations (x ∷ xs) = next_differs x xs + further_durations xs

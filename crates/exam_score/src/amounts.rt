@@ -18,7 +18,7 @@ pub(crate) const NOTHING: Amounts<u64> = Amounts {
 
 impl Amounts<u32> {
     // Returns the same amounts, to be added up.
-    pub(crate) fn widened(self) -> Amounts<u64>
+    pub(crate) fn into_u64(self) -> Amounts<u64>
         ensures { result ≡ self }
     {
         Amounts {

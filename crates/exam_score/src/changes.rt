@@ -36,13 +36,13 @@ pub fn difference(
     enrolments.lemma_order();
     let sitters = sitters_of(alloc, enrolments, edited)?;
     let sizes = sizes_of(alloc, enrolments)?;
-    let fold = folded(alloc, instance, old, new, edited, &sitters)?;
+    let fold = fold_sitters(alloc, instance, old, new, edited, &sitters)?;
     let parts = fold.finish(&sizes, old_parts);
     Ok(parts.unwrap())
 }
 
 // The fold over all of these.
-fn folded<'a>(
+fn fold_sitters<'a>(
     alloc: Global,
     instance: &'a Instance,
     old: &'a Timetable,

@@ -3,7 +3,7 @@ ghost use Rattle.std.specs.Prelude.{◌≡◌, ◌<◌, ◌≤◌, ◌*◌, ◌�
 ghost use Rattle.exam_terms.specs.declared.limits.TheConstants.{MAX_AMOUNT, MAX_PAIRS};
 ghost use Rattle.exam_model.specs.Enrolments.{Enrolled};
 ghost use Rattle.exam_model.specs.Pairs.{Pair};
-ghost use Rattle.exam_score.specs.Exchanges.{CannotExchange, IsExchanged, IsOfEdit, coming, edit_share, going};
+ghost use Rattle.exam_score.specs.Exchanges.{CannotExchange, IsExchanged, IsOfEdit, new_amounts, edit_share, old_amounts};
 ghost use Rattle.exam_score.specs.Touched.{is_touched};
 ghost use Rattle.exam_score.specs.Folds.{CanFollow, RepresentsPairs};
 ghost use Rattle.exam_score.specs.Penalty.{personal_total};
@@ -135,10 +135,10 @@ impl<'a> EditFold<'a> {
             → result ≡ Some (track self.entry.instance E self.entry.later) }
         // Each part is the old one, with the old amounts replaced by the new ones.
         ensures made { IfSome result (IsExchanged old_parts
-            (going self.entry sizes.now) (coming self.entry sizes.now)) }
+            (old_amounts self.entry sizes.now) (new_amounts self.entry sizes.now)) }
         // No such penalty has a total below 2^62.
         ensures none { IfNone result (CannotExchange old_parts
-            (going self.entry sizes.now) (coming self.entry sizes.now)) }
+            (old_amounts self.entry sizes.now) (new_amounts self.entry sizes.now)) }
     {
         self.instance.lemma_limits();
         let touched = Touched {

@@ -92,5 +92,5 @@ pub(crate) fn costs_in(
     requires earlier { other ≤ period }
     ensures { result ≡ costs_of instance.now period other }
 {
-    line[other.get() as usize].widened()
+    line[other.get() as usize].into_u64()
 }

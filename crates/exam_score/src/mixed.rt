@@ -2,7 +2,7 @@
 ghost use Rattle.std.specs.Prelude.{◌≡◌, ◌≤◌, ◌<◌, ◌+◌, ◌*◌, length, IfOk, AllPairs, count_by, Some};
 ghost use Rattle.exam_terms.specs.declared.limits.TheConstants.{MAX_AMOUNT, MAX_EXAMS};
 ghost use Rattle.exam_model.specs.Fits.{Suits};
-ghost use Rattle.exam_score.specs.Stays.{AreStays, next_differs, further};
+ghost use Rattle.exam_score.specs.Stays.{AreStays, next_differs, further_durations};
 ghost use Rattle.exam_score.specs.MixedDurations.{mixed_part};
 
 use exam_model::{ExamNo, Instance, PeriodNo, RoomNo, Timetable};
@@ -34,7 +34,7 @@ pub(crate) fn mixed_durations(
 // Returns how many stays are followed by one with the same place and another duration.
 fn count_further(stays: &[Stay]) -> u64
     requires { length stays.now ≤ MAX_EXAMS }
-    ensures count { result ≡ further stays.now }
+    ensures count { result ≡ further_durations stays.now }
     ensures small { result ≤ length stays.now }
 {
     let mut count = 0;

@@ -8,7 +8,7 @@ ghost use Rattle.exam_score.specs.declared.tallies.Tally.{Tally};
 
 use crate::pair_costs::NightCost;
 use crate::tallies::Tally;
-use crate::walk::reached;
+use crate::walk::earlier_tally;
 use exam_model::{Instance, PairCost};
 
 // Returns the cost of nights over all pairs of tallies. If the weight is 0, no tally is read.
@@ -46,7 +46,7 @@ fn nights_with_exam(instance: &Instance, tallies: &[Tally], at: usize, tally: &T
     let first = tally.period.get().saturating_sub(1); // no earlier period costs anything
     let mut total = 0;
     let mut next = tally.before;
-    while let Some(other) = reached(tallies, next, first) {
+    while let Some(other) = earlier_tally(tallies, next, first) {
         let more = night_between(instance, tally, &other);
         total += more;
         next = other.before;

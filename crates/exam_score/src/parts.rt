@@ -102,14 +102,14 @@ impl Parts {
     {
         let (pairs, less, more) = (self.pairs, goes.pairs, comes.pairs);
         Parts::new(
-            exchanged(pairs.row(), less.row(), more.row())?,
-            exchanged(pairs.day(), less.day(), more.day())?,
-            exchanged(pairs.spread(), less.spread(), more.spread())?,
-            exchanged(pairs.night(), less.night(), more.night())?,
-            exchanged(self.mixed, goes.mixed, comes.mixed)?,
-            exchanged(self.front, goes.front, comes.front)?,
-            exchanged(self.period, goes.period, comes.period)?,
-            exchanged(self.room, goes.room, comes.room)?,
+            exchanged_amount(pairs.row(), less.row(), more.row())?,
+            exchanged_amount(pairs.day(), less.day(), more.day())?,
+            exchanged_amount(pairs.spread(), less.spread(), more.spread())?,
+            exchanged_amount(pairs.night(), less.night(), more.night())?,
+            exchanged_amount(self.mixed, goes.mixed, comes.mixed)?,
+            exchanged_amount(self.front, goes.front, comes.front)?,
+            exchanged_amount(self.period, goes.period, comes.period)?,
+            exchanged_amount(self.room, goes.room, comes.room)?,
         )
     }
 
@@ -180,7 +180,7 @@ impl Parts {
     }
 }
 
-fn exchanged(old: u64, goes: u64, comes: u64) -> Option<u64>
+fn exchanged_amount(old: u64, goes: u64, comes: u64) -> Option<u64>
     requires small { old + comes < 2 ^ 63 }
     ensures some { IfSome result (λ new. new + goes ≡ old + comes) }
     ensures none { IfNone result (old + comes < goes) }

@@ -1,6 +1,6 @@
 // The numbers of a personal penalty: contracts see them as a record.
 ghost use Rattle.std.specs.Prelude.{◌≡◌, ◌+◌, ◌^◌, ◌<◌, ◌≤◌, Some, None, IfSome, IfNone};
-ghost use Rattle.exam_score.specs.Penalty.{PersonalPenalty, personal_total, plus};
+ghost use Rattle.exam_score.specs.Penalty.{PersonalPenalty, personal_total, penalty_sum};
 
 use crate::parts::TOTAL_LIMIT;
 use std::marker::Model;
@@ -78,7 +78,7 @@ impl PersonalParts {
     // Returns the sum of both, which is known to be small.
     pub(crate) fn plus(self, more: PersonalParts) -> PersonalParts
         requires { personal_total self + personal_total more < 2 ^ 62 }
-        ensures { result ≡ plus self more }
+        ensures { result ≡ penalty_sum self more }
     {
         PersonalParts {
             row: self.row + more.row,

@@ -4,7 +4,7 @@ ghost use Rattle.exam_terms.specs.declared.limits.TheConstants.{MAX_AMOUNT, MAX_
 ghost use Rattle.exam_model.specs.Enrolments.{has_number};
 ghost use Rattle.exam_model.specs.Fits.{Fits, period_of};
 ghost use Rattle.exam_model.specs.Pairs.{pairs_of};
-ghost use Rattle.exam_score.specs.Penalty.{personal_total, plus};
+ghost use Rattle.exam_score.specs.Penalty.{personal_total, penalty_sum};
 ghost use Rattle.exam_score.specs.Regrouping.{periods_of};
 ghost use Rattle.exam_score.specs.Rescoring.{OthersUnchanged, sat_period, students_penalty, students_share};
 ghost use Rattle.exam_score.specs.Track.{track};
@@ -111,7 +111,7 @@ fn further_penalty(
 ) -> Result<PersonalParts, AllocError>
     requires fits { Fits instance.now enrolments.now timetable.now }
     ensures { IfOk result (λ more.
-        plus more (students_penalty instance.now enrolments.now timetable.now others.now)
+        penalty_sum more (students_penalty instance.now enrolments.now timetable.now others.now)
         ≡ students_penalty instance.now enrolments.now timetable.now (student ∷ others.now)) }
 {
     if is_among(others, student) {

@@ -24,7 +24,7 @@ pub(crate) fn sums_of_pairs(instance: &Instance, lines: &[Line], tallies: &[Tall
     instance.lemma_limits();
     let mut sums = NOTHING;
     for (at, tally) in tallies.iter().enumerate() {
-        let Some((line, place)) = line_beside(lines, tallies, at, tally) else {
+        let Some((line, place)) = line_and_place(lines, tallies, at, tally) else {
             continue; // as for most tallies
         };
         let more = cost_along_line(instance, line, tallies, place, tally);
@@ -35,7 +35,7 @@ pub(crate) fn sums_of_pairs(instance: &Instance, lines: &[Line], tallies: &[Tall
 
 // Returns the line of the period of the tally at a place, and the place after the latest tally of
 // its student that costs anything with it. `None`: there is no such tally.
-fn line_beside<'a>(
+fn line_and_place<'a>(
     lines: &'a [Line],
     tallies: &[Tally],
     at: usize,
@@ -102,7 +102,7 @@ fn own_place(tallies: &[Tally], place: u32, first: u32, student: StudentNo) -> u
     ensures { IsOwnPlace tallies.now place student first result }
 {
     let mut next = place;
-    while let Some(other) = reached(tallies, next, first) {
+    while let Some(other) = earlier_tally(tallies, next, first) {
         if other.student == student {
             return next;
         }
@@ -113,7 +113,7 @@ fn own_place(tallies: &[Tally], place: u32, first: u32, student: StudentNo) -> u
 
 // Returns the tally just before this place. `None`: its period is too early to cost anything, as
 // are those of all before it.
-pub(crate) fn reached(tallies: &[Tally], next: u32, first: u32) -> Option<Tally>
+pub(crate) fn earlier_tally(tallies: &[Tally], next: u32, first: u32) -> Option<Tally>
     requires within { next ≤ length tallies.now }
     ensures some { IfSome result (IsReached tallies.now next) }
     ensures useful { IfSome result (λ other. first ≤ other.period) }

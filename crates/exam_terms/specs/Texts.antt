@@ -21,5 +21,5 @@ trim_end [] = []
 trim_end (b ∷ bs) = before_end b (trim_end bs)
 
 -- a text without its leading and trailing blanks
-abbrev pub trimmed : List ℕ → List ℕ
-trimmed text = trim_end (trim_start text)
+abbrev pub trimmed_text : List ℕ → List ℕ
+trimmed_text text = trim_end (trim_start text)

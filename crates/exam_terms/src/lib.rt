@@ -9,4 +9,4 @@ mod texts;
 
 pub use numbers::{DeptNo, ExamNo, PeriodNo, RoomNo, StudentNo};
 pub use place::Place;
-pub use texts::{are_digits, trim_end, trim_start, trimmed};
+pub use texts::{are_digits, trim_end, trim_start, trimmed_text};

@@ -2,12 +2,12 @@
 ghost use Rattle.std.specs.Prelude.{◌≡◌, ◌≤◌, length};
 ghost use Rattle.std.specs.List.{list_all};
 ghost use Rattle.std.specs.Char.{is_ascii_digit};
-ghost use Rattle.exam_terms.specs.Texts.{is_blank, trim_start, trim_end, trimmed};
+ghost use Rattle.exam_terms.specs.Texts.{is_blank, trim_start, trim_end, trimmed_text};
 
 /// Returns the text without its leading and trailing blanks: spaces and tabs.
 #[inline]
-pub fn trimmed(text: &[u8]) -> &[u8]
-    ensures { result.now ≡ trimmed text.now }
+pub fn trimmed_text(text: &[u8]) -> &[u8]
+    ensures { result.now ≡ trimmed_text text.now }
 {
     trim_end(trim_start(text))
 }

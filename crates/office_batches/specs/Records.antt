@@ -5,7 +5,7 @@ use Rattle.std.specs.Str.{str_eq_ignore_ascii_case}
 use Rattle.exam_terms.specs.declared.limits.TheConstants.{MAX_EXAMS, MAX_STUDENT}
 use Rattle.exam_terms.specs.Refusing.{◌>>=◌, unless}
 use Rattle.exam_model.specs.declared.change.Change.{Change}
-use Rattle.exam_terms.specs.Texts.{trimmed}
+use Rattle.exam_terms.specs.Texts.{trimmed_text}
 use Rattle.office_files.specs.Numbers.{number}
 use Rattle.office_files.specs.declared.fault.FaultKind.{FaultKind}
 use Rattle.office_files.specs.declared.fault.FaultKind.TheVariants.{BadWord, StrayText}
@@ -16,7 +16,7 @@ Record = List (List ℕ)
 
 -- a field of a record, trimmed; empty if the record has no such field
 abbrev pub field : Record → ℕ → List ℕ
-field fields i = trimmed (slice_index_or fields i [])
+field fields i = trimmed_text (slice_index_or fields i [])
 
 -- whether a field is this word, in lower or upper case
 abbrev pub has_word : Record → ℕ → List ℕ → Bool

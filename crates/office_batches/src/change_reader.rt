@@ -8,7 +8,7 @@ ghost use Rattle.office_batches.specs.Records.{has_word};
 use csv::ByteRecord;
 use exam_model::{Change, ExamNo, StudentNo};
 use exam_terms::limits::{MAX_EXAMS, MAX_STUDENT};
-use exam_terms::trimmed;
+use exam_terms::trimmed_text;
 use office_files::{FaultKind, number, same_word};
 
 /// Returns whether a record names the columns.
@@ -67,7 +67,7 @@ fn field(row: &ByteRecord, place: usize) -> &[u8]
     ensures { result.now ≡ field (fields_of row.now) place }
 {
     match row.get(place) {
-        Some(field) => trimmed(field),
+        Some(field) => trimmed_text(field),
         None => &[],
     }
 }

@@ -40,23 +40,23 @@ abbrev pub plain_line : List ℕ → Verdict → List ℕ
 plain_line path v = flat_map column (numbers_of v) ++ path ++ 10 ∷ []
 
 -- a member whose value is a number
-abbrev pub counted : ℕ → Data
-counted n = number (unsigned n)
+abbrev pub json_number : ℕ → Data
+json_number n = number (unsigned n)
 
 -- the same with names
 abbrev pub verdict_data : List ℕ → Verdict → Data
 verdict_data path v = object
-    (member (codes "breaches") (counted v.breaches)
-    (member (codes "day") (counted v.parts.day)
-    (member (codes "front") (counted v.parts.front)
-    (member (codes "mixed") (counted v.parts.mixed)
-    (member (codes "night") (counted v.parts.night)
+    (member (codes "breaches") (json_number v.breaches)
+    (member (codes "day") (json_number v.parts.day)
+    (member (codes "front") (json_number v.parts.front)
+    (member (codes "mixed") (json_number v.parts.mixed)
+    (member (codes "night") (json_number v.parts.night)
     (member (codes "path") (string path)
-    (member (codes "period") (counted v.parts.period)
-    (member (codes "room") (counted v.parts.room)
-    (member (codes "row") (counted v.parts.row)
-    (member (codes "spread") (counted v.parts.spread)
-    (member (codes "total") (counted (total_of v.parts)) no_members)))))))))))
+    (member (codes "period") (json_number v.parts.period)
+    (member (codes "room") (json_number v.parts.room)
+    (member (codes "row") (json_number v.parts.row)
+    (member (codes "spread") (json_number v.parts.spread)
+    (member (codes "total") (json_number (total_of v.parts)) no_members)))))))))))
 
 -- the same as a line of JSON
 abbrev pub json_line : List ℕ → Verdict → List ℕ

@@ -63,11 +63,11 @@ pub fn announce_and_accept<
     if machine.is_shut() {
         return Err(RunFault::Shut);
     }
-    ended(service, plan)
+    run_result(service, plan)
 }
 
 // Returns how a run ended, by what was served, with a machine that is still open.
-fn ended(service: Service, plan: Plan) -> Result<u32, RunFault>
+fn run_result(service: Service, plan: Plan) -> Result<u32, RunFault>
     requires { service.accepted ≤ plan.connections }
     ensures all { IfOk result (λ unwritten.
         (service.accepted ≡ plan.connections) × (service.unwritten ≡ unwritten)) }

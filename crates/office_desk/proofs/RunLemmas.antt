@@ -4,7 +4,7 @@ use Rattle.office_policy.specs.Commands.{PlainCommand}
 use Rattle.office_policy.specs.declared.callers.Caller.{Caller}
 use Rattle.office_model.specs.Answers.{PlainAnswer}
 use Rattle.office_model.specs.Office.{OfficeState}
-use Rattle.office_model.specs.Step.{Steps, allowed_in, if_allowed, permitted}
+use Rattle.office_model.specs.Step.{Steps, allowed_in, if_allowed, permitted_outcome}
 use Rattle.office_desk.specs.Performing.{AnswersOutcome}
 
 -- a step after which the state represents the new office
@@ -17,10 +17,10 @@ StepsTo old caller command Stays final_answer =
 pub permitted_step : (old : OfficeState) (caller : Caller) (command : PlainCommand)
     (Stays : OfficeState → Type 0) (final_answer : PlainAnswer) → Ok tt
     ≡ allowed_in old caller command
-    → AnswersOutcome (permitted old caller command) old Stays final_answer
+    → AnswersOutcome (permitted_outcome old caller command) old Stays final_answer
     → StepsTo old caller command Stays final_answer
 permitted_step old caller command Stays final_answer allowed (inl (same, stays)) =
-    let outcome = permitted old caller command in (
+    let outcome = permitted_outcome old caller command in (
       outcome.0,
       inl (ap (λ t. (outcome.0, t)) same ∙ ap (λ a. if_allowed a old caller command) allowed),
       stays,

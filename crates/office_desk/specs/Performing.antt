@@ -9,7 +9,7 @@ use Rattle.office_policy.specs.declared.command.Body.{Body}
 use Rattle.office_policy.specs.declared.command.Body.TheVariants.{Given, Bad, Long}
 use Rattle.office_model.specs.Answers.{PlainAnswer, bad_body, long_body, unavailable}
 use Rattle.office_model.specs.Office.{OfficeState}
-use Rattle.office_model.specs.Step.{Outcome, permitted}
+use Rattle.office_model.specs.Step.{Outcome, permitted_outcome}
 use Rattle.office_store.specs.Running.{IsCommitted, Represents}
 use Rattle.office_desk.specs.Answers.{IsRefusal, plain_answer}
 use Rattle.office_desk.specs.declared.answer.Answer.{Answer}
@@ -40,7 +40,7 @@ pub record OutcomeAnswered {S : Type 0} (store : Ghosts S) (outcome_in : OfficeS
 abbrev pub CommandPerformed : {S : Type 0} → Ghosts S → Caller → PlainCommand → Held S → Held S
     → Result Answer Answer → Type 0
 CommandPerformed store caller command old new result =
-    OutcomeAnswered store (λ office. permitted office caller command) old new result
+    OutcomeAnswered store (λ office. permitted_outcome office caller command) old new result
 
 -- `Ok` is the value of the body; `Err` is the answer to a faulty or too long body
 abbrev pub IsBodyOrAnswer : {A : Type 0} → Body A → Result A Answer → Type 0

@@ -15,7 +15,7 @@ use crate::candidates::{candidate, me, my_exam, my_penalty};
 use crate::changing::{
     body_or_answer, drop_draft, edit, enrol_batch, load, new_draft, publish, set_owner,
 };
-use crate::judging::judged;
+use crate::judging::permission;
 use crate::publications::{publication, publication_penalty, publication_rooms, publication_seats};
 use crate::showing::{draft, instance, penalty, violations};
 use office_policy::{Caller, Command};
@@ -73,7 +73,7 @@ impl<S: Alter> Desk<S> {
             → HasCleanDisk (state S.Store self.old) }
     {
         let asking = caller;
-        match judged(&mut self.office, alloc, asking, command) {
+        match permission(&mut self.office, alloc, asking, command) {
             Ok(Ok(())) => into_answer(perform(&mut self.office, alloc, caller, command)),
             Ok(Err(denial)) => Answer::Denied(denial),
             Err(fault) => Answer::from(fault),

@@ -13,7 +13,7 @@ use std::alloc::Global;
 
 // Returns whether the caller may run the command. Owners are read only if a department edits exams:
 // the policy depends on them only then.
-pub(crate) fn judged<S: Alter>(
+pub(crate) fn permission<S: Alter>(
     office: &mut Office<S>,
     alloc: Global,
     caller: Caller,
@@ -25,14 +25,14 @@ pub(crate) fn judged<S: Alter>(
         → HasCleanDisk (state S.Store office.old) }
 {
     match caller {
-        Caller::Dept(dept) => judged_by_owners(office, alloc, dept, command),
+        Caller::Dept(dept) => permission_by_owners(office, alloc, dept, command),
         _ => Ok(allowed(caller, command, 0, 0)),
     }
 }
 
 // Returns whether the policy allows a department's command. The second owner of a swap is read only
 // if the department owns the first exam.
-fn judged_by_owners<S: Alter>(
+fn permission_by_owners<S: Alter>(
     office: &mut Office<S>,
     alloc: Global,
     dept: DeptNo,

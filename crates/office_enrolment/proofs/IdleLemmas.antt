@@ -7,12 +7,12 @@ use Rattle.exam_terms.specs.Refusing.{◌>>=◌, unless}
 use Rattle.exam_model.specs.Enrolments.{Enrolled, AreEnrolments, pair_count}
 use Rattle.exam_model.specs.declared.change.Change.{Change}
 use Rattle.exam_draft.specs.declared.fault.EditFault.TheVariants.{NoSuch}
-use Rattle.office_model.specs.BatchLines.{acts, after_change, counted, enrolled, no_counts}
+use Rattle.office_model.specs.BatchLines.{has_effect, after_change, counts_after, enrolment_result, no_counts}
 use Rattle.office_model.specs.declared.counts.Counts.{Counts}
 use Rattle.office_model.specs.declared.fault.Refusal.TheVariants as refusal
 use Rattle.office_model.specs.declared.fault.StoreFault.{StoreFault}
 use Rattle.office_model.specs.declared.fault.StoreFault.TheVariants.{Refused, TooMany}
-use Rattle.office_enrolment.specs.AfterBatch.{acting, acts_on, after_batch, idle_counts, latest, names_exam}
+use Rattle.office_enrolment.specs.AfterBatch.{lines_with_effect, has_effect_on, after_batch, idle_counts, current_enrolments, names_exam}
 use Rattle.office_enrolment.specs.declared.batch.AfterBatch.{AfterBatch}
 use Rattle.office_enrolment.proofs.KeptLemmas.{Ascend, they_ascend}
 use Rattle.office_enrolment.proofs.LineLemmas.{line_again}
@@ -22,11 +22,11 @@ both_false true b is = absurd cc
 both_false false b is = (refl, is)
 
 -- one line that doesn't act
-module _ (change : Change) (E : Enrolled) (n : Counts) (idle : acts change E ≡ false) where
+module _ (change : Change) (E : Enrolled) (n : Counts) (idle : has_effect change E ≡ false) where
   abbrev one_idle : Counts
   one_idle = record n { unchanged = n.unchanged + 1 }
 
-  idle_counted : counted change E n ≡ one_idle
+  idle_counted : counts_after change E n ≡ one_idle
   idle_counted =
       let more : Counts = record n { added = n.added + 1 } in
       let fewer : Counts = record n { dropped = n.dropped + 1 } in
@@ -34,73 +34,73 @@ module _ (change : Change) (E : Enrolled) (n : Counts) (idle : acts change E ≡
 
 -- they are counted, and change nothing
 pub idle_enrolled : (changes : List Change) (E : Enrolled) (n : Counts) → Ascend E
-    → pair_count E ≤ 200000 → list_any (acts_on E) changes ≡ false
-    → enrolled changes E n ≡ Ok (record n { unchanged = n.unchanged + length changes }, E)
+    → pair_count E ≤ 200000 → list_any (has_effect_on E) changes ≡ false
+    → enrolment_result changes E n ≡ Ok (record n { unchanged = n.unchanged + length changes }, E)
 idle_enrolled [] E n up few idle =
     let none : n.unchanged ≡ n.unchanged + 0 = omega arith in
-    ap (λ k. enrolled [] E (record n { unchanged = k })) none
+    ap (λ k. enrolment_result [] E (record n { unchanged = k })) none
 idle_enrolled (change ∷ changes) E n up few idle =
-    let first = both_false (acts change E) (list_any (acts_on E) changes) idle in
+    let first = both_false (has_effect change E) (list_any (has_effect_on E) changes) idle in
     let next : Counts = one_idle change E n first.0 in
     let long : n.unchanged + 1 + length changes ≡ n.unchanged + length (change ∷ changes)
     = omega arith in
     ap (λ (G : Enrolled). unless (nat_le (pair_count G) 200000) TooMany
-    >>= λ _. enrolled changes G (counted change E n)) (line_again change E up first.0)
+    >>= λ _. enrolment_result changes G (counts_after change E n)) (line_again change E up first.0)
     ∙ ap (λ (m : Counts). unless (nat_le (pair_count E) 200000) TooMany
-    >>= λ _. enrolled changes E m) (idle_counted change E n first.0)
-    ∙ ap (λ b. unless b TooMany >>= λ _. enrolled changes E next)
+    >>= λ _. enrolment_result changes E m) (idle_counted change E n first.0)
+    ∙ ap (λ b. unless b TooMany >>= λ _. enrolment_result changes E next)
     (le-leb (pair_count E) 200000 few)
     ∙ idle_enrolled changes E next up few first.1
-    ∙ ap (λ k. enrolled [] E (record n { unchanged = k })) long
+    ∙ ap (λ k. enrolment_result [] E (record n { unchanged = k })) long
 
 -- then none of them acts in file order either
 pub idle_acting : (changes : List Change) (E : Enrolled) → Ascend E
-    → list_any (acts_on E) changes ≡ false → acting changes E ≡ []
+    → list_any (has_effect_on E) changes ≡ false → lines_with_effect changes E ≡ []
 idle_acting [] E up idle = refl
 idle_acting (change ∷ changes) E up idle =
-    let first = both_false (acts change E) (list_any (acts_on E) changes) idle in
-    let later : List Change = acting changes (after_change change E) in
+    let first = both_false (has_effect change E) (list_any (has_effect_on E) changes) idle in
+    let later : List Change = lines_with_effect changes (after_change change E) in
     ap (λ b. if b then change ∷ later else later) first.0
-    ∙ ap (acting changes) (line_again change E up first.0)
+    ∙ ap (lines_with_effect changes) (line_again change E up first.0)
     ∙ idle_acting changes E up first.1
 
 -- if a line acts on the enrolments before, one acts in file order
 pub some_acting : (changes : List Change) (E : Enrolled) → Ascend E
-    → list_any (acts_on E) changes ≡ true → acting changes E ≢ []
+    → list_any (has_effect_on E) changes ≡ true → lines_with_effect changes E ≢ []
 some_acting [] E up some = absurd cc
 some_acting (change ∷ changes) E up some =
-    let later : List Change = acting changes (after_change change E) in
-    elim (acts change E) as (λ b. acts change E ≡ b
-    → (b || list_any (acts_on E) changes) ≡ true
+    let later : List Change = lines_with_effect changes (after_change change E) in
+    elim (has_effect change E) as (λ b. has_effect change E ≡ b
+    → (b || list_any (has_effect_on E) changes) ≡ true
     → (if b then change ∷ later else later) ≢ []) [
       | true ↦ λ acts_first any none. absurd (cc none)
       | false ↦ λ idle any none. some_acting changes E up any
-          (sym (ap (acting changes) (line_again change E up idle)) ∙ none)
+          (sym (ap (lines_with_effect changes) (line_again change E up idle)) ∙ none)
     ] refl some
 
 -- a batch without acting lines doesn't change the enrolments
 pub idle_batch : (changes : List Change) (E : Enrolled) → AreEnrolments E
-    → list_all (names_exam E) changes ≡ true → list_any (acts_on E) changes ≡ false
+    → list_all (names_exam E) changes ≡ true → list_any (has_effect_on E) changes ≡ false
     → after_batch changes E ≡ Ok (idle_counts changes, E)
 idle_batch changes E is exist idle =
     let long : 0 + length changes ≡ length changes = omega arith in
-    ap (λ b. unless b (Refused (refusal.Edit NoSuch)) >>= λ _. enrolled changes E no_counts) exist
+    ap (λ b. unless b (Refused (refusal.Edit NoSuch)) >>= λ _. enrolment_result changes E no_counts) exist
     ∙ idle_enrolled changes E no_counts (they_ascend E is) is.pairs idle
-    ∙ ap (λ k. enrolled [] E (record { added = 0; dropped = 0; unchanged = k })) long
+    ∙ ap (λ k. enrolment_result [] E (record { added = 0; dropped = 0; unchanged = k })) long
 
 -- ---- the result of such a batch
 
 pub unchanged_is : (changes : List Change) (counts : Counts) (made : Option Enrolled) (E : Enrolled)
     → counts ≡ idle_counts changes → made ≡ None
     → ◌≡◌ {A = Result (Counts × Enrolled) StoreFault} (Ok (idle_counts changes, E))
-    (Ok (counts, latest made E))
+    (Ok (counts, current_enrolments made E))
 unchanged_is changes counts made E none copied =
-    ap (λ n. Ok (n, E)) (sym none) ∙ ap (λ m. Ok (counts, latest m E)) (sym copied)
+    ap (λ n. Ok (n, E)) (sym none) ∙ ap (λ m. Ok (counts, current_enrolments m E)) (sym copied)
 
 -- there is a copy if a line acts
 pub copied_if : (made : Result AfterBatch StoreFault) (changes : List Change) (E : Enrolled)
     → IfOk made (λ m. m.enrolments ≢ None)
-    → IfOk made (λ m. m.acting.items ≡ acting changes E) → acting changes E ≢ []
+    → IfOk made (λ m. m.acting.items ≡ lines_with_effect changes E) → lines_with_effect changes E ≢ []
     → IfOk made (λ m. m.enrolments ≡ None ↔ m.acting.items ≡ [])
 copied_if (Ok made) changes E copied are some =
     (λ none. absurd (copied none), λ none. absurd (some (sym are ∙ none)))

@@ -9,7 +9,7 @@ use Rattle.exam_model.specs.Changes.{with_pair, without_pair, with_student, with
 use Rattle.exam_model.specs.Enrolments.{Enrolled, AreEnrolments, has, pair_count, students}
 use Rattle.exam_model.specs.declared.change.Change.{Change}
 use Rattle.exam_draft.specs.declared.fault.EditFault.TheVariants.{NoSuch}
-use Rattle.office_model.specs.BatchLines.{acts, after_change, after_changes, counted, enrolled, no_counts}
+use Rattle.office_model.specs.BatchLines.{has_effect, after_change, after_changes, counts_after, enrolment_result, no_counts}
 use Rattle.office_model.specs.declared.counts.Counts.{Counts}
 use Rattle.office_model.specs.declared.fault.Refusal.TheVariants as refusal
 use Rattle.office_model.specs.declared.fault.StoreFault.TheVariants.{Refused, TooMany}
@@ -27,7 +27,7 @@ not_false false is = absurd (cc)
 -- ---- one line
 
 -- one that doesn't act changes nothing
-pub line_again : (change : Change) (E : Enrolled) → Ascend E → acts change E ≡ false
+pub line_again : (change : Change) (E : Enrolled) → Ascend E → has_effect change E ≡ false
     → after_change change E ≡ E
 line_again change E up idle =
     let s = change.student in
@@ -72,12 +72,12 @@ line_kept change E known few is =
 
 -- each line is counted once
 pub line_counted : (change : Change) (E : Enrolled) (n : Counts)
-    → lines_in (counted change E n) ≡ lines_in n + 1
+    → lines_in (counts_after change E n) ≡ lines_in n + 1
 line_counted change E n =
     let more : Counts = record n { added = n.added + 1 } in
     let fewer : Counts = record n { dropped = n.dropped + 1 } in
     let same : Counts = record n { unchanged = n.unchanged + 1 } in
-    elim (acts change E)
+    elim (has_effect change E)
     as (λ a. lines_in (if a then (if change.add then more else fewer) else same) ≡ lines_in n + 1) [
       | true ↦ elim change.add as (λ b. lines_in (if b then more else fewer) ≡ lines_in n + 1) [
         | true ↦ omega arith
@@ -104,14 +104,14 @@ line_full change E adds lt absent full =
 
 -- if all lines were accepted, the first was, and those after it
 pub accepted_first : (change : Change) (changes : List Change) (E : Enrolled) (n : Counts)
-    (done : Counts × Enrolled) → enrolled (change ∷ changes) E n ≡ Ok done
+    (done : Counts × Enrolled) → enrolment_result (change ∷ changes) E n ≡ Ok done
     → (pair_count (after_change change E) ≤ 200000)
-    × (enrolled changes (after_change change E) (counted change E n) ≡ Ok done)
+    × (enrolment_result changes (after_change change E) (counts_after change E n) ≡ Ok done)
 accepted_first change changes E n done is =
     let G : Enrolled = after_change change E in
     elim (nat_le (pair_count G) 200000) as (λ b. nat_le (pair_count G) 200000 ≡ b
-    → (unless b TooMany >>= λ _. enrolled changes G (counted change E n)) ≡ Ok done
-    → (pair_count G ≤ 200000) × (enrolled changes G (counted change E n) ≡ Ok done)) [
+    → (unless b TooMany >>= λ _. enrolment_result changes G (counts_after change E n)) ≡ Ok done
+    → (pair_count G ≤ 200000) × (enrolment_result changes G (counts_after change E n) ≡ Ok done)) [
       | true ↦ λ few later. (leb-true (pair_count G) 200000 few, later)
       | false ↦ λ many later. absurd (cc later)
     ] refl is
@@ -119,23 +119,23 @@ accepted_first change changes E n done is =
 -- accepted: each exam exists, and no line made too many pairs
 pub accepted : (changes : List Change) (E : Enrolled) (done : Counts × Enrolled)
     → after_batch changes E ≡ Ok done
-    → (list_all (names_exam E) changes ≡ true) × (enrolled changes E no_counts ≡ Ok done)
+    → (list_all (names_exam E) changes ≡ true) × (enrolment_result changes E no_counts ≡ Ok done)
 accepted changes E done is =
     let exist : Bool = list_all (names_exam E) changes in
     elim exist as (λ b. exist ≡ b
-    → (unless b (Refused (refusal.Edit NoSuch)) >>= λ _. enrolled changes E no_counts) ≡ Ok done
-    → (exist ≡ true) × (enrolled changes E no_counts ≡ Ok done)) [
+    → (unless b (Refused (refusal.Edit NoSuch)) >>= λ _. enrolment_result changes E no_counts) ≡ Ok done
+    → (exist ≡ true) × (enrolment_result changes E no_counts ≡ Ok done)) [
       | true ↦ λ all later. (all, later)
       | false ↦ λ some later. absurd (cc later)
     ] refl is
 
 pub all_after : (changes : List Change) (E : Enrolled) (n : Counts) (done : Counts × Enrolled)
-    → enrolled changes E n ≡ Ok done → done.1 ≡ after_changes changes E
+    → enrolment_result changes E n ≡ Ok done → done.1 ≡ after_changes changes E
 all_after [] E n done is =
     let same : (n, E) ≡ done = cc is in
     ap (λ (d : Counts × Enrolled). d.1) (sym same)
 all_after (change ∷ changes) E n done is =
-    all_after changes (after_change change E) (counted change E n) done
+    all_after changes (after_change change E) (counts_after change E n) done
     (accepted_first change changes E n done is).1
 
 pub all_exams : (changes : List Change) (E : Enrolled)
@@ -145,13 +145,13 @@ all_exams (change ∷ changes) E =
     all_exams changes (after_change change E) ∙ line_exams change E
 
 pub all_counted : (changes : List Change) (E : Enrolled) (n : Counts) (done : Counts × Enrolled)
-    → enrolled changes E n ≡ Ok done → lines_in done.0 ≡ lines_in n + length changes
+    → enrolment_result changes E n ≡ Ok done → lines_in done.0 ≡ lines_in n + length changes
 all_counted [] E n done is =
     let same : (n, E) ≡ done = cc is in
     let counts : lines_in n ≡ lines_in done.0 = ap (λ (d : Counts × Enrolled). lines_in d.0) same in
     omega arith
 all_counted (change ∷ changes) E n done is =
-    let later = all_counted changes (after_change change E) (counted change E n) done
+    let later = all_counted changes (after_change change E) (counts_after change E n) done
     (accepted_first change changes E n done is).1 in
     let one = line_counted change E n in
     omega arith
@@ -161,11 +161,11 @@ abbrev pub HaveNumbers : List Change → Type 0
 HaveNumbers changes = AllByRecursion (λ (c : Change). c.student ≤ 999999999) changes
 
 pub all_kept : (changes : List Change) (E : Enrolled) (n : Counts) (done : Counts × Enrolled)
-    → HaveNumbers changes → enrolled changes E n ≡ Ok done → AreEnrolments E → AreEnrolments done.1
+    → HaveNumbers changes → enrolment_result changes E n ≡ Ok done → AreEnrolments E → AreEnrolments done.1
 all_kept [] E n done known is was =
     let same : (n, E) ≡ done = cc is in
     subst (λ (d : Counts × Enrolled). AreEnrolments d.1) same was
 all_kept (change ∷ changes) E n done known is was =
     let first = accepted_first change changes E n done is in
-    all_kept changes (after_change change E) (counted change E n) done known.1 first.1
+    all_kept changes (after_change change E) (counts_after change E n) done known.1 first.1
     (line_kept change E known.0 first.0 was)

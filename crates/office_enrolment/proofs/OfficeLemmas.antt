@@ -13,9 +13,9 @@ use Rattle.exam_model.specs.Timetable.{Placing}
 use Rattle.exam_model.specs.declared.change.Change.{Change}
 use Rattle.exam_draft.specs.declared.fault.EditFault.TheVariants.{NoSuch}
 use Rattle.office_files.specs.declared.fault.FileFault.{FileFault}
-use Rattle.office_model.specs.BatchLines.{enrolled, no_counts}
+use Rattle.office_model.specs.BatchLines.{enrolment_result, no_counts}
 use Rattle.office_model.specs.Batches.{enrolled_by, batch_numbered, newly_enrolled, same_bytes}
-use Rattle.office_model.specs.Commands.{CommandResult, named, records_or_refusal}
+use Rattle.office_model.specs.Commands.{CommandResult, renamed_fault, records_or_refusal}
 use Rattle.office_model.specs.Office.{AreEnrolled, AreKept, AreRecords, IsKeptBatch, IsOffice, KeptBatch, OfficeState, Records}
 use Rattle.office_model.specs.declared.counts.Counts.{Counts}
 use Rattle.office_model.specs.declared.fault.Refusal.TheVariants as refusal
@@ -38,14 +38,14 @@ as_office number bytes changes r exams =
     let keep : Counts × Enrolled → CommandResult Counts = batch_stored number bytes r in
     let exist : ℕ → Bool = λ (n : ℕ). list_all (λ (c : Change). nat_lt c.exam n) changes in
     let fault : StoreFault = Refused (refusal.Edit NoSuch) in
-    let first : (b : Bool) → (unless b fault >>= λ _. enrolled changes E no_counts >>= keep)
-    ≡ ((unless b fault >>= λ _. enrolled changes E no_counts) >>= keep)
-    = λ (b : Bool). elim b as (λ t. (unless t fault >>= λ _. enrolled changes E no_counts >>= keep)
-    ≡ ((unless t fault >>= λ _. enrolled changes E no_counts) >>= keep)) [
+    let first : (b : Bool) → (unless b fault >>= λ _. enrolment_result changes E no_counts >>= keep)
+    ≡ ((unless b fault >>= λ _. enrolment_result changes E no_counts) >>= keep)
+    = λ (b : Bool). elim b as (λ t. (unless t fault >>= λ _. enrolment_result changes E no_counts >>= keep)
+    ≡ ((unless t fault >>= λ _. enrolment_result changes E no_counts) >>= keep)) [
       | true ↦ refl
       | false ↦ refl
     ] in
-    ap (λ (n : ℕ). unless (exist n) fault >>= λ _. enrolled changes E no_counts >>= keep)
+    ap (λ (n : ℕ). unless (exist n) fault >>= λ _. enrolment_result changes E no_counts >>= keep)
     (sym exams)
     ∙ first (exist (length E))
 
@@ -170,7 +170,7 @@ pub office_after : (number : ℕ) (bytes : List ℕ) (read : Result (List Change
     (old new : OfficeState) (counts : Counts) → number ≤ 999999999
     → ((changes : List Change) → read ≡ Ok changes → (length bytes ≤ 1048576) × HaveNumbers changes)
     → IsOffice old
-    → (named (λ f. Refused (refusal.File f)) read >>= λ changes. records_or_refusal old >>= λ r.
+    → (renamed_fault (λ f. Refused (refusal.File f)) read >>= λ changes. records_or_refusal old >>= λ r.
     enrolled_by (batch_numbered number r.batches) number bytes changes r) ≡ Ok (counts, new)
     → IsOffice new
 office_after number bytes (Err fault) old new counts small facts was gives = absurd (cc gives)

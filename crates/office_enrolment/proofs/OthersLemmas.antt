@@ -7,9 +7,9 @@ use Rattle.exam_model.specs.Changes.{with_pair, with_student, without_pair, with
 use Rattle.exam_model.specs.Enrolments.{AreEnrolments, Enrolled, has, has_number, students}
 use Rattle.exam_model.specs.declared.change.Change.{Change}
 use Rattle.exam_model.proofs.StudentLemmas.{has-with, has-without}
-use Rattle.office_model.specs.BatchLines.{acts, after_change, after_changes, no_counts}
+use Rattle.office_model.specs.BatchLines.{has_effect, after_change, after_changes, no_counts}
 use Rattle.office_model.specs.declared.counts.Counts.{Counts}
-use Rattle.office_enrolment.specs.AfterBatch.{acting, after_batch}
+use Rattle.office_enrolment.specs.AfterBatch.{lines_with_effect, after_batch}
 use Rattle.office_enrolment.proofs.KeptLemmas.{Ascend, they_ascend}
 use Rattle.office_enrolment.proofs.LineLemmas.{accepted, all_after, line_again, line_ascends}
 
@@ -39,25 +39,25 @@ line_others change E t f other =
     ]
 
 lines_others : (changes : List Change) (E : Enrolled) → Ascend E → (t f : ℕ)
-    → has_number (map (λ (line : Change). line.student) (acting changes E)) t ≡ false
+    → has_number (map (λ (line : Change). line.student) (lines_with_effect changes E)) t ≡ false
     → has (after_changes changes E) t f ≡ has E t f
 lines_others [] E up t f none = refl
 lines_others (change ∷ changes) E up t f none =
-    go (acts change E) refl
+    go (has_effect change E) refl
     (lines_others changes (after_change change E) (line_ascends change E up) t f) none
   where
-    go : (b : Bool) → acts change E ≡ b
+    go : (b : Bool) → has_effect change E ≡ b
         → (has_number (map (λ (line : Change). line.student)
-        (acting changes (after_change change E))) t ≡ false
+        (lines_with_effect changes (after_change change E))) t ≡ false
         → has (after_changes changes (after_change change E)) t f ≡ has (after_change change E) t f)
         → has_number (map (λ (line : Change). line.student)
-        (if b then change ∷ acting changes (after_change change E)
-        else acting changes (after_change change E))) t ≡ false
+        (if b then change ∷ lines_with_effect changes (after_change change E)
+        else lines_with_effect changes (after_change change E))) t ≡ false
         → has (after_changes changes (after_change change E)) t f ≡ has E t f
     go true acted more none =
         let parts = or_parts (change.student == t)
         (has_number (map (λ (line : Change). line.student)
-        (acting changes (after_change change E))) t) none in
+        (lines_with_effect changes (after_change change E))) t) none in
         more parts.1 ∙ line_others change E t f (eqb-false change.student t parts.0)
     go false idle more none =
         more none ∙ ap (λ (F : Enrolled). has F t f) (line_again change E up idle)
@@ -65,7 +65,7 @@ lines_others (change ∷ changes) E up t f none =
 -- a student of no acting line sits the same exams after a batch
 pub others_after : (changes : List Change) (E : Enrolled) (done : Counts × Enrolled)
     → AreEnrolments E → after_batch changes E ≡ Ok done → (t f : ℕ)
-    → has_number (map (λ (line : Change). line.student) (acting changes E)) t ≡ false
+    → has_number (map (λ (line : Change). line.student) (lines_with_effect changes E)) t ≡ false
     → has done.1 t f ≡ has E t f
 others_after changes E done is made t f none =
     ap (λ (F : Enrolled). has F t f) (all_after changes E no_counts done (accepted changes E done made).1)

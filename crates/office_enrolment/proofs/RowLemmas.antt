@@ -9,9 +9,9 @@ use Rattle.exam_model.specs.Changes.{with_pair, without_pair}
 use Rattle.exam_model.specs.Enrolments.{Enrolled, AreEnrolments, has}
 use Rattle.exam_model.specs.Pairs.{Pair, pairs_of}
 use Rattle.exam_model.specs.declared.change.Change.{Change}
-use Rattle.office_model.specs.BatchLines.{acts, after_change, after_changes, no_counts}
+use Rattle.office_model.specs.BatchLines.{has_effect, after_change, after_changes, no_counts}
 use Rattle.office_model.specs.declared.counts.Counts.{Counts}
-use Rattle.office_enrolment.specs.AfterBatch.{acting, after_batch, names_exam}
+use Rattle.office_enrolment.specs.AfterBatch.{lines_with_effect, after_batch, names_exam}
 use Rattle.office_enrolment.specs.Rows.{RowKind, after_row, after_rows, pair_of}
 use Rattle.office_enrolment.proofs.FilterLemmas.{IsPermutation-filter, filter-map}
 use Rattle.office_enrolment.proofs.KeptLemmas.{Ascend, they_ascend}
@@ -50,7 +50,7 @@ module _ {X : Type 0} (kind : RowKind X) where
 
   -- one line that acts
   pub row_after : (change : Change) (E : Enrolled) (rows : List X) → change.exam < length E
-      → acts change E ≡ true → IsPermutation rows (rows_of E)
+      → has_effect change E ≡ true → IsPermutation rows (rows_of E)
       → IsPermutation (after_row kind change rows) (rows_of (after_change change E))
   row_after change E rows lt does are =
       let s = change.student in
@@ -66,7 +66,7 @@ module _ {X : Type 0} (kind : RowKind X) where
   -- the acting lines change the rows as all lines change the enrolments
   pub rows_after : (changes : List Change) (E : Enrolled) (rows : List X) → Ascend E
       → list_all (names_exam E) changes ≡ true → IsPermutation rows (rows_of E)
-      → IsPermutation (after_rows kind (acting changes E) rows) (rows_of (after_changes changes E))
+      → IsPermutation (after_rows kind (lines_with_effect changes E) rows) (rows_of (after_changes changes E))
   rows_after [] E rows up exist are = are
   rows_after (change ∷ changes) E rows up exist are =
       let F : Enrolled = after_change change E in
@@ -74,8 +74,8 @@ module _ {X : Type 0} (kind : RowKind X) where
       let there : list_all (names_exam F) changes ≡ true
       = subst (λ (n : ℕ). list_all (λ (c : Change). nat_lt c.exam n) changes ≡ true)
       (sym (line_exams change E)) both.1 in
-      let lines : List Change = acting changes F in
-      elim (acts change E) as (λ b. acts change E ≡ b
+      let lines : List Change = lines_with_effect changes F in
+      elim (has_effect change E) as (λ b. has_effect change E ≡ b
       → IsPermutation (after_rows kind (if b then change ∷ lines else lines) rows)
       (rows_of (after_changes changes F))) [
         | true ↦ λ does.
@@ -90,10 +90,10 @@ module _ {X : Type 0} (kind : RowKind X) where
   pub rows_after_batch : (changes : List Change) (E : Enrolled) (done : Counts × Enrolled)
       (rows : List X) → AreEnrolments E → after_batch changes E ≡ Ok done
       → IsPermutation rows (rows_of E)
-      → IsPermutation (after_rows kind (acting changes E) rows) (rows_of done.1)
+      → IsPermutation (after_rows kind (lines_with_effect changes E) rows) (rows_of done.1)
   rows_after_batch changes E done rows is judged are =
       let both = accepted changes E done judged in
-      subst (λ F. IsPermutation (after_rows kind (acting changes E) rows) (rows_of F))
+      subst (λ F. IsPermutation (after_rows kind (lines_with_effect changes E) rows) (rows_of F))
       (sym (all_after changes E no_counts done both.1))
       (rows_after changes E rows (they_ascend E is) both.0 are)
 

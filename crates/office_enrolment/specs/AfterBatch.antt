@@ -6,7 +6,7 @@ use Rattle.exam_terms.specs.declared.limits.TheConstants.{MAX_PAIRS}
 use Rattle.exam_model.specs.Enrolments.{Enrolled, pair_count}
 use Rattle.exam_model.specs.declared.change.Change.{Change}
 use Rattle.exam_draft.specs.declared.fault.EditFault.TheVariants.{NoSuch}
-use Rattle.office_model.specs.BatchLines.{acts, after_change, enrolled, no_counts}
+use Rattle.office_model.specs.BatchLines.{has_effect, after_change, enrolment_result, no_counts}
 use Rattle.office_model.specs.declared.counts.Counts.{Counts}
 use Rattle.office_model.specs.declared.fault.Refusal.TheVariants as refusal
 use Rattle.office_model.specs.declared.fault.StoreFault.{StoreFault}
@@ -27,23 +27,23 @@ after_line change E = do
 abbrev pub after_batch : List Change → Enrolled → Result (Counts × Enrolled) StoreFault
 after_batch changes E = do
   _ ← unless (list_all (names_exam E) changes) (Refused (refusal.Edit NoSuch))
-  enrolled changes E no_counts
+  enrolment_result changes E no_counts
 
 -- the lines that change something at their turn, in file order
-abbrev pub acting : List Change → Enrolled → List Change
-acting [] E = []
-acting (change ∷ changes) E =
-    if acts change E then change ∷ acting changes (after_change change E)
-    else acting changes (after_change change E)
+abbrev pub lines_with_effect : List Change → Enrolled → List Change
+lines_with_effect [] E = []
+lines_with_effect (change ∷ changes) E =
+    if has_effect change E then change ∷ lines_with_effect changes (after_change change E)
+    else lines_with_effect changes (after_change change E)
 
 -- whether a line changes these enrolments
-abbrev pub acts_on : Enrolled → Change → Bool
-acts_on E change = acts change E
+abbrev pub has_effect_on : Enrolled → Change → Bool
+has_effect_on E change = has_effect change E
 
 -- the new enrolments, or the old ones if there are none
-abbrev pub latest : Option Enrolled → Enrolled → Enrolled
-latest (Some E) before = E
-latest None before = before
+abbrev pub current_enrolments : Option Enrolled → Enrolled → Enrolled
+current_enrolments (Some E) before = E
+current_enrolments None before = before
 
 -- the counts of lines of which none acts
 abbrev pub idle_counts : List Change → Counts

@@ -4,8 +4,8 @@ ghost use Rattle.std.specs.Prelude.{IfErr, IfOk, IfSome, OnOk, Ok};
 ghost use Rattle.std.specs.List.{list_all, list_any};
 ghost use Rattle.exam_terms.specs.declared.limits.TheConstants.{TEXT_BYTES};
 ghost use Rattle.exam_model.specs.Enrolments.{AreEnrolments, Enrolled};
-ghost use Rattle.office_model.specs.BatchLines.{acts, counted, no_counts};
-ghost use Rattle.office_enrolment.specs.AfterBatch.{Refuses, acting, acts_on, after_batch, after_line, idle_counts, latest};
+ghost use Rattle.office_model.specs.BatchLines.{has_effect, counts_after, no_counts};
+ghost use Rattle.office_enrolment.specs.AfterBatch.{Refuses, lines_with_effect, has_effect_on, after_batch, after_line, idle_counts, current_enrolments};
 ghost use Rattle.office_enrolment.specs.AfterBatch.{lines_in, names_exam};
 
 use exam_draft::EditFault;
@@ -34,9 +34,10 @@ pub fn after_batch(
 ) -> Result<AfterBatch, StoreFault>
     requires lines { length changes.now ≤ TEXT_BYTES }
     ensures ok { IfOk result (λ made. after_batch changes.now enrolments.now
-        ≡ Ok (made.counts, latest made.enrolments enrolments.now)) }
+        ≡ Ok (made.counts, current_enrolments made.enrolments enrolments.now)) }
     ensures copied { IfOk result (λ made. made.enrolments ≡ None ↔ made.acting.items ≡ []) }
-    ensures acting { IfOk result (λ made. made.acting.items ≡ acting changes.now enrolments.now) }
+    ensures acting { IfOk result
+        (λ made. made.acting.items ≡ lines_with_effect changes.now enrolments.now) }
     ensures kept { IfOk result (λ made. IfSome made.enrolments AreEnrolments) }
     ensures refused { IfErr result (Refuses (after_batch changes.now enrolments.now)) }
 {
@@ -44,7 +45,7 @@ pub fn after_batch(
         return Err(StoreFault::Refused(Refusal::Edit(EditFault::NoSuch)));
     }
     if !any_acts(enrolments, changes) {
-        return Ok(unchanged(alloc, changes));
+        return Ok(unchanged_result(alloc, changes));
     }
     carry_out_all(alloc, enrolments, changes)
 }
@@ -61,7 +62,7 @@ fn name_exams(enrolments: &Enrolments, changes: &[Change]) -> bool
 // Returns whether any line acts on these enrolments.
 fn any_acts(enrolments: &Enrolments, changes: &[Change]) -> bool
     requires exams { list_all (names_exam enrolments.now) changes.now ≡ true }
-    ensures { result ≡ list_any (acts_on enrolments.now) changes.now }
+    ensures { result ≡ list_any (has_effect_on enrolments.now) changes.now }
 {
     'lines: for change in changes {
         if has_effect(enrolments, change) {
@@ -74,14 +75,14 @@ fn any_acts(enrolments: &Enrolments, changes: &[Change]) -> bool
 // Returns whether a line acts on these enrolments.
 fn has_effect(enrolments: &Enrolments, change: &Change) -> bool
     requires exam { change.now.exam < length enrolments.now }
-    ensures { result ≡ acts_on enrolments.now change.now }
+    ensures { result ≡ has_effect_on enrolments.now change.now }
 {
     let is_there = enrolments.has(change.student, change.exam);
     if change.add { !is_there } else { is_there }
 }
 
 // Returns the result of a batch of which no line acts.
-fn unchanged(alloc: Global, changes: &[Change]) -> AfterBatch
+fn unchanged_result(alloc: Global, changes: &[Change]) -> AfterBatch
     requires lines { length changes.now ≤ TEXT_BYTES }
     ensures enrolments { result.enrolments ≡ None }
     ensures counts { result.counts ≡ idle_counts changes.now }
@@ -107,8 +108,9 @@ fn carry_out_all(
     requires lines { length changes.now ≤ TEXT_BYTES }
     requires exams { list_all (names_exam enrolments.now) changes.now ≡ true }
     ensures ok { IfOk result (λ made. after_batch changes.now enrolments.now
-        ≡ Ok (made.counts, latest made.enrolments enrolments.now)) }
-    ensures acting { IfOk result (λ made. made.acting.items ≡ acting changes.now enrolments.now) }
+        ≡ Ok (made.counts, current_enrolments made.enrolments enrolments.now)) }
+    ensures acting { IfOk result
+        (λ made. made.acting.items ≡ lines_with_effect changes.now enrolments.now) }
     ensures copied { IfOk result (λ made. made.enrolments ≢ None) }
     ensures kept { IfOk result (λ made. IfSome made.enrolments AreEnrolments) }
     ensures refused { IfErr result (Refuses (after_batch changes.now enrolments.now)) }
@@ -137,7 +139,7 @@ fn carry_out_all(
 // Applies one line, and returns whether it acts.
 fn carry_out(enrolments: &mut Enrolments, change: &Change) -> Result<bool, StoreFault>
     requires exam { change.now.exam < length enrolments.old }
-    ensures acts { IfOk result (λ has_acted. has_acted ≡ acts change.now enrolments.old) }
+    ensures acts { IfOk result (λ has_acted. has_acted ≡ has_effect change.now enrolments.old) }
     ensures after { OnOk result (after_line change.now enrolments.old ≡ Ok enrolments.new) }
     ensures kept { AreEnrolments enrolments.new }
     ensures refused { IfErr result (Refuses (after_line change.now enrolments.old)) }
@@ -155,8 +157,8 @@ fn carry_out(enrolments: &mut Enrolments, change: &Change) -> Result<bool, Store
 // Counts one more line: as an add, a drop, or neither if it has not acted.
 fn count(counts: &mut Counts, change: &Change, has_acted: bool)
     requires { lines_in counts.old < TEXT_BYTES }
-    ensures { (E : Enrolled) → has_acted ≡ acts change.now E
-        → counts.new ≡ counted change.now E counts.old }
+    ensures { (E : Enrolled) → has_acted ≡ has_effect change.now E
+        → counts.new ≡ counts_after change.now E counts.old }
 {
     if !has_acted {
         counts.unchanged += 1;

@@ -13,7 +13,7 @@ ghost use Rattle.office_model.specs.Batches.{batch_enrolled, newly_enrolled};
 ghost use Rattle.office_model.specs.Office.{AreEnrolled, IsOffice, OfficeState, Records};
 ghost use Rattle.office_model.specs.Step.{Steps};
 ghost use Rattle.office_model.specs.declared.counts.Counts.{Counts};
-ghost use Rattle.office_enrolment.specs.AfterBatch.{acting, after_batch, lines_in};
+ghost use Rattle.office_enrolment.specs.AfterBatch.{lines_with_effect, after_batch, lines_in};
 ghost use Rattle.office_enrolment.specs.Keeping.{batch_judged};
 ghost use Rattle.office_enrolment.specs.Rows.{after_rows, pair_rows};
 
@@ -35,7 +35,8 @@ pub fn lines_are_counted()
 pub fn rows_follow_lines()
     ensures { (changes : List Change) (E : Enrolled) (done : Counts × Enrolled) (rows : List Pair)
         → AreEnrolments E → after_batch changes E ≡ Ok done → IsPermutation rows (pairs_of E)
-        → IsPermutation (after_rows pair_rows (acting changes E) rows) (pairs_of done.1) }
+        → IsPermutation (after_rows pair_rows (lines_with_effect changes E) rows)
+        (pairs_of done.1) }
 {}
 
 /// The enrolments after a batch are enrolments of the session's exams again.

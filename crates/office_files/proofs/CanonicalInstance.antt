@@ -19,7 +19,7 @@ use Rattle.exam_model.specs.declared.parts.Weights.{Weights}
 use Rattle.exam_model.specs.declared.rules.PeriodRule.{PeriodRule}
 use Rattle.exam_model.specs.declared.rules.PeriodRule.TheVariants.{After, Coincidence, Exclusion}
 use Rattle.exam_model.specs.declared.rules.RoomRule.{RoomRule}
-use Rattle.office_files.specs.CanonicalLines.{line_of, before, exam_text, period_text, room_text}
+use Rattle.office_files.specs.CanonicalLines.{line_of, field_before, exam_text, period_text, room_text}
 use Rattle.office_files.specs.CanonicalLines.{date_text, time_text}
 use Rattle.office_files.specs.CanonicalText.{header_text, section_text}
 use Rattle.office_files.specs.CanonicalLines.{period_rule_text, room_rule_text, weighting_text}
@@ -270,7 +270,7 @@ module _ (counts : Counts) where
 line_length : (t : List ℕ) → length (line_of t) ≡ length t + 2
 line_length t = length-append t (13 ∷ 10 ∷ [])
 
-before_length : (f ys : List ℕ) → length (before f ys) ≡ length f + (length ys + 2)
+before_length : (f ys : List ℕ) → length (field_before f ys) ≡ length f + (length ys + 2)
 before_length f ys = let e = length-append f (44 ∷ 32 ∷ ys) in omega arith
 
 amount : (n : ℕ) → n ≤ 100000 → length (decimal n) ≤ 6
@@ -313,9 +313,9 @@ period_short : (p : Period) → PeriodInLimits p → length (line_of (period_tex
 period_short p is =
     let line = line_length (period_text p) in
     let last = before_length (decimal p.length) (decimal p.penalty) in
-    let mid = before_length (time_text p) (before (decimal p.length) (decimal p.penalty)) in
+    let mid = before_length (time_text p) (field_before (decimal p.length) (decimal p.penalty)) in
     let all = before_length (date_text p.date)
-    (before (time_text p) (before (decimal p.length) (decimal p.penalty))) in
+    (field_before (time_text p) (field_before (decimal p.length) (decimal p.penalty))) in
     let date : length (date_text p.date) ≡ 10 = refl in
     let time : length (time_text p) ≡ 8 = refl in
     let minutes = four p.length (omega (arith, is.4)) in
@@ -331,11 +331,11 @@ room_short r is =
     omega arith
 
 rule_length : (a b : ℕ) (word : List ℕ) → a < 2000 → b < 2000 → length word ≤ 16
-    → length (line_of (before (decimal a) (before word (decimal b)))) ≤ 36
+    → length (line_of (field_before (decimal a) (field_before word (decimal b)))) ≤ 36
 rule_length a b word a_in b_in short =
-    let line = line_length (before (decimal a) (before word (decimal b))) in
+    let line = line_length (field_before (decimal a) (field_before word (decimal b))) in
     let mid = before_length word (decimal b) in
-    let all = before_length (decimal a) (before word (decimal b)) in
+    let all = before_length (decimal a) (field_before word (decimal b)) in
     let one = four a (omega arith) in
     let other = four b (omega arith) in
     omega arith

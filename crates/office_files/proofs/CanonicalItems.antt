@@ -18,7 +18,7 @@ use Rattle.exam_model.specs.declared.parts.Weights.{Weights}
 use Rattle.exam_model.specs.declared.rules.PeriodRule.{PeriodRule}
 use Rattle.exam_model.specs.declared.rules.PeriodRule.TheVariants.{After, Coincidence, Exclusion}
 use Rattle.exam_model.specs.declared.rules.RoomRule.{RoomRule}
-use Rattle.office_files.specs.CanonicalLines.{before, two_digits, date_text, time_text, exam_text}
+use Rattle.office_files.specs.CanonicalLines.{field_before, two_digits, date_text, time_text, exam_text}
 use Rattle.office_files.specs.CanonicalLines.{period_text}
 use Rattle.office_files.specs.CanonicalLines.{room_text, period_rule_text, room_rule_text}
 use Rattle.office_files.specs.CanonicalLines.{weighting_text}
@@ -65,9 +65,9 @@ period_rule_fields (Coincidence a b) = decimal a ∷ codes "EXAM_COINCIDENCE" �
 period_rule_fields (Exclusion a b) = decimal a ∷ codes "EXCLUSION" ∷ decimal b ∷ []
 
 rule_written : (a b : ℕ) (word : List ℕ) → IsField word → a < 2000 → b < 2000
-    → IsLine (before (decimal a) (before word (decimal b))) (decimal a ∷ word ∷ decimal b ∷ [])
+    → IsLine (field_before (decimal a) (field_before word (decimal b))) (decimal a ∷ word ∷ decimal b ∷ [])
 rule_written a b word is a_in b_in =
-    line_before (decimal a) (before word (decimal b)) (word ∷ decimal b ∷ [])
+    line_before (decimal a) (field_before word (decimal b)) (word ∷ decimal b ∷ [])
     (field_decimal a (omega arith))
     (line_before word (decimal b) (decimal b ∷ []) is
     (line_single (decimal b) (field_decimal b (omega arith))))
@@ -351,9 +351,9 @@ time_field p =
 pub period_written : (p : Period) → PeriodInLimits p → IsLine (period_text p) (period_fields p)
 period_written p is =
     line_before (date_text p.date)
-    (before (time_text p) (before (decimal p.length) (decimal p.penalty)))
+    (field_before (time_text p) (field_before (decimal p.length) (decimal p.penalty)))
     (time_text p ∷ decimal p.length ∷ decimal p.penalty ∷ []) (date_field p.date)
-    (line_before (time_text p) (before (decimal p.length) (decimal p.penalty))
+    (line_before (time_text p) (field_before (decimal p.length) (decimal p.penalty))
     (decimal p.length ∷ decimal p.penalty ∷ []) (time_field p)
     (line_before (decimal p.length) (decimal p.penalty) (decimal p.penalty ∷ [])
     (field_decimal p.length (omega (arith, is.4)))

@@ -12,10 +12,10 @@ use Rattle.std.proofs.lemmas.List.{append_assoc}
 use Rattle.std.proofs.lemmas.List.Elements.{All-head, All-tail}
 use Rattle.std.proofs.lemmas.List.Concat.{flat_map-cons}
 use Rattle.std.proofs.lemmas.List.Folds.{list_all-append}
-use Rattle.office_files.specs.CanonicalLines.{line_of, before}
-use Rattle.exam_terms.specs.Texts.{is_blank, before_end, trim_start, trim_end, trimmed}
+use Rattle.office_files.specs.CanonicalLines.{line_of, field_before}
+use Rattle.exam_terms.specs.Texts.{is_blank, before_end, trim_start, trim_end, trimmed_text}
 use Rattle.office_files.specs.Fields.{ended_parts, fields_of}
-use Rattle.office_files.specs.Lines.{Located, placed, located, unless_blank, without_return}
+use Rattle.office_files.specs.Lines.{Located, pieces_from, trimmed_piece, unless_blank, without_return}
 use Rattle.office_files.specs.Lines.{lines_from, is_header}
 use Rattle.office_files.specs.Numbers.{read_on, number}
 use Rattle.office_files.specs.Reading.{items_of}
@@ -117,10 +117,10 @@ field_single : (f : List ℕ) → IsField f → fields_of f ≡ f ∷ []
 field_single [] is = let some = is.some in absurd (omega arith)
 field_single (x ∷ xs) is =
     let f : List ℕ = x ∷ xs in
-    ap (map trimmed) (parts_single 44 x xs (apart plain_byte 44 refl f is.plain))
+    ap (map trimmed_text) (parts_single 44 x xs (apart plain_byte 44 refl f is.plain))
     ∙ ap (λ (g : List ℕ). g ∷ []) (trimmed_plain f is)
   where
-    trimmed_plain : (f : List ℕ) → IsField f → trimmed f ≡ f
+    trimmed_plain : (f : List ℕ) → IsField f → trimmed_text f ≡ f
     trimmed_plain f is =
         ap trim_end (ap trim_start (sym (append-nil f)) ∙ start_plain f [] is ∙ append-nil f)
         ∙ end_plain f is.plain
@@ -137,7 +137,7 @@ line_single f is = record {
 
 field_first : (f ys : List ℕ) → IsField f → fields_of (f ++ 44 ∷ ys) ≡ f ∷ fields_of ys
 field_first f ys is =
-    ap (map trimmed) (parts_stop 44 f ys (apart plain_byte 44 refl f is.plain))
+    ap (map trimmed_text) (parts_stop 44 f ys (apart plain_byte 44 refl f is.plain))
     ∙ ap (λ (g : List ℕ). g ∷ fields_of ys)
     (ap trim_end (ap trim_start (sym (append-nil f)) ∙ start_plain f [] is ∙ append-nil f)
     ∙ end_plain f is.plain)
@@ -156,7 +156,7 @@ line_comma f ys fields is line = record {
 
 -- a field before others
 pub line_before : (f ys : List ℕ) (fields : List (List ℕ)) → IsField f → IsLine ys fields
-    → IsLine (before f ys) (f ∷ fields)
+    → IsLine (field_before f ys) (f ∷ fields)
 line_before f ys fields is line = record {
   some = length-after f (44 ∷ 32 ∷ ys) (omega arith);
   whole = apart-append 10 f (44 ∷ 32 ∷ ys) (apart plain_byte 10 refl f is.plain) (
@@ -238,7 +238,7 @@ decimal_first n ys lt =
     first [] some all = absurd (omega arith)
     first (d ∷ ds) some all = ne_eqb d 91 all.0
 
-pub trimmed_field : (f : List ℕ) → IsField f → trimmed f ≡ f
+pub trimmed_field : (f : List ℕ) → IsField f → trimmed_text f ≡ f
 trimmed_field f is =
     ap trim_end (ap trim_start (sym (append-nil f)) ∙ start_plain f [] is ∙ append-nil f)
     ∙ end_plain f is.plain
@@ -271,7 +271,7 @@ length_flat f k (x ∷ xs) short =
 
 -- the lines of a text, from a line's number and its place on
 abbrev pub rows : ℕ → ℕ → List ℕ → List Located
-rows line at text = lines_from line (placed at (ended_parts 10 text))
+rows line at text = lines_from line (pieces_from at (ended_parts 10 text))
 
 end_split : (xs ys : List ℕ) → line_of xs ++ ys ≡ (xs ++ 13 ∷ []) ++ 10 ∷ ys
 end_split [] ys = refl
@@ -288,16 +288,16 @@ pub row_first : (text : List ℕ) (fields : List (List ℕ)) → IsLine text fie
 row_first text fields is line at ys =
     let cut : List ℕ = text ++ 13 ∷ [] in
     let next : ℕ = at + length cut + 1 in
-    let row : Located = located line (record { start = at; text = without_return cut }) in
+    let row : Located = trimmed_piece line (record { start = at; text = without_return cut }) in
     let parts : ended_parts 10 (line_of text ++ ys) ≡ cut ∷ ended_parts 10 ys
     = ap (ended_parts 10) (end_split text ys)
     ∙ parts_stop 10 cut ys (apart-append 10 text (13 ∷ []) is.whole
     ((λ (same : 13 ≡ 10). absurd (omega arith)), tt)) in
     let said : row.text ≡ text
-    = ap trimmed (without_return-cr text) ∙ ap trim_end is.starts ∙ is.ends in (
+    = ap trimmed_text (without_return-cr text) ∙ ap trim_end is.starts ∙ is.ends in (
       row,
       next,
-      ap (λ (ps : List (List ℕ)). lines_from line (placed at ps)) parts
+      ap (λ (ps : List (List ℕ)). lines_from line (pieces_from at ps)) parts
           ∙ row_kept row (rows (line + 1) next ys) (rw said is.some),
       said,
     )

@@ -7,7 +7,7 @@ use Rattle.std.proofs.lemmas.List.{take_all, take_more, flat_map_more}
 use Rattle.std.proofs.lemmas.Option.{get_or_from_slice_get, slice_get_cases}
 use Rattle.exam_model.specs.Enrolments.{Enrolled, students}
 use Rattle.exam_model.specs.declared.parts.Exam.{Exam}
-use Rattle.office_files.specs.CanonicalLines.{line_of, before, weighting_text}
+use Rattle.office_files.specs.CanonicalLines.{line_of, field_before, weighting_text}
 use Rattle.office_files.specs.CanonicalText.{exam_lines_of, nights_of}
 use Rattle.office_files.specs.declared.weightings.Weighting.TheVariants.{Night}
 
@@ -39,7 +39,7 @@ whole f s head t xs n all is =
 -- a date, a time and two numbers
 pub period_written : (t0 t1 t2 t3 t4 t5 d s a : List ℕ) → t1 ≡ t0 ++ d → t2 ≡ t1 ++ 44 ∷ 32 ∷ []
     → t3 ≡ t2 ++ s → t4 ≡ t3 ++ 44 ∷ 32 ∷ [] → t5 ≡ t4 ++ line_of a
-    → t5 ≡ t0 ++ line_of (before d (before s a))
+    → t5 ≡ t0 ++ line_of (field_before d (field_before s a))
 period_written t0 t1 t2 t3 t4 t5 d s a e1 e2 e3 e4 e5 =
     rw (e5, e4, e3, e2, e1) (simp append_assoc)
 

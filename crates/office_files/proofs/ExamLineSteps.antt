@@ -9,7 +9,7 @@ use Rattle.std.proofs.lemmas.List.Folds.{sum_by-replicate}
 use Rattle.exam_terms.specs.Refusing.{◌>>=◌}
 use Rattle.exam_model.specs.Enrolments.{Enrolled, AreEnrolments, pair_count, no_pairs}
 use Rattle.exam_model.specs.declared.parts.Exam.{Exam}
-use Rattle.office_files.specs.Fields.{fields_of, first, rest}
+use Rattle.office_files.specs.Fields.{fields_of, first_field, other_fields}
 use Rattle.office_files.specs.Lines.{Located}
 use Rattle.office_files.specs.Numbers.{number}
 use Rattle.office_files.specs.Reading.{items_of}
@@ -25,7 +25,7 @@ use Rattle.office_files.proofs.ExamLinePairs.{pair_count-enrolled}
 
 -- a line with these minutes has the values of its students' fields
 after_minutes : (pairs minutes : ℕ) (fields : List (List ℕ)) (r : Result (List ℕ) FaultKind) →
-    number 1440 (first fields) ≡ Ok minutes → students_in pairs [] (rest fields) ≡ r →
+    number 1440 (first_field fields) ≡ Ok minutes → students_in pairs [] (other_fields fields) ≡ r →
     exam_after_pairs pairs fields ≡ (r >>= λ names. Ok
     (record { minutes = minutes; students = names }))
 after_minutes pairs minutes fields r is said = rw (is, said) refl
@@ -33,20 +33,20 @@ after_minutes pairs minutes fields r is said = rw (is, said) refl
 -- the part of a line that was read: its minutes, and the students up to the first fault, ascending
 pub record IsReadOf (fields : List (List ℕ)) (minutes : ℕ) (sitters : List ℕ)
     (fault : Option FaultKind) : Type 0 where
-  pub minutes_are : number 1440 (first fields) ≡ Ok minutes
-  pub students_are : sitters ≡ with_students (named_in (rest fields)) []
-  pub fault_is : fault ≡ fault_in (rest fields)
+  pub minutes_are : number 1440 (first_field fields) ≡ Ok minutes
+  pub students_are : sitters ≡ with_students (named_in (other_fields fields)) []
+  pub fault_is : fault ≡ fault_in (other_fields fields)
 
 -- the results of the calls on a line
 pub read_of : (fields now tail : List (List ℕ)) (minutes : ℕ) (named ordered sitters : List ℕ)
     (fault : Option FaultKind) →
-    now ≡ fields → Ok minutes ≡ number 1440 (first now) → tail ≡ rest now →
+    now ≡ fields → Ok minutes ≡ number 1440 (first_field now) → tail ≡ other_fields now →
     named ≡ named_in tail → fault ≡ fault_in tail → ordered ≡ with_students named [] →
     sitters ≡ ordered → IsReadOf fields minutes sitters fault
 read_of fields now tail minutes named ordered sitters fault all is others names faulty order same =
-    let after : tail ≡ rest fields = others ∙ ap rest all in
+    let after : tail ≡ other_fields fields = others ∙ ap other_fields all in
     record {
-      minutes_are = ap (λ xs. number 1440 (first xs)) (sym all) ∙ sym is;
+      minutes_are = ap (λ xs. number 1440 (first_field xs)) (sym all) ∙ sym is;
       students_are =
           same
           ∙ order
@@ -66,9 +66,9 @@ module _ (E : Enrolled) (e : ℕ) (fields : List (List ℕ)) (minutes : ℕ) (si
       ap pair_count changed ∙ pair_count-enrolled E e sitters empty in
       let few = kept.pairs in
       let size = ap length is.students_are in
-      let said : students_in (pair_count E) [] (rest fields) ≡ judged fault sitters =
-      students_in-within (pair_count E) [] (rest fields) (omega arith)
-      ∙ ap (judged (fault_in (rest fields))) (sym is.students_are)
+      let said : students_in (pair_count E) [] (other_fields fields) ≡ judged fault sitters =
+      students_in-within (pair_count E) [] (other_fields fields) (omega arith)
+      ∙ ap (judged (fault_in (other_fields fields))) (sym is.students_are)
       ∙ ap (λ (f : Option FaultKind). judged f sitters) (sym is.fault_is) in
       after_minutes (pair_count E) minutes fields _ is.minutes_are said
 
@@ -94,7 +94,7 @@ module _ (E : Enrolled) (e : ℕ) (fields : List (List ℕ)) (minutes : ℕ) (si
   line_past past =
       let few = empty.kept.pairs in
       let size = ap length is.students_are in
-      let said = students_in-past (pair_count E) [] (rest fields) ascending-none
+      let said = students_in-past (pair_count E) [] (other_fields fields) ascending-none
       (omega arith) (omega arith) in
       after_minutes (pair_count E) minutes fields _ is.minutes_are said
 

@@ -6,7 +6,7 @@ use Rattle.std.specs.Prelude.{◌==◌, map}
 use Rattle.std.specs.List.{onto_first}
 use Rattle.std.proofs.lemmas.Bool.{eq-eqb, ne_eqb}
 use mathlib.Core.Bool.{true≢false}
-use Rattle.exam_terms.specs.Texts.{trimmed}
+use Rattle.exam_terms.specs.Texts.{trimmed_text}
 use Rattle.office_files.specs.Fields.{ended_parts, fields_of}
 
 -- a text without the mark is one part
@@ -47,7 +47,7 @@ parts_some c (b ∷ bs) some =
       | false ↦ onto_first_some b (ended_parts c bs)
     ]
 
-length-map : (xs : List (List ℕ)) → length (map trimmed xs) ≡ length xs
+length-map : (xs : List (List ℕ)) → length (map trimmed_text xs) ≡ length xs
 length-map [] = refl
 length-map (x ∷ xs) = omega (arith, length-map xs)
 

@@ -19,7 +19,7 @@ use Rattle.exam_model.specs.declared.rules.RoomRule.{RoomRule}
 use Rattle.office_files.specs.Dates.{or_fault, digits_of, date_if_any, date_of, time_of}
 use Rattle.office_files.specs.ExamStudents.{students_in}
 use Rattle.office_files.specs.ExamLines.{ExamLine, exam_line, exam_of, pairs_on}
-use Rattle.office_files.specs.Fields.{first, rest, ended, split_once}
+use Rattle.office_files.specs.Fields.{first_field, other_fields, end_of_fields, split_once}
 use Rattle.office_files.specs.Items.{period_in, room_in}
 use Rattle.office_files.specs.RuleWords.{rule_word, rule_by}
 use Rattle.office_files.specs.ItemLines.{period_rule_line, room_rule_line, place_line}
@@ -43,10 +43,10 @@ pub exam_line_within : (before : List ExamLine) (fields : List (List ℕ)) (x : 
     exam_line before fields ≡ Ok x →
     ExamInLimits (exam_of x)
 exam_line_within before fields x e =
-    let minutes = bind_ok (number 1440 (first fields)) _ x e in
-    let students = bind_ok (students_in (pairs_on before) [] (rest fields)) _ x minutes.2 in
+    let minutes = bind_ok (number 1440 (first_field fields)) _ x e in
+    let students = bind_ok (students_in (pairs_on before) [] (other_fields fields)) _ x minutes.2 in
     let same = ok_same _ _ x refl students.2 in
-    subst (λ y. ExamInLimits (exam_of y)) same (number_le 1440 (first fields) minutes.0 minutes.1)
+    subst (λ y. ExamInLimits (exam_of y)) same (number_le 1440 (first_field fields) minutes.0 minutes.1)
 
 -- the result of a reading with its fault replaced
 or_fault_ok : {A : Type 0} (fault : FaultKind) (r : Result A FaultKind) (x : A) →
@@ -112,32 +112,32 @@ time_within text time e =
 pub period_within : (fields : List (List ℕ)) (p : Period) → period_in fields ≡ Ok p →
     PeriodInLimits p
 period_within fields p e =
-    let two = rest (rest fields) in
-    let date = bind_ok (date_of (first fields)) _ p e in
-    let time = bind_ok (time_of (first (rest fields))) _ p date.2 in
-    let minutes = bind_ok (number 1440 (first two)) _ p time.2 in
-    let penalty = bind_ok (number 100000 (first (rest two))) _ p minutes.2 in
-    let end = bind_ok (ended (rest (rest two))) _ p penalty.2 in
+    let two = other_fields (other_fields fields) in
+    let date = bind_ok (date_of (first_field fields)) _ p e in
+    let time = bind_ok (time_of (first_field (other_fields fields))) _ p date.2 in
+    let minutes = bind_ok (number 1440 (first_field two)) _ p time.2 in
+    let penalty = bind_ok (number 100000 (first_field (other_fields two))) _ p minutes.2 in
+    let end = bind_ok (end_of_fields (other_fields (other_fields two))) _ p penalty.2 in
     let same = ok_same _ _ p refl end.2 in
-    let clock = time_within (first (rest fields)) time.0 time.1 in
+    let clock = time_within (first_field (other_fields fields)) time.0 time.1 in
     subst PeriodInLimits same (
-      date_within (first fields) date.0 date.1,
+      date_within (first_field fields) date.0 date.1,
       clock.0,
       clock.1,
       clock.2,
-      number_le 1440 (first two) minutes.0 minutes.1,
-      number_le 100000 (first (rest two)) penalty.0 penalty.1,
+      number_le 1440 (first_field two) minutes.0 minutes.1,
+      number_le 100000 (first_field (other_fields two)) penalty.0 penalty.1,
     )
 
 -- a room's capacity and penalty
 pub room_within : (fields : List (List ℕ)) (r : Room) → room_in fields ≡ Ok r → RoomInLimits r
 room_within fields r e =
-    let capacity = bind_ok (number 100000 (first fields)) _ r e in
-    let penalty = bind_ok (number 100000 (first (rest fields))) _ r capacity.2 in
-    let end = bind_ok (ended (rest (rest fields))) _ r penalty.2 in
+    let capacity = bind_ok (number 100000 (first_field fields)) _ r e in
+    let penalty = bind_ok (number 100000 (first_field (other_fields fields))) _ r capacity.2 in
+    let end = bind_ok (end_of_fields (other_fields (other_fields fields))) _ r penalty.2 in
     subst RoomInLimits (ok_same _ _ r refl end.2) (
-      number_le 100000 (first fields) capacity.0 capacity.1,
-      number_le 100000 (first (rest fields)) penalty.0 penalty.1,
+      number_le 100000 (first_field fields) capacity.0 capacity.1,
+      number_le 100000 (first_field (other_fields fields)) penalty.0 penalty.1,
     )
 
 rule_exists : (n : ℕ) (w : RuleWord) (a b : ℕ) → a < n → b < n → PeriodRuleExists n (rule_by w a b)
@@ -156,17 +156,17 @@ pub period_rule_within : (counts : Counts) (before : List PeriodRule) (fields : 
     (length before < 5000) × PeriodRuleExists counts.exams r
 period_rule_within counts before fields r some e =
     let n = counts.exams in
-    let two = rest (rest fields) in
+    let two = other_fields (other_fields fields) in
     let left = bind_ok (unless (nat_lt (length before) 5000) OutOfRange) _ r e in
-    let a = bind_ok (number (n - 1) (first fields)) _ r left.2 in
-    let w = bind_ok (rule_word (first (rest fields))) _ r a.2 in
-    let b = bind_ok (number (n - 1) (first two)) _ r w.2 in
-    let end = bind_ok (ended (rest two)) _ r b.2 in
+    let a = bind_ok (number (n - 1) (first_field fields)) _ r left.2 in
+    let w = bind_ok (rule_word (first_field (other_fields fields))) _ r a.2 in
+    let b = bind_ok (number (n - 1) (first_field two)) _ r w.2 in
+    let end = bind_ok (end_of_fields (other_fields two)) _ r b.2 in
     let same = ok_same _ _ r refl end.2 in (
       ltb-true (length before) 5000 (unless_ok _ OutOfRange left.0 left.1),
       subst (PeriodRuleExists n) same
-          (rule_exists n w.0 a.0 b.0 (among n (first fields) a.0 some a.1)
-          (among n (first two) b.0 some b.1)),
+          (rule_exists n w.0 a.0 b.0 (among n (first_field fields) a.0 some a.1)
+          (among n (first_field two) b.0 some b.1)),
     )
 
 -- the exam of a rule on its room exists, and there is room for the rule
@@ -177,13 +177,13 @@ pub room_rule_within : (counts : Counts) (before : List RoomRule) (fields : List
 room_rule_within counts before fields r some e =
     let n = counts.exams in
     let left = bind_ok (unless (nat_lt (length before) 5000) OutOfRange) _ r e in
-    let a = bind_ok (number (n - 1) (first fields)) _ r left.2 in
+    let a = bind_ok (number (n - 1) (first_field fields)) _ r left.2 in
     let named = bind_ok
-    (unless (str_eq_ignore_ascii_case (first (rest fields)) (codes "ROOM_EXCLUSIVE")) BadWord) _
+    (unless (str_eq_ignore_ascii_case (first_field (other_fields fields)) (codes "ROOM_EXCLUSIVE")) BadWord) _
     r a.2 in
-    let end = bind_ok (ended (rest (rest fields))) _ r named.2 in (
+    let end = bind_ok (end_of_fields (other_fields (other_fields fields))) _ r named.2 in (
       ltb-true (length before) 5000 (unless_ok _ OutOfRange left.0 left.1),
-      subst (RoomRuleExists n) (ok_same _ _ r refl end.2) (among n (first fields) a.0 some a.1),
+      subst (RoomRuleExists n) (ok_same _ _ r refl end.2) (among n (first_field fields) a.0 some a.1),
     )
 
 -- the numbers of a weighting
@@ -197,21 +197,21 @@ HasAmounts (said.Night n) = IsAmount n
 
 amount_within : (fields : List (List ℕ)) (n : ℕ) → amount_in fields ≡ Ok n → IsAmount n
 amount_within fields n e =
-    let amount = bind_ok (number 100000 (first fields)) _ n e in
-    let end = bind_ok (ended (rest fields)) _ n amount.2 in
-    subst IsAmount (ok_same _ _ n refl end.2) (number_le 100000 (first fields) amount.0 amount.1)
+    let amount = bind_ok (number 100000 (first_field fields)) _ n e in
+    let end = bind_ok (end_of_fields (other_fields fields)) _ n amount.2 in
+    subst IsAmount (ok_same _ _ n refl end.2) (number_le 100000 (first_field fields) amount.0 amount.1)
 
 front_within : (fields : List (List ℕ)) (s : Weighting) → front_in fields ≡ Ok s → HasAmounts s
 front_within fields s e =
-    let two = rest (rest fields) in
-    let exams = bind_ok (number 100000 (first fields)) _ s e in
-    let periods = bind_ok (number 100000 (first (rest fields))) _ s exams.2 in
-    let weight = bind_ok (number 100000 (first two)) _ s periods.2 in
-    let end = bind_ok (ended (rest two)) _ s weight.2 in
+    let two = other_fields (other_fields fields) in
+    let exams = bind_ok (number 100000 (first_field fields)) _ s e in
+    let periods = bind_ok (number 100000 (first_field (other_fields fields))) _ s exams.2 in
+    let weight = bind_ok (number 100000 (first_field two)) _ s periods.2 in
+    let end = bind_ok (end_of_fields (other_fields two)) _ s weight.2 in
     subst HasAmounts (ok_same _ _ s refl end.2) (
-      number_le 100000 (first fields) exams.0 exams.1,
-      number_le 100000 (first (rest fields)) periods.0 periods.1,
-      number_le 100000 (first two) weight.0 weight.1,
+      number_le 100000 (first_field fields) exams.0 exams.1,
+      number_le 100000 (first_field (other_fields fields)) periods.0 periods.1,
+      number_le 100000 (first_field two) weight.0 weight.1,
     )
 
 -- one number after a word
@@ -237,9 +237,9 @@ pub weighting_line_within : (counts : Counts) (before : List Weighting) (fields 
     (s : Weighting) →
     weighting_line counts before fields ≡ Ok s → HasAmounts s
 weighting_line_within counts before fields s e =
-    let w = bind_ok (weight_word (first fields)) _ s e in
+    let w = bind_ok (weight_word (first_field fields)) _ s e in
     let new = bind_ok (unless (not (list_any (has_word w.0) before)) Repeated) _ s w.2 in
-    weighting_within w.0 (rest fields) s new.2
+    weighting_within w.0 (other_fields fields) s new.2
 
 -- a weighting keeps the weights within their limits
 with_within : (w : Weights) (s : Weighting) → HasAmounts s → WeightsInLimits w →
@@ -289,10 +289,10 @@ pub place_within : (counts : Counts) (before : List Place) (fields : List (List 
     PlaceExists counts p
 place_within counts before fields p periods rooms e =
     let left = bind_ok (unless (nat_lt (length before) counts.exams) CountMismatch) _ p e in
-    let period = bind_ok (number (counts.periods - 1) (first fields)) _ p left.2 in
-    let room = bind_ok (number (counts.rooms - 1) (first (rest fields))) _ p period.2 in
-    let end = bind_ok (ended (rest (rest fields))) _ p room.2 in
+    let period = bind_ok (number (counts.periods - 1) (first_field fields)) _ p left.2 in
+    let room = bind_ok (number (counts.rooms - 1) (first_field (other_fields fields))) _ p period.2 in
+    let end = bind_ok (end_of_fields (other_fields (other_fields fields))) _ p room.2 in
     subst (PlaceExists counts) (ok_same _ _ p refl end.2) (
-      among counts.periods (first fields) period.0 periods period.1,
-      among counts.rooms (first (rest fields)) room.0 rooms room.1,
+      among counts.periods (first_field fields) period.0 periods period.1,
+      among counts.rooms (first_field (other_fields fields)) room.0 rooms room.1,
     )

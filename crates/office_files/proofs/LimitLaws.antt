@@ -15,7 +15,7 @@ use Rattle.exam_model.specs.Timetable.{Placing}
 use Rattle.exam_model.proofs.StudentLemmas.{ascending-none, ascending-with, has-with}
 use Rattle.office_files.specs.ExamStudents.{students_in}
 use Rattle.office_files.specs.ExamLines.{ExamLine, exam_line, exam_of, pairs_on}
-use Rattle.office_files.specs.Fields.{fields_of, first, rest}
+use Rattle.office_files.specs.Fields.{fields_of, first_field, other_fields}
 use Rattle.office_files.specs.Spelled.{exams_heading}
 use Rattle.office_files.specs.InstanceText.{InstanceText}
 use Rattle.office_files.specs.Lines.{Located, lines_of}
@@ -69,12 +69,12 @@ line_sitters : (before : List ExamLine) (fields : List (List ℕ)) (item : ExamL
     → pairs_on before ≤ 200000 → exam_line before fields ≡ Ok item
     → AreSitters (pairs_on before) item.students
 line_sitters before fields item few is =
-    let minutes = bind_ok (number 1440 (first fields)) _ item is in
-    let sitters = bind_ok (students_in (pairs_on before) [] (rest fields)) _ item minutes.2 in
+    let minutes = bind_ok (number 1440 (first_field fields)) _ item is in
+    let sitters = bind_ok (students_in (pairs_on before) [] (other_fields fields)) _ item minutes.2 in
     let made : ◌≡◌ {A = ExamLine} (record { minutes = minutes.0; students = sitters.0 }) item =
     cc in
     subst (λ (x : ExamLine). AreSitters (pairs_on before) x.students) made
-    (sitters_read (pairs_on before) [] (rest fields) sitters.0 (record {
+    (sitters_read (pairs_on before) [] (other_fields fields) sitters.0 (record {
       ascending = ascending-none;
       numbers = none_number;
       few = omega (arith, few);

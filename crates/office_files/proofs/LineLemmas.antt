@@ -6,7 +6,7 @@ use Rattle.office_files.specs.Lines.{section_size}
 use Rattle.std.proofs.Common.{true, false, get_or, drop, add-one, ◌≡◌, ◌≢◌, ℕ, zero, suc, ◌+◌, ◌<◌}
 use Rattle.std.proofs.Common.{◌≤◌, List, [], ◌∷◌, ◌++◌, length, refl, ap, ◌∙◌, arith}
 use Rattle.std.proofs.lemmas.Bool.{ne_eqb}
-use Rattle.office_files.specs.Lines.{without_return, Piece, Located, placed, located, unless_blank}
+use Rattle.office_files.specs.Lines.{without_return, Piece, Located, pieces_from, trimmed_piece, unless_blank}
 use Rattle.office_files.specs.Lines.{lines_from, is_header}
 
 return_some : (b c : ℕ) (xs : List ℕ) →
@@ -41,7 +41,7 @@ length-parts c (b ∷ bs) =
       | false ↦ omega (arith, length-parts c bs, length-onto_first b (ended_parts c bs))
     ]
 
-length-placed : (at : ℕ) (xs : List (List ℕ)) → length (placed at xs) ≡ length xs
+length-placed : (at : ℕ) (xs : List (List ℕ)) → length (pieces_from at xs) ≡ length xs
 length-placed at [] = refl
 length-placed at (x ∷ xs) = omega (arith, length-placed (at + length x + 1) xs)
 
@@ -59,17 +59,17 @@ length-rows line (p ∷ ps) =
     omega (
       arith,
       length-rows (line + 1) ps,
-      length-unless_blank (located line (record p { text = without_return p.text }))
+      length-unless_blank (trimmed_piece line (record p { text = without_return p.text }))
           (lines_from (line + 1) ps),
     )
 
 -- there are no more rows than bytes
 pub rows-le : (line at : ℕ) (bs : List ℕ) →
-    length (lines_from line (placed at (ended_parts 10 bs))) ≤ length bs
+    length (lines_from line (pieces_from at (ended_parts 10 bs))) ≤ length bs
 rows-le line at bs =
     omega (
       arith,
-      length-rows line (placed at (ended_parts 10 bs)),
+      length-rows line (pieces_from at (ended_parts 10 bs)),
       length-placed at (ended_parts 10 bs),
       length-parts 10 bs,
     )

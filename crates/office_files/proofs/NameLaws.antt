@@ -11,7 +11,7 @@ use Rattle.exam_model.proofs.StudentLemmas.{has-with}
 use Rattle.office_files.specs.ExamStudents.{students_in}
 use Rattle.office_files.specs.ExamLines.{ExamLine, exam_line, exam_of, pairs_on}
 use Rattle.office_files.specs.Names.{named_as, name_student}
-use Rattle.office_files.specs.Fields.{fields_of, first, rest}
+use Rattle.office_files.specs.Fields.{fields_of, first_field, other_fields}
 use Rattle.office_files.specs.InstanceText.{InstanceText}
 use Rattle.office_files.specs.Lines.{Located, lines_of}
 use Rattle.office_files.specs.Numbers.{number}
@@ -45,14 +45,14 @@ named pairs seen (f ∷ fs) out is t =
     ∙ ap (λ r. has_number seen t || (named_as r t || name_student fs t)) (sym one.1)
 
 line_named : (before : List ExamLine) (fields : List (List ℕ)) (item : ExamLine) (t : ℕ)
-    → exam_line before fields ≡ Ok item → has_number item.students t ≡ name_student (rest fields) t
+    → exam_line before fields ≡ Ok item → has_number item.students t ≡ name_student (other_fields fields) t
 line_named before fields item t is =
-    let minutes = bind_ok (number 1440 (first fields)) _ item is in
-    let students = bind_ok (students_in (pairs_on before) [] (rest fields)) _ item minutes.2 in
+    let minutes = bind_ok (number 1440 (first_field fields)) _ item is in
+    let students = bind_ok (students_in (pairs_on before) [] (other_fields fields)) _ item minutes.2 in
     let made : ◌≡◌ {A = ExamLine} (record { minutes = minutes.0; students = students.0 }) item =
     cc in
     ap (λ (x : ExamLine). has_number x.students t) (sym made)
-    ∙ named (pairs_on before) [] (rest fields) students.0 students.1 t
+    ∙ named (pairs_on before) [] (other_fields fields) students.0 students.1 t
 
 -- a line after the first is one of the others
 line_of_body : (x : Located) (body after : List Located) (e : ℕ) (line : Located) → e < length body
@@ -65,7 +65,7 @@ line_of_body x body after e line lt is =
 
 pub sits_as_named : (b : List ℕ) (I : Session) (E : Enrolled) (s e : ℕ) (line : Located)
     → InstanceText b I E → e < length I.exams → slice_get (lines_of b) (e + 1) ≡ Some line
-    → has E s e ≡ name_student (rest (fields_of line.text)) s
+    → has E s e ≡ name_student (other_fields (fields_of line.text)) s
 sits_as_named b I E s e line t lt at =
     let items = t.said.exams in
     let body = t.exams.body in

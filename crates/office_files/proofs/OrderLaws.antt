@@ -3,9 +3,9 @@ use Rattle.std.proofs.Common.{◌≡◌, ℕ, suc, ◌+◌, ◌-◌, ◌<◌, �
 use Rattle.std.proofs.Common.{◌∷◌, ◌++◌, length, refl, arith, length-append}
 use Rattle.std.specs.Prelude.{◌==◌, if◌then◌else◌, map}
 use Rattle.std.specs.List.{onto_first, flat_map}
-use Rattle.exam_terms.specs.Texts.{trim_start, trim_end, trimmed}
+use Rattle.exam_terms.specs.Texts.{trim_start, trim_end, trimmed_text}
 use Rattle.office_files.specs.Fields.{ended_parts}
-use Rattle.office_files.specs.Lines.{Piece, Located, placed, without_return, inner_start, located}
+use Rattle.office_files.specs.Lines.{Piece, Located, pieces_from, without_return, inner_start, trimmed_piece}
 use Rattle.office_files.specs.Lines.{lines_from, is_header}
 use Rattle.office_files.specs.Tokens.{tokens_in, tokens_of, AreInRow}
 use Rattle.office_files.proofs.SliceLaws.{tokens_slice, trim_start-le, trim_end_front, return_front}
@@ -46,7 +46,7 @@ extent-le c (b ∷ bs) =
 -- a located text is inside its piece
 pub inner : (line : ℕ) (p : Piece) → record {
   begins : p.start ≤ inner_start p;
-  ends : inner_start p + length (trimmed p.text) ≤ p.start + length p.text;
+  ends : inner_start p + length (trimmed_text p.text) ≤ p.start + length p.text;
 }
 inner line p =
     let f = trim_end_front (trim_start p.text) in
@@ -58,7 +58,7 @@ inner line p =
     }
 
 fields_run : (line start high : ℕ) (xs : List (List ℕ)) → start + extent xs ≤ high + 1 →
-    start ≤ high → AreInRow start (map (located line) (placed start xs)) high
+    start ≤ high → AreInRow start (map (trimmed_piece line) (pieces_from start xs)) high
 unfolding extent
 fields_run line start high [] reach le = le
 fields_run line start high (x ∷ []) reach le =
@@ -67,16 +67,16 @@ fields_run line start high (x ∷ []) reach le =
 fields_run line start high (x ∷ y ∷ ys) reach le =
     let i = inner line (record { start = start; text = x }) in
     let more = fields_run line (start + length x + 1) high (y ∷ ys) (omega arith) (omega arith) in
-    let end : ℕ = inner_start (record { start = start; text = x }) + length (trimmed x) in
+    let end : ℕ = inner_start (record { start = start; text = x }) + length (trimmed_text x) in
     let gap : end ≤ start + length x + 1 = omega (arith, i.ends) in
-    let others = map (located line) (placed (start + length x + 1) (y ∷ ys)) in
+    let others = map (trimmed_piece line) (pieces_from (start + length x + 1) (y ∷ ys)) in
     (i.begins, omega arith, lower end (start + length x + 1) high others gap more)
 
 -- the tokens of a row are inside it
 row_runs : (row : Located) → row.end ≡ row.start + length row.text →
     AreInRow row.start (tokens_in row) row.end
 row_runs row e =
-    let fields = map (located row.line) (placed row.start (ended_parts 44 row.text)) in
+    let fields = map (trimmed_piece row.line) (pieces_from row.start (ended_parts 44 row.text)) in
     elim (is_header row.text) as (λ v.
     AreInRow row.start (if v then row ∷ [] else fields) row.end) [
       | true ↦ (omega arith, omega arith, omega arith)
@@ -85,7 +85,7 @@ row_runs row e =
     ]
 
 rows_run : (line start high : ℕ) (xs : List (List ℕ)) → start + extent xs ≤ high →
-    AreInRow start (flat_map tokens_in (lines_from line (placed start xs))) high
+    AreInRow start (flat_map tokens_in (lines_from line (pieces_from start xs))) high
 unfolding extent
 rows_run line start high [] reach = omega arith
 rows_run line start high (x ∷ xs) reach =
@@ -94,15 +94,15 @@ rows_run line start high (x ∷ xs) reach =
     let f = return_front x in
     let len = Rattle.std.proofs.Common.ap length f.1 in
     let more = rows_run (line + 1) (start + length x + 1) high xs (omega arith) in
-    let row = row_runs (located line kept) refl in
-    let end_le : inner_start kept + length (trimmed (without_return x)) ≤ start + length x + 1 =
+    let row = row_runs (trimmed_piece line kept) refl in
+    let end_le : inner_start kept + length (trimmed_text (without_return x)) ≤ start + length x + 1 =
     omega (arith, i.ends, length-append (without_return x) f.0) in
-    let others = lines_from (line + 1) (placed (start + length x + 1) xs) in
-    elim (length (trimmed (without_return x)) == 0) as (λ v.
-    AreInRow start (flat_map tokens_in (if v then others else located line kept ∷ others)) high) [
+    let others = lines_from (line + 1) (pieces_from (start + length x + 1) xs) in
+    elim (length (trimmed_text (without_return x)) == 0) as (λ v.
+    AreInRow start (flat_map tokens_in (if v then others else trimmed_piece line kept ∷ others)) high) [
       | true ↦ lower start (start + length x + 1) high _ (omega arith) more
-      | false ↦ joined start (inner_start kept + length (trimmed (without_return x))) high
-          (tokens_in (located line kept)) _ (lower start (inner_start kept) _ _ i.begins row)
+      | false ↦ joined start (inner_start kept + length (trimmed_text (without_return x))) high
+          (tokens_in (trimmed_piece line kept)) _ (lower start (inner_start kept) _ _ i.begins row)
           (lower _ (start + length x + 1) high _ end_le more)
     ]
 

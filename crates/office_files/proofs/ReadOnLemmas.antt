@@ -18,8 +18,8 @@ use Rattle.std.proofs.lemmas.Grind.{common_steps}
 use Rattle.std.proofs.lemmas.List.Sums.{prefix_len-le-length, prefix_len_passes, prefix_len_stops}
 use Rattle.std.proofs.lemmas.List.Folds.{list_all_at, list_all_more}
 use Rattle.std.proofs.lemmas.List.FromFn.{get_or-range_with_len, length-range_with_len}
-use Rattle.exam_terms.specs.Texts.{is_blank, before_end, trim_end, trimmed}
-use Rattle.office_files.specs.Fields.{ended_parts, fields_of, first, rest}
+use Rattle.exam_terms.specs.Texts.{is_blank, before_end, trim_end, trimmed_text}
+use Rattle.office_files.specs.Fields.{ended_parts, fields_of, first_field, other_fields}
 use Rattle.office_files.specs.Numbers.{read_on, is_number, at_most, number}
 use Rattle.office_files.specs.Digits.{HasDigits, NoDigitAt, IsFront, few_digits, without_space}
 use Rattle.office_files.proofs.FieldLemmas.{parts_some}
@@ -128,22 +128,22 @@ has_front most text value count has =
       small = has.small;
     }
 
-first-onto : (b : ℕ) (parts : List (List ℕ)) → first (onto_first b parts) ≡ b ∷ first parts
+first-onto : (b : ℕ) (parts : List (List ℕ)) → first_field (onto_first b parts) ≡ b ∷ first_field parts
 first-onto b [] = refl
 first-onto b (x ∷ xs) = refl
 
-rest-onto : (b : ℕ) (parts : List (List ℕ)) → rest (onto_first b parts) ≡ rest parts
+rest-onto : (b : ℕ) (parts : List (List ℕ)) → other_fields (onto_first b parts) ≡ other_fields parts
 rest-onto b [] = refl
 rest-onto b (x ∷ xs) = refl
 
 -- a byte that is no comma begins its part
 part-byte : (b : ℕ) (bs : List ℕ) → b ≢ 44 →
-    first (ended_parts 44 (b ∷ bs)) ≡ b ∷ first (ended_parts 44 bs)
+    first_field (ended_parts 44 (b ∷ bs)) ≡ b ∷ first_field (ended_parts 44 bs)
 part-byte b bs other = rw (ne_eqb b 44 other) (first-onto b (ended_parts 44 bs))
 
 -- such a byte is not in the other parts
 others-byte : (b : ℕ) (bs : List ℕ) → b ≢ 44 →
-    rest (ended_parts 44 (b ∷ bs)) ≡ rest (ended_parts 44 bs)
+    other_fields (ended_parts 44 (b ∷ bs)) ≡ other_fields (ended_parts 44 bs)
 others-byte b bs other = rw (ne_eqb b 44 other) (rest-onto b (ended_parts 44 bs))
 
 digit_no_comma : (d : ℕ) (ds : List ℕ) → AllDigits (d ∷ ds) → d ≢ 44
@@ -154,7 +154,7 @@ digit_no_comma d ds all same =
 
 -- digits come first in their part, followed by the rest of it
 part-digits : (ds after : List ℕ) → AllDigits ds →
-    first (ended_parts 44 (ds ++ after)) ≡ ds ++ first (ended_parts 44 after)
+    first_field (ended_parts 44 (ds ++ after)) ≡ ds ++ first_field (ended_parts 44 after)
 part-digits [] after all = refl
 part-digits (d ∷ ds) after all =
     let both = and_parts (is_ascii_digit d) (list_all is_ascii_digit ds) all in
@@ -162,7 +162,7 @@ part-digits (d ∷ ds) after all =
     ∙ ap (λ (xs : List ℕ). d ∷ xs) (part-digits ds after both.1)
 
 others-digits : (ds after : List ℕ) → AllDigits ds →
-    rest (ended_parts 44 (ds ++ after)) ≡ rest (ended_parts 44 after)
+    other_fields (ended_parts 44 (ds ++ after)) ≡ other_fields (ended_parts 44 after)
 others-digits [] after all = refl
 others-digits (d ∷ ds) after all =
     let both = and_parts (is_ascii_digit d) (list_all is_ascii_digit ds) all in
@@ -198,11 +198,11 @@ head_at (x ∷ xs) (suc i) b bs e = let next = head_at xs i b bs e in (omega ari
 
 -- a part that doesn't begin with a digit is no number
 pub no_digit : (line : List ℕ) → NoDigitAt line 0 →
-    few_digits (first (ended_parts 44 line)) ≡ None
+    few_digits (first_field (ended_parts 44 line)) ≡ None
 no_digit [] other = refl
 no_digit (b ∷ bs) other =
-    let more = first (ended_parts 44 bs) in
-    elim (cases_eq b 44) as (λ _. few_digits (first (ended_parts 44 (b ∷ bs))) ≡ None) [
+    let more = first_field (ended_parts 44 bs) in
+    elim (cases_eq b 44) as (λ _. few_digits (first_field (ended_parts 44 (b ∷ bs))) ≡ None) [
       | inl same ↦ rw (eq-eqb b 44 same) refl
       | inr differs ↦
           ap few_digits (part-byte b bs differs)
@@ -309,16 +309,16 @@ module _ (line : List ℕ) (value count : ℕ) (is : IsFront line value count) w
   line_is : line ≡ front ++ left
   line_is = sym (take-append-drop count line)
 
-  part_is : first (ended_parts 44 line) ≡ front ++ first (ended_parts 44 left)
+  part_is : first_field (ended_parts 44 line) ≡ front ++ first_field (ended_parts 44 left)
   part_is =
-      ap (λ xs. first (ended_parts 44 xs)) line_is ∙ part-digits front left is.has.digits
+      ap (λ xs. first_field (ended_parts 44 xs)) line_is ∙ part-digits front left is.has.digits
 
-  others_are : rest (ended_parts 44 line) ≡ rest (ended_parts 44 left)
+  others_are : other_fields (ended_parts 44 line) ≡ other_fields (ended_parts 44 left)
   others_are =
-      ap (λ xs. rest (ended_parts 44 xs)) line_is ∙ others-digits front left is.has.digits
+      ap (λ xs. other_fields (ended_parts 44 xs)) line_is ∙ others-digits front left is.has.digits
 
-  value_is : first (ended_parts 44 left) ≡ [] → 0 < count →
-      few_digits (first (ended_parts 44 line)) ≡ Some value
+  value_is : first_field (ended_parts 44 left) ≡ [] → 0 < count →
+      few_digits (first_field (ended_parts 44 line)) ≡ Some value
   value_is none some =
       let few = is.few in
       ap few_digits (part_is ∙ ap (λ (xs : List ℕ). front ++ xs) none ∙ append-nil front)
@@ -327,28 +327,28 @@ module _ (line : List ℕ) (value count : ℕ) (is : IsFront line value count) w
 
   -- the line ends after them
   pub at_end : left ≡ [] → 0 < count →
-      (few_digits (first (ended_parts 44 line)) ≡ Some value)
-      × (ended_parts 44 left ≡ rest (ended_parts 44 line))
+      (few_digits (first_field (ended_parts 44 line)) ≡ Some value)
+      × (ended_parts 44 left ≡ other_fields (ended_parts 44 line))
   at_end none some =
       let parts : ended_parts 44 left ≡ [] = ap (ended_parts 44) none in
-      (value_is (ap first parts) some, parts ∙ sym (others_are ∙ ap rest parts))
+      (value_is (ap first_field parts) some, parts ∙ sym (others_are ∙ ap other_fields parts))
 
   -- a comma ends them
   pub at_comma : (after : List ℕ) → left ≡ 44 ∷ after → 0 < count →
-      (few_digits (first (ended_parts 44 line)) ≡ Some value)
-      × (ended_parts 44 after ≡ rest (ended_parts 44 line))
+      (few_digits (first_field (ended_parts 44 line)) ≡ Some value)
+      × (ended_parts 44 after ≡ other_fields (ended_parts 44 line))
   at_comma after next some =
       let parts : ended_parts 44 left ≡ [] ∷ ended_parts 44 after = ap (ended_parts 44) next in
-      (value_is (ap first parts) some, sym (others_are ∙ ap rest parts))
+      (value_is (ap first_field parts) some, sym (others_are ∙ ap other_fields parts))
 
   -- another byte follows them
   pub at_other : (b : ℕ) (bs : List ℕ) → left ≡ b ∷ bs → b ≢ 44 →
-      few_digits (first (ended_parts 44 line)) ≡ None
+      few_digits (first_field (ended_parts 44 line)) ≡ None
   at_other b bs next other =
-      let more = first (ended_parts 44 bs) in
-      let part : first (ended_parts 44 line) ≡ front ++ b ∷ more =
+      let more = first_field (ended_parts 44 bs) in
+      let part : first_field (ended_parts 44 line) ≡ front ++ b ∷ more =
       part_is
-      ∙ ap (λ xs. front ++ first (ended_parts 44 xs)) next
+      ∙ ap (λ xs. front ++ first_field (ended_parts 44 xs)) next
       ∙ ap (λ (xs : List ℕ). front ++ xs) (part-byte b bs other) in
       let here = head_at line count b bs next in
       ap few_digits part
@@ -363,7 +363,7 @@ module _ (line : List ℕ) (value count : ℕ) (is : IsFront line value count) w
       ]
 
   -- there is no digit
-  pub at_start : count ≡ 0 → few_digits (first (ended_parts 44 line)) ≡ None
+  pub at_start : count ≡ 0 → few_digits (first_field (ended_parts 44 line)) ≡ None
   at_start none =
       no_digit line (λ lt.
       ap (λ k. is_ascii_digit (get_or line k 0)) (sym none)
@@ -379,7 +379,7 @@ trim_end_digits (d ∷ e ∷ ds) all =
     ap (before_end d) (trim_end_digits (e ∷ ds) both.1)
 
 -- digits have no blanks around them
-trimmed_digits : (ds : List ℕ) → AllDigits ds → trimmed ds ≡ ds
+trimmed_digits : (ds : List ℕ) → AllDigits ds → trimmed_text ds ≡ ds
 trimmed_digits [] all = refl
 trimmed_digits (d ∷ ds) all =
     let both = and_parts (is_ascii_digit d) (list_all is_ascii_digit ds) all in
@@ -397,22 +397,22 @@ few_parts text value said = by (is_number text && nat_le (length text) 9) refl s
     by false is e = cc
 
 number-few : (text : List ℕ) (value limit : ℕ) → few_digits text ≡ Some value →
-    number limit (trimmed text) ≡ at_most limit value
+    number limit (trimmed_text text) ≡ at_most limit value
 number-few text value limit said =
     let parts = few_parts text value said in
     let digits = and_parts (nat_lt 0 (length text)) (list_all is_ascii_digit text) parts.0 in
     ap (number limit) (trimmed_digits text digits.1) ∙ rw (parts.0, parts.1) refl
 
-first-trimmed : (parts : List (List ℕ)) → first (map trimmed parts) ≡ trimmed (first parts)
+first-trimmed : (parts : List (List ℕ)) → first_field (map trimmed_text parts) ≡ trimmed_text (first_field parts)
 first-trimmed [] = refl
 first-trimmed (x ∷ xs) = refl
 
-rest-trimmed : (parts : List (List ℕ)) → rest (map trimmed parts) ≡ map trimmed (rest parts)
+rest-trimmed : (parts : List (List ℕ)) → other_fields (map trimmed_text parts) ≡ map trimmed_text (other_fields parts)
 rest-trimmed [] = refl
 rest-trimmed (x ∷ xs) = refl
 
 onto_space : (parts : List (List ℕ)) → 0 < length parts →
-    map trimmed (onto_first 32 parts) ≡ map trimmed parts
+    map trimmed_text (onto_first 32 parts) ≡ map trimmed_text parts
 onto_space [] some = absurd (omega arith)
 onto_space (x ∷ xs) some = refl
 
@@ -434,13 +434,13 @@ fields_space (b ∷ bs) some = elim (cases_eq b 32) as (λ _. Kept) [
     Kept : Type 0
     Kept = fields_of (without_space (b ∷ bs)) ≡ fields_of (b ∷ bs)
 
-some_line : (line : List ℕ) (value : ℕ) → few_digits (first (ended_parts 44 line)) ≡ Some value →
+some_line : (line : List ℕ) (value : ℕ) → few_digits (first_field (ended_parts 44 line)) ≡ Some value →
     0 < length line
 some_line [] value said = cc
 some_line (b ∷ bs) value said = omega arith
 
 module _ (line : List ℕ) (value : ℕ)
-    (said : few_digits (first (ended_parts 44 (without_space line))) ≡ Some value) where
+    (said : few_digits (first_field (ended_parts 44 (without_space line))) ≡ Some value) where
   abbrev other : List ℕ
   other = without_space line
 
@@ -448,16 +448,16 @@ module _ (line : List ℕ) (value : ℕ)
   same_fields = fields_space line (some_line other value said)
 
   -- the first field of the line is that number
-  pub number_first : (limit : ℕ) → number limit (first (fields_of line)) ≡ at_most limit value
+  pub number_first : (limit : ℕ) → number limit (first_field (fields_of line)) ≡ at_most limit value
   number_first limit =
-      ap (λ fields. number limit (first fields)) (sym same_fields)
+      ap (λ fields. number limit (first_field fields)) (sym same_fields)
       ∙ ap (number limit) (first-trimmed (ended_parts 44 other))
-      ∙ number-few (first (ended_parts 44 other)) value limit said
+      ∙ number-few (first_field (ended_parts 44 other)) value limit said
 
   -- the other fields are those after it
-  pub rest_first : (after : List ℕ) → ended_parts 44 after ≡ rest (ended_parts 44 other) →
-      fields_of after ≡ rest (fields_of line)
+  pub rest_first : (after : List ℕ) → ended_parts 44 after ≡ other_fields (ended_parts 44 other) →
+      fields_of after ≡ other_fields (fields_of line)
   rest_first after are =
-      ap (map trimmed) are
+      ap (map trimmed_text) are
       ∙ sym (rest-trimmed (ended_parts 44 other))
-      ∙ ap rest same_fields
+      ∙ ap other_fields same_fields

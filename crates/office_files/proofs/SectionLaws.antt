@@ -6,7 +6,7 @@ use Rattle.std.proofs.lemmas.Bool.{cases_Bool, ltb-true, eqb-true}
 use Rattle.std.proofs.lemmas.List.{take-append-drop, take_at, drop_at}
 use Rattle.std.proofs.lemmas.List.Elements.{All-nil, All-cons, All-head, All-tail}
 use Rattle.exam_terms.specs.Refusing.{unless, else_err}
-use Rattle.exam_terms.specs.Texts.{trimmed}
+use Rattle.exam_terms.specs.Texts.{trimmed_text}
 use Rattle.office_files.specs.Fields.{split_once}
 use Rattle.office_files.specs.Lines.{Located, is_header, section_size}
 use Rattle.office_files.specs.Numbers.{number}
@@ -66,12 +66,12 @@ counted_lines : (word : List ℕ) (limit lines : ℕ) (text : List ℕ) →
 counted_lines word limit lines text e =
     let inside = bind_ok (inside_of text) _ tt e in
     let named = bind_ok (else_err MissingSection (split_once 58 inside.0.0)) _ tt inside.2 in
-    let is = str_eq_ignore_ascii_case (trimmed named.0.0) word in
+    let is = str_eq_ignore_ascii_case (trimmed_text named.0.0) word in
     let word_is = bind_ok (unless is MissingSection) _ tt named.2 in
-    let count = bind_ok (number limit (trimmed named.0.1)) _ tt word_is.2 in
+    let count = bind_ok (number limit (trimmed_text named.0.1)) _ tt word_is.2 in
     let some = bind_ok (unless (nat_lt 0 count.0) OutOfRange) _ tt count.2 in
     let same = bind_ok (unless (count.0 == lines) CountMismatch) _ tt some.2 in
-    let within = number_le limit (trimmed named.0.1) count.0 count.1 in
+    let within = number_le limit (trimmed_text named.0.1) count.0 count.1 in
     let least = ltb-true 0 count.0 (unless_ok (nat_lt 0 count.0) OutOfRange some.0 some.1) in
     let equal = eqb-true count.0 lines (unless_ok (count.0 == lines) CountMismatch same.0 same.1) in
     (omega arith, omega arith)

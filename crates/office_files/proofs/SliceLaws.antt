@@ -5,9 +5,9 @@ use Rattle.std.proofs.Common.{length-append, length-drop, append-nil}
 use Rattle.std.specs.Prelude.{◌==◌, if◌then◌else◌, map}
 use Rattle.std.specs.List.{AllByRecursion, onto_first, flat_map}
 use Rattle.std.proofs.lemmas.List.{take-append-le, take_all}
-use Rattle.exam_terms.specs.Texts.{is_blank, before_end, trim_start, trim_end, trimmed}
+use Rattle.exam_terms.specs.Texts.{is_blank, before_end, trim_start, trim_end, trimmed_text}
 use Rattle.office_files.specs.Fields.{ended_parts}
-use Rattle.office_files.specs.Lines.{Piece, Located, placed, without_return, inner_start, located}
+use Rattle.office_files.specs.Lines.{Piece, Located, pieces_from, without_return, inner_start, trimmed_piece}
 use Rattle.office_files.specs.Lines.{lines_from, lines_of, is_header}
 use Rattle.office_files.specs.Tokens.{tokens_in, tokens_of, IsSliceOf}
 use Rattle.office_files.proofs.LineLemmas.{drop_next}
@@ -42,8 +42,8 @@ AllLie source = AllByRecursion (λ (p : Piece). Lies source p.start p.text)
 
 -- one more byte at the front of the first part
 onto_lie : (source : List ℕ) (at b : ℕ) (bs tail : List ℕ) (parts : List (List ℕ)) →
-    drop at source ≡ b ∷ (bs ++ tail) → AllLie source (placed (at + 1) parts) →
-    AllLie source (placed at (onto_first b parts))
+    drop at source ≡ b ∷ (bs ++ tail) → AllLie source (pieces_from (at + 1) parts) →
+    AllLie source (pieces_from at (onto_first b parts))
 onto_lie source at b bs tail [] e all =
     let inside = some_within source at b (bs ++ tail) e in
     (record { within = omega arith; tail = bs ++ tail; here = e }, tt)
@@ -56,21 +56,21 @@ onto_lie source at b bs tail (x ∷ xs) e all =
         tail = all.0.tail;
         here = e ∙ ap (λ (ys : List ℕ). b ∷ ys) (sym next ∙ all.0.here);
       },
-      subst (λ k. AllLie source (placed k xs)) same all.1,
+      subst (λ k. AllLie source (pieces_from k xs)) same all.1,
     )
 
 -- the parts of a text in the source are in the source
 pub parts_lie : (c : ℕ) (text : List ℕ) (source : List ℕ) (at : ℕ) (tail : List ℕ) →
-    drop at source ≡ text ++ tail → AllLie source (placed at (ended_parts c text))
+    drop at source ≡ text ++ tail → AllLie source (pieces_from at (ended_parts c text))
 parts_lie c [] source at tail e = tt
 parts_lie c (b ∷ bs) source at tail e =
     let inside = some_within source at b (bs ++ tail) e in
     let next = drop_next source at b (bs ++ tail) e in
     let left = ended_parts c bs in
-    elim (b == c) as (λ v. AllLie source (placed at (if v then [] ∷ left else onto_first b left))) [
+    elim (b == c) as (λ v. AllLie source (pieces_from at (if v then [] ∷ left else onto_first b left))) [
       | true ↦ (
         record { within = omega arith; tail = b ∷ (bs ++ tail); here = e },
-        subst (λ k. AllLie source (placed k (ended_parts c bs))) {x = at + 1} (omega arith)
+        subst (λ k. AllLie source (pieces_from k (ended_parts c bs))) {x = at + 1} (omega arith)
             (parts_lie c bs source (at + 1) tail next),
       )
       | false ↦ onto_lie source at b bs tail (ended_parts c bs) e
@@ -145,7 +145,7 @@ pub record IsLocated (source : List ℕ) (s : Located) : Type 0 where
   pub end : s.end ≡ s.start + length s.text
 
 located_lies : (source : List ℕ) (line : ℕ) (p : Piece) → Lies source p.start p.text →
-    IsLocated source (located line p)
+    IsLocated source (trimmed_piece line p)
 located_lies source line p l =
     let inner = lies_trim_start source p.start p.text l in
     let f = trim_end_front (trim_start p.text) in
@@ -172,14 +172,14 @@ rows_located source line (p ∷ ps) all =
     (lies_front source p.start p.text (without_return p.text) f.0 f.1 all.0) in
     let more = rows_located source (line + 1) ps all.1 in
     let others = lines_from (line + 1) ps in
-    elim (length (trimmed (without_return p.text)) == 0) as (λ v.
-    AllLocated source (if v then others else located line kept ∷ others)) [
+    elim (length (trimmed_text (without_return p.text)) == 0) as (λ v.
+    AllLocated source (if v then others else trimmed_piece line kept ∷ others)) [
       | true ↦ more
       | false ↦ (row, more)
     ]
 
 fields_located : (source : List ℕ) (line : ℕ) (ps : List Piece) → AllLie source ps →
-    AllLocated source (map (located line) ps)
+    AllLocated source (map (trimmed_piece line) ps)
 fields_located source line [] all = tt
 fields_located source line (p ∷ ps) all =
     (located_lies source line p all.0, fields_located source line ps all.1)
@@ -187,10 +187,10 @@ fields_located source line (p ∷ ps) all =
 tokens_in_located : (source : List ℕ) (row : Located) → IsLocated source row →
     AllLocated source (tokens_in row)
 tokens_in_located source row st =
-    let fields = map (located row.line) (placed row.start (ended_parts 44 row.text)) in
+    let fields = map (trimmed_piece row.line) (pieces_from row.start (ended_parts 44 row.text)) in
     elim (is_header row.text) as (λ v. AllLocated source (if v then row ∷ [] else fields)) [
       | true ↦ (st, tt)
-      | false ↦ fields_located source row.line (placed row.start (ended_parts 44 row.text))
+      | false ↦ fields_located source row.line (pieces_from row.start (ended_parts 44 row.text))
           (parts_lie 44 row.text source row.start st.lies.tail st.lies.here)
     ]
 
@@ -211,7 +211,7 @@ all_tokens_located source (r ∷ rs) all =
 pub tokens_located : (source : List ℕ) → AllLocated source (tokens_of source)
 tokens_located source =
     all_tokens_located source (lines_of source)
-    (rows_located source 1 (placed 0 (ended_parts 10 source))
+    (rows_located source 1 (pieces_from 0 (ended_parts 10 source))
     (parts_lie 10 source source 0 [] (sym (append-nil source))))
 
 slices : (source : List ℕ) (ts : List Located) → AllLocated source ts →

@@ -10,7 +10,7 @@ use Rattle.std.proofs.lemmas.List.Folds.{list_any-append, list_any_none}
 use Rattle.exam_model.specs.Enrolments.{Enrolled}
 use Rattle.exam_model.specs.Instance.{Session}
 use Rattle.exam_model.specs.declared.parts.Weights.{Weights}
-use Rattle.office_files.specs.Fields.{fields_of, first, rest}
+use Rattle.office_files.specs.Fields.{fields_of, first_field, other_fields}
 use Rattle.office_files.specs.Spelled.{counts_of}
 use Rattle.office_files.specs.InstanceText.{InstanceText}
 use Rattle.office_files.specs.Lines.{Located, is_header, lines_of}
@@ -68,13 +68,13 @@ module _ (w : WeightWord) (place : ℕ) (get : Weights → ℕ) (is : IsWeight w
       → WasRead before (fields_of line.text) s → has_word w s ≡ true
       → begins_with (text_of w) line ≡ true
   begun before line s was has =
-      read_word w (first (fields_of line.text)) (was.word ∙ ap Ok (its_word w s has))
+      read_word w (first_field (fields_of line.text)) (was.word ∙ ap Ok (its_word w s has))
 
   has_begun : (before : List Weighting) (line : Located) (s : Weighting)
       → WasRead before (fields_of line.text) s → begins_with (text_of w) line ≡ true → word_of s ≡ w
   has_begun before line s was begins =
-      ok_same (weight_word (first (fields_of line.text))) (word_of s) w was.word
-      (word_read w (first (fields_of line.text)) begins)
+      ok_same (weight_word (first_field (fields_of line.text))) (word_of s) w was.word
+      (word_read w (first_field (fields_of line.text)) begins)
 
   passed : (before : List Weighting) (s : Weighting) → has_word w s ≡ false
       → weight (before ++ s ∷ []) ≡ weight before
@@ -132,7 +132,7 @@ module _ (w : WeightWord) (place : ℕ) (get : Weights → ℕ) (is : IsWeight w
             = subst (λ v. has_word v head.0 ≡ true) its (has_its_word head.0) in
             let more = come (before ++ head.0 ∷ []) lines all
             (list_any-append (has_word w) before (head.0 ∷ []) ∙ rw (missing, has) refl) head.2 in
-            let numbers = rest (fields_of line.text) in
+            let numbers = other_fields (fields_of line.text) in
             let by = subst (λ v. weighting_by v numbers ≡ Ok head.0) its was.by in
             let weights = with_weightings no_weights before in
             let here = is.hit numbers head.0 weights by in

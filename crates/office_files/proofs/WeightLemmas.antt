@@ -6,7 +6,7 @@ use Rattle.std.specs.Str.{bytes_eq, str_eq_ignore_ascii_case, str_to_ascii_lower
 use Rattle.std.proofs.lemmas.Slice.Eq.{bytes_eq-Decides}
 use Rattle.exam_terms.specs.Refusing.{◌>>=◌, unless}
 use Rattle.exam_model.specs.declared.parts.Weights.{Weights}
-use Rattle.office_files.specs.Fields.{first, rest, ended}
+use Rattle.office_files.specs.Fields.{first_field, other_fields, end_of_fields}
 use Rattle.office_files.specs.Numbers.{number}
 use Rattle.office_files.specs.WeightLines.{field_after}
 use Rattle.office_files.specs.Weightings.{weight_word, has_word, amount_in, front_in, weighting_by}
@@ -149,16 +149,16 @@ its_word word.Night (said.Night n) has = refl
 its_word _ _ has = cc
 
 amount_read : (fields : List (List ℕ)) (n : ℕ) → amount_in fields ≡ Ok n
-    → number MAX_AMOUNT (first fields) ≡ Ok n
+    → number MAX_AMOUNT (first_field fields) ≡ Ok n
 amount_read fields n is =
-    let amount = bind_ok (number MAX_AMOUNT (first fields)) _ n is in
-    let end = bind_ok (ended (rest fields)) _ n amount.2 in
+    let amount = bind_ok (number MAX_AMOUNT (first_field fields)) _ n is in
+    let end = bind_ok (end_of_fields (other_fields fields)) _ n amount.2 in
     amount.1 ∙ end.2
 
 -- one number after a word
 pub one_read : (make : ℕ → Weighting) (fields : List (List ℕ)) (s : Weighting)
     → (amount_in fields >>= λ n. Ok (make n)) ≡ Ok s
-    → (n : ℕ) × (number MAX_AMOUNT (first fields) ≡ Ok n) × (make n ≡ s)
+    → (n : ℕ) × (number MAX_AMOUNT (first_field fields) ≡ Ok n) × (make n ≡ s)
 one_read make fields s is =
     let amount = bind_ok (amount_in fields) _ s is in
     (amount.0, amount_read fields amount.0 amount.1, ok_same _ _ s refl amount.2)
@@ -169,10 +169,10 @@ pub front_read : (fields : List (List ℕ)) (s : Weighting) → front_in fields 
     × (number MAX_AMOUNT (field_after 1 fields) ≡ Ok k)
     × (number MAX_AMOUNT (field_after 2 fields) ≡ Ok v) × (said.Front n k v ≡ s)
 front_read fields s is =
-    let exams = bind_ok (number MAX_AMOUNT (first fields)) _ s is in
-    let periods = bind_ok (number MAX_AMOUNT (first (rest fields))) _ s exams.2 in
-    let weight = bind_ok (number MAX_AMOUNT (first (rest (rest fields)))) _ s periods.2 in
-    let end = bind_ok (ended (rest (rest (rest fields)))) _ s weight.2 in
+    let exams = bind_ok (number MAX_AMOUNT (first_field fields)) _ s is in
+    let periods = bind_ok (number MAX_AMOUNT (first_field (other_fields fields))) _ s exams.2 in
+    let weight = bind_ok (number MAX_AMOUNT (first_field (other_fields (other_fields fields)))) _ s periods.2 in
+    let end = bind_ok (end_of_fields (other_fields (other_fields (other_fields fields)))) _ s weight.2 in
     (exams.0, periods.0, weight.0, exams.1, periods.1, weight.1, ok_same _ _ s refl end.2)
 
 -- a weighting read by a word has that word
@@ -187,9 +187,9 @@ by_word word.Night fields s is = ap word_of (one_read said.Night fields s is).2
 
 -- a line that was read: its word, which no earlier line has, and its numbers
 pub record WasRead (before : List Weighting) (fields : List (List ℕ)) (s : Weighting) : Type 0 where
-  pub word : weight_word (first fields) ≡ Ok (word_of s)
+  pub word : weight_word (first_field fields) ≡ Ok (word_of s)
   pub new : list_any (has_word (word_of s)) before ≡ false
-  pub by : weighting_by (word_of s) (rest fields) ≡ Ok s
+  pub by : weighting_by (word_of s) (other_fields fields) ≡ Ok s
 
 not_so : (b : Bool) → not b ≡ true → b ≡ false
 not_so true is = cc
@@ -198,14 +198,14 @@ not_so false is = refl
 pub was_read : (counts : Counts) (before : List Weighting) (fields : List (List ℕ)) (s : Weighting)
     → weighting_line counts before fields ≡ Ok s → WasRead before fields s
 was_read counts before fields s is =
-    let w = bind_ok (weight_word (first fields)) _ s is in
+    let w = bind_ok (weight_word (first_field fields)) _ s is in
     let new = bind_ok (unless (not (list_any (has_word w.0) before)) Repeated) _ s w.2 in
-    let same = by_word w.0 (rest fields) s new.2 in
+    let same = by_word w.0 (other_fields fields) s new.2 in
     record {
       word = w.1 ∙ ap Ok same;
       new = subst (λ v. list_any (has_word v) before ≡ false) same
           (not_so _ (unless_ok _ Repeated new.0 new.1));
-      by = subst (λ v. weighting_by v (rest fields) ≡ Ok s) same new.2;
+      by = subst (λ v. weighting_by v (other_fields fields) ≡ Ok s) same new.2;
     }
 
 -- the weight of one more line is added to the others

@@ -17,8 +17,8 @@ abbrev pub line_of : List ℕ → List ℕ
 line_of text = text ++ carriage_return ∷ line_feed ∷ []
 
 -- a field in front of the others of a line, with a comma and a space between
-abbrev pub before : List ℕ → List ℕ → List ℕ
-before field others = field ++ comma ∷ space ∷ others
+abbrev pub field_before : List ℕ → List ℕ → List ℕ
+field_before field others = field ++ comma ∷ space ∷ others
 
 -- a number below 100 in two digits
 abbrev pub two_digits : ℕ → List ℕ
@@ -42,33 +42,35 @@ exam_text e = decimal e.minutes ++ flat_map (λ s. comma ∷ space ∷ decimal s
 -- date, time, length, penalty
 abbrev pub period_text : Period → List ℕ
 period_text p =
-    before (date_text p.date) (before (time_text p) (before (decimal p.length) (decimal p.penalty)))
+    field_before (date_text p.date) (field_before (time_text p)
+    (field_before (decimal p.length) (decimal p.penalty)))
 
 -- capacity, penalty
 abbrev pub room_text : Room → List ℕ
-room_text r = before (decimal r.capacity) (decimal r.penalty)
+room_text r = field_before (decimal r.capacity) (decimal r.penalty)
 
 -- exam, word, exam
 abbrev pub period_rule_text : PeriodRule → List ℕ
-period_rule_text (After a b) = before (decimal a) (before (codes "AFTER") (decimal b))
+period_rule_text (After a b) = field_before (decimal a) (field_before (codes "AFTER") (decimal b))
 period_rule_text (Coincidence a b) =
-    before (decimal a) (before (codes "EXAM_COINCIDENCE") (decimal b))
-period_rule_text (Exclusion a b) = before (decimal a) (before (codes "EXCLUSION") (decimal b))
+    field_before (decimal a) (field_before (codes "EXAM_COINCIDENCE") (decimal b))
+period_rule_text (Exclusion a b) =
+    field_before (decimal a) (field_before (codes "EXCLUSION") (decimal b))
 
 -- exam, word
 abbrev pub room_rule_text : RoomRule → List ℕ
-room_rule_text r = before (decimal r.0) (codes "ROOM_EXCLUSIVE")
+room_rule_text r = field_before (decimal r.0) (codes "ROOM_EXCLUSIVE")
 
 -- a word and its number, with only a comma between
-abbrev pub weighed : List ℕ → ℕ → List ℕ
-weighed word n = word ++ comma ∷ decimal n
+abbrev pub word_and_number : List ℕ → ℕ → List ℕ
+word_and_number word n = word ++ comma ∷ decimal n
 
 -- a weighting, with only commas between its fields
 abbrev pub weighting_text : Weighting → List ℕ
-weighting_text (Row w) = weighed (codes "TWOINAROW") w
-weighting_text (Day w) = weighed (codes "TWOINADAY") w
-weighting_text (Spread g) = weighed (codes "PERIODSPREAD") g
-weighting_text (Mixed w) = weighed (codes "NONMIXEDDURATIONS") w
+weighting_text (Row w) = word_and_number (codes "TWOINAROW") w
+weighting_text (Day w) = word_and_number (codes "TWOINADAY") w
+weighting_text (Spread g) = word_and_number (codes "PERIODSPREAD") g
+weighting_text (Mixed w) = word_and_number (codes "NONMIXEDDURATIONS") w
 weighting_text (Front n k w) =
-    weighed (codes "FRONTLOAD") n ++ comma ∷ (decimal k ++ comma ∷ decimal w)
-weighting_text (Night w) = weighed (codes "OVERNIGHT") w
+    word_and_number (codes "FRONTLOAD") n ++ comma ∷ (decimal k ++ comma ∷ decimal w)
+weighting_text (Night w) = word_and_number (codes "OVERNIGHT") w

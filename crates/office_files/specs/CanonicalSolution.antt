@@ -5,13 +5,13 @@ use Rattle.exam_model.specs.Fits.{PlaceExists}
 use Rattle.exam_model.specs.Instance.{Session, IsInstance}
 use Rattle.exam_model.specs.Timetable.{Placing, IsFirstUnplaced}
 use Rattle.exam_terms.specs.declared.place.Place.{Place}
-use Rattle.office_files.specs.CanonicalLines.{line_of, before}
+use Rattle.office_files.specs.CanonicalLines.{line_of, field_before}
 use Rattle.office_files.specs.declared.fault.FaultKind.TheVariants.{Incomplete}
 use Rattle.office_files.specs.declared.fault.FileFault.{FileFault}
 
 -- period, room
 abbrev pub place_text : Place → List ℕ
-place_text p = before (decimal p.period) (decimal p.room)
+place_text p = field_before (decimal p.period) (decimal p.room)
 
 -- the line of an exam, if it is placed
 abbrev pub slot_text : Option Place → List ℕ

@@ -4,7 +4,7 @@ use Rattle.exam_terms.specs.declared.limits.TheConstants.{MAX_MINUTES}
 use Rattle.exam_terms.specs.Refusing.{◌>>=◌}
 use Rattle.exam_model.specs.Enrolments.{Enrolled, AreEnrolments, students, pair_count}
 use Rattle.exam_model.specs.declared.parts.Exam.{Exam}
-use Rattle.office_files.specs.Fields.{first, rest}
+use Rattle.office_files.specs.Fields.{first_field, other_fields}
 use Rattle.office_files.specs.Lines.{Located}
 use Rattle.office_files.specs.Numbers.{number}
 use Rattle.office_files.specs.Reading.{items_of}
@@ -23,8 +23,8 @@ pairs_on lines = sum_by (λ line. length line.students) lines
 -- a line of the section of exams, after this many pairs
 abbrev pub exam_after_pairs : ℕ → List (List ℕ) → Result ExamLine FaultKind
 exam_after_pairs pairs fields = do
-  minutes ← number MAX_MINUTES (first fields)
-  students ← students_in pairs [] (rest fields)
+  minutes ← number MAX_MINUTES (first_field fields)
+  students ← students_in pairs [] (other_fields fields)
   Ok (record { minutes = minutes; students = students })
 
 -- a line of the section of exams

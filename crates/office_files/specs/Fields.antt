@@ -2,7 +2,7 @@
 use Rattle.std.specs.Prelude.{ℕ, ◌==◌, if◌then◌else◌, List, [], ◌∷◌, map}
 use Rattle.std.specs.Prelude.{Option, Some, None, option_map, Result, Ok, Err}
 use Rattle.std.specs.List.{onto_first}
-use Rattle.exam_terms.specs.Texts.{trimmed}
+use Rattle.exam_terms.specs.Texts.{trimmed_text}
 use Rattle.office_files.specs.Bytes.{comma}
 use Rattle.office_files.specs.declared.fault.FaultKind.{FaultKind}
 use Rattle.office_files.specs.declared.fault.FaultKind.TheVariants.{StrayText}
@@ -20,19 +20,19 @@ split_once c (b ∷ bs) =
 
 -- the fields of a line, trimmed; there is none after a comma at its end
 abbrev pub fields_of : List ℕ → List (List ℕ)
-fields_of line = map trimmed (ended_parts comma line)
+fields_of line = map trimmed_text (ended_parts comma line)
 
 -- the first of the fields; empty if there is none
-abbrev pub first : List (List ℕ) → List ℕ
-first [] = []
-first (x ∷ xs) = x
+abbrev pub first_field : List (List ℕ) → List ℕ
+first_field [] = []
+first_field (x ∷ xs) = x
 
 -- the fields after the first
-abbrev pub rest : List (List ℕ) → List (List ℕ)
-rest [] = []
-rest (x ∷ xs) = xs
+abbrev pub other_fields : List (List ℕ) → List (List ℕ)
+other_fields [] = []
+other_fields (x ∷ xs) = xs
 
 -- no field is left
-abbrev pub ended : List (List ℕ) → Result (Unit {0}) FaultKind
-ended [] = Ok tt
-ended (x ∷ xs) = Err StrayText
+abbrev pub end_of_fields : List (List ℕ) → Result (Unit {0}) FaultKind
+end_of_fields [] = Ok tt
+end_of_fields (x ∷ xs) = Err StrayText

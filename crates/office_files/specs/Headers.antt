@@ -2,7 +2,7 @@
 use Rattle.std.specs.Prelude.{ℕ, ◌==◌, nat_lt, List, length, drop, Option, None, Some, Result}
 use Rattle.std.specs.Str.{str_eq_ignore_ascii_case}
 use Rattle.exam_terms.specs.Refusing.{◌>>=◌, unless, else_err}
-use Rattle.exam_terms.specs.Texts.{trimmed}
+use Rattle.exam_terms.specs.Texts.{trimmed_text}
 use Rattle.office_files.specs.Bytes.{colon, closing_bracket}
 use Rattle.office_files.specs.Fields.{split_once}
 use Rattle.office_files.specs.Lines.{is_header}
@@ -18,26 +18,26 @@ inside_of text = do
   else_err MissingSection (split_once closing_bracket (drop 1 text))
 
 -- the closing bracket is followed by nothing
-abbrev pub closed : List ℕ → Result (Unit {0}) FaultKind
-closed after = unless (length (trimmed after) == 0) StrayText
+abbrev pub header_end : List ℕ → Result (Unit {0}) FaultKind
+header_end after = unless (length (trimmed_text after) == 0) StrayText
 
 -- a header with only its word
 abbrev pub plain_header : List ℕ → List ℕ → Result (Unit {0}) FaultKind
 plain_header word text = do
   inside ← inside_of text
-  _ ← unless (str_eq_ignore_ascii_case (trimmed inside.0) word) MissingSection
-  closed inside.1
+  _ ← unless (str_eq_ignore_ascii_case (trimmed_text inside.0) word) MissingSection
+  header_end inside.1
 
 -- a header with its word, a colon and the number of its lines, at least one and at most the limit
 abbrev pub counted_header : List ℕ → ℕ → ℕ → List ℕ → Result (Unit {0}) FaultKind
 counted_header word limit lines text = do
   inside ← inside_of text
   named ← else_err MissingSection (split_once colon inside.0)
-  _ ← unless (str_eq_ignore_ascii_case (trimmed named.0) word) MissingSection
-  count ← number limit (trimmed named.1)
+  _ ← unless (str_eq_ignore_ascii_case (trimmed_text named.0) word) MissingSection
+  count ← number limit (trimmed_text named.1)
   _ ← unless (nat_lt 0 count) OutOfRange
   _ ← unless (count == lines) CountMismatch
-  closed inside.1
+  header_end inside.1
 
 -- the start of a section: its word and, if its lines are counted, the limit of their number
 pub record Heading : Type 0 where

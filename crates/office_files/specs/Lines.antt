@@ -2,7 +2,7 @@
 use Rattle.std.specs.Prelude.{ℕ, ◌+◌, ◌-◌, ◌<◌, ◌≤◌, Bool, false, ◌==◌, if◌then◌else◌}
 use Rattle.std.specs.Prelude.{List, [], ◌∷◌, length}
 use Rattle.exam_terms.specs.declared.limits.TheConstants.{INSTANCE_BYTES}
-use Rattle.exam_terms.specs.Texts.{trim_start, trimmed}
+use Rattle.exam_terms.specs.Texts.{trim_start, trimmed_text}
 use Rattle.office_files.specs.Bytes.{line_feed, carriage_return, opening_bracket}
 use Rattle.office_files.specs.Fields.{ended_parts}
 
@@ -16,9 +16,10 @@ pub record Piece : Type 0 where
   pub text : List ℕ
 
 -- the parts that were cut at one byte each, in their places from `start` on
-abbrev pub placed : ℕ → List (List ℕ) → List Piece
-placed start [] = []
-placed start (x ∷ xs) = record { start = start; text = x } ∷ placed (start + length x + 1) xs
+abbrev pub pieces_from : ℕ → List (List ℕ) → List Piece
+pieces_from start [] = []
+pieces_from start (x ∷ xs) =
+    record { start = start; text = x } ∷ pieces_from (start + length x + 1) xs
 
 -- one carriage return at the end is dropped
 abbrev pub without_return : List ℕ → List ℕ
@@ -38,12 +39,12 @@ abbrev pub inner_start : Piece → ℕ
 inner_start p = p.start + (length p.text - length (trim_start p.text))
 
 -- a piece of a line without the blanks around it
-abbrev pub located : ℕ → Piece → Located
-located line p = record {
+abbrev pub trimmed_piece : ℕ → Piece → Located
+trimmed_piece line p = record {
   line = line;
   start = inner_start p;
-  end = inner_start p + length (trimmed p.text);
-  text = trimmed p.text;
+  end = inner_start p + length (trimmed_text p.text);
+  text = trimmed_text p.text;
 }
 
 -- a line in front of others, unless it is blank
@@ -54,12 +55,12 @@ unless_blank row rows = if length row.text == 0 then rows else row ∷ rows
 abbrev pub lines_from : ℕ → List Piece → List Located
 lines_from line [] = []
 lines_from line (p ∷ ps) =
-    unless_blank (located line (record p { text = without_return p.text }))
+    unless_blank (trimmed_piece line (record p { text = without_return p.text }))
     (lines_from (line + 1) ps)
 
 -- the lines of a text that aren't blank, counted from 1
 abbrev pub lines_of : List ℕ → List Located
-lines_of text = lines_from 1 (placed 0 (ended_parts line_feed text))
+lines_of text = lines_from 1 (pieces_from 0 (ended_parts line_feed text))
 
 -- a header begins with an opening bracket
 abbrev pub is_header : List ℕ → Bool

@@ -21,9 +21,9 @@ section_in heading read end (line ∷ lines) =
     Ok (items, drop (section_size lines) lines)
 
 -- the lines after the header of the next section, if it is such a header
-abbrev pub opened : Heading → ℕ → List Located → Result (List Located) FileFault
-opened heading end [] = Err (record { line = end; what = MissingSection })
-opened heading end (line ∷ lines) =
+abbrev pub lines_after_header : Heading → ℕ → List Located → Result (List Located) FileFault
+lines_after_header heading end [] = Err (record { line = end; what = MissingSection })
+lines_after_header heading end (line ∷ lines) =
     at_line line.line (header_in heading (section_size lines) line.text) >>= λ _. Ok lines
 
 -- no line is left, or the first of them is a header

@@ -4,7 +4,7 @@ use Rattle.std.specs.Prelude.{List, [], ◌∷◌, ◌++◌, map, length, slice_
 use Rattle.std.specs.List.{flat_map}
 use Rattle.office_files.specs.Bytes.{comma}
 use Rattle.office_files.specs.Fields.{ended_parts}
-use Rattle.office_files.specs.Lines.{Located, placed, located, lines_of, is_header}
+use Rattle.office_files.specs.Lines.{Located, pieces_from, trimmed_piece, lines_of, is_header}
 use Rattle.office_files.specs.declared.lines.Token.{Token}
 
 -- a token without its place in memory
@@ -15,7 +15,7 @@ token_of t = record { line = t.line; start = t.start; end = t.end; text = t.text
 abbrev pub tokens_in : Located → List Located
 tokens_in row =
     if is_header row.text then row ∷ []
-    else map (located row.line) (placed row.start (ended_parts comma row.text))
+    else map (trimmed_piece row.line) (pieces_from row.start (ended_parts comma row.text))
 
 -- the fields of a text
 abbrev pub tokens_of : List ℕ → List Located
@@ -24,7 +24,7 @@ tokens_of text = flat_map tokens_in (lines_of text)
 -- the rest of a text: the fields left of a line that was begun, and the lines after it
 abbrev pub tokens_left : ℕ → ℕ → List ℕ → List Located → List Located
 tokens_left line at fields rows =
-    map (located line) (placed at (ended_parts comma fields)) ++ flat_map tokens_in rows
+    map (trimmed_piece line) (pieces_from at (ended_parts comma fields)) ++ flat_map tokens_in rows
 
 -- the token is that part of the source
 pub record IsSliceOf (source : List ℕ) (t : Located) : Type 0 where

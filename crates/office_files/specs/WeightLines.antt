@@ -5,7 +5,7 @@ use Rattle.std.specs.List.{list_any}
 use Rattle.std.specs.Str.{str_eq_ignore_ascii_case}
 use Rattle.exam_terms.specs.declared.limits.TheConstants.{MAX_AMOUNT}
 use Rattle.exam_model.specs.declared.parts.Weights.{Weights}
-use Rattle.office_files.specs.Fields.{fields_of, first, rest}
+use Rattle.office_files.specs.Fields.{fields_of, first_field, other_fields}
 use Rattle.office_files.specs.Lines.{Located, is_header}
 use Rattle.office_files.specs.Numbers.{number}
 use Rattle.office_files.specs.declared.fault.FaultKind.{FaultKind}
@@ -19,12 +19,12 @@ last_section (line ∷ lines) =
 
 -- the field after this many others; empty if there are too few
 abbrev pub field_after : ℕ → List (List ℕ) → List ℕ
-field_after zero fields = first fields
-field_after (suc n) fields = field_after n (rest fields)
+field_after zero fields = first_field fields
+field_after (suc n) fields = field_after n (other_fields fields)
 
 -- whether the first field of a line is this word, in large or small letters
 abbrev pub begins_with : List ℕ → Located → Bool
-begins_with word line = str_eq_ignore_ascii_case (first (fields_of line.text)) word
+begins_with word line = str_eq_ignore_ascii_case (first_field (fields_of line.text)) word
 
 -- the number in the field of a line after this many others
 abbrev pub number_after : ℕ → Located → Result ℕ FaultKind

@@ -5,7 +5,7 @@ use Rattle.std.specs.List.{list_any}
 use Rattle.std.specs.Str.{str_eq_ignore_ascii_case}
 use Rattle.exam_terms.specs.declared.limits.TheConstants.{MAX_AMOUNT}
 use Rattle.exam_terms.specs.Refusing.{◌>>=◌, unless}
-use Rattle.office_files.specs.Fields.{first, rest, ended}
+use Rattle.office_files.specs.Fields.{first_field, other_fields, end_of_fields}
 use Rattle.office_files.specs.Numbers.{number}
 use Rattle.office_files.specs.declared.counts.Counts.{Counts}
 use Rattle.office_files.specs.declared.weightings.Weighting.{Weighting}
@@ -39,17 +39,17 @@ has_word _ _ = false
 -- one number after a word
 abbrev pub amount_in : List (List ℕ) → Result ℕ FaultKind
 amount_in fields = do
-  amount ← number MAX_AMOUNT (first fields)
-  _ ← ended (rest fields)
+  amount ← number MAX_AMOUNT (first_field fields)
+  _ ← end_of_fields (other_fields fields)
   Ok amount
 
 -- how many exams, how many periods, what weight
 abbrev pub front_in : List (List ℕ) → Result Weighting FaultKind
 front_in fields = do
-  exams ← number MAX_AMOUNT (first fields)
-  periods ← number MAX_AMOUNT (first (rest fields))
-  weight ← number MAX_AMOUNT (first (rest (rest fields)))
-  _ ← ended (rest (rest (rest fields)))
+  exams ← number MAX_AMOUNT (first_field fields)
+  periods ← number MAX_AMOUNT (first_field (other_fields fields))
+  weight ← number MAX_AMOUNT (first_field (other_fields (other_fields fields)))
+  _ ← end_of_fields (other_fields (other_fields (other_fields fields)))
   Ok (said.Front exams periods weight)
 
 -- the weighting of the numbers after a word
@@ -64,6 +64,6 @@ weighting_by word.Night fields = amount_in fields >>= λ n. Ok (said.Night n)
 -- a line of the section of weightings: a word that no earlier line has, and its numbers
 abbrev pub weighting_line : Counts → List Weighting → List (List ℕ) → Result Weighting FaultKind
 weighting_line counts before fields = do
-  word ← weight_word (first fields)
+  word ← weight_word (first_field fields)
   _ ← unless (not (list_any (has_word word) before)) Repeated
-  weighting_by word (rest fields)
+  weighting_by word (other_fields fields)

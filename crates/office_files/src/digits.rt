@@ -1,6 +1,6 @@
 // Reading a field of few digits, the most frequent kind, in one pass over its bytes.
 ghost use Rattle.std.specs.Prelude.{◌≡◌, ◌≤◌, length, option_map, IfSome};
-ghost use Rattle.office_files.specs.Fields.{ended_parts, first, rest};
+ghost use Rattle.office_files.specs.Fields.{ended_parts, first_field, other_fields};
 ghost use Rattle.office_files.specs.Digits.{HasDigits, NoDigitAt, IsFront, few_digits, without_space};
 
 use crate::eight_digits::eight_digits;
@@ -27,9 +27,9 @@ pub(crate) fn line_after_space(line: &[u8]) -> &[u8]
 #[inline(always)]
 pub(crate) fn first_digits(line: &[u8]) -> Option<(u32, &[u8])>
     ensures value { option_map (λ read. read.0) result
-        ≡ few_digits (first (ended_parts 44 line.now)) }
+        ≡ few_digits (first_field (ended_parts 44 line.now)) }
     ensures rest { IfSome result (λ read.
-        ended_parts 44 read.1.now ≡ rest (ended_parts 44 line.now)) }
+        ended_parts 44 read.1.now ≡ other_fields (ended_parts 44 line.now)) }
 {
     let (value, end) = front_digits(line);
     if end == 0 {

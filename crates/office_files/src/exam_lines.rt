@@ -4,7 +4,7 @@ ghost use Rattle.std.specs.Prelude.{OnOk, IfOk, IfErr, Err};
 ghost use Rattle.exam_terms.specs.declared.limits.TheConstants.{MAX_EXAMS, MAX_STUDENT};
 ghost use Rattle.exam_model.specs.Enrolments.{IsAscending, pair_count};
 ghost use Rattle.office_files.specs.Faults.{HasNoLine};
-ghost use Rattle.office_files.specs.Fields.{fields_of, first, rest};
+ghost use Rattle.office_files.specs.Fields.{fields_of, first_field, other_fields};
 ghost use Rattle.office_files.specs.Numbers.{number};
 ghost use Rattle.office_files.specs.Reading.{items_of};
 ghost use Rattle.office_files.specs.ExamLines.{exam_line, exam_after_pairs, LinesGiveExams};
@@ -118,8 +118,8 @@ fn gather(mut fields: Fields<'_>, named: &mut Vec<StudentNo>) -> Result<Gathered
 // Returns the student whom the next field names.
 #[inline]
 fn next_student(fields: &mut Fields<'_>) -> Result<StudentNo, FaultKind>
-    ensures student { result ≡ number MAX_STUDENT (first fields.old) }
-    ensures left { fields.new ≡ rest fields.old }
+    ensures student { result ≡ number MAX_STUDENT (first_field fields.old) }
+    ensures left { fields.new ≡ other_fields fields.old }
 {
     let value = fields.next_number(MAX_STUDENT)?;
     StudentNo::new(value).ok_or(FaultKind::OutOfRange)

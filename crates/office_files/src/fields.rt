@@ -1,12 +1,12 @@
 // Cutting a line into fields, without the blanks around each.
 ghost use Rattle.std.specs.Prelude.{◌≡◌, ◌<◌, ◌≤◌, ◌+◌, ◌∷◌, [], List, ℕ, length, IsTrue, ◌↔◌};
-ghost use Rattle.office_files.specs.Fields.{ended_parts, fields_of, first, rest, ended};
+ghost use Rattle.office_files.specs.Fields.{ended_parts, fields_of, first_field, other_fields, end_of_fields};
 ghost use Rattle.office_files.specs.Numbers.{number};
 
 use crate::digits::{first_digits, line_after_space};
 use crate::fault::FaultKind;
-use crate::numbers::{number, within};
-use exam_terms::trimmed;
+use crate::numbers::{number, number_at_most};
+use exam_terms::trimmed_text;
 use std::marker::Model;
 
 /// The fields of a line that are not read yet.
@@ -32,26 +32,26 @@ impl<'a> Fields<'a> {
 
     /// Returns the next field; an empty one if none is left.
     pub(crate) fn next(&mut self) -> &'a [u8]
-        ensures field { result.now ≡ first self.old }
-        ensures left { self.new ≡ rest self.old }
+        ensures field { result.now ≡ first_field self.old }
+        ensures left { self.new ≡ other_fields self.old }
     {
         if self.left.is_empty() {
             return self.left;
         }
         let (field, left) = cut(self.left, b',');
         self.left = left;
-        trimmed(field)
+        trimmed_text(field)
     }
 
     /// Returns the number of the next field, at most the limit; a missing field has none.
     #[inline(always)]
     pub(crate) fn next_number(&mut self, limit: u32) -> Result<u32, FaultKind>
-        ensures number { result ≡ number limit (first self.old) }
-        ensures left { self.new ≡ rest self.old }
+        ensures number { result ≡ number limit (first_field self.old) }
+        ensures left { self.new ≡ other_fields self.old }
     {
         if let Some((value, after)) = first_digits(line_after_space(self.left)) {
             self.left = after;
-            return within(value, limit);
+            return number_at_most(value, limit);
         }
         let (number, after) = other_number(self.left, limit);
         self.left = after;
@@ -91,8 +91,8 @@ pub(crate) fn cut(text: &[u8], mark: u8) -> (&[u8], &[u8])
 #[cold]
 #[inline(never)]
 fn other_number(line: &[u8], limit: u32) -> (Result<u32, FaultKind>, &[u8])
-    ensures number { result.0 ≡ number limit (first (fields_of line.now)) }
-    ensures left { fields_of result.1.now ≡ rest (fields_of line.now) }
+    ensures number { result.0 ≡ number limit (first_field (fields_of line.now)) }
+    ensures left { fields_of result.1.now ≡ other_fields (fields_of line.now) }
 {
     let mut fields = Fields::new(line);
     let number = number(fields.next(), limit);
@@ -101,8 +101,8 @@ fn other_number(line: &[u8], limit: u32) -> (Result<u32, FaultKind>, &[u8])
 
 /// Refuses the fields that are left, if there are any.
 #[inline]
-pub(crate) fn ended(fields: Fields<'_>) -> Result<(), FaultKind>
-    ensures { result ≡ ended fields.entry }
+pub(crate) fn end_of_fields(fields: Fields<'_>) -> Result<(), FaultKind>
+    ensures { result ≡ end_of_fields fields.entry }
 {
     if fields.is_empty() {
         Ok(())

@@ -2,13 +2,13 @@
 ghost use Rattle.std.specs.Prelude.{◌≡◌, ◌<◌, ℕ, length};
 ghost use Rattle.office_files.specs.Lines.{is_header};
 ghost use Rattle.office_files.specs.Reading.{AnswersField};
-ghost use Rattle.office_files.specs.Headers.{inside_of, closed, plain_header, counted_header};
+ghost use Rattle.office_files.specs.Headers.{inside_of, header_end, plain_header, counted_header};
 ghost use Rattle.office_files.specs.Headers.{header_by};
 
 use crate::fault::FaultKind;
 use crate::numbers::number;
 use crate::words::{same_word, split_once};
-use exam_terms::trimmed;
+use exam_terms::trimmed_text;
 
 /// Judges a header: its word and, if the section has a limit, the number of its lines.
 pub(crate) fn header(
@@ -29,10 +29,10 @@ fn plain_header(word: &[u8], text: &[u8]) -> Result<(), FaultKind>
     ensures { result ≡ plain_header word.now text.now }
 {
     let (inside, after) = inside_of(text)?;
-    if !same_word(trimmed(inside), word) {
+    if !same_word(trimmed_text(inside), word) {
         return Err(FaultKind::MissingSection);
     }
-    closed(after)
+    header_end(after)
 }
 
 // Returns the text between a header's brackets, and the text after them.
@@ -57,10 +57,10 @@ fn is_header(text: &[u8]) -> bool
     }
 }
 
-fn closed(after: &[u8]) -> Result<(), FaultKind>
-    ensures { result ≡ closed after.now }
+fn header_end(after: &[u8]) -> Result<(), FaultKind>
+    ensures { result ≡ header_end after.now }
 {
-    if trimmed(after).is_empty() {
+    if trimmed_text(after).is_empty() {
         Ok(())
     } else {
         Err(FaultKind::StrayText)
@@ -72,15 +72,15 @@ fn counted_header(word: &[u8], limit: u32, lines: usize, text: &[u8]) -> Result<
 {
     let (inside, after) = inside_of(text)?;
     let (name, count) = split_once(inside, b':').ok_or(FaultKind::MissingSection)?;
-    if !same_word(trimmed(name), word) {
+    if !same_word(trimmed_text(name), word) {
         return Err(FaultKind::MissingSection);
     }
-    let count = number(trimmed(count), limit)?;
+    let count = number(trimmed_text(count), limit)?;
     if count == 0 {
         return Err(FaultKind::OutOfRange);
     }
     if count as usize != lines {
         return Err(FaultKind::CountMismatch);
     }
-    closed(after)
+    header_end(after)
 }

@@ -7,7 +7,7 @@ ghost use Rattle.office_files.specs.declared.fault.FaultKind.{FaultKind};
 use crate::counts::Counts;
 use crate::dates::{date_of, time_of};
 use crate::fault::FaultKind;
-use crate::fields::{Fields, ended};
+use crate::fields::{Fields, end_of_fields};
 use crate::rule_word::{rule_by, rule_word};
 use crate::words::same_word;
 use exam_model::{ExamNo, Period, PeriodNo, PeriodRule, Place, Room, RoomNo, RoomRule};
@@ -32,7 +32,7 @@ impl LineItem for Period {
         let (hour, minute, second) = time_of(fields.next())?;
         let length = fields.next_number(MAX_MINUTES)?;
         let penalty = fields.next_number(MAX_AMOUNT)?;
-        ended(fields)?;
+        end_of_fields(fields)?;
         Ok(Period {
             date,
             hour,
@@ -53,7 +53,7 @@ impl LineItem for Room {
         let mut fields = Fields::new(line);
         let capacity = fields.next_number(MAX_AMOUNT)?;
         let penalty = fields.next_number(MAX_AMOUNT)?;
-        ended(fields)?;
+        end_of_fields(fields)?;
         Ok(Room { capacity, penalty })
     }
 }
@@ -72,7 +72,7 @@ impl LineItem for PeriodRule {
         let one = fields.next_number(last)?;
         let word = rule_word(fields.next())?;
         let other = fields.next_number(last)?;
-        ended(fields)?;
+        end_of_fields(fields)?;
         Ok(rule_by(word, one, other))
     }
 }
@@ -91,7 +91,7 @@ impl LineItem for RoomRule {
         if !same_word(fields.next(), b"ROOM_EXCLUSIVE") {
             return Err(FaultKind::BadWord);
         }
-        ended(fields)?;
+        end_of_fields(fields)?;
         Ok(RoomRule(ExamNo::new(exam)))
     }
 }
@@ -108,7 +108,7 @@ impl LineItem for Place {
         let mut fields = Fields::new(line);
         let period = fields.next_number(counts.periods.saturating_sub(1))?;
         let room = fields.next_number(counts.rooms.saturating_sub(1))?;
-        ended(fields)?;
+        end_of_fields(fields)?;
         Ok(Place {
             period: PeriodNo::new(period),
             room: RoomNo::new(room),

@@ -7,7 +7,7 @@ ghost use Rattle.exam_model.specs.Timetable.{Placing, place_of};
 ghost use Rattle.office_files.specs.CanonicalText.{canonical_instance};
 ghost use Rattle.office_files.specs.CanonicalSolution.{canonical_solution, SuitsTimetable};
 ghost use Rattle.office_files.specs.Names.{name_student};
-ghost use Rattle.office_files.specs.Fields.{fields_of, rest};
+ghost use Rattle.office_files.specs.Fields.{fields_of, other_fields};
 ghost use Rattle.office_files.specs.Reading.{fault_of};
 ghost use Rattle.office_files.specs.FirstFault.{first_fault, first_solution_fault};
 ghost use Rattle.office_files.specs.InstanceText.{InstanceText, instance_in};
@@ -26,7 +26,7 @@ pub fn one_instance()
 pub fn sits_as_named()
     ensures { (b : List ℕ) (I : Session) (E : Enrolled) (s e : ℕ) (line : Located)
         → InstanceText b I E → e < length I.exams → slice_get (lines_of b) (e + 1) ≡ Some line
-        → has E s e ≡ name_student (rest (fields_of line.text)) s }
+        → has E s e ≡ name_student (other_fields (fields_of line.text)) s }
 {}
 
 /// Each weight, by a text, is the number on the line of its word, and 0 if the section has no such

@@ -2,9 +2,9 @@
 ghost use Rattle.std.specs.Prelude.{◌≡◌, ◌<◌, ◌≤◌, ◌++◌, ◌∷◌, [], All, IsTrue, OnOk, decimal, string_bytes};
 ghost use Rattle.exam_calendar.specs.Dates.{is_civil};
 ghost use Rattle.exam_model.specs.Limits.{PeriodInLimits};
-ghost use Rattle.office_files.specs.CanonicalLines.{line_of, before, two_digits, date_text};
+ghost use Rattle.office_files.specs.CanonicalLines.{line_of, field_before, two_digits, date_text};
 ghost use Rattle.office_files.specs.CanonicalLines.{time_text, exam_text, period_text};
-ghost use Rattle.office_files.specs.CanonicalLines.{period_rule_text, room_rule_text, weighed};
+ghost use Rattle.office_files.specs.CanonicalLines.{period_rule_text, room_rule_text, word_and_number};
 ghost use Rattle.office_files.specs.CanonicalLines.{weighting_text};
 
 use crate::weightings::Weighting;
@@ -29,7 +29,7 @@ pub(crate) fn add_period(text: &mut String, period: &Period) -> Result<(), Alloc
 /// Adds a line of two numbers.
 pub(crate) fn add_pair(text: &mut String, one: u32, other: u32) -> Result<(), AllocError>
     ensures { OnOk result (string_bytes text.new
-        ≡ string_bytes text.old ++ line_of (before (decimal one) (decimal other))) }
+        ≡ string_bytes text.old ++ line_of (field_before (decimal one) (decimal other))) }
 {
     write!(text, "{one}, {other}\r\n")
 }
@@ -86,7 +86,7 @@ pub(crate) fn add_period_rule(text: &mut String, rule: PeriodRule) -> Result<(),
 // Adds the line of a word between two exams.
 fn add_rule(text: &mut String, one: ExamNo, word: &str, other: ExamNo) -> Result<(), AllocError>
     ensures { OnOk result (string_bytes text.new ≡ string_bytes text.old
-        ++ line_of (before (decimal one) (before word.now (decimal other)))) }
+        ++ line_of (field_before (decimal one) (field_before word.now (decimal other)))) }
 {
     let one = one.get();
     let other = other.get();
@@ -104,7 +104,7 @@ pub(crate) fn add_room_rule(text: &mut String, rule: RoomRule) -> Result<(), All
 // Adds the line of a word after an exam.
 fn add_word(text: &mut String, exam: ExamNo, word: &str) -> Result<(), AllocError>
     ensures { OnOk result (string_bytes text.new
-        ≡ string_bytes text.old ++ line_of (before (decimal exam) word.now)) }
+        ≡ string_bytes text.old ++ line_of (field_before (decimal exam) word.now)) }
 {
     let exam = exam.get();
     write!(text, "{exam}, {word}\r\n")
@@ -130,7 +130,8 @@ pub(crate) fn add_weighting(text: &mut String, said: Weighting) -> Result<(), Al
 // Adds the line of a word and its number.
 fn add_weighed(text: &mut String, word: &str, number: u32) -> Result<(), AllocError>
     ensures { OnOk result
-        (string_bytes text.new ≡ string_bytes text.old ++ line_of (weighed word.now number)) }
+        (string_bytes text.new
+        ≡ string_bytes text.old ++ line_of (word_and_number word.now number)) }
 {
     write!(text, "{word},{number}\r\n")
 }

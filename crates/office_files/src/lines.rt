@@ -3,7 +3,7 @@ ghost use Rattle.std.specs.Prelude.{◌≡◌, ◌<◌, ◌≤◌, ◌+◌, ◌�
 ghost use Rattle.std.specs.Prelude.{MatchOption, IfSome};
 ghost use Rattle.exam_terms.specs.declared.limits.TheConstants.{INSTANCE_BYTES};
 ghost use Rattle.office_files.specs.Fields.{ended_parts};
-ghost use Rattle.office_files.specs.Lines.{Located, placed, without_return, located, lines_from};
+ghost use Rattle.office_files.specs.Lines.{Located, pieces_from, without_return, trimmed_piece, lines_from};
 ghost use Rattle.office_files.specs.Lines.{lines_of, line_count, section_size, HasPlaces};
 ghost use Rattle.office_files.specs.Tokens.{token_of};
 
@@ -66,7 +66,7 @@ pub(crate) struct Lines<'a> {
 impl<'a> Model for Lines<'a> {
     ghost Value = { List Located };
 
-    ghost view = { λ s. lines_from s.line (placed s.at (ended_parts 10 s.left.now)) };
+    ghost view = { λ s. lines_from s.line (pieces_from s.at (ended_parts 10 s.left.now)) };
 
     ghost invariant = { λ s. HasPlaces s.line s.at s.left.now };
 }
@@ -94,7 +94,7 @@ impl<'a> Lines<'a> {
     {
         while !self.left.is_empty() {
             let (first, left) = cut_line(self.left);
-            let row = located(self.line, self.at, without_return(first));
+            let row = trimmed_token(self.line, self.at, without_return(first));
             self.left = left;
             self.at = self.at + first.len() + 1;
             self.line += 1;
@@ -129,9 +129,10 @@ impl<'a> Lines<'a> {
 
 /// Returns a piece of a line, which starts at that index of the text, without the blanks around it.
 #[inline]
-pub(crate) fn located(line: u32, start: usize, text: &[u8]) -> Token<'_>
+pub(crate) fn trimmed_token(line: u32, start: usize, text: &[u8]) -> Token<'_>
     requires { start + length text.now ≤ INSTANCE_BYTES + 1 }
-    ensures token { token_of result ≡ located line (record { start = start; text = text.now }) }
+    ensures token { token_of result
+        ≡ trimmed_piece line (record { start = start; text = text.now }) }
     ensures within { result.end ≤ start + length text.now }
 {
     let front = trim_start(text);

@@ -9,7 +9,7 @@ const PAST_ALL: u64 = 1 << 32;
 
 /// Returns the number, if it is at most the limit.
 #[inline]
-pub(crate) fn within(value: u32, limit: u32) -> Result<u32, FaultKind>
+pub(crate) fn number_at_most(value: u32, limit: u32) -> Result<u32, FaultKind>
     ensures { result ≡ at_most limit value }
 {
     if value > limit {

@@ -5,7 +5,7 @@ ghost use Rattle.office_files.specs.Faults.{HasNoLine};
 ghost use Rattle.office_files.specs.Lines.{Located, lines_of, line_count, section_size};
 ghost use Rattle.office_files.specs.Reading.{AnswersReading, items_of};
 ghost use Rattle.office_files.specs.Headers.{Heading};
-ghost use Rattle.office_files.specs.Sections.{opened, section_in};
+ghost use Rattle.office_files.specs.Sections.{lines_after_header, section_in};
 ghost use Rattle.office_files.specs.InstanceText.{no_more};
 ghost use Rattle.office_files.specs.Tokens.{token_of};
 
@@ -76,12 +76,12 @@ impl<'a> Sections<'a> {
     #[tactic(auto, using(crate::proofs::SectionLemmas::section_facts))]
     pub(crate) fn open(&mut self, word: &[u8], limit: Option<u32>) -> Result<usize, FileFault>
         requires within { length self.old.source.now ≤ INSTANCE_BYTES }
-        ensures opened { OnOk result (opened (record { word = word.now; limit = limit })
+        ensures opened { OnOk result (lines_after_header (record { word = word.now; limit = limit })
             (line_count self.old.source.now + 1) self.old.lines ≡ Ok self.new.lines) }
         ensures size { IfOk result (λ size. size ≡ section_size self.new.lines) }
         ensures there { IfOk result (λ size. size ≤ length self.new.lines) }
         ensures fault { IfErr result (λ fault. fault.what ≢ FaultKind.NoMemory
-            → opened (record { word = word.now; limit = limit })
+            → lines_after_header (record { word = word.now; limit = limit })
             (line_count self.old.source.now + 1) self.old.lines ≡ Err fault) }
         ensures same { self.new.source.now ≡ self.old.source.now }
         ensures memory { IfErr result HasNoLine }

@@ -7,7 +7,7 @@ ghost use Rattle.office_files.specs.Lines.{Located};
 ghost use Rattle.office_files.specs.Tokens.{token_of, tokens_of, tokens_left, IsSliceOf, AreInRow};
 
 use crate::fields::cut;
-use crate::lines::{Lines, Token, located};
+use crate::lines::{Lines, Token, trimmed_token};
 use std::marker::Model;
 
 /// The fields of a text, in their order, each without the blanks around it.
@@ -69,7 +69,7 @@ impl<'a> Iterator for Tokens<'a> {
             self.fields = row.text;
         }
         let (field, others) = cut(self.fields, b',');
-        let token = located(self.line, self.at, field);
+        let token = trimmed_token(self.line, self.at, field);
         self.at = self.at + field.len() + 1;
         self.fields = others;
         Some(token)

@@ -7,7 +7,7 @@ ghost use Rattle.office_files.specs.Weights.{with_weighting, with_weightings, no
 
 use crate::counts::Counts;
 use crate::fault::FaultKind;
-use crate::fields::{Fields, ended};
+use crate::fields::{Fields, end_of_fields};
 use crate::items::LineItem;
 use crate::numbers::number;
 use crate::words::same_word;
@@ -111,7 +111,7 @@ fn amount_in(mut fields: Fields<'_>) -> Result<u32, FaultKind>
     ensures { result ≡ amount_in fields.entry }
 {
     let amount = number(fields.next(), MAX_AMOUNT)?;
-    ended(fields)?;
+    end_of_fields(fields)?;
     Ok(amount)
 }
 
@@ -121,7 +121,7 @@ fn front_in(mut fields: Fields<'_>) -> Result<Weighting, FaultKind>
     let exams = number(fields.next(), MAX_AMOUNT)?;
     let periods = number(fields.next(), MAX_AMOUNT)?;
     let weight = number(fields.next(), MAX_AMOUNT)?;
-    ended(fields)?;
+    end_of_fields(fields)?;
     Ok(Weighting::Front(exams, periods, weight))
 }
 

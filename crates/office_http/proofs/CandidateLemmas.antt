@@ -7,7 +7,7 @@ use Rattle.office_messages.specs.Stream.{PlainRequest}
 use Rattle.office_policy.specs.Commands.{PlainCommand}
 use Rattle.office_policy.specs.declared.callers.Caller.TheVariants.{Cand}
 use Rattle.office_requests.specs.Methods.{verb_of}
-use Rattle.office_requests.specs.Requests.{PlainCallerCommand, command_by, caller_in, own_command, reading}
+use Rattle.office_requests.specs.Requests.{PlainCallerCommand, command_by, caller_in, own_command, command_or_refusal}
 use Rattle.office_requests.specs.declared.requests.Refusal.{Refusal}
 use Rattle.office_requests.specs.declared.requests.Refusal.TheVariants as refusal
 use Rattle.office_model.specs.Office.{OfficeState}
@@ -30,7 +30,7 @@ said_is s None = refl
 said_is s (Some command) = refl
 
 pub own_reading : (s : ℕ) (request : PlainRequest) → caller_in request.caller ≡ Some (Cand s)
-    → reading request.method request.target request.caller request.body
+    → command_or_refusal request.method request.target request.caller request.body
     ≡ said_by s (own_command (verb_of request.method) request.target)
 own_reading s request is =
     ap (λ found. else_err refusal.Caller found >>= (λ who.

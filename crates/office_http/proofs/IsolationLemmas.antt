@@ -19,7 +19,7 @@ use Rattle.office_policy.specs.Commands.{PlainCommand}
 use Rattle.office_policy.specs.declared.callers.Caller.{Caller}
 use Rattle.office_policy.specs.declared.callers.Caller.TheVariants.{Cand, Dept, Office}
 use Rattle.office_requests.specs.Methods.{verb_of}
-use Rattle.office_requests.specs.Requests.{PlainCallerCommand, caller_in, own_command, reading}
+use Rattle.office_requests.specs.Requests.{PlainCallerCommand, caller_in, own_command, command_or_refusal}
 use Rattle.office_requests.specs.declared.requests.Refusal.{Refusal}
 use Rattle.office_model.specs.Office.{OfficeState}
 use Rattle.office_model.specs.Quiet.{IsQuiet, KeepsPublication}
@@ -90,7 +90,7 @@ pub quiet_leaves : (s : ℕ) (old new : OfficeState) (request : PlainRequest) (r
     → (trace : Replies old request reply new) → IsQuietFor s (entry old request reply new trace)
     → view_of s new ≡ view_of s old
 quiet_leaves s old new request reply trace q =
-    quiet_said s (reading request.method request.target request.caller request.body) old new reply
+    quiet_said s (command_or_refusal request.method request.target request.caller request.body) old new reply
     trace q
 
 -- ---- whether a message is the candidate's
@@ -316,7 +316,7 @@ runs s (fails fault form ∷ items) old new output (rest, is, trace) keeps =
 runs s (asks request ∷ items) old new output (mid, reply, rest, step, is, trace) keeps =
     let first = entry old request reply mid step in
     let later = transcript items mid rest new trace in
-    one_more s (reading request.method request.target request.caller request.body) old mid new reply
+    one_more s (command_or_refusal request.method request.target request.caller request.body) old mid new reply
     step (changes_to_candidate s later) (exchanges later)
     (All-head LeavesPublication first later keeps)
     (runs s items mid new rest trace (All-tail LeavesPublication first later keeps))

@@ -7,7 +7,7 @@ use Rattle.office_messages.specs.Reply.{PlainReply}
 use Rattle.office_messages.specs.Stream.{PlainRequest}
 use Rattle.office_messages.specs.declared.request.Request.{Request}
 use Rattle.office_messages.specs.declared.statuses.Status.TheVariants as status
-use Rattle.office_requests.specs.Requests.{PlainCallerCommand, reading}
+use Rattle.office_requests.specs.Requests.{PlainCallerCommand, command_or_refusal}
 use Rattle.office_requests.specs.declared.requests.Refusal.{Refusal}
 use Rattle.office_model.specs.Office.{OfficeState}
 use Rattle.office_model.specs.Step.{Outcome}
@@ -36,7 +36,7 @@ after_asked (Ok asked) old new reply (answer, step, is) available = elim step [
 pub after : (old new : OfficeState) (request : PlainRequest) (reply : PlainReply)
     → Replies old request reply new → IsAvailable reply → new ≡ office_after old request
 after old new request reply h =
-    after_asked (reading request.method request.target request.caller request.body) old new reply h
+    after_asked (command_or_refusal request.method request.target request.caller request.body) old new reply h
 
 pub text : (office : OfficeState) (request : PlainRequest) (reply : PlainReply)
     → RepliesCandidateView office request reply → IsAvailable reply

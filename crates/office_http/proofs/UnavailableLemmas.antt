@@ -10,13 +10,13 @@ use Rattle.office_messages.specs.Stream.{PlainRequest}
 use Rattle.office_policy.specs.Commands.{PlainCommand, load, set_owner, new_draft, drop_draft}
 use Rattle.office_policy.specs.Commands.{place, move, clear, swap, publish, batch}
 use Rattle.office_policy.specs.declared.command.Body.TheVariants.{Given}
-use Rattle.office_requests.specs.Requests.{PlainCallerCommand, reading}
+use Rattle.office_requests.specs.Requests.{PlainCallerCommand, command_or_refusal}
 use Rattle.office_requests.specs.declared.requests.Refusal.{Refusal}
 use Rattle.office_model.specs.Answers.{PlainAnswer}
 use Rattle.office_model.specs.Batches.{batch_enrolled}
-use Rattle.office_model.specs.Commands.{owned}
+use Rattle.office_model.specs.Commands.{set_owner_result}
 use Rattle.office_model.specs.DraftCommands.{draft_made, draft_dropped, draft_edited}
-use Rattle.office_model.specs.Loading.{loaded}
+use Rattle.office_model.specs.Loading.{load_session}
 use Rattle.office_model.specs.Office.{OfficeState}
 use Rattle.office_model.specs.Publishing.{draft_published}
 use Rattle.office_model.specs.Step.{Outcome}
@@ -36,9 +36,9 @@ edits old d change = any_ok _ (draft_edited d change old) (λ x q. absurd (true�
 changes : (old : OfficeState) (command : PlainCommand)
     → Keeps (λ new. new ≡ old) Is503 old command
 changes old (load (Given bytes)) =
-    any_ok _ (loaded bytes old) (λ x q. absurd (true≢false (sym q)))
+    any_ok _ (load_session bytes old) (λ x q. absurd (true≢false (sym q)))
 changes old (set_owner exam (Given dept)) =
-    any_ok _ (owned exam dept old) (λ x q. absurd (true≢false (sym q)))
+    any_ok _ (set_owner_result exam dept old) (λ x q. absurd (true≢false (sym q)))
 changes old (new_draft d (Given bytes)) =
     any_ok _ (draft_made d bytes old) (λ x q. absurd (true≢false (sym q)))
 changes old (drop_draft d) = any_ok _ (draft_dropped d old) (λ x q. absurd (true≢false (sym q)))
@@ -68,6 +68,6 @@ leaves_by (Ok asked) old new reply (answer, step, trace) is = elim step [
 pub unavailable_leaves : (old new : OfficeState) (request : PlainRequest) (reply : PlainReply)
     → Replies old request reply new → code_of reply.status ≡ 503 → new ≡ old
 unavailable_leaves old new request reply trace is =
-    leaves_by (reading request.method request.target request.caller request.body) old new reply
+    leaves_by (command_or_refusal request.method request.target request.caller request.body) old new reply
     trace
     is

@@ -12,12 +12,12 @@ use Rattle.office_policy.specs.Commands.{PlainCommand}
 use Rattle.office_policy.specs.declared.callers.Caller.TheVariants.{Cand}
 use Rattle.office_policy.specs.declared.policy.Denial.TheVariants.{P1}
 use Rattle.office_requests.specs.Methods.{verb_of}
-use Rattle.office_requests.specs.Requests.{PlainCallerCommand, caller_in, own_command, reading}
+use Rattle.office_requests.specs.Requests.{PlainCallerCommand, caller_in, own_command, command_or_refusal}
 use Rattle.office_requests.specs.Answering.{refusal_reply}
 use Rattle.office_requests.specs.Texts.{error_reply}
 use Rattle.office_requests.specs.declared.texts.FixedError.TheVariants.{Denied}
 use Rattle.office_requests.specs.declared.requests.Refusal.{Refusal}
-use Rattle.office_model.specs.Answers.{PlainAnswer, shows}
+use Rattle.office_model.specs.Answers.{PlainAnswer, has_stored_data}
 use Rattle.office_model.specs.Office.{OfficeState}
 use Rattle.office_model.specs.Step.{Steps}
 use Rattle.office_model.specs.Views.{View, view_of}
@@ -36,11 +36,13 @@ RepliesTo (Err refusal) old reply new = (new ≡ old) × (reply ≡ refusal_repl
 -- the office replies so to a request, and goes from the first state to the second
 abbrev pub Replies : OfficeState → PlainRequest → PlainReply → OfficeState → Type 0
 Replies old request reply new =
-    RepliesTo (reading request.method request.target request.caller request.body) old reply new
+    RepliesTo (command_or_refusal request.method request.target request.caller request.body)
+    old reply new
 
 -- the reply to an answer, or `unavailable` if memory runs out for an answer that shows something
 abbrev pub IsReplyOf : PlainAnswer → PlainReply → Type 0
-IsReplyOf answer reply = (reply ≡ reply_to answer) ⊎ ((shows answer ≡ true) × (reply ≡ unavailable))
+IsReplyOf answer reply =
+    (reply ≡ reply_to answer) ⊎ ((has_stored_data answer ≡ true) × (reply ≡ unavailable))
 
 -- the request was done: 200 or 201
 abbrev pub IsDone : Status → Type 0

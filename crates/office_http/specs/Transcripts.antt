@@ -5,7 +5,7 @@ use Rattle.office_messages.specs.Messages.{Item, asks, fails}
 use Rattle.office_messages.specs.Serve.{Serves, AnswersItems}
 use Rattle.office_messages.specs.Stream.{PlainRequest}
 use Rattle.office_messages.specs.declared.connection.Served.{Served}
-use Rattle.office_requests.specs.Requests.{PlainCallerCommand, reading}
+use Rattle.office_requests.specs.Requests.{PlainCallerCommand, command_or_refusal}
 use Rattle.office_requests.specs.declared.requests.Refusal.{Refusal}
 use Rattle.office_model.specs.Office.{OfficeState}
 use Rattle.office_model.specs.Runs.{Exchange}
@@ -33,7 +33,8 @@ abbrev pub entry : (old : OfficeState) (request : PlainRequest) (reply : PlainRe
 entry old request reply new trace = record {
   office = old;
   request = request;
-  asked = exchange_in (reading request.method request.target request.caller request.body) old reply
+  asked = exchange_in
+      (command_or_refusal request.method request.target request.caller request.body) old reply
       new trace;
   reply = reply;
 }

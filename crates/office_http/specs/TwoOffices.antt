@@ -5,7 +5,7 @@ use Rattle.office_messages.specs.Heads.{plain_request}
 use Rattle.office_messages.specs.Reply.{PlainReply}
 use Rattle.office_messages.specs.Stream.{PlainRequest}
 use Rattle.office_messages.specs.declared.request.Request.{Request}
-use Rattle.office_requests.specs.Requests.{PlainCallerCommand, reading}
+use Rattle.office_requests.specs.Requests.{PlainCallerCommand, command_or_refusal}
 use Rattle.office_requests.specs.declared.requests.Refusal.{Refusal}
 use Rattle.office_model.specs.Office.{OfficeState}
 use Rattle.office_model.specs.Step.{step}
@@ -21,7 +21,8 @@ office_after_command office (Err refusal) = office
 -- the office after a request
 abbrev pub office_after : OfficeState → PlainRequest → OfficeState
 office_after office request =
-    office_after_command office (reading request.method request.target request.caller request.body)
+    office_after_command office
+    (command_or_refusal request.method request.target request.caller request.body)
 
 -- the office that these requests lead to, one after another, from the office without a session
 abbrev pub office_of : List Request → OfficeState

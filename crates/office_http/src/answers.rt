@@ -1,7 +1,7 @@
 // Answers of the desk as replies.
 ghost use Rattle.std.specs.Prelude.{◌≡◌, ◌≤◌, IfOk, true, vec_capacity};
 ghost use Rattle.office_messages.specs.Reply.{plain_reply};
-ghost use Rattle.office_model.specs.Answers.{PlainAnswer, shows};
+ghost use Rattle.office_model.specs.Answers.{PlainAnswer, has_stored_data};
 ghost use Rattle.office_replies.specs.Replies.{reply_to};
 ghost use Rattle.office_desk.specs.Answers.{plain_answer};
 ghost use Rattle.office_http.specs.Replying.{IsReplyOf};
@@ -50,7 +50,7 @@ pub(crate) fn answer_reply(alloc: Global, room: Vec<u8>, answer: Answer) -> Repl
 
 // Returns the reply that shows something, or the one that says that the office is unavailable.
 fn reply_or_unavailable(made: Result<Reply, AllocError>) -> Reply
-    ensures { (answer : PlainAnswer) → shows answer ≡ true
+    ensures { (answer : PlainAnswer) → has_stored_data answer ≡ true
         → IfOk made (λ reply. plain_reply reply ≡ reply_to answer)
         → IsReplyOf answer (plain_reply result) }
 {

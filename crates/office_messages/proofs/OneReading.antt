@@ -15,7 +15,7 @@ use Rattle.office_messages.specs.Framing.{framing}
 use Rattle.office_messages.specs.Form.{form_of}
 use Rattle.office_messages.specs.Stream.{PlainRequest, HasHead, RequestAt}
 use Rattle.office_messages.specs.StreamFaults.{HeadFault, FaultAt}
-use Rattle.office_messages.specs.Stream.{fields_of, request_of, closes}
+use Rattle.office_messages.specs.Stream.{fields_of, request_of, is_last_message}
 use Rattle.office_messages.specs.HeadEnds.{HasEnd}
 use Rattle.office_messages.specs.StreamFaults.{Unfinished}
 use Rattle.office_messages.specs.Messages.{Item, asks, fails, Ends, Messages, Begins, Differs}
@@ -100,7 +100,7 @@ one_request r q a b s rest left x y =
       x.request ∙ ap (λ (p : RequestHead × (ℕ × List ℕ)). request_of p.0 (take p.1.0 p.1.1))
           (let t : ◌≡◌ {A = RequestHead × (ℕ × List ℕ)} (x.head, (x.size, x.after))
           (y.head, (y.size, y.after)) = cc in t) ∙ sym y.request,
-      x.closing ∙ ap (λ (h : RequestHead). closes h) same.0 ∙ sym y.closing,
+      x.closing ∙ ap (λ (h : RequestHead). is_last_message h) same.0 ∙ sym y.closing,
       x.rest_is ∙ ap (λ (p : ℕ × List ℕ). drop p.0 p.1)
           (let t : ◌≡◌ {A = ℕ × List ℕ} (x.size, x.after) (y.size, y.after) = cc in t)
           ∙ sym y.rest_is,

@@ -7,7 +7,7 @@ use Rattle.httparse.specs.declared.spans.Span.{Span}
 use Rattle.office_messages.specs.Fields.{Header, values_named}
 use Rattle.office_messages.specs.Form.{form_of}
 use Rattle.office_messages.specs.Framing.{framing}
-use Rattle.office_messages.specs.Stream.{PlainRequest, HasHead, fields_of, caller_of, closes}
+use Rattle.office_messages.specs.Stream.{PlainRequest, HasHead, fields_of, caller_of, is_last_message}
 use Rattle.office_messages.specs.declared.fields.Seen.{Seen}
 use Rattle.office_messages.specs.declared.fields.Seen.TheVariants.{Absent, Once, Repeated}
 use Rattle.office_messages.specs.declared.framing.FramingFields.{FramingFields}
@@ -50,7 +50,7 @@ pub record IsHeadOf (bytes : List ℕ) (x : Head) (h : RequestHead) : Type 0 whe
   pub method : Covers bytes x.method h.method
   pub target : Covers bytes x.target h.target
   pub caller : CallerAt bytes x.caller (caller_of h)
-  pub closing : x.closes ≡ closes h
+  pub closing : x.closes ≡ is_last_message h
   pub start : x.body.start ≡ length (print_request h)
   pub ordered : x.body.start ≤ x.body.end
   pub framed : framing h.minor (fields_of h) ≡ Ok (x.body.end - x.body.start)

@@ -23,10 +23,10 @@ pub record PlainRequest : Type 0 where
   pub body : List ℕ
 
 -- the one value, if there is exactly one
-abbrev pub only : List (List ℕ) → Option (List ℕ)
-only [] = None
-only (v ∷ []) = Some v
-only (v ∷ w ∷ vs) = None
+abbrev pub only_value : List (List ℕ) → Option (List ℕ)
+only_value [] = None
+only_value (v ∷ []) = Some v
+only_value (v ∷ w ∷ vs) = None
 
 -- the names and values of a head
 abbrev pub fields_of : RequestHead → List Header
@@ -34,11 +34,11 @@ fields_of h = map name_and_value h.fields
 
 -- the value of X-Caller, if it is there exactly once
 abbrev pub caller_of : RequestHead → Option (List ℕ)
-caller_of h = only (values_named (codes "x-caller") (fields_of h))
+caller_of h = only_value (values_named (codes "x-caller") (fields_of h))
 
 -- the head makes its message the last of the connection
-abbrev pub closes : RequestHead → Bool
-closes h = (h.minor == 0) || list_any asks_to_close (fields_of h)
+abbrev pub is_last_message : RequestHead → Bool
+is_last_message h = (h.minor == 0) || list_any asks_to_close (fields_of h)
 
 -- the request of a head and a body
 abbrev pub request_of : RequestHead → List ℕ → PlainRequest
@@ -64,5 +64,5 @@ pub record RequestAt (r : PlainRequest) (last : Bool) (stream rest : List ℕ) :
   pub framed : framing head.minor (fields_of head) ≡ Ok size
   pub whole : size ≤ length after
   pub request : r ≡ request_of head (take size after)
-  pub closing : last ≡ closes head
+  pub closing : last ≡ is_last_message head
   pub rest_is : rest ≡ drop size after

@@ -4,7 +4,7 @@ ghost use Rattle.std.specs.List.{list_any};
 ghost use Rattle.httparse.specs.Spans.{IsWithin, IsHeaderWithin, span_bytes, header_bytes};
 ghost use Rattle.office_messages.specs.Fields.{asks_to_close, value_if_named, values_named};
 ghost use Rattle.office_messages.specs.Heads.{Sees, CallerAt};
-ghost use Rattle.office_messages.specs.Stream.{only};
+ghost use Rattle.office_messages.specs.Stream.{only_value};
 
 use crate::names::{is_same_name, lists};
 use httparse::spans::{HeaderSpan, Span};
@@ -18,7 +18,7 @@ pub(crate) enum Seen {
 }
 
 impl Seen {
-    fn and(self, value: Span) -> Seen
+    fn with_value(self, value: Span) -> Seen
         ensures { (bytes : List ℕ) (values : List (List ℕ)) → IsWithin (length bytes) value
             → Sees bytes values self → Sees bytes (values ++ span_bytes bytes value ∷ []) result }
     {
@@ -50,16 +50,16 @@ fn with_header(bytes: &[u8], header: HeaderSpan, name: &[u8], seen: Seen) -> See
         result }
 {
     if is_same_name(header.name.of(bytes), name) {
-        seen.and(header.value)
+        seen.with_value(header.value)
     } else {
         seen
     }
 }
 
 /// Returns the one value, if there is exactly one.
-pub(crate) fn only(seen: Seen) -> Option<Span>
+pub(crate) fn only_value(seen: Seen) -> Option<Span>
     ensures { (bytes : List ℕ) (values : List (List ℕ)) → Sees bytes values seen
-        → CallerAt bytes result (only values) }
+        → CallerAt bytes result (only_value values) }
 {
     match seen {
         Seen::Once(value) => Some(value),

@@ -76,7 +76,7 @@ fn length_of(value: &[u8]) -> Result<usize, Fault>
     if value.is_empty() || !are_digits(value) {
         return Err(Fault::Length);
     }
-    let n = saturated(value);
+    let n = saturated_number(value);
     if n > MAX_BODY {
         return Err(Fault::TooLong);
     }
@@ -91,7 +91,7 @@ fn are_digits(bytes: &[u8]) -> bool
 }
 
 // Returns the value of the digits, or `MAX_BODY` + 1 if it is greater than `MAX_BODY`.
-fn saturated(digits: &[u8]) -> usize
+fn saturated_number(digits: &[u8]) -> usize
     requires { list_all is_ascii_digit digits.now ≡ true }
     ensures { result ≡ min (digits_value 10 digits.now) (MAX_BODY + 1) }
 {

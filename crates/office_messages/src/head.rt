@@ -6,7 +6,7 @@ ghost use Rattle.httparse.specs.Spans.{IsRequestAt, IsRequestWithin, span_bytes}
 ghost use Rattle.office_messages.specs.Heads.{IsHeadOf, IsBadHead, HeadAt, CallerAt, plain_request};
 ghost use Rattle.office_messages.specs.Stream.{RequestAt, max_head};
 
-use crate::fields::{any_asks_to_close, find, only};
+use crate::fields::{any_asks_to_close, find, only_value};
 use crate::form::Form;
 use crate::framing::{Fault, FramingFields, framing};
 use crate::request::Request;
@@ -55,7 +55,7 @@ pub(crate) fn head_of(
         Ok(size) => Ok(Head {
             method: spans.method,
             target: spans.path,
-            caller: only(find(bytes, headers, b"x-caller")),
+            caller: only_value(find(bytes, headers, b"x-caller")),
             closes: spans.version == 0 || any_asks_to_close(bytes, headers),
             body: Span {
                 start,

@@ -47,18 +47,18 @@ impl<'a> Iterator for Names<'a> {
         match rest.iter().position(|b| *b == b',') {
             Some(comma) => {
                 self.rest = Some(&rest[comma + 1..]);
-                Some(trimmed(&rest[..comma]))
+                Some(trimmed_name(&rest[..comma]))
             }
             None => {
                 self.rest = None;
-                Some(trimmed(rest))
+                Some(trimmed_name(rest))
             }
         }
     }
 }
 
 #[tactic(auto, unfolding(httparse::specs::Grammar::trim_ows))]
-fn trimmed(text: &[u8]) -> &[u8]
+fn trimmed_name(text: &[u8]) -> &[u8]
     ensures { result.now ≡ trim_ows text.now }
 {
     trimmed_end(trimmed_start(text))

@@ -7,12 +7,12 @@ use Rattle.office_policy.specs.Commands.{place, move, clear, swap, publish, batc
 use Rattle.office_policy.specs.declared.command.Body.TheVariants.{Given}
 use Rattle.office_policy.specs.declared.callers.Caller.{Caller}
 use Rattle.office_policy.specs.declared.callers.Caller.TheVariants.{Cand}
-use Rattle.office_model.specs.Answers.{PlainAnswer, shows}
+use Rattle.office_model.specs.Answers.{PlainAnswer, has_stored_data}
 use Rattle.office_model.specs.Batches.{batch_enrolled}
 use Rattle.office_model.specs.Candidates.{answer_to}
-use Rattle.office_model.specs.Commands.{owned}
+use Rattle.office_model.specs.Commands.{set_owner_result}
 use Rattle.office_model.specs.DraftCommands.{draft_made, draft_dropped, draft_edited}
-use Rattle.office_model.specs.Loading.{loaded}
+use Rattle.office_model.specs.Loading.{load_session}
 use Rattle.office_model.specs.Publishing.{draft_published}
 use Rattle.office_model.specs.Office.{OfficeState}
 use Rattle.office_model.specs.Step.{Steps, step, Outcome}
@@ -33,14 +33,14 @@ same_answered s one other command h =
 
 -- no change has an answer that shows something
 edits : (old : OfficeState) (d : ℕ) (change : Edit)
-    → EditKeeps (λ new. new ≡ old) (λ answer. shows answer ≡ true) old d change
+    → EditKeeps (λ new. new ≡ old) (λ answer. has_stored_data answer ≡ true) old d change
 edits old d change = any_ok _ (draft_edited d change old) (λ x q. absurd (true≢false (sym q)))
 
 shown : (old : OfficeState) (command : PlainCommand)
-    → Keeps (λ new. new ≡ old) (λ answer. shows answer ≡ true) old command
-shown old (load (Given bytes)) = any_ok _ (loaded bytes old) (λ x q. absurd (true≢false (sym q)))
+    → Keeps (λ new. new ≡ old) (λ answer. has_stored_data answer ≡ true) old command
+shown old (load (Given bytes)) = any_ok _ (load_session bytes old) (λ x q. absurd (true≢false (sym q)))
 shown old (set_owner exam (Given dept)) =
-    any_ok _ (owned exam dept old) (λ x q. absurd (true≢false (sym q)))
+    any_ok _ (set_owner_result exam dept old) (λ x q. absurd (true≢false (sym q)))
 shown old (new_draft d (Given bytes)) =
     any_ok _ (draft_made d bytes old) (λ x q. absurd (true≢false (sym q)))
 shown old (drop_draft d) = any_ok _ (draft_dropped d old) (λ x q. absurd (true≢false (sym q)))
@@ -54,9 +54,9 @@ shown old (batch number (Given bytes)) =
 shown old _ = tt
 
 pub shown_stays : (old new : OfficeState) (caller : Caller) (command : PlainCommand)
-    (answer : PlainAnswer) → Steps old caller command answer new → shows answer ≡ true → new ≡ old
+    (answer : PlainAnswer) → Steps old caller command answer new → has_stored_data answer ≡ true → new ≡ old
 shown_stays old new caller command answer (inl is) q =
     ap (λ (o : Outcome). o.0) is
-    ∙ step_law (λ new. new ≡ old) (λ answer. shows answer ≡ true) old refl caller command
-    (shown old command) (sym (ap (λ (o : Outcome). shows o.1) is) ∙ q)
+    ∙ step_law (λ new. new ≡ old) (λ answer. has_stored_data answer ≡ true) old refl caller command
+    (shown old command) (sym (ap (λ (o : Outcome). has_stored_data o.1) is) ∙ q)
 shown_stays old new caller command answer (inr k) q = k.0

@@ -10,7 +10,7 @@ use Rattle.office_policy.specs.declared.policy.Denial.{Denial}
 use Rattle.office_model.specs.Answers.{PlainAnswer, now_enrolled}
 use Rattle.office_model.specs.Batches.{batch_enrolled, changes_to, lines_if_new, batch_of_number}
 use Rattle.office_model.specs.Commands.{CommandResult}
-use Rattle.office_model.specs.Loading.{loaded}
+use Rattle.office_model.specs.Loading.{load_session}
 use Rattle.office_model.specs.Office.{OfficeState}
 use Rattle.office_model.specs.Publishing.{draft_published}
 use Rattle.office_model.specs.Quiet.{KeepsPublication, new_changes, is_batch}
@@ -75,7 +75,7 @@ stepped s old caller (batch number (Given bytes)) q =
 stepped s old caller (load (Given bytes)) q =
     none_new s old _ (is_batch (step old caller (load (Given bytes))).1)
     (plain s old caller (load (Given bytes))
-    (any_ok _ (loaded bytes old) (λ x k. absurd (true≢false k.no_load))) q)
+    (any_ok _ (load_session bytes old) (λ x k. absurd (true≢false k.no_load))) q)
 stepped s old caller (publish d) q =
     none_new s old _ (is_batch (step old caller (publish d)).1)
     (plain s old caller (publish d)

@@ -9,7 +9,7 @@ use Rattle.exam_model.specs.Changes.{exams_sat, with_pair, without_pair}
 use Rattle.exam_model.specs.Enrolments.{Enrolled, pair_count}
 use Rattle.exam_model.specs.Timetable.{Placing}
 use Rattle.exam_model.proofs.StudentLemmas.{with_others, without_others}
-use Rattle.exam_draft.specs.Edits.{exam_exists, edited}
+use Rattle.exam_draft.specs.Edits.{exam_exists, edit_result}
 use Rattle.exam_draft.specs.declared.edit.Edit.{Edit}
 use Rattle.exam_draft.specs.declared.fault.EditFault.TheVariants as edit
 use Rattle.exam_publish.specs.Changed.{rows_of}
@@ -22,9 +22,9 @@ use Rattle.office_model.specs.declared.fault.Refusal.TheVariants as refusal
 use Rattle.office_model.specs.Office.{OfficeState, Records, KeptBatch, set_at}
 use Rattle.office_model.specs.Views.{view_of, view_from}
 use Rattle.office_model.specs.Publishing.{publication_rows}
-use Rattle.office_model.specs.Commands.{named, records_or_refusal, owned}
+use Rattle.office_model.specs.Commands.{renamed_fault, records_or_refusal, set_owner_result}
 use Rattle.office_model.specs.DraftCommands.{draft_made, draft_dropped, draft_edited, is_draft_number, first_timetable}
-use Rattle.office_model.specs.BatchLines.{after_change, enrolled, counted, no_counts}
+use Rattle.office_model.specs.BatchLines.{after_change, enrolment_result, counts_after, no_counts}
 use Rattle.office_model.specs.Batches.{changes_to, newly_enrolled, enrolled_by, batch_enrolled, lines_if_new, batch_of_number, batch_numbered, same_bytes}
 
 -- a fact about a judgement's result, if each part before it allows it
@@ -74,16 +74,16 @@ others_kept s change E other = go change.add
 -- lines that name others don't change the candidate's exams
 enrolled_others : (s : ℕ) (changes : List Change) (E : Enrolled) (n : Counts)
     → changes_to s changes ≡ []
-    → IfOk (enrolled changes E n) (λ done. exams_sat done.1 s ≡ exams_sat E s)
+    → IfOk (enrolment_result changes E n) (λ done. exams_sat done.1 s ≡ exams_sat E s)
 enrolled_others s [] E n h = refl
 enrolled_others s (change ∷ changes) E n h =
     let o = named_others s change changes h in
     bind (λ done. exams_sat done.1 s ≡ exams_sat E s)
     (unless (nat_le (pair_count (after_change change E)) 200000) TooMany)
-    (λ _. enrolled changes (after_change change E) (counted change E n))
-    (λ _. weaker (enrolled changes (after_change change E) (counted change E n))
+    (λ _. enrolment_result changes (after_change change E) (counts_after change E n))
+    (λ _. weaker (enrolment_result changes (after_change change E) (counts_after change E n))
     (others_kept s change E o.0)
-    (enrolled_others s changes (after_change change E) (counted change E n) o.1))
+    (enrolled_others s changes (after_change change E) (counts_after change E n) o.1))
   where
     weaker : (m : Result (Counts × Enrolled) StoreFault)
         → exams_sat (after_change change E) s ≡ exams_sat E s
@@ -107,7 +107,7 @@ new_batch s number bytes changes r h =
     (unless (list_all (λ change. exam_exists r.session change.exam) changes)
     (Refused (refusal.Edit edit.NoSuch))) _
     (λ _. bind_by (λ done. exams_sat done.1 s ≡ exams_sat r.enrolments s)
-    (λ x. view_of s x.1 ≡ view_of s (Some r)) (enrolled changes r.enrolments no_counts) _
+    (λ x. view_of s x.1 ≡ view_of s (Some r)) (enrolment_result changes r.enrolments no_counts) _
     (enrolled_others s changes r.enrolments no_counts h)
     (λ done e. bind (λ x. view_of s x.1 ≡ view_of s (Some r))
     (unless (nat_lt (length r.batches) 10000) TooMany) _
@@ -116,7 +116,7 @@ new_batch s number bytes changes r h =
 
 by_kept : (s number : ℕ) (bytes : List ℕ) (r : Records) (kept : Option KeptBatch)
     (read : Result (List Change) FileFault) → changes_to s (lines_if_new kept read) ≡ []
-    → IfOk (named (λ f. Refused (refusal.File f)) read
+    → IfOk (renamed_fault (λ f. Refused (refusal.File f)) read
     >>= λ changes. enrolled_by kept number bytes changes r)
     (λ x. view_of s x.1 ≡ view_of s (Some r))
 by_kept s number bytes r kept (Err fault) h = tt
@@ -128,7 +128,7 @@ by_kept s number bytes r (Some kept) (Ok changes) h =
 
 pub no_session : {A : Type 0} (P : A → Type 0) (read : Result (List Change) FileFault)
     (f : List Change → Records → Result A StoreFault)
-    → IfOk (named (λ f. Refused (refusal.File f)) read
+    → IfOk (renamed_fault (λ f. Refused (refusal.File f)) read
     >>= λ changes. records_or_refusal None >>= λ r. f changes r) P
 no_session P (Ok changes) f = tt
 no_session P (Err fault) f = tt
@@ -153,7 +153,7 @@ Frames P (Some r) = (owners : ℕ → ℕ) (drafts : ℕ → Option Placing)
 
 module _ (P : OfficeState → Type 0) where
   pub owned_frame : (exam dept : ℕ) (old : OfficeState) → Frames P old
-      → IfOk (owned exam dept old) (λ x. P x.1)
+      → IfOk (set_owner_result exam dept old) (λ x. P x.1)
   owned_frame exam dept None frame = tt
   owned_frame exam dept (Some r) frame =
       bind (λ x. P x.1) (unless (exam_exists r.session exam) (Refused (refusal.Edit edit.NoSuch))) _
@@ -181,5 +181,5 @@ module _ (P : OfficeState → Type 0) where
   edited_frame d change (Some r) frame =
       bind (λ x. P x.1) (else_err NoDraft (r.draft d)) _ (λ T.
       bind (λ x. P x.1)
-      (named (λ f. Refused (refusal.Edit f)) (edited r.session r.enrolments T change)) _
+      (renamed_fault (λ f. Refused (refusal.Edit f)) (edit_result r.session r.enrolments T change)) _
       (λ new. frame r.owner_of (set_at d (Some new) r.draft)))

@@ -14,8 +14,8 @@ use Rattle.office_files.specs.declared.fault.FileFault.{FileFault}
 use Rattle.office_model.specs.declared.counts.Counts.{Counts}
 use Rattle.office_model.specs.declared.fault.StoreFault.TheVariants.{TooMany, Refused, BatchDiffers}
 use Rattle.office_model.specs.declared.fault.Refusal.TheVariants as refusal
-use Rattle.office_model.specs.Commands.{named}
-use Rattle.office_model.specs.BatchLines.{after_change, after_changes, enrolled, counted, no_counts}
+use Rattle.office_model.specs.Commands.{renamed_fault}
+use Rattle.office_model.specs.BatchLines.{after_change, after_changes, enrolment_result, counts_after, no_counts}
 use Rattle.office_model.specs.Batches.{changes_to, newly_enrolled, enrolled_by, batch_enrolled, lines_if_new, batch_of_number, batch_numbered, same_bytes}
 use Rattle.office_model.specs.Office.{OfficeState, Records, KeptBatch}
 use Rattle.office_model.specs.Publishing.{publication_rows}
@@ -35,20 +35,20 @@ FollowsIn s changes (Some r) new = (r' : Records) × (new ≡ Some r') × Follow
 
 -- only the lines that name the candidate change their exams
 enrolled_own : (s : ℕ) (changes : List Change) (E F : Enrolled) (n : Counts) → AreSame s E F
-    → IfOk (enrolled changes E n)
+    → IfOk (enrolment_result changes E n)
     (λ done. AreSame s done.1 (after_changes (changes_to s changes) F))
 enrolled_own s [] E F n h = h
 enrolled_own s (change ∷ changes) E F n h =
     bind _ (unless (nat_le (pair_count (after_change change E)) 200000) TooMany)
-    (λ _. enrolled changes (after_change change E) (counted change E n))
+    (λ _. enrolment_result changes (after_change change E) (counts_after change E n))
     (λ _. go (change.student == s) refl
-    (λ G k. enrolled_own s changes (after_change change E) G (counted change E n) k))
+    (λ G k. enrolled_own s changes (after_change change E) G (counts_after change E n) k))
   where
     go : (b : Bool) → (change.student == s) ≡ b
         → ((G : Enrolled) → AreSame s (after_change change E) G
-        → IfOk (enrolled changes (after_change change E) (counted change E n))
+        → IfOk (enrolment_result changes (after_change change E) (counts_after change E n))
         (λ done. AreSame s done.1 (after_changes (changes_to s changes) G)))
-        → IfOk (enrolled changes (after_change change E) (counted change E n))
+        → IfOk (enrolment_result changes (after_change change E) (counts_after change E n))
         (λ done. AreSame s done.1
         (after_changes (if b then change ∷ changes_to s changes else changes_to s changes) F))
     go true e others = others (after_change change F) (line_same s change E F h)
@@ -70,7 +70,7 @@ new_follows s number bytes changes r =
     (λ _. bind_by
     (λ done. AreSame s done.1 (after_changes (changes_to s changes) r.enrolments))
     (λ x. FollowsIn s (changes_to s changes) (Some r) x.1)
-    (enrolled changes r.enrolments no_counts) _
+    (enrolment_result changes r.enrolments no_counts) _
     (enrolled_own s changes r.enrolments r.enrolments no_counts (same_self s r.enrolments))
     (λ done h. bind (λ x. FollowsIn s (changes_to s changes) (Some r) x.1)
     (unless (nat_lt (length r.batches) 10000) TooMany) _
@@ -85,7 +85,7 @@ new_follows s number bytes changes r =
 
 kept_follows : (s number : ℕ) (bytes : List ℕ) (r : Records) (kept : Option KeptBatch)
     (read : Result (List Change) FileFault)
-    → IfOk (named (λ f. Refused (refusal.File f)) read
+    → IfOk (renamed_fault (λ f. Refused (refusal.File f)) read
     >>= λ changes. enrolled_by kept number bytes changes r)
     (λ x. FollowsIn s (changes_to s (lines_if_new kept read)) (Some r) x.1)
 kept_follows s number bytes r kept (Err fault) = tt

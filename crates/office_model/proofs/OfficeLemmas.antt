@@ -8,8 +8,8 @@ use Rattle.exam_terms.specs.Refusing.{else_err, unless}
 use Rattle.exam_model.specs.Enrolments.{Enrolled}
 use Rattle.exam_model.specs.Fits.{Fits, PlaceExists}
 use Rattle.exam_model.specs.Instance.{Session}
-use Rattle.exam_model.specs.Timetable.{Placing, unplaced}
-use Rattle.exam_draft.specs.Edits.{edited, exam_exists}
+use Rattle.exam_model.specs.Timetable.{Placing, empty_timetable}
+use Rattle.exam_draft.specs.Edits.{edit_result, exam_exists}
 use Rattle.exam_draft.specs.declared.edit.Edit.{Edit}
 use Rattle.exam_draft.specs.declared.edit.Edit.TheVariants as edit
 use Rattle.exam_draft.specs.declared.fault.EditFault.TheVariants.{NoSuch}
@@ -32,8 +32,8 @@ use Rattle.office_model.specs.Answers.{now_dropped, now_published, now_enrolled}
 use Rattle.office_model.specs.Batches.{batch_enrolled}
 use Rattle.office_model.specs.Commands.{CommandResult}
 use Rattle.office_model.specs.DraftCommands.{draft_dropped, draft_edited, draft_made, first_timetable, is_draft_number}
-use Rattle.office_model.specs.Commands.{named, owned}
-use Rattle.office_model.specs.Loading.{loaded}
+use Rattle.office_model.specs.Commands.{renamed_fault, set_owner_result}
+use Rattle.office_model.specs.Loading.{load_session}
 use Rattle.office_model.specs.Office.{AreRecords, IsOffice, OfficeState, Records}
 use Rattle.office_model.specs.Publishing.{draft_published, unless_refused}
 use Rattle.office_model.specs.Step.{step}
@@ -45,7 +45,7 @@ use Rattle.office_model.proofs.StepLemmas.{Keeps, step_law, whatever}
 
 -- ---- what a judgement passes on
 
-named_ok : {A F G : Type 0} (name : F → G) (r : Result A F) (x : A) → named name r ≡ Ok x → r ≡ Ok x
+named_ok : {A F G : Type 0} (name : F → G) (r : Result A F) (x : A) → renamed_fault name r ≡ Ok x → r ≡ Ok x
 named_ok name (Ok y) x is = cc
 named_ok name (Err f) x is = absurd (cc is)
 
@@ -76,9 +76,9 @@ given_with given new x is e =
     let same : (given, new) ≡ x = cc in
     subst (λ y. IsOffice y.1) same is
 
-load_leaves : (bytes : List ℕ) (old : OfficeState) → Leaves (loaded bytes old)
-load_leaves bytes old = if_given _ (loaded bytes old) (λ x is.
-    let read = named (λ f. Refused (refusal.File f)) (instance_in bytes) in
+load_leaves : (bytes : List ℕ) (old : OfficeState) → Leaves (load_session bytes old)
+load_leaves bytes old = if_given _ (load_session bytes old) (λ x is.
+    let read = renamed_fault (λ f. Refused (refusal.File f)) (instance_in bytes) in
     let one = bind_ok read _ x is in
     let two = bind_ok (unless (is_none old) Loaded) _ x one.2 in
     let I : Session = one.0.0 in
@@ -91,8 +91,8 @@ load_leaves bytes old = if_given _ (loaded bytes old) (λ x is.
     given_with _ _ x (fresh_records I E session enrolled) two.2)
 
 module _ (r : Records) (are : AreRecords r) where
-  owner_leaves : (e d : ℕ) → d ≤ 999 → Leaves (owned e d (Some r))
-  owner_leaves e d few = if_given _ (owned e d (Some r)) (λ x is.
+  owner_leaves : (e d : ℕ) → d ≤ 999 → Leaves (set_owner_result e d (Some r))
+  owner_leaves e d few = if_given _ (set_owner_result e d (Some r)) (λ x is.
       let exists = exam_exists r.session e in
       let fault : StoreFault = Refused (refusal.Edit NoSuch) in
       let one = bind_ok (unless exists fault) _ x is in
@@ -113,7 +113,7 @@ module _ (r : Records) (are : AreRecords r) where
       first_fits : (bytes : List ℕ) (T : Placing) → first_timetable bytes r.session ≡ Ok T
           → Fits r.session r.enrolments T
       first_fits [] T is =
-          let same : unplaced (length r.session.exams) ≡ T = cc in
+          let same : empty_timetable (length r.session.exams) ≡ T = cc in
           subst (Fits r.session r.enrolments) same (record {
             enrolments = are.enrolled.exams;
             timetable = length-replicate (length r.session.exams) None;
@@ -138,8 +138,8 @@ module _ (r : Records) (are : AreRecords r) where
   edit_leaves : (d : ℕ) (change : Edit) → Leaves (draft_edited d change (Some r))
   edit_leaves d change = if_given _ (draft_edited d change (Some r)) (λ x is.
       let one = bind_ok (else_err NoDraft (r.draft d)) _ x is in
-      let said = edited r.session r.enrolments one.0 change in
-      let two = bind_ok (named (λ f. Refused (refusal.Edit f)) said) _ x one.2 in
+      let said = edit_result r.session r.enrolments one.0 change in
+      let two = bind_ok (renamed_fault (λ f. Refused (refusal.Edit f)) said) _ x one.2 in
       let there = draft_is (r.draft d) one.0 one.1 in
       let known = are.numbered d (subst IsSome (sym there) refl) in
       let fits = edited_fits r.session r.enrolments one.0 (are.drafts d one.0 there) change two.0
@@ -151,7 +151,7 @@ module _ (r : Records) (are : AreRecords r) where
       let one = bind_ok (else_err NoDraft (r.draft d)) _ x is in
       let refused = publish_refusal r.session r.enrolments one.0 in
       let two = bind_ok
-      (named (λ f. Refused (refusal.Publish f)) (unless_refused refused)) _ x one.2 in
+      (renamed_fault (λ f. Refused (refusal.Publish f)) (unless_refused refused)) _ x one.2 in
       let there = draft_is (r.draft d) one.0 one.1 in
       let permitted = none_refused refused two.0
       (named_ok (λ f. Refused (refusal.Publish f)) (unless_refused refused) two.0 two.1) in
@@ -168,9 +168,9 @@ keeps : (old : OfficeState) (command : PlainCommand) → IsOffice old → HasSma
     → Leaves (batch_enrolled number bytes old))
     → Keeps IsOffice any old command
 keeps old (load (Given bytes)) is small batches =
-    whatever IsOffice any now_loaded (loaded bytes old) (load_leaves bytes old)
+    whatever IsOffice any now_loaded (load_session bytes old) (load_leaves bytes old)
 keeps (Some r) (set_owner exam (Given dept)) is small batches =
-    whatever IsOffice any (λ done. now_owned exam dept) (owned exam dept (Some r))
+    whatever IsOffice any (λ done. now_owned exam dept) (set_owner_result exam dept (Some r))
     (owner_leaves r is exam dept small.1)
 keeps (Some r) (new_draft d (Given bytes)) is small batches =
     whatever IsOffice any (now_drafted d) (draft_made d bytes (Some r)) (draft_leaves r is d bytes)

@@ -8,7 +8,7 @@ use Rattle.office_policy.specs.declared.command.Body.TheVariants.{Given}
 use Rattle.office_model.specs.Answers.{PlainAnswer, now_enrolled}
 use Rattle.office_model.specs.Batches.{batch_enrolled, changes_to, lines_if_new, batch_of_number}
 use Rattle.office_model.specs.Commands.{CommandResult}
-use Rattle.office_model.specs.Loading.{loaded}
+use Rattle.office_model.specs.Loading.{load_session}
 use Rattle.office_model.specs.Office.{OfficeState}
 use Rattle.office_model.specs.Publishing.{draft_published}
 use Rattle.office_model.specs.Quiet.{IsQuiet}
@@ -26,7 +26,7 @@ framed s (Some r) = λ owners drafts. refl
 kept : (s : ℕ) (old : OfficeState) (command : PlainCommand)
     → KeepsRest (λ new. view_of s new ≡ view_of s old) (IsQuiet s old command) old command
 kept s old (load (Given bytes)) =
-    any_ok _ (loaded bytes old) (λ x q. absurd (true≢false q.keeps.no_load))
+    any_ok _ (load_session bytes old) (λ x q. absurd (true≢false q.keeps.no_load))
 kept s old (publish d) =
     any_ok _ (draft_published d old) (λ x q. absurd (true≢false q.keeps.no_publication))
 kept s old (batch number (Given bytes)) =

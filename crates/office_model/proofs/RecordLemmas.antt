@@ -11,7 +11,7 @@ use Rattle.exam_model.specs.Enrolments.{Enrolled, AreEnrolments}
 use Rattle.exam_model.specs.Fits.{Fits, PlaceExists}
 use Rattle.exam_model.specs.Instance.{Session, IsInstance}
 use Rattle.exam_model.specs.Timetable.{Placing, place_of}
-use Rattle.exam_draft.specs.Edits.{after_put, edited, exam_exists, if_unbroken, is_placed, place_exists, unless_broken}
+use Rattle.exam_draft.specs.Edits.{after_put, edit_result, exam_exists, if_unbroken, is_placed, place_exists, unless_broken}
 use Rattle.exam_draft.specs.declared.edit.Edit.{Edit}
 use Rattle.exam_draft.specs.declared.edit.Edit.TheVariants as edit
 use Rattle.exam_draft.specs.declared.fault.EditFault.TheVariants.{AlreadyPlaced, NoSuch, NotPlaced, SameExam}
@@ -25,7 +25,7 @@ use Rattle.exam_publish.proofs.PermitLemmas.{neither}
 use Rattle.exam_publish.proofs.PublishedLemmas.{same_enrolments}
 use Rattle.exam_publish.proofs.SeatLemmas.{are_seats}
 use Rattle.office_files.proofs.ReadingLaws.{bind_ok, unless_ok}
-use Rattle.office_model.specs.Loading.{fresh}
+use Rattle.office_model.specs.Loading.{new_records}
 use Rattle.office_model.specs.Office.{AreEnrolled, AreRecords, IsPublication, Publication, Records, set_at}
 use Rattle.office_model.specs.Publishing.{published_as, publication_rows}
 
@@ -43,7 +43,7 @@ are_enrolled I E set same = record {
 -- ---- load
 
 pub fresh_records : (I : Session) (E : Enrolled) → IsInstance I → AreEnrolled I E
-    → AreRecords (fresh (I, E))
+    → AreRecords (new_records (I, E))
 fresh_records I E is are = record {
   session = is;
   enrolled = are;
@@ -225,7 +225,7 @@ module _ (I : Session) (E : Enrolled) (T : Placing) (fits : Fits I E T) where
     | inr past ↦ subst (PlaceExists I) (sym (get_or_past T e None past)) tt
   ]
 
-  pub edited_fits : (change : Edit) (new : Placing) → edited I E T change ≡ Ok new → Fits I E new
+  pub edited_fits : (change : Edit) (new : Placing) → edit_result I E T change ≡ Ok new → Fits I E new
   edited_fits (edit.Place e at) new is =
       let known = exam_exists I e && place_exists I at in
       let one = bind_ok (unless known NoSuch) _ new is in

@@ -16,12 +16,12 @@ use Rattle.office_model.specs.Answers.{PlainAnswer, now_loaded, now_owned, now_d
 use Rattle.office_model.specs.Answers.{now_dropped, now_published, now_enrolled}
 use Rattle.office_model.specs.Batches.{batch_enrolled}
 use Rattle.office_model.specs.Candidates.{CandidateQuestion, whole, one, cost}
-use Rattle.office_model.specs.Commands.{CommandResult, owned}
+use Rattle.office_model.specs.Commands.{CommandResult, set_owner_result}
 use Rattle.office_model.specs.DraftCommands.{draft_made, draft_dropped, draft_edited}
-use Rattle.office_model.specs.Loading.{loaded}
+use Rattle.office_model.specs.Loading.{load_session}
 use Rattle.office_model.specs.Office.{OfficeState}
 use Rattle.office_model.specs.Publishing.{draft_published}
-use Rattle.office_model.specs.Step.{outcome, candidate_outcome, permitted, if_allowed, allowed_in, step}
+use Rattle.office_model.specs.Step.{outcome, candidate_outcome, permitted_outcome, if_allowed, allowed_in, step}
 use Rattle.office_model.proofs.CommandLemmas.{Frames, owned_frame, made_frame, dropped_frame}
 use Rattle.office_model.proofs.CommandLemmas.{edited_frame}
 use Rattle.office_model.proofs.ShownLemmas.{session_stays, draft_stays, in_session_stays}
@@ -60,9 +60,9 @@ EditKeeps P Q old d change =
 abbrev pub Keeps : (OfficeState → Type 0) → (PlainAnswer → Type 0) → OfficeState → PlainCommand
     → Type 0
 Keeps P Q old (load (Given bytes)) =
-    IfOk (loaded bytes old) (λ x. Q (now_loaded x.0) → P x.1)
+    IfOk (load_session bytes old) (λ x. Q (now_loaded x.0) → P x.1)
 Keeps P Q old (set_owner exam (Given dept)) =
-    IfOk (owned exam dept old) (λ x. Q (now_owned exam dept) → P x.1)
+    IfOk (set_owner_result exam dept old) (λ x. Q (now_owned exam dept) → P x.1)
 Keeps P Q old (new_draft d (Given bytes)) =
     IfOk (draft_made d bytes old) (λ x. Q (now_drafted d x.0) → P x.1)
 Keeps P Q old (drop_draft d) = IfOk (draft_dropped d old) (λ x. Q (now_dropped d) → P x.1)
@@ -87,17 +87,17 @@ module _ (P : OfficeState → Type 0) (Q : PlainAnswer → Type 0) (old : Office
         outcome_law P Q (now_edited d) old (draft_edited d change old) here h q
 
     permitted_law : (caller : Caller) (command : PlainCommand) → Keeps P Q old command
-        → Q (permitted old caller command).1 → P (permitted old caller command).0
+        → Q (permitted_outcome old caller command).1 → P (permitted_outcome old caller command).0
     permitted_law caller me h q = answer_law P caller whole old here
     permitted_law caller (my_exam n) h q = answer_law P caller (one n) old here
     permitted_law caller my_penalty h q = answer_law P caller cost old here
     permitted_law caller (load (Given bytes)) h q =
-        outcome_law P Q now_loaded old (loaded bytes old) here h q
+        outcome_law P Q now_loaded old (load_session bytes old) here h q
     permitted_law caller (load Bad) h q = here
     permitted_law caller (load Long) h q = here
     permitted_law caller instance h q = back _ (session_stays old _)
     permitted_law caller (set_owner exam (Given dept)) h q =
-        outcome_law P Q (λ done. now_owned exam dept) old (owned exam dept old) here h q
+        outcome_law P Q (λ done. now_owned exam dept) old (set_owner_result exam dept old) here h q
     permitted_law caller (set_owner exam Bad) h q = here
     permitted_law caller (set_owner exam Long) h q = here
     permitted_law caller (new_draft d (Given bytes)) h q =
@@ -146,7 +146,7 @@ module _ (P : OfficeState → Type 0) (Q : PlainAnswer → Type 0) (old : Office
 abbrev pub KeepsRest : (OfficeState → Type 0) → (PlainAnswer → Type 0) → OfficeState → PlainCommand
     → Type 0
 KeepsRest P Q old (load (Given bytes)) =
-    IfOk (loaded bytes old) (λ x. Q (now_loaded x.0) → P x.1)
+    IfOk (load_session bytes old) (λ x. Q (now_loaded x.0) → P x.1)
 KeepsRest P Q old (publish d) =
     IfOk (draft_published d old) (λ x. Q (now_published d x.0) → P x.1)
 KeepsRest P Q old (batch number (Given bytes)) =
@@ -168,7 +168,7 @@ module _ (P : OfficeState → Type 0) (Q : PlainAnswer → Type 0) (old : Office
   framed_keeps (load Long) h = tt
   framed_keeps instance h = tt
   framed_keeps (set_owner exam (Given dept)) h =
-      whatever P Q (λ done. now_owned exam dept) (owned exam dept old)
+      whatever P Q (λ done. now_owned exam dept) (set_owner_result exam dept old)
       (owned_frame P exam dept old frame)
   framed_keeps (set_owner exam Bad) h = tt
   framed_keeps (set_owner exam Long) h = tt

@@ -45,10 +45,10 @@ pub data PlainAnswer : Type 0 where
   unavailable : PlainAnswer
 
 -- whether the answer shows stored data
-abbrev pub shows : PlainAnswer → Bool
-shows (my_exams s exams penalty) = true
-shows (my_one exam) = true
-shows (my_cost penalty) = true
-shows (text bytes) = true
-shows (shown_draft d T penalty) = true
-shows _ = false
+abbrev pub has_stored_data : PlainAnswer → Bool
+has_stored_data (my_exams s exams penalty) = true
+has_stored_data (my_one exam) = true
+has_stored_data (my_cost penalty) = true
+has_stored_data (text bytes) = true
+has_stored_data (shown_draft d T penalty) = true
+has_stored_data _ = false

@@ -10,8 +10,8 @@ use Rattle.office_model.specs.declared.fault.StoreFault.{StoreFault}
 use Rattle.office_model.specs.declared.fault.StoreFault.TheVariants.{TooMany}
 
 -- whether a line adds a missing pair, or drops an existing one
-abbrev pub acts : Change → Enrolled → Bool
-acts change E =
+abbrev pub has_effect : Change → Enrolled → Bool
+has_effect change E =
     if change.add then not (has E change.student change.exam)
     else has E change.student change.exam
 
@@ -27,9 +27,9 @@ after_changes [] E = E
 after_changes (change ∷ changes) E = after_changes changes (after_change change E)
 
 -- one more add, drop or neither
-abbrev pub counted : Change → Enrolled → Counts → Counts
-counted change E n =
-    if acts change E then
+abbrev pub counts_after : Change → Enrolled → Counts → Counts
+counts_after change E n =
+    if has_effect change E then
     (if change.add then record n { added = n.added + 1 }
     else record n { dropped = n.dropped + 1 })
     else record n { unchanged = n.unchanged + 1 }
@@ -39,8 +39,9 @@ abbrev pub no_counts : Counts
 no_counts = record { added = 0; dropped = 0; unchanged = 0 }
 
 -- the lines in file order, refused if the pairs exceed the limit at any of them
-abbrev pub enrolled : List Change → Enrolled → Counts → Result (Counts × Enrolled) StoreFault
-enrolled [] E n = Ok (n, E)
-enrolled (change ∷ changes) E n = do
+abbrev pub enrolment_result : List Change → Enrolled → Counts
+    → Result (Counts × Enrolled) StoreFault
+enrolment_result [] E n = Ok (n, E)
+enrolment_result (change ∷ changes) E n = do
   _ ← unless (nat_le (pair_count (after_change change E)) MAX_PAIRS) TooMany
-  enrolled changes (after_change change E) (counted change E n)
+  enrolment_result changes (after_change change E) (counts_after change E n)

@@ -8,12 +8,12 @@ use Rattle.exam_draft.specs.Edits.{exam_exists}
 use Rattle.exam_draft.specs.declared.fault.EditFault.TheVariants.{NoSuch}
 use Rattle.office_batches.specs.BatchText.{batch_in}
 use Rattle.office_files.specs.declared.fault.FileFault.{FileFault}
-use Rattle.office_model.specs.Commands.{CommandResult, named, records_or_refusal}
+use Rattle.office_model.specs.Commands.{CommandResult, renamed_fault, records_or_refusal}
 use Rattle.office_model.specs.Office.{OfficeState, Records, KeptBatch}
 use Rattle.office_model.specs.declared.counts.Counts.{Counts}
 use Rattle.office_model.specs.declared.fault.Refusal.TheVariants as refusal
 use Rattle.office_model.specs.declared.fault.StoreFault.TheVariants.{BatchDiffers, TooMany, Refused}
-use Rattle.office_model.specs.BatchLines.{no_counts, enrolled}
+use Rattle.office_model.specs.BatchLines.{no_counts, enrolment_result}
 
 -- ---- batches
 
@@ -33,7 +33,7 @@ abbrev pub newly_enrolled : ℕ → List ℕ → List Change → Records → Com
 newly_enrolled number bytes changes r = do
   _ ← unless (list_all (λ change. exam_exists r.session change.exam) changes)
       (Refused (refusal.Edit NoSuch))
-  done ← enrolled changes r.enrolments no_counts
+  done ← enrolment_result changes r.enrolments no_counts
   _ ← unless (nat_lt (length r.batches) MAX_BATCHES) TooMany
   Ok (
     done.0,
@@ -54,7 +54,7 @@ enrolled_by (Some kept) number bytes changes r = do
 -- a batch is accepted: first the file's fault is judged, then whether a session is loaded
 abbrev pub batch_enrolled : ℕ → List ℕ → OfficeState → CommandResult Counts
 batch_enrolled number bytes office = do
-  changes ← named (λ f. Refused (refusal.File f)) (batch_in bytes)
+  changes ← renamed_fault (λ f. Refused (refusal.File f)) (batch_in bytes)
   r ← records_or_refusal office
   enrolled_by (batch_numbered number r.batches) number bytes changes r
 

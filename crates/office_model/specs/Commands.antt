@@ -16,9 +16,9 @@ abbrev pub CommandResult : Type 0 → Type 0
 CommandResult A = Result (A × OfficeState) StoreFault
 
 -- a fault by another name
-abbrev pub named : {A F G : Type 0} → (F → G) → Result A F → Result A G
-named name (Ok x) = Ok x
-named name (Err e) = Err (name e)
+abbrev pub renamed_fault : {A F G : Type 0} → (F → G) → Result A F → Result A G
+renamed_fault name (Ok x) = Ok x
+renamed_fault name (Err e) = Err (name e)
 
 -- the records, once there is a session
 abbrev pub records_or_refusal : OfficeState → Result Records StoreFault
@@ -27,8 +27,8 @@ records_or_refusal office = else_err NotLoaded office
 -- ---- owners
 
 -- a department becomes the owner of an exam; 0 removes the owner
-abbrev pub owned : ℕ → ℕ → OfficeState → CommandResult (Unit {0})
-owned exam dept office = do
+abbrev pub set_owner_result : ℕ → ℕ → OfficeState → CommandResult (Unit {0})
+set_owner_result exam dept office = do
   r ← records_or_refusal office
   _ ← unless (exam_exists r.session exam) (Refused (refusal.Edit NoSuch))
   Ok (tt, Some (record r { owner_of = set_at exam dept r.owner_of }))

@@ -3,17 +3,17 @@ use Rattle.std.specs.Prelude.{ℕ, Bool, ◌&&◌, nat_le, List, [], ◌∷◌, 
 use Rattle.exam_model.specs.Instance.{Session}
 use Rattle.exam_terms.specs.Refusing.{◌>>=◌, unless, else_err}
 use Rattle.exam_terms.specs.declared.limits.TheConstants.{MAX_DRAFTS}
-use Rattle.exam_model.specs.Timetable.{Placing, unplaced}
+use Rattle.exam_model.specs.Timetable.{Placing, empty_timetable}
 use Rattle.exam_score.specs.Penalty.{Penalty, total_of}
 use Rattle.exam_score.specs.Track.{track}
 use Rattle.exam_draft.specs.declared.edit.Edit.{Edit}
-use Rattle.exam_draft.specs.Edits.{edited}
+use Rattle.exam_draft.specs.Edits.{edit_result}
 use Rattle.office_files.specs.SolutionText.{solution_in}
 use Rattle.office_model.specs.Office.{OfficeState, Records, set_at}
 use Rattle.office_model.specs.declared.fault.Refusal.TheVariants as refusal
 use Rattle.office_model.specs.declared.fault.StoreFault.{StoreFault}
 use Rattle.office_model.specs.declared.fault.StoreFault.TheVariants.{NoDraft, DraftTaken, Refused}
-use Rattle.office_model.specs.Commands.{CommandResult, named, records_or_refusal}
+use Rattle.office_model.specs.Commands.{CommandResult, renamed_fault, records_or_refusal}
 
 -- the penalty of a timetable with the live enrolments
 abbrev pub live_penalty : Records → Placing → ℕ
@@ -21,8 +21,9 @@ live_penalty r T = total_of (track r.session r.enrolments T)
 
 -- a timetable with no exam placed, or the one that a text describes
 abbrev pub first_timetable : List ℕ → Session → Result Placing StoreFault
-first_timetable [] I = Ok (unplaced (length I.exams))
-first_timetable (b ∷ bytes) I = named (λ f. Refused (refusal.File f)) (solution_in I (b ∷ bytes))
+first_timetable [] I = Ok (empty_timetable (length I.exams))
+first_timetable (b ∷ bytes) I =
+    renamed_fault (λ f. Refused (refusal.File f)) (solution_in I (b ∷ bytes))
 
 -- drafts are numbered from 1 to 8
 abbrev pub is_draft_number : ℕ → Bool
@@ -61,5 +62,5 @@ abbrev pub draft_edited : ℕ → Edit → OfficeState → CommandResult ℕ
 draft_edited d change office = do
   r ← records_or_refusal office
   T ← else_err NoDraft (r.draft d)
-  new ← named (λ f. Refused (refusal.Edit f)) (edited r.session r.enrolments T change)
+  new ← renamed_fault (λ f. Refused (refusal.Edit f)) (edit_result r.session r.enrolments T change)
   Ok (live_penalty r new, Some (record r { draft = set_at d (Some new) r.draft }))

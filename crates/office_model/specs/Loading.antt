@@ -11,11 +11,11 @@ use Rattle.office_model.specs.declared.counts.Loaded as counts
 use Rattle.office_model.specs.declared.fault.Refusal.TheVariants as refusal
 use Rattle.office_model.specs.declared.fault.StoreFault.{StoreFault}
 use Rattle.office_model.specs.declared.fault.StoreFault.TheVariants.{Loaded, Refused}
-use Rattle.office_model.specs.Commands.{CommandResult, named}
+use Rattle.office_model.specs.Commands.{CommandResult, renamed_fault}
 
 -- a session with its enrolments, and nothing else
-abbrev pub fresh : Session × Enrolled → Records
-fresh s = record {
+abbrev pub new_records : Session × Enrolled → Records
+new_records s = record {
   session = s.0;
   owner_of = λ e. 0;
   enrolments = s.1;
@@ -25,8 +25,8 @@ fresh s = record {
 }
 
 -- the counts of a session
-abbrev pub loaded_of : Session × Enrolled → counts.Loaded
-loaded_of s = record {
+abbrev pub session_counts : Session × Enrolled → counts.Loaded
+session_counts s = record {
   exams = length s.0.exams;
   pairs = pair_count s.1;
   periods = length s.0.periods;
@@ -36,7 +36,7 @@ loaded_of s = record {
 -- the text describes a session with these counts
 abbrev pub SpellsSession : List ℕ → counts.Loaded → Type 0
 SpellsSession bytes counts =
-    (s : Session × Enrolled) × (instance_in bytes ≡ Ok s) × (counts ≡ loaded_of s)
+    (s : Session × Enrolled) × (instance_in bytes ≡ Ok s) × (counts ≡ session_counts s)
 
 -- a refused text has this fault first
 abbrev pub NamesFirstFault : List ℕ → StoreFault → Type 0
@@ -44,8 +44,8 @@ NamesFirstFault bytes fault =
     (f : FileFault) → fault ≡ Refused (refusal.File f) → first_fault bytes ≡ Some f
 
 -- a session is loaded if there is none; the file's fault is judged first
-abbrev pub loaded : List ℕ → OfficeState → CommandResult counts.Loaded
-loaded bytes office = do
-  s ← named (λ f. Refused (refusal.File f)) (instance_in bytes)
+abbrev pub load_session : List ℕ → OfficeState → CommandResult counts.Loaded
+load_session bytes office = do
+  s ← renamed_fault (λ f. Refused (refusal.File f)) (instance_in bytes)
   _ ← unless (is_none office) Loaded
-  Ok (loaded_of s, Some (fresh s))
+  Ok (session_counts s, Some (new_records s))

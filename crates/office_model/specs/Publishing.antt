@@ -7,7 +7,7 @@ use Rattle.exam_publish.specs.Changed.{changed_students}
 use Rattle.exam_publish.specs.Permit.{publish_refusal}
 use Rattle.exam_publish.specs.Seats.{seat_rows}
 use Rattle.exam_publish.specs.declared.seat_row.SeatRow.{SeatRow}
-use Rattle.office_model.specs.Commands.{CommandResult, named, records_or_refusal}
+use Rattle.office_model.specs.Commands.{CommandResult, renamed_fault, records_or_refusal}
 use Rattle.office_model.specs.DraftCommands.{live_penalty}
 use Rattle.office_model.specs.Office.{OfficeState, Records, Publication}
 use Rattle.office_model.specs.declared.counts.Published as counts
@@ -44,7 +44,7 @@ abbrev pub draft_published : ℕ → OfficeState → CommandResult counts.Publis
 draft_published d office = do
   r ← records_or_refusal office
   T ← else_err NoDraft (r.draft d)
-  _ ← named (λ f. Refused (refusal.Publish f))
+  _ ← renamed_fault (λ f. Refused (refusal.Publish f))
       (unless_refused (publish_refusal r.session r.enrolments T))
   let new = published_as r T
   Ok (publication_counts r new, Some (record r { published = Some new }))

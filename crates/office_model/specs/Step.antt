@@ -35,8 +35,8 @@ use Rattle.office_model.specs.Batches.{batch_enrolled}
 use Rattle.office_model.specs.Candidates.{CandidateQuestion, whole, one, cost, candidate_answer}
 use Rattle.office_model.specs.Commands.{CommandResult}
 use Rattle.office_model.specs.DraftCommands.{draft_dropped, draft_edited, draft_made, draft_shown}
-use Rattle.office_model.specs.Loading.{loaded}
-use Rattle.office_model.specs.Commands.{owned, owner_in, session_shown, records_or_refusal}
+use Rattle.office_model.specs.Loading.{load_session}
+use Rattle.office_model.specs.Commands.{set_owner_result, owner_in, session_shown, records_or_refusal}
 use Rattle.office_model.specs.Office.{OfficeState, Publication, published_enrolments}
 use Rattle.office_model.specs.Publishing.{draft_published}
 use Rattle.office_model.specs.Views.{view_of}
@@ -98,41 +98,43 @@ abbrev pub edit_outcome : ℕ → Edit → OfficeState → Outcome
 edit_outcome d change old = outcome (now_edited d) old (draft_edited d change old)
 
 -- a command that the policy permits
-abbrev pub permitted : OfficeState → Caller → PlainCommand → Outcome
-permitted old caller me = candidate_outcome caller whole old
-permitted old caller (my_exam n) = candidate_outcome caller (one n) old
-permitted old caller my_penalty = candidate_outcome caller cost old
-permitted old caller (load body) =
-    with_body old (λ bytes. outcome now_loaded old (loaded bytes old)) body
-permitted old caller instance =
+abbrev pub permitted_outcome : OfficeState → Caller → PlainCommand → Outcome
+permitted_outcome old caller me = candidate_outcome caller whole old
+permitted_outcome old caller (my_exam n) = candidate_outcome caller (one n) old
+permitted_outcome old caller my_penalty = candidate_outcome caller cost old
+permitted_outcome old caller (load body) =
+    with_body old (λ bytes. outcome now_loaded old (load_session bytes old)) body
+permitted_outcome old caller instance =
     outcome (λ s. text (canonical_instance s.0 s.1)) old (session_shown old)
-permitted old caller (set_owner exam body) =
-    with_body old (λ dept. outcome (λ done. now_owned exam dept) old (owned exam dept old)) body
-permitted old caller (new_draft d body) =
+permitted_outcome old caller (set_owner exam body) =
+    with_body old
+    (λ dept. outcome (λ done. now_owned exam dept) old (set_owner_result exam dept old)) body
+permitted_outcome old caller (new_draft d body) =
     with_body old (λ bytes. outcome (now_drafted d) old (draft_made d bytes old)) body
-permitted old caller (draft d) =
+permitted_outcome old caller (draft d) =
     outcome (λ found. shown_draft d found.0 (total_of found.1)) old (draft_shown d old)
-permitted old caller (draft_penalty d) =
+permitted_outcome old caller (draft_penalty d) =
     outcome (λ found. text (penalty_text found.1)) old (draft_shown d old)
-permitted old caller (draft_violations d) =
+permitted_outcome old caller (draft_violations d) =
     outcome (λ found. text (violations_of found)) old (draft_in_session d old)
-permitted old caller (drop_draft d) = outcome (λ done. now_dropped d) old (draft_dropped d old)
-permitted old caller (place d exam body) =
+permitted_outcome old caller (drop_draft d) =
+    outcome (λ done. now_dropped d) old (draft_dropped d old)
+permitted_outcome old caller (place d exam body) =
     with_body old (λ at. edit_outcome d (edit.Place exam at) old) body
-permitted old caller (move d exam body) =
+permitted_outcome old caller (move d exam body) =
     with_body old (λ to. edit_outcome d (edit.Move exam to) old) body
-permitted old caller (clear d exam) = edit_outcome d (edit.Clear exam) old
-permitted old caller (swap d a b) = edit_outcome d (edit.Swap a b) old
-permitted old caller (publish d) = outcome (now_published d) old (draft_published d old)
-permitted old caller publication =
+permitted_outcome old caller (clear d exam) = edit_outcome d (edit.Clear exam) old
+permitted_outcome old caller (swap d a b) = edit_outcome d (edit.Swap a b) old
+permitted_outcome old caller (publish d) = outcome (now_published d) old (draft_published d old)
+permitted_outcome old caller publication =
     (old, of_published (λ I p. canonical_solution p.timetable) (publication_in old))
-permitted old caller publication_penalty =
+permitted_outcome old caller publication_penalty =
     (old, of_published published_penalty (publication_in old))
-permitted old caller publication_rooms =
+permitted_outcome old caller publication_rooms =
     (old, of_published (λ I p. rooms_text I p.timetable p.rows) (publication_in old))
-permitted old caller publication_seats =
+permitted_outcome old caller publication_seats =
     (old, of_published (λ I p. seats_text p.rows) (publication_in old))
-permitted old caller (batch number body) =
+permitted_outcome old caller (batch number body) =
     with_body old (λ bytes. outcome (now_enrolled number) old (batch_enrolled number bytes old))
     body
 
@@ -149,7 +151,7 @@ allowed_in old caller command =
 
 -- a command that the caller may not run is denied, in each state of the office
 abbrev pub if_allowed : Result (Unit {0}) Denial → OfficeState → Caller → PlainCommand → Outcome
-if_allowed (Ok done) old caller command = permitted old caller command
+if_allowed (Ok done) old caller command = permitted_outcome old caller command
 if_allowed (Err denial) old caller command = (old, denied denial)
 
 -- one step

@@ -6,7 +6,7 @@ use Rattle.exam_model.specs.Instance.{Session}
 use Rattle.exam_model.specs.Timetable.{place_of}
 use Rattle.exam_model.specs.declared.parts.Period.{Period}
 use Rattle.exam_model.specs.declared.parts.Weights.{Weights}
-use Rattle.exam_publish.specs.Changed.{ascending, rows_of}
+use Rattle.exam_publish.specs.Changed.{sorted_numbers, rows_of}
 use Rattle.exam_publish.specs.declared.seat_row.SeatRow.{SeatRow}
 use Rattle.office_files.specs.Weights.{no_weights}
 use Rattle.office_model.specs.Office.{OfficeState, Publication}
@@ -23,7 +23,7 @@ pub record View : Type 0 where
 
 -- the exams of a candidate's enrolments and of their seats together, ascending
 abbrev pub candidate_exams : List ℕ → List SeatRow → List ℕ
-candidate_exams enrolled seats = ascending (enrolled ++ map (λ row. row.exam) seats)
+candidate_exams enrolled seats = sorted_numbers (enrolled ++ map (λ row. row.exam) seats)
 
 -- the published place of an exam, if it has one
 abbrev pub published_place : Option Publication → ℕ → Option Place

@@ -4,7 +4,7 @@ ghost use Rattle.exam_model.specs.declared.change.Change.{Change};
 ghost use Rattle.office_policy.specs.Commands.{PlainCommand};
 ghost use Rattle.office_policy.specs.declared.callers.Caller.{Caller};
 ghost use Rattle.office_policy.specs.declared.callers.Caller.TheVariants.{Cand};
-ghost use Rattle.office_model.specs.Answers.{PlainAnswer, shows};
+ghost use Rattle.office_model.specs.Answers.{PlainAnswer, has_stored_data};
 ghost use Rattle.office_model.specs.Candidates.{answer_to};
 ghost use Rattle.office_model.specs.Office.{OfficeState};
 ghost use Rattle.office_model.specs.Quiet.{IsQuiet};
@@ -49,6 +49,6 @@ pub fn same_changes_same_view()
 /// An answer that shows something changes nothing.
 pub fn shown_changes_nothing()
     ensures { (old new : OfficeState) (caller : Caller) (command : PlainCommand)
-        (answer : PlainAnswer) → Steps old caller command answer new → shows answer ≡ true
+        (answer : PlainAnswer) → Steps old caller command answer new → has_stored_data answer ≡ true
         → new ≡ old }
 {}

@@ -2,7 +2,7 @@
 ghost use Rattle.std.specs.Prelude.{◌≡◌, ◌==◌, IfOk, Option, map};
 ghost use Rattle.std.specs.Prelude.{option_and_then, option_map};
 ghost use Rattle.std.specs.List.{list_any};
-ghost use Rattle.exam_publish.specs.Changed.{ascending};
+ghost use Rattle.exam_publish.specs.Changed.{sorted_numbers};
 ghost use Rattle.office_model.specs.Office.{Publication};
 ghost use Rattle.office_model.specs.ViewRows.{AreOfPublication, place_in, place_of_seat, seat_in};
 ghost use Rattle.office_model.specs.ViewRows.{view_row};
@@ -149,7 +149,7 @@ fn candidate_exams(
 
 // Returns the exams in order, each once.
 fn in_order(mut exams: Vec<ExamNo>) -> Vec<ExamNo>
-    ensures { result.items ≡ ascending exams.items }
+    ensures { result.items ≡ sorted_numbers exams.items }
 {
     exams.sort_unstable();
     exams.dedup();

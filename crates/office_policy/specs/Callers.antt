@@ -14,8 +14,8 @@ text_after_word (w ∷ word) [] = None
 text_after_word (w ∷ word) (b ∷ text) = if w == b then text_after_word word text else None
 
 -- the number after a word
-abbrev pub numbered : List ℕ → List ℕ → Option ℕ
-numbered word text = option_and_then number_of (text_after_word word text)
+abbrev pub number_after_word : List ℕ → List ℕ → Option ℕ
+number_after_word word text = option_and_then number_of (text_after_word word text)
 
 -- departments go from 1 to the greatest
 abbrev pub as_dept : ℕ → Option Caller
@@ -23,11 +23,11 @@ as_dept n = if nat_le 1 n && nat_le n MAX_DEPARTMENT then Some (Dept n) else Non
 
 -- `dept:` and a department's number
 abbrev pub dept_in : List ℕ → Option Caller
-dept_in name = option_and_then as_dept (numbered (codes "dept:") name)
+dept_in name = option_and_then as_dept (number_after_word (codes "dept:") name)
 
 -- `cand:` and a candidate's number
 abbrev pub candidate_in : List ℕ → Option Caller
-candidate_in name = option_map Cand (numbered (codes "cand:") name)
+candidate_in name = option_map Cand (number_after_word (codes "cand:") name)
 
 -- the first of two, or else the second
 abbrev pub or_else : Option Caller → Option Caller → Option Caller

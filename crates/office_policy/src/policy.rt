@@ -72,7 +72,7 @@ pub fn allowed(
             Kind::Personal => Err(Denial::P4),
             Kind::Official => Err(Denial::P2),
             Kind::Reading => Ok(()),
-            Kind::Editing(..) => owned(is_owner(dept, kind, owner_a, owner_b)),
+            Kind::Editing(..) => deny_unowned(is_owner(dept, kind, owner_a, owner_b)),
         },
         Caller::Cand(_) => match kind {
             Kind::Personal => Ok(()),
@@ -95,7 +95,7 @@ fn is_owner(dept: DeptNo, kind: Kind, owner_a: u32, owner_b: u32) -> bool
 }
 
 // Denies an edit of an exam that isn't owned.
-fn owned(is_owned: bool) -> Result<(), Denial>
+fn deny_unowned(is_owned: bool) -> Result<(), Denial>
     ensures { result ≡ if_owned is_owned }
 {
     if is_owned { Ok(()) } else { Err(Denial::P3) }

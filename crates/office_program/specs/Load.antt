@@ -3,7 +3,7 @@ use Rattle.std.specs.Prelude.{◌≡◌, ℕ, ◌++◌, ◌∷◌, [], List, Opt
 use Rattle.std.specs.Io.KnownBytes.{Appends}
 use Rattle.sqlite.specs.State.{State}
 use Rattle.office_model.specs.Office.{OfficeState}
-use Rattle.office_model.specs.Loading.{NamesFirstFault, SpellsSession, loaded}
+use Rattle.office_model.specs.Loading.{NamesFirstFault, SpellsSession, load_session}
 use Rattle.office_store.specs.Running.{IsFault, Represents}
 use Rattle.office_model.specs.declared.counts.Loaded.{Loaded}
 use Rattle.office_program.specs.declared.loading.LoadFault.{LoadFault}
@@ -23,7 +23,7 @@ loaded_text l = loaded_line l ++ 10 ∷ []
 pub record IsLoaded (text : List ℕ) (office : OfficeState) (after : State) (counts : Loaded)
     : Type 0 where
   pub next : OfficeState
-  pub gives : loaded text office ≡ Ok (counts, next)
+  pub gives : load_session text office ≡ Ok (counts, next)
   pub represents : Represents after next
 
 -- the text is loaded into the office, and the line with its counts is printed
@@ -35,7 +35,7 @@ pub record Loads (text : List ℕ) (office : OfficeState) (after : State)
 
 -- the office's own refusal or a failed statement; or the load is done, but the line isn't written
 abbrev pub RefusesLoad : List ℕ → OfficeState → State → LoadFault → Type 0
-RefusesLoad text office after (Store fault) = IsFault (loaded text office) fault
+RefusesLoad text office after (Store fault) = IsFault (load_session text office) fault
 RefusesLoad text office after Write = (counts : Loaded) × IsLoaded text office after counts
 
 -- a fact that holds if the office refuses the text, or a statement failed

@@ -12,20 +12,20 @@ use Rattle.office_program.specs.declared.words.TheConstants.{MAX_CONNECTIONS, MA
 use Rattle.office_program.specs.CommandLine.{named_rule}
 
 -- an option with a whole number within these bounds as its value
-abbrev pub numbered : Rule → ℕ → ℕ → Rule
-numbered rule least most = record rule { parser = Some (Signed (pos least) (pos most)) }
+abbrev pub number_option : Rule → ℕ → ℕ → Rule
+number_option rule least most = record rule { parser = Some (Signed (pos least) (pos most)) }
 
 -- the required option of the port
 abbrev pub port_rule : Rule
-port_rule = numbered (named_rule (codes "port")) 0 MAX_PORT
+port_rule = number_option (named_rule (codes "port")) 0 MAX_PORT
 
 -- the required option of the number of connections
 abbrev pub connections_rule : Rule
-connections_rule = numbered (named_rule (codes "connections")) 1 MAX_CONNECTIONS
+connections_rule = number_option (named_rule (codes "connections")) 1 MAX_CONNECTIONS
 
 -- the option of the timeout in seconds, by default 30
 abbrev pub patience_rule : Rule
-patience_rule = record (numbered (new_rule (codes "patience")) 1 MAX_PATIENCE) {
+patience_rule = record (number_option (new_rule (codes "patience")) 1 MAX_PATIENCE) {
   long = Some (codes "patience");
   value_names = 1;
   defaults = codes "30" ∷ [];

@@ -79,7 +79,7 @@ fn solutions_argument<'a>(alloc: Global) -> Arg<'a>
 pub(crate) fn load_command<'a>(alloc: Global) -> Result<Command<'a>, AllocError>
     ensures { IfOk result (λ c. AddsShape c load_app.top) }
 {
-    let database = named(alloc, "db", "FILE", "The file of the office's database");
+    let database = required_option(alloc, "db", "FILE", "The file of the office's database");
     let instance = required(alloc, "instance", "INSTANCE", "The file of the instance");
     Command::new(alloc, "load")
         .about("Load an instance with its enrolments into an office, once")
@@ -89,7 +89,7 @@ pub(crate) fn load_command<'a>(alloc: Global) -> Result<Command<'a>, AllocError>
 }
 
 // Returns a required option with a value.
-fn named<'a>(alloc: Global, id: &'a str, name: &'a str, help: &'a str) -> Arg<'a>
+fn required_option<'a>(alloc: Global, id: &'a str, name: &'a str, help: &'a str) -> Arg<'a>
     ensures rule { rule_of result ≡ named_rule id.now }
     ensures local { result.global ≡ false }
     ensures name { result.val_names ≡ One name.entry }
@@ -102,7 +102,7 @@ fn named<'a>(alloc: Global, id: &'a str, name: &'a str, help: &'a str) -> Arg<'a
 pub(crate) fn serve_command<'a>(alloc: Global) -> Result<Command<'a>, AllocError>
     ensures { IfOk result (λ c. AddsShape c serve_app.top) }
 {
-    let database = named(alloc, "db", "FILE", "The file of the office's database");
+    let database = required_option(alloc, "db", "FILE", "The file of the office's database");
     Command::new(alloc, "serve")
         .about("Serve an office over HTTP, one connection after another")
         .after_help(helps::SERVE)
@@ -155,7 +155,7 @@ fn patience_option<'a>(alloc: Global) -> Arg<'a>
 pub(crate) fn export_command<'a>(alloc: Global) -> Result<Command<'a>, AllocError>
     ensures { IfOk result (λ c. AddsShape c export_app.top) }
 {
-    let database = named(alloc, "db", "FILE", "The file of the office's database");
+    let database = required_option(alloc, "db", "FILE", "The file of the office's database");
     Command::new(alloc, "export")
         .about("Print the solution that an office has published")
         .after_help(helps::EXPORT)

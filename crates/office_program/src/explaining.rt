@@ -1,7 +1,7 @@
 // `explain`: prints faults in words.
 ghost use Rattle.std.specs.Prelude.{◌≡◌, ◌++◌, ◌∷◌, [], IfErr, IfOk, OnOk, map, option_map};
 ghost use Rattle.std.specs.Io.KnownBytes.{Appends};
-ghost use Rattle.office_program.specs.Explaining.{fault_words, numbered};
+ghost use Rattle.office_program.specs.Explaining.{fault_words, numbered_text};
 
 use crate::ending::Ending;
 use crate::faults::ProgramFault;
@@ -53,20 +53,20 @@ pub(crate) fn fault_words(kind: &str, number: u32) -> Option<&'static str>
     ensures { option_map (λ words. words.now) result ≡ fault_words kind.now number }
 {
     if kind == "file" {
-        numbered(&FILE, number)
+        numbered_text(&FILE, number)
     } else if kind == "store" {
-        numbered(&STORE, number)
+        numbered_text(&STORE, number)
     } else if kind == "connection" {
-        numbered(&CONNECTION, number)
+        numbered_text(&CONNECTION, number)
     } else {
         None
     }
 }
 
 // Returns the text of this number, from 1.
-fn numbered(texts: &[&'static str], number: u32) -> Option<&'static str>
+fn numbered_text(texts: &[&'static str], number: u32) -> Option<&'static str>
     ensures { option_map (λ text. text.now) result
-        ≡ numbered (map (λ text. text.now) texts.now) number }
+        ≡ numbered_text (map (λ text. text.now) texts.now) number }
 {
     if number == 0 {
         return None;

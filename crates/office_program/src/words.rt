@@ -10,7 +10,7 @@ ghost use Rattle.clap.specs.Faults.{fault_of};
 ghost use Rattle.clap.specs.declared.error.kind.ErrorKind.TheVariants.{InvalidValue, OutOfMemory};
 ghost use Rattle.clap.specs.Words.{first_of};
 ghost use Rattle.office_program.specs.CommandLine.{HasCheckValues, HasExportValues, HasLoadValues};
-ghost use Rattle.office_program.specs.Explaining.{HasExplainValues, unexplained, unexplained_in};
+ghost use Rattle.office_program.specs.Explaining.{HasExplainValues, explain_errors, unexplained_in};
 ghost use Rattle.office_program.specs.Program.{IsTask, IsTaskOf, fault_of_words, program};
 ghost use Rattle.office_program.specs.ServeLine.{HasNumber, HasServeValues, HasTerms};
 
@@ -224,7 +224,7 @@ fn export_task(alloc: Global, values: &ArgMatches<'_>) -> Result<Task, Error>
 // Returns the task of `explain` with these values; they may name no fault.
 fn explain_task(alloc: Global, values: &ArgMatches<'_>) -> Result<Task, Error>
     ensures ok { IfOk result (HasExplainValues (rows_of (found_of values.now))) }
-    ensures err { IfErr result (HasKind (unexplained (rows_of (found_of values.now)))) }
+    ensures err { IfErr result (HasKind (explain_errors (rows_of (found_of values.now)))) }
 {
     let kind = value_of(alloc, values, "kind")?;
     let number = number_of(values, "number", 1, MAX_FAULT)?;

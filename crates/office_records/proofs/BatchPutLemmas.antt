@@ -14,7 +14,7 @@ use Rattle.office_tables.specs.declared.draft.DraftRow.{DraftRow}
 use Rattle.office_tables.specs.declared.slot.SlotRow.{SlotRow}
 use Rattle.office_model.specs.Office.{AreRecords, Records}
 use Rattle.office_model.specs.declared.counts.Counts.{Counts}
-use Rattle.office_enrolment.specs.AfterBatch.{acting, after_batch, lines_in}
+use Rattle.office_enrolment.specs.AfterBatch.{lines_with_effect, after_batch, lines_in}
 use Rattle.office_enrolment.specs.Keeping.{records_with_batch}
 use Rattle.office_enrolment.proofs.RowLemmas.{rows_after_batch}
 use Rattle.office_records.specs.BatchRows.{batch_put, enrol_rows}
@@ -31,7 +31,7 @@ module _ (number : ℕ) (bytes : List ℕ) (changes : List Change) (r : Records)
   new_batch = stored_batch (record { no = number; bytes = bytes; counts = done.0 })
 
   abbrev pub put : Tables
-  put = batch_put (acting changes r.enrolments) drafts new_batch t
+  put = batch_put (lines_with_effect changes r.enrolments) drafts new_batch t
 
   narrow : number ≤ 999999999 → lines_in done.0 ≤ 1048576 → FitsBatch new_batch
   narrow small few =

@@ -18,7 +18,7 @@ use Rattle.office_tables.specs.declared.slot.SlotRow.{SlotRow}
 use Rattle.office_records.specs.Found.{AreDrafts, AreSlots}
 use Rattle.office_model.specs.Office.{set_at}
 use Rattle.office_records.specs.Representation.{parts_of}
-use Rattle.office_records.specs.TableRows.{drafts_at, slots_at, slot_rows, once}
+use Rattle.office_records.specs.TableRows.{drafts_at, slots_at, slot_rows, number_if}
 use Rattle.office_records.proofs.PassLemmas.{none_pass, one_passes, found_one, passes_at}
 use Rattle.office_records.proofs.PassLemmas.{each_passes, all_pass, two_pass}
 
@@ -42,7 +42,7 @@ has_row found slot = list_any (is_of slot.draft) found
 pub record Begun (I : Session) (E : Enrolled) (found : List DraftRow) (places : List SlotRow)
     (draft : ℕ → Option Placing) : Type 0 where
   pub numbered : (d : ℕ) → IsSome (draft d) → (1 ≤ d) × (d ≤ 8)
-  pub rows : (d : ℕ) → map no_of (drafts_at d found) ≡ once (is_some (draft d)) d
+  pub rows : (d : ℕ) → map no_of (drafts_at d found) ≡ number_if (is_some (draft d)) d
   pub slots : (d : ℕ) (T : Placing) → draft d ≡ Some T → AreSlots I d places T
   pub scored : All
       (λ row. (T : Placing) → draft row.no ≡ Some T → parts_of row ≡ track I E T) found
@@ -74,7 +74,7 @@ module _ (I : Session) (E : Enrolled) (found : List DraftRow) (places : List Slo
 
   row_of : (d : ℕ) (b : Bool) → eqb d row.no ≡ b
       → map no_of (drafts_at d found ++ cond (eqb row.no d) (row ∷ []) [])
-      ≡ once (is_some (cond b (Some T) (draft d))) d
+      ≡ number_if (is_some (cond b (Some T) (draft d))) d
   row_of d true f =
       let same : row.no ≡ d = grind (arith, nat_tests, f) in
       let here : eqb row.no d ≡ true = grind (arith, nat_tests, f) in
@@ -154,7 +154,7 @@ module _ (I : Session) (E : Enrolled) (found : List DraftRow) (places : List Slo
       subst (λ n. 1 ≤ length (drafts_at n found)) same
       (one_passes (is_of slot.draft) found some) in
       let rows : map no_of (drafts_at d found) ≡ []
-      = h.rows d ∙ ap (λ o. once (is_some o) d) f in
+      = h.rows d ∙ ap (λ o. number_if (is_some o) d) f in
       absurd (let long = ap length rows in
       omega (arith, long, length-map (drafts_at d found) no_of, one))
 
@@ -186,14 +186,14 @@ module _ (I : Session) (E : Enrolled) (found : List DraftRow) (places : List Slo
 module _ (I : Session) (E : Enrolled) (found : List DraftRow) (places : List SlotRow)
     (draft : ℕ → Option Placing) (h : AreDrafts I E found places draft) where
   -- how many rows a draft has
-  few : (b : Bool) (d : ℕ) → map no_of (drafts_at d found) ≡ once b d
+  few : (b : Bool) (d : ℕ) → map no_of (drafts_at d found) ≡ number_if b d
       → length (drafts_at d found) ≡ cond b 1 0
   few true d e = sym (length-map (drafts_at d found) no_of) ∙ ap length e
   few false d e = sym (length-map (drafts_at d found) no_of) ∙ ap length e
 
   count : (d : ℕ) (o : Option Placing) → draft d ≡ o
       → length (drafts_at d found) ≡ cond (is_some o) 1 0
-  count d o f = few (is_some o) d (h.rows d ∙ ap (λ o. once (is_some o) d) f)
+  count d o f = few (is_some o) d (h.rows d ∙ ap (λ o. number_if (is_some o) d) f)
 
   -- a row is of a draft
   drafted_at : (d : ℕ) → 1 ≤ length (drafts_at d found) → (o : Option Placing) → draft d ≡ o

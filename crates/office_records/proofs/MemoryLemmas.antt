@@ -21,7 +21,7 @@ use Rattle.office_tables.specs.Tables.{Tables, Meta}
 use Rattle.office_tables.specs.TablesHeld.{HoldsTablesIn}
 use Rattle.office_tables.specs.declared.version.Version.{Version}
 use Rattle.office_tables.specs.declared.version.Version.TheVariants.{Two}
-use Rattle.office_tables.specs.Stored.{Holds, keyed, keyless}
+use Rattle.office_tables.specs.Stored.{Holds, keyed_columns, keyless_columns}
 use Rattle.office_tables.specs.Meta.{meta_columns, flag}
 use Rattle.office_tables.specs.Enrol.{enrol_columns}
 use Rattle.office_tables.specs.declared.enrol.EnrolRow.{EnrolRow}
@@ -148,11 +148,11 @@ same_enrolments I E F e f p =
 module _ (version : Version) (db : Database) (p q : Tables) (held : HoldsTablesIn version db p)
     (held2 : HoldsTablesIn version db q) where
   metas : IsPermutation p.meta q.meta
-  metas = same_rows keyed (meta_columns version) meta_back (meta_is version) p.meta q.meta
+  metas = same_rows keyed_columns (meta_columns version) meta_back (meta_is version) p.meta q.meta
       (db.trees 0) held.meta held2.meta
 
   enrols : IsPermutation p.enrol q.enrol
-  enrols = same_rows keyless enrol_columns columns_back columns_are p.enrol q.enrol (db.trees 2)
+  enrols = same_rows keyless_columns enrol_columns columns_back columns_are p.enrol q.enrol (db.trees 2)
       held.enrol held2.enrol
 
   nothing_loaded : (r : Records) → TablesRepresentOffice p None → TablesRepresentRecords q r → ⊥

@@ -23,7 +23,7 @@ use Rattle.exam_model.specs.Limits.{RoomInLimits}
 use Rattle.exam_model.specs.declared.parts.Room.{Room}
 use Rattle.exam_model.proofs.StudentLemmas.{each_with}
 use Rattle.exam_model.proofs.SumLemmas.{chain_from_index}
-use Rattle.exam_publish.specs.Changed.{ascending, rows_of, students_of}
+use Rattle.exam_publish.specs.Changed.{sorted_numbers, rows_of, students_of}
 use Rattle.exam_publish.specs.Rows.{AreNumbered, IsAtExam, RowBefore, row_place}
 use Rattle.exam_publish.specs.Seats.{HasSeat, IsSeatOf}
 use Rattle.exam_publish.specs.Shares.{share_of, shares_of, student_shares}
@@ -54,7 +54,7 @@ use Rattle.office_records.specs.Publications.{placed_from, placed_rows, stored_s
 use Rattle.office_records.specs.PartShares.{part_rows, part_share_rows, plain_rows, room_rows}
 use Rattle.office_records.specs.SharesStored.{student_share_row, student_share_rows}
 use Rattle.office_records.specs.Representation.{RepresentsOffice, IsSound, TablesRepresentOffice, RepresentsOfficeIn}
-use Rattle.office_records.specs.TableRows.{some_dept, once, slot_rows, slots_from, enrol_row}
+use Rattle.office_records.specs.TableRows.{some_dept, number_if, slot_rows, slots_from, enrol_row}
 
 -- ---- lists
 
@@ -107,11 +107,11 @@ module _ (r : Records) (is : AreRecords r) where
       (dept_is e (eqb (r.owner_of e) 0) refl)))
 
   number_is : (d : ℕ) (b : Bool) → is_some (r.draft d) ≡ b
-      → AllByRecursion (λ n. n ≤ 8) (once b d)
+      → AllByRecursion (λ n. n ≤ 8) (number_if b d)
   number_is d false e = tt
   number_is d true e = ((is.numbered d e).1, tt)
 
-  drafts_fit : (d : ℕ) (rows : List DraftRow) → map (λ x. x.no) rows ≡ once (is_some (r.draft d)) d
+  drafts_fit : (d : ℕ) (rows : List DraftRow) → map (λ x. x.no) rows ≡ number_if (is_some (r.draft d)) d
       → AllByRecursion FitsDraft rows
   drafts_fit d rows numbers =
       all_weaker (λ (x : DraftRow). x.no ≤ 8) FitsDraft (λ x few. omega (arith, few)) rows
@@ -159,9 +159,9 @@ module _ (r : Records) (is : AreRecords r) where
 
 -- a fact about numbers holds for them in order, each once
 each_ascending : (P : ℕ → Type 0) (ss : List ℕ) → AllByRecursion P ss
-    → AllByRecursion P (ascending ss)
+    → AllByRecursion P (sorted_numbers ss)
 each_ascending P [] a = tt
-each_ascending P (s ∷ ss) a = each_with P s (ascending ss) a.0 (each_ascending P ss a.1)
+each_ascending P (s ∷ ss) a = each_with P s (sorted_numbers ss) a.0 (each_ascending P ss a.1)
 
 -- the students of one exam
 each_number : (ss : List ℕ) → AreNumbers ss → AllByRecursion (λ s. s ≤ 999999999) ss

@@ -24,7 +24,7 @@ use Rattle.office_records.specs.Publications.{ArePublicationRows}
 use Rattle.office_records.specs.FoundPublications.{ArePublished}
 use Rattle.office_records.specs.SharesStored.{AreShared}
 use Rattle.office_records.specs.Representation.{parts_of}
-use Rattle.office_records.specs.TableRows.{session_text, enrol_row, slots_from, slot_rows, once, some_dept, owners_at, drafts_at, slots_at}
+use Rattle.office_records.specs.TableRows.{session_text, enrol_row, slots_from, slot_rows, number_if, some_dept, owners_at, drafts_at, slots_at}
 
 -- the row of this session, whether it has a publication or not
 pub record IsSessionRow (found : Meta) (I : Session) : Type 0 where
@@ -53,7 +53,7 @@ pub record AreDrafts (I : Session) (E : Enrolled) (found : List DraftRow) (place
     (draft : ℕ → Option Placing) : Type 0 where
   pub numbered : (d : ℕ) → IsSome (draft d) → (1 ≤ d) × (d ≤ MAX_DRAFTS)
   pub fits : (d : ℕ) (T : Placing) → draft d ≡ Some T → Fits I E T
-  pub rows : (d : ℕ) → map (λ row. row.no) (drafts_at d found) ≡ once (is_some (draft d)) d
+  pub rows : (d : ℕ) → map (λ row. row.no) (drafts_at d found) ≡ number_if (is_some (draft d)) d
   pub slots : (d : ℕ) → IsPermutation (slots_at d places) (slot_rows d (draft d))
   pub scored : AllByRecursion
       (λ row. (T : Placing) → draft row.no ≡ Some T → parts_of row ≡ track I E T) found

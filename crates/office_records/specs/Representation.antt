@@ -15,7 +15,7 @@ use Rattle.office_tables.specs.declared.version.Version.TheVariants.{One, Two}
 use Rattle.office_model.specs.Office.{OfficeState, Records, KeptBatch, IsOffice}
 use Rattle.office_records.specs.Publications.{RowsRepresentPublication}
 use Rattle.office_records.specs.SharesStored.{AreShared}
-use Rattle.office_records.specs.TableRows.{meta_row, enrol_row, slot_rows, stored_batch, once, some_dept, owners_at, drafts_at, slots_at}
+use Rattle.office_records.specs.TableRows.{meta_row, enrol_row, slot_rows, stored_batch, number_if, some_dept, owners_at, drafts_at, slots_at}
 
 -- ---- the tables
 
@@ -29,7 +29,8 @@ pub record TablesRepresentRecords (t : Tables) (r : Records) : Type 0 where
   pub meta : t.meta ≡ meta_row (is_some r.published) r.session ∷ []
   pub owner : (e : ℕ) → map (λ o. o.dept) (owners_at e t.owner) ≡ some_dept (r.owner_of e)
   pub enrol : IsPermutation t.enrol (map enrol_row (pairs_of r.enrolments))
-  pub draft : (d : ℕ) → map (λ row. row.no) (drafts_at d t.draft) ≡ once (is_some (r.draft d)) d
+  pub draft : (d : ℕ) → map (λ row. row.no) (drafts_at d t.draft)
+      ≡ number_if (is_some (r.draft d)) d
   pub slot : (d : ℕ) → IsPermutation (slots_at d t.slot) (slot_rows d (r.draft d))
   pub published : RowsRepresentPublication t.placed t.seat r.published
   pub batches : RowsRepresentBatches t.batch r.batches

@@ -51,9 +51,9 @@ stored_batch b = record {
 }
 
 -- a number once, or not at all
-abbrev pub once : Bool → ℕ → List ℕ
-once true n = n ∷ []
-once false n = []
+abbrev pub number_if : Bool → ℕ → List ℕ
+number_if true n = n ∷ []
+number_if false n = []
 
 -- a department, or none
 abbrev pub some_dept : ℕ → List ℕ

@@ -5,7 +5,7 @@ use Rattle.serde_json.specs.Written.{compact_text}
 use Rattle.exam_score.specs.Penalty.{PersonalPenalty, personal_total}
 use Rattle.office_model.specs.declared.views.ViewRow.{ViewRow}
 use Rattle.serde_json.specs.View.{items_of}
-use Rattle.office_replies.specs.Views.{counted, or_null}
+use Rattle.office_replies.specs.Views.{json_number, or_null}
 use Rattle.office_replies.specs.DayTexts.{date_text, start_text}
 
 -- a text, or null if there is none
@@ -24,7 +24,7 @@ state_text false seat = codes "withdrawn"
 abbrev pub exam_data : ViewRow → Data
 exam_data row = object
     (member (codes "date") (text_or_null (option_map (λ at. date_text at.date) row.at))
-    (member (codes "exam") (counted row.exam)
+    (member (codes "exam") (json_number row.exam)
     (member (codes "period") (or_null (option_map (λ at. at.period) row.at))
     (member (codes "room") (or_null (option_map (λ at. at.room) row.at))
     (member (codes "seat") (or_null row.seat)
@@ -34,18 +34,18 @@ exam_data row = object
 -- a candidate: their number, their exams, and the cost of these
 abbrev pub candidate_data : ℕ → List ViewRow → PersonalPenalty → Data
 candidate_data s rows penalty = object
-    (member (codes "candidate") (counted s)
+    (member (codes "candidate") (json_number s)
     (member (codes "exams") (array (items_of (map exam_data rows)))
-    (member (codes "penalty") (counted (personal_total penalty)) no_members)))
+    (member (codes "penalty") (json_number (personal_total penalty)) no_members)))
 
 -- the cost of the candidate's exams, and its total
 abbrev pub cost_data : PersonalPenalty → Data
 cost_data penalty = object
-    (member (codes "day") (counted penalty.day)
-    (member (codes "night") (counted penalty.night)
-    (member (codes "penalty") (counted (personal_total penalty))
-    (member (codes "row") (counted penalty.row)
-    (member (codes "spread") (counted penalty.spread) no_members)))))
+    (member (codes "day") (json_number penalty.day)
+    (member (codes "night") (json_number penalty.night)
+    (member (codes "penalty") (json_number (personal_total penalty))
+    (member (codes "row") (json_number penalty.row)
+    (member (codes "spread") (json_number penalty.spread) no_members)))))
 
 -- one of the candidate's exams, as text
 abbrev pub exam_text : ViewRow → List ℕ

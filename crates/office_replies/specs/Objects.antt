@@ -12,8 +12,8 @@ pub record PlainMember : Type 0 where
   pub value : List ℕ
 
 -- a word between quotes
-abbrev pub quoted : List ℕ → List ℕ
-quoted word = codes "\"" ++ word ++ codes "\""
+abbrev pub quoted_word : List ℕ → List ℕ
+quoted_word word = codes "\"" ++ word ++ codes "\""
 
 -- a member that is a number, or a word
 abbrev pub number : List ℕ → ℕ → PlainMember
@@ -21,11 +21,11 @@ number key n = record { key = key; value = decimal n }
 
 -- a member whose value is a word in quotes
 abbrev pub word : List ℕ → List ℕ → PlainMember
-word key w = record { key = key; value = quoted w }
+word key w = record { key = key; value = quoted_word w }
 
 -- a member in JSON: its key in quotes, a colon, its value
 unfoldable pub member_text : PlainMember → List ℕ
-member_text m = quoted m.key ++ codes ":" ++ m.value
+member_text m = quoted_word m.key ++ codes ":" ++ m.value
 
 -- one more member, after a comma
 abbrev pub further_text : PlainMember → List ℕ
@@ -41,7 +41,7 @@ object_text first others =
 -- a member's value, as text
 abbrev pub value_text : Value → List ℕ
 value_text (Number n) = decimal n
-value_text (Word w) = quoted w.now
+value_text (Word w) = quoted_word w.now
 
 -- a member as lists of bytes
 abbrev pub plain_member : Member → PlainMember

@@ -8,18 +8,18 @@ use Rattle.exam_terms.specs.declared.place.Place.{Place}
 use Rattle.exam_model.specs.Timetable.{Placing, place_of}
 
 -- a number in JSON
-abbrev pub counted : ℕ → Data
-counted n = number (unsigned n)
+abbrev pub json_number : ℕ → Data
+json_number n = number (unsigned n)
 
 -- a number, or null if there is none
 abbrev pub or_null : Option ℕ → Data
 or_null None = null
-or_null (Some n) = counted n
+or_null (Some n) = json_number n
 
 -- an exam and its place; period and room are null if it has none
 abbrev pub exam_data : ℕ → Option Place → Data
 exam_data e at = object
-    (member (codes "exam") (counted e)
+    (member (codes "exam") (json_number e)
     (member (codes "period") (or_null (option_map (λ at. at.period) at))
     (member (codes "room") (or_null (option_map (λ at. at.room) at)) no_members)))
 
@@ -30,9 +30,9 @@ exams_data T = map (λ e. exam_data e (place_of T e)) (range_with_len 0 (length 
 -- a draft: its number, its exams, its penalty
 abbrev pub draft_data : ℕ → Placing → ℕ → Data
 draft_data d T penalty = object
-    (member (codes "draft") (counted d)
+    (member (codes "draft") (json_number d)
     (member (codes "exams") (array (items_of (exams_data T)))
-    (member (codes "penalty") (counted penalty) no_members)))
+    (member (codes "penalty") (json_number penalty) no_members)))
 
 -- a draft, the place of each exam and its penalty, as text
 abbrev pub draft_text : ℕ → Placing → ℕ → List ℕ

@@ -4,7 +4,7 @@ ghost use Rattle.std.specs.Prelude.{◌≡◌, ◌+◌, ◌≤◌, ◌++◌, All
 ghost use Rattle.std.specs.Prelude.{map, vec_len, vec_capacity};
 ghost use Rattle.office_messages.specs.Reply.{plain_reply, json_reply};
 ghost use Rattle.office_replies.specs.Objects.{IsShort, IsShortValue, member_text, object_text};
-ghost use Rattle.office_replies.specs.Objects.{plain_member, quoted, value_text};
+ghost use Rattle.office_replies.specs.Objects.{plain_member, quoted_word, value_text};
 
 use itoa::Buffer;
 use office_messages::{Content, Payload, Reply, Status, put};
@@ -144,7 +144,7 @@ fn put_number(room: &mut Vec<u8>, number: u64)
 fn put_word(room: &mut Vec<u8>, word: &[u8])
     requires short { length word.now ≤ WORD_BYTES }
     requires room { vec_len room.old + SAID_BYTES ≤ vec_capacity room.old }
-    ensures text { room.new.items ≡ room.old.items ++ quoted word.now }
+    ensures text { room.new.items ≡ room.old.items ++ quoted_word word.now }
     ensures len { vec_len room.new ≤ vec_len room.old + SAID_BYTES }
     ensures room { vec_capacity room.old ≤ vec_capacity room.new }
 {

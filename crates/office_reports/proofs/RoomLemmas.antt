@@ -5,7 +5,7 @@ use Rattle.std.specs.List.{flat_map, range_with_len, repeat}
 use Rattle.std.specs.Fmt.{padded_integral, format_spec, char_count}
 use Rattle.std.proofs.lemmas.List.{flat_map_more}
 use Rattle.std.proofs.lemmas.List.Elements.{filter-append}
-use Rattle.office_reports.specs.Rooms.{right}
+use Rattle.office_reports.specs.Rooms.{right_aligned}
 
 -- spaces, one after the other
 spaces : (s n : ℕ) → repeat n (s ∷ []) ≡ replicate n s
@@ -24,7 +24,7 @@ padded_left n numeral =
 
 -- the text written for `{:3}`, or for another width
 pub in_column : (width n : ℕ) →
-    padded_integral (format_spec 32 0 0 width (2 ^ 64 - 1)) false [] (decimal n) ≡ right width n
+    padded_integral (format_spec 32 0 0 width (2 ^ 64 - 1)) false [] (decimal n) ≡ right_aligned width n
 unfolding padded_integral char_count lib.Utf8.encode
 in_column width n = padded_left (width - length (decimal n)) (decimal n)
 

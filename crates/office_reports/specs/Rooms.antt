@@ -10,12 +10,12 @@ use Rattle.exam_publish.specs.declared.seat_row.SeatRow.{SeatRow}
 use Rattle.exam_rules.specs.Places.{is_one_place, place_satisfies}
 
 -- a number at the right of a column of this width; a longer one takes the room it needs
-abbrev pub right : ℕ → ℕ → List ℕ
-right width n = replicate (width - length (decimal n)) 32 ++ decimal n
+abbrev pub right_aligned : ℕ → ℕ → List ℕ
+right_aligned width n = replicate (width - length (decimal n)) 32 ++ decimal n
 
 -- each exam, with a space before it
-abbrev pub spaced : List ℕ → List ℕ
-spaced exams = flat_map (λ e. 32 ∷ decimal e) exams
+abbrev pub spaced_numbers : List ℕ → List ℕ
+spaced_numbers exams = flat_map (λ e. 32 ∷ decimal e) exams
 
 -- the place of these numbers
 abbrev pub place : ℕ → ℕ → Place
@@ -39,8 +39,9 @@ capacity_of (Some room) = room.capacity
 -- after two spaces the exams
 abbrev pub room_line : Place → ℕ → ℕ → List ℕ → List ℕ
 room_line at used capacity exams =
-    right 3 at.period ++ right 5 at.room ++ right 8 used ++ right 8 capacity
-    ++ 32 ∷ spaced exams ++ 10 ∷ []
+    right_aligned 3 at.period ++ right_aligned 5 at.room
+    ++ right_aligned 8 used ++ right_aligned 8 capacity
+    ++ 32 ∷ spaced_numbers exams ++ 10 ∷ []
 
 -- the line of a place; empty if no exam is there
 abbrev pub line_with : Place → ℕ → ℕ → List ℕ → List ℕ

@@ -8,7 +8,7 @@ use Rattle.matchit.specs.Rows.{RowsOf, param_token}
 use Rattle.matchit.specs.Level.{IsText}
 use Rattle.matchit.specs.Seek.{slash, segment, has_slash, same_text, own, step, or_else}
 use Rattle.matchit.specs.Seek.{with_suffix, seek, first}
-use Rattle.office_requests.specs.Patterns.{rest_of_segment, takes}
+use Rattle.office_requests.specs.Patterns.{rest_of_segment, is_match}
 use Rattle.office_requests.specs.Pages.{IsIn, Finds}
 use Rattle.office_requests.proofs.Plain.{FindsNone, EndsSegment, ArePlain}
 use Rattle.office_requests.proofs.SeekLemmas.{AreTails, has_more, param_at, param_found, param_lost}
@@ -250,22 +250,22 @@ module _ (K : Type 0) where
   complete_param : (n : ℕ) → Complete n → (rows : RowsOf K) (b : ℕ) (path : List ℕ) →
       length path ≤ n → ArePlain rows → param_at (step param_token rows) b path ≡ None
       → (s : List ℕ) (k : K) → IsIn s k (step param_token rows) → b == 47 ≡ false →
-      takes s (rest_of_segment path) ≡ true → ⊥
+      is_match s (rest_of_segment path) ≡ true → ⊥
   complete_param n more rows b path short good h s k i e t = go (has_slash path) refl s i t
     where
       good_tails : AreTails (step param_token rows)
       good_tails = tails_step rows good
 
-      ends : (s rest : List ℕ) → rest ≡ [] → takes s rest ≡ true → s ≡ []
+      ends : (s rest : List ℕ) → rest ≡ [] → is_match s rest ≡ true → s ≡ []
       ends [] rest r t = refl
       ends (x ∷ s) rest r t = absurd (let f : false ≡ true = rw r at t in cc)
 
-      begun : (rest : List ℕ) → 0 < length rest → takes [] rest ≡ true → ⊥
+      begun : (rest : List ℕ) → 0 < length rest → is_match [] rest ≡ true → ⊥
       begun [] p t = omega arith
       begun (c ∷ rest) p t = cc
 
       go : (v : Bool) → has_slash path ≡ v → (s : List ℕ) → IsIn s k (step param_token rows) →
-          takes s (rest_of_segment path) ≡ true → ⊥
+          is_match s (rest_of_segment path) ≡ true → ⊥
       go true slashed [] i t = begun (rest_of_segment path) (rest_some path slashed) t
       go true slashed (x ∷ s) i t =
           more (with_suffix (47 ∷ []) (step param_token rows)) (rest_of_segment path)
@@ -292,14 +292,14 @@ module _ (K : Type 0) where
 
       go : (v : Bool) → (x == 256) ≡ v → Complete n → ⊥
       go true e more =
-          let parts = both _ _ (let t2 : (not (b == slash) && takes s (rest_of_segment path))
+          let parts = both _ _ (let t2 : (not (b == slash) && is_match s (rest_of_segment path))
           ≡ true = rw e at t in t2) in
           let open_byte : b == 47 ≡ false = flip (b == 47) parts.0 in
           let i2 = subst (λ (z : ℕ). IsIn (z ∷ s) k rows) (eqb-true x 256 e) i in
           complete_param n more rows b path (omega arith) good none.1 s k
           (step_in param_token rows s k i2) open_byte parts.1
       go false e more =
-          let parts = both _ _ (let t2 : ((x == b) && takes s path) ≡ true = rw e at t in t2) in
+          let parts = both _ _ (let t2 : ((x == b) && is_match s path) ≡ true = rw e at t in t2) in
           let i2 = subst (λ (z : ℕ). IsIn (z ∷ s) k rows) (eqb-true x b parts.0) i in
           more (step b rows) path (omega arith) (plain_step b rows good) none.0 s k
           (step_in b rows s k i2) parts.1

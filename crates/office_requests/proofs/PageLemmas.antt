@@ -9,7 +9,7 @@ use Rattle.matchit.specs.Route.{scan}
 use Rattle.matchit.specs.Router.{RouteOf}
 use Rattle.matchit.specs.Seek.{slash, first}
 use Rattle.office_requests.specs.declared.routes.Page.{Page}
-use Rattle.office_requests.specs.Patterns.{takes}
+use Rattle.office_requests.specs.Patterns.{is_match}
 use Rattle.office_requests.specs.Pages.{IsIn}
 use Rattle.office_requests.proofs.Plain.{EndsSegment, IsPlain, ArePlain}
 use Rattle.office_requests.specs.Table.{Rows, table, adds, adds_all, page_at}
@@ -129,44 +129,44 @@ none_clause path (Some q) e n p = cc
 
 -- a row found by a search is among the rows and takes the path
 found_in : (rows : List (List ℕ × Page)) (path : List ℕ) (row : List ℕ × Page) →
-    find (λ r. takes r.0 path) rows ≡ Some row → IsIn row.0 row.1 rows × (takes row.0 path ≡ true)
+    find (λ r. is_match r.0 path) rows ≡ Some row → IsIn row.0 row.1 rows × (is_match row.0 path ≡ true)
 found_in [] path row e = cc
-found_in (r ∷ rows) path row e = go (takes r.0 path) refl (found_in rows path row)
+found_in (r ∷ rows) path row e = go (is_match r.0 path) refl (found_in rows path row)
   where
-    go : (v : Bool) → takes r.0 path ≡ v →
-        (find (λ r. takes r.0 path) rows ≡ Some row →
-        IsIn row.0 row.1 rows × (takes row.0 path ≡ true)) →
-        IsIn row.0 row.1 (r ∷ rows) × (takes row.0 path ≡ true)
+    go : (v : Bool) → is_match r.0 path ≡ v →
+        (find (λ r. is_match r.0 path) rows ≡ Some row →
+        IsIn row.0 row.1 rows × (is_match row.0 path ≡ true)) →
+        IsIn row.0 row.1 (r ∷ rows) × (is_match row.0 path ≡ true)
     go true t more =
         let some : ◌≡◌ {A = Option (List ℕ × Page)} (Some r) (Some row) = rw t at e in
         let same : r ≡ row = cc in
         let text = ap (λ (x : List ℕ × Page). x.0) same in (
           inl (text, ap (λ (x : List ℕ × Page). x.1) same),
-          ap (λ (x : List ℕ). takes x path) (sym text) ∙ t,
+          ap (λ (x : List ℕ). is_match x path) (sym text) ∙ t,
         )
     go false t more = let found = more (rw t at e) in (inr found.0, found.1)
 
 -- if it finds nothing, no row takes the path
 none_in : (rows : List (List ℕ × Page)) (path t : List ℕ) (p : Page) →
-    find (λ r. takes r.0 path) rows ≡ None → IsIn t p rows → takes t path ≡ true → ⊥
+    find (λ r. is_match r.0 path) rows ≡ None → IsIn t p rows → is_match t path ≡ true → ⊥
 none_in [] path t p e i k = i
-none_in (r ∷ rows) path t p e i k = go (takes r.0 path) refl i (none_in rows path t p)
+none_in (r ∷ rows) path t p e i k = go (is_match r.0 path) refl i (none_in rows path t p)
   where
-    go : (v : Bool) → takes r.0 path ≡ v → IsIn t p (r ∷ rows) →
-        (find (λ r. takes r.0 path) rows ≡ None → IsIn t p rows → takes t path ≡ true → ⊥) → ⊥
+    go : (v : Bool) → is_match r.0 path ≡ v → IsIn t p (r ∷ rows) →
+        (find (λ r. is_match r.0 path) rows ≡ None → IsIn t p rows → is_match t path ≡ true → ⊥) → ⊥
     go true u i more =
         let none : ◌≡◌ {A = Option (List ℕ × Page)} (Some r) None = rw u at e in cc
     go false u (inl here) more =
-        let same = ap (λ (x : List ℕ). takes x path) here.0 in
+        let same = ap (λ (x : List ℕ). is_match x path) here.0 in
         let both : true ≡ false = sym k ∙ sym same ∙ u in cc
     go false u (inr there) more = more (rw u at e) there k
 
 -- the page of a path, if it has one
 pub page_some : (path : List ℕ) (p : Page) → IsRouteTo p path → Some p ≡ page_of path
 unfolding page_of
-page_some path p leads = go (find (λ r. takes r.0 path) pages) refl
+page_some path p leads = go (find (λ r. is_match r.0 path) pages) refl
   where
-    go : (o : Option (List ℕ × Page)) → find (λ r. takes r.0 path) pages ≡ o →
+    go : (o : Option (List ℕ × Page)) → find (λ r. is_match r.0 path) pages ≡ o →
         Some p ≡ option_map (λ (row : List ℕ × Page). row.1) o
     go None e = absurd (none_in pages path leads.pattern p e leads.is_in leads.matches_path)
     go (Some row) e =
@@ -180,9 +180,9 @@ page_some path p leads = go (find (λ r. takes r.0 path) pages) refl
 
 page_nowhere : (path : List ℕ) → ((p : Page) → ¬ (IsRouteTo p path)) → None ≡ page_of path
 unfolding page_of
-page_nowhere path none = go (find (λ r. takes r.0 path) pages) refl
+page_nowhere path none = go (find (λ r. is_match r.0 path) pages) refl
   where
-    go : (o : Option (List ℕ × Page)) → find (λ r. takes r.0 path) pages ≡ o →
+    go : (o : Option (List ℕ × Page)) → find (λ r. is_match r.0 path) pages ≡ o →
         ◌≡◌ {A = Option Page} None (option_map (λ (row : List ℕ × Page). row.1) o)
     go None e = refl
     go (Some row) e =

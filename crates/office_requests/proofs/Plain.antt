@@ -2,13 +2,13 @@
 use Rattle.std.proofs.Common.{◌≡◌, ◌<◌, ◌⊎◌, ℕ, List, [], ◌∷◌, true}
 use Rattle.matchit.specs.Rows.{RowsOf, param_token}
 use Rattle.matchit.specs.Seek.{slash}
-use Rattle.office_requests.specs.Patterns.{takes}
+use Rattle.office_requests.specs.Patterns.{is_match}
 use Rattle.office_requests.specs.Pages.{IsIn}
 
 -- none of the rows takes the path
 abbrev pub FindsNone : {K : Type 0} → RowsOf K → List ℕ → Type 0
 FindsNone {K} rows path =
-    (pattern : List ℕ) (k : K) → IsIn pattern k rows → takes pattern path ≡ true → ⊥
+    (pattern : List ℕ) (k : K) → IsIn pattern k rows → is_match pattern path ≡ true → ⊥
 
 -- the rest begins with a slash, or is nothing
 abbrev pub EndsSegment : List ℕ → Type 0

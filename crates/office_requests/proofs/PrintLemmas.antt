@@ -13,7 +13,7 @@ use Rattle.matchit.specs.Rows.{param_token}
 use Rattle.matchit.specs.Seek.{slash}
 use Rattle.office_policy.specs.Numbers.{IsSmall, number_of}
 use Rattle.office_requests.specs.Paths.{first_segment, rest_after_slash}
-use Rattle.office_requests.specs.Patterns.{takes, rest_of_segment}
+use Rattle.office_requests.specs.Patterns.{is_match, rest_of_segment}
 use Rattle.office_requests.proofs.Plain.{EndsSegment}
 
 -- ---- numbers
@@ -69,7 +69,7 @@ rest_is (b ∷ bs) rest bare ends = rw bare.0 (rest_is bs rest bare.1 ends)
 
 takes_text : (ds pattern rest : List ℕ) → 0 < length ds
     → NoSlash ds → EndsSegment rest
-    → takes (param_token ∷ pattern) (ds ++ rest) ≡ takes pattern rest
+    → is_match (param_token ∷ pattern) (ds ++ rest) ≡ is_match pattern rest
 takes_text [] pattern rest some bare ends = absurd (omega arith)
 takes_text (b ∷ bs) pattern rest some bare ends =
     rw (bare.0, rest_is bs rest bare.1 ends) refl
@@ -88,7 +88,7 @@ rest_of_digits (b ∷ bs) rest bare = rw bare.0 (rest_of_digits bs rest bare.1)
 
 -- a number in a pattern takes one in a path
 pub takes_number : (n : ℕ) (pattern rest : List ℕ) → IsSmall n → EndsSegment rest
-    → takes (param_token ∷ pattern) (decimal n ++ rest) ≡ takes pattern rest
+    → is_match (param_token ∷ pattern) (decimal n ++ rest) ≡ is_match pattern rest
 takes_number n pattern rest small ends =
     let is = writes n small in
     takes_text (decimal n) pattern rest is.some (without_slash (decimal n) is.digits) ends

@@ -6,7 +6,7 @@ use Rattle.office_policy.specs.declared.callers.Caller.{Caller}
 use Rattle.office_policy.specs.Commands.{PlainCommand}
 use Rattle.office_requests.specs.Commands.{HasJson}
 use Rattle.office_requests.specs.Methods.{verb_of}
-use Rattle.office_requests.specs.Requests.{PlainCallerCommand, caller_in, command_by, reading}
+use Rattle.office_requests.specs.Requests.{PlainCallerCommand, caller_in, command_by, command_or_refusal}
 use Rattle.office_requests.specs.Answering.{ReturnsCommand, ReturnsCallerCommand}
 use Rattle.office_requests.specs.declared.requests.Refusal.{Refusal}
 use Rattle.office_requests.specs.declared.requests.Refusal.TheVariants as refusal
@@ -32,7 +32,7 @@ refused_so who said refusal.NoMemory json = asked_is_ok who said json
 pub refused : (value : Option (List ℕ)) (who : Caller) (method path body : List ℕ) (e : Refusal)
     → Some who ≡ caller_in value → ReturnsCommand (command_by who (verb_of method) path body)
     (Err e)
-    → ReturnsCallerCommand (reading method path value body) (Err e)
+    → ReturnsCallerCommand (command_or_refusal method path value body) (Err e)
 refused value who method path body e is gives =
     subst (λ (o : Option Caller). ReturnsCallerCommand (else_err refusal.Caller o >>=
     (λ who. with_caller who (command_by who (verb_of method) path body))) (Err e)) is

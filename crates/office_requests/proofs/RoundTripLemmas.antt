@@ -21,11 +21,11 @@ use Rattle.office_requests.specs.Methods.{verb_of}
 use Rattle.office_requests.specs.Pages.{Part, word, number, parts_of, pattern_of}
 use Rattle.office_requests.specs.Pages.{IsIn, pages, page_of}
 use Rattle.office_requests.specs.Paths.{numbers_in, three, numbers_of}
-use Rattle.office_requests.specs.Patterns.{takes}
+use Rattle.office_requests.specs.Patterns.{is_match}
 use Rattle.office_requests.specs.Printing.{row_of, path_with, path_of, method_of}
 use Rattle.office_requests.specs.PrintedBodies.{BodyHasValue, MaySendCommand}
 use Rattle.office_requests.specs.Requests.{caller_in, candidate_command, staff_command}
-use Rattle.office_requests.specs.Requests.{command_by, reading}
+use Rattle.office_requests.specs.Requests.{command_by, command_or_refusal}
 use Rattle.office_requests.specs.declared.methods.Verb.{Verb}
 use Rattle.office_requests.specs.declared.routes.Page.{Page}
 use Rattle.office_requests.specs.declared.routes.Page.TheVariants as page
@@ -52,7 +52,7 @@ bare_word (b ∷ w) is =
     (flip (b == slash) (both _ _ parts.0).0, bare_word w parts.1)
 
 takes_word : (w pattern path : List ℕ) → is_word w ≡ true
-    → takes (w ++ pattern) (w ++ path) ≡ takes pattern path
+    → is_match (w ++ pattern) (w ++ path) ≡ is_match pattern path
 takes_word [] pattern path is = refl
 takes_word (b ∷ w) pattern path is =
     let parts = both _ _ is in
@@ -78,7 +78,7 @@ ends (number ∷ parts) (n ∷ ns) = refl
 
 -- the pattern takes the path
 takes_path : (parts : List Part) (ns : List ℕ) → are_words parts ≡ true → Fills parts ns
-    → takes (pattern_of parts) (path_with parts ns) ≡ true
+    → is_match (pattern_of parts) (path_with parts ns) ≡ true
 takes_path [] [] words fills = refl
 takes_path [] (n ∷ ns) words fills = absurd fills
 takes_path (word w ∷ parts) ns words fills =
@@ -123,7 +123,7 @@ in_pages page.Me = search (inl, inr, same_row) depth 60 fits 4000
 in_pages _ = search (inl, inr, same_row) depth 60 fits 4000
 
 -- a path that the pattern of the page takes is the page's
-page_is : (p : Page) (path : List ℕ) → takes (pattern_of (parts_of p)) path ≡ true
+page_is : (p : Page) (path : List ℕ) → is_match (pattern_of (parts_of p)) path ≡ true
     → page_of path ≡ Some p
 page_is p path matches_path =
     sym (page_some path p record {
@@ -204,6 +204,6 @@ asked _ c body comes small has_value = staff_asks c body small has_value
 -- a request that is printed is read back
 pub read_back : (value : Option (List ℕ)) (who : Caller) (c : PlainCommand) (body : List ℕ)
     → caller_in value ≡ Some who → MaySendCommand who c → HasSmallNumbers c → BodyHasValue body c
-    → reading (method_of c) (path_of c) value body ≡ Ok (record { caller = who; command = c })
+    → command_or_refusal (method_of c) (path_of c) value body ≡ Ok (record { caller = who; command = c })
 read_back value who c body e comes small has_value = rw
     (e, asked who c body comes small has_value) refl

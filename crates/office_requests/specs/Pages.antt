@@ -3,7 +3,7 @@ use Rattle.std.specs.Prelude.{◌≡◌, ◌⊎◌, ℕ, true, List, [], ◌∷�
 use Rattle.std.specs.Prelude.{Option, option_map}
 use Rattle.matchit.specs.Rows.{RowsOf, param_token}
 use Rattle.matchit.specs.Seek.{slash}
-use Rattle.office_requests.specs.Patterns.{takes}
+use Rattle.office_requests.specs.Patterns.{is_match}
 use Rattle.office_requests.specs.declared.routes.Page.{Page}
 use Rattle.office_requests.specs.declared.routes.Page.TheVariants as page
 
@@ -68,7 +68,7 @@ IsIn t k (row ∷ rows) = ((row.0 ≡ t) × (row.1 ≡ k)) ⊎ IsIn t k rows
 pub record Finds {K : Type 0} (rows : RowsOf K) (path : List ℕ) (k : K) : Type 0 where
   pub pattern : List ℕ
   pub is_in : IsIn pattern k rows
-  pub matches_path : takes pattern path ≡ true
+  pub matches_path : is_match pattern path ≡ true
 
 -- the path leads to the page
 abbrev pub IsRouteTo : Page → List ℕ → Type 0
@@ -76,4 +76,4 @@ IsRouteTo p path = Finds pages path p
 
 -- the page that a path leads to
 unfoldable pub page_of : List ℕ → Option Page
-page_of path = option_map (λ row. row.1) (find (λ row. takes row.0 path) pages)
+page_of path = option_map (λ row. row.1) (find (λ row. is_match row.0 path) pages)

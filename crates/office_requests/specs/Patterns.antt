@@ -10,10 +10,10 @@ rest_of_segment [] = []
 rest_of_segment (b ∷ path) = if b == slash then b ∷ path else rest_of_segment path
 
 -- a byte of a pattern takes the same byte, and a number takes a segment, which isn't empty
-abbrev pub takes : List ℕ → List ℕ → Bool
-takes [] [] = true
-takes [] (b ∷ path) = false
-takes (x ∷ pattern) [] = false
-takes (x ∷ pattern) (b ∷ path) =
-    if x == param_token then not (b == slash) && takes pattern (rest_of_segment path)
-    else (x == b) && takes pattern path
+abbrev pub is_match : List ℕ → List ℕ → Bool
+is_match [] [] = true
+is_match [] (b ∷ path) = false
+is_match (x ∷ pattern) [] = false
+is_match (x ∷ pattern) (b ∷ path) =
+    if x == param_token then not (b == slash) && is_match pattern (rest_of_segment path)
+    else (x == b) && is_match pattern path

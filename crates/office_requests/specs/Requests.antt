@@ -2,7 +2,7 @@
 use Rattle.std.specs.Prelude.{ℕ, List, [], Option, Some, None, option_and_then}
 use Rattle.std.specs.Prelude.{Result, Ok, Err}
 use Rattle.exam_terms.specs.Refusing.{◌>>=◌, else_err}
-use Rattle.exam_terms.specs.Texts.{trimmed}
+use Rattle.exam_terms.specs.Texts.{trimmed_text}
 use Rattle.office_policy.specs.Callers.{caller_of}
 use Rattle.office_policy.specs.declared.callers.Caller.{Caller}
 use Rattle.office_policy.specs.declared.callers.Caller.TheVariants.{Cand}
@@ -20,7 +20,7 @@ use Rattle.office_requests.specs.declared.requests.Refusal.TheVariants as refusa
 
 -- the caller that the header names, if it is there exactly once
 abbrev pub caller_in : Option (List ℕ) → Option Caller
-caller_in value = option_and_then (λ v. caller_of (trimmed v)) value
+caller_in value = option_and_then (λ v. caller_of (trimmed_text v)) value
 
 -- the office and departments ask for a command of a page
 abbrev pub staff_command : Verb → List ℕ → List ℕ → Result PlainCommand Refusal
@@ -60,8 +60,9 @@ abbrev pub plain_caller_command : CallerCommand → PlainCallerCommand
 plain_caller_command asked = record { caller = asked.caller; command = plain_command asked.command }
 
 -- the caller and the command: the caller is judged first
-abbrev pub reading : List ℕ → List ℕ → Option (List ℕ) → List ℕ → Result PlainCallerCommand Refusal
-reading method path value body =
+abbrev pub command_or_refusal : List ℕ → List ℕ → Option (List ℕ) → List ℕ
+    → Result PlainCallerCommand Refusal
+command_or_refusal method path value body =
     else_err refusal.Caller (caller_in value) >>= (λ who.
     command_by who (verb_of method) path body >>= (λ asked.
     Ok (record { caller = who; command = asked })))

@@ -6,7 +6,7 @@ ghost use Rattle.office_requests.specs.Methods.{verb_of, allow_of, is_listed};
 ghost use Rattle.office_requests.specs.Pages.{page_of};
 ghost use Rattle.office_requests.specs.Printing.{path_of, method_of};
 ghost use Rattle.office_requests.specs.PrintedBodies.{BodyHasValue, MaySendCommand};
-ghost use Rattle.office_requests.specs.Requests.{caller_in, staff_command, reading};
+ghost use Rattle.office_requests.specs.Requests.{caller_in, staff_command, command_or_refusal};
 ghost use Rattle.office_requests.specs.declared.routes.Page.{Page};
 ghost use Rattle.office_requests.specs.declared.requests.Refusal.TheVariants as refusal;
 
@@ -29,6 +29,6 @@ pub fn commands_are_read_back()
     ensures { (value : Option (List ℕ)) (who : Caller) (c : PlainCommand) (body : List ℕ)
         → caller_in value ≡ Some who → MaySendCommand who c → HasSmallNumbers c
         → BodyHasValue body c
-        → reading (method_of c) (path_of c) value body
+        → command_or_refusal (method_of c) (path_of c) value body
         ≡ Ok (record { caller = who; command = c }) }
 {}

@@ -6,7 +6,7 @@ ghost use Rattle.office_policy.specs.CommandBodies.{HoldsText};
 ghost use Rattle.office_policy.specs.Commands.{plain_command, HasSmallNumbers};
 ghost use Rattle.office_requests.specs.Methods.{verb_of};
 ghost use Rattle.office_requests.specs.Requests.{caller_in, own_command, staff_command};
-ghost use Rattle.office_requests.specs.Requests.{command_by, reading};
+ghost use Rattle.office_requests.specs.Requests.{command_by, command_or_refusal};
 ghost use Rattle.office_requests.specs.Answering.{ReturnsCallerCommand, ReturnsCommand};
 ghost use Rattle.office_requests.specs.Answering.{not_allowed, refusal_reply};
 ghost use Rattle.office_requests.specs.declared.requests.Refusal.TheVariants as refusal;
@@ -82,7 +82,8 @@ pub fn read_request<'a>(
     routes: &Routes,
     request: &Request<'a>,
 ) -> Result<CallerCommand<'a>, Refusal>
-    ensures command { ReturnsCallerCommand (reading request.now.method.now request.now.target.now
+    ensures command { ReturnsCallerCommand
+        (command_or_refusal request.now.method.now request.now.target.now
         (option_copied request.now.caller) request.now.body.now) result }
     ensures within { IfOk result (λ asked. HasSmallNumbers (plain_command asked.command)) }
     ensures text { IfOk result (λ asked. HoldsText request.now.body asked.command) }

@@ -35,7 +35,7 @@ use Rattle.office_store.specs.Leaving.{MayMigrate, found_in}
 use Rattle.office_store.specs.Opening.{HoldsOffice, IsFoundOffice, DatabaseUpgraded, WeighsNoNight}
 use Rattle.office_store.specs.declared.memory.OfficeMemory.{OfficeMemory}
 use Rattle.office_tables.specs.Alterations.{Undone}
-use Rattle.office_store.specs.Running.{IsCommitted}
+use Rattle.office_store.specs.Running.{IsAtRest, IsCommitted}
 
 -- ---- readers, one after the other
 
@@ -207,7 +207,7 @@ module _ (db : Database) (found : Found) (batches : List Batch)
         kept.office
 
 -- all was committed before the reading
-pub undone_reading : (a b : State) → (IsTrue a.is_open → a.now ≡ a.committed) → Keeps a b
+pub undone_reading : (a b : State) → IsAtRest a → Keeps a b
     → Undone a b
 undone_reading a b settled keeps = record {
   was_open = keeps.was_open;
@@ -287,7 +287,7 @@ module _ {S : Type 0} (g : Ghosts S) (old new : Held S)
   ]
 
   -- and all is committed
-  pub awake_still : (IsTrue (state g old).is_open → (state g old).now ≡ (state g old).committed)
+  pub awake_still : IsAtRest (state g old)
       → IsTrue (state g new).is_open → IsCommitted (state g new)
   awake_still settled opened = elim same [
     | inl is ↦ (

@@ -21,13 +21,13 @@ use Rattle.office_tables.specs.declared.draft.InsertDraft.{InsertDraft}
 use Rattle.office_tables.specs.declared.draft.DraftRow.{DraftRow}
 use Rattle.office_tables.specs.declared.enrol.EnrolRow.{EnrolRow}
 use Rattle.office_tables.proofs.AlterationLemmas.{drafts_put}
-use Rattle.office_enrolment.specs.AfterBatch.{latest, acting, after_batch, lines_in}
+use Rattle.office_enrolment.specs.AfterBatch.{current_enrolments, lines_with_effect, after_batch, lines_in}
 use Rattle.office_enrolment.specs.Keeping as keeping
 use Rattle.office_enrolment.specs.Rows.{after_row, after_rows, pair_of}
 use Rattle.office_enrolment.proofs.KeptLemmas.{Ascend, they_ascend}
 use Rattle.office_enrolment.proofs.LineLemmas.{accepted, all_after, line_again, line_ascends}
 use Rattle.office_enrolment.proofs.OfficeLemmas.{as_office}
-use Rattle.office_model.specs.BatchLines.{acts, after_change, after_changes, no_counts}
+use Rattle.office_model.specs.BatchLines.{has_effect, after_change, after_changes, no_counts}
 use Rattle.office_model.specs.Batches.{batch_enrolled, batch_of_number, batch_numbered, newly_enrolled}
 use Rattle.office_model.specs.Office.{AreRecords, IsOffice, OfficeState, Records}
 use Rattle.office_model.specs.declared.counts.Counts.{Counts}
@@ -142,13 +142,13 @@ line_goes change s e drop who what t =
 -- ---- no line acts
 
 -- the enrolments stay
-idle_lines : (changes : List Change) (E : Enrolled) → Ascend E → acting changes E ≡ []
+idle_lines : (changes : List Change) (E : Enrolled) → Ascend E → lines_with_effect changes E ≡ []
     → after_changes changes E ≡ E
 idle_lines [] E up none = refl
 idle_lines (change ∷ changes) E up none =
     let F : Enrolled = after_change change E in
-    let lines : List Change = acting changes F in
-    elim (acts change E) as (λ b. acts change E ≡ b → (if b then change ∷ lines else lines) ≡ []
+    let lines : List Change = lines_with_effect changes F in
+    elim (has_effect change E) as (λ b. has_effect change E ≡ b → (if b then change ∷ lines else lines) ≡ []
     → after_changes changes F ≡ E) [
       | true ↦ λ does some. absurd (cc some)
       | false ↦ λ idle rest.
@@ -156,7 +156,7 @@ idle_lines (change ∷ changes) E up none =
     ] refl none
 
 idle_batch : (changes : List Change) (E : Enrolled) (done : Counts × Enrolled)
-    → AreEnrolments E → after_batch changes E ≡ Ok done → acting changes E ≡ [] → done.1 ≡ E
+    → AreEnrolments E → after_batch changes E ≡ Ok done → lines_with_effect changes E ≡ [] → done.1 ≡ E
 idle_batch changes E done is judged none =
     all_after changes E no_counts done (accepted changes E done judged).1
     ∙ idle_lines changes E (they_ascend E is) none
@@ -165,7 +165,7 @@ idle_batch changes E done is judged none =
 left_drafts : (r : Records) (t : Tables) (changes : List Change) (done : Counts × Enrolled)
     → AreRecords r → TablesRepresentRecords t r → IsSound t (Some r)
     → after_batch changes r.enrolments ≡ Ok done → (its : List PutLine) (new_rows : List DraftRow)
-    → map (λ (it : PutLine). it.change) its ≡ acting changes r.enrolments
+    → map (λ (it : PutLine). it.change) its ≡ lines_with_effect changes r.enrolments
     → (its ≢ [] → AreDraftsWith r done.1 new_rows)
     → AreDraftsWith r done.1 (drafts_after its new_rows t.draft)
 left_drafts r t changes done is represents sound judged [] new_rows lines scored = record {
@@ -234,7 +234,7 @@ module _ (number : ℕ) (bytes : List ℕ) (changes : List Change)
         row = stored_batch (record { no = number; bytes = bytes; counts = new.counts })
 
         abbrev done : Records → Counts × Enrolled
-        done r = (new.counts, latest new.enrolments r.enrolments)
+        done r = (new.counts, current_enrolments new.enrolments r.enrolments)
 
         module _ (r : Records) (here : RepresentsOffice a (Some r))
             (made : IsNewFor changes r new) where

@@ -26,7 +26,7 @@ use Rattle.office_store.specs.declared.memory.OfficeMemory.{OfficeMemory}
 use Rattle.office_records.specs.Representation.{RepresentsOffice, parts_of}
 use Rattle.office_store.specs.NewDraft.{Begins}
 use Rattle.office_store.specs.Changes.{draft_put, draft_removed}
-use Rattle.office_model.specs.Commands.{CommandResult, named}
+use Rattle.office_model.specs.Commands.{CommandResult, renamed_fault}
 use Rattle.office_model.specs.DraftCommands.{draft_dropped, draft_made, first_timetable, is_draft_number, live_penalty}
 use Rattle.office_store.specs.Running.{IsFault}
 use Rattle.office_model.specs.declared.fault.Refusal.TheVariants.{File}
@@ -103,7 +103,7 @@ first_fault : (bytes : List ℕ) (I : Session) (e : StoreFault) → first_timeta
 first_fault [] I e h = absurd cc
 first_fault (b ∷ bytes) I e h = go (solution_in I (b ∷ bytes)) h
   where
-    go : (read : Result Placing FileFault) → named (λ f. Refused (File f)) read ≡ Err e
+    go : (read : Result Placing FileFault) → renamed_fault (λ f. Refused (File f)) read ≡ Err e
         → (f : FileFault) × (e ≡ Refused (File f))
     go (Ok T) h = absurd cc
     go (Err f) h = (f, cc)

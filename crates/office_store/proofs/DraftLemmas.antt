@@ -21,7 +21,7 @@ use Rattle.office_model.specs.DraftCommands.{draft_in}
 use Rattle.office_model.specs.Office.{OfficeState, Records, set_at}
 use Rattle.office_model.proofs.RecordLemmas.{left_records, made_records}
 use Rattle.office_records.specs.Representation.{TablesRepresentOffice, TablesRepresentRecords, IsSound, IsScoredRow, RepresentsOffice, parts_of}
-use Rattle.office_records.specs.TableRows.{drafts_at, slots_at, slots_from, slot_rows, slot_row, once}
+use Rattle.office_records.specs.TableRows.{drafts_at, slots_at, slots_from, slot_rows, slot_row, number_if}
 use Rattle.office_records.proofs.KeyLemmas.{none_of, all_of_other, each_left}
 use Rattle.office_records.proofs.MemoryLemmas.{same_one}
 
@@ -74,14 +74,14 @@ module _ (t : Tables) (r : Records) (d : ℕ) (T : Placing) (row : DraftRow) (sl
 
   made_draft : (n : ℕ) (b : Bool) → eqb n d ≡ b
       → map (λ (x : DraftRow). x.no) (drafts_at n (row ∷ t.draft))
-      ≡ once (is_some (cond b (Some T) (r.draft n))) n
+      ≡ number_if (is_some (cond b (Some T) (r.draft n))) n
   made_draft n true e =
       let same : row.no ≡ n = grind (arith, nat_tests, e, number_is) in
       let passes : eqb row.no n ≡ true = grind (arith, nat_tests, same) in
       ap (λ c. map (λ (x : DraftRow). x.no)
       (cond c (row ∷ drafts_at n t.draft) (drafts_at n t.draft)))
       passes
-      ∙ ap (λ l. row.no ∷ l) (h.draft n ∙ ap (λ o. once (is_some o) n) (free_at n e))
+      ∙ ap (λ l. row.no ∷ l) (h.draft n ∙ ap (λ o. number_if (is_some o) n) (free_at n e))
       ∙ ap (λ m. m ∷ []) same
   made_draft n false e =
       let fails : eqb row.no n ≡ false = grind (arith, nat_tests, e, number_is) in
@@ -137,7 +137,7 @@ module _ (t : Tables) (r : Records) (d : ℕ) (T : Placing) (row : DraftRow) (sl
   }
 
   none_there : drafts_at d t.draft ≡ []
-  none_there = map_none (λ (x : DraftRow). x.no) _ (h.draft d ∙ ap (λ o. once (is_some o) d) free)
+  none_there = map_none (λ (x : DraftRow). x.no) _ (h.draft d ∙ ap (λ o. number_if (is_some o) d) free)
 
   made_sound : parts_of row ≡ track r.session r.enrolments T → IsSound t (Some r)
       → IsSound (draft_put row slots t) (Some (record r { draft = set_at d (Some T) r.draft }))
@@ -181,7 +181,7 @@ made_kept a b r d T row slots number_is are scored free low high fits kept makes
 module _ (t : Tables) (r : Records) (d : ℕ) (h : TablesRepresentRecords t r) where
   left_draft : (n : ℕ) (b : Bool) → eqb n d ≡ b
       → map (λ (x : DraftRow). x.no) (drafts_at n (filter (λ x. not (eqb x.no d)) t.draft))
-      ≡ once (is_some (cond b None (r.draft n))) n
+      ≡ number_if (is_some (cond b None (r.draft n))) n
   left_draft n true e =
       ap (map (λ (x : DraftRow). x.no))
       (none_of (λ (x : DraftRow). x.no) d n (grind (arith, nat_tests, e)) t.draft)
@@ -237,7 +237,7 @@ left_kept a b r d kept makes = record {
 
 -- ---- the draft that is read
 
-one_or_none : (b : Bool) (n : ℕ) (ys : List ℕ) → IsPermutation (once b n) ys → ys ≡ once b n
+one_or_none : (b : Bool) (n : ℕ) (ys : List ℕ) → IsPermutation (number_if b n) ys → ys ≡ number_if b n
 one_or_none false n [] p = refl
 one_or_none false n (y ∷ ys) p = absurd (let long = length_permutation _ _ p in omega (arith, long))
 one_or_none true n [] p = absurd (let long = length_permutation _ _ p in omega (arith, long))
@@ -248,7 +248,7 @@ one_or_none true n (y ∷ z ∷ ys) p =
 pub draft_read : (t : Tables) (o : OfficeState) (d : ℕ) (rows : List DraftRow)
     → TablesRepresentOffice t o
     → IsPermutation (filter (λ r. eqb r.no d) t.draft) rows
-    → map (λ (r : DraftRow). r.no) rows ≡ once (is_some (draft_in d o)) d
+    → map (λ (r : DraftRow). r.no) rows ≡ number_if (is_some (draft_in d o)) d
 draft_read t None d rows represents p =
     one_or_none false d _ (subst (λ l. IsPermutation l (map (λ (r : DraftRow). r.no) rows))
     (ap (λ (t : Tables). map (λ (r : DraftRow). r.no)

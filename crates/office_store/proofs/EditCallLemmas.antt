@@ -10,7 +10,7 @@ use Rattle.exam_model.specs.Timetable.{Placing}
 use Rattle.exam_score.specs.Changes.{DiffersAtMost}
 use Rattle.exam_score.specs.Penalty.{Penalty, total_of}
 use Rattle.exam_score.specs.Track.{track}
-use Rattle.exam_draft.specs.Edits.{Edited, edited}
+use Rattle.exam_draft.specs.Edits.{Edited, edit_result}
 use Rattle.exam_draft.specs.Judged.{IsEditedAt, edited_exams}
 use Rattle.exam_draft.specs.declared.edit.Edit.{Edit}
 use Rattle.office_tables.specs.Alterations.{after_all}
@@ -21,7 +21,7 @@ use Rattle.office_tables.specs.declared.altering.Both.{Both}
 use Rattle.office_tables.specs.declared.draft.DraftRow.{DraftRow}
 use Rattle.office_tables.specs.declared.slot.DeleteSlot.{DeleteSlot}
 use Rattle.office_tables.specs.Inserted.{InsertSlot}
-use Rattle.office_model.specs.Commands.{named}
+use Rattle.office_model.specs.Commands.{renamed_fault}
 use Rattle.office_model.specs.DraftCommands.{draft_edited, live_penalty}
 use Rattle.office_model.specs.Office.{OfficeState, Records, set_at}
 use Rattle.office_model.specs.declared.fault.Refusal.TheVariants as refusal
@@ -83,30 +83,30 @@ not_there d change r h = go (r.draft d) refl
 -- ---- what the command returns
 
 pub edit_gives : (d : ℕ) (change : Edit) (r : Records) (T new : Placing) → r.draft d ≡ Some T
-    → edited r.session r.enrolments T change ≡ Ok new
+    → edit_result r.session r.enrolments T change ≡ Ok new
     → draft_edited d change (Some r)
     ≡ Ok (live_penalty r new, Some (record r { draft = set_at d (Some new) r.draft }))
 edit_gives d change r T new there made = rw (there, made) refl
 
 refused_so : (d : ℕ) (change : Edit) (r : Records) (T : Placing) (e : StoreFault)
     → r.draft d ≡ Some T
-    → named (λ f. Refused (refusal.Edit f)) (edited r.session r.enrolments T change) ≡ Err e
+    → renamed_fault (λ f. Refused (refusal.Edit f)) (edit_result r.session r.enrolments T change) ≡ Err e
     → draft_edited d change (Some r) ≡ Err e
 refused_so d change r T e there is = rw (there, is) refl
 
 -- out of memory, or the edit's own refusal
 abbrev IsRefusal : Edited → StoreFault → Type 0
-IsRefusal x e = (e ≡ Store) ⊎ (named (λ f. Refused (refusal.Edit f)) x ≡ Err e)
+IsRefusal x e = (e ≡ Store) ⊎ (renamed_fault (λ f. Refused (refusal.Edit f)) x ≡ Err e)
 
 edit_refused : (d : ℕ) (change : Edit) (r : Records) (T : Placing) (e : StoreFault)
-    → r.draft d ≡ Some T → IsRefusal (edited r.session r.enrolments T change) e
+    → r.draft d ≡ Some T → IsRefusal (edit_result r.session r.enrolments T change) e
     → IsFault (draft_edited d change (Some r)) e
 edit_refused d change r T e there (inl is) =
     subst (IsFault (draft_edited d change (Some r))) (sym is) tt
 edit_refused d change r T e there (inr is) =
-    own (edited r.session r.enrolments T change) e is (refused_so d change r T e there is)
+    own (edit_result r.session r.enrolments T change) e is (refused_so d change r T e there is)
   where
-    own : (x : Edited) (e : StoreFault) → named (λ f. Refused (refusal.Edit f)) x ≡ Err e
+    own : (x : Edited) (e : StoreFault) → renamed_fault (λ f. Refused (refusal.Edit f)) x ≡ Err e
         → draft_edited d change (Some r) ≡ Err e → IsFault (draft_edited d change (Some r)) e
     own x Store is gives = tt
     own (Ok T) BadSchema is gives = absurd cc
@@ -121,22 +121,22 @@ module _ (r : Records) (I : Session) (E : Enrolled)
   both = some_is (r.session, r.enrolments) (I, E) here
 
   pub is_judged : (d : ℕ) (change : Edit) (judged : Judged) → IsThere r d judged.draft.now
-      → edited I E judged.draft.now.timetable change ≡ Ok judged.new → IsJudged d change r judged
+      → edit_result I E judged.draft.now.timetable change ≡ Ok judged.new → IsJudged d change r judged
   is_judged d change judged there edits = record {
     draft = there.timetable;
-    edits = ap (λ (p : Session × Enrolled). edited p.0 p.1 judged.draft.now.timetable change) both
+    edits = ap (λ (p : Session × Enrolled). edit_result p.0 p.1 judged.draft.now.timetable change) both
         ∙ edits;
     scored = there.scored;
   }
 
   -- the edit is refused
   pub is_refused : (d : ℕ) (change : Edit) (draft : Draft) (e : StoreFault) → IsThere r d draft
-      → (e ≡ Store) ⊎ (named (λ f. Refused (refusal.Edit f))
-      (edited I E draft.timetable change) ≡ Err e)
+      → (e ≡ Store) ⊎ (renamed_fault (λ f. Refused (refusal.Edit f))
+      (edit_result I E draft.timetable change) ≡ Err e)
       → IsFault (draft_edited d change (Some r)) e
   is_refused d change draft e there refused =
       edit_refused d change r draft.timetable e there.timetable
-      (subst (λ (p : Session × Enrolled). IsRefusal (edited p.0 p.1 draft.timetable change) e)
+      (subst (λ (p : Session × Enrolled). IsRefusal (edit_result p.0 p.1 draft.timetable change) e)
       (sym both) refused)
 
   -- an edit of the memory is one of these records

@@ -20,13 +20,13 @@ use Rattle.office_tables.specs.TablesHeld.{HoldsTables}
 use Rattle.office_tables.specs.Draft.{with_draft, without_draft}
 use Rattle.office_tables.specs.declared.draft.DraftRow.{DraftRow}
 use Rattle.office_store.specs.Changes.{edit_put}
-use Rattle.exam_draft.specs.Edits.{edited}
+use Rattle.exam_draft.specs.Edits.{edit_result}
 use Rattle.exam_draft.specs.Judged.{edited_exams}
 use Rattle.exam_draft.specs.declared.edit.Edit.{Edit}
 use Rattle.exam_draft.specs.declared.edit.Edit.TheVariants as edit
 use Rattle.office_model.specs.Office.{Records, set_at}
 use Rattle.office_records.specs.Representation.{TablesRepresentRecords, IsSound, IsScoredRow, RepresentsOffice, parts_of}
-use Rattle.office_records.specs.TableRows.{drafts_at, slots_at, slots_from, slot_rows, once}
+use Rattle.office_records.specs.TableRows.{drafts_at, slots_at, slots_from, slot_rows, number_if}
 use Rattle.office_records.proofs.KeyLemmas.{none_of, all_of_other, each_left}
 use Rattle.office_model.proofs.RecordLemmas.{made_records}
 use Rattle.office_store.proofs.SlotLemmas.{only_slots, others_as_before, places_put}
@@ -58,7 +58,7 @@ two_differ T a b p q x none =
     ∙ get_or-set_other T a x p None (grind (arith, nat_tests, none))
 
 pub touched : (I : Session) (E : Enrolled) (T new : Placing) (change : Edit)
-    → edited I E T change ≡ Ok new → Touches (edited_exams change) T new (length I.exams)
+    → edit_result I E T change ≡ Ok new → Touches (edited_exams change) T new (length I.exams)
 touched I E T new (edit.Place e at) h =
     let known = goes_on (exam_exists I e && place_exists I at) _ _ _ h in
     let free = goes_on (not (is_placed T e)) _ _ _ known.1 in
@@ -112,7 +112,7 @@ module _ (t : Tables) (r : Records) (T new : Placing) (row : DraftRow) (exams : 
 
   edit_draft : (n : ℕ) (b : Bool) → eqb n row.no ≡ b
       → map (λ (x : DraftRow). x.no) (drafts_at n replaced.draft)
-      ≡ once (is_some (cond b (Some new) (r.draft n))) n
+      ≡ number_if (is_some (cond b (Some new) (r.draft n))) n
   edit_draft n true e =
       let same : n ≡ row.no = grind (arith, nat_tests, e) in
       let passes : eqb row.no n ≡ true = grind (arith, nat_tests, e) in
@@ -182,7 +182,7 @@ module _ (t : Tables) (r : Records) (T new : Placing) (row : DraftRow) (exams : 
 
 -- the database represents the office with the edited draft
 pub edit_kept : (a b : Database) (r : Records) (T new : Placing) (row : DraftRow) (change : Edit)
-    → r.draft row.no ≡ Some T → edited r.session r.enrolments T change ≡ Ok new
+    → r.draft row.no ≡ Some T → edit_result r.session r.enrolments T change ≡ Ok new
     → parts_of row ≡ track r.session r.enrolments new → Fits r.session r.enrolments new
     → RepresentsOffice a (Some r)
     → ((t : Tables) → HoldsTables a t → HoldsTables b (edit_put row new (edited_exams change) t))

@@ -17,7 +17,7 @@ use Rattle.office_tables.specs.declared.draft.InsertDraft.{InsertDraft}
 use Rattle.office_tables.specs.declared.slot.SlotRow.{SlotRow}
 use Rattle.office_records.specs.Found.{AreDrafts}
 use Rattle.office_records.specs.Representation.{parts_of}
-use Rattle.office_records.specs.TableRows.{drafts_at, once}
+use Rattle.office_records.specs.TableRows.{drafts_at, number_if}
 use Rattle.office_store.specs.Memory.{AreDraftRows, AreScored, draft_at, scored_by}
 use Rattle.office_store.specs.declared.memory.Draft.{Draft}
 
@@ -131,7 +131,7 @@ IsPricedBy drafts row =
 
 pub record AreFirstRows (drafts : List (Option Draft)) (n : ℕ) (rows : List DraftRow) : Type 0 where
   pub below : (d : ℕ) → d < n
-      → map (λ (row : DraftRow). row.no) (drafts_at d rows) ≡ once (is_some (draft_at drafts d)) d
+      → map (λ (row : DraftRow). row.no) (drafts_at d rows) ≡ number_if (is_some (draft_at drafts d)) d
   pub beyond : (d : ℕ) → n ≤ d → drafts_at d rows ≡ []
   pub scored : AllByRecursion (IsPricedBy drafts) rows
 
@@ -153,11 +153,11 @@ none_more drafts n rows are none = record {
   where
     go : (d : ℕ) (b : Bool) → eqb d n ≡ b → d < n + 1
         → map (λ (row : DraftRow). row.no) (drafts_at d rows)
-        ≡ once (is_some (draft_at drafts d)) d
+        ≡ number_if (is_some (draft_at drafts d)) d
     go d true same low =
         let here : d ≡ n = grind (arith, nat_tests, same) in
         ap (map (λ (row : DraftRow). row.no)) (are.beyond d (omega (arith, here)))
-        ∙ sym (ap (λ x. once (is_some x) d) (ap (draft_at drafts) here ∙ none))
+        ∙ sym (ap (λ x. number_if (is_some x) d) (ap (draft_at drafts) here ∙ none))
     go d false same low = are.below d (grind (arith, nat_tests, same, low))
 
 -- a draft's row
@@ -189,7 +189,7 @@ row_more drafts n rows draft row are some number parts = record {
 
     go : (d : ℕ) (b : Bool) → eqb d n ≡ b → d < n + 1
         → map (λ (row : DraftRow). row.no) (drafts_at d (rows ++ row ∷ []))
-        ≡ once (is_some (draft_at drafts d)) d
+        ≡ number_if (is_some (draft_at drafts d)) d
     go d true same low =
         let here : d ≡ n = grind (arith, nat_tests, same) in
         let own : eqb row.no d ≡ true = grind (arith, nat_tests, here, number) in
@@ -197,7 +197,7 @@ row_more drafts n rows draft row are some number parts = record {
         ∙ ap (λ l. l ++ cond (eqb row.no d) (row ∷ []) []) (are.beyond d (omega (arith, here)))
         ∙ ap (λ b. cond {A = List DraftRow} b (row ∷ []) []) own)
         ∙ ap (λ k. k ∷ []) (number ∙ sym here)
-        ∙ sym (ap (λ x. once (is_some x) d) (ap (draft_at drafts) here ∙ some))
+        ∙ sym (ap (λ x. number_if (is_some x) d) (ap (draft_at drafts) here ∙ some))
     go d false same low =
         let other : eqb row.no d ≡ false = grind (arith, nat_tests, same, number) in
         ap (map (λ (row : DraftRow). row.no)) (at_end d
@@ -215,12 +215,12 @@ all_rows drafts n rows are none = record {
   where
     go : (d : ℕ) (b : Bool) → ltb d n ≡ b
         → map (λ (row : DraftRow). row.no) (drafts_at d rows)
-        ≡ once (is_some (draft_at drafts d)) d
+        ≡ number_if (is_some (draft_at drafts d)) d
     go d true is = are.below d (ltb-true d n is)
     go d false is =
         let high = ltb-false d n is in
         ap (map (λ (row : DraftRow). row.no)) (are.beyond d high)
-        ∙ sym (ap (λ x. once (is_some x) d) (none d high))
+        ∙ sym (ap (λ x. number_if (is_some x) d) (none d high))
 
 -- the rows of one number more, as parts of a transaction
 module _ (drafts : List (Option Draft)) (n : ℕ) (old new : List InsertDraft)

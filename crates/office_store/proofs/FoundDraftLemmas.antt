@@ -16,7 +16,7 @@ use Rattle.office_model.specs.declared.fault.StoreFault.TheVariants.{BadSchema}
 use Rattle.office_records.specs.Faults.{store_fault}
 use Rattle.office_records.specs.Found.{AreDrafts, AreSlots}
 use Rattle.office_records.specs.Representation.{parts_of}
-use Rattle.office_records.specs.TableRows.{once, slot_rows, slots_at}
+use Rattle.office_records.specs.TableRows.{number_if, slot_rows, slots_at}
 use Rattle.office_records.specs.declared.fault.RecordFault.{RecordFault}
 use Rattle.office_records.specs.declared.fault.RecordFault.TheVariants.{NoMemory, BadRows}
 use Rattle.office_records.proofs.SlotLemmas.{same_timetable}
@@ -60,7 +60,7 @@ module _ (I : Session) (E : Enrolled) (rows : List DraftRow) (slots : List SlotR
   no_draft none = go (draft d) (sym (are.rows d)
       ∙ ap (map (λ (row : DraftRow). row.no)) (none_found is_own rows none))
     where
-      go : (o : Option Placing) → once (is_some o) d ≡ [] → o ≡ None
+      go : (o : Option Placing) → number_if (is_some o) d ≡ [] → o ≡ None
       go None e = refl
       go (Some T) e = absurd cc
 
@@ -77,7 +77,7 @@ module _ (I : Session) (E : Enrolled) (rows : List DraftRow) (slots : List SlotR
       found : (ys : List DraftRow) × (filter is_own rows ≡ row ∷ ys)
       found = one_found is_own rows row some
 
-      numbers : row.no ∷ map (λ (r : DraftRow). r.no) found.0 ≡ once (is_some (draft d)) d
+      numbers : row.no ∷ map (λ (r : DraftRow). r.no) found.0 ≡ number_if (is_some (draft d)) d
       numbers = sym (ap (map (λ (r : DraftRow). r.no)) found.1) ∙ are.rows d
 
       same_head : (x y : ℕ) (xs ys : List ℕ) → x ∷ xs ≡ y ∷ ys → x ≡ y
@@ -92,10 +92,10 @@ module _ (I : Session) (E : Enrolled) (rows : List DraftRow) (slots : List SlotR
 
       go : (o : Option Placing) → draft d ≡ o → IsRowOf row
       go None is =
-          absurd (let none = numbers ∙ ap (λ o. once (is_some o) d) is in cc)
+          absurd (let none = numbers ∙ ap (λ o. number_if (is_some o) d) is in cc)
       go (Some T) is =
           let number : row.no ≡ d
-          = same_head _ _ _ _ (numbers ∙ ap (λ o. once (is_some o) d) is) in
+          = same_head _ _ _ _ (numbers ∙ ap (λ o. number_if (is_some o) d) is) in
           let fits = are.fits d T is in
           record {
             timetable = T;

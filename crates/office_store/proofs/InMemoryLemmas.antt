@@ -12,7 +12,7 @@ use Rattle.office_model.specs.Office.{OfficeState, Records, AreRecords}
 use Rattle.office_records.specs.Found.{AreSlots}
 use Rattle.office_records.specs.Memory.{memory_of, published_in}
 use Rattle.office_records.specs.Representation.{RepresentsOffice, TablesRepresentOffice, TablesRepresentRecords}
-use Rattle.office_records.specs.TableRows.{once, slot_rows, slots_at, stored_batch}
+use Rattle.office_records.specs.TableRows.{number_if, slot_rows, slots_at, stored_batch}
 use Rattle.office_records.proofs.MemoryLemmas.{same_memory}
 use Rattle.office_records.proofs.SamePublication.{same_published}
 use Rattle.office_records.proofs.SameTables.{same_represents}
@@ -41,7 +41,7 @@ same_count db o p a b =
 -- ---- the drafts
 
 -- whether there is a draft
-one_there : (a b : Bool) (d : ℕ) → once a d ≡ once b d → a ≡ b
+one_there : (a b : Bool) (d : ℕ) → number_if a d ≡ number_if b d → a ≡ b
 one_there true true d e = refl
 one_there true false d e = absurd cc
 one_there false true d e = absurd cc

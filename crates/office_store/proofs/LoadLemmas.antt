@@ -20,7 +20,7 @@ use Rattle.office_tables.specs.Inserted.{InsertEnrol}
 use Rattle.office_tables.specs.declared.enrol.EnrolRow.{EnrolRow}
 use Rattle.office_tables.proofs.AlterationLemmas.{enrols_put}
 use Rattle.office_store.specs.Changes.{session_put}
-use Rattle.office_model.specs.Loading.{fresh, loaded_of, loaded}
+use Rattle.office_model.specs.Loading.{new_records, session_counts, load_session}
 use Rattle.office_model.specs.Office.{OfficeState, AreEnrolled}
 use Rattle.office_model.specs.declared.fault.StoreFault.TheVariants.{Loaded}
 use Rattle.office_model.specs.declared.counts.Loaded as loading
@@ -77,7 +77,7 @@ exam_added E e lt =
 module _ (I : Session) (E : Enrolled) (text : List ℕ) (rows : List EnrolRow)
     (is_text : text ≡ canonical_instance I (no_pairs (length I.exams)))
     (are_rows : IsPermutation rows (map enrol_row (pairs_of E))) where
-  session_represents : TablesRepresentRecords (session_put text rows empty_tables) (fresh (I, E))
+  session_represents : TablesRepresentRecords (session_put text rows empty_tables) (new_records (I, E))
   session_represents = record {
     meta = ap (λ b. record { published = false; instance = b } ∷ []) is_text;
     owner = λ e. refl;
@@ -93,7 +93,7 @@ module _ (I : Session) (E : Enrolled) (text : List ℕ) (rows : List EnrolRow)
   -- the database represents the office with only that session
   session_kept : (a b : Database) → RepresentsOffice a None
       → ((t : Tables) → HoldsTables a t → HoldsTables b (session_put text rows t))
-      → IsInstance I → AreEnrolled I E → RepresentsOffice b (Some (fresh (I, E)))
+      → IsInstance I → AreEnrolled I E → RepresentsOffice b (Some (new_records (I, E)))
   session_kept a b kept makes is are = record {
     held = session_put text rows empty_tables;
     tables = makes empty_tables (subst (HoldsTables a) kept.represents kept.tables);
@@ -120,11 +120,11 @@ as_many b I E text =
     omega (arith, exams, lists, one, other)
 
 loaded_first : (b : List ℕ) (s : Session × Enrolled) → instance_in b ≡ Ok s
-    → loaded b None ≡ Ok (loaded_of s, Some (fresh s))
+    → load_session b None ≡ Ok (session_counts s, Some (new_records s))
 loaded_first b s is = rw is refl
 
 loaded_again : (b : List ℕ) (s : Session × Enrolled) (o : OfficeState) → instance_in b ≡ Ok s
-    → is_none o ≡ false → loaded b o ≡ Err Loaded
+    → is_none o ≡ false → load_session b o ≡ Err Loaded
 loaded_again b s o is some = rw (is, some) refl
 
 some_kept : (m : OfficeMemory) (o : OfficeState) → IsMemoryOf o m → is_some m.kept ≡ true
@@ -140,7 +140,7 @@ none_kept m (Some r) e is = absurd (let no = ap is_some e.session ∙ is in cc)
 -- ---- the command, by what is in memory
 
 pub load_denied : (text : List ℕ) (s : Session × Enrolled) (a : Database) (m : OfficeMemory)
-    → instance_in text ≡ Ok s → is_some m.kept ≡ true → Denies (loaded text) Loaded a m
+    → instance_in text ≡ Ok s → is_some m.kept ≡ true → Denies (load_session text) Loaded a m
 load_denied text s a m read some o kept is = loaded_again text s o read (some_kept m o is some)
 
 -- the rows that are inserted are those that were made
@@ -153,34 +153,34 @@ same_pairs its made E same are =
 
 pub load_moves : (text : List ℕ) (I : Session) (E : Enrolled) (counts : loading.Loaded)
     (stored : List ℕ) (its : List InsertEnrol) (a b : Database) (m : OfficeMemory)
-    → instance_in text ≡ Ok (I, E) → counts ≡ loaded_of (I, E)
+    → instance_in text ≡ Ok (I, E) → counts ≡ session_counts (I, E)
     → stored ≡ canonical_instance I (no_pairs (length I.exams))
     → IsPermutation (map (λ (it : InsertEnrol). it.row) its) (map enrol_row (pairs_of E))
     → IsInstance I
     → AreEnrolled I E → is_some m.kept ≡ false
     → ((t : Tables) → HoldsTables a t → HoldsTables b (after_all (λ (it : InsertEnrol). with_enrol it.row) its
     (with_meta false stored (no_meta t))))
-    → Moves (loaded text) counts a b m
+    → Moves (load_session text) counts a b m
 load_moves text I E counts stored its a b m read counted is_text are_rows is are empty comes o kept
     held =
     let none = none_kept m o held empty in
     let rows = map (λ (it : InsertEnrol). it.row) its in
     let makes : (t : Tables) → HoldsTables a t → HoldsTables b (session_put stored rows t)
     = λ t h. subst (HoldsTables b) (enrols_put its (with_meta false stored (no_meta t))) (comes t h) in (
-      Some (fresh (I, E)),
-      ap (loaded text) none ∙ loaded_first text (I, E) read
-          ∙ ap (λ k. Ok (k, Some (fresh (I, E)))) (sym counted),
+      Some (new_records (I, E)),
+      ap (load_session text) none ∙ loaded_first text (I, E) read
+          ∙ ap (λ k. Ok (k, Some (new_records (I, E)))) (sym counted),
       session_kept I E stored rows is_text are_rows a b
           (subst (RepresentsOffice a) none kept) makes is are,
     )
 
 pub load_remembers : (text : List ℕ) (I : Session) (E : Enrolled) (counts : loading.Loaded)
     (a : Database) (m n : OfficeMemory) → instance_in text ≡ Ok (I, E)
-    → counts ≡ loaded_of (I, E) → is_some m.kept ≡ false → n.kept ≡ Some (I, E) → n.batches ≡ 0
-    → ((d : ℕ) → draft_at n.drafts d ≡ None) → n.published ≡ None → Remembers (loaded text) counts a m n
+    → counts ≡ session_counts (I, E) → is_some m.kept ≡ false → n.kept ≡ Some (I, E) → n.batches ≡ 0
+    → ((d : ℕ) → draft_at n.drafts d ≡ None) → n.published ≡ None → Remembers (load_session text) counts a m n
 load_remembers text I E counts a m n read counted empty kept batches drafts published o here is new gives =
     subst (λ o. IsMemoryOf o n)
-    (next_is (ap (loaded text) (sym (none_kept m o is empty)) ∙ gives)
+    (next_is (ap (load_session text) (sym (none_kept m o is empty)) ∙ gives)
     (loaded_first text (I, E) read))
     (record {
       session = sym kept;

@@ -14,11 +14,11 @@ use Rattle.exam_draft.specs.declared.fault.EditFault.TheVariants.{NoSuch}
 use Rattle.exam_score.specs.Rescoring.{OthersUnchanged}
 use Rattle.exam_score.specs.Track.{track}
 use Rattle.office_tables.specs.declared.draft.DraftRow.{DraftRow}
-use Rattle.office_enrolment.specs.AfterBatch.{Refuses, acting, after_batch, latest, names_exam}
+use Rattle.office_enrolment.specs.AfterBatch.{Refuses, lines_with_effect, after_batch, current_enrolments, names_exam}
 use Rattle.office_enrolment.specs.Keeping.{batch_stored}
 use Rattle.office_enrolment.proofs.OfficeLemmas.{as_office}
 use Rattle.office_enrolment.proofs.OthersLemmas.{others_after}
-use Rattle.office_model.specs.BatchLines.{after_change, counted, enrolled, no_counts}
+use Rattle.office_model.specs.BatchLines.{after_change, counts_after, enrolment_result, no_counts}
 use Rattle.office_model.specs.Batches.{newly_enrolled}
 use Rattle.office_model.specs.Commands.{CommandResult}
 use Rattle.office_model.specs.Office.{Records}
@@ -28,8 +28,8 @@ use Rattle.office_model.specs.declared.fault.StoreFault.{StoreFault}
 use Rattle.office_model.specs.declared.fault.StoreFault.TheVariants.{Refused, TooMany}
 use Rattle.office_records.specs.Memory.{memory_of}
 use Rattle.office_records.specs.Representation.{RepresentsOffice}
-use Rattle.office_records.specs.TableRows.{once}
-use Rattle.office_store.specs.Memory.{AreDraftRows, AreRescored, AreScored, IsMemoryOf, draft_at, rescored, scored_by}
+use Rattle.office_records.specs.TableRows.{number_if}
+use Rattle.office_store.specs.Memory.{AreDraftRows, AreRescored, AreScored, IsMemoryOf, draft_at, rescored_draft, scored_by}
 use Rattle.office_store.specs.NewBatches.{AreDraftsWith, students_of}
 use Rattle.office_store.specs.Running.{IsFault}
 use Rattle.office_store.specs.declared.memory.Draft.{Draft}
@@ -38,14 +38,14 @@ use Rattle.office_store.proofs.RememberingLemmas.{twice}
 
 -- lines are refused only for too many pairs
 lines_fault : (changes : List Change) (E : Enrolled) (n : Counts) (fault : StoreFault)
-    → enrolled changes E n ≡ Err fault → fault ≡ TooMany
+    → enrolment_result changes E n ≡ Err fault → fault ≡ TooMany
 lines_fault [] E n fault is = absurd (cc is)
 lines_fault (change ∷ changes) E n fault is =
     let rest : Result (Counts × Enrolled) StoreFault
-    = enrolled changes (after_change change E) (counted change E n) in
+    = enrolment_result changes (after_change change E) (counts_after change E n) in
     elim (nat_le (pair_count (after_change change E)) 200000) as (λ b.
     (unless b TooMany >>= λ _. rest) ≡ Err fault → fault ≡ TooMany) [
-      | true ↦ λ later. lines_fault changes (after_change change E) (counted change E n) fault later
+      | true ↦ λ later. lines_fault changes (after_change change E) (counts_after change E n) fault later
       | false ↦ λ here. cc here
     ] is
 
@@ -54,7 +54,7 @@ batch_fault : (changes : List Change) (E : Enrolled) (fault : StoreFault)
     → (fault ≡ Refused (refusal.Edit NoSuch)) ⊎ (fault ≡ TooMany)
 batch_fault changes E fault is =
     elim (list_all (names_exam E) changes) as (λ b.
-    (unless b (Refused (refusal.Edit NoSuch)) >>= λ _. enrolled changes E no_counts) ≡ Err fault
+    (unless b (Refused (refusal.Edit NoSuch)) >>= λ _. enrolment_result changes E no_counts) ≡ Err fault
     → (fault ≡ Refused (refusal.Edit NoSuch)) ⊎ (fault ≡ TooMany)) [
       | true ↦ λ later. inr (lines_fault changes E no_counts fault later)
       | false ↦ λ here. inl (cc here)
@@ -121,19 +121,19 @@ memory_scored r m I E is kept d draft at =
 
 -- they are of the same number of exams
 pub latest_exams : (made : Option Enrolled) (E : Enrolled) (n : ℕ)
-    → IfSome made (λ F. length F ≡ n) → length E ≡ n → length (latest made E) ≡ n
+    → IfSome made (λ F. length F ≡ n) → length E ≡ n → length (current_enrolments made E) ≡ n
 latest_exams (Some F) E n new old = new
 latest_exams None E n new old = old
 
-pub made_exams : (made : Option Enrolled) (E : Enrolled) (n : ℕ) → length (latest made E) ≡ n
+pub made_exams : (made : Option Enrolled) (E : Enrolled) (n : ℕ) → length (current_enrolments made E) ≡ n
     → IfSome made (λ F. length F ≡ n)
 made_exams (Some F) E n is = is
 made_exams None E n is = tt
 
 -- only the students of acting lines sit other exams
 pub made_others : (changes : List Change) (E : Enrolled) (made : Option Enrolled) (counts : Counts)
-    (lines : List Change) → AreEnrolments E → after_batch changes E ≡ Ok (counts, latest made E)
-    → lines ≡ acting changes E → IfSome made (OthersUnchanged (students_of lines) E)
+    (lines : List Change) → AreEnrolments E → after_batch changes E ≡ Ok (counts, current_enrolments made E)
+    → lines ≡ lines_with_effect changes E → IfSome made (OthersUnchanged (students_of lines) E)
 made_others changes E (Some F) counts lines known is are = λ s e other.
     others_after changes E (counts, F) known is s e
     (subst (λ (l : List Change). has_number (students_of l) s ≡ false) are other)
@@ -154,7 +154,7 @@ rows_rewritten db r m F made rows kept is exams scored are = record {
     fits = λ d T there.
         let fits = kept.office.drafts d T there in
         record { enrolments = exams; timetable = fits.timetable; places = fits.places };
-    rows = λ d. are.numbers d ∙ ap (λ b. once b d) (there_too d);
+    rows = λ d. are.numbers d ∙ ap (λ b. number_if b d) (there_too d);
     slots = kept.represents.slot;
     scored = all_weaker _ _
         (λ row priced T there. priced (scored_by r.session F T) (at row.no T there))
@@ -163,7 +163,7 @@ rows_rewritten db r m F made rows kept is exams scored are = record {
 }
   where
     made_at : (d : ℕ) → draft_at made d ≡ option_map (scored_by r.session F) (r.draft d)
-    made_at d = scored d ∙ ap (option_map (rescored r.session F)) (is.drafts d)
+    made_at d = scored d ∙ ap (option_map (rescored_draft r.session F)) (is.drafts d)
         ∙ twice r.session r.session r.enrolments F (r.draft d)
 
     there_too : (d : ℕ) → is_some (draft_at made d) ≡ is_some (r.draft d)
@@ -183,7 +183,7 @@ pub latest_drafts : (db : Database) (r : Records) (m : OfficeMemory) (I : Sessio
     → RepresentsOffice db (Some r) → IsMemoryOf (Some r) m → r.session ≡ I
     → IfSome made (λ F. length F ≡ length I.exams)
     → IfSome made (λ F. AreRescored I F m.drafts drafts) → AreDraftRows drafts rows
-    → made ≢ None → AreDraftsWith r (latest made r.enrolments) rows
+    → made ≢ None → AreDraftsWith r (current_enrolments made r.enrolments) rows
 latest_drafts db r m I (Some F) drafts rows kept is same exams scored are some =
     rows_rewritten db r m F drafts rows kept is
     (subst (λ (J : Session). length F ≡ length J.exams) (sym same) exams)

@@ -22,7 +22,7 @@ use Rattle.office_store.proofs.RememberingLemmas.{all_stays, next_is}
 use Rattle.office_store.proofs.RunLemmas.{kept_of}
 use Rattle.exam_draft.specs.Edits.{exam_exists}
 use Rattle.exam_draft.specs.declared.fault.EditFault.TheVariants.{NoSuch}
-use Rattle.office_model.specs.Commands.{owned, owner_in}
+use Rattle.office_model.specs.Commands.{set_owner_result, owner_in}
 use Rattle.office_records.specs.Representation.{TablesRepresentOffice, TablesRepresentRecords, IsSound, RepresentsOffice}
 use Rattle.office_records.specs.TableRows.{owners_at, some_dept}
 use Rattle.office_model.specs.declared.fault.Refusal.TheVariants.{Edit}
@@ -129,13 +129,13 @@ owner_kept a b r e d kept makes exists few = record {
 
 -- what the command returns, by whether there is such an exam
 pub owned_there : (r : Records) (e d : ℕ) → e < length r.session.exams
-    → owned e d (Some r) ≡ Ok (tt, Some (record r { owner_of = set_at e d r.owner_of }))
+    → set_owner_result e d (Some r) ≡ Ok (tt, Some (record r { owner_of = set_at e d r.owner_of }))
 owned_there r e d exists =
     let is : exam_exists r.session e ≡ true = grind (arith, nat_tests, exists) in
     rw is refl
 
 pub owned_nowhere : (r : Records) (e d : ℕ) → length r.session.exams ≤ e
-    → owned e d (Some r) ≡ Err (Refused (Edit NoSuch))
+    → set_owner_result e d (Some r) ≡ Err (Refused (Edit NoSuch))
 owned_nowhere r e d none =
     let is : exam_exists r.session e ≡ false = grind (arith, nat_tests, none) in
     rw is refl
@@ -147,7 +147,7 @@ module _ (a : Database) (m : OfficeMemory) (I : Session) (E : Enrolled)
   pub owner_moves : (b : Database) → e < length I.exams → d ≤ 999 → (n : ℕ) → n ≡ e
       → (new : Option InsertOwner) → new ≡ new_owner n d
       → ((t : Tables) → HoldsTables a t → HoldsTables b (comes new (without_owner n t)))
-      → Moves (owned e d) tt a b m
+      → Moves (set_owner_result e d) tt a b m
   owner_moves b exists few n same new is_new comes_in o kept is =
       let makes : (t : Tables) → HoldsTables a t → HoldsTables b (owner_put n d t)
       = λ t h. subst (HoldsTables b)
@@ -155,26 +155,26 @@ module _ (a : Database) (m : OfficeMemory) (I : Session) (E : Enrolled)
       let of = kept_of o I E (is.session ∙ at_hand) in
       let there = subst (λ I. e < length I.exams) (sym of.session) exists in (
         _,
-        ap (owned e d) of.is ∙ owned_there of.records e d there,
+        ap (set_owner_result e d) of.is ∙ owned_there of.records e d there,
         owner_kept a b of.records e d (subst (RepresentsOffice a) of.is kept)
             (subst (λ n. (t : Tables) → HoldsTables a t → HoldsTables b (owner_put n d t)) same makes) there
             few,
       )
 
-  pub owner_remembers : e < length I.exams → Remembers (owned e d) tt a m m
+  pub owner_remembers : e < length I.exams → Remembers (set_owner_result e d) tt a m m
   owner_remembers exists o kept is new gives =
       let of = kept_of o I E (is.session ∙ at_hand) in
       let r = of.records in
       let there = subst (λ I. e < length I.exams) (sym of.session) exists in
       subst (λ o. IsMemoryOf o m)
-      (next_is (ap (owned e d) (sym of.is) ∙ gives) (owned_there r e d there))
+      (next_is (ap (set_owner_result e d) (sym of.is) ∙ gives) (owned_there r e d there))
       (all_stays r (record r { owner_of = set_at e d r.owner_of }) m
       (subst (λ o. IsMemoryOf o m) of.is is) refl refl refl refl refl)
 
-  pub no_exam_denied : length I.exams ≤ e → Denies (owned e d) (Refused (Edit NoSuch)) a m
+  pub no_exam_denied : length I.exams ≤ e → Denies (set_owner_result e d) (Refused (Edit NoSuch)) a m
   no_exam_denied none o kept is =
       let of = kept_of o I E (is.session ∙ at_hand) in
-      ap (owned e d) of.is
+      ap (set_owner_result e d) of.is
       ∙ owned_nowhere of.records e d (subst (λ I. length I.exams ≤ e) (sym of.session) none)
 
 -- ---- the owner that is read

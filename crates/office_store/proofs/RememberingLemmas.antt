@@ -7,11 +7,11 @@ use Rattle.exam_model.specs.Enrolments.{Enrolled}
 use Rattle.exam_model.specs.Instance.{Session}
 use Rattle.exam_model.specs.Timetable.{Placing}
 use Rattle.exam_publish.specs.declared.seat_row.SeatRow.{SeatRow}
-use Rattle.office_enrolment.specs.AfterBatch.{latest}
+use Rattle.office_enrolment.specs.AfterBatch.{current_enrolments}
 use Rattle.office_model.specs.Office.{OfficeState, Publication, Records, set_at}
 use Rattle.office_model.specs.declared.fault.StoreFault.{StoreFault}
 use Rattle.office_records.specs.FoundPublications.{publication_from}
-use Rattle.office_store.specs.Memory.{AreRescored, HasPublished, HasPut, IsMemoryOf, IsRenewed, draft_at, rescored, scored_by}
+use Rattle.office_store.specs.Memory.{AreRescored, HasPublished, HasPut, IsMemoryOf, IsRenewed, draft_at, rescored_draft, scored_by}
 use Rattle.office_store.specs.declared.memory.Draft.{Draft}
 use Rattle.office_store.specs.declared.memory.OfficeMemory.{OfficeMemory}
 
@@ -75,7 +75,7 @@ all_stays r s m is session enrolments batches drafts published = record {
 -- ---- a batch
 
 pub twice : (I J : Session) (E F : Enrolled) (x : Option Placing)
-    → option_map (rescored I F) (option_map (scored_by J E) x) ≡ option_map (scored_by I F) x
+    → option_map (rescored_draft I F) (option_map (scored_by J E) x) ≡ option_map (scored_by I F) x
 twice I J E F None = refl
 twice I J E F (Some T) = refl
 
@@ -107,7 +107,7 @@ module _ (r s : Records) (m n : OfficeMemory) (I : Session) (E : Enrolled)
         now;
     batches = one_more;
     drafts = λ d. ap (λ l. draft_at l d) drafts_are ∙ scored d
-        ∙ ap (option_map (rescored I F)) (is.drafts d)
+        ∙ ap (option_map (rescored_draft I F)) (is.drafts d)
         ∙ twice I r.session r.enrolments F (r.draft d)
         ∙ sym (ap (λ J. option_map (scored_by J s.enrolments) (s.draft d)) session_is
         ∙ ap (λ G. option_map (scored_by I G) (s.draft d)) enrolled
@@ -130,7 +130,7 @@ module _ (r s : Records) (m n : OfficeMemory) (I : Session) (E : Enrolled)
     published = still_published;
   }
 
-  pub after_lines : (F : Option Enrolled) → s.enrolments ≡ latest F r.enrolments
+  pub after_lines : (F : Option Enrolled) → s.enrolments ≡ current_enrolments F r.enrolments
       → IsRenewed I E F drafts m n → IfSome F (λ F. AreRescored I F m.drafts drafts)
       → IsMemoryOf (Some s) n
   after_lines None enrolled renewed scored = left enrolled renewed.0 renewed.1

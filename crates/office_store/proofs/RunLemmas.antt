@@ -13,7 +13,7 @@ use Rattle.office_tables.specs.TablesHeld.{HoldsTables}
 use Rattle.office_model.specs.Office.{OfficeState, Records}
 use Rattle.office_records.specs.Memory.{memory_of}
 use Rattle.office_store.specs.FoldReads.{HasRead, RowsUnchanged}
-use Rattle.office_store.specs.Running.{Represents, MatchesMemory, StateUnchanged}
+use Rattle.office_store.specs.Running.{IsAtRest, Represents, MatchesMemory, StateUnchanged}
 use Rattle.office_records.specs.Representation.{RepresentsOffice}
 use Rattle.office_tables.specs.Alterations.{Undone}
 use Rattle.office_store.specs.Memory.{IsMemoryOf}
@@ -43,14 +43,14 @@ rest_still a b m clean still rest is_clean opened =
     (here.0, subst (λ db. RepresentsOffice db here.0) (sym is.1) here.1, here.2)
 
 -- a reader that failed, if all was committed before
-pub still_kept : (a b : State) → (IsTrue a.is_open → a.now ≡ a.committed) → Keeps a b
+pub still_kept : (a b : State) → IsAtRest a → Keeps a b
     → StateUnchanged a b
 still_kept a b settled kept opened =
     let was = kept.was_open opened in
     (was, elim (kept.now opened) [ inl same ↦ same | inr back ↦ back ∙ sym (settled was) ])
 
 -- a transaction that failed
-pub still_undone : (a b : State) → (IsTrue a.is_open → a.now ≡ a.committed)
+pub still_undone : (a b : State) → IsAtRest a
     → Undone a b → StateUnchanged a b
 still_undone a b settled undone opened =
     let was = undone.was_open opened in
@@ -93,7 +93,7 @@ kept_of (Some r) I E h = record {
 -- all was committed before, and the reader leaves the tables, or what was committed
 module _ (a b : State) (m : OfficeMemory) (rest : MatchesMemory a m)
     (clean : HasCleanDisk b → HasCleanDisk a)
-    (settled : HasCleanDisk a → IsTrue a.is_open → a.now ≡ a.committed)
+    (settled : HasCleanDisk a → IsAtRest a)
     (was_open : HasCleanDisk b → IsTrue b.is_open → IsTrue a.is_open)
     (reads : HasCleanDisk b → (t : Tables) → HoldsTables a.now t → Keeps a b) where
   pub still_read : HasCleanDisk b → StateUnchanged a b
@@ -107,7 +107,7 @@ module _ (a b : State) (m : OfficeMemory) (rest : MatchesMemory a m)
 -- what is in memory matches the tables after a reader of them
 pub rest_after : {S X : Type 0} {result : Result X Error} (g : Ghosts S) (a b : Held S)
     (m : OfficeMemory) → MatchesMemory (state g a) m
-    → (IsTrue (state g a).is_open → (state g a).now ≡ (state g a).committed)
+    → IsAtRest (state g a)
     → LeavesTables g a b result → MatchesMemory (state g b) m
 rest_after g a b m rest settled read =
     rest_read (state g a) (state g b) m rest (λ k. omega (arith, read.survives.clean, k))
@@ -125,8 +125,8 @@ now_after g a b m rest read clean =
 
 module _ {S : Type 0} (g : Ghosts S) (a b c : Held S) (m : OfficeMemory)
     (rest : MatchesMemory (state g a) m)
-    (settled : HasCleanDisk (state g a) → IsTrue (state g a).is_open
-    → (state g a).now ≡ (state g a).committed) (read : HasRead g a b) (same : RowsUnchanged g a b)
+    (settled : HasCleanDisk (state g a) → IsAtRest (state g a)) (read : HasRead g a b)
+    (same : RowsUnchanged g a b)
     (clean : HasCleanDisk (state g c) → HasCleanDisk (state g b))
     (undone : HasCleanDisk (state g c) → Undone (state g b) (state g c)) where
   pub still_failed : HasCleanDisk (state g c) → StateUnchanged (state g a) (state g c)

@@ -13,7 +13,7 @@ use Rattle.sqlite.specs.declared.error.ErrorCode.TheVariants.{Closed}
 use Rattle.sqlite.specs.Outline.{Outline}
 use Rattle.sqlite.specs.State.{State, HasCleanDisk, HasCause, IsNoStatement, IsNotRun, IsUnchanged, store_error}
 use Rattle.office_model.specs.declared.fault.StoreFault.{StoreFault}
-use Rattle.office_store.specs.Running.{IsCommitted, StateUnchanged}
+use Rattle.office_store.specs.Running.{IsAtRest, IsCommitted, StateUnchanged}
 use Rattle.office_store.specs.Shut.{IsShut}
 
 not_true : (b : Bool) → (IsTrue b → ⊥) → b ≡ false
@@ -50,7 +50,7 @@ shut_by_closed sql params a b e is (inl h) =
 shut_by_closed sql params a b e is (inr h) =
     shut_on a b h.3.was_open (shut_by ⊥ a b h.0 (sym is ∙ h.1) h.2)
 
-module _ (a b : State) (settled : IsTrue a.is_open → a.now ≡ a.committed) (sql : List ℕ)
+module _ (a b : State) (settled : IsAtRest a) (sql : List ℕ)
     (asked : Result Outline Error)
     (took : HasCleanDisk b → IfOk asked (λ s. (s.text ≡ sql) × IsUnchanged a b))
     (refused : HasCleanDisk b → IfErr asked (λ e. (params : Row) → IsNotRun a b sql params e)) where

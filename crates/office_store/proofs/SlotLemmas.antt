@@ -20,7 +20,7 @@ use Rattle.office_tables.specs.declared.altering.Both.{Both}
 use Rattle.office_tables.specs.declared.slot.SlotRow.{SlotRow}
 use Rattle.office_tables.specs.declared.slot.DeleteSlot.{DeleteSlot}
 use Rattle.office_tables.specs.Inserted.{InsertSlot}
-use Rattle.office_store.specs.Changes.{moved, new_place, slot_put, slots_put}
+use Rattle.office_store.specs.Changes.{move_writes, new_place, slot_put, slots_put}
 use Rattle.office_records.specs.TableRows.{slots_at, slots_from, slot_row}
 
 -- two filters, in either order
@@ -208,7 +208,7 @@ move_made it t =
     after_some (λ (new : InsertSlot). with_slot new.row) it.second
     (without_slot it.first.draft it.first.exam t)
 
-one_moved : (d e : ℕ) (o : Option Place) (t : Tables) → move_made (moved d e o) t ≡ slot_put d e o t
+one_moved : (d e : ℕ) (o : Option Place) (t : Tables) → move_made (move_writes d e o) t ≡ slot_put d e o t
 one_moved d e None t = refl
 one_moved d e (Some at) t = refl
 

@@ -30,7 +30,7 @@ use Rattle.office_model.specs.Views.{published_place}
 use Rattle.office_model.specs.ViewRows.{AreOfPublication, places_in}
 use Rattle.office_records.specs.Publications.{placed_from, placed_row, placed_rows}
 use Rattle.office_records.specs.Representation.{TablesRepresentOffice}
-use Rattle.office_records.specs.TableRows.{enrol_row, once}
+use Rattle.office_records.specs.TableRows.{enrol_row, number_if}
 use Rattle.office_records.specs.Memory.{published_in}
 use Rattle.office_store.specs.Viewing.{exams_in, candidate_enrol_row, place_in_row}
 use Rattle.std.specs.Prelude.{◌^◌, All}
@@ -63,7 +63,7 @@ use Rattle.office_records.specs.Representation.{IsSound}
 use Rattle.office_records.proofs.SameTables.{same_few}
 use Rattle.office_records.proofs.ReadableLemmas.{are_numbered}
 use Rattle.office_store.specs.OfficeRows.{student_rows_in}
-use Rattle.office_store.specs.Judging.{listed}
+use Rattle.office_store.specs.Judging.{plain_list}
 use Rattle.office_store.specs.Running.{ReturnsValue}
 use Rattle.office_model.specs.declared.fault.StoreFault.{StoreFault}
 use Rattle.office_records.specs.Memory.{Memory, memory_of}
@@ -82,13 +82,13 @@ none_above c (t ∷ ss) a =
 
 -- the number is there once, or not at all
 pub found_once : (c : ℕ) (ss : List ℕ) → IsChain (λ x y. x < y) ss
-    → filter (λ s. eqb s c) ss ≡ once (has_number ss c) c
+    → filter (λ s. eqb s c) ss ≡ number_if (has_number ss c) c
 found_once c [] h = refl
 found_once c (s ∷ ss) h = go (eqb s c) refl (found_once c ss h.1)
   where
-    go : (b : Bool) → eqb s c ≡ b → filter (λ s. eqb s c) ss ≡ once (has_number ss c) c
+    go : (b : Bool) → eqb s c ≡ b → filter (λ s. eqb s c) ss ≡ number_if (has_number ss c) c
         → cond b (s ∷ filter (λ s. eqb s c) ss) (filter (λ s. eqb s c) ss)
-        ≡ once (b || has_number ss c) c
+        ≡ number_if (b || has_number ss c) c
     go true e more =
         let same : s ≡ c = grind (arith, nat_tests, e) in
         ap (λ l. s ∷ l) (none_above c ss (subst (λ n. AllByRecursion (λ t. n < t) ss) same h.0))
@@ -100,9 +100,9 @@ found_once c (s ∷ ss) h = go (eqb s c) refl (found_once c ss h.1)
 -- the exams from k on in which a candidate is enrolled
 abbrev exams_from : ℕ → Enrolled → ℕ → List ℕ
 exams_from k [] c = []
-exams_from k (ss ∷ E) c = once (has_number ss c) k ++ exams_from (k + 1) E c
+exams_from k (ss ∷ E) c = number_if (has_number ss c) k ++ exams_from (k + 1) E c
 
-once_before : (b : Bool) (k : ℕ) (xs : List ℕ) → cond b (k ∷ xs) xs ≡ once b k ++ xs
+once_before : (b : Bool) (k : ℕ) (xs : List ℕ) → cond b (k ∷ xs) xs ≡ number_if b k ++ xs
 once_before true k xs = refl
 once_before false k xs = refl
 
@@ -130,7 +130,7 @@ sat_from D (ss ∷ E) c =
     let rest = filter (λ e. has (D ++ (ss ∷ E)) c e) (range_with_len (length D + 1) (length E)) in
     ap (λ l. cond (has_number l c) (length D ∷ rest) rest) (students_at D ss E)
     ∙ once_before (has_number ss c) (length D) rest
-    ∙ ap (λ l. once (has_number ss c) (length D) ++ l) more
+    ∙ ap (λ l. number_if (has_number ss c) (length D) ++ l) more
 
 sat_is : (E : Enrolled) (c : ℕ) → exams_sat E c ≡ exams_from 0 E c
 sat_is E c = sat_from [] E c
@@ -142,7 +142,7 @@ from_least m k [] c low = tt
 from_least m k (ss ∷ E) c low = go (has_number ss c) (from_least m (k + 1) E c (omega arith))
   where
     go : (b : Bool) → AllByRecursion (λ e. m ≤ e) (exams_from (k + 1) E c)
-        → AllByRecursion (λ e. m ≤ e) (once b k ++ exams_from (k + 1) E c)
+        → AllByRecursion (λ e. m ≤ e) (number_if b k ++ exams_from (k + 1) E c)
     go true more = (low, more)
     go false more = more
 
@@ -151,7 +151,7 @@ exams_rise k [] c = tt
 exams_rise k (ss ∷ E) c = go (has_number ss c) (exams_rise (k + 1) E c)
   where
     go : (b : Bool) → IsAscending (λ x y. x < y) (exams_from (k + 1) E c)
-        → IsAscending (λ x y. x < y) (once b k ++ exams_from (k + 1) E c)
+        → IsAscending (λ x y. x < y) (number_if b k ++ exams_from (k + 1) E c)
     go true more = (
       all_weaker (λ e. k + 1 ≤ e) (λ e. k < e) (λ e h. omega (arith, h)) _
           (from_least (k + 1) (k + 1) E c (omega arith)),
@@ -181,8 +181,8 @@ one_exam c k (s ∷ ss) = go (eqb s c) (one_exam c k ss)
     go true more = ap (λ l. candidate_enrol_row s k ∷ l) more
     go false more = more
 
-once_row : (b : Bool) (c k : ℕ) → map (λ s. candidate_enrol_row s k) (once b c)
-    ≡ map (candidate_enrol_row c) (once b k)
+once_row : (b : Bool) (c k : ℕ) → map (λ s. candidate_enrol_row s k) (number_if b c)
+    ≡ map (candidate_enrol_row c) (number_if b k)
 once_row true c k = refl
 once_row false c k = refl
 
@@ -199,7 +199,7 @@ candidate_pairs k (ss ∷ E) c h =
     (one_exam c k ss ∙ ap (map (λ s. candidate_enrol_row s k)) (found_once c ss h.0)
     ∙ once_row (has_number ss c) c k)
     (candidate_pairs (k + 1) E c h.1)
-    ∙ sym (map-append (candidate_enrol_row c) (once (has_number ss c) k) (exams_from (k + 1) E c))
+    ∙ sym (map-append (candidate_enrol_row c) (number_if (has_number ss c) k) (exams_from (k + 1) E c))
 
 each_chain : (E : Enrolled) → ((e : ℕ) → e < length E → rising.IsAscending (students E e))
     → AllByRecursion (IsChain (λ x y. x < y)) E
@@ -503,7 +503,7 @@ module _ (I : Session) (p : Publication) (c : ℕ) where
   share_row s = student_share_row (s, share_at s)
 
   candidate_are : filter (λ (x : StudentShareRow). eqb x.student c) (student_share_rows I (Some p))
-      ≡ map share_row (once (has_number (students_of p.rows) c) c)
+      ≡ map share_row (number_if (has_number (students_of p.rows) c) c)
   candidate_are =
       ap (filter (λ (x : StudentShareRow). eqb x.student c))
       (map-map student_share_row (λ s. (s, share_at s)) (students_of p.rows))
@@ -529,7 +529,7 @@ module _ (I : Session) (p : Publication) (c : ℕ) where
       (subst (AllByRecursion (λ s. personal_total (share_at s) < 2 ^ 62))
       (found_once c (students_of p.rows)
       (chain_ascending (map (λ (row : publish.SeatRow). row.student) p.rows))
-      ∙ ap (λ b. once b c) there)
+      ∙ ap (λ b. number_if b c) there)
       (all-filter (λ s. personal_total (share_at s) < 2 ^ 62) (λ s. eqb s c) (students_of p.rows)
       each)).0
 
@@ -541,7 +541,7 @@ module _ (I : Session) (p : Publication) (c : ℕ) where
       (subst (λ l. IsPermutation l shares) candidate_are same)
     where
       go : (b : Bool) → has_number (students_of p.rows) c ≡ b
-          → IsPermutation (map share_row (once b c)) shares → IsHerShare shares (share_at c)
+          → IsPermutation (map share_row (number_if b c)) shares → IsHerShare shares (share_at c)
       go true there same =
           one (share_row c) (same_few (share_row c ∷ []) shares (omega arith) same) refl
           (small_at small there)
@@ -713,6 +713,6 @@ nothing_returned o m empty memory c meaning exams =
 
 -- a fault stays one if the result is read as a list
 pub listed_fault : {X F : Type 0} (result : Result (Vec X Global) F) (P : F → Type 0)
-    → IsErrAnd result P → IsErrAnd (listed result) P
+    → IsErrAnd result P → IsErrAnd (plain_list result) P
 listed_fault (Ok found) P is = is
 listed_fault (Err fault) P is = is

@@ -51,15 +51,15 @@ slots_put d T [] t = t
 slots_put d T (e ∷ exams) t = slots_put d T exams (slot_put d e (place_of T e) t)
 
 -- the writes that delete an exam's place in a draft and insert the new one, if there is one
-abbrev pub moved : ℕ → ℕ → Option Place → Both DeleteSlot (Option InsertSlot)
-moved d e place = record {
+abbrev pub move_writes : ℕ → ℕ → Option Place → Both DeleteSlot (Option InsertSlot)
+move_writes d e place = record {
   first = record { draft = d; exam = e };
   second = option_map (λ at. record { row = slot_row d e at }) place;
 }
 
 -- the writes that replace an exam's place by the one that it has in the timetable
 abbrev pub new_place : ℕ → Placing → ℕ → Both DeleteSlot (Option InsertSlot)
-new_place d T e = moved d e (place_of T e)
+new_place d T e = move_writes d e (place_of T e)
 
 -- the tables after a draft's row is replaced and these exams get other places in the draft
 abbrev pub edit_put : DraftRow → Placing → List ℕ → Tables → Tables

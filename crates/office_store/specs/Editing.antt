@@ -1,6 +1,6 @@
 -- What an edit makes of a draft, before it is written.
 use Rattle.std.specs.Prelude.{◌≡◌, ℕ, Result, Ok, Err, Some}
-use Rattle.exam_draft.specs.Edits.{edited}
+use Rattle.exam_draft.specs.Edits.{edit_result}
 use Rattle.exam_draft.specs.declared.edit.Edit.{Edit}
 use Rattle.exam_model.specs.Fits.{Fits}
 use Rattle.exam_model.specs.Timetable.{Placing}
@@ -16,7 +16,7 @@ use Rattle.office_store.specs.declared.memory.Draft.{Draft}
 -- the edit of a draft of these records is legal and gives this timetable
 pub record IsJudged (d : ℕ) (change : Edit) (r : Records) (judged : Judged) : Type 0 where
   pub draft : r.draft d ≡ Some judged.draft.now.timetable
-  pub edits : edited r.session r.enrolments judged.draft.now.timetable change ≡ Ok judged.new
+  pub edits : edit_result r.session r.enrolments judged.draft.now.timetable change ≡ Ok judged.new
   pub scored : judged.draft.now.parts ≡ track r.session r.enrolments judged.draft.now.timetable
 
 -- the edit is legal with this result, or is refused with the command's own refusal
@@ -30,7 +30,7 @@ pub record IsEdited (d : ℕ) (change : Edit) (office : OfficeState) (new : Draf
   pub is : office ≡ Some records
   pub old : Placing
   pub draft : records.draft d ≡ Some old
-  pub edits : edited records.session records.enrolments old change ≡ Ok new.timetable
+  pub edits : edit_result records.session records.enrolments old change ≡ Ok new.timetable
   pub fits : Fits records.session records.enrolments new.timetable
   pub scored : new.parts ≡ track records.session records.enrolments new.timetable
 

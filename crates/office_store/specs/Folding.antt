@@ -8,7 +8,7 @@ use Rattle.exam_model.specs.Enrolments.{Enrolled, students}
 use Rattle.exam_model.specs.Fits.{Fits}
 use Rattle.exam_model.specs.Instance.{Session}
 use Rattle.exam_model.specs.Pairs.{Pair}
-use Rattle.exam_publish.specs.Changed.{ascending}
+use Rattle.exam_publish.specs.Changed.{sorted_numbers}
 use Rattle.exam_score.specs.Changes.{DiffersAtMost}
 use Rattle.exam_score.specs.Folds.{Folded, RepresentsPairs, pairs_sat}
 use Rattle.exam_score.specs.Track.{track}
@@ -19,7 +19,7 @@ use Rattle.office_store.specs.FoldReads.{HadEnrolments}
 
 -- the students of these exams, ascending, each once
 abbrev pub students_of_exams : Enrolled → List ℕ → List ℕ
-students_of_exams E exams = ascending (flat_map (students E) exams)
+students_of_exams E exams = sorted_numbers (flat_map (students E) exams)
 
 -- the pairs of these students, one student after another, each student's pairs by exam
 abbrev pub pairs_of_students : Enrolled → List ℕ → List Pair

@@ -15,6 +15,6 @@ draft_judged d office = do
   Ok (breaches_of found.0.0.0 found.0.0.1 found.0.1, found.1)
 
 -- the result as a plain list
-abbrev pub listed : {X F : Type 0} → Result (Vec X Global) F → Result (List X) F
-listed (Ok found) = Ok found.items
-listed (Err fault) = Err fault
+abbrev pub plain_list : {X F : Type 0} → Result (Vec X Global) F → Result (List X) F
+plain_list (Ok found) = Ok found.items
+plain_list (Err fault) = Err fault

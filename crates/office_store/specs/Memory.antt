@@ -15,7 +15,7 @@ use Rattle.office_records.specs.Found.{AreDrafts}
 use Rattle.office_records.specs.FoundPublications.{AreFound, publication_from}
 use Rattle.office_records.specs.Memory.{AreTogether, memory_of, published_in}
 use Rattle.office_records.specs.Representation.{parts_of}
-use Rattle.office_records.specs.TableRows.{drafts_at, once}
+use Rattle.office_records.specs.TableRows.{drafts_at, number_if}
 use Rattle.office_store.specs.declared.memory.Draft.{Draft}
 use Rattle.office_store.specs.declared.memory.OfficeMemory.{OfficeMemory}
 
@@ -87,13 +87,13 @@ pub record HasPublished (publication : Placing × Vec SeatRow Global) (old new :
   pub published : new.published ≡ Some publication
 
 -- a draft with its penalty by these enrolments
-abbrev pub rescored : Session → Enrolled → Draft → Draft
-rescored I E draft = scored_by I E draft.timetable
+abbrev pub rescored_draft : Session → Enrolled → Draft → Draft
+rescored_draft I E draft = scored_by I E draft.timetable
 
 -- the new drafts are the old ones with their penalties by these enrolments
 abbrev pub AreRescored : Session → Enrolled → List (Option Draft) → List (Option Draft) → Type 0
 AreRescored I E old new =
-    (d : ℕ) → draft_at new d ≡ option_map (rescored I E) (draft_at old d)
+    (d : ℕ) → draft_at new d ≡ option_map (rescored_draft I E) (draft_at old d)
 
 -- after a batch the memory has the new enrolments and drafts, or, if it made none, the old ones
 abbrev pub IsRenewed : Session → Enrolled → Option Enrolled → List (Option Draft)
@@ -106,7 +106,7 @@ IsRenewed I E (Some F) drafts old new = (new.kept ≡ Some (I, F)) × (new.draft
 -- each of these drafts has exactly one of these rows, with its penalty
 pub record AreDraftRows (drafts : List (Option Draft)) (rows : List DraftRow) : Type 0 where
   pub numbers : (d : ℕ) → map (λ row. row.no) (drafts_at d rows)
-      ≡ once (is_some (draft_at drafts d)) d
+      ≡ number_if (is_some (draft_at drafts d)) d
   pub scored : AllByRecursion (λ row. (draft : Draft) → draft_at drafts row.no ≡ Some draft
       → parts_of row ≡ draft.parts) rows
 

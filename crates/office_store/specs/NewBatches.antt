@@ -10,7 +10,7 @@ use Rattle.office_tables.specs.Tables.{Batch, Tables}
 use Rattle.office_tables.specs.declared.batch.BatchRow.{BatchRow}
 use Rattle.office_tables.specs.declared.draft.DraftRow.{DraftRow}
 use Rattle.office_tables.specs.declared.slot.SlotRow.{SlotRow}
-use Rattle.office_enrolment.specs.AfterBatch.{acting, after_batch, latest}
+use Rattle.office_enrolment.specs.AfterBatch.{lines_with_effect, after_batch, current_enrolments}
 use Rattle.office_enrolment.specs.Rows.{pair_of}
 use Rattle.office_model.specs.Batches.{newly_enrolled, same_bytes}
 use Rattle.office_model.specs.Office.{KeptBatch, Records}
@@ -47,11 +47,12 @@ pub record AreDraftsWith (r : Records) (E : Enrolled) (drafts : List DraftRow) :
 -- the rows of all drafts with the enrolments after them; there is room for one batch more
 pub record IsNewFor (changes : List Change) (r : Records) (new : NewBatch) : Type 0 where
   pub after : after_batch changes r.enrolments
-      ≡ Ok (new.counts, latest new.enrolments r.enrolments)
+      ≡ Ok (new.counts, current_enrolments new.enrolments r.enrolments)
   pub room : length r.batches < MAX_BATCHES
-  pub lines : map (λ it. it.change) new.lines.items ≡ acting changes r.enrolments
+  pub lines : map (λ it. it.change) new.lines.items ≡ lines_with_effect changes r.enrolments
   pub drafts : new.lines.items ≢ []
-      → AreDraftsWith r (latest new.enrolments r.enrolments) (map (λ it. it.row) new.drafts.items)
+      → AreDraftsWith r (current_enrolments new.enrolments r.enrolments)
+      (map (λ it. it.row) new.drafts.items)
 
 -- the writes of such a batch, or its refusal, whatever its number and its bytes
 abbrev pub Enrols : List Change → Records → Result NewBatch StoreFault → Type 0

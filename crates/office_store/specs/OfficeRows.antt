@@ -24,6 +24,6 @@ pub record AreShareRowsOf (office : OfficeState) (students : List StudentShareRo
   pub of_parts : IsPermutation parts (part_rows_in office)
 
 -- the values of two references
-abbrev pub shown : {X Y F : Type 0} → Result (Bor X × Bor Y) F → Result (X × Y) F
-shown (Ok pair) = Ok (pair.0.now, pair.1.now)
-shown (Err fault) = Err fault
+abbrev pub pair_values : {X Y F : Type 0} → Result (Bor X × Bor Y) F → Result (X × Y) F
+pair_values (Ok pair) = Ok (pair.0.now, pair.1.now)
+pair_values (Err fault) = Err fault

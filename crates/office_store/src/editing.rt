@@ -5,14 +5,14 @@ ghost use Rattle.sqlite.specs.State.{HasCleanDisk};
 ghost use Rattle.exam_model.specs.Enrolments.{Enrolled};
 ghost use Rattle.exam_model.specs.Fits.{Fits, Suits};
 ghost use Rattle.exam_model.specs.Instance.{Session};
-ghost use Rattle.exam_draft.specs.Edits.{edited};
+ghost use Rattle.exam_draft.specs.Edits.{edit_result};
 ghost use Rattle.exam_draft.specs.Judged.{IsEditedAt, edited_exams};
 ghost use Rattle.office_model.specs.Office.{OfficeState, Records};
 ghost use Rattle.office_records.specs.Memory.{memory_of};
 ghost use Rattle.office_records.specs.Representation.{RepresentsOffice};
-ghost use Rattle.office_model.specs.Commands.{named};
+ghost use Rattle.office_model.specs.Commands.{renamed_fault};
 ghost use Rattle.office_model.specs.DraftCommands.{draft_edited};
-ghost use Rattle.office_store.specs.Changes.{moved, new_place};
+ghost use Rattle.office_store.specs.Changes.{move_writes, new_place};
 ghost use Rattle.office_store.specs.Editing.{Edits, Judges};
 ghost use Rattle.office_store.specs.FoldReads.{HasRead, RowsUnchanged};
 ghost use Rattle.office_store.specs.Leaving.{LeavesNext};
@@ -144,10 +144,11 @@ fn new_timetable(
     edit: Edit,
 ) -> Result<Timetable, StoreFault>
     requires fits { Fits instance.now enrolments.now old.now }
-    ensures ok { IfOk result (λ new. edited instance.now enrolments.now old.now edit ≡ Ok new) }
+    ensures ok { IfOk result
+        (λ new. edit_result instance.now enrolments.now old.now edit ≡ Ok new) }
     ensures err { IfErr result (λ e. (e ≡ StoreFault.Store)
-        ⊎ (named (λ f. StoreFault.Refused (Refusal.Edit f))
-        (edited instance.now enrolments.now old.now edit) ≡ Err e)) }
+        ⊎ (renamed_fault (λ f. StoreFault.Refused (Refusal.Edit f))
+        (edit_result instance.now enrolments.now old.now edit) ≡ Err e)) }
     ensures kept { IfOk result (IsEditedAt instance.now enrolments.now old.now
         (edited_exams edit)) }
 {
@@ -170,7 +171,7 @@ fn new_places(
 {
     let mut places = Vec::new(alloc);
     for exam in exams {
-        places.push(moved(draft, *exam, timetable.get(*exam)))?;
+        places.push(move_writes(draft, *exam, timetable.get(*exam)))?;
     }
     Ok(places)
 }
@@ -178,8 +179,8 @@ fn new_places(
 // The writes that delete an exam's place in a draft and insert the new one, if there is one.
 pub(crate) type Moved = Both<DeleteSlot, Option<InsertSlot>>;
 
-fn moved(draft: u32, exam: ExamNo, place: Option<Place>) -> Moved
-    ensures { result ≡ moved draft exam place }
+fn move_writes(draft: u32, exam: ExamNo, place: Option<Place>) -> Moved
+    ensures { result ≡ move_writes draft exam place }
 {
     let exam = exam.get();
     Both {

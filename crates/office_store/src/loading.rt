@@ -3,7 +3,7 @@ ghost use Rattle.std.specs.Prelude.{◌≡◌, ◌++◌, IfErr, IfOk, IsPermutat
 ghost use Rattle.exam_model.specs.Enrolments.{AreEnrolments};
 ghost use Rattle.exam_model.specs.Instance.{IsInstance};
 ghost use Rattle.exam_model.specs.Pairs.{pairs_at, pairs_of};
-ghost use Rattle.office_model.specs.Loading.{NamesFirstFault, SpellsSession, loaded_of, loaded};
+ghost use Rattle.office_model.specs.Loading.{NamesFirstFault, SpellsSession, session_counts, load_session};
 ghost use Rattle.office_store.specs.Leaving.{LeavesNext};
 ghost use Rattle.office_store.specs.Running.{CommandRan};
 ghost use Rattle.office_records.specs.TableRows.{enrol_row};
@@ -23,14 +23,14 @@ impl<S: Alter> Office<S> {
     /// Loads the session of an instance file with its enrolments, once. `Refused`: the file is
     /// faulty; then `Loaded`: there is a session already.
     pub fn load(&mut self, alloc: Global, text: &[u8]) -> Result<Loaded, StoreFault>
-        ensures runs { CommandRan S.Store (loaded text.now) self.old self.new result }
+        ensures runs { CommandRan S.Store (load_session text.now) self.old self.new result }
         // On any disk: returns the counts of the session in the text.
         ensures counts { IfOk result (SpellsSession text.now) }
         // On any disk: `Refused` names the first fault of the text.
         ensures first { IfErr result (NamesFirstFault text.now) }
         // Whatever the refusal, the tables are as they were. On `Ok` the database is open, and the
         // change is committed.
-        ensures leaves { LeavesNext S.Store (loaded text.now) self.old self.new result }
+        ensures leaves { LeavesNext S.Store (load_session text.now) self.old self.new result }
     {
         let (instance, enrolments) = match read_instance(alloc, text) {
             Ok(read) => read,
@@ -64,7 +64,7 @@ impl<S: Alter> Office<S> {
 }
 
 fn counts_of(instance: &Instance, enrolments: &Enrolments) -> Loaded
-    ensures counts { result ≡ loaded_of (instance.now, enrolments.now) }
+    ensures counts { result ≡ session_counts (instance.now, enrolments.now) }
     ensures instance { IsInstance instance.now }
     ensures enrolments { AreEnrolments enrolments.now }
 {

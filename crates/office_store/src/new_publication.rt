@@ -121,7 +121,7 @@ fn publication_writes(
     ensures err { IfErr result (λ e. e ≡ StoreFault.Store) }
 {
     instance.lemma_limits();
-    let candidates = rewritten(alloc, old, rows)?;
+    let candidates = candidates_to_write(alloc, old, rows)?;
     let shares = shares_among(alloc, instance, rows, &draft.timetable, &candidates)?;
     let text = mark_text(alloc, instance, before)?;
     let places = placement_rows(alloc, &draft.timetable)?;
@@ -151,7 +151,11 @@ fn publication_writes(
 
 // Returns the candidates whose seats and shares are written: all whose seat rows differ from those
 // before, even if only their places differ.
-fn rewritten(alloc: Global, old: &[SeatRow], rows: &[SeatRow]) -> Result<Vec<StudentNo>, AllocError>
+fn candidates_to_write(
+    alloc: Global,
+    old: &[SeatRow],
+    rows: &[SeatRow],
+) -> Result<Vec<StudentNo>, AllocError>
     requires old_in_order { RowsInOrder old.now }
     requires new_in_order { RowsInOrder rows.now }
     ensures listed { IfOk result

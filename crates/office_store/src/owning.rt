@@ -1,7 +1,7 @@
 // The owner of an exam.
 ghost use Rattle.std.specs.Prelude.{◌≡◌, ◌≤◌, ℕ, Ok, map};
 ghost use Rattle.exam_terms.specs.declared.limits.TheConstants.{MAX_DEPARTMENT};
-ghost use Rattle.office_model.specs.Commands.{owned, owner_in};
+ghost use Rattle.office_model.specs.Commands.{set_owner_result, owner_in};
 ghost use Rattle.office_store.specs.Changes.{new_owner};
 ghost use Rattle.office_store.specs.Leaving.{LeavesNext, LeavesUnchanged};
 ghost use Rattle.office_store.specs.Running.{QueryReturned, CommandRan};
@@ -21,10 +21,10 @@ impl<S: Alter> Office<S> {
     /// is no session; then `Refused` with `NoSuch`: there is no such exam.
     pub fn set_owner(&mut self, exam: ExamNo, dept: u32) -> Result<(), StoreFault>
         requires dept { dept ≤ MAX_DEPARTMENT }
-        ensures runs { CommandRan S.Store (owned exam dept) self.old self.new result }
+        ensures runs { CommandRan S.Store (set_owner_result exam dept) self.old self.new result }
         // Whatever the refusal, the tables are as they were. On `Ok` the database is open, and the
         // change is committed.
-        ensures leaves { LeavesNext S.Store (owned exam dept) self.old self.new result }
+        ensures leaves { LeavesNext S.Store (set_owner_result exam dept) self.old self.new result }
     {
         self.look()?;
         let Some((instance, _)) = &self.memory.kept else {

@@ -6,9 +6,9 @@ ghost use Rattle.office_model.specs.Office.{OfficeState};
 ghost use Rattle.office_model.specs.Commands.{session_shown};
 ghost use Rattle.office_model.specs.DraftCommands.{draft_shown};
 ghost use Rattle.office_records.specs.Representation.{RepresentsOffice};
-ghost use Rattle.office_store.specs.Judging.{draft_judged, listed};
+ghost use Rattle.office_store.specs.Judging.{draft_judged, plain_list};
 ghost use Rattle.office_store.specs.Leaving.{LeavesUnchanged};
-ghost use Rattle.office_store.specs.OfficeRows.{shown};
+ghost use Rattle.office_store.specs.OfficeRows.{pair_values};
 ghost use Rattle.office_store.specs.Pricing.{draft_priced};
 ghost use Rattle.office_store.specs.Running.{CommandOutcome, CommandRan};
 
@@ -29,9 +29,10 @@ impl<S: Alter> Office<S> {
         ensures shown { HasCleanDisk (state S.Store self.now)
             → IsTrue (state S.Store self.now).is_open → (office : OfficeState)
             → RepresentsOffice (state S.Store self.now).now office
-            → CommandOutcome (session_shown office) office (λ new. new ≡ office) (shown result) }
+            → CommandOutcome (session_shown office) office (λ new. new ≡ office)
+            (pair_values result) }
         ensures fault { IfErr result (λ e. e ≡ StoreFault.NotLoaded) }
-        ensures exams { IfOk result (λ shown. length shown.1.now ≡ length shown.0.now.exams) }
+        ensures exams { IfOk result (λ pair. length pair.1.now ≡ length pair.0.now.exams) }
     {
         match &self.memory.kept {
             Some((instance, enrolments)) => Ok((instance, enrolments)),
@@ -76,7 +77,8 @@ impl<S: Alter> Office<S> {
     /// Returns all breaches of a draft, in their order. `NotLoaded`, then `NoDraft`: no draft has
     /// this number.
     pub fn breaches(&mut self, alloc: Global, number: u32) -> Result<Vec<Breach>, StoreFault>
-        ensures runs { CommandRan S.Store (draft_judged number) self.old self.new (listed result) }
+        ensures runs { CommandRan S.Store (draft_judged number)
+            self.old self.new (plain_list result) }
         // While it is open, the database is unchanged. On `Ok` memory and the file agree.
         ensures leaves { LeavesUnchanged S.Store self.old self.new result }
     {

@@ -6,7 +6,7 @@ ghost use Rattle.exam_score.specs.Track.{track};
 ghost use Rattle.office_tables.specs.Draft.{AreAmounts};
 ghost use Rattle.office_tables.specs.declared.draft.DraftRow.{DraftRow};
 ghost use Rattle.office_records.specs.Representation.{parts_of};
-ghost use Rattle.office_store.specs.Memory.{AreDraftRows, AreRescored, AreScored, AreSuited, rescored};
+ghost use Rattle.office_store.specs.Memory.{AreDraftRows, AreRescored, AreScored, AreSuited, rescored_draft};
 
 use crate::memory::{Draft, Drafts, NUMBERS, no_drafts};
 use exam_model::{Enrolments, Instance, StudentNo};
@@ -36,13 +36,13 @@ pub(crate) fn rescored_drafts(
     let mut made = no_drafts();
     'numbers: for number in 0..NUMBERS {
         let draft = &drafts[number];
-        made[number] = rescored(alloc, instance, before, after, students, draft)?;
+        made[number] = rescored_draft(alloc, instance, before, after, students, draft)?;
     }
     Ok(made)
 }
 
 // Returns a draft, if there is one, with its penalty by the enrolments after a change.
-fn rescored(
+fn rescored_draft(
     alloc: Global,
     instance: &Instance,
     before: &Enrolments,
@@ -58,7 +58,8 @@ fn rescored(
         IfSome made (λ draft. Suits instance.now draft.timetable)) }
     ensures rescored { IfSome draft.now
         (λ draft. draft.parts ≡ track instance.now before.now draft.timetable)
-        → IfOk result (λ made. made ≡ option_map (rescored instance.now after.now) draft.now) }
+        → IfOk result (λ made.
+        made ≡ option_map (rescored_draft instance.now after.now) draft.now) }
 {
     let Some(draft) = draft else {
         return Ok(None);

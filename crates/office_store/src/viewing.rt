@@ -6,7 +6,7 @@ ghost use Rattle.office_model.specs.Office.{AreRecords, OfficeState, Records};
 ghost use Rattle.office_model.specs.Shown.{shown_exams, shown_penalty, shown_to};
 ghost use Rattle.office_model.specs.Views.{view_of};
 ghost use Rattle.office_records.specs.Representation.{RepresentsOffice};
-ghost use Rattle.office_store.specs.Judging.{listed};
+ghost use Rattle.office_store.specs.Judging.{plain_list};
 ghost use Rattle.office_store.specs.Leaving.{LeavesUnchanged};
 ghost use Rattle.office_store.specs.Running.{QueryReturned, ReturnsValue};
 ghost use Rattle.office_store.specs.Viewing.{AreCandidateRows, place_in_row};
@@ -91,7 +91,7 @@ impl<S: Alter> Office<S> {
         student: StudentNo,
     ) -> Result<Vec<ViewRow>, StoreFault>
         ensures reads { QueryReturned S.Store (λ o. shown_exams (view_of student o))
-            self.old self.new (listed result) }
+            self.old self.new (plain_list result) }
         ensures leaves { LeavesUnchanged S.Store self.old self.new result }
     {
         let found = self.candidate_rows(alloc, student)?;
@@ -130,7 +130,7 @@ fn exams_from(
     ensures meaning { (s : ℕ) (r : Records) → AreRecords r → r.session ≡ instance.now
         → AreCandidateRows (Some r) s found.now.enrols.items found.now.places.items
         found.now.seats.items
-        → ReturnsValue (shown_exams (view_of s (Some r))) (listed result) }
+        → ReturnsValue (shown_exams (view_of s (Some r))) (plain_list result) }
 {
     let enrolled = exams_of(alloc, &found.enrols)?;
     let places = places_of(alloc, &found.places)?;

@@ -43,7 +43,7 @@ use Rattle.office_tables.specs.declared.version.Version.TheVariants.{One, Two}
 use Rattle.office_tables.specs.Joining.{AreFound}
 use Rattle.office_tables.specs.TablesHeld.{HoldsTablesIn}
 use Rattle.office_tables.specs.Versions.{schema_of}
-use Rattle.office_tables.specs.Stored.{Holds, keyed, keyless}
+use Rattle.office_tables.specs.Stored.{Holds, keyed_columns, keyless_columns}
 use Rattle.office_tables.proofs.Reading.{keeps_after}
 
 -- ---- readers one after another
@@ -146,64 +146,64 @@ module _ {S X : Type 0} {version : Version} {store : Ghosts S} {is : Database �
 pub session_found : (version : Version) (db : Database) (meta : Option MetaRow)
     (owners : Option (Vec OwnerRow Global)) (enrols : Option (Vec EnrolRow Global))
     → IsFoundMeta version (db.trees 0) meta
-    → IsFound FitsOwner owner_columns keyed (db.trees 1) owners
-    → IsFound FitsEnrol enrol_columns keyless (db.trees 2) enrols
+    → IsFound FitsOwner owner_columns keyed_columns (db.trees 1) owners
+    → IsFound FitsEnrol enrol_columns keyless_columns (db.trees 2) enrols
     → (found : Option FoundSession) → IsSession meta owners enrols found
     → IsFoundPart HoldsSession version db found
 session_found version db meta owners enrols m o e (Some found) is = record {
   meta = subst (IsFoundMeta version (db.trees 0)) is.0 m;
-  owner = subst (IsFound FitsOwner owner_columns keyed (db.trees 1)) is.1 o;
-  enrol = subst (IsFound FitsEnrol enrol_columns keyless (db.trees 2)) is.2 e;
+  owner = subst (IsFound FitsOwner owner_columns keyed_columns (db.trees 1)) is.1 o;
+  enrol = subst (IsFound FitsEnrol enrol_columns keyless_columns (db.trees 2)) is.2 e;
 }
 session_found version db meta owners enrols m o e None (inl none) = λ t plain represents.
     subst (IsFoundMeta version (db.trees 0)) none m plain.row
-    (subst (λ l. Holds keyed (map (meta_columns version) l)
+    (subst (λ l. Holds keyed_columns (map (meta_columns version) l)
     (db.trees 0)) plain.meta represents.meta)
 session_found version db meta owners enrols m o e None (inr (inl none)) = λ t plain represents.
-    subst (IsFound FitsOwner owner_columns keyed (db.trees 1)) none o t.owner
+    subst (IsFound FitsOwner owner_columns keyed_columns (db.trees 1)) none o t.owner
     plain.owner represents.owner
 session_found version db meta owners enrols m o e None (inr (inr none)) = λ t plain represents.
-    subst (IsFound FitsEnrol enrol_columns keyless (db.trees 2)) none e t.enrol
+    subst (IsFound FitsEnrol enrol_columns keyless_columns (db.trees 2)) none e t.enrol
     plain.enrol represents.enrol
 
 pub drafts_found : (version : Version) (db : Database) (drafts : Option (Vec DraftRow Global))
     (slots : Option (Vec SlotRow Global))
     → AreFound FitsDraft (HaveDrafts version db) drafts
-    → IsFound FitsSlot slot_columns keyless (db.trees 5) slots
+    → IsFound FitsSlot slot_columns keyless_columns (db.trees 5) slots
     → (found : Option FoundDrafts) → IsDrafts drafts slots found
     → IsFoundPart HoldsDrafts version db found
 drafts_found version db drafts slots d s (Some found) is = record {
   draft = subst (AreFound FitsDraft (HaveDrafts version db)) is.0 d;
-  slot = subst (IsFound FitsSlot slot_columns keyless (db.trees 5)) is.1 s;
+  slot = subst (IsFound FitsSlot slot_columns keyless_columns (db.trees 5)) is.1 s;
 }
 drafts_found version db drafts slots d s None (inl none) = λ t plain represents.
     subst (AreFound FitsDraft (HaveDrafts version db)) none d t.draft plain.draft
     (record { first = represents.draft; second = represents.night_draft })
 drafts_found version db drafts slots d s None (inr none) = λ t plain represents.
-    subst (IsFound FitsSlot slot_columns keyless
+    subst (IsFound FitsSlot slot_columns keyless_columns
     (db.trees 5)) none s t.slot plain.slot represents.slot
 
 pub publication_found : (version : Version) (db : Database)
     (placements : Option (Vec PlacedRow Global)) (seats : Option (Vec SeatRow Global))
     (students : Option (Vec StudentShareRow Global)) (parts : Option (Vec PartShareRow Global))
-    → IsFound FitsPlacement placed_columns keyed (db.trees 7) placements
-    → IsFound FitsSeat seat_columns keyless (db.trees 8) seats
+    → IsFound FitsPlacement placed_columns keyed_columns (db.trees 7) placements
+    → IsFound FitsSeat seat_columns keyless_columns (db.trees 8) seats
     → AreFound FitsStudentShare (HaveShares version db) students
-    → IsFound FitsPartShare share_part_columns keyless (db.trees 12) parts
+    → IsFound FitsPartShare share_part_columns keyless_columns (db.trees 12) parts
     → (found : Option FoundPublication) → HasAllOfPublication placements seats students parts found
     → IsFoundPart HoldsPublication version db found
 publication_found version db placements seats students parts p s n k (Some found) is = record {
-  placed = subst (IsFound FitsPlacement placed_columns keyed (db.trees 7)) is.0 p;
-  seat = subst (IsFound FitsSeat seat_columns keyless (db.trees 8)) is.1 s;
+  placed = subst (IsFound FitsPlacement placed_columns keyed_columns (db.trees 7)) is.0 p;
+  seat = subst (IsFound FitsSeat seat_columns keyless_columns (db.trees 8)) is.1 s;
   share_student = subst (AreFound FitsStudentShare (HaveShares version db)) is.2 n;
-  share_part = subst (IsFound FitsPartShare share_part_columns keyless (db.trees 12)) is.3 k;
+  share_part = subst (IsFound FitsPartShare share_part_columns keyless_columns (db.trees 12)) is.3 k;
 }
 publication_found version db placements seats students parts p s n k None (inl none) =
     λ t plain represents.
-    subst (IsFound FitsPlacement placed_columns keyed (db.trees 7)) none p t.placed plain.placed
+    subst (IsFound FitsPlacement placed_columns keyed_columns (db.trees 7)) none p t.placed plain.placed
     represents.placed
 publication_found version db placements seats students parts p s n k None (inr (inl none)) =
-    λ t plain represents. subst (IsFound FitsSeat seat_columns keyless (db.trees 8)) none s
+    λ t plain represents. subst (IsFound FitsSeat seat_columns keyless_columns (db.trees 8)) none s
     t.seat plain.seat
     represents.seat
 publication_found version db placements seats students parts p s n k None (inr (inr (inl none))) =
@@ -212,7 +212,7 @@ publication_found version db placements seats students parts p s n k None (inr (
     t.share_student plain.share_student
     (record { first = represents.share_student; second = represents.night_share })
 publication_found version db placements seats students parts p s n k None (inr (inr (inr none))) =
-    λ t plain represents. subst (IsFound FitsPartShare share_part_columns keyless
+    λ t plain represents. subst (IsFound FitsPartShare share_part_columns keyless_columns
     (db.trees 12)) none k
     t.share_part plain.share_part represents.share_part
 

@@ -25,7 +25,7 @@ use Rattle.sqlite.specs.Term.{Term, Env, eval_all}
 use Rattle.sqlite.proofs.StateLemmas.{survives_weaker}
 use Rattle.sqlite.proofs.Callers.{IsPlain, command_of, reads_as}
 use Rattle.office_schema.specs.Schema.{office_schema}
-use Rattle.office_tables.specs.Asking.{asks, IsReadOf, Means, Selects}
+use Rattle.office_tables.specs.Asking.{select_query, IsReadOf, Means, Selects}
 use Rattle.office_tables.specs.Readers.{LeavesIfPlain, LeavesTables, Reads}
 use Rattle.office_tables.specs.Tables.{Tables}
 use Rattle.office_tables.specs.TablesHeld.{HoldsTables, HoldsTablesIn}
@@ -141,12 +141,12 @@ answers q sql params old mid new means same rows h =
 
 -- an answer shows all matches, in the order of the query
 pub arranged : (from : Join) (where_ shown : List Term) (order : List (Term × Key)) (trees : Trees)
-    (params : Row) (rows : List Row) → IsAnswer (asks from where_ shown order) trees params rows
+    (params : Row) (rows : List Row) → IsAnswer (select_query from where_ shown order) trees params rows
     → (found : List Env) × (rows ≡ map (eval_all shown) found)
     × IsPermutation (matches trees where_ from (params ∷ [])) found
     × IsSorted (sort_cmp order) found
 arranged from where_ shown order trees params rows a =
-    let q = asks from where_ shown order in
+    let q = select_query from where_ shown order in
     let kept : a.kept ≡ map (output q) (matches trees where_ from (params ∷ [])) =
     a.distinct ∙ ap (map (output q)) a.grouped in
     let u = unmapped (output q) (matches trees where_ from (params ∷ [])) a.ordered

@@ -18,7 +18,7 @@ use Rattle.office_tables.specs.declared.version.Version.{Version}
 use Rattle.office_tables.specs.Versions.{schema_of}
 use Rattle.office_tables.specs.Batch.{IsFoundBatches, counts_of, counts_columns, FitsCounts}
 use Rattle.office_tables.specs.Finders.{IsFound}
-use Rattle.office_tables.specs.Stored.{keyed}
+use Rattle.office_tables.specs.Stored.{keyed_columns}
 use Rattle.office_tables.specs.Batch.{batch_columns}
 use Rattle.office_tables.specs.declared.batch.BatchCountsRow.{BatchCountsRow}
 use Rattle.office_tables.proofs.AskLemmas.{unmapped}
@@ -45,12 +45,12 @@ bytes_there (Text t) suits present = absurd (cc)
 bytes_there (Blob bytes) suits present = (bytes, refl)
 
 whole : (r : Row) → length r ≡ 6 → are_typed batch_table.key 0 batch_table.columns (drop 1 r) ≡ true
-    → are_present batch_table.key 0 batch_table.columns r ≡ true → IsWhole (keyed r)
+    → are_present batch_table.key 0 batch_table.columns r ≡ true → IsWhole (keyed_columns r)
 whole [] long typed present = absurd (omega (arith, long))
 whole (a ∷ []) long typed present = absurd (omega (arith, long))
 whole (a ∷ b ∷ []) long typed present = absurd (omega (arith, long))
 whole (a ∷ b ∷ v ∷ row) long typed present =
-    let five : length (keyed (a ∷ b ∷ v ∷ row)) ≡ 5 = omega (arith, long) in
+    let five : length (keyed_columns (a ∷ b ∷ v ∷ row)) ≡ 5 = omega (arith, long) in
     let suited = (and_parts _ _ (and_parts _ _ typed).1).0 in
     let given : (not (is_null v) && are_present batch_table.key 2 (drop 2 batch_table.columns)
     (a ∷ b ∷ v ∷ row)) ≡ true = present in
@@ -80,7 +80,7 @@ all_same f (q ∷ rows) h = ap₂ (λ x xs. x ∷ xs) h.0 (all_same f rows h.1)
 
 module _ (version : Version) (db : Database) (is : db.schema ≡ schema_of version)
     (sound : IsDatabase db) where
-  all_whole : AllByRecursion IsWhole (map keyed (db.trees 14))
+  all_whole : AllByRecursion IsWhole (map keyed_columns (db.trees 14))
   all_whole =
       let Typed = λ (r : Row). passes Datatype (schema_of version) db.trees batch_table r ≡ true in
       let Present = λ (r : Row). passes NotNull (schema_of version) db.trees batch_table r ≡ true in
@@ -88,23 +88,23 @@ module _ (version : Version) (db : Database) (is : db.schema ≡ schema_of versi
       let present = in_both version 9 batch_table refl NotNull db is sound in
       let long = rows_long batch_table (take 4 batch_table.columns) (int (codes "unchanged")) refl
       refl refl (schema_of version) db.trees (db.trees 14) typed present in
-      all-map IsWhole keyed (db.trees 14)
-      (all_both (λ r. length r ≡ 6) (λ r. Typed r × Present r) (λ r. IsWhole (keyed r))
+      all-map IsWhole keyed_columns (db.trees 14)
+      (all_both (λ r. length r ≡ 6) (λ r. Typed r × Present r) (λ r. IsWhole (keyed_columns r))
       (λ r wide both. whole r wide (and_parts _ _ both.0).0 both.1) (db.trees 14) long
       (all_both Typed Present (λ r. Typed r × Present r) (λ r t p. (t, p)) (db.trees 14) typed
       present))
 
-  counts_listed : map picked (map keyed (db.trees 14)) ≡ map counts_shown (db.trees 14)
+  counts_listed : map picked (map keyed_columns (db.trees 14)) ≡ map counts_shown (db.trees 14)
   counts_listed =
-      map-map picked keyed (db.trees 14)
-      ∙ map_agree (λ r. picked (keyed r)) counts_shown
+      map-map picked keyed_columns (db.trees 14)
+      ∙ map_agree (λ r. picked (keyed_columns r)) counts_shown
       (λ r. rw (column_later r 1, column_later r 2, column_later r 3) refl) (db.trees 14)
 
   -- the table's batches have the numbers found, or there are no batches that fit
   pub batches_found : (found : Option (Vec BatchCountsRow Global))
       → IsFound FitsCounts counts_columns counts_shown (db.trees 14) found → IsFoundBatches db found
   batches_found (Some found) holds =
-      let shown = map keyed (db.trees 14) in
+      let shown = map keyed_columns (db.trees 14) in
       let moved = subst (λ l. IsPermutation l (map counts_columns found.items)) (sym counts_listed)
       holds.same in
       let u = unmapped picked shown (map counts_columns found.items) moved in

@@ -18,11 +18,11 @@ use Rattle.sqlite_tied.specs.Compute.{everything}
 use Rattle.office_tables.specs.declared.version.Version.{Version}
 use Rattle.office_tables.specs.declared.version.Version.TheVariants.{One, Two}
 use Rattle.office_tables.specs.Versions.{schema_of}
-use Rattle.office_tables.specs.Asking.{asks, IsReadOf, Means}
+use Rattle.office_tables.specs.Asking.{select_query, IsReadOf, Means}
 use Rattle.office_tables.specs.Batch.{batch_from, batch_columns}
 use Rattle.office_tables.specs.Tables.{Tables, Batch}
 use Rattle.office_tables.specs.TablesHeld.{HoldsTablesIn}
-use Rattle.office_tables.specs.Stored.{keyed}
+use Rattle.office_tables.specs.Stored.{keyed_columns}
 use Rattle.office_tables.specs.declared.batch.BatchRow.{BatchRow}
 use Rattle.office_tables.proofs.OrderLemmas.{read, rising, table_shown, typed}
 use Rattle.office_tables.proofs.Queries.{column_later, equal_numbers, equals, passes}
@@ -46,7 +46,7 @@ abbrev columns : List Term
 columns = col 1 0 ∷ col 1 2 ∷ col 1 3 ∷ col 1 4 ∷ col 1 5 ∷ []
 
 abbrev pub batch_of_query : Query
-batch_of_query = asks (inner 14 end) (equals 0 0 ∷ []) columns (rising columns (0 ∷ []))
+batch_of_query = select_query (inner 14 end) (equals 0 0 ∷ []) columns (rising columns (0 ∷ []))
 
 pub batch_of_means : (version : Version) → Means (schema_of version) batch_of_query batch_of_text
 unfolding understood everything
@@ -67,7 +67,7 @@ abbrev picked : Row → Row
 picked row = column row 0 ∷ column row 1 ∷ column row 2 ∷ column row 3 ∷ column row 4 ∷ []
 
 shown_is : (r : Row) → column r 0 ∷ column r 2 ∷ column r 3 ∷ column r 4 ∷ column r 5 ∷ []
-    ≡ picked (keyed r)
+    ≡ picked (keyed_columns r)
 shown_is r = rw (
   column_later r 0,
   column_later r 1,
@@ -84,7 +84,7 @@ rows_read version db n t represents found is =
     (read batch_of batch_columns 5 (λ x. refl) (λ x. refl) (inner 14 end) (equals 0 0 ∷ []) columns
     (0 ∷ []) (λ (x : Batch). x.no ∷ []) (λ x. refl) db.trees params
     (filter (λ r. r.no == n) t.batch) found
-    (table_shown batch_columns keyed picked params 14 (equals 0 0 ∷ []) columns shown_is
+    (table_shown batch_columns keyed_columns picked params 14 (equals 0 0 ∷ []) columns shown_is
     (λ x. refl) (passes params (equals 0 0 ∷ [])) (λ r. refl)
     (λ r. r.no == n) (λ x. equal_numbers x.no n) db.trees t.batch
     represents.batch.same) is).0

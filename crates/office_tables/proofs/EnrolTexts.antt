@@ -14,14 +14,14 @@ use Rattle.sqlite.specs.Query.{Query, inner, end, matches}
 use Rattle.sqlite.specs.Term.{Term, col, eval_all}
 use Rattle.sqlite_tied.specs.Compute.{everything}
 use Rattle.office_schema.specs.Schema.{office_schema}
-use Rattle.office_tables.specs.Asking.{asks, IsReadOf, Means}
+use Rattle.office_tables.specs.Asking.{select_query, IsReadOf, Means}
 use Rattle.office_tables.specs.Readings.{IsReadAnswer}
 use Rattle.office_tables.specs.Enrol.{FitsEnrol, StudentEnrolsRise, enrol_columns}
 use Rattle.office_tables.specs.Selections.{AreListed, AreListedIfFit}
 use Rattle.office_tables.specs.declared.enrol.EnrolRow.{EnrolRow}
 use Rattle.office_tables.specs.Tables.{Tables}
 use Rattle.office_tables.specs.TablesHeld.{HoldsTables}
-use Rattle.office_tables.specs.Stored.{keyless}
+use Rattle.office_tables.specs.Stored.{keyless_columns}
 use Rattle.office_tables.proofs.OrderLemmas.{by_number, columns_shown, read, rising, table_shown}
 use Rattle.office_tables.proofs.Queries.{column_less, equal_numbers, equals, passes}
 use Rattle.office_tables.proofs.RecordsBack.{enrol_of}
@@ -32,7 +32,7 @@ enrol_terms = col 1 1 ∷ col 1 2 ∷ []
 abbrev enrol_picked : Row → Row
 enrol_picked row = column row 0 ∷ column row 1 ∷ []
 
-enrol_shown : (r : Row) → column r 1 ∷ column r 2 ∷ [] ≡ enrol_picked (keyless r)
+enrol_shown : (r : Row) → column r 1 ∷ column r 2 ∷ [] ≡ enrol_picked (keyless_columns r)
 enrol_shown r = rw (column_less r 0, column_less r 1) refl
 
 -- ---- SELECT student, exam FROM enrol WHERE student = ?1 ORDER BY exam
@@ -42,7 +42,7 @@ enrols_of_text = codes "SELECT student, exam FROM enrol WHERE student = ?1 ORDER
 
 abbrev pub enrols_of_query : Query
 enrols_of_query =
-    asks (inner 2 end) (equals 1 0 ∷ []) enrol_terms (rising enrol_terms (1 ∷ []))
+    select_query (inner 2 end) (equals 1 0 ∷ []) enrol_terms (rising enrol_terms (1 ∷ []))
 
 pub enrols_of_means : Means office_schema enrols_of_query enrols_of_text
 unfolding understood everything
@@ -64,7 +64,7 @@ module _ (db : Database) (number : ℕ) (t : Tables) (represents : HoldsTables d
   shown : IsPermutation (map (eval_all enrol_terms)
       (matches db.trees (equals 1 0 ∷ []) (inner 2 end) (given ∷ []))) (map enrol_columns hers)
   shown =
-      table_shown enrol_columns keyless enrol_picked given 2
+      table_shown enrol_columns keyless_columns enrol_picked given 2
       (equals 1 0 ∷ []) enrol_terms enrol_shown
       (λ x. refl) (passes given (equals 0 0 ∷ [])) (λ r.
       ap (λ v. is_true (binary (Compare Eq Binary) v (Int (pos number))) && true) (column_less r 0))

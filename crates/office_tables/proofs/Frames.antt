@@ -10,7 +10,7 @@ use Rattle.sqlite_trees.specs.Tree.{Trees}
 use Rattle.sqlite_schema.specs.declared.schema.Table.{Table}
 use Rattle.sqlite.specs.Effect.{Database}
 use Rattle.office_schema.specs.Schema.{office_schema}
-use Rattle.office_tables.specs.Inserting.{IsTable, Others, is_alone, shown_by, simple}
+use Rattle.office_tables.specs.Inserting.{IsTable, Others, has_own_tree, shown_by, simple_table}
 use Rattle.office_tables.specs.Tables.{Tables}
 use Rattle.office_tables.specs.TablesHeld.{HoldsTables, all_columns}
 use Rattle.office_tables.specs.Stored.{Holds}
@@ -58,7 +58,7 @@ module _ (tree : ℕ) (old new : Trees) where
 module _ (table : Table) (own : List Row) (old new : Trees)
     (held : Holds (shown_by table.key) own (new table.tree)) where
   changed : (at : ℕ) (tables : List Table) (rows : List (List Row))
-      → slice_get tables at ≡ Some table → is_alone table.tree at tables ≡ true
+      → slice_get tables at ≡ Some table → has_own_tree table.tree at tables ≡ true
       → AllByRecursion (λ (t : Table). t.tree ≢ table.tree → new t.tree ≡ old t.tree) tables
       → HoldAll tables rows old → HoldAll tables (slice_set rows at own) new
   changed at [] rows found alone others all = tt
@@ -146,15 +146,15 @@ module _ {at : ℕ} {table : Table} (is : IsTable at table) (all : List (List Ro
   pub own_shown : (own : List Row) (db : Database) → slice_get all at ≡ Some own → AllShown all db
       → Holds (shown_by table.key) own (db.trees table.tree)
   own_shown own db there shown =
-      own_held (simple table) own db.trees at office_schema.tables all is.found there shown.hold
+      own_held (simple_table table) own db.trees at office_schema.tables all is.found there shown.hold
 
   -- one table has changed
   pub shown_next : (own : List Row) (old new : Database) → AllShown all old
       → OneShown table own old new → AllShown (slice_set all at own) new
   shown_next own old new shown one = record {
     schema = one.schema;
-    hold = changed (simple table) own old.trees new.trees one.holds at office_schema.tables all
-        is.found is.alone one.others shown.hold;
+    hold = changed (simple_table table) own old.trees new.trees one.holds at office_schema.tables all
+        is.found is.own_tree one.others shown.hold;
   }
 
 none_held : (tables : List Table) (trees : Trees)

@@ -15,13 +15,13 @@ use Rattle.sqlite.specs.Query.{Query, inner, end, matches}
 use Rattle.sqlite.specs.Term.{Term, col, op2, eval_all, holds}
 use Rattle.sqlite_tied.specs.Compute.{everything}
 use Rattle.office_schema.specs.Schema.{office_schema}
-use Rattle.office_tables.specs.Asking.{asks, IsReadOf, Means}
+use Rattle.office_tables.specs.Asking.{select_query, IsReadOf, Means}
 use Rattle.office_tables.specs.declared.enrol.EnrolRow.{EnrolRow}
 use Rattle.office_tables.specs.declared.placed.PlacedRow.{PlacedRow}
 use Rattle.office_tables.specs.Placed.{PlacementsRise, placed_of, placed_columns}
 use Rattle.office_tables.specs.Tables.{Tables}
 use Rattle.office_tables.specs.TablesHeld.{HoldsTables}
-use Rattle.office_tables.specs.Stored.{keyed, keyless}
+use Rattle.office_tables.specs.Stored.{keyed_columns, keyless_columns}
 use Rattle.office_tables.specs.Enrol.{enrol_columns}
 use Rattle.office_tables.specs.Selections.{AreListed}
 use Rattle.office_tables.proofs.OrderLemmas.{by_number, read, rising}
@@ -67,7 +67,7 @@ abbrev columns : List Term
 columns = col 2 0 ∷ col 2 2 ∷ col 2 3 ∷ []
 
 abbrev pub placements_of_query : Query
-placements_of_query = asks (inner 2 (inner 7 end)) tests columns (rising columns (0 ∷ []))
+placements_of_query = select_query (inner 2 (inner 7 end)) tests columns (rising columns (0 ∷ []))
 
 pub placements_of_means : Means office_schema placements_of_query placements_of_text
 unfolding understood everything
@@ -89,37 +89,37 @@ picked row = column row 0 ∷ column row 1 ∷ column row 2 ∷ []
 
 -- the shown columns of the placements that match an enrolment
 abbrev suited : Row → Trees → Row → List Row
-suited params trees q = map picked (filter (suits params q) (map keyed (trees 7)))
+suited params trees q = map picked (filter (suits params q) (map keyed_columns (trees 7)))
 
 module _ (params : Row) (trees : Trees) where
-  test_is : (r s : Row) → both_pass params tests r s ≡ suits params (keyless r) (keyed s)
+  test_is : (r s : Row) → both_pass params tests r s ≡ suits params (keyless_columns r) (keyed_columns s)
   test_is r s = rw (column_less r 0, column_less r 1) refl
 
-  shown_is : (r s : Row) → eval_all columns (params ∷ r ∷ s ∷ []) ≡ picked (keyed s)
+  shown_is : (r s : Row) → eval_all columns (params ∷ r ∷ s ∷ []) ≡ picked (keyed_columns s)
   shown_is r s = rw (column_later s 0, column_later s 1) refl
 
   one_suited : (r : Row)
       → map (eval_all columns) (map (λ s. params ∷ r ∷ s ∷ [])
       (filter (both_pass params tests r) (trees 7)))
-      ≡ suited params trees (keyless r)
+      ≡ suited params trees (keyless_columns r)
   one_suited r =
       map-map (eval_all columns) (λ s. params ∷ r ∷ s ∷ []) _
-      ∙ map_agree _ (λ s. picked (keyed s)) (shown_is r) _
-      ∙ ap (λ p. map (λ s. picked (keyed s)) (filter p (trees 7))) (λ i s. test_is r s i)
-      ∙ sym (map-map picked keyed _)
-      ∙ ap (map picked) (sym (filter-map (suits params (keyless r)) keyed (trees 7)))
+      ∙ map_agree _ (λ s. picked (keyed_columns s)) (shown_is r) _
+      ∙ ap (λ p. map (λ s. picked (keyed_columns s)) (filter p (trees 7))) (λ i s. test_is r s i)
+      ∙ sym (map-map picked keyed_columns _)
+      ∙ ap (map picked) (sym (filter-map (suits params (keyless_columns r)) keyed_columns (trees 7)))
 
   all_suited : map (eval_all columns) (matches trees tests (inner 2 (inner 7 end)) (params ∷ []))
-      ≡ flat_map (suited params trees) (map keyless (trees 2))
+      ≡ flat_map (suited params trees) (map keyless_columns (trees 2))
   all_suited =
       ap (map (eval_all columns)) (joined params tests trees 2 7)
       ∙ map-flat_map (eval_all columns) _ (trees 2)
-      ∙ flat_map_same_on _ (λ r. suited params trees (keyless r)) one_suited (trees 2)
-      ∙ sym (flat_map-map (suited params trees) keyless (trees 2))
+      ∙ flat_map_same_on _ (λ r. suited params trees (keyless_columns r)) one_suited (trees 2)
+      ∙ sym (flat_map-map (suited params trees) keyless_columns (trees 2))
 
 -- the placements of a table that match an enrolment
 one_placed : (student : ℕ) (trees : Trees) (placed : List PlacedRow)
-    → IsPermutation (map keyed (trees 7)) (map placed_columns placed) → (e : EnrolRow)
+    → IsPermutation (map keyed_columns (trees 7)) (map placed_columns placed) → (e : EnrolRow)
     → IsPermutation (suited (Int (pos student) ∷ []) trees (enrol_columns e))
     (map placed_columns (filter (λ p. (e.student == student) && (p.exam == e.exam)) placed))
 one_placed student trees placed same e =

@@ -11,10 +11,10 @@ use Rattle.sqlite.specs.Term.{Term, col}
 use Rattle.sqlite_tied.specs.Compute.{everything}
 use Rattle.office_tables.specs.declared.version.Version.{Version}
 use Rattle.office_tables.specs.declared.version.Version.TheVariants.{One, Two}
-use Rattle.office_tables.specs.Listings.{Lists, ListsKeyed, ListsTable, IsListed, listed, ordered_by}
+use Rattle.office_tables.specs.Listings.{Lists, ListsKeyed, ListsTable, IsListed, selected_columns, ordered_by}
 use Rattle.office_tables.specs.Versions.{schema_of}
 use Rattle.office_schema.specs.Schema.{int, blob, meta_table, owner_table, enrol_table, draft_table, slot_table, placed_table, seat_table, share_student_table, share_part_table, night_draft_table, night_share_table}
-use Rattle.office_tables.specs.Stored.{keyed, keyless}
+use Rattle.office_tables.specs.Stored.{keyed_columns, keyless_columns}
 use Rattle.office_tables.proofs.WholeRows.{dropped, rows_long}
 use Rattle.office_tables.proofs.WholeTables.{in_both, in_second, list_terms, lists_table}
 
@@ -34,7 +34,7 @@ unfolding understood everything
 owner_is One = record { names = _; selects = refl; unlisted = refl; plain = (refl, refl) }
 owner_is Two = record { names = _; selects = refl; unlisted = refl; plain = (refl, refl) }
 
-pub owner_lists : (version : Version) → ListsTable version 2 1 keyed owner_text
+pub owner_lists : (version : Version) → ListsTable version 2 1 keyed_columns owner_text
 owner_lists version =
     lists_table version owner_table (in_both version 1 owner_table refl)
     (take 1 owner_table.columns) (int (codes "dept")) refl refl refl owner_text (owner_is version)
@@ -49,7 +49,7 @@ unfolding understood everything
 enrol_is One = record { names = _; selects = refl; unlisted = refl; plain = (refl, refl) }
 enrol_is Two = record { names = _; selects = refl; unlisted = refl; plain = (refl, refl) }
 
-pub enrol_lists : (version : Version) → ListsTable version 2 2 keyless enrol_text
+pub enrol_lists : (version : Version) → ListsTable version 2 2 keyless_columns enrol_text
 enrol_lists version =
     lists_table version enrol_table (in_both version 2 enrol_table refl)
     (take 1 enrol_table.columns) (int (codes "exam")) refl refl refl enrol_text (enrol_is version)
@@ -64,7 +64,7 @@ unfolding understood everything
 draft_is One = record { names = _; selects = refl; unlisted = refl; plain = (refl, refl) }
 draft_is Two = record { names = _; selects = refl; unlisted = refl; plain = (refl, refl) }
 
-pub draft_lists : (version : Version) → ListsKeyed version 0 8 4 keyed draft_text
+pub draft_lists : (version : Version) → ListsKeyed version 0 8 4 keyed_columns draft_text
 draft_lists version = record {
   table = lists_table version draft_table (in_both version 3 draft_table refl)
       (take 7 draft_table.columns) (int (codes "room")) refl refl refl draft_text (draft_is version);
@@ -82,7 +82,7 @@ unfolding understood everything
 slot_is One = record { names = _; selects = refl; unlisted = refl; plain = (refl, refl) }
 slot_is Two = record { names = _; selects = refl; unlisted = refl; plain = (refl, refl) }
 
-pub slot_lists : (version : Version) → ListsTable version 4 5 keyless slot_text
+pub slot_lists : (version : Version) → ListsTable version 4 5 keyless_columns slot_text
 slot_lists version =
     lists_table version slot_table (in_both version 4 slot_table refl)
     (take 3 slot_table.columns) (int (codes "room")) refl refl refl slot_text (slot_is version)
@@ -97,7 +97,7 @@ unfolding understood everything
 placed_is One = record { names = _; selects = refl; unlisted = refl; plain = (refl, refl) }
 placed_is Two = record { names = _; selects = refl; unlisted = refl; plain = (refl, refl) }
 
-pub placed_lists : (version : Version) → ListsTable version 3 7 keyed placed_text
+pub placed_lists : (version : Version) → ListsTable version 3 7 keyed_columns placed_text
 placed_lists version =
     lists_table version placed_table (in_both version 5 placed_table refl)
     (take 2 placed_table.columns) (int (codes "room")) refl refl refl placed_text (placed_is version)
@@ -112,7 +112,7 @@ unfolding understood everything
 seat_is One = record { names = _; selects = refl; unlisted = refl; plain = (refl, refl) }
 seat_is Two = record { names = _; selects = refl; unlisted = refl; plain = (refl, refl) }
 
-pub seat_lists : (version : Version) → ListsTable version 5 8 keyless seat_text
+pub seat_lists : (version : Version) → ListsTable version 5 8 keyless_columns seat_text
 seat_lists version =
     lists_table version seat_table (in_both version 6 seat_table refl)
     (take 4 seat_table.columns) (int (codes "seat")) refl refl refl seat_text (seat_is version)
@@ -127,7 +127,7 @@ unfolding understood everything
 share_student_is One = record { names = _; selects = refl; unlisted = refl; plain = (refl, refl) }
 share_student_is Two = record { names = _; selects = refl; unlisted = refl; plain = (refl, refl) }
 
-pub share_student_lists : (version : Version) → ListsKeyed version 0 4 11 keyed share_student_text
+pub share_student_lists : (version : Version) → ListsKeyed version 0 4 11 keyed_columns share_student_text
 share_student_lists version = record {
   table = lists_table version share_student_table (in_both version 7 share_student_table refl)
       (take 3 share_student_table.columns) (int (codes "spread")) refl refl refl share_student_text (share_student_is version);
@@ -145,7 +145,7 @@ unfolding understood everything
 share_part_is One = record { names = _; selects = refl; unlisted = refl; plain = (refl, refl) }
 share_part_is Two = record { names = _; selects = refl; unlisted = refl; plain = (refl, refl) }
 
-pub share_part_lists : (version : Version) → ListsTable version 4 12 keyless share_part_text
+pub share_part_lists : (version : Version) → ListsTable version 4 12 keyless_columns share_part_text
 share_part_lists version =
     lists_table version share_part_table (in_both version 8 share_part_table refl)
     (take 3 share_part_table.columns) (int (codes "mixed")) refl refl refl share_part_text (share_part_is version)
@@ -159,7 +159,7 @@ night_draft_is : ListsAll Two night_draft_table night_draft_text
 unfolding understood everything
 night_draft_is = record { names = _; selects = refl; unlisted = refl; plain = (refl, refl) }
 
-pub night_draft_lists : ListsKeyed Two 0 2 15 keyed night_draft_text
+pub night_draft_lists : ListsKeyed Two 0 2 15 keyed_columns night_draft_text
 night_draft_lists = record {
   table = lists_table Two night_draft_table (in_second 10 night_draft_table refl)
       (take 1 night_draft_table.columns) (int (codes "night")) refl refl refl night_draft_text night_draft_is;
@@ -176,7 +176,7 @@ night_share_is : ListsAll Two night_share_table night_share_text
 unfolding understood everything
 night_share_is = record { names = _; selects = refl; unlisted = refl; plain = (refl, refl) }
 
-pub night_share_lists : ListsKeyed Two 0 2 16 keyed night_share_text
+pub night_share_lists : ListsKeyed Two 0 2 16 keyed_columns night_share_text
 night_share_lists = record {
   table = lists_table Two night_share_table (in_second 11 night_share_table refl)
       (take 1 night_share_table.columns) (int (codes "night")) refl refl refl night_share_text night_share_is;
@@ -203,9 +203,9 @@ counts_shown r = column r 0 ∷ column r 3 ∷ column r 4 ∷ column r 5 ∷ []
 
 batch_whole : (version : Version) (db : Database) → db.schema ≡ schema_of version
     → IsDatabase db
-    → AllByRecursion (λ r. IsListed 4 counts_shown r (listed batch_terms r)) (db.trees 14)
+    → AllByRecursion (λ r. IsListed 4 counts_shown r (selected_columns batch_terms r)) (db.trees 14)
 batch_whole version db is sound =
-    all_of (λ r. IsListed 4 counts_shown r (listed batch_terms r))
+    all_of (λ r. IsListed 4 counts_shown r (selected_columns batch_terms r))
     (λ r. record { columns = refl; number = refl; wide = omega arith }) (db.trees 14)
 
 pub batch_lists : (version : Version) → ListsTable version 4 14 counts_shown batch_text
@@ -230,9 +230,9 @@ meta_is Two = record { names = _; selects = refl; unlisted = refl; plain = (refl
 
 pub meta_whole : (version : Version) (db : Database) → db.schema ≡ schema_of version
     → IsDatabase db
-    → AllByRecursion (λ r. listed meta_terms r ≡ keyed r) (db.trees 0)
+    → AllByRecursion (λ r. selected_columns meta_terms r ≡ keyed_columns r) (db.trees 0)
 meta_whole version db is sound =
-    all_weaker _ (λ r. listed meta_terms r ≡ keyed r)
+    all_weaker _ (λ r. selected_columns meta_terms r ≡ keyed_columns r)
     (λ r long. ap (λ l. column r 0 ∷ l) (sym (dropped 2 3 r long)))
     (db.trees 0)
     (rows_long meta_table (take 3 meta_table.columns)

@@ -18,7 +18,7 @@ use Rattle.sqlite.proofs.Callers.{IsPlain, never_commits}
 use Rattle.sqlite.proofs.StateLemmas.{survives_weaker}
 use Rattle.office_tables.specs.Readings.{IsRead, ColumnRises}
 use Rattle.office_tables.specs.Finders.{IsFound, HasTables}
-use Rattle.office_tables.specs.Listings.{one_table, ordered_by, Lists, listed, IsListed}
+use Rattle.office_tables.specs.Listings.{one_table, ordered_by, Lists, selected_columns, IsListed}
 use Rattle.office_tables.specs.Records.{columns_from}
 use Rattle.office_tables.specs.declared.version.Version.{Version}
 use Rattle.office_tables.specs.Versions.{schema_of}
@@ -68,14 +68,14 @@ listed_silent tree shown order sql version lists old new =
 -- all rows of the tree are listed
 pub all_listed : (tree : ℕ) (shown : List Term) (order : List (Term × Key)) (trees : Trees)
     (rows : List Row) → IsAnswer (one_table tree [] shown order) trees [] rows
-    → IsPermutation (map (listed shown) (trees tree)) rows
+    → IsPermutation (map (selected_columns shown) (trees tree)) rows
 all_listed tree shown order trees rows answer =
     let a = arranged (inner tree end) [] shown order trees [] rows answer in
     let found : map (eval_all shown) (matches trees [] (inner tree end) ([] ∷ []))
-    ≡ map (listed shown) (trees tree) =
+    ≡ map (selected_columns shown) (trees tree) =
     ap (map (eval_all shown)) (matched [] [] (trees tree))
     ∙ map-map (eval_all shown) (λ r. [] ∷ r ∷ []) _
-    ∙ ap (map (listed shown)) (every (passes [] []) (trees tree) (λ r. refl)) in
+    ∙ ap (map (selected_columns shown)) (every (passes [] []) (trees tree) (λ r. refl)) in
     rw (sym found, a.1) (IsPermutation-map (eval_all shown) _ _ a.2)
 
 pub ok_gives : {T E : Type 0} (r : Result T E) (P : T → Type 0) (Q : Type 0) → ((x : T) → P x → Q)
@@ -102,15 +102,15 @@ ids_adopted stored rows same h =
     }
 
 module _ (width : ℕ) (show : Row → Row) (terms : List Term) (stored rows : List Row)
-    (whole : AllByRecursion (λ r. IsListed width show r (listed terms r)) stored)
-    (same : IsPermutation (map (listed terms) stored) rows) where
+    (whole : AllByRecursion (λ r. IsListed width show r (selected_columns terms r)) stored)
+    (same : IsPermutation (map (selected_columns terms) stored) rows) where
   ids_listed : IsPermutation (map (only_column 0) stored) (map (only_column width) rows)
   ids_listed =
-      let ids = same_map (λ r. only_column width (listed terms r)) (only_column 0) stored
-      (all_weaker _ (λ r. only_column width (listed terms r) ≡ only_column 0 r)
+      let ids = same_map (λ r. only_column width (selected_columns terms r)) (only_column 0) stored
+      (all_weaker _ (λ r. only_column width (selected_columns terms r) ≡ only_column 0 r)
       (λ r k. ap (λ v. v ∷ []) k.number) stored whole) in
       subst (λ l. IsPermutation l (map (only_column width) rows))
-      (map-map (only_column width) (listed terms) stored ∙ ids)
+      (map-map (only_column width) (selected_columns terms) stored ∙ ids)
       (IsPermutation-map (only_column width) _ _ same)
 
   pub stored_ids : HasRowids (map (only_column width) rows) → HasRowids stored
@@ -125,18 +125,18 @@ module _ (width : ℕ) (show : Row → Row) (terms : List Term) (stored rows : L
 
   pub stored_columns : IsPermutation (map show stored) (map (columns_from 0 width) rows)
   stored_columns =
-      let each = same_map (λ r. columns_from 0 width (listed terms r)) show stored
-      (all_weaker _ (λ r. columns_from 0 width (listed terms r) ≡ show r) (λ r k. k.columns) stored
+      let each = same_map (λ r. columns_from 0 width (selected_columns terms r)) show stored
+      (all_weaker _ (λ r. columns_from 0 width (selected_columns terms r) ≡ show r) (λ r k. k.columns) stored
       whole) in
       subst (λ l. IsPermutation l (map (columns_from 0 width) rows))
-      (map-map (columns_from 0 width) (listed terms) stored ∙ each)
+      (map-map (columns_from 0 width) (selected_columns terms) stored ∙ each)
       (IsPermutation-map (columns_from 0 width) _ _ same)
 
   pub rows_wide : AllByRecursion (λ r. width ≤ length r) rows
   rows_wide =
       all-permutation (λ r. width ≤ length r) _ rows same
-      (all-map (λ r. width ≤ length r) (listed terms) stored
-      (all_weaker _ (λ r. width ≤ length (listed terms r)) (λ r k. k.wide) stored whole))
+      (all-map (λ r. width ≤ length r) (selected_columns terms) stored
+      (all_weaker _ (λ r. width ≤ length (selected_columns terms r)) (λ r k. k.wide) stored whole))
 
 -- no record that fits has this row
 pub unread : {X : Type 0} (fits : X → Type 0) (row_of : X → Row) (width : ℕ) (rows : List Row)
@@ -158,7 +158,7 @@ unread {X} fits row_of width rows i d below refused wide made fit same =
 -- if the rows' numbers are distinct, those of the rows that a text lists rise
 pub listed_rise : (width tree : ℕ) (show : Row → Row) (terms : List Term) (trees : Trees)
     (rows : List Row)
-    → AllByRecursion (λ r. IsListed width show r (listed terms r)) (trees tree)
+    → AllByRecursion (λ r. IsListed width show r (selected_columns terms r)) (trees tree)
     → IsAnswer (one_table tree [] terms (ordered_by terms width)) trees [] rows
     → HasRowids (trees tree) → ColumnRises width rows
 listed_rise width tree show terms trees rows whole answer once =
@@ -173,8 +173,8 @@ listed_rise width tree show terms trees rows whole answer once =
 -- the table holds the records that were read of the rows that a text lists
 pub adopted : {X : Type 0} (fits : X → Type 0) (row_of : X → Row) (width : ℕ) (show : Row → Row)
     (terms : List Term) (stored rows : List Row)
-    → AllByRecursion (λ r. IsListed width show r (listed terms r)) stored
-    → IsPermutation (map (listed terms) stored) rows
+    → AllByRecursion (λ r. IsListed width show r (selected_columns terms r)) stored
+    → IsPermutation (map (selected_columns terms) stored) rows
     → ColumnRises width rows → (found : Option (Vec X Global))
     → IsRead fits row_of width rows found
     → IsFound fits row_of show stored found
@@ -204,16 +204,16 @@ own_column width at row low = from_column 0 width at row low ∙ ap (column row)
 -- if a listed column is the row's number, it rises in the records that are read
 pub read_rises : {X : Type 0} (fits : X → Type 0) (row_of : X → Row) (width at : ℕ) → at < width
     → (terms : List Term) (stored rows : List Row)
-    → ((r : Row) → column (listed terms r) at ≡ column (listed terms r) width)
-    → IsPermutation (map (listed terms) stored) rows → ColumnRises width rows
+    → ((r : Row) → column (selected_columns terms r) at ≡ column (selected_columns terms r) width)
+    → IsPermutation (map (selected_columns terms) stored) rows → ColumnRises width rows
     → (found : Option (Vec X Global)) → IsRead fits row_of width rows found
     → IfSome found (λ records. ColumnRises at (map row_of records.items))
 read_rises fits row_of width at within terms stored rows number same rise (Some made) is =
     let alike : AllByRecursion (λ r. column (columns_from 0 width r) at ≡ column r width) rows =
     all-permutation (λ r. column (columns_from 0 width r) at ≡ column r width)
-    (map (listed terms) stored) rows same
-    (all-map (λ r. column (columns_from 0 width r) at ≡ column r width) (listed terms) stored
-    (all_of _ (λ r. own_column width at (listed terms r) within ∙ number r) stored)) in (
+    (map (selected_columns terms) stored) rows same
+    (all-map (λ r. column (columns_from 0 width r) at ≡ column r width) (selected_columns terms) stored
+    (all_of _ (λ r. own_column width at (selected_columns terms r) within ∙ number r) stored)) in (
       rise.0,
       ap (map (λ r. column r at)) is
           ∙ map-map (λ r. column r at) (columns_from 0 width) rows

@@ -25,7 +25,7 @@ pub use Rattle.office_tables.specs.Inserting.{next_params, terms_from}
 use Rattle.office_tables.specs.Stored.{Holds}
 use Rattle.office_tables.specs.Tables.{Tables}
 use Rattle.office_tables.proofs.AlterationLemmas.{first_last}
-use Rattle.office_tables.proofs.Statements.{inserts, simple}
+use Rattle.office_tables.proofs.Statements.{inserts, simple_table}
 use Rattle.office_tables.proofs.TableLemmas.{holds_more}
 
 -- ---- the parameters
@@ -55,12 +55,12 @@ abbrev pub AddsRows : {X : Type 0} (columns source : X → Row) (show : Row → 
     (terms : ℕ → List Term) → Type 1
 AddsRows {X} columns source show w v terms =
     (text : List ℕ) (n at : ℕ) (base : Table)
-    → slice_get office_schema.tables at ≡ Some (simple base)
+    → slice_get office_schema.tables at ≡ Some (simple_table base)
     → IsPlain (understood office_schema text)
     → command_of (understood office_schema text) ≡ Insert at (Values (terms_from terms w 0 n) v)
     → length (terms_from terms w 0 n) / v ≡ n
     → ((taken news : List Row) → works office_schema Enforced 0 base.tree taken news ≡ [])
-    → ((x : X) → cast_row (simple base) (source x) ≡ source x)
+    → ((x : X) → cast_row (simple_table base) (source x) ≡ source x)
     → (old new : State) (rows held : List X) → length rows ≡ n
     → (count : ℕ) → old.now.schema ≡ office_schema
     → Holds show (map columns held) (old.now.trees base.tree)
@@ -141,10 +141,10 @@ module _ {X : Type 0} (columns source : X → Row) (show : Row → Row) (w v : �
         (sym length_is)
         ∙ values_are [] rows in
         let stored = old.now.trees base.tree in
-        let casts : map (λ s. cast_row (simple base) s) (map source rows) ≡ map source rows =
+        let casts : map (λ s. cast_row (simple_table base) s) (map source rows) ≡ map source rows =
         kept rows in
         let applied = subst (λ xs. Applies office_schema Enforced old.now.trees
-        (edit_of old.now.trees (simple base) [] Chosen 0 xs) new.now.trees) sources done.1 in
+        (edit_of old.now.trees (simple_table base) [] Chosen 0 xs) new.now.trees) sources done.1 in
         let fresh = subst (λ l. are_fresh stored (numbered Chosen stored l) ≡ true) casts
         applied.fresh in
         let made : new.now.trees base.tree
@@ -156,7 +156,7 @@ module _ {X : Type 0} (columns source : X → Row) (show : Row → Row) (w v : �
               (holds_all rows held stored fresh holds),
         )
       where
-        kept : (xs : List X) → map (λ s. cast_row (simple base) s) (map source xs) ≡ map source xs
+        kept : (xs : List X) → map (λ s. cast_row (simple_table base) s) (map source xs) ≡ map source xs
         kept [] = refl
         kept (x ∷ xs) = ap₂ (λ y ys. y ∷ ys) (cast x) (kept xs)
 

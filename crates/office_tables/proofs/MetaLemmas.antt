@@ -18,7 +18,7 @@ use Rattle.office_tables.specs.Schema.{IsBlank}
 use Rattle.office_tables.specs.Tables.{Tables, Meta, empty_tables}
 use Rattle.office_tables.specs.TablesHeld.{HoldsTables, all_columns}
 use Rattle.office_tables.specs.Meta.{flag, meta_columns}
-use Rattle.office_tables.specs.Stored.{keyed}
+use Rattle.office_tables.specs.Stored.{keyed_columns}
 use Rattle.office_tables.proofs.Casts.{cast_int, cast_null}
 use Rattle.office_tables.proofs.Frames.{all_shown, none_shown, shown_next, tables_held}
 use Rattle.office_tables.proofs.DeleteLemmas.{IsDelete}
@@ -62,7 +62,7 @@ added old new row count t represents h =
     (all_shown old.now t represents) (record {
       schema = done.0;
       others = is.tables;
-      holds = rw rows (holds_more keyed (map (meta_columns Two) t.meta) stored new_row
+      holds = rw rows (holds_more keyed_columns (map (meta_columns Two) t.meta) stored new_row
           (meta_columns Two row) refl refl fresh represents.meta);
     }))
 

@@ -34,7 +34,7 @@ use Rattle.office_tables.specs.Migrating.{IsWidened, without_nights}
 use Rattle.office_tables.specs.Schema.{HasRows}
 use Rattle.office_tables.specs.ShareStudent.{share_student_columns, night_share_columns}
 use Rattle.office_tables.specs.TablesHeld.{HoldsTables, HoldsOldTables, all_columns}
-use Rattle.office_tables.specs.Stored.{Holds, keyed}
+use Rattle.office_tables.specs.Stored.{Holds, keyed_columns}
 use Rattle.office_tables.specs.Tables.{Tables}
 use Rattle.office_tables.proofs.AskLemmas.{unmapped}
 use Rattle.office_tables.proofs.Casts.{cast_int, cast_null}
@@ -43,7 +43,7 @@ use Rattle.office_tables.proofs.DeleteLemmas.{cleared}
 use Rattle.office_tables.proofs.MetaLemmas.{delete_means}
 use Rattle.office_tables.proofs.Queries.{answered_by, every, map_agree, one_table, passes, shown_of}
 use Rattle.office_tables.proofs.Rows.{draft_nights, meta_is, share_nights}
-use Rattle.office_tables.proofs.Statements.{inserts_from, simple}
+use Rattle.office_tables.proofs.Statements.{inserts_from, simple_table}
 use Rattle.office_tables.proofs.TableLemmas.{holds_more}
 
 -- ---- INSERT .. SELECT the number, 0 FROM a table
@@ -68,11 +68,11 @@ chosen_same stored [] = refl
 chosen_same stored (n ∷ ns) = ap (λ l. fills n ∷ l) (chosen_same (put_row (fills n) stored) ns)
 
 put_holds : (ns : List ℕ) (rows stored : List Row) → are_fresh stored (map fills ns) ≡ true
-    → Holds keyed rows stored → Holds keyed (map amounts ns ++ rows) (put_all stored (map fills ns))
+    → Holds keyed_columns rows stored → Holds keyed_columns (map amounts ns ++ rows) (put_all stored (map fills ns))
 put_holds [] rows stored fresh holds = holds
 put_holds (n ∷ ns) rows stored fresh holds =
     let parts = and_parts _ _ fresh in
-    let one = holds_more keyed rows stored (fills n) (amounts n) refl refl
+    let one = holds_more keyed_columns rows stored (fills n) (amounts n) refl refl
     (ap (λ b. b && true) parts.0) holds in
     let more = put_holds ns (amounts n ∷ rows) (put_row (fills n) stored) parts.1 one in
     record {
@@ -88,7 +88,7 @@ module _ (sql : List ℕ) (plain : IsPlain (understood office_schema sql)) (at t
     (is : command_of (understood office_schema sql)
     ≡ Insert at (source.Query (record { lets = []; body = fill_query from }))) where
   abbrev table : Table
-  table = simple (keyed_table name tree (int first ∷ int second ∷ []))
+  table = simple_table (keyed_table name tree (int first ∷ int second ∷ []))
 
   cast_same : (n : ℕ) → cast_row table (drop 0 (fills n)) ≡ fills n
   cast_same n = rw (cast_null, cast_int n, cast_int 0) refl
@@ -96,7 +96,7 @@ module _ (sql : List ℕ) (plain : IsPlain (understood office_schema sql)) (at t
   pub filled : {X : Type 0} (columns_of : X → Row) (key : X → ℕ)
       → ((x : X) → column (columns_of x) 0 ≡ Int (pos (key x))) → (xs : List X) (count : ℕ)
       (old new : State) → old.now.schema ≡ office_schema
-      → Holds keyed (map columns_of xs) (old.now.trees from) → old.now.trees tree ≡ []
+      → Holds keyed_columns (map columns_of xs) (old.now.trees from) → old.now.trees tree ≡ []
       → Executes sql [] old new (Ok count)
       → OneShown (keyed_table name tree (int first ∷ int second ∷ []))
       (map (λ x. amounts (key x)) xs) old.now new.now
@@ -110,19 +110,19 @@ module _ (sql : List ℕ) (plain : IsPlain (understood office_schema sql)) (at t
       answered_by (Binary ∷ Binary ∷ Binary ∷ []) from [] fill_terms [] old.now.trees []
       done.0 done.2 in
       let all : map (shown_of [] fill_terms) (filter (passes [] []) (old.now.trees from))
-      ≡ map front (map keyed (old.now.trees from)) =
+      ≡ map front (map keyed_columns (old.now.trees from)) =
       ap (map (shown_of [] fill_terms)) (every (passes [] []) (old.now.trees from) (λ r. refl))
-      ∙ sym (map-map front keyed (old.now.trees from)) in
+      ∙ sym (map-map front keyed_columns (old.now.trees from)) in
       let typed : map front (map columns_of xs) ≡ map fills (map key xs) =
       map-map front columns_of xs
       ∙ map_agree (λ x. front (columns_of x)) (λ x. fills (key x))
       (λ x. ap (λ v. v ∷ Null ∷ Int (pos 0) ∷ []) (firsts x)) xs
       ∙ sym (map-map fills key xs) in
-      let typed_rows : IsPermutation (map front (map keyed (old.now.trees from)))
+      let typed_rows : IsPermutation (map front (map keyed_columns (old.now.trees from)))
       (map fills (map key xs)) =
-      subst (IsPermutation (map front (map keyed (old.now.trees from)))) typed
+      subst (IsPermutation (map front (map keyed_columns (old.now.trees from)))) typed
       (IsPermutation-map front _ _ holds.same) in
-      let listed : IsPermutation (map front (map keyed (old.now.trees from))) done.0 =
+      let listed : IsPermutation (map front (map keyed_columns (old.now.trees from))) done.0 =
       subst (λ l. IsPermutation l done.0) all answer in
       let moved : IsPermutation (map fills (map key xs)) done.0 =
       IsPermutation-trans _ _ _ (IsPermutation-sym _ _ typed_rows) listed in
@@ -137,7 +137,7 @@ module _ (sql : List ℕ) (plain : IsPlain (understood office_schema sql)) (at t
       let fresh : are_fresh (old.now.trees tree) (map fills u.0) ≡ true =
       sym (ap (are_fresh (old.now.trees tree)) news) ∙ edit.fresh in
       let put =
-      put_holds u.0 [] (old.now.trees tree) fresh (holds_none keyed (old.now.trees tree) none)
+      put_holds u.0 [] (old.now.trees tree) fresh (holds_none keyed_columns (old.now.trees tree) none)
       in
       let rows : new.now.trees tree ≡ put_all (old.now.trees tree) (map fills u.0) =
       edit.rows ∙ ap (put_all (old.now.trees tree)) news in
@@ -196,7 +196,7 @@ shares_filled (r ∷ rows) all =
     (shares_filled rows all.1)
 
 -- a table that shows no row has none
-still_none : (stored : List Row) → Holds keyed [] stored → stored ≡ []
+still_none : (stored : List Row) → Holds keyed_columns [] stored → stored ≡ []
 still_none [] holds = refl
 still_none (r ∷ stored) holds =
     let long = length_permutation _ _ holds.same in absurd (omega (arith, long))

@@ -18,7 +18,7 @@ use Rattle.office_tables.specs.Finders.{IsFound}
 use Rattle.office_tables.specs.Joining.{AreFound, AreNights, HaveRows, IsJoined, IsJoinedWith, Splits}
 use Rattle.office_tables.specs.Nights.{bare_columns, night_columns, FitsNight}
 use Rattle.office_tables.specs.Readings.{ColumnRises}
-use Rattle.office_tables.specs.Stored.{Holds, keyed}
+use Rattle.office_tables.specs.Stored.{Holds, keyed_columns}
 use Rattle.office_tables.proofs.Queries.{map_agree}
 use Rattle.office_tables.proofs.RecordLemmas.{full_night, IsFull}
 
@@ -141,11 +141,11 @@ module _ {X : Type 0} (fits : X → Type 0) (shown columns_of nights_of : X → 
   )
 
   pub none_over_night : (stored : List Row) (rows : List X)
-      → IsPermutation (map keyed stored) (map shown rows)
+      → IsPermutation (map keyed_columns stored) (map shown rows)
       → AllByRecursion (λ x. night x ≡ 0) rows
   none_over_night stored rows same =
-      no_nights rows (all-permutation IsFull (map keyed stored) (map shown rows) same
-      (all-map IsFull keyed stored (all_of _ (λ r. tt) stored)))
+      no_nights rows (all-permutation IsFull (map keyed_columns stored) (map shown rows) same
+      (all-map IsFull keyed_columns stored (all_of _ (λ r. tt) stored)))
 
   -- they show their columns in the first table
   pub bare_columns_are : (rows : List X) → AllByRecursion (λ x. night x ≡ 0) rows
@@ -156,16 +156,16 @@ module _ {X : Type 0} (fits : X → Type 0) (shown columns_of nights_of : X → 
       (splits.shown_is x ∙ ap (λ n. bare_columns n (columns_of x)) none.0)
       (bare_columns_are xs none.1)
 
-  pub bare_holds : (stored : List Row) (rows : List X) → Holds keyed (map shown rows) stored
-      → Holds keyed (map columns_of rows) stored
+  pub bare_holds : (stored : List Row) (rows : List X) → Holds keyed_columns (map shown rows) stored
+      → Holds keyed_columns (map columns_of rows) stored
   bare_holds stored rows holds =
-      subst (λ l. Holds keyed l stored)
+      subst (λ l. Holds keyed_columns l stored)
       (bare_columns_are rows (none_over_night stored rows holds.same)) holds
 
-  pub shown_holds : (stored : List Row) (rows : List X) → Holds keyed (map columns_of rows) stored
-      → AllByRecursion (λ x. night x ≡ 0) rows → Holds keyed (map shown rows) stored
+  pub shown_holds : (stored : List Row) (rows : List X) → Holds keyed_columns (map columns_of rows) stored
+      → AllByRecursion (λ x. night x ≡ 0) rows → Holds keyed_columns (map shown rows) stored
   shown_holds stored rows holds none =
-      subst (λ l. Holds keyed l stored) (sym (bare_columns_are rows none)) holds
+      subst (λ l. Holds keyed_columns l stored) (sym (bare_columns_are rows none)) holds
 
   -- rows with an amount of 0 have the columns of any rows
   pub bare_rows : (rows : List X) → map columns_of (map splits.bare rows) ≡ map columns_of rows
@@ -173,11 +173,11 @@ module _ {X : Type 0} (fits : X → Type 0) (shown columns_of nights_of : X → 
       map-map columns_of splits.bare rows
       ∙ map_agree (λ x. columns_of (splits.bare x)) columns_of splits.bare_same rows
 
-  pub bare_shown : (stored : List Row) (rows : List X) → Holds keyed (map columns_of rows) stored
-      → Holds keyed (map shown (map splits.bare rows)) stored
+  pub bare_shown : (stored : List Row) (rows : List X) → Holds keyed_columns (map columns_of rows) stored
+      → Holds keyed_columns (map shown (map splits.bare rows)) stored
   bare_shown stored rows holds =
       shown_holds stored (map splits.bare rows)
-      (subst (λ l. Holds keyed l stored) (sym (bare_rows rows)) holds)
+      (subst (λ l. Holds keyed_columns l stored) (sym (bare_rows rows)) holds)
       (all-map (λ x. night x ≡ 0) splits.bare rows (all_of _ splits.bare_night rows))
 
   bare_fit : (rows : List X) → AllByRecursion fits rows → AllByRecursion fits (map splits.bare rows)
@@ -186,18 +186,18 @@ module _ {X : Type 0} (fits : X → Type 0) (shown columns_of nights_of : X → 
 
   unread : (stored : List Row)
       → ((rows : List X) → AllByRecursion fits rows
-      → Holds keyed (map shown rows) stored → ⊥)
-      → (rows : List X) → AllByRecursion fits rows → Holds keyed (map columns_of rows) stored → ⊥
+      → Holds keyed_columns (map shown rows) stored → ⊥)
+      → (rows : List X) → AllByRecursion fits rows → Holds keyed_columns (map columns_of rows) stored → ⊥
   unread stored none rows fit holds =
       none (map splits.bare rows) (bare_fit rows fit) (bare_shown stored rows holds)
 
   apart : (stored nights_stored : List Row) (rows : List X) (nights : List NightRow)
-      → Holds keyed (map columns_of rows) stored
-      → Holds keyed (map night_columns nights) nights_stored
+      → Holds keyed_columns (map columns_of rows) stored
+      → Holds keyed_columns (map night_columns nights) nights_stored
       → ColumnRises 0 (map columns_of rows) → ColumnRises 0 (map night_columns nights)
       → map number rows ≢ map (λ (n : NightRow). n.number) nights
-      → (xs : List X) → Holds keyed (map columns_of xs) stored
-      → Holds keyed (map nights_of xs) nights_stored → ⊥
+      → (xs : List X) → Holds keyed_columns (map columns_of xs) stored
+      → Holds keyed_columns (map nights_of xs) nights_stored → ⊥
   apart stored nights_stored rows nights first second up rise differ xs one two =
       let amount = λ (n : NightRow). n.number in
       let there : IsPermutation (map pos (map number rows)) (map pos (map number xs)) =
@@ -227,7 +227,7 @@ module _ {X : Type 0} (fits : X → Type 0) (shown columns_of nights_of : X → 
 
   -- version 1
   pub before_found : (stored nights_stored : List Row) (found : Option (Vec X Global))
-      → IsFound fits shown keyed stored found
+      → IsFound fits shown keyed_columns stored found
       → AreFound fits (HaveRows One columns_of nights_of night stored nights_stored) found
   before_found stored nights_stored None none = λ xs fit have. unread stored none xs fit have.first
   before_found stored nights_stored (Some rows) holds = record {
@@ -236,7 +236,7 @@ module _ {X : Type 0} (fits : X → Type 0) (shown columns_of nights_of : X → 
   }
 
   both_found : (stored nights_stored : List Row) (rows : Option (Vec X Global))
-      (nights : Option (Vec NightRow Global)) → IsFound fits shown keyed stored rows
+      (nights : Option (Vec NightRow Global)) → IsFound fits shown keyed_columns stored rows
       → IfSome rows (λ records. ColumnRises 0 (map shown records.items))
       → AreNights nights_stored nights → (found : Option (Vec X Global))
       → IsJoined columns_of nights_of number rows nights found
@@ -247,10 +247,10 @@ module _ {X : Type 0} (fits : X → Type 0) (shown columns_of nights_of : X → 
   both_found stored nights_stored (Some rows) None holds up are found is =
       subst (AreFound fits (HaveRows Two columns_of nights_of night stored nights_stored)) (sym is)
       (λ xs fit have. are.0 (map night_of xs) (nights_fit xs fit)
-      (subst (λ l. Holds keyed l nights_stored) (sym (nights_are xs)) have.second))
+      (subst (λ l. Holds keyed_columns l nights_stored) (sym (nights_are xs)) have.second))
   both_found stored nights_stored (Some rows) (Some nights) holds up are (Some made) is = record {
-    first = subst (λ l. Holds keyed l stored) (sym is.0) (bare_holds stored rows.items holds);
-    second = subst (λ l. Holds keyed l nights_stored) (sym is.1) are.0;
+    first = subst (λ l. Holds keyed_columns l stored) (sym is.0) (bare_holds stored rows.items holds);
+    second = subst (λ l. Holds keyed_columns l nights_stored) (sym is.1) are.0;
   }
   both_found stored nights_stored (Some rows) (Some nights) holds up are None differ =
       λ xs fit have. apart stored nights_stored rows.items nights.items
@@ -260,7 +260,7 @@ module _ {X : Type 0} (fits : X → Type 0) (shown columns_of nights_of : X → 
 
   -- version 2
   pub joined_found : (stored nights_stored : List Row)
-      (rows : Option (Vec X Global)) → IsFound fits shown keyed stored rows
+      (rows : Option (Vec X Global)) → IsFound fits shown keyed_columns stored rows
       → IfSome rows (λ records. ColumnRises 0 (map shown records.items))
       → (found : Option (Vec X Global))
       → IsJoinedWith columns_of nights_of number rows nights_stored found

@@ -14,7 +14,7 @@ use Rattle.sqlite_value.specs.declared.value.Value.TheVariants.{Int}
 use Rattle.sqlite_value.specs.Order.{Row, column}
 use Rattle.sqlite.specs.Query.{inner, end, matches}
 use Rattle.sqlite.specs.Term.{Term, col, op2, eval_all}
-use Rattle.office_tables.specs.Stored.{Holds, keyed}
+use Rattle.office_tables.specs.Stored.{Holds, keyed_columns}
 use Rattle.office_tables.proofs.JoinedTexts.{both_pass, joined}
 use Rattle.office_tables.proofs.Queries.{map_agree}
 use Rattle.office_tables.proofs.TableLemmas.{keys_once}
@@ -84,40 +84,40 @@ module _ {X : Type 0} (key : X → ℕ) (columns_of nights_of shown_of : X → R
     (params : Row) (one two : ℕ) (tests terms : List Term) (picked : Row → Row → Row)
     -- the tests and the shown columns of two stored rows depend only on their columns
     (same_test : (r s : Row)
-    → both_pass params tests r s ≡ both_pass params tests (keyed r) (keyed s))
-    (same_shown : (r s : Row) → eval_all terms (params ∷ r ∷ s ∷ []) ≡ picked (keyed r) (keyed s))
+    → both_pass params tests r s ≡ both_pass params tests (keyed_columns r) (keyed_columns s))
+    (same_shown : (r s : Row) → eval_all terms (params ∷ r ∷ s ∷ []) ≡ picked (keyed_columns r) (keyed_columns s))
     (t : X → Bool)
     (tested : (x y : X) → both_pass params tests (columns_of x) (nights_of y)
     ≡ (t x && (key y == key x)))
     (whole : (x : X) → picked (columns_of x) (nights_of x) ≡ shown_of x) where
   -- the columns shown of the rows that match a first row
   abbrev suited : Trees → Row → List Row
-  suited trees q = map (picked q) (filter (both_pass params tests q) (map keyed (trees two)))
+  suited trees q = map (picked q) (filter (both_pass params tests q) (map keyed_columns (trees two)))
 
   one_suited : (trees : Trees) (r : Row)
       → map (eval_all terms) (map (λ s. params ∷ r ∷ s ∷ [])
       (filter (both_pass params tests r) (trees two)))
-      ≡ suited trees (keyed r)
+      ≡ suited trees (keyed_columns r)
   one_suited trees r =
       map-map (eval_all terms) (λ s. params ∷ r ∷ s ∷ []) _
-      ∙ map_agree _ (λ s. picked (keyed r) (keyed s)) (same_shown r) _
-      ∙ ap (λ p. map (λ s. picked (keyed r) (keyed s)) (filter p (trees two)))
+      ∙ map_agree _ (λ s. picked (keyed_columns r) (keyed_columns s)) (same_shown r) _
+      ∙ ap (λ p. map (λ s. picked (keyed_columns r) (keyed_columns s)) (filter p (trees two)))
       (λ i s. same_test r s i)
-      ∙ sym (map-map (picked (keyed r)) keyed _)
-      ∙ ap (map (picked (keyed r)))
-      (sym (filter-map (both_pass params tests (keyed r)) keyed (trees two)))
+      ∙ sym (map-map (picked (keyed_columns r)) keyed_columns _)
+      ∙ ap (map (picked (keyed_columns r)))
+      (sym (filter-map (both_pass params tests (keyed_columns r)) keyed_columns (trees two)))
 
   all_suited : (trees : Trees)
       → map (eval_all terms) (matches trees tests (inner one (inner two end)) (params ∷ []))
-      ≡ flat_map (suited trees) (map keyed (trees one))
+      ≡ flat_map (suited trees) (map keyed_columns (trees one))
   all_suited trees =
       ap (map (eval_all terms)) (joined params tests trees one two)
       ∙ map-flat_map (eval_all terms) _ (trees one)
-      ∙ flat_map_same_on _ (λ r. suited trees (keyed r)) (one_suited trees) (trees one)
-      ∙ sym (flat_map-map (suited trees) keyed (trees one))
+      ∙ flat_map_same_on _ (λ r. suited trees (keyed_columns r)) (one_suited trees) (trees one)
+      ∙ sym (flat_map-map (suited trees) keyed_columns (trees one))
 
   one_typed : (trees : Trees) (xs : List X)
-      → IsPermutation (map keyed (trees two)) (map nights_of xs) → (x : X)
+      → IsPermutation (map keyed_columns (trees two)) (map nights_of xs) → (x : X)
       → IsPermutation (suited trees (columns_of x))
       (map (λ y. picked (columns_of x) (nights_of y)) (filter (λ y. t x && (key y == key x)) xs))
   one_typed trees xs same x =
@@ -134,8 +134,8 @@ module _ {X : Type 0} (key : X → ℕ) (columns_of nights_of shown_of : X → R
       subst (IsPermutation _) typed kept
 
   -- a SELECT from both tables shows the rows that pass
-  pub joined_shown : (trees : Trees) (xs : List X) → Holds keyed (map columns_of xs) (trees one)
-      → Holds keyed (map nights_of xs) (trees two)
+  pub joined_shown : (trees : Trees) (xs : List X) → Holds keyed_columns (map columns_of xs) (trees one)
+      → Holds keyed_columns (map nights_of xs) (trees two)
       → IsPermutation
       (map (eval_all terms) (matches trees tests (inner one (inner two end)) (params ∷ [])))
       (map shown_of (filter t xs))

@@ -23,7 +23,7 @@ use Rattle.sqlite_sql.proofs.QueryLemmas.{key_cmp_shift}
 use Rattle.sqlite_trees.specs.Tree.{Trees, IsAscending}
 use Rattle.sqlite.specs.Query.{Query, Join, IsAnswer, key_cmp, sort_cmp, matches, inner, end}
 use Rattle.sqlite.specs.Term.{Term, Env, lit, eval, eval_all}
-use Rattle.office_tables.specs.Asking.{asks, IsReadOf}
+use Rattle.office_tables.specs.Asking.{select_query, IsReadOf}
 use Rattle.office_tables.specs.Records.{columns_from}
 use Rattle.office_tables.specs.Selections.{AreListed}
 use Rattle.office_tables.proofs.AskLemmas.{arranged, unmapped}
@@ -174,7 +174,7 @@ module _ {R : Type 0} (record_of : Row → R) (row_of : R → Row) (width : ℕ)
   pub read : (trees : Trees) (params : Row) (xs records : List R)
       → IsPermutation (map (eval_all shown) (matches trees where_ from (params ∷ [])))
       (map row_of xs)
-      → IsReadOf row_of width params (asks from where_ shown (rising shown by)) trees records
+      → IsReadOf row_of width params (select_query from where_ shown (rising shown by)) trees records
       → IsPermutation xs records × Rises key records
   read trees params xs records shows h =
       let a = arranged from where_ shown (rising shown by) trees params h.0 h.2 in
@@ -208,7 +208,7 @@ pub columns_shown : {R : Type 0} (row_of : R → Row) (width : ℕ)
     (long : (x : R) → width ≤ length (row_of x)) (from : Join) (where_ shown : List Term)
     (order : List (Term × Key)) (trees : Trees) (params : Row) (xs : List R) (rows : List Row)
     → IsPermutation (map (eval_all shown) (matches trees where_ from (params ∷ []))) (map row_of xs)
-    → IsAnswer (asks from where_ shown order) trees params rows
+    → IsAnswer (select_query from where_ shown order) trees params rows
     → IsPermutation (map (columns_from 0 width) rows) (map row_of xs)
     × AllByRecursion (λ r. width ≤ length r) rows
 columns_shown row_of width whole long from where_ shown order trees params xs rows shows answer =

@@ -8,11 +8,11 @@ use Rattle.sqlite.specs.Query.{Query, inner, end}
 use Rattle.sqlite.specs.Term.{Term, col}
 use Rattle.sqlite_tied.specs.Compute.{everything}
 use Rattle.office_schema.specs.Schema.{office_schema}
-use Rattle.office_tables.specs.Asking.{asks, IsReadOf, Means}
+use Rattle.office_tables.specs.Asking.{select_query, IsReadOf, Means}
 use Rattle.office_tables.specs.declared.owner.OwnerRow.{OwnerRow}
 use Rattle.office_tables.specs.Tables.{Tables}
 use Rattle.office_tables.specs.TablesHeld.{HoldsTables}
-use Rattle.office_tables.specs.Stored.{keyed}
+use Rattle.office_tables.specs.Stored.{keyed_columns}
 use Rattle.office_tables.specs.Owner.{owner_columns}
 use Rattle.office_tables.proofs.OrderLemmas.{read, rising, table_shown}
 use Rattle.office_tables.proofs.Queries.{column_later, equal_numbers, equals, passes}
@@ -25,7 +25,7 @@ abbrev columns : List Term
 columns = col 1 0 ∷ col 1 2 ∷ []
 
 abbrev pub owners_of_query : Query
-owners_of_query = asks (inner 1 end) (equals 0 0 ∷ []) columns (rising columns (0 ∷ []))
+owners_of_query = select_query (inner 1 end) (equals 0 0 ∷ []) columns (rising columns (0 ∷ []))
 
 pub owners_of_means : Means office_schema owners_of_query owners_of_text
 unfolding understood everything
@@ -39,7 +39,7 @@ owners_of_means = record {
 abbrev picked : Row → Row
 picked row = column row 0 ∷ column row 1 ∷ []
 
-shown_is : (r : Row) → column r 0 ∷ column r 2 ∷ [] ≡ picked (keyed r)
+shown_is : (r : Row) → column r 0 ∷ column r 2 ∷ [] ≡ picked (keyed_columns r)
 shown_is r = rw (column_later r 0) refl
 
 pub owners_of_read : (db : Database) (exam : ℕ) (t : Tables) → HoldsTables db t → (found : List OwnerRow)
@@ -50,7 +50,7 @@ owners_of_read db exam t represents found is =
     (read owner_of owner_columns 2 (λ x. refl) (λ x. refl) (inner 1 end) (equals 0 0 ∷ []) columns
     (0 ∷ []) (λ (x : OwnerRow). x.exam ∷ []) (λ x. refl) db.trees params
     (filter (λ r. r.exam == exam) t.owner) found
-    (table_shown owner_columns keyed picked params 1 (equals 0 0 ∷ []) columns shown_is
+    (table_shown owner_columns keyed_columns picked params 1 (equals 0 0 ∷ []) columns shown_is
     (λ x. refl) (passes params (equals 0 0 ∷ [])) (λ r. refl)
     (λ r. r.exam == exam) (λ x. equal_numbers x.exam exam) db.trees t.owner
     represents.owner.same) is).0

@@ -14,11 +14,11 @@ use Rattle.office_tables.specs.Batch.{batch_columns}
 use Rattle.office_tables.proofs.Casts.{cast_int, cast_null}
 
 pub meta_is : IsTable 0 meta_table
-meta_is = record { found = refl; alone = refl; quiet = λ _ _. refl }
+meta_is = record { found = refl; own_tree = refl; quiet = λ _ _. refl }
 
 pub owners : Stores 1 owner_table owner_columns 2
 owners = record {
-  is = record { found = refl; alone = refl; quiet = λ _ _. refl };
+  is = record { found = refl; own_tree = refl; quiet = λ _ _. refl };
   wide = λ _. refl;
   filled = (1, refl);
   int = λ _ _. refl;
@@ -28,7 +28,7 @@ owners = record {
 
 pub enrols : Stores 2 enrol_table enrol_columns 2
 enrols = record {
-  is = record { found = refl; alone = refl; quiet = λ _ _. refl };
+  is = record { found = refl; own_tree = refl; quiet = λ _ _. refl };
   wide = λ _. refl;
   filled = (1, refl);
   int = λ _ _. refl;
@@ -38,7 +38,7 @@ enrols = record {
 
 pub drafts : Stores 3 draft_table draft_columns 8
 drafts = record {
-  is = record { found = refl; alone = refl; quiet = λ _ _. refl };
+  is = record { found = refl; own_tree = refl; quiet = λ _ _. refl };
   wide = λ _. refl;
   filled = (7, refl);
   int = λ _ _. refl;
@@ -48,7 +48,7 @@ drafts = record {
 
 pub slots : Stores 4 slot_table slot_columns 4
 slots = record {
-  is = record { found = refl; alone = refl; quiet = λ _ _. refl };
+  is = record { found = refl; own_tree = refl; quiet = λ _ _. refl };
   wide = λ _. refl;
   filled = (3, refl);
   int = λ _ _. refl;
@@ -58,7 +58,7 @@ slots = record {
 
 pub placements : Stores 5 placed_table placed_columns 3
 placements = record {
-  is = record { found = refl; alone = refl; quiet = λ _ _. refl };
+  is = record { found = refl; own_tree = refl; quiet = λ _ _. refl };
   wide = λ _. refl;
   filled = (2, refl);
   int = λ _ _. refl;
@@ -68,7 +68,7 @@ placements = record {
 
 pub seats : Stores 6 seat_table seat_columns 5
 seats = record {
-  is = record { found = refl; alone = refl; quiet = λ _ _. refl };
+  is = record { found = refl; own_tree = refl; quiet = λ _ _. refl };
   wide = λ _. refl;
   filled = (4, refl);
   int = λ _ _. refl;
@@ -78,7 +78,7 @@ seats = record {
 
 pub student_shares : Stores 7 share_student_table share_student_columns 4
 student_shares = record {
-  is = record { found = refl; alone = refl; quiet = λ _ _. refl };
+  is = record { found = refl; own_tree = refl; quiet = λ _ _. refl };
   wide = λ _. refl;
   filled = (3, refl);
   int = λ _ _. refl;
@@ -88,7 +88,7 @@ student_shares = record {
 
 pub part_shares : Stores 8 share_part_table share_part_columns 4
 part_shares = record {
-  is = record { found = refl; alone = refl; quiet = λ _ _. refl };
+  is = record { found = refl; own_tree = refl; quiet = λ _ _. refl };
   wide = λ _. refl;
   filled = (3, refl);
   int = λ _ _. refl;
@@ -98,7 +98,7 @@ part_shares = record {
 
 pub batches : Stores 9 batch_table batch_columns 5
 batches = record {
-  is = record { found = refl; alone = refl; quiet = λ _ _. refl };
+  is = record { found = refl; own_tree = refl; quiet = λ _ _. refl };
   wide = λ _. refl;
   filled = (4, refl);
   int = λ _ _. refl;
@@ -108,7 +108,7 @@ batches = record {
 
 pub draft_nights : Stores 10 night_draft_table night_draft_columns 2
 draft_nights = record {
-  is = record { found = refl; alone = refl; quiet = λ _ _. refl };
+  is = record { found = refl; own_tree = refl; quiet = λ _ _. refl };
   wide = λ _. refl;
   filled = (1, refl);
   int = λ _ _. refl;
@@ -118,7 +118,7 @@ draft_nights = record {
 
 pub share_nights : Stores 11 night_share_table night_share_columns 2
 share_nights = record {
-  is = record { found = refl; alone = refl; quiet = λ _ _. refl };
+  is = record { found = refl; own_tree = refl; quiet = λ _ _. refl };
   wide = λ _. refl;
   filled = (1, refl);
   int = λ _ _. refl;

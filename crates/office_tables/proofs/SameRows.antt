@@ -15,7 +15,7 @@ use Rattle.office_tables.specs.declared.version.Version.TheVariants.{One, Two}
 use Rattle.office_tables.specs.Draft.{draft_columns, night_draft_columns}
 use Rattle.office_tables.specs.ShareStudent.{night_share_columns, share_shown, share_student_columns}
 use Rattle.office_tables.specs.TablesHeld.{HoldsTablesIn}
-use Rattle.office_tables.specs.Stored.{Holds, keyed}
+use Rattle.office_tables.specs.Stored.{Holds, keyed_columns}
 use Rattle.office_tables.specs.Tables.{Tables}
 use Rattle.office_tables.proofs.NightTexts.{paired}
 use Rattle.office_tables.proofs.Queries.{every, id_map, map_agree}
@@ -102,9 +102,9 @@ module _ {X : Type 0} (record_of : Row → X) (shown : X → Row)
         ∙ map_agree (λ x. column (nights_of x) 1 ∷ columns_of x) shown whole xs
 
     pub alike_now : (stored nights_stored : List Row) (xs ys : List X)
-        → Holds keyed (map columns_of xs) stored → Holds keyed (map columns_of ys) stored
-        → Holds keyed (map nights_of xs) nights_stored
-        → Holds keyed (map nights_of ys) nights_stored
+        → Holds keyed_columns (map columns_of xs) stored → Holds keyed_columns (map columns_of ys) stored
+        → Holds keyed_columns (map nights_of xs) nights_stored
+        → Holds keyed_columns (map nights_of ys) nights_stored
         → IsPermutation xs ys
     alike_now stored nights_stored xs ys p q p_nights q_nights =
         let moved = paired_moved _ _ _ _
@@ -116,8 +116,8 @@ module _ {X : Type 0} (record_of : Row → X) (shown : X → Row)
         (subst (IsPermutation _)
         (all_paired ys (keys_once columns_of key first ys stored q)) moved))
 
-stored_alike : (one two : List Row) (stored : List Row) → Holds keyed one stored
-    → Holds keyed two stored → IsPermutation one two
+stored_alike : (one two : List Row) (stored : List Row) → Holds keyed_columns one stored
+    → Holds keyed_columns two stored → IsPermutation one two
 stored_alike one two stored p q =
     IsPermutation-trans _ _ _ (IsPermutation-sym _ _ p.same) q.same
 

@@ -12,11 +12,11 @@ use Rattle.sqlite.specs.Query.{Query, inner, end}
 use Rattle.sqlite.specs.Term.{Term, col}
 use Rattle.sqlite_tied.specs.Compute.{everything}
 use Rattle.office_schema.specs.Schema.{office_schema}
-use Rattle.office_tables.specs.Asking.{asks, IsReadOf, Means}
+use Rattle.office_tables.specs.Asking.{select_query, IsReadOf, Means}
 use Rattle.office_tables.specs.declared.seat.SeatRow.{SeatRow}
 use Rattle.office_tables.specs.Tables.{Tables}
 use Rattle.office_tables.specs.TablesHeld.{HoldsTables}
-use Rattle.office_tables.specs.Stored.{keyless}
+use Rattle.office_tables.specs.Stored.{keyless_columns}
 use Rattle.office_tables.specs.Seat.{StudentSeatsRise, seat_columns}
 use Rattle.office_tables.specs.Selections.{AreListed}
 use Rattle.office_tables.proofs.OrderLemmas.{by_number, read, rising, table_shown}
@@ -30,7 +30,7 @@ abbrev seat_picked : Row → Row
 seat_picked row = column row 0 ∷ column row 1 ∷ column row 2 ∷ column row 3 ∷ column row 4 ∷ []
 
 seat_shown : (r : Row) → column r 1 ∷ column r 2 ∷ column r 3 ∷ column r 4 ∷ column r 5 ∷ []
-    ≡ seat_picked (keyless r)
+    ≡ seat_picked (keyless_columns r)
 seat_shown r = rw (
   column_less r 0,
   column_less r 1,
@@ -48,7 +48,7 @@ seats_of_text = codes
 
 abbrev pub seats_of_query : Query
 seats_of_query =
-    asks (inner 8 end) (equals 1 0 ∷ []) seat_terms (rising seat_terms (1 ∷ []))
+    select_query (inner 8 end) (equals 1 0 ∷ []) seat_terms (rising seat_terms (1 ∷ []))
 
 pub seats_of_means : Means office_schema seats_of_query seats_of_text
 unfolding understood everything
@@ -68,7 +68,7 @@ seats_of_read db number t represents found is =
     (read seat_of seat_columns 5 (λ x. refl) (λ x. refl) (inner 8 end) (equals 1 0 ∷ []) seat_terms
     (1 ∷ []) (λ (x : SeatRow). x.exam ∷ []) (λ x. refl) db.trees params
     (filter (λ r. r.student == number) t.seat) found
-    (table_shown seat_columns keyless seat_picked params 8 (equals 1 0 ∷ []) seat_terms seat_shown
+    (table_shown seat_columns keyless_columns seat_picked params 8 (equals 1 0 ∷ []) seat_terms seat_shown
     (λ x. refl) (passes params (equals 0 0 ∷ [])) (λ r.
     ap (λ v. is_true (binary (Compare Eq Binary) v (Int (pos number))) && true) (column_less r 0))
     (λ r. r.student == number) (λ x. equal_numbers x.student number) db.trees t.seat

@@ -12,7 +12,7 @@ use Rattle.sqlite.specs.Query.{Query, inner, end, matches}
 use Rattle.sqlite.specs.Term.{Term, col, eval_all}
 use Rattle.sqlite_tied.specs.Compute.{everything}
 use Rattle.office_schema.specs.Schema.{office_schema}
-use Rattle.office_tables.specs.Asking.{asks, IsReadOf, Means}
+use Rattle.office_tables.specs.Asking.{select_query, IsReadOf, Means}
 use Rattle.office_tables.specs.Joining.{IsReadWith}
 use Rattle.office_tables.specs.Nights.{night_columns}
 use Rattle.office_tables.specs.declared.nights.NightRow.{NightRow}
@@ -20,7 +20,7 @@ use Rattle.office_tables.specs.declared.share_student.StudentShareRow.{StudentSh
 use Rattle.office_tables.specs.declared.share_part.PartShareRow.{PartShareRow}
 use Rattle.office_tables.specs.Tables.{Tables}
 use Rattle.office_tables.specs.TablesHeld.{HoldsTables}
-use Rattle.office_tables.specs.Stored.{Holds, keyed, keyless}
+use Rattle.office_tables.specs.Stored.{Holds, keyed_columns, keyless_columns}
 use Rattle.office_tables.specs.ShareStudent.{bare_share_columns, share_student_columns, night_share_columns, share_shown, HaveNoNight, StudentSharesRise}
 use Rattle.office_tables.specs.Records.{columns_from}
 use Rattle.office_tables.specs.SharePart.{share_part_columns}
@@ -45,7 +45,7 @@ abbrev first_terms : List Term
 first_terms = col 1 0 ∷ col 1 2 ∷ col 1 3 ∷ col 1 4 ∷ []
 
 abbrev pub student_shares_query : Query
-student_shares_query = asks (inner 11 end) [] first_terms (rising first_terms (0 ∷ []))
+student_shares_query = select_query (inner 11 end) [] first_terms (rising first_terms (0 ∷ []))
 
 pub student_shares_means : Means office_schema student_shares_query student_shares_text
 unfolding understood everything
@@ -61,7 +61,7 @@ first_picked row = column row 0 ∷ column row 1 ∷ column row 2 ∷ column row
 
 -- the columns that the text shows of a stored row
 first_shown : (r : Row) → column r 0 ∷ column r 2 ∷ column r 3 ∷ column r 4 ∷ []
-    ≡ first_picked (keyed r)
+    ≡ first_picked (keyed_columns r)
 first_shown r = rw (column_later r 0, column_later r 1, column_later r 2) refl
 
 -- a share without its amount over night
@@ -116,7 +116,7 @@ first_columns trees rows is =
 
 -- if the first table has these rows, and each amount over night is 0, the list has them, by student
 first_read : (db : Database) (xs rows : List StudentShareRow)
-    → Holds keyed (map bare_share_columns xs) (db.trees 11)
+    → Holds keyed_columns (map bare_share_columns xs) (db.trees 11)
     → IsReadOf bare_share_columns 4 [] student_shares_query db.trees rows
     → IsPermutation xs rows × Rises (λ (x : StudentShareRow). x.student ∷ []) rows
 first_read db xs rows holds is =
@@ -129,7 +129,7 @@ first_read db xs rows holds is =
     (subst (λ l. IsPermutation (map (eval_all first_terms)
     (matches db.trees [] (inner 11 end) ([] ∷ []))) (map share_student_columns l))
     (every (λ _. true) xs (λ x. refl))
-    (table_shown share_student_columns keyed first_picked [] 11 [] first_terms first_shown
+    (table_shown share_student_columns keyed_columns first_picked [] 11 [] first_terms first_shown
     (λ x. refl) (λ _. true) (λ r. refl) (λ _. true) (λ x. refl) db.trees xs stored.same)) in
     let found = read bare_share_in columns_in 4 (λ x. refl) (λ x. refl) (inner 11 end) []
     first_terms (0 ∷ []) (λ (b : BareShare). b.student ∷ []) (λ x. refl) db.trees []
@@ -163,7 +163,7 @@ abbrev night_terms : List Term
 night_terms = col 1 0 ∷ col 1 2 ∷ []
 
 abbrev pub share_nights_query : Query
-share_nights_query = asks (inner 16 end) [] night_terms (rising night_terms (0 ∷ []))
+share_nights_query = select_query (inner 16 end) [] night_terms (rising night_terms (0 ∷ []))
 
 pub share_nights_means : Means office_schema share_nights_query share_nights_text
 unfolding understood everything
@@ -177,19 +177,19 @@ share_nights_means = record {
 abbrev night_picked : Row → Row
 night_picked row = column row 0 ∷ column row 1 ∷ []
 
-night_shown : (r : Row) → column r 0 ∷ column r 2 ∷ [] ≡ night_picked (keyed r)
+night_shown : (r : Row) → column r 0 ∷ column r 2 ∷ [] ≡ night_picked (keyed_columns r)
 night_shown r = rw (column_later r 0) refl
 
 -- the second list has their amounts over night
 nights_read : (db : Database) (xs : List StudentShareRow) (nights : List NightRow)
-    → Holds keyed (map night_share_columns xs) (db.trees 16)
+    → Holds keyed_columns (map night_share_columns xs) (db.trees 16)
     → IsReadOf night_columns 2 [] share_nights_query db.trees nights
     → IsPermutation (map night_share_columns xs) (map night_columns nights)
 nights_read db xs nights holds is =
     let shows = subst (λ l. IsPermutation (map (eval_all night_terms)
     (matches db.trees [] (inner 16 end) ([] ∷ []))) (map night_share_columns l))
     (every (λ _. true) xs (λ x. refl))
-    (table_shown night_share_columns keyed night_picked [] 16 [] night_terms night_shown (λ x. refl)
+    (table_shown night_share_columns keyed_columns night_picked [] 16 [] night_terms night_shown (λ x. refl)
     (λ _. true) (λ r. refl) (λ _. true) (λ x. refl) db.trees xs holds.same) in
     rw is.1 (IsPermutation-sym _ _
     (columns_shown night_share_columns 2 (λ x. refl) (λ x. omega arith) (inner 16 end) []
@@ -230,9 +230,9 @@ student_shares_read db t represents found is =
       alike_now student_share_of share_shown (λ x. refl) share_student_columns night_share_columns
           (λ (x : StudentShareRow). x.student) (λ x. refl) (λ x y. refl) (λ x. refl) (db.trees 11)
           (db.trees 16) xs found represents.share_student
-          (holds_moved keyed _ _ (db.trees 11) columns represents.share_student)
+          (holds_moved keyed_columns _ _ (db.trees 11) columns represents.share_student)
           represents.night_share
-          (holds_moved keyed _ _ (db.trees 16) amounts represents.night_share),
+          (holds_moved keyed_columns _ _ (db.trees 16) amounts represents.night_share),
       rise_alike (λ (x : StudentShareRow). x.student ∷ []) is.rows found
           (sym (same_numbers found is.rows is.columns)) first.1,
     )
@@ -248,7 +248,7 @@ share_student_picked q s = column s 1 ∷ column q 0 ∷ column q 1 ∷ column q
 
 share_student_shown : (r s : Row)
     → column s 2 ∷ column r 0 ∷ column r 2 ∷ column r 3 ∷ column r 4 ∷ []
-    ≡ share_student_picked (keyed r) (keyed s)
+    ≡ share_student_picked (keyed_columns r) (keyed_columns s)
 share_student_shown r s = rw (
   column_later s 0,
   column_later r 0,
@@ -262,7 +262,7 @@ student_shares_of_text = codes
 
 abbrev pub student_shares_of_query : Query
 student_shares_of_query =
-    asks (inner 11 (inner 16 end)) (equals 0 0 ∷ same_number ∷ []) share_student_terms
+    select_query (inner 11 (inner 16 end)) (equals 0 0 ∷ same_number ∷ []) share_student_terms
     (rising share_student_terms (1 ∷ []))
 
 pub student_shares_of_means : Means office_schema student_shares_of_query student_shares_of_text
@@ -300,7 +300,7 @@ abbrev share_part_picked : Row → Row
 share_part_picked row = column row 0 ∷ column row 1 ∷ column row 2 ∷ column row 3 ∷ []
 
 share_part_shown : (r : Row) → column r 1 ∷ column r 2 ∷ column r 3 ∷ column r 4 ∷ []
-    ≡ share_part_picked (keyless r)
+    ≡ share_part_picked (keyless_columns r)
 share_part_shown r = rw (column_less r 0, column_less r 1, column_less r 2, column_less r 3) refl
 
 -- ---- SELECT kind, no, penalty, mixed FROM share_part
@@ -309,7 +309,7 @@ abbrev pub part_shares_text : List ℕ
 part_shares_text = codes "SELECT kind, no, penalty, mixed FROM share_part"
 
 abbrev pub part_shares_query : Query
-part_shares_query = asks (inner 12 end) [] share_part_terms []
+part_shares_query = select_query (inner 12 end) [] share_part_terms []
 
 pub part_shares_means : Means office_schema part_shares_query part_shares_text
 unfolding understood everything
@@ -330,7 +330,7 @@ part_shares_read db t represents found is =
     (subst (λ l. IsPermutation (map (eval_all share_part_terms)
     (matches db.trees [] (inner 12 end) ([] ∷ []))) (map share_part_columns l))
     (every (λ _. true) t.share_part (λ x. refl))
-    (table_shown share_part_columns keyless share_part_picked [] 12 [] share_part_terms
+    (table_shown share_part_columns keyless_columns share_part_picked [] 12 [] share_part_terms
     share_part_shown (λ x. refl)
     (λ _. true) (λ r. refl) (λ _. true) (λ x. refl) db.trees t.share_part
     represents.share_part.same))

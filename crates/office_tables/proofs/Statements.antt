@@ -22,7 +22,7 @@ use Rattle.sqlite.specs.Does.{Tally, Does, lacks_sequence}
 use Rattle.sqlite.specs.Change.{created, next_tree, KeepsRows}
 use Rattle.sqlite.specs.Compile.{table_defined_by}
 use Rattle.std.specs.List.{AllByRecursion}
-pub use Rattle.office_tables.specs.Inserting.{simple}
+pub use Rattle.office_tables.specs.Inserting.{simple_table}
 use Rattle.office_tables.specs.Schema.{HasRows}
 use Rattle.sqlite.specs.Rows.{Written}
 use Rattle.sqlite.specs.State.{State, mode_of, Writes, Executes, Shown}
@@ -39,9 +39,9 @@ same_value e = cc
 
 module _ (sql : List ℕ) (params : Row) (old new : State) (count : ℕ) (schema : Schema)
     (has : old.now.schema ≡ schema) (plain : IsPlain (understood schema sql))
-    (at : ℕ) (base : Table) (found : slice_get schema.tables at ≡ Some (simple base)) where
+    (at : ℕ) (base : Table) (found : slice_get schema.tables at ≡ Some (simple_table base)) where
   abbrev table : Table
-  table = simple base
+  table = simple_table base
 
   pub inserts : (terms : List Term) (width : ℕ)
       → command_of (understood schema sql) ≡ Insert at (Values terms width)
@@ -49,7 +49,7 @@ module _ (sql : List ℕ) (params : Row) (old new : State) (count : ℕ) (schema
       → Executes sql params old new (Ok count)
       → (new.now.schema ≡ schema)
       × Applies schema Enforced old.now.trees
-      (edit_of old.now.trees (simple base) [] Chosen 0
+      (edit_of old.now.trees (simple_table base) [] Chosen 0
       (value_rows params width (length terms / width) terms)) new.now.trees
   inserts terms width is quiet h =
       let command = Insert at (Values terms width) in
@@ -88,7 +88,7 @@ module _ (sql : List ℕ) (params : Row) (old new : State) (count : ℕ) (schema
       → (rows : List Row) × (new.now.schema ≡ schema)
       × IsAnswer q (overlay old.now.trees []) params rows
       × Applies schema Enforced old.now.trees
-      (edit_of old.now.trees (simple base) [] Chosen 0 rows) new.now.trees
+      (edit_of old.now.trees (simple_table base) [] Chosen 0 rows) new.now.trees
   inserts_from q is quiet h =
       let command = Insert at (source.Query (record { lets = []; body = q })) in
       let text = statement_of sql (understood schema sql) in
@@ -126,7 +126,7 @@ module _ (sql : List ℕ) (params : Row) (old new : State) (count : ℕ) (schema
       → (rows : List Row) × (new.now.schema ≡ schema)
       × IsAnswer q (overlay old.now.trees []) params rows
       × Applies schema Enforced old.now.trees
-      (edit_of old.now.trees (simple base) (ids_of rows) Given 0 []) new.now.trees
+      (edit_of old.now.trees (simple_table base) (ids_of rows) Given 0 []) new.now.trees
   deletes q is quiet h =
       let command = Delete at (record { lets = []; body = q }) in
       let text = statement_of sql (understood schema sql) in

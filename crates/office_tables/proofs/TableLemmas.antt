@@ -10,7 +10,7 @@ use Rattle.sqlite_trees.specs.Tree.{IsAscending, rowid, put_row}
 use Rattle.sqlite_trees.specs.View.{is_int}
 use Rattle.sqlite_trees.proofs.ListLemmas.{along_permutation, all-permutation, all-filter, all-map, ascending-filter, ascending-map, ascending_from_map, ascending_weaker}
 use Rattle.sqlite_rules.specs.Edit.{is_taken, are_fresh}
-use Rattle.office_tables.specs.Stored.{HasRowids, Holds, keyed}
+use Rattle.office_tables.specs.Stored.{HasRowids, Holds, keyed_columns}
 use Rattle.std.proofs.lemmas.Bool.{and_parts, not-true}
 use Rattle.std.proofs.lemmas.Cmp.{tied_itself}
 use Rattle.sqlite_value.specs.declared.value.Value.{Value}
@@ -109,11 +109,11 @@ holds_moved show rows others stored same h =
 -- the keys of a table's rows are distinct, if they are the rows' numbers
 pub keys_once : {X : Type 0} (row_of : X → Row) (key : X → ℕ)
     → ((x : X) → column (row_of x) 0 ≡ Int (pos (key x))) → (xs : List X) (stored : List Row)
-    → Holds keyed (map row_of xs) stored → IsAscending (λ a b. key a ≢ key b) xs
+    → Holds keyed_columns (map row_of xs) stored → IsAscending (λ a b. key a ≢ key b) xs
 keys_once row_of key first xs stored holds =
-    let shown : HasRowids (map keyed stored) = record {
-      ints = all-map (λ r. IsTrue (is_int (rowid r))) keyed stored holds.rowids.ints;
-      apart = ascending-map (λ a b. rowid a ≢ rowid b) keyed stored holds.rowids.apart;
+    let shown : HasRowids (map keyed_columns stored) = record {
+      ints = all-map (λ r. IsTrue (is_int (rowid r))) keyed_columns stored holds.rowids.ints;
+      apart = ascending-map (λ a b. rowid a ≢ rowid b) keyed_columns stored holds.rowids.apart;
     } in
     let typed = rowids_moved _ _ holds.same shown in
     ascending_weaker (λ a b. rowid (row_of a) ≢ rowid (row_of b)) (λ a b. key a ≢ key b)

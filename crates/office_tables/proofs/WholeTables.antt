@@ -17,7 +17,7 @@ use Rattle.office_schema.specs.Schema.{office_schema, schema_before}
 use Rattle.office_tables.specs.declared.version.Version.{Version}
 use Rattle.office_tables.specs.declared.version.Version.TheVariants.{Two}
 use Rattle.office_tables.specs.Inserting.{shown_by}
-use Rattle.office_tables.specs.Listings.{Lists, ListsTable, IsListed, listed, ordered_by}
+use Rattle.office_tables.specs.Listings.{Lists, ListsTable, IsListed, selected_columns, ordered_by}
 use Rattle.office_tables.specs.Records.{columns_from}
 use Rattle.office_tables.specs.Versions.{schema_of}
 use Rattle.office_tables.proofs.DeleteLemmas.{seen_at, stored_at}
@@ -80,11 +80,11 @@ at_end [] v = refl
 at_end (w ∷ l) v = at_end l v
 
 pub one_listed : (key : Option ℕ) (n : ℕ) (r : Row) → length (shown_by key r) ≡ n
-    → IsListed n (shown_by key) r (listed (column_terms key 0 n ++ col 1 0 ∷ []) r)
+    → IsListed n (shown_by key) r (selected_columns (column_terms key 0 n ++ col 1 0 ∷ []) r)
 one_listed key n r long =
     let l = shown_by key r in
     let end = column r 0 ∷ [] in
-    let is : listed (column_terms key 0 n ++ col 1 0 ∷ []) r ≡ l ++ end =
+    let is : selected_columns (column_terms key 0 n ++ col 1 0 ∷ []) r ≡ l ++ end =
     terms_show key r n 0 ∙ ap (λ x. x ++ end) (sym (dropped 0 n l (omega (arith, long)))) in
     record {
       columns = ap (columns_from 0 n) is ∙ ap (λ k. columns_from 0 k (l ++ end)) (sym long)

@@ -30,7 +30,7 @@ use Rattle.office_tables.specs.SharePart.{share_part_columns, FitsPartShare}
 use Rattle.office_tables.specs.ShareStudent.{share_student_columns, night_share_columns, FitsStudentShare}
 use Rattle.office_tables.specs.Slot.{slot_columns, FitsSlot}
 use Rattle.office_tables.specs.TablesHeld.{HoldsTablesIn}
-use Rattle.office_tables.specs.Stored.{keyed, keyless, Holds}
+use Rattle.office_tables.specs.Stored.{keyed_columns, keyless_columns, Holds}
 use Rattle.office_tables.specs.Tables.{Tables, Meta, Batch}
 
 -- the tables of an office, with numbers that fit the program's types
@@ -57,9 +57,9 @@ IsForeign db = (version : Version) → IsForeignIn version db
 
 -- the three tables of the session hold the rows found
 pub record HoldsSession (version : Version) (db : Database) (found : FoundSession) : Type 0 where
-  pub meta : Holds keyed (meta_columns version (meta_from found.meta) ∷ []) (db.trees 0)
-  pub owner : Holds keyed (map owner_columns found.owners.items) (db.trees 1)
-  pub enrol : Holds keyless (map enrol_columns found.enrols.items) (db.trees 2)
+  pub meta : Holds keyed_columns (meta_columns version (meta_from found.meta) ∷ []) (db.trees 0)
+  pub owner : Holds keyed_columns (map owner_columns found.owners.items) (db.trees 1)
+  pub enrol : Holds keyless_columns (map enrol_columns found.enrols.items) (db.trees 2)
 
 -- the database's drafts, with their amounts over night
 abbrev pub HaveDrafts : Version → Database → List DraftRow → Type 0
@@ -76,15 +76,16 @@ HaveShares version db =
 -- the tables of drafts hold the rows found
 pub record HoldsDrafts (version : Version) (db : Database) (found : FoundDrafts) : Type 0 where
   pub draft : HaveDrafts version db found.drafts.items
-  pub slot : Holds keyless (map slot_columns found.slots.items) (db.trees 5)
+  pub slot : Holds keyless_columns (map slot_columns found.slots.items) (db.trees 5)
 
 -- the tables of a publication hold the rows found
 pub record HoldsPublication (version : Version) (db : Database) (found : FoundPublication)
     : Type 0 where
-  pub placed : Holds keyed (map placed_columns found.placements.items) (db.trees 7)
-  pub seat : Holds keyless (map seat_columns found.seats.items) (db.trees 8)
+  pub placed : Holds keyed_columns (map placed_columns found.placements.items) (db.trees 7)
+  pub seat : Holds keyless_columns (map seat_columns found.seats.items) (db.trees 8)
   pub share_student : HaveShares version db found.student_shares.items
-  pub share_part : Holds keyless (map share_part_columns found.part_shares.items) (db.trees 12)
+  pub share_part :
+      Holds keyless_columns (map share_part_columns found.part_shares.items) (db.trees 12)
 
 -- `Some`: the tables hold the rows found. `None`: the database holds no office of this version
 abbrev pub IsFoundPart : {F : Type 0} → (Version → Database → F → Type 0)

@@ -15,8 +15,8 @@ use Rattle.sqlite.specs.Term.{Term, lit}
 use Rattle.office_tables.specs.Records.{columns_from}
 
 -- SELECT these FROM there WHERE all this holds ORDER BY those
-abbrev pub asks : Join → List Term → List Term → List (Term × Key) → Query
-asks from where_ shown order = record {
+abbrev pub select_query : Join → List Term → List Term → List (Term × Key) → Query
+select_query from where_ shown order = record {
   from = from;
   filter = where_;
   group = None;

@@ -9,7 +9,7 @@ use Rattle.sqlite.specs.Effect.{Database}
 use Rattle.office_tables.specs.declared.batch.BatchRow.{BatchRow}
 use Rattle.office_tables.specs.declared.batch.BatchCountsRow.{BatchCountsRow}
 use Rattle.office_tables.specs.Records.{IsNarrow}
-use Rattle.office_tables.specs.Stored.{Holds, keyed}
+use Rattle.office_tables.specs.Stored.{Holds, keyed_columns}
 use Rattle.office_tables.specs.Tables.{Tables, Batch}
 
 -- a batch's columns
@@ -54,7 +54,7 @@ FitsBatch r = FitsCounts (counts_of r)
 abbrev pub IsFoundBatches : Database → Option (Vec BatchCountsRow Global) → Type 0
 IsFoundBatches db (Some found) =
     (batches : List Batch) × (map counts_of batches ≡ found.items)
-    × Holds keyed (map batch_columns batches) (db.trees 14)
+    × Holds keyed_columns (map batch_columns batches) (db.trees 14)
 IsFoundBatches db None =
     (batches : List Batch) → AllByRecursion FitsBatch batches
-    → Holds keyed (map batch_columns batches) (db.trees 14) → ⊥
+    → Holds keyed_columns (map batch_columns batches) (db.trees 14) → ⊥

@@ -17,13 +17,13 @@ use Rattle.sqlite.specs.Source.TheVariants.{Values}
 use Rattle.sqlite.specs.Term.{Term, lit, col}
 use Rattle.sqlite.proofs.Callers.{IsPlain, command_of}
 use Rattle.office_schema.specs.Schema.{office_schema}
-use Rattle.office_tables.specs.Stored.{keyed, keyless}
+use Rattle.office_tables.specs.Stored.{keyed_columns, keyless_columns}
 use Rattle.office_tables.specs.Tables.{Tables}
 use Rattle.office_tables.specs.TablesHeld.{all_columns}
 
 -- a table with no AUTOINCREMENT and no default that reads the time
-abbrev pub simple : Table → Table
-simple base =
+abbrev pub simple_table : Table → Table
+simple_table base =
     record base { stamps = record { places = []; terms = []; formats = [] }; is_counted = false }
 
 -- the trees of all tables but one stay
@@ -55,8 +55,8 @@ given_row (Some key) row = column row 0 ∷ Null ∷ drop 1 row
 
 -- the columns that a table shows of a stored row
 abbrev pub shown_by : Option ℕ → Row → Row
-shown_by None = keyless
-shown_by (Some key) = keyed
+shown_by None = keyless_columns
+shown_by (Some key) = keyed_columns
 
 -- ---- a type of rows
 
@@ -90,16 +90,16 @@ pub record IsInsert (at : ℕ) (key : Option ℕ) (w n : ℕ) (sql : List ℕ) :
   pub many : length (terms_from (row_terms key w) w 0 n) / suc w ≡ n
 
 -- no other table of the list has this tree
-abbrev pub is_alone : ℕ → ℕ → List Table → Bool
-is_alone tree at [] = true
-is_alone tree zero (t ∷ tables) = list_all (λ (other : Table). not (other.tree == tree)) tables
-is_alone tree (suc at) (t ∷ tables) = not (t.tree == tree) && is_alone tree at tables
+abbrev pub has_own_tree : ℕ → ℕ → List Table → Bool
+has_own_tree tree at [] = true
+has_own_tree tree zero (t ∷ tables) = list_all (λ (other : Table). not (other.tree == tree)) tables
+has_own_tree tree (suc at) (t ∷ tables) = not (t.tree == tree) && has_own_tree tree at tables
 
 -- this table has this place in the schema and a tree of its own, and a change of its rows causes no
 -- other change
 pub record IsTable (at : ℕ) (table : Table) : Type 0 where
-  pub found : slice_get office_schema.tables at ≡ Some (simple table)
-  pub alone : is_alone table.tree at office_schema.tables ≡ true
+  pub found : slice_get office_schema.tables at ≡ Some (simple_table table)
+  pub own_tree : has_own_tree table.tree at office_schema.tables ≡ true
   pub quiet : (taken news : List Row) → works office_schema Enforced 0 table.tree taken news ≡ []
 
 -- the table stores rows of w such columns, and gives back what it stores
@@ -113,7 +113,7 @@ pub record Stores {X : Type 0} (at : ℕ) (table : Table) (columns_of : X → Ro
   pub shown : (stored : List Row) (x : X)
       → shown_by table.key (with_rowid Chosen stored (given_row table.key (columns_of x)))
       ≡ columns_of x
-  pub cast : (x : X) → cast_row (simple table) (given_row table.key (columns_of x))
+  pub cast : (x : X) → cast_row (simple_table table) (given_row table.key (columns_of x))
       ≡ given_row table.key (columns_of x)
 
 -- what an insert needs: the rows of this type are those of their table and of no other, and these

@@ -13,7 +13,7 @@ use Rattle.office_tables.specs.Finders.{IsFound}
 use Rattle.office_tables.specs.Nights.{bare_columns, night_columns, FitsNight, HoldsNights}
 use Rattle.office_tables.specs.Readings.{ColumnRises}
 use Rattle.office_tables.specs.Records.{IsNarrow}
-use Rattle.office_tables.specs.Stored.{Holds, keyed}
+use Rattle.office_tables.specs.Stored.{Holds, keyed_columns}
 
 -- `Some`: the rows have this property. `None`: no rows that fit have it
 abbrev pub AreFound : {X : Type 0} → (X → Type 0) → (List X → Type 0) → Option (Vec X Global)
@@ -41,7 +41,7 @@ IsJoined columns_of nights_of number (Some rows) (Some nights) found =
 -- the rows of a table of amounts over night, in the order of their numbers
 abbrev pub AreNights : List Row → Option (Vec NightRow Global) → Type 0
 AreNights stored found =
-    IsFound FitsNight night_columns keyed stored found
+    IsFound FitsNight night_columns keyed_columns stored found
     × IfSome found (λ nights. ColumnRises 0 (map night_columns nights.items))
 
 -- the rows joined with those of a table of amounts over night
@@ -64,7 +64,7 @@ pub record IsReadWith {X : Type 0} (shown columns_of nights_of : X → Row) (wid
 -- the rows are stored in two tables; in version 1 in one
 pub record HaveRows {X : Type 0} (version : Version) (columns_of nights_of : X → Row)
     (night : X → ℕ) (stored nights_stored : List Row) (rows : List X) : Type 0 where
-  pub first : Holds keyed (map columns_of rows) stored
+  pub first : Holds keyed_columns (map columns_of rows) stored
   pub second : HoldsNights version nights_of night rows nights_stored
 
 -- a row that is read from only the first table has an amount over night of 0; each row has a copy

@@ -11,13 +11,13 @@ use Rattle.sqlite.specs.Effect.{Database, IsDatabase}
 use Rattle.sqlite.specs.Query.{Query, inner, end}
 use Rattle.sqlite.specs.Term.{Term, lit, eval_all}
 use Rattle.office_tables.specs.declared.version.Version.{Version}
-use Rattle.office_tables.specs.Asking.{asks, Means}
+use Rattle.office_tables.specs.Asking.{select_query, Means}
 use Rattle.office_tables.specs.Records.{columns_from}
 use Rattle.office_tables.specs.Versions.{schema_of}
 
 -- SELECT .. FROM a table WHERE .. ORDER BY ..
 abbrev pub one_table : ℕ → List Term → List Term → List (Term × Key) → Query
-one_table tree where_ shown order = asks (inner tree end) where_ shown order
+one_table tree where_ shown order = select_query (inner tree end) where_ shown order
 
 -- under the schema of a version the text lists all rows of a tree, each shown by these terms, in
 -- this order
@@ -25,8 +25,8 @@ abbrev pub Lists : Version → ℕ → List Term → List (Term × Key) → List
 Lists version tree shown order = Means (schema_of version) (one_table tree [] shown order)
 
 -- the columns that a SELECT shows of a row: the values of its terms
-abbrev pub listed : List Term → Row → Row
-listed shown row = eval_all shown ([] ∷ row ∷ [])
+abbrev pub selected_columns : List Term → Row → Row
+selected_columns shown row = eval_all shown ([] ∷ row ∷ [])
 
 -- ORDER BY the column that is shown at this place
 abbrev pub ordered_by : List Term → ℕ → List (Term × Key)
@@ -44,11 +44,12 @@ pub record ListsTable (version : Version) (width tree : ℕ) (show : Row → Row
   pub terms : List Term
   pub lists : Lists version tree terms (ordered_by terms width) sql
   pub whole : (db : Database) → db.schema ≡ schema_of version → IsDatabase db
-      → AllByRecursion (λ r. IsListed width show r (listed terms r)) (db.trees tree)
+      → AllByRecursion (λ r. IsListed width show r (selected_columns terms r)) (db.trees tree)
 
 -- the text lists the whole table so, and one of these columns is the row's number
 pub record ListsKeyed (version : Version) (at width tree : ℕ) (show : Row → Row) (sql : List ℕ)
     : Type 0 where
   pub table : ListsTable version width tree show sql
   pub within : at < width
-  pub number : (r : Row) → column (listed table.terms r) at ≡ column (listed table.terms r) width
+  pub number : (r : Row)
+      → column (selected_columns table.terms r) at ≡ column (selected_columns table.terms r) width

@@ -5,7 +5,7 @@ use Rattle.sqlite_value.specs.Order.{Row}
 use Rattle.office_tables.specs.declared.meta.MetaRow.{MetaRow}
 use Rattle.office_tables.specs.declared.version.Version.{Version}
 use Rattle.office_tables.specs.Records.{columns_from}
-use Rattle.office_tables.specs.Stored.{Holds, keyed}
+use Rattle.office_tables.specs.Stored.{Holds, keyed_columns}
 use Rattle.office_tables.specs.Tables.{Tables, Meta}
 use Rattle.office_tables.specs.Versions.{number_of}
 
@@ -42,6 +42,6 @@ IsReadMeta version row None =
 -- `Some`: the table holds exactly this row. `None`: it doesn't hold exactly one such row
 abbrev pub IsFoundMeta : Version → List Row → Option MetaRow → Type 0
 IsFoundMeta version stored (Some found) =
-    Holds keyed (meta_columns version (meta_from found) ∷ []) stored
+    Holds keyed_columns (meta_columns version (meta_from found) ∷ []) stored
 IsFoundMeta version stored None =
-    (m : Meta) → Holds keyed (meta_columns version m ∷ []) stored → ⊥
+    (m : Meta) → Holds keyed_columns (meta_columns version m ∷ []) stored → ⊥

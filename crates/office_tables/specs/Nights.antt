@@ -8,7 +8,7 @@ use Rattle.office_tables.specs.declared.nights.NightRow.{NightRow}
 use Rattle.office_tables.specs.declared.version.Version.{Version}
 use Rattle.office_tables.specs.declared.version.Version.TheVariants.{One, Two}
 use Rattle.office_tables.specs.Records.{IsNarrow}
-use Rattle.office_tables.specs.Stored.{Holds, keyed}
+use Rattle.office_tables.specs.Stored.{Holds, keyed_columns}
 
 -- the columns of a table of amounts over night: the number of a draft or a student, and the amount
 abbrev pub night_columns : NightRow → Row
@@ -27,4 +27,4 @@ bare_columns (suc night) columns = []
 -- the table of amounts over night has these rows; in version 1 there is none, and each amount is 0
 abbrev pub HoldsNights : {X : Type 0} → Version → (X → Row) → (X → ℕ) → List X → List Row → Type 0
 HoldsNights One nights_of night rows stored = AllByRecursion (λ x. night x ≡ 0) rows
-HoldsNights Two nights_of night rows stored = Holds keyed (map nights_of rows) stored
+HoldsNights Two nights_of night rows stored = Holds keyed_columns (map nights_of rows) stored

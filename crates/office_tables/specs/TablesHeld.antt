@@ -17,7 +17,7 @@ use Rattle.office_tables.specs.ShareStudent.{share_student_columns, night_share_
 use Rattle.office_tables.specs.SharePart.{share_part_columns}
 use Rattle.office_tables.specs.Batch.{batch_columns}
 use Rattle.office_tables.specs.Nights.{HoldsNights}
-use Rattle.office_tables.specs.Stored.{Holds, keyed, keyless}
+use Rattle.office_tables.specs.Stored.{Holds, keyed_columns, keyless_columns}
 use Rattle.office_tables.specs.Tables.{Tables}
 use Rattle.office_tables.specs.Versions.{schema_of}
 
@@ -25,16 +25,16 @@ use Rattle.office_tables.specs.Versions.{schema_of}
 -- drafts and students are in the last two tables, and are 0 in version 1
 pub record HoldsTablesIn (version : Version) (db : Database) (t : Tables) : Type 0 where
   pub schema : db.schema ≡ schema_of version
-  pub meta : Holds keyed (map (meta_columns version) t.meta) (db.trees 0)
-  pub owner : Holds keyed (map owner_columns t.owner) (db.trees 1)
-  pub enrol : Holds keyless (map enrol_columns t.enrol) (db.trees 2)
-  pub draft : Holds keyed (map draft_columns t.draft) (db.trees 4)
-  pub slot : Holds keyless (map slot_columns t.slot) (db.trees 5)
-  pub placed : Holds keyed (map placed_columns t.placed) (db.trees 7)
-  pub seat : Holds keyless (map seat_columns t.seat) (db.trees 8)
-  pub share_student : Holds keyed (map share_student_columns t.share_student) (db.trees 11)
-  pub share_part : Holds keyless (map share_part_columns t.share_part) (db.trees 12)
-  pub batch : Holds keyed (map batch_columns t.batch) (db.trees 14)
+  pub meta : Holds keyed_columns (map (meta_columns version) t.meta) (db.trees 0)
+  pub owner : Holds keyed_columns (map owner_columns t.owner) (db.trees 1)
+  pub enrol : Holds keyless_columns (map enrol_columns t.enrol) (db.trees 2)
+  pub draft : Holds keyed_columns (map draft_columns t.draft) (db.trees 4)
+  pub slot : Holds keyless_columns (map slot_columns t.slot) (db.trees 5)
+  pub placed : Holds keyed_columns (map placed_columns t.placed) (db.trees 7)
+  pub seat : Holds keyless_columns (map seat_columns t.seat) (db.trees 8)
+  pub share_student : Holds keyed_columns (map share_student_columns t.share_student) (db.trees 11)
+  pub share_part : Holds keyless_columns (map share_part_columns t.share_part) (db.trees 12)
+  pub batch : Holds keyed_columns (map batch_columns t.batch) (db.trees 14)
   pub night_draft :
       HoldsNights version night_draft_columns (λ (r : DraftRow). r.night) t.draft (db.trees 15)
   pub night_share :

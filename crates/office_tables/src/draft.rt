@@ -7,7 +7,7 @@ ghost use Rattle.office_tables.specs.Finders.{Adopts};
 ghost use Rattle.office_tables.specs.Joining.{AreFound};
 
 use crate::altering::Alteration;
-use crate::amounts::signed;
+use crate::amounts::signed_amount;
 use crate::nights::{HasNight, adopt_with_nights};
 use crate::records::Record;
 use crate::running::run;
@@ -108,13 +108,13 @@ fn stored_columns(row: DraftRow) -> [ValueRef<'static>; 8]
 {
     [
         ValueRef::Int(i64::from(row.no)),
-        ValueRef::Int(signed(row.in_row)),
-        ValueRef::Int(signed(row.in_day)),
-        ValueRef::Int(signed(row.spread)),
-        ValueRef::Int(signed(row.mixed)),
-        ValueRef::Int(signed(row.front)),
-        ValueRef::Int(signed(row.period)),
-        ValueRef::Int(signed(row.room)),
+        ValueRef::Int(signed_amount(row.in_row)),
+        ValueRef::Int(signed_amount(row.in_day)),
+        ValueRef::Int(signed_amount(row.spread)),
+        ValueRef::Int(signed_amount(row.mixed)),
+        ValueRef::Int(signed_amount(row.front)),
+        ValueRef::Int(signed_amount(row.period)),
+        ValueRef::Int(signed_amount(row.room)),
     ]
 }
 
@@ -125,7 +125,7 @@ fn night_columns(row: DraftRow) -> [ValueRef<'static>; 2]
 {
     [
         ValueRef::Int(i64::from(row.no)),
-        ValueRef::Int(signed(row.night)),
+        ValueRef::Int(signed_amount(row.night)),
     ]
 }
 

@@ -12,7 +12,7 @@ ghost use Rattle.office_tables.specs.Listings.{ListsKeyed};
 ghost use Rattle.office_tables.specs.Joining.{AreFound, AreJoined, HaveRows, IsJoined, IsJoinedWith, IsReadWith, Splits};
 ghost use Rattle.office_tables.specs.Nights.{night_columns, FitsNight};
 ghost use Rattle.office_tables.specs.Readers.{LeavesTables, Reads};
-ghost use Rattle.office_tables.specs.Stored.{keyed};
+ghost use Rattle.office_tables.specs.Stored.{keyed_columns};
 
 use crate::listing::read_table;
 use crate::records::Record;
@@ -76,8 +76,8 @@ pub(crate) fn adopt_with_nights<S: Alter, R: Record + HasNight + Drop>(
     nights_sql: &str,
 ) -> Result<Option<Vec<R>>, Error>
     ensures { (tree nights_tree : ℕ)
-        → ListsKeyed version 0 R.WIDTH tree keyed rows_sql.now
-        → ListsKeyed Two 0 2 nights_tree keyed nights_sql.now
+        → ListsKeyed version 0 R.WIDTH tree keyed_columns rows_sql.now
+        → ListsKeyed Two 0 2 nights_tree keyed_columns nights_sql.now
         → Splits R.fits R.columns_of R.columns_in_first R.columns_in_second R.number_in R.night_in
         → Adopts version S.Store (λ db. AreFound R.fits (HaveRows version R.columns_in_first
         R.columns_in_second R.night_in (db.trees tree) (db.trees nights_tree)))
@@ -122,17 +122,17 @@ fn add_nights<S: Alter, R: HasNight + Drop>(
     rows: Option<Vec<R>>,
     sql: &str,
 ) -> Result<Option<Vec<R>>, Error>
-    ensures { (version : Version) (tree : ℕ) → ListsKeyed version 0 2 tree keyed sql.now
+    ensures { (version : Version) (tree : ℕ) → ListsKeyed version 0 2 tree keyed_columns sql.now
         → Adopts version S.Store (λ db. IsJoinedWith R.columns_in_first R.columns_in_second
         R.number_in rows (db.trees tree))
         conn.old conn.new result }
 {
     let nights = read_table(alloc, conn, sql)?;
-    joined(alloc, rows, nights)
+    join_lists(alloc, rows, nights)
 }
 
 // Joins both lists. `None`: one of them is `None`, or they have different numbers.
-fn joined<R: HasNight + Drop>(
+fn join_lists<R: HasNight + Drop>(
     alloc: Global,
     rows: Option<Vec<R>>,
     nights: Option<Vec<NightRow>>,

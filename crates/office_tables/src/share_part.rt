@@ -2,7 +2,7 @@
 ghost use Rattle.office_tables.specs.SharePart.{no_part_shares, share_part_columns, ArePartAmounts, FitsPartShare};
 
 use crate::altering::Alteration;
-use crate::amounts::signed;
+use crate::amounts::signed_amount;
 use crate::listing::Listed;
 use crate::records::Record;
 use crate::running::run;
@@ -68,8 +68,8 @@ impl Table<4, 16> for PartShareRow {
         [
             i64::from(self.kind),
             i64::from(self.no),
-            signed(self.penalty),
-            signed(self.mixed),
+            signed_amount(self.penalty),
+            signed_amount(self.mixed),
         ]
     }
 

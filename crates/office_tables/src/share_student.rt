@@ -9,7 +9,7 @@ ghost use Rattle.office_tables.specs.Joining.{AreFound};
 ghost use Rattle.office_tables.specs.ShareStudent.{bare_share_columns, night_share_columns, share_student_columns, with_student_share, without_student_share, AreStudentAmounts, FitsStudentShare};
 
 use crate::altering::Alteration;
-use crate::amounts::signed;
+use crate::amounts::signed_amount;
 use crate::nights::{HasNight, adopt_with_nights};
 use crate::records::Record;
 use crate::running::run;
@@ -102,9 +102,9 @@ fn student_columns(row: StudentShareRow) -> [ValueRef<'static>; 4]
 {
     [
         ValueRef::Int(i64::from(row.student)),
-        ValueRef::Int(signed(row.in_row)),
-        ValueRef::Int(signed(row.in_day)),
-        ValueRef::Int(signed(row.spread)),
+        ValueRef::Int(signed_amount(row.in_row)),
+        ValueRef::Int(signed_amount(row.in_day)),
+        ValueRef::Int(signed_amount(row.spread)),
     ]
 }
 
@@ -115,7 +115,7 @@ fn night_columns(row: StudentShareRow) -> [ValueRef<'static>; 2]
 {
     [
         ValueRef::Int(i64::from(row.student)),
-        ValueRef::Int(signed(row.night)),
+        ValueRef::Int(signed_amount(row.night)),
     ]
 }
 

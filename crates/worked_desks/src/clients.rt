@@ -118,7 +118,7 @@ fn calls(piece: usize, seconds: u64) -> Calls {
 }
 
 // Calls that move this many bytes, one of which fails.
-fn failing(piece: usize, failing: u32) -> Calls {
+fn failing_calls(piece: usize, failing: u32) -> Calls {
     Calls {
         piece,
         seconds: 0,
@@ -136,10 +136,13 @@ const AT_ONCE: Calls = Calls {
 #[test]
 fn clients_in_pieces_and_at_a_pace(rt: HostRuntime) -> Result<(), Fail> {
     let alloc = rt.alloc();
-    let (asked, turned) = (joined(alloc, DROP, PAGE)?, joined(alloc, PAGE, DROP)?);
+    let (asked, turned) = (
+        joined_bytes(alloc, DROP, PAGE)?,
+        joined_bytes(alloc, PAGE, DROP)?,
+    );
     let (all, all_turned) = (
-        joined(alloc, DROPPED, SHOWN)?,
-        joined(alloc, SHOWN, DROPPED)?,
+        joined_bytes(alloc, DROPPED, SHOWN)?,
+        joined_bytes(alloc, SHOWN, DROPPED)?,
     );
     let (asked, turned) = (asked.as_slice(), turned.as_slice());
     let (all, all_turned) = (all.as_slice(), all_turned.as_slice());
@@ -179,7 +182,10 @@ fn clients_in_pieces_and_at_a_pace(rt: HostRuntime) -> Result<(), Fail> {
 #[test]
 fn each_read_of_a_byte_fails(rt: HostRuntime) -> Result<(), Fail> {
     let alloc = rt.alloc();
-    let (asked, all) = (joined(alloc, DROP, PAGE)?, joined(alloc, DROPPED, SHOWN)?);
+    let (asked, all) = (
+        joined_bytes(alloc, DROP, PAGE)?,
+        joined_bytes(alloc, DROPPED, SHOWN)?,
+    );
     // the first k and the last, replies, and whether the draft exists
     let ranges = [
         (1u32, 54u32, b"".as_slice(), true),
@@ -190,7 +196,7 @@ fn each_read_of_a_byte_fails(rt: HostRuntime) -> Result<(), Fail> {
         for k in first..=last {
             let case = Case {
                 asked: asked.as_slice(),
-                reads: failing(1, k),
+                reads: failing_calls(1, k),
                 writes: AT_ONCE,
                 patience: 30,
                 replied,
@@ -207,7 +213,7 @@ fn each_read_of_a_byte_fails(rt: HostRuntime) -> Result<(), Fail> {
 #[test]
 fn each_write_of_seven_bytes_fails(rt: HostRuntime) -> Result<(), Fail> {
     let alloc = rt.alloc();
-    let asked = joined(alloc, DROP, PAGE)?;
+    let asked = joined_bytes(alloc, DROP, PAGE)?;
     let (mut written, mut k) = (Vec::new(alloc), 0u32);
     for reply in [DROPPED, SHOWN] {
         for piece in reply.chunks(7) {
@@ -215,7 +221,7 @@ fn each_write_of_seven_bytes_fails(rt: HostRuntime) -> Result<(), Fail> {
             let case = Case {
                 asked: asked.as_slice(),
                 reads: AT_ONCE,
-                writes: failing(7, k),
+                writes: failing_calls(7, k),
                 patience: 30,
                 replied: written.as_slice(),
                 line: WRITE_FAULT,
@@ -245,7 +251,7 @@ fn assert_case<R: Abort>(rt: &R, alloc: Global, case: &Case<'_>) -> Result<(), F
     Ok(())
 }
 
-fn joined(alloc: Global, first: &[u8], second: &[u8]) -> Result<Vec<u8>, AllocError> {
+fn joined_bytes(alloc: Global, first: &[u8], second: &[u8]) -> Result<Vec<u8>, AllocError> {
     let mut both = first.to_vec(alloc)?;
     both.extend_from_slice(second)?;
     Ok(both)

@@ -1,6 +1,7 @@
 // Listing a session's conflicts changes neither breaches nor penalties.
 use crate::given::{
-    APART, PAIRS, Places, assert_same, date, enrolled, fits, numbers, placed, small_on, student,
+    APART, PAIRS, Places, assert_same, date, enrolments_of, fits, numbers, small_on, student,
+    timetable_of,
 };
 use crate::rules::breach;
 use crate::score::WITH_NIGHTS;
@@ -25,7 +26,7 @@ const SHARED: [(u32, u32); 6] = [(1, 0), (1, 1), (2, 0), (2, 1), (2, 3), (3, 2)]
 // They are sorted by the greater exam. A change of the enrolments deletes the list.
 #[test]
 fn conflicts_are_listed(rt: HostRuntime) -> Result<(), Fail> {
-    let mut enrolments = enrolled(rt.alloc(), &SHARED)?;
+    let mut enrolments = enrolments_of(rt.alloc(), &SHARED)?;
     assert_same(&rt, enrolments.conflicts().is_some(), false, "not listed");
     enrolments.list_conflicts(rt.alloc())?;
     let wanted = [conflict(0, 1, 2), conflict(0, 3, 1), conflict(1, 3, 1)];
@@ -40,17 +41,17 @@ fn conflicts_are_listed(rt: HostRuntime) -> Result<(), Fail> {
 
 // Returns a timetable's breaches and penalty in the small session with its third period on
 // Saturday.
-fn judged(
+fn verdict_of(
     alloc: Global,
     places: &Places,
     is_listed: bool,
 ) -> Result<(Vec<Breach>, [u64; 8]), Fail> {
     let instance = small_on(alloc, date(2005, 4, 16), WITH_NIGHTS, &[], &[])?;
-    let mut enrolments = enrolled(alloc, &PAIRS)?;
+    let mut enrolments = enrolments_of(alloc, &PAIRS)?;
     if is_listed {
         enrolments.list_conflicts(alloc)?;
     }
-    let timetable = placed(alloc, places)?;
+    let timetable = timetable_of(alloc, places)?;
     if !fits(&instance, &enrolments, &timetable) {
         return Err("a place that doesn't exist")?;
     }
@@ -77,7 +78,7 @@ fn a_list_changes_no_judgement(rt: HostRuntime) -> Result<(), Fail> {
     ];
     for (places, wanted, penalty) in cases {
         for is_listed in [false, true] {
-            let (found, parts) = judged(rt.alloc(), &places, is_listed)?;
+            let (found, parts) = verdict_of(rt.alloc(), &places, is_listed)?;
             assert_same(&rt, found.as_slice(), wanted, (places, is_listed));
             assert_same(&rt, parts, penalty, (places, is_listed));
         }

@@ -1,6 +1,6 @@
 // Files read and written, and the fields of a text.
-use crate::given::{ONE_ROOM, assert_same, placed};
-use exam_terms::{are_digits, trim_end, trim_start, trimmed};
+use crate::given::{ONE_ROOM, assert_same, timetable_of};
+use exam_terms::{are_digits, trim_end, trim_start, trimmed_text};
 use office_files::{
     FaultKind, FileFault, Tokens, number, read_instance, read_solution, same_word, write_instance,
     write_solution,
@@ -39,7 +39,7 @@ fn longer(alloc: Global, more: &str) -> Result<String, AllocError> {
 }
 
 // Returns a text with more lines of weights, read and written.
-fn rewritten(alloc: Global, text: &str) -> Result<Vec<u8>, FileFault> {
+fn rewritten_text(alloc: Global, text: &str) -> Result<Vec<u8>, FileFault> {
     let (instance, enrolments) = read_instance(alloc, text.as_bytes())?;
     write_instance(alloc, &instance, &enrolments)
 }
@@ -55,7 +55,7 @@ fn a_sixth_weighting_is_of_nights(rt: HostRuntime) -> Result<(), Fail> {
         ("", ""),
     ];
     for (lines, wanted) in cases {
-        let found = rewritten(rt.alloc(), longer(rt.alloc(), lines)?.as_str());
+        let found = rewritten_text(rt.alloc(), longer(rt.alloc(), lines)?.as_str());
         let wanted = longer(rt.alloc(), wanted)?;
         assert_same(
             &rt,
@@ -66,7 +66,7 @@ fn a_sixth_weighting_is_of_nights(rt: HostRuntime) -> Result<(), Fail> {
     }
     // the first of the weightings
     let first = SMALL.replace(rt.alloc(), "TWOINAROW", "OVERNIGHT,6\nTWOINAROW")?;
-    let found = rewritten(rt.alloc(), first.as_str());
+    let found = rewritten_text(rt.alloc(), first.as_str());
     let wanted = longer(rt.alloc(), "OVERNIGHT,6\r\n")?;
     assert_same(
         &rt,
@@ -87,7 +87,7 @@ fn a_faulty_weighting_of_nights_is_refused(rt: HostRuntime) -> Result<(), Fail> 
         ("OVERNIGHTS,6\r\n", 23, FaultKind::BadWord),
     ];
     for (lines, line, what) in cases {
-        let found = rewritten(rt.alloc(), longer(rt.alloc(), lines)?.as_str()).err();
+        let found = rewritten_text(rt.alloc(), longer(rt.alloc(), lines)?.as_str()).err();
         assert_same(&rt, found, Some(FileFault { line, what }), lines);
     }
     Ok(())
@@ -95,7 +95,7 @@ fn a_faulty_weighting_of_nights_is_refused(rt: HostRuntime) -> Result<(), Fail> 
 
 #[test]
 fn a_partial_timetable_is_not_written(rt: HostRuntime) -> Result<(), Fail> {
-    let partial = placed(rt.alloc(), &[ONE_ROOM[0], None, ONE_ROOM[2], ONE_ROOM[3]])?;
+    let partial = timetable_of(rt.alloc(), &[ONE_ROOM[0], None, ONE_ROOM[2], ONE_ROOM[3]])?;
     let missing = FileFault {
         line: 2,
         what: FaultKind::Incomplete,
@@ -165,7 +165,7 @@ fn blanks_are_spaces_and_tabs(rt: HostRuntime) {
     for (text, start, end, both) in cases {
         assert_same(&rt, trim_start(text), start, text);
         assert_same(&rt, trim_end(text), end, text);
-        assert_same(&rt, trimmed(text), both, text);
+        assert_same(&rt, trimmed_text(text), both, text);
     }
 }
 

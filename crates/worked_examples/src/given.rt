@@ -83,7 +83,7 @@ pub(crate) fn small(
     exclusive: &[RoomRule],
 ) -> Result<(Instance, Enrolments), Fail> {
     let instance = small_on(alloc, FRIDAY, WEIGHTS, more, exclusive)?;
-    Ok((instance, enrolled(alloc, &PAIRS)?))
+    Ok((instance, enrolments_of(alloc, &PAIRS)?))
 }
 
 /// The day of three periods of the small session.
@@ -122,7 +122,7 @@ pub(crate) fn small_on(
 }
 
 /// Returns these students and exams, of four exams.
-pub(crate) fn enrolled(alloc: Global, pairs: &[(u32, u32)]) -> Result<Enrolments, Fail> {
+pub(crate) fn enrolments_of(alloc: Global, pairs: &[(u32, u32)]) -> Result<Enrolments, Fail> {
     let mut enrolments = Enrolments::new(alloc, 4)?;
     for (number, exam) in pairs {
         enrolments.add(student(*number)?, ExamNo::new(*exam))?;
@@ -131,7 +131,7 @@ pub(crate) fn enrolled(alloc: Global, pairs: &[(u32, u32)]) -> Result<Enrolments
 }
 
 /// Returns a timetable of four exams at these places.
-pub(crate) fn placed(alloc: Global, places: &Places) -> Result<Timetable, AllocError> {
+pub(crate) fn timetable_of(alloc: Global, places: &Places) -> Result<Timetable, AllocError> {
     let mut timetable = Timetable::new(alloc, 4)?;
     for (exam, at) in places.iter().enumerate() {
         let exam = ExamNo::new(exam as u32);

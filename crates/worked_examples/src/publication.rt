@@ -3,7 +3,7 @@ ghost use Rattle.std.specs.Prelude.{IfOk};
 ghost use Rattle.exam_publish.specs.Rows.{ArePublishedRows, RowsInOrder};
 ghost use Rattle.exam_publish.specs.Seats.{AreSeated};
 
-use crate::given::{APART, ONE_ROOM, assert_same, fits, numbers, placed, small, student};
+use crate::given::{APART, ONE_ROOM, assert_same, fits, numbers, small, student, timetable_of};
 use exam_model::{Enrolments, ExamNo, Instance, PeriodNo, RoomNo, StudentNo, Timetable};
 use exam_publish::{PublishFault, RoomShare, SeatRow, changed, permit, seats, shares};
 use office_reports::{rooms_report, seats_report};
@@ -13,7 +13,7 @@ use std::test::Fail;
 #[test]
 fn a_partial_timetable_is_not_published(rt: HostRuntime) -> Result<(), Fail> {
     let (instance, enrolments) = small(rt.alloc(), &[], &[])?;
-    let partial = placed(rt.alloc(), &[APART[0], APART[1], APART[2], None])?;
+    let partial = timetable_of(rt.alloc(), &[APART[0], APART[1], APART[2], None])?;
     if !fits(&instance, &enrolments, &partial) {
         return Err("a place that doesn't exist")?;
     }
@@ -24,7 +24,7 @@ fn a_partial_timetable_is_not_published(rt: HostRuntime) -> Result<(), Fail> {
 }
 
 // Returns the rows of a timetable that may be published, given these old rows.
-fn published(
+fn published_rows(
     alloc: Global,
     instance: &Instance,
     enrolments: &Enrolments,
@@ -62,9 +62,12 @@ fn rows(alloc: Global, numbers: &[(u32, u32, u32, u32, u32)]) -> Result<Vec<Seat
 // students whose rows differ.
 fn published_twice(alloc: Global) -> Result<(Vec<SeatRow>, Vec<SeatRow>, Vec<StudentNo>), Fail> {
     let (instance, enrolments) = small(alloc, &[], &[])?;
-    let (apart, together) = (placed(alloc, &APART)?, placed(alloc, &ONE_ROOM)?);
-    let first = published(alloc, &instance, &enrolments, &apart, &[])?;
-    let second = published(alloc, &instance, &enrolments, &together, &first)?;
+    let (apart, together) = (
+        timetable_of(alloc, &APART)?,
+        timetable_of(alloc, &ONE_ROOM)?,
+    );
+    let first = published_rows(alloc, &instance, &enrolments, &apart, &[])?;
+    let second = published_rows(alloc, &instance, &enrolments, &together, &first)?;
     let moved = changed(alloc, &first, &second)?;
     Ok((first, second, moved))
 }
@@ -104,8 +107,8 @@ student,exam,period,room,seat
 fn worked_shares(rt: HostRuntime) -> Result<(), Fail> {
     let alloc = rt.alloc();
     let (instance, enrolments) = small(alloc, &[], &[])?;
-    let timetable = placed(alloc, &APART)?;
-    let rows = published(alloc, &instance, &enrolments, &timetable, &[])?;
+    let timetable = timetable_of(alloc, &APART)?;
+    let rows = published_rows(alloc, &instance, &enrolments, &timetable, &[])?;
     let text = rooms_report(alloc, &instance, &timetable, &rows)?;
     let wanted = "\
 per room    used     cap  exams

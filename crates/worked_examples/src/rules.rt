@@ -1,7 +1,7 @@
 // The exams of the small session that break each rule.
 ghost use Rattle.std.specs.Prelude.{◌<◌, IsTrue, All, ◌↔◌, length};
 
-use crate::given::{Places, assert_same, fits, placed, small};
+use crate::given::{Places, assert_same, fits, small, timetable_of};
 use BreachRule::{After, Capacity, Clash, Coincidence, Duration, Exclusion, RoomExclusive};
 use exam_model::{Enrolments, ExamNo, Instance, PeriodRule, RoomRule};
 use exam_rules::{Breach, BreachRule, breaches, empty_lists, first_breach_of};
@@ -20,7 +20,7 @@ pub(crate) fn breach(rule: BreachRule, exam: u32, other: u32) -> Breach {
 #[test]
 fn capacity_names_every_exam(rt: HostRuntime) -> Result<(), Fail> {
     let (instance, enrolments) = small(rt.alloc(), &[], &[])?;
-    let timetable = placed(rt.alloc(), &[Some((0, 0)), Some((0, 0)), None, None])?;
+    let timetable = timetable_of(rt.alloc(), &[Some((0, 0)), Some((0, 0)), None, None])?;
     if !fits(&instance, &enrolments, &timetable) {
         return Err("a place that doesn't exist")?;
     }
@@ -38,7 +38,7 @@ fn capacity_names_every_exam(rt: HostRuntime) -> Result<(), Fail> {
     Ok(())
 }
 
-fn exist(exams: &[ExamNo], instance: &Instance) -> bool
+fn are_exams(exams: &[ExamNo], instance: &Instance) -> bool
     ensures { IsTrue result → All (λ e. e < length instance.now.exams) exams.now }
 {
     exams.iter().all(|exam| exam.get() < instance.exams())
@@ -51,8 +51,8 @@ fn first_of(
     places: &Places,
     exams: &[ExamNo],
 ) -> Result<Option<Breach>, Fail> {
-    let timetable = placed(alloc, places)?;
-    if !fits(instance, enrolments, &timetable) || !exist(exams, instance) {
+    let timetable = timetable_of(alloc, places)?;
+    if !fits(instance, enrolments, &timetable) || !are_exams(exams, instance) {
         return Err("a place or an exam that doesn't exist")?;
     }
     Ok(first_breach_of(alloc, instance, enrolments, &timetable, exams)?)

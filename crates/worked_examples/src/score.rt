@@ -1,7 +1,7 @@
 // The penalties of timetables.
 use crate::given::{
-    APART, ONE_ROOM, PAIRS, WEIGHTS, assert_same, date, enrolled, fits, numbers, period, place,
-    placed, room, small, small_on, student,
+    APART, ONE_ROOM, PAIRS, WEIGHTS, assert_same, date, enrolments_of, fits, numbers, period,
+    place, room, small, small_on, student, timetable_of,
 };
 use exam_model::{Date, Exam, ExamNo, Instance, PairCost, PeriodNo, Place, Weights};
 use exam_score::{
@@ -17,7 +17,7 @@ use std::test::Fail;
 fn swap(rt: HostRuntime) -> Result<(), Fail> {
     let alloc = rt.alloc();
     let (instance, enrolments) = small(alloc, &[], &[])?;
-    let old = placed(alloc, &APART)?;
+    let old = timetable_of(alloc, &APART)?;
     if instance.exams() != 4 || !fits(&instance, &enrolments, &old) {
         return Err("a place that doesn't exist")?;
     }
@@ -46,8 +46,11 @@ const ONE_EXAM: [(u32, u32); 5] = [(2, 0), (2, 1), (3, 1), (3, 2), (1, 3)];
 fn edit_by_pairs(rt: HostRuntime) -> Result<(), Fail> {
     let alloc = rt.alloc();
     let (instance, _) = small(alloc, &[], &[])?;
-    let (old, new) = (placed(alloc, &APART)?, placed(alloc, &ONE_ROOM)?);
-    let sizes = sizes_of(alloc, &enrolled(alloc, &ONE_EXAM)?)?;
+    let (old, new) = (
+        timetable_of(alloc, &APART)?,
+        timetable_of(alloc, &ONE_ROOM)?,
+    );
+    let sizes = sizes_of(alloc, &enrolments_of(alloc, &ONE_EXAM)?)?;
     if sizes.len() != instance.exams() as usize {
         return Err("other exams")?;
     }
@@ -74,7 +77,7 @@ fn front_at(instance: &Instance, sizes: &[u32], exam: u32, at: Option<Place>) ->
 #[test]
 fn front_load_by_exams(rt: HostRuntime) -> Result<(), Fail> {
     let (instance, _) = small(rt.alloc(), &[], &[])?;
-    let sizes = sizes_of(rt.alloc(), &enrolled(rt.alloc(), &PAIRS)?)?;
+    let sizes = sizes_of(rt.alloc(), &enrolments_of(rt.alloc(), &PAIRS)?)?;
     assert_same(&rt, sizes.as_slice(), [2, 2, 1, 1].as_slice(), "sizes");
     let cases = [
         (0, Some(place(3, 0)), 4),
@@ -94,7 +97,7 @@ fn front_load_by_exams(rt: HostRuntime) -> Result<(), Fail> {
 #[test]
 fn stays_of_placed_exams(rt: HostRuntime) -> Result<(), Fail> {
     let (instance, enrolments) = small(rt.alloc(), &[], &[])?;
-    let timetable = placed(rt.alloc(), &[APART[0], None, APART[2], APART[3]])?;
+    let timetable = timetable_of(rt.alloc(), &[APART[0], None, APART[2], APART[3]])?;
     if !fits(&instance, &enrolments, &timetable) {
         return Err("a place that doesn't exist")?;
     }
@@ -173,7 +176,7 @@ pub(crate) const WITH_NIGHTS: Weights = Weights {
 };
 
 // Returns an instance with two periods on these dates.
-fn dated(alloc: Global, first: Date, second: Date) -> Result<Instance, Fail> {
+fn dated_instance(alloc: Global, first: Date, second: Date) -> Result<Instance, Fail> {
     let exams = [Exam { minutes: 60 }];
     let periods = [period(first, 9, 120, 0), period(second, 9, 120, 0)];
     let rooms = [room(3, 0)];
@@ -195,7 +198,7 @@ fn nights_go_by_dates(rt: HostRuntime) -> Result<(), Fail> {
         (date(2005, 4, 15), date(2005, 4, 17), 0),
     ];
     for (first, second, wanted) in cases {
-        let instance = dated(rt.alloc(), first, second)?;
+        let instance = dated_instance(rt.alloc(), first, second)?;
         let cost = NightCost(&instance);
         let found = [(0, 1), (1, 0), (1, 1), (1, 2)].map(|(p, q)| cost_at(&cost, p, q));
         assert_same(&rt, found, [wanted, wanted, 0, 0], (first, second));
@@ -209,8 +212,8 @@ fn nights_go_by_dates(rt: HostRuntime) -> Result<(), Fail> {
 fn over_night(rt: HostRuntime) -> Result<(), Fail> {
     let alloc = rt.alloc();
     let instance = small_on(alloc, date(2005, 4, 16), WITH_NIGHTS, &[], &[])?;
-    let enrolments = enrolled(alloc, &PAIRS)?;
-    let old = placed(alloc, &APART)?;
+    let enrolments = enrolments_of(alloc, &PAIRS)?;
+    let old = timetable_of(alloc, &APART)?;
     if instance.exams() != 4 || !fits(&instance, &enrolments, &old) {
         return Err("a place that doesn't exist")?;
     }

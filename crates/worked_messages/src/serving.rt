@@ -14,7 +14,7 @@ const REPLY: &[u8] =
 const REFUSED: &[u8] = b"HTTP/1.1 400 Bad Request\r\nContent-Type: application/json\r\n\
 Content-Length: 19\r\n\r\n{\"error\":\"request\"}";
 
-fn ended(answered: u32, end: End) -> Result<Served, ServeFault> {
+fn serve_result(answered: u32, end: End) -> Result<Served, ServeFault> {
     Ok(Served { answered, end })
 }
 
@@ -25,15 +25,20 @@ fn a_connection_is_served_within_its_turns(rt: HostRuntime) {
     // a stream, the turns, how the connection ends, and the bytes that are written
     let cases = [
         (b"".as_slice(), 0, too_many, b"".as_slice()),
-        (b"", 1, ended(0, End::Closed), b""),
+        (b"", 1, serve_result(0, End::Closed), b""),
         (ASKED, 1, too_many, REPLY),
-        (ASKED, 2, ended(1, End::Closed), REPLY),
-        (b"GET /me", 2, ended(0, End::Cut), b""),
-        (b"GET /me\r\n\r\n", 2, ended(1, End::Refused), REFUSED),
+        (ASKED, 2, serve_result(1, End::Closed), REPLY),
+        (b"GET /me", 2, serve_result(0, End::Cut), b""),
+        (
+            b"GET /me\r\n\r\n",
+            2,
+            serve_result(1, End::Refused),
+            REFUSED,
+        ),
         (
             b"GET /me HTTP/1.0\r\n\r\nGET",
             2,
-            ended(1, End::Asked),
+            serve_result(1, End::Asked),
             REPLY,
         ),
     ];

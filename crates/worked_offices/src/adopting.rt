@@ -17,7 +17,7 @@ fn office_of<S: Alter + Drop>(made: Made<S>) -> Result<Office<S>, Fail> {
     }
 }
 
-fn refused<S: Alter + Drop>(made: Made<S>) -> Result<(StoreFault, Connection<S>), Fail> {
+fn refusal_of<S: Alter + Drop>(made: Made<S>) -> Result<(StoreFault, Connection<S>), Fail> {
     match made {
         Ok(_office) => Err("an office")?,
         Err(refused) => Ok(refused),
@@ -27,10 +27,10 @@ fn refused<S: Alter + Drop>(made: Made<S>) -> Result<(StoreFault, Connection<S>)
 #[test]
 fn adopt_wants_tables_and_create_none(rt: HostRuntime) -> Result<(), Fail> {
     let bare = Connection::open_in_memory(rt.alloc())?;
-    let (fault, bare) = refused(Office::adopt(rt.alloc(), bare))?;
+    let (fault, bare) = refusal_of(Office::adopt(rt.alloc(), bare))?;
     assert_same(&rt, fault, StoreFault::BadSchema, "no tables");
     let office = office_of(Office::create(bare))?;
-    let (fault, conn) = refused(Office::create(office.release()))?;
+    let (fault, conn) = refusal_of(Office::create(office.release()))?;
     assert_same(&rt, fault, StoreFault::BadSchema, "a second office");
     let mut office = office_of(Office::adopt(rt.alloc(), conn))?;
     let shown = office.draft(rt.alloc(), 1).err();

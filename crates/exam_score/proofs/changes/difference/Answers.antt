@@ -14,8 +14,8 @@ sitters_of-requires c = record {
       (let h = c.requires.exist k d lt in omega (arith, h, c.requires.old.enrolments));
 }
 
-pub folded-requires : goal.folded-requires
-folded-requires c = record {
+pub fold_sitters-requires : goal.fold_sitters-requires
+fold_sitters-requires c = record {
   few = rw c.deref.ensures.value c.in_ok-sitters.ensures.few;
   in_order = rw c.deref.ensures.value c.in_ok-sitters.ensures.in_order;
 }

@@ -1,11 +1,11 @@
 use Rattle.std.proofs.Common.{◌≡◌, ◌≤◌, ◌+◌, length}
-use Rattle.exam_score.specs.Stays.{further}
+use Rattle.exam_score.specs.Stays.{further_durations}
 use Rattle.exam_score.proofs.mixed.count_further.Given as goal
 
 -- the counted part and the rest add up to the whole
 abbrev pub invariant-loop-stay : goal.invariant-loop-stay
 invariant-loop-stay l = record {
-  whole : l.count + further l.rest ≡ further l.stays;
+  whole : l.count + further_durations l.rest ≡ further_durations l.stays;
   bounded : l.count + length l.rest ≤ length l.stays;
 }
 

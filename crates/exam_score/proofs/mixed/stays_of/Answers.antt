@@ -3,7 +3,7 @@ use Rattle.std.specs.Prelude.{slice_get}
 use Rattle.exam_model.specs.Timetable.{place_of}
 use Rattle.std.proofs.lemmas.List.Elements.{All-push}
 use Rattle.exam_model.specs.Sums.{count_below}
-use Rattle.exam_score.specs.MixedDurations.{lasts}
+use Rattle.exam_score.specs.MixedDurations.{has_duration}
 use Rattle.exam_score.specs.Stays.{StayExists, is_stay}
 use Rattle.exam_score.specs.declared.mixed.Stay.{Stay}
 use Rattle.exam_score.proofs.MixedLemmas.{counts_more_some, counts_more_none, stay_exists}
@@ -28,7 +28,7 @@ loop-exam-preserved c =
           record { period = at.period; room = at.room; minutes = w.exam.result.minutes } in
           let items : c.match-get.stays.items ≡ c.loop-exam.stays.items ++ stay ∷ [] =
           ap (λ v. v.items) w.stays-is ∙ w.in_ok-push.ensures.items in
-          let more : record { counts : (p r m : ℕ) → count_by (is_stay p r m) (c.loop-exam.stays.items ++ stay ∷ []) ≡ count_below (e + 1) (lasts I T p r m); few : length (c.loop-exam.stays.items ++ stay ∷ []) ≤ e + 1; exist : All (StayExists I) (c.loop-exam.stays.items ++ stay ∷ []) }
+          let more : record { counts : (p r m : ℕ) → count_by (is_stay p r m) (c.loop-exam.stays.items ++ stay ∷ []) ≡ count_below (e + 1) (has_duration I T p r m); few : length (c.loop-exam.stays.items ++ stay ∷ []) ≤ e + 1; exist : All (StayExists I) (c.loop-exam.stays.items ++ stay ∷ []) }
           = record {
             counts = counts_more_some I T e c.loop-exam.stays.items at w.exam.result placed is
                 c.loop-exam.invariant.counts;

@@ -19,8 +19,8 @@ loop-other-init c =
           c.requires.linked.links c.requires.within c.requires.here refl;
     }
 
-pub reached-requires : goal.reached-requires
-reached-requires c = record { within = c.loop-other.invariant.way.within }
+pub earlier_tally-requires : goal.earlier_tally-requires
+earlier_tally-requires c = record { within = c.loop-other.invariant.way.within }
 
 pub loop-other-smaller : goal.loop-other-smaller
 loop-other-smaller c =

@@ -1,5 +1,5 @@
 use Rattle.std.proofs.Common.{◌≡◌, ◌∙◌, sym, ap}
-use Rattle.exam_score.specs.Penalty.{plus}
+use Rattle.exam_score.specs.Penalty.{penalty_sum}
 use Rattle.exam_score.specs.Personal.{personal_of}
 use Rattle.exam_score.specs.Rescoring.{student_penalty, students_penalty}
 use Rattle.exam_score.proofs.RescoringLemmas.{penalty_more}
@@ -14,5 +14,5 @@ returns c =
     let own : c.personal.result ≡ student_penalty I E T c.args.student
     = c.personal.ensures
     ∙ ap (personal_of I.periods I.weights) (c.deref.ensures.value ∙ c.in_ok-periods.ensures.periods) in
-    ap (λ p. plus p (students_penalty I E T others)) own
+    ap (λ p. penalty_sum p (students_penalty I E T others)) own
     ∙ penalty_more I E T c.args.student others (sym c.is_among.ensures ∙ c.if-is_among.false)

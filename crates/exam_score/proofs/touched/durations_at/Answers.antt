@@ -2,7 +2,7 @@ use Rattle.std.proofs.Common.{◌≡◌, ◌≤◌, ℕ, Bool, true, false, ◌�
 use Rattle.std.proofs.lemmas.List.{get_or-replicate, length-replicate}
 use Rattle.exam_model.specs.Sums.{count_below}
 use Rattle.exam_model.specs.Timetable.{place_of}
-use Rattle.exam_score.specs.MixedDurations.{duration_count, is_at, lasts, minutes_of}
+use Rattle.exam_score.specs.MixedDurations.{duration_count, is_at, has_duration, minutes_of}
 use Rattle.std.specs.Prelude.{nat_lt, slice_get}
 use Rattle.exam_score.proofs.TouchedLemmas.{durations_more, durations_none, marked_here, marked_elsewhere, minutes_short}
 use Rattle.exam_score.proofs.touched.durations_at.Goals as goal
@@ -61,7 +61,7 @@ loop-exam-preserved c =
           let marked : c.if-is_in_place.marked ≡ set before k true
           = w.marked-is ∙ w.mark-count.ensures.marked ∙ ap (λ k. set before k true) is in
           let more : w.mark-count.result
-          ≡ cond (is_at p r (place_of T e) && not (nat_lt 0 (count_below e (lasts I T p r k))))
+          ≡ cond (is_at p r (place_of T e) && not (nat_lt 0 (count_below e (has_duration I T p r k))))
           1 0
           = w.mark-count.ensures.fresh ∙ ap (λ k. cond (get_or before k false) 0 1) is
           ∙ fresh (get_or before k false)
@@ -82,9 +82,9 @@ loop-exam-preserved c =
       | else-is_in_place w ↦
           (let here : is_at p r (place_of T e) ≡ false = at_place ∙ w.if-is_in_place.false in
           let more : ◌≡◌ {A = ℕ} 0
-          (cond (is_at p r (place_of T e) && not (nat_lt 0 (count_below e (lasts I T p r k)))) 1
+          (cond (is_at p r (place_of T e) && not (nat_lt 0 (count_below e (has_duration I T p r k)))) 1
           0)
-          = ap (λ a. cond (a && not (nat_lt 0 (count_below e (lasts I T p r k)))) 1 0) (sym here) in
+          = ap (λ a. cond (a && not (nat_lt 0 (count_below e (has_duration I T p r k)))) 1 0) (sym here) in
           record {
             long = ap length w.marked-is ∙ c.loop-exam.invariant.long;
             marked = λ m lt.

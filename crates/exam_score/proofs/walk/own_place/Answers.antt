@@ -10,8 +10,8 @@ loop-other-init c = record {
   sums = λ cost y own. refl;
 }
 
-pub reached-requires : goal.reached-requires
-reached-requires c = record { within = c.loop-other.invariant.way.within }
+pub earlier_tally-requires : goal.earlier_tally-requires
+earlier_tally-requires c = record { within = c.loop-other.invariant.way.within }
 
 pub returns-then-eq : goal.returns-then-eq
 returns-then-eq c =

@@ -1,7 +1,7 @@
 use Rattle.std.proofs.Common.{◌≡◌, Err, rules}
 use Rattle.office_policy.specs.CommandBodies.{plain_text}
 use Rattle.office_model.specs.Answers.{now_loaded}
-use Rattle.office_model.specs.Loading.{loaded}
+use Rattle.office_model.specs.Loading.{load_session}
 use Rattle.office_model.specs.Step.{outcome}
 use Rattle.office_desk.proofs.AnswerLemmas.{body_performed, fault_performed, text_faulty}
 use Rattle.office_desk.proofs.changing.load.Goals as goal
@@ -9,13 +9,13 @@ use Rattle.office_desk.proofs.changing.load.Goals as goal
 pub returns-in_err-text : goal.returns-in_err-text
 returns-in_err-text g c caller =
     let is : c.from_residual.result ≡ Err c.in_err-text.field-0.0 = search rules in
-    body_performed g.S.Store (λ office bytes. outcome now_loaded office (loaded bytes office))
+    body_performed g.S.Store (λ office bytes. outcome now_loaded office (load_session bytes office))
     (plain_text c.args.body) c.args.office.now _ _ is (text_faulty _ _ c.in_err-text.ensures)
 
 pub returns-in_err-loaded : goal.returns-in_err-loaded
 returns-in_err-loaded g c caller =
     rw c.in_ok-text.ensures
-    (fault_performed g.S.Store now_loaded (loaded c.in_ok-text.text.now) c.args.office.now
+    (fault_performed g.S.Store now_loaded (load_session c.in_ok-text.text.now) c.args.office.now
     c.load.new.self _ _
     c.in_err-loaded.ensures.runs c.in_err-loaded.ensures.leaves.clean
     c.from_residual-in_err-loaded.ensures.1)

@@ -1,6 +1,6 @@
 use Rattle.std.proofs.Common.{◌≡◌, Err, rules}
 use Rattle.office_model.specs.Answers.{now_owned}
-use Rattle.office_model.specs.Commands.{owned}
+use Rattle.office_model.specs.Commands.{set_owner_result}
 use Rattle.office_model.specs.Step.{outcome}
 use Rattle.office_desk.proofs.AnswerLemmas.{body_performed, fault_performed}
 use Rattle.office_desk.proofs.changing.set_owner.Goals as goal
@@ -9,13 +9,13 @@ pub returns-in_err-dept : goal.returns-in_err-dept
 returns-in_err-dept g c caller =
     let is : c.from_residual.result ≡ Err c.in_err-dept.field-0.0 = search rules in
     body_performed g.S.Store (λ office dept. outcome (λ done. now_owned c.args.exam dept)
-    office (owned c.args.exam dept office))
+    office (set_owner_result c.args.exam dept office))
     c.args.body c.args.office.now _ _ is c.in_err-dept.ensures
 
 pub returns-in_err-set_owner : goal.returns-in_err-set_owner
 returns-in_err-set_owner g c caller =
     rw c.in_ok-dept.ensures
     (fault_performed g.S.Store (λ done. now_owned c.args.exam c.in_ok-dept.dept)
-    (owned c.args.exam c.in_ok-dept.dept) c.args.office.now c.set_owner.new.self _ _
+    (set_owner_result c.args.exam c.in_ok-dept.dept) c.args.office.now c.set_owner.new.self _ _
     c.in_err-set_owner.ensures.runs c.in_err-set_owner.ensures.leaves.clean
     c.from_residual-in_err-set_owner.ensures.1)

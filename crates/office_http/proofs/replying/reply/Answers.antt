@@ -1,7 +1,7 @@
 use Rattle.std.proofs.Common.{option_copied, subst, sym}
 use Rattle.office_messages.specs.Heads.{plain_request}
 use Rattle.office_messages.specs.Reply.{PlainReply, plain_reply}
-use Rattle.office_requests.specs.Requests.{reading}
+use Rattle.office_requests.specs.Requests.{command_or_refusal}
 use Rattle.office_requests.specs.Answering.{ReturnsCallerCommand}
 use Rattle.office_http.specs.Replying.{RepliesTo}
 use Rattle.office_http.proofs.AnswerLemmas.{refused}
@@ -13,7 +13,7 @@ use Rattle.office_http.proofs.replying.reply.Goals as goal
 pub returns-in-Err-clause-answered : goal.returns-in-Err-clause-answered
 returns-in-Err-clause-answered g c =
     let request = c.args.request.now in
-    let said = reading request.method.now request.target.now (option_copied request.caller)
+    let said = command_or_refusal request.method.now request.target.now (option_copied request.caller)
     request.body.now in
     record {
       clean = λ h. h;
@@ -31,7 +31,7 @@ returns-in-Err-clause-answered g c =
 pub returns-in-Err-clause-view : goal.returns-in-Err-clause-view
 returns-in-Err-clause-view g c = λ clean office now.
     let request = c.args.request.now in
-    let said = reading request.method.now request.target.now (option_copied request.caller)
+    let said = command_or_refusal request.method.now request.target.now (option_copied request.caller)
     request.body.now in
     replies_view office office (plain_request request) (plain_reply c.reply.result)
     (subst (λ (r : PlainReply). RepliesTo said office r office) (sym c.reply.ensures)
@@ -44,6 +44,6 @@ returns-in-Ok-clause-view g c = λ clean office now.
     let request = c.args.request.now in
     replies_view office step.0 (plain_request request) (plain_reply c.command_reply.result)
     (subst (λ asked. RepliesTo asked office (plain_reply c.command_reply.result) step.0)
-    (sym (subst (λ r. ReturnsCallerCommand (reading request.method.now request.target.now
+    (sym (subst (λ r. ReturnsCallerCommand (command_or_refusal request.method.now request.target.now
     (option_copied request.caller) request.body.now) r) c.in-Ok.is c.read_request.ensures.command))
     step.1)

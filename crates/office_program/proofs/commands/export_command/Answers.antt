@@ -7,7 +7,7 @@ use Rattle.office_program.proofs.commands.export_command.Goals as goal
 
 pub returns : goal.returns
 returns c =
-    let database = c.named-database.ensures in
+    let database = c.required_option-database.ensures in
     let named : app_of c.after_help.result ≡ new_app (codes "export") =
     ap app_of_fields c.after_help.ensures ∙ ap app_of_fields c.about.ensures ∙ c.new.ensures.app in
     IfOk-weaker c.arg.result _ _ (λ w added.

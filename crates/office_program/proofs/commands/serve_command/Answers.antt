@@ -8,7 +8,7 @@ use Rattle.office_program.proofs.commands.serve_command.Goals as goal
 
 pub returns : goal.returns
 returns c =
-    let database = c.named-database.ensures in
+    let database = c.required_option-database.ensures in
     let port = c.port_option.ensures in
     let connections = c.connections_option.ensures in
     let patience = c.patience_option.ensures in

@@ -15,7 +15,8 @@ pub returns-in_default-clause-fault : goal.returns-in_default-clause-fault
 returns-in_default-clause-fault g c = inl (SqliteFailure OutOfMemory, refl)
 
 -- the planned number of clients was served
-pub returns-in-Ok-announce_and_accept-clause-served : goal.returns-in-Ok-announce_and_accept-clause-served
+pub returns-in-Ok-announce_and_accept-clause-served :
+    goal.returns-in-Ok-announce_and_accept-clause-served
 returns-in-Ok-announce_and_accept-clause-served g c =
     let x = c.in-Ok-announce_and_accept.ensures.served in
     let plan = c.plan_of-plan.ensures.connections in
@@ -28,7 +29,8 @@ returns-in-Ok-announce_and_accept-clause-served g c =
       fewer = tt;
     }
 
-pub returns-in-Ok-announce_and_accept-clause-clean : goal.returns-in-Ok-announce_and_accept-clause-clean
+pub returns-in-Ok-announce_and_accept-clause-clean :
+    goal.returns-in-Ok-announce_and_accept-clause-clean
 returns-in-Ok-announce_and_accept-clause-clean g c =
     desk_clean g.S.Store (λ m. m.desk.ghost_name) (λ m. m.desk.now) (λ m. m.is_shut) _ _ _
     c.desk-1.given.1 _ _ _ _ c.in-Ok-announce_and_accept.ensures.served.serves

@@ -1,7 +1,7 @@
 use Rattle.std.proofs.Common.{◌≡◌, ◌++◌, ◌∷◌, [], ◌∙◌, ◌-◌, ◌^◌, ℕ, List, false, append_assoc}
 use Rattle.std.specs.Prelude.{decimal}
 use Rattle.std.specs.Fmt.{padded_integral, format_spec}
-use Rattle.office_reports.specs.Rooms.{right}
+use Rattle.office_reports.specs.Rooms.{right_aligned}
 use Rattle.office_reports.proofs.RoomLemmas.{in_column}
 use Rattle.office_reports.proofs.rooms.add_line.Goals as goal
 
@@ -13,7 +13,7 @@ written_in width n = padded_integral (format_spec 32 0 0 width (2 ^ 64 - 1)) fal
 columns : (old new : List ℕ) (period room used capacity p r : ℕ) → p ≡ period → r ≡ room
     → new ≡ old ++ (written_in 3 p ++ (written_in 5 r
     ++ (written_in 8 used ++ (written_in 8 capacity ++ 32 ∷ []))))
-    → new ≡ old ++ (right 3 period ++ right 5 room ++ right 8 used ++ right 8 capacity ++ 32 ∷ [])
+    → new ≡ old ++ (right_aligned 3 period ++ right_aligned 5 room ++ right_aligned 8 used ++ right_aligned 8 capacity ++ 32 ∷ [])
 unfolding written_in
 columns old new period room used capacity p r is_period is_room written =
     written

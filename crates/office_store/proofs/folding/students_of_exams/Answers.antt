@@ -2,7 +2,7 @@ use Rattle.std.proofs.Common.{◌∙◌, ◌++◌, ap, ap₂, sym, take, take_al
 use Rattle.std.specs.List.{flat_map}
 use Rattle.std.proofs.lemmas.List.{take_more}
 use Rattle.exam_model.specs.Enrolments.{students}
-use Rattle.exam_publish.specs.Changed.{ascending}
+use Rattle.exam_publish.specs.Changed.{sorted_numbers}
 use Rattle.office_store.proofs.FoldingLemmas.{flat_map_push}
 use Rattle.office_store.proofs.folding.students_of_exams.Goals as goal
 
@@ -20,5 +20,5 @@ loop-exam-preserved c =
 pub returns : goal.returns
 returns c =
     c.in_order.ensures
-    ∙ ap ascending (c.loop-exam.invariant ∙ ap (flat_map (students c.args.enrolments.now))
+    ∙ ap sorted_numbers (c.loop-exam.invariant ∙ ap (flat_map (students c.args.enrolments.now))
     (take_all c.loop-exam.exam-index c.args.exams.now c.loop-exam-test.false))

@@ -1,6 +1,6 @@
 use Rattle.std.proofs.Common.{◌≡◌, ◌<◌, ◌≤◌, Err, Ok, length, map, arith, refl, rules, sym, ◌∙◌, ap, subst}
 use Rattle.exam_model.specs.Enrolments.{Enrolled}
-use Rattle.office_enrolment.specs.AfterBatch.{Refuses, acting, after_batch, latest}
+use Rattle.office_enrolment.specs.AfterBatch.{Refuses, lines_with_effect, after_batch, current_enrolments}
 use Rattle.office_enrolment.proofs.OfficeLemmas.{exams_after}
 use Rattle.office_store.specs.NewBatches.{Enrols, put_line}
 use Rattle.office_store.specs.declared.new_batch.PutLine.{PutLine}
@@ -50,12 +50,12 @@ returns-clause-enrols c db r kept memory is_memory =
     let room : length r.batches < 10000 = omega (arith, few, count) in
     record {
       after = ap (after_batch changes) same.1 ∙ c.in_ok-made.ensures.ok
-          ∙ ap (λ (E : Enrolled). Ok (made.counts, latest made.enrolments E)) (sym same.1);
+          ∙ ap (λ (E : Enrolled). Ok (made.counts, current_enrolments made.enrolments E)) (sym same.1);
       room = room;
       lines = ap (map (λ (it : PutLine). it.change)) c.in_ok-lines.ensures
           ∙ taken_back put_line (λ (it : PutLine). it.change) (λ x. refl) c.deref.result.now
           ∙ c.deref.ensures.value ∙ c.in_ok-made.ensures.acting
-          ∙ ap (acting changes) (sym same.1);
+          ∙ ap (lines_with_effect changes) (sym same.1);
       drafts = λ some. latest_drafts db r c.args.memory.now c.args.instance.now made.enrolments
           c.in_ok-rescored.rescored _ kept is_memory same.0
           (made_exams made.enrolments c.args.enrolments.now _

@@ -1,7 +1,7 @@
 use Rattle.std.proofs.Common.{◌≡◌, ◌∙◌, None, Option, ap, arith, length-set, option_map, subst, sym}
 use Rattle.std.specs.Prelude.{IfSome}
 use Rattle.exam_score.specs.Track.{track}
-use Rattle.office_store.specs.Memory.{rescored}
+use Rattle.office_store.specs.Memory.{rescored_draft}
 use Rattle.office_store.specs.declared.memory.Draft.{Draft}
 use Rattle.office_store.proofs.FillingLemmas.{all_made, draft_scored, none_made, one_made, past_end, same_within}
 use Rattle.office_store.proofs.TogetherLemmas.{none_suited, one_suited}
@@ -32,12 +32,12 @@ numbers-preserved c =
           (subst (λ (x : Option Draft). IfSome x (λ draft.
           draft.parts ≡ track I c.args.before.now draft.timetable)) (sym is)
           (draft_scored I c.args.before.now c.args.drafts.now c.numbers.number scored))
-          ∙ ap (option_map (rescored I c.args.after.now)) is);
+          ∙ ap (option_map (rescored_draft I c.args.after.now)) is);
     }
 
 pub returns-clause-rescored : goal.returns-clause-rescored
 returns-clause-rescored c = λ scored.
     let size = c.type_inv.drafts in
     all_made c.numbers.made c.numbers.number _ (c.numbers.invariant.made scored)
-    (λ d high. ap (option_map (rescored c.args.instance.now c.args.after.now))
+    (λ d high. ap (option_map (rescored_draft c.args.instance.now c.args.after.now))
     (past_end c.args.drafts.now d None (omega (arith, size, high, c.numbers-test.false))))

@@ -1,5 +1,5 @@
 use Rattle.std.specs.Prelude.{◌≡◌, length, option_map}
-use Rattle.office_store.specs.Memory.{AreScored, AreSuited, draft_at, rescored}
+use Rattle.office_store.specs.Memory.{AreScored, AreSuited, draft_at, rescored_draft}
 use Rattle.office_store.proofs.FillingLemmas.{AreMade}
 use Rattle.office_store.proofs.rescoring.rescored_drafts.Given as goal
 
@@ -9,5 +9,5 @@ invariant-numbers l = record {
   size : length l.made ≡ 9;
   made : AreScored l.instance l.before l.drafts
       → AreMade l.made l.number
-      (λ d. option_map (rescored l.instance l.after) (draft_at l.drafts d));
+      (λ d. option_map (rescored_draft l.instance l.after) (draft_at l.drafts d));
 }

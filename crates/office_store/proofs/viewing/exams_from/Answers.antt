@@ -1,6 +1,6 @@
 use Rattle.std.proofs.Common.{ap, map, sym, ◌∙◌}
 use Rattle.office_tables.specs.declared.enrol.EnrolRow.{EnrolRow}
-use Rattle.office_store.specs.Judging.{listed}
+use Rattle.office_store.specs.Judging.{plain_list}
 use Rattle.office_store.specs.Viewing.{place_in_row}
 use Rattle.office_store.proofs.PublishedReadLemmas.{returned_fault}
 use Rattle.office_store.proofs.ViewLemmas.{exams_shown, listed_fault, not_bad, returned_of_same}
@@ -9,7 +9,7 @@ use Rattle.office_store.proofs.viewing.exams_from.Goals as goal
 pub returns-in_err-seats : goal.returns-in_err-seats
 returns-in_err-seats c = record {
   meaning = λ s r is same own_rows.
-      returned_fault _ (listed c.from_residual-in_err-seats.result) c.in_err-seats.field-0.0
+      returned_fault _ (plain_list c.from_residual-in_err-seats.result) c.in_err-seats.field-0.0
       (listed_fault c.from_residual-in_err-seats.result _ c.from_residual-in_err-seats.ensures.1)
       (λ bad. not_bad r c.args.instance.now s is same _ _ _ own_rows
       (λ own numbered stored. c.in_err-seats.ensures.none bad own numbered

@@ -1,27 +1,27 @@
 use Rattle.std.proofs.lemmas.Result.{IfOk-weaker}
-use Rattle.office_tables.specs.Stored.{keyed}
+use Rattle.office_tables.specs.Stored.{keyed_columns}
 use Rattle.office_tables.proofs.AdoptLemmas.{failed_first}
 use Rattle.office_tables.proofs.Reading.{on_ok_both}
 use Rattle.office_tables.proofs.nights.add_nights.Goals as goal
 
 pub returns-in_err-nights : goal.returns-in_err-nights
 returns-in_err-nights g c version tree lists =
-    failed_first _ (c.read_table.ensures.looks version tree keyed lists.table)
+    failed_first _ (c.read_table.ensures.looks version tree keyed_columns lists.table)
     c.from_residual.ensures.1
 
 pub returns : goal.returns
 returns g c version tree lists = record {
-  found = λ clean tables. IfOk-weaker c.joined.result _ _
+  found = λ clean tables. IfOk-weaker c.join_lists.result _ _
       (λ found is. (
         c.in_ok-nights.nights,
         (
-          c.in_ok-nights.ensures.found version tree keyed lists.table clean tables,
-          c.in_ok-nights.ensures.rise version 0 tree keyed lists clean tables,
+          c.in_ok-nights.ensures.found version tree keyed_columns lists.table clean tables,
+          c.in_ok-nights.ensures.rise version 0 tree keyed_columns lists clean tables,
         ),
         is,
       ))
-      c.joined.ensures;
-  same = λ clean tables. on_ok_both c.joined.result
-      (c.in_ok-nights.ensures.same version tree keyed lists.table clean tables);
-  looks = c.read_table.ensures.looks version tree keyed lists.table;
+      c.join_lists.ensures;
+  same = λ clean tables. on_ok_both c.join_lists.result
+      (c.in_ok-nights.ensures.same version tree keyed_columns lists.table clean tables);
+  looks = c.read_table.ensures.looks version tree keyed_columns lists.table;
 }

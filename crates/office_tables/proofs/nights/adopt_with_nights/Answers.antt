@@ -5,14 +5,14 @@ use Rattle.office_tables.specs.Finders.{Adopts, IsFound}
 use Rattle.office_tables.specs.Readings.{ColumnRises}
 use Rattle.office_tables.specs.Listings.{ListsKeyed}
 use Rattle.office_tables.specs.Joining.{AreFound, HaveRows}
-use Rattle.office_tables.specs.Stored.{keyed}
+use Rattle.office_tables.specs.Stored.{keyed_columns}
 use Rattle.office_tables.proofs.AdoptLemmas.{both_found, failed_first}
 use Rattle.office_tables.proofs.NightLemmas.{before_found, joined_found}
 use Rattle.office_tables.proofs.nights.adopt_with_nights.Goals as goal
 
 pub returns-in_err-rows : goal.returns-in_err-rows
 returns-in_err-rows g c tree nights_tree first second splits =
-    failed_first _ (c.read_table.ensures.looks c.args.version tree keyed first.table)
+    failed_first _ (c.read_table.ensures.looks c.args.version tree keyed_columns first.table)
     c.from_residual.ensures.1
 
 pub returns-in-One : goal.returns-in-One
@@ -26,27 +26,27 @@ returns-in-One g c tree nights_tree first second splits =
           (old.now.trees nights_tree)) c.in_ok-rows.rows) (sym c.in-One.is)
           (before_found _ _ _ _ _ _ splits (old.now.trees tree) (old.now.trees nights_tree)
           c.in_ok-rows.rows
-          (c.in_ok-rows.ensures.found c.args.version tree keyed it clean tables));
-      same = c.in_ok-rows.ensures.same c.args.version tree keyed it;
-      looks = c.read_table.ensures.looks c.args.version tree keyed it;
+          (c.in_ok-rows.ensures.found c.args.version tree keyed_columns it clean tables));
+      same = c.in_ok-rows.ensures.same c.args.version tree keyed_columns it;
+      looks = c.read_table.ensures.looks c.args.version tree keyed_columns it;
     }
 
 pub returns-in-Two : goal.returns-in-Two
 returns-in-Two g c tree nights_tree first second splits =
     let v = c.args.version in
     let here =
-    subst (λ v. ListsKeyed v 0 2 nights_tree keyed c.args.nights_sql.now) (sym c.in-Two.is)
+    subst (λ v. ListsKeyed v 0 2 nights_tree keyed_columns c.args.nights_sql.now) (sym c.in-Two.is)
     second in
     let rows : Adopts v g.S.Store (λ db rows.
-    IsFound g.R.Record.fits g.R.Record.columns_of keyed (db.trees tree) rows
+    IsFound g.R.Record.fits g.R.Record.columns_of keyed_columns (db.trees tree) rows
     × IfSome rows (λ records. ColumnRises 0 (map g.R.Record.columns_of records.items)))
     c.args.conn.now c.read_table.new.conn (Ok c.in_ok-rows.rows) = record {
       found = λ clean tables. (
-        c.in_ok-rows.ensures.found v tree keyed first.table clean tables,
-        c.in_ok-rows.ensures.rise v 0 tree keyed first clean tables,
+        c.in_ok-rows.ensures.found v tree keyed_columns first.table clean tables,
+        c.in_ok-rows.ensures.rise v 0 tree keyed_columns first clean tables,
       );
-      same = c.in_ok-rows.ensures.same v tree keyed first.table;
-      looks = c.read_table.ensures.looks v tree keyed first.table;
+      same = c.in_ok-rows.ensures.same v tree keyed_columns first.table;
+      looks = c.read_table.ensures.looks v tree keyed_columns first.table;
     } in
     both_found rows (c.add_nights.ensures v nights_tree here)
     (λ db found both is. subst (λ v. AreFound g.R.Record.fits (HaveRows v

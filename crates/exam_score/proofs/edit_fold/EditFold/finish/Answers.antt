@@ -1,10 +1,10 @@
 use Rattle.std.proofs.Common.{◌≡◌, ◌∙◌, IfSome, IfNone, ap, subst}
 use Rattle.exam_model.specs.Instance.{IsInstance}
-use Rattle.exam_score.specs.Exchanges.{CannotExchange, IsExchanged, coming, edit_share, going}
+use Rattle.exam_score.specs.Exchanges.{CannotExchange, IsExchanged, new_amounts, edit_share, old_amounts}
 use Rattle.exam_score.specs.Touched.{is_touched}
 use Rattle.exam_score.specs.Folds.{Folded, pairs_sat}
 use Rattle.exam_score.specs.EditedCosts.{personal_at, personal_sum}
-use Rattle.exam_score.specs.Penalty.{plus}
+use Rattle.exam_score.specs.Penalty.{penalty_sum}
 use Rattle.exam_score.proofs.ExchangeLemmas.{exchange_scores}
 use Rattle.exam_score.proofs.FoldLemmas.{sum_of_student}
 use Rattle.exam_score.proofs.edit_fold.EditFold.finish.Goals as goal
@@ -16,48 +16,48 @@ folded c =
     record { instance = f.instance.now; earlier = f.earlier.now; later = f.later.now; edited = f.edited.now; count = f.count; before = f.before; after = f.after; current = pairs_sat f.student f.exams.items }
 
 goes_is : (c : goal.After-drop-self-inside)
-    → c.edit_share-goes.result ≡ going c.args.self c.args.sizes.now
+    → c.edit_share-goes.result ≡ old_amounts c.args.self c.args.sizes.now
 goes_is c =
     let f = c.self.inside in
     let fold : Folded = folded c in
     let students : c.plus-before.result
-    ≡ plus f.before
+    ≡ penalty_sum f.before
     (personal_sum f.instance.now f.earlier.now f.edited.now (pairs_sat f.student f.exams.items))
     = c.plus-before.ensures
-    ∙ ap (plus f.before) (c.personal_at-before.ensures.sum
+    ∙ ap (penalty_sum f.before) (c.personal_at-before.ensures.sum
     ∙ ap (personal_at f.instance.now f.earlier.now f.edited.now) c.deref.ensures.value
     ∙ sum_of_student f.instance.now f.earlier.now f.edited.now f.student f.exams.items
     (λ none. (c.self.invariant.started none).1)) in
     c.edit_share-goes.ensures
     ∙ ap (edit_share f.instance.now f.earlier.now f.edited.now
     (is_touched f.edited.now f.earlier.now f.later.now) c.args.sizes.now) students
-    ∙ ap (λ v. going v c.args.sizes.now) c.self.view_is
+    ∙ ap (λ v. old_amounts v c.args.sizes.now) c.self.view_is
 
 comes_is : (c : goal.After-drop-self-inside)
-    → c.edit_share-comes.result ≡ coming c.args.self c.args.sizes.now
+    → c.edit_share-comes.result ≡ new_amounts c.args.self c.args.sizes.now
 comes_is c =
     let f = c.self.inside in
     let fold : Folded = folded c in
     let students : c.plus-after.result
-    ≡ plus f.after
+    ≡ penalty_sum f.after
     (personal_sum f.instance.now f.later.now f.edited.now (pairs_sat f.student f.exams.items))
     = c.plus-after.ensures
-    ∙ ap (plus f.after) (c.personal_at-after.ensures.sum
+    ∙ ap (penalty_sum f.after) (c.personal_at-after.ensures.sum
     ∙ ap (personal_at f.instance.now f.later.now f.edited.now) c.deref-2.ensures.value
     ∙ sum_of_student f.instance.now f.later.now f.edited.now f.student f.exams.items
     (λ none. (c.self.invariant.started none).1)) in
     c.edit_share-comes.ensures
     ∙ ap (edit_share f.instance.now f.later.now f.edited.now
     (is_touched f.edited.now f.earlier.now f.later.now) c.args.sizes.now) students
-    ∙ ap (λ v. coming v c.args.sizes.now) c.self.view_is
+    ∙ ap (λ v. new_amounts v c.args.sizes.now) c.self.view_is
 
 made_is : (c : goal.After-drop-self-inside)
     → IfSome c.exchange.result
-    (IsExchanged c.args.old_parts (going c.args.self c.args.sizes.now)
-    (coming c.args.self c.args.sizes.now))
+    (IsExchanged c.args.old_parts (old_amounts c.args.self c.args.sizes.now)
+    (new_amounts c.args.self c.args.sizes.now))
 made_is c =
     subst (λ goes. IfSome c.exchange.result
-    (IsExchanged c.args.old_parts goes (coming c.args.self c.args.sizes.now)))
+    (IsExchanged c.args.old_parts goes (new_amounts c.args.self c.args.sizes.now)))
     (goes_is c)
     (subst (λ comes. IfSome c.exchange.result
     (IsExchanged c.args.old_parts c.edit_share-goes.result comes))
@@ -65,11 +65,11 @@ made_is c =
 
 none_is : (c : goal.After-drop-self-inside)
     → IfNone c.exchange.result
-    (CannotExchange c.args.old_parts (going c.args.self c.args.sizes.now)
-    (coming c.args.self c.args.sizes.now))
+    (CannotExchange c.args.old_parts (old_amounts c.args.self c.args.sizes.now)
+    (new_amounts c.args.self c.args.sizes.now))
 none_is c =
     subst (λ goes. IfNone c.exchange.result
-    (CannotExchange c.args.old_parts goes (coming c.args.self c.args.sizes.now)))
+    (CannotExchange c.args.old_parts goes (new_amounts c.args.self c.args.sizes.now)))
     (goes_is c)
     (subst (λ comes. IfNone c.exchange.result
     (CannotExchange c.args.old_parts c.edit_share-goes.result comes))

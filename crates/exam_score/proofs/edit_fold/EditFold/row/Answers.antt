@@ -1,6 +1,6 @@
 use Rattle.std.proofs.Common.{◌≡◌, ◌∙◌, ◌+◌, [], ◌∷◌, ◌++◌, Some, sym, ap, subst, true≢false}
 use Rattle.exam_model.specs.Pairs.{Pair}
-use Rattle.exam_score.specs.Penalty.{PersonalPenalty, plus}
+use Rattle.exam_score.specs.Penalty.{PersonalPenalty, penalty_sum}
 use Rattle.exam_score.specs.Folds.{CanFollow, Folded, RepresentsPairs, pairs_sat}
 use Rattle.exam_score.specs.EditedCosts.{personal_at, personal_sum}
 use Rattle.exam_score.proofs.FoldLemmas.{none_open, represents_more, represents_turn, sum_of_student}
@@ -66,11 +66,11 @@ returns-clause-ok c = λ pairs h.
     (sym c.plus-self-inside-2.ensures)
     (subst (λ (p : PersonalPenalty).
     RepresentsPairs (record
-    fold { count = f.count + 1; before = p; after = plus fold.after c.personal_at-after.result; current = pairs_sat (Some c.args.student) c.push-2.new.self.items })
+    fold { count = f.count + 1; before = p; after = penalty_sum fold.after c.personal_at-after.result; current = pairs_sat (Some c.args.student) c.push-2.new.self.items })
     (pairs ++ pair ∷ []))
     (sym c.plus-self-inside.ensures)
     (subst (λ es.
     RepresentsPairs (record
-    fold { count = f.count + 1; before = plus fold.before c.personal_at-before.result; after = plus fold.after c.personal_at-after.result; current = pairs_sat (Some c.args.student) es })
+    fold { count = f.count + 1; before = penalty_sum fold.before c.personal_at-before.result; after = penalty_sum fold.after c.personal_at-after.result; current = pairs_sat (Some c.args.student) es })
     (pairs ++ pair ∷ []))
     (sym items) more))

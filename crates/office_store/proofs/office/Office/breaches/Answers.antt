@@ -1,6 +1,6 @@
 use Rattle.std.proofs.Common.{Ok, refl}
 use Rattle.office_model.specs.declared.fault.StoreFault.TheVariants.{NoDraft, NotLoaded}
-use Rattle.office_store.specs.Judging.{draft_judged, listed}
+use Rattle.office_store.specs.Judging.{draft_judged, plain_list}
 use Rattle.office_store.proofs.CommandLemmas.{not_loaded, refuses, shows}
 use Rattle.office_store.proofs.JudgeLemmas.{in_memory_judged, none_in_memory_judged}
 use Rattle.office_store.proofs.TogetherLemmas.{fits_in}
@@ -31,7 +31,7 @@ returns-clause-runs g c =
     shows g.S.Store (draft_judged c.args.number) c.args.self.now c.look.new.self
     c.self.inside.conn c.self.inside.memory c.self.view_is c.self.invariant.1
     c.in_ok-look.ensures.leaves
-    (listed (Ok c.in_ok-breaches.breaches))
+    (plain_list (Ok c.in_ok-breaches.breaches))
     (λ k o kept is. in_memory_judged c.self.inside.memory c.args.number o is
     c.in-Some.instance c.in-Some.enrolments c.in-Some.is c.in-Some-draft.draft.now
     c.in-Some-draft.ensures.some

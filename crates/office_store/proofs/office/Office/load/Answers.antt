@@ -3,7 +3,7 @@ use Rattle.std.specs.Prelude.{is_some}
 use Rattle.sqlite.specs.Held.{state}
 use Rattle.exam_model.specs.Enrolments.{Enrolled}
 use Rattle.exam_model.specs.Instance.{Session}
-use Rattle.office_model.specs.Loading.{loaded}
+use Rattle.office_model.specs.Loading.{load_session}
 use Rattle.office_model.specs.declared.fault.StoreFault.TheVariants.{Loaded}
 use Rattle.office_model.proofs.RecordLemmas.{are_enrolled}
 use Rattle.office_store.proofs.CommandLemmas.{refuses, rests}
@@ -15,7 +15,7 @@ use Rattle.office_store.proofs.office.Office.load.Goals as goal
 pub returns-then-is_some-clause-runs : goal.returns-then-is_some-clause-runs
 returns-then-is_some-clause-runs g c =
     let some : is_some c.self.inside.memory.kept ≡ true = search rules in
-    refuses g.S.Store (loaded c.args.text.now) c.args.self.now c.look.new.self c.self.inside.conn
+    refuses g.S.Store (load_session c.args.text.now) c.args.self.now c.look.new.self c.self.inside.conn
     c.self.inside.memory c.self.view_is c.self.invariant.1 c.in_ok-look.ensures.leaves Loaded
     (λ _. load_denied c.args.text.now _ _ c.self.inside.memory c.in-Ok.ensures.exact some)
 
@@ -27,7 +27,7 @@ invariant_of-self-2 g c =
     let are = are_enrolled I E c.counts_of-loaded.ensures.enrolments
     (as_many c.args.text.now I E c.in-Ok.ensures.reading) in (
       c.in_ok-put.ensures.rests,
-      rests (loaded c.args.text.now) (state g.S.Store c.self.inside.conn)
+      rests (load_session c.args.text.now) (state g.S.Store c.self.inside.conn)
           (state g.S.Store c.put.new.conn) c.self.inside.memory c.of_session.result
           c.counts_of-loaded.result c.self.invariant.1 c.put.ensures.clean
           (λ k. (c.in_ok-put.ensures.done k).was_open)
@@ -56,7 +56,7 @@ returns g c =
     let no : is_some c.self.inside.memory.kept ≡ false = search rules in
     let are = are_enrolled I E c.counts_of-loaded.ensures.enrolments
     (as_many c.args.text.now I E c.in-Ok.ensures.reading) in
-    let next = done_next g.S.Store (loaded c.args.text.now) c.args.self.now c.look.new.self
+    let next = done_next g.S.Store (load_session c.args.text.now) c.args.self.now c.look.new.self
     c.self.inside.conn c.put.new.conn c.self.inside.memory c.self.view_is c.self.invariant.1
     c.in_ok-look.ensures.leaves _ c.counts_of-loaded.result c.in_ok-put.ensures
     (λ k db makes. load_moves c.args.text.now I E c.counts_of-loaded.result c.deref.result.now
@@ -78,7 +78,7 @@ returns-in_err-put g c =
     let no : is_some c.self.inside.memory.kept ≡ false = search rules in
     let are = are_enrolled I E c.counts_of-loaded.ensures.enrolments
     (as_many c.args.text.now I E c.in-Ok.ensures.reading) in
-    let next = undone_next g.S.Store (loaded c.args.text.now) c.args.self.now c.look.new.self
+    let next = undone_next g.S.Store (load_session c.args.text.now) c.args.self.now c.look.new.self
     c.self.inside.conn c.put.new.conn c.self.inside.memory c.self.view_is c.self.invariant.1
     c.in_ok-look.ensures.leaves _ c.counts_of-loaded.result c.in_err-put.ensures
     (λ k db makes. load_moves c.args.text.now I E c.counts_of-loaded.result c.deref.result.now

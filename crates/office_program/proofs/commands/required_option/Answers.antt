@@ -1,6 +1,6 @@
 use Rattle.std.proofs.Common.{ap, Some, ◌≡◌, ◌∙◌}
 use Rattle.clap.specs.Words.{Rule, rule_of}
-use Rattle.office_program.proofs.commands.named.Goals as goal
+use Rattle.office_program.proofs.commands.required_option.Goals as goal
 
 pub returns-clause-rule : goal.returns-clause-rule
 returns-clause-rule c =

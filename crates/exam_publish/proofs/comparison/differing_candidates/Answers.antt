@@ -1,7 +1,7 @@
 use Rattle.std.proofs.Common.{sym}
 use Rattle.std.proofs.lemmas.List.{nil_from_length}
 use Rattle.exam_publish.proofs.ChangedLemmas.{start, step_left, step_right, end_left, end_right}
-use Rattle.exam_publish.proofs.comparison.differing.Goals as goal
+use Rattle.exam_publish.proofs.comparison.differing_candidates.Goals as goal
 
 pub walk-init : goal.walk-init
 walk-init c =

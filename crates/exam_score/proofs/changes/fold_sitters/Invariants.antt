@@ -1,7 +1,7 @@
 use Rattle.std.proofs.Common.{take, map}
 use Rattle.exam_model.specs.Sitters.{pair_of}
 use Rattle.exam_score.specs.Folds.{IsFoldOf, RepresentsPairs}
-use Rattle.exam_score.proofs.changes.folded.Given as goal
+use Rattle.exam_score.proofs.changes.fold_sitters.Given as goal
 
 -- the sitters so far are folded
 abbrev pub invariant-loop-sitter : goal.invariant-loop-sitter

@@ -2,7 +2,7 @@ use Rattle.std.proofs.Common.{◌≤◌, length, take, arith, sym}
 use Rattle.exam_score.specs.Kinds.{table_cost}
 use Rattle.exam_score.proofs.LineLemmas.{free_at, line_found, table_beyond}
 use Rattle.exam_score.proofs.WalkLemmas.{way_starts, beyond_tallies, own_from, own_none}
-use Rattle.exam_score.proofs.walk.line_beside.Goals as goal
+use Rattle.exam_score.proofs.walk.line_and_place.Goals as goal
 
 pub returns-in_default-clause-none : goal.returns-in_default-clause-none
 returns-in_default-clause-none c I k table =

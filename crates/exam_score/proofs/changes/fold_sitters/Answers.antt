@@ -2,7 +2,7 @@ use Rattle.std.proofs.Common.{◌∙◌, [], ◌∷◌, ◌++◌, map, take, tak
 use Rattle.exam_model.specs.Sitters.{pair_of}
 use Rattle.exam_score.specs.Folds.{CanFollow, Folded, RepresentsPairs}
 use Rattle.exam_score.proofs.ConcernedLemmas.{fold_few, next_follows, represents_next}
-use Rattle.exam_score.proofs.changes.folded.Goals as goal
+use Rattle.exam_score.proofs.changes.fold_sitters.Goals as goal
 
 pub loop-sitter-init : goal.loop-sitter-init
 loop-sitter-init c = record {
