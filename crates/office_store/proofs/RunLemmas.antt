@@ -5,8 +5,9 @@ use Rattle.exam_model.specs.Instance.{Session}
 use Rattle.sqlite.specs.Effect.{Database}
 use Rattle.sqlite.specs.declared.error.Error.{Error}
 use Rattle.sqlite.specs.Held.{Held, state}
-use Rattle.sqlite.specs.State.{State, HasCleanDisk}
+use Rattle.sqlite.specs.State.{State, HasCleanDisk, Survives}
 use Rattle.sqlite.specs.Store.{Ghosts}
+use Rattle.sqlite_trees.specs.Tree.{Trees}
 use Rattle.office_tables.specs.Readers.{Keeps, LeavesTables}
 use Rattle.office_tables.specs.Tables.{Tables}
 use Rattle.office_tables.specs.TablesHeld.{HoldsTables}
@@ -19,6 +20,13 @@ use Rattle.office_tables.specs.Alterations.{Undone}
 use Rattle.office_store.specs.Memory.{IsMemoryOf}
 use Rattle.office_store.specs.declared.memory.OfficeMemory.{OfficeMemory}
 use Rattle.office_store.proofs.InMemoryLemmas.{same_in_memory}
+
+-- ---- the disk
+
+-- a disk that is clean after a call was clean before it
+pub clean_before : {a b : State} {Commits : Trees → Type 0} → Survives a b Commits
+    → HasCleanDisk b → HasCleanDisk a
+clean_before survives clean = omega (arith, survives.clean, clean)
 
 -- ---- nothing has changed
 

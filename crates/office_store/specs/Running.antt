@@ -55,6 +55,14 @@ QueryReturned store expected old new result =
     HasCleanDisk (state store new) → (office : OfficeState) → Represents (state store old) office
     → QueryOutcome (expected office) office (Represents (state store new)) result
 
+-- a call ran on an office: a disk that is clean after the call was clean before it, and then this
+-- holds for each office that the file represented before the call
+pub record CallRan {S : Type 0} (store : Ghosts S) (old new : Held S)
+    (Then : OfficeState → Type 0) : Type 0 where
+  pub clean : HasCleanDisk (state store new) → HasCleanDisk (state store old)
+  pub runs : HasCleanDisk (state store new) → (office : OfficeState)
+      → Represents (state store old) office → Then office
+
 -- ---- what is kept in memory
 
 -- over a clean disk, while it is open, the file represents an office of which this is in memory
@@ -68,6 +76,12 @@ MatchesMemory s memory =
 -- if the store is open now, it was open before and its database is unchanged
 abbrev pub StateUnchanged : State → State → Type 0
 StateUnchanged old new = IsTrue new.is_open → IsTrue old.is_open × (new.now ≡ old.now)
+
+-- if the disk returns what was written, a call has changed nothing
+pub record OfficeUnchanged {S : Type 0} (store : Ghosts S) (old new : Held S) : Type 0 where
+  pub clean : HasCleanDisk (state store new) → HasCleanDisk (state store old)
+  pub unchanged : HasCleanDisk (state store new)
+      → StateUnchanged (state store old) (state store new)
 
 -- if the disk returns what was written, a refusal has changed nothing
 abbrev pub StaysOnErr : {S A : Type 0} → Ghosts S → Held S → Held S → Result A StoreFault → Type 0

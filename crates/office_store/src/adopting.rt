@@ -142,7 +142,6 @@ fn bring_up<S: Alter>(conn: &mut Connection<S>, found: &Found) -> Result<(), Fai
     ensures undone { HasCleanDisk (state S.Store conn.new)
         → OnErr result (Undone (state S.Store conn.old) (state S.Store conn.new)) }
     ensures rests { conn.new.in_transaction ≡ false }
-    ensures clean { HasCleanDisk (state S.Store conn.new) → HasCleanDisk (state S.Store conn.old) }
     ensures survives { Survives (state S.Store conn.old) (state S.Store conn.new) (λ trees.
         (found.now.version ≡ Version.One) × ((batches : List Batch)
         → HoldsTablesIn found.now.version (state S.Store conn.old).now (tables_of found.now batches)

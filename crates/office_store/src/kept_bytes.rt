@@ -37,7 +37,6 @@ pub(crate) fn check_bytes<S: Alter>(
         ⊎ IsUnchanged (state S.Store conn.old) (state S.Store conn.new)) }
     ensures kept { (version : Version) → LeavesCommittedIn version S.Store conn.old conn.new }
     ensures mode { conn.old.in_transaction ≡ false → conn.new.in_transaction ≡ false }
-    ensures clean { HasCleanDisk (state S.Store conn.new) → HasCleanDisk (state S.Store conn.old) }
     ensures survives { Survives (state S.Store conn.old) (state S.Store conn.new) (λ _. ⊥) }
 {
     'batches: for row in batches {
@@ -61,7 +60,6 @@ fn check_batch<S: Alter>(alloc: Global, conn: &mut Connection<S>, no: u32) -> Re
         → OnOk result (IsUnchanged (state S.Store conn.old) (state S.Store conn.new)) }
     ensures kept { (version : Version) → LeavesCommittedIn version S.Store conn.old conn.new }
     ensures mode { conn.old.in_transaction ≡ false → conn.new.in_transaction ≡ false }
-    ensures clean { HasCleanDisk (state S.Store conn.new) → HasCleanDisk (state S.Store conn.old) }
     ensures survives { Survives (state S.Store conn.old) (state S.Store conn.new) (λ _. ⊥) }
 {
     let found = match batch_of(alloc, conn, no) {

@@ -9,6 +9,7 @@ use Rattle.office_records.specs.declared.fault.RecordFault.{RecordFault}
 use Rattle.office_records.specs.declared.fault.RecordFault.TheVariants.{NoMemory, BadRows}
 use Rattle.office_records.proofs.ReadableLemmas.{not_foreign_in}
 use Rattle.office_records.specs.Faults.{store_fault}
+use Rattle.office_store.proofs.RunLemmas.{clean_before}
 use Rattle.office_store.specs.Faults.{IsOfDatabase}
 use Rattle.office_store.specs.Opening.{WeighsNoNight}
 use Rattle.office_model.specs.declared.fault.StoreFault.{StoreFault}
@@ -62,7 +63,7 @@ returns-in_err-check_bytes-clause-none g c clean =
     let db = (state g.S.Store old).now in
     let found = c.in-Ok-Some.found in
     let some : c.in-Ok-Some.field-0 ≡ Some found = search rules in
-    let clean_mid = c.check_bytes.ensures.clean clean in
+    let clean_mid = clean_before c.check_bytes.ensures.survives clean in
     let adopted = subst (IsAdopted db) some (c.in-Ok-Some.ensures.found clean_mid) in
     let held = held_still g.S.Store old mid found.version (tables_of found adopted.0)
     (c.in-Ok-Some.ensures.same clean_mid) adopted.2 in
@@ -79,7 +80,7 @@ returns-in_err-check_bytes-clause-keeps g c clean =
     let mid = c.adopt_tables.new.conn in
     let found = c.in-Ok-Some.found in
     let some : c.in-Ok-Some.field-0 ≡ Some found = search rules in
-    let clean_mid = c.check_bytes.ensures.clean clean in
+    let clean_mid = clean_before c.check_bytes.ensures.survives clean in
     let adopted = subst (IsAdopted (state g.S.Store old).now) some
     (c.in-Ok-Some.ensures.found clean_mid) in
     let same = c.in-Ok-Some.ensures.same clean_mid in
@@ -94,7 +95,7 @@ returns-clause-keeps g c clean =
     let mid = c.adopt_tables.new.conn in
     let found = c.in-Ok-Some.found in
     let some : c.in-Ok-Some.field-0 ≡ Some found = search rules in
-    let clean_mid = c.check_bytes.ensures.clean clean in
+    let clean_mid = clean_before c.check_bytes.ensures.survives clean in
     let adopted = subst (IsAdopted (state g.S.Store old).now) some
     (c.in-Ok-Some.ensures.found clean_mid) in
     let same = c.in-Ok-Some.ensures.same clean_mid in
@@ -109,7 +110,7 @@ returns-clause-same g c clean =
     let mid = c.adopt_tables.new.conn in
     let found = c.in-Ok-Some.found in
     let some : c.in-Ok-Some.field-0 ≡ Some found = search rules in
-    let clean_mid = c.check_bytes.ensures.clean clean in
+    let clean_mid = clean_before c.check_bytes.ensures.survives clean in
     let adopted = subst (IsAdopted (state g.S.Store old).now) some
     (c.in-Ok-Some.ensures.found clean_mid) in
     let same = c.in-Ok-Some.ensures.same clean_mid in
@@ -124,7 +125,7 @@ returns-clause-open g c clean =
     let mid = c.adopt_tables.new.conn in
     let found = c.in-Ok-Some.found in
     let some : c.in-Ok-Some.field-0 ≡ Some found = search rules in
-    let clean_mid = c.check_bytes.ensures.clean clean in
+    let clean_mid = clean_before c.check_bytes.ensures.survives clean in
     let adopted = subst (IsAdopted (state g.S.Store old).now) some
     (c.in-Ok-Some.ensures.found clean_mid) in
     let same = c.in-Ok-Some.ensures.same clean_mid in
@@ -141,7 +142,7 @@ returns-clause-kept g c clean =
     let db = (state g.S.Store old).now in
     let found = c.in-Ok-Some.found in
     let some : c.in-Ok-Some.field-0 ≡ Some found = search rules in
-    let clean_mid = c.check_bytes.ensures.clean clean in
+    let clean_mid = clean_before c.check_bytes.ensures.survives clean in
     let adopted = subst (IsAdopted db) some (c.in-Ok-Some.ensures.found clean_mid) in
     let t = tables_of found adopted.0 in
     let held = held_still g.S.Store old mid found.version t (c.in-Ok-Some.ensures.same clean_mid)
@@ -182,7 +183,7 @@ returns-in_err-drafts-clause-none g c clean =
     let db = (state g.S.Store old).now in
     let found = c.in-Ok-Some.found in
     let some : c.in-Ok-Some.field-0 ≡ Some found = search rules in
-    let clean_mid = c.check_bytes.ensures.clean clean in
+    let clean_mid = clean_before c.check_bytes.ensures.survives clean in
     let adopted = subst (IsAdopted db) some (c.in-Ok-Some.ensures.found clean_mid) in
     let t = tables_of found adopted.0 in
     let held = held_still g.S.Store old mid found.version t (c.in-Ok-Some.ensures.same clean_mid)
@@ -202,7 +203,7 @@ returns-in_err-drafts-clause-keeps g c clean =
     let mid = c.adopt_tables.new.conn in
     let found = c.in-Ok-Some.found in
     let some : c.in-Ok-Some.field-0 ≡ Some found = search rules in
-    let clean_mid = c.check_bytes.ensures.clean clean in
+    let clean_mid = clean_before c.check_bytes.ensures.survives clean in
     let adopted = subst (IsAdopted (state g.S.Store old).now) some
     (c.in-Ok-Some.ensures.found clean_mid) in
     let same = c.in-Ok-Some.ensures.same clean_mid in

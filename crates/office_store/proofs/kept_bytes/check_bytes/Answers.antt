@@ -6,6 +6,7 @@ use Rattle.office_tables.specs.declared.batch.BatchCountsRow.{BatchCountsRow}
 use Rattle.office_records.specs.FoundBatches.{IsShort}
 use Rattle.office_records.proofs.BatchRowLemmas.{no_row, short_by_rows}
 use Rattle.office_records.proofs.PlacedSeatLemmas.{pushed}
+use Rattle.office_store.proofs.RunLemmas.{clean_before}
 use Rattle.office_store.proofs.AdoptLemmas.{held_still, keeps_still, kept_by, same_then}
 use Rattle.office_store.proofs.LeavingLemmas.{survives_on, survives_same}
 use Rattle.sqlite.specs.Held.{state}
@@ -27,17 +28,17 @@ batches-preserved g c =
     let mid = c.batches.conn in
     let new = c.check_batch.new.conn in
     record {
-      clean = λ clean. before.clean (c.check_batch.ensures.clean clean);
+      clean = λ clean. before.clean (clean_before c.check_batch.ensures.survives clean);
       survives = survives_on (state g.S.Store old) (state g.S.Store mid) (state g.S.Store new)
           before.survives c.check_batch.ensures.survives;
       mode = λ rests. c.check_batch.ensures.mode (before.mode rests);
       same = λ clean version t held.
-          let same = before.same (c.check_batch.ensures.clean clean) version t held in
+          let same = before.same (clean_before c.check_batch.ensures.survives clean) version t held in
           same_then g.S.Store old mid new same
           (c.in_ok-check_batch.ensures.same clean version t
           (held_still g.S.Store old mid version t same held));
       short = λ clean version t held.
-          let clean_mid = c.check_batch.ensures.clean clean in
+          let clean_mid = clean_before c.check_batch.ensures.survives clean in
           let same = before.same clean_mid version t held in
           pushed (λ (row : BatchCountsRow).
           AllByRecursion IsShort (filter (λ (b : Batch). eqb b.no row.no) t.batch))
@@ -49,14 +50,14 @@ batches-preserved g c =
 
 pub returns-in_err-check_batch-clause-long : goal.returns-in_err-check_batch-clause-long
 returns-in_err-check_batch-clause-long g c clean version t held =
-    let same = c.batches.invariant.same (c.check_batch.ensures.clean clean) version t held in
+    let same = c.batches.invariant.same (clean_before c.check_batch.ensures.survives clean) version t held in
     let is : c.from_residual.result ≡ Err c.in_err-check_batch.field-0.0 = search rules in
     rw is (c.in_err-check_batch.ensures.long clean version t
     (held_still g.S.Store c.args.conn.now c.batches.conn version t same held))
 
 pub returns-in_err-check_batch-clause-kept : goal.returns-in_err-check_batch-clause-kept
 returns-in_err-check_batch-clause-kept g c version clean t held =
-    let same = c.batches.invariant.same (c.check_batch.ensures.clean clean) version t held in
+    let same = c.batches.invariant.same (clean_before c.check_batch.ensures.survives clean) version t held in
     keeps_still g.S.Store c.args.conn.now c.batches.conn c.check_batch.new.conn same
     (c.check_batch.ensures.kept version clean t
     (held_still g.S.Store c.args.conn.now c.batches.conn version t same held))

@@ -3,6 +3,7 @@ use Rattle.office_model.specs.declared.fault.StoreFault.TheVariants.{Store}
 use Rattle.sqlite.specs.Held.{state}
 use Rattle.sqlite.specs.State.{IsUnchanged}
 use Rattle.office_tables.specs.declared.version.Version.TheVariants.{Two}
+use Rattle.office_store.proofs.RunLemmas.{clean_before}
 use Rattle.office_store.proofs.AdoptLemmas.{awake_still, held_still, may_migrate, one_version}
 use Rattle.office_store.proofs.AdoptLemmas.{taken_over, undone_after, undone_reading}
 use Rattle.office_store.proofs.office.Office.adopt.Goals as goal
@@ -21,7 +22,7 @@ bring_up-requires g c = record {
 pub returns-in-Ok-bring_up-clause-adopted : goal.returns-in-Ok-bring_up-clause-adopted
 returns-in-Ok-bring_up-clause-adopted g c clean =
     let old = c.args.conn in
-    let clean_mid = c.bring_up.ensures.clean clean in
+    let clean_mid = clean_before c.bring_up.ensures.survives clean in
     let is = c.in-Ok.ensures.kept clean_mid in
     taken_over (state g.S.Store old).now _ _ _ is
     (c.in-Ok-bring_up.ensures.tables clean is.batches
@@ -33,7 +34,7 @@ invariant_of-result g c = (
   c.bring_up.ensures.rests,
   λ clean opened.
       let old = c.args.conn in
-      let clean_mid = c.bring_up.ensures.clean clean in
+      let clean_mid = clean_before c.bring_up.ensures.survives clean in
       let is = c.in-Ok.ensures.kept clean_mid in
       let taken = taken_over (state g.S.Store old).now _ _ _ is
       (c.in-Ok-bring_up.ensures.tables clean is.batches
@@ -47,7 +48,7 @@ invariant_of-result g c = (
 pub returns-in-Ok-bring_up-clause-same : goal.returns-in-Ok-bring_up-clause-same
 returns-in-Ok-bring_up-clause-same g c clean schema =
     let old = c.args.conn in
-    let clean_mid = c.bring_up.ensures.clean clean in
+    let clean_mid = clean_before c.bring_up.ensures.survives clean in
     let is = c.in-Ok.ensures.kept clean_mid in
     let version = one_version (state g.S.Store old).now _ Two is.tables.schema schema in
     subst (λ h. (h ≡ old) ⊎ IsUnchanged (state g.S.Store old) (state g.S.Store h))
@@ -56,14 +57,14 @@ returns-in-Ok-bring_up-clause-same g c clean schema =
 pub returns-in-Ok-bring_up-clause-leaves : goal.returns-in-Ok-bring_up-clause-leaves
 returns-in-Ok-bring_up-clause-leaves g c = record {
   all_committed = λ clean.
-      let clean_mid = c.bring_up.ensures.clean clean in
+      let clean_mid = clean_before c.bring_up.ensures.survives clean in
       c.in-Ok-bring_up.ensures.all_committed clean
       (awake_still g.S.Store c.args.conn c.found_office.new.conn (c.in-Ok.ensures.same clean_mid)
       (c.is_autocommit.ensures.settled c.if-not-is_autocommit.false)
       (c.in-Ok.ensures.open clean_mid));
   survives = may_migrate g.S.Store c.args.conn c.found_office.new.conn c.bring_up.new.conn _ _
       (Ok c.bring_up.new.conn) tt
-      c.bring_up.ensures.clean c.in-Ok.ensures.same c.in-Ok.ensures.kept
+      (clean_before c.bring_up.ensures.survives) c.in-Ok.ensures.same c.in-Ok.ensures.kept
       c.found_office.ensures.survives c.bring_up.ensures.survives;
 }
 
@@ -72,14 +73,14 @@ returns-clause-leaves g c = record {
   all_committed = search rules;
   survives = may_migrate g.S.Store c.args.conn c.found_office.new.conn c.bring_up.new.conn _ _
       (Err (Store, c.bring_up.new.conn)) refl
-      c.bring_up.ensures.clean c.in-Ok.ensures.same c.in-Ok.ensures.kept
+      (clean_before c.bring_up.ensures.survives) c.in-Ok.ensures.same c.in-Ok.ensures.kept
       c.found_office.ensures.survives c.bring_up.ensures.survives;
 }
 
 pub returns-clause-undone : goal.returns-clause-undone
 returns-clause-undone g c =
     inr (λ clean. undone_after g.S.Store c.args.conn c.found_office.new.conn c.bring_up.new.conn
-    (c.in-Ok.ensures.same (c.bring_up.ensures.clean clean))
+    (c.in-Ok.ensures.same (clean_before c.bring_up.ensures.survives clean))
     (c.in-Err-bring_up.ensures.undone clean))
 
 pub returns-in-Err-clause-no_office : goal.returns-in-Err-clause-no_office
