@@ -67,7 +67,7 @@ err_answered (Err answer) f is = is
 
 -- ---- refusals
 
-is_refusal : (f : StoreFault) → IsRefusal (refusal f)
+pub is_refusal : (f : StoreFault) → IsRefusal (refusal f)
 is_refusal Store = tt
 is_refusal BadSchema = tt
 is_refusal f = tt

@@ -9,7 +9,7 @@ use Rattle.office_policy.specs.declared.command.Body.{Body}
 use Rattle.office_policy.specs.declared.command.Body.TheVariants.{Given, Bad, Long}
 use Rattle.office_model.specs.Answers.{PlainAnswer, bad_body, long_body, unavailable}
 use Rattle.office_model.specs.Office.{OfficeState}
-use Rattle.office_model.specs.Step.{Outcome, permitted_outcome}
+use Rattle.office_model.specs.Step.{Outcome, Steps, permitted_outcome}
 use Rattle.office_store.specs.Running.{IsCommitted, Represents}
 use Rattle.office_desk.specs.Answers.{IsRefusal, plain_answer}
 use Rattle.office_desk.specs.declared.answer.Answer.{Answer}
@@ -41,6 +41,18 @@ abbrev pub CommandPerformed : {S : Type 0} → Ghosts S → Caller → PlainComm
     → Result Answer Answer → Type 0
 CommandPerformed store caller command old new result =
     OutcomeAnswered store (λ office. permitted_outcome office caller command) old new result
+
+-- assuming the disk returns what was written, a command is one step of the office that the file
+-- represents; if it isn't refused, the database is open, and all writes are committed
+pub record CommandAnswered {S : Type 0} (store : Ghosts S) (caller : Caller) (command : PlainCommand)
+    (old new : Held S) (final_answer : PlainAnswer) : Type 0 where
+  pub clean : HasCleanDisk (state store new) → HasCleanDisk (state store old)
+  pub step : HasCleanDisk (state store new) → (office : OfficeState)
+      → Represents (state store old) office
+      → (next : OfficeState) × Steps office caller command final_answer next
+      × Represents (state store new) next
+  pub all_committed : HasCleanDisk (state store new)
+      → IsRefusal final_answer ⊎ IsCommitted (state store new)
 
 -- `Ok` is the value of the body; `Err` is the answer to a faulty or too long body
 abbrev pub IsBodyOrAnswer : {A : Type 0} → Body A → Result A Answer → Type 0

@@ -3,12 +3,10 @@ ghost use Rattle.std.specs.Prelude.{◌≡◌, ◌⊎◌, IfErr, IfOk, MatchBool
 ghost use Rattle.sqlite.specs.Held.{state};
 ghost use Rattle.sqlite.specs.State.{HasCleanDisk};
 ghost use Rattle.office_policy.specs.Commands.{HasSmallNumbers, plain_command};
-ghost use Rattle.office_model.specs.Office.{OfficeState};
-ghost use Rattle.office_model.specs.Step.{Steps};
-ghost use Rattle.office_store.specs.Running.{IsCommitted, StateUnchanged, Represents};
+ghost use Rattle.office_store.specs.Running.{IsCommitted, OfficeUnchanged};
 ghost use Rattle.office_store.specs.Shut.{IsShut};
-ghost use Rattle.office_desk.specs.Answers.{IsRefusal, plain_answer};
-ghost use Rattle.office_desk.specs.Performing.{CommandPerformed, answer_of};
+ghost use Rattle.office_desk.specs.Answers.{plain_answer};
+ghost use Rattle.office_desk.specs.Performing.{CommandAnswered, CommandPerformed, answer_of};
 
 use crate::answer::Answer;
 use crate::candidates::{candidate, me, my_exam, my_penalty};
@@ -61,16 +59,9 @@ impl<S: Alter> Desk<S> {
         requires { HasSmallNumbers (plain_command command.now) }
         // Assuming the disk returns what was written, this is one step of the office; or the answer
         // is `Unavailable`, and the office is unchanged.
-        ensures runs { HasCleanDisk (state S.Store self.new) → (office : OfficeState)
-            → Represents (state S.Store self.old) office
-            → (new : OfficeState)
-            × Steps office caller (plain_command command.now) (plain_answer result) new
-            × Represents (state S.Store self.new) new }
         // After a command that isn't refused the database is open, and all writes are committed.
-        ensures all_committed { HasCleanDisk (state S.Store self.new)
-            → IsRefusal (plain_answer result) ⊎ IsCommitted (state S.Store self.new) }
-        ensures clean { HasCleanDisk (state S.Store self.new)
-            → HasCleanDisk (state S.Store self.old) }
+        ensures { CommandAnswered S.Store caller (plain_command command.now) self.old self.new
+            (plain_answer result) }
     {
         let asking = caller;
         match permission(&mut self.office, alloc, asking, command) {
@@ -85,11 +76,8 @@ impl<S: Alter> Desk<S> {
         ensures shut { HasCleanDisk (state S.Store self.new) → IfOk result (λ is_shut.
             MatchBool is_shut (IsShut (state S.Store self.new))
             (IsCommitted (state S.Store self.new))) }
-        ensures unchanged { HasCleanDisk (state S.Store self.new)
-            → StateUnchanged (state S.Store self.old) (state S.Store self.new) }
+        ensures unchanged { OfficeUnchanged S.Store self.old self.new }
         ensures fault { IfErr result (λ e. e ≡ StoreFault.Store) }
-        ensures clean { HasCleanDisk (state S.Store self.new)
-            → HasCleanDisk (state S.Store self.old) }
     {
         self.office.is_shut()
     }

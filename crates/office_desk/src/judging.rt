@@ -1,9 +1,8 @@
 // What the policy says about a command in the office's current state.
 ghost use Rattle.sqlite.specs.Held.{state};
-ghost use Rattle.sqlite.specs.State.{HasCleanDisk};
 ghost use Rattle.office_policy.specs.Commands.{plain_command};
 ghost use Rattle.office_model.specs.Step.{allowed_in};
-ghost use Rattle.office_store.specs.Running.{QueryReturned};
+ghost use Rattle.office_store.specs.Running.{CallRan, QueryOutcome, Represents};
 
 use exam_terms::DeptNo;
 use office_policy::{Caller, Command, Denial, Kind, allowed};
@@ -19,10 +18,9 @@ pub(crate) fn permission<S: Alter>(
     caller: Caller,
     command: &Command<'_>,
 ) -> Result<Result<(), Denial>, StoreFault>
-    ensures reads { QueryReturned S.Store (λ o. allowed_in o caller (plain_command command.now))
-        office.old office.new result }
-    ensures clean { HasCleanDisk (state S.Store office.new)
-        → HasCleanDisk (state S.Store office.old) }
+    ensures { CallRan S.Store office.old office.new (λ o.
+        QueryOutcome (allowed_in o caller (plain_command command.now)) o
+        (Represents (state S.Store office.new)) result) }
 {
     match caller {
         Caller::Dept(dept) => permission_by_owners(office, alloc, dept, command),
@@ -38,11 +36,9 @@ fn permission_by_owners<S: Alter>(
     dept: DeptNo,
     command: &Command<'_>,
 ) -> Result<Result<(), Denial>, StoreFault>
-    ensures reads { QueryReturned S.Store
-        (λ o. allowed_in o (Caller.Dept dept) (plain_command command.now))
-        office.old office.new result }
-    ensures clean { HasCleanDisk (state S.Store office.new)
-        → HasCleanDisk (state S.Store office.old) }
+    ensures { CallRan S.Store office.old office.new (λ o.
+        QueryOutcome (allowed_in o (Caller.Dept dept) (plain_command command.now)) o
+        (Represents (state S.Store office.new)) result) }
 {
     let caller = Caller::Dept(dept);
     let Kind::Editing(a, b) = command.kind() else {
