@@ -20,7 +20,7 @@ use Rattle.office_http.specs.Replying.{Answered}
 use Rattle.office_http.specs.Serving.{LeadsOffice}
 use Rattle.office_http.specs.Transcripts.{Entry, RepliesOwnView, transcript}
 use Rattle.office_http.proofs.IsolationLemmas.{Sees, all_alike, all_by_view, both_all, each_by_view, quiet_each, quiet_end}
-use Rattle.office_http.proofs.ServingLemmas.{serves_clean, serves_front_leads, serves_leads}
+use Rattle.office_http.proofs.ServingLemmas.{serves_front_leads, serves_leads}
 
 All-left : {X : Type 0} (P : X → Type 0) (xs ys : List X) → All P (xs ++ ys) → All P xs
 All-left P [] ys all = All-nil P
@@ -34,14 +34,6 @@ All-right P (x ∷ xs) ys all = All-right P xs ys (All-tail P x (xs ++ ys) all)
 -- ---- the office serves what the desk serves
 
 module _ {S : Type 0} (store : Ghosts S) where
-  -- a disk that is clean after connections was clean before them
-  pub visits_clean : (vs : List Visit) (old new : Held S) → ServesVisits (Answered store) vs old new
-      → HasCleanDisk (state store new) → HasCleanDisk (state store old)
-  visits_clean [] old new is clean = subst (λ h. HasCleanDisk (state store h)) is clean
-  visits_clean (v ∷ vs) old new (mid, served, rest) clean =
-      serves_clean store v.input v.before v.after old mid v.ended served.0 served.1
-      (visits_clean vs mid new rest clean)
-
   ended_leads : (ended : Result Served ServeFault) (input before after : Option (List ℕ))
       (old new : Held S)
       → IfOk ended (λ served. Serves (Answered store) input before after old new served)
@@ -54,13 +46,21 @@ module _ {S : Type 0} (store : Ghosts S) where
 
   pub visits_lead : (vs : List Visit) (old new : Held S) → ServesVisits (Answered store) vs old new
       → LeadsOffice store (ServesAll vs) old new
-  visits_lead [] old new is = λ clean office now.
-      (office, refl, subst (λ h. Represents (state store h) office) (sym is) now)
-  visits_lead (v ∷ vs) old new (mid, served, rest) = λ clean office now.
-      let here = ended_leads v.ended v.input v.before v.after old mid served.0 served.1
-      (visits_clean vs mid new rest clean) office now in
-      let later = visits_lead vs mid new rest clean here.0 here.2 in
-      (later.0, (here.0, here.1, later.1), later.2)
+  visits_lead [] old new is = record {
+    clean = subst (λ h. HasCleanDisk (state store h)) is;
+    runs = λ clean office now.
+        (office, refl, subst (λ h. Represents (state store h) office) (sym is) now);
+  }
+  visits_lead (v ∷ vs) old new (mid, served, rest) =
+      let first = ended_leads v.ended v.input v.before v.after old mid served.0 served.1 in
+      let last = visits_lead vs mid new rest in
+      record {
+        clean = λ clean. first.clean (last.clean clean);
+        runs = λ clean office now.
+            let here = first.runs (last.clean clean) office now in
+            let later = last.runs clean here.0 here.2 in
+            (later.0, (here.0, here.1, later.1), later.2);
+      }
 
 -- ---- each candidate gets the text of their view
 
@@ -92,9 +92,14 @@ all_given_trace (v ∷ vs) old new (mid, served, rest) =
 
 pub visits_by_view : {S : Type 0} (store : Ghosts S) (vs : List Visit) (old new : Held S)
     → ServesVisits (Answered store) vs old new → LeadsOffice store (ServesAllByView vs) old new
-visits_by_view store vs old new served = λ clean office now.
-    let led = visits_lead store vs old new served clean office now in
-    (led.0, (led.1, all_given_trace vs office led.0 led.1), led.2)
+visits_by_view store vs old new served =
+    let leads = visits_lead store vs old new served in
+    record {
+      clean = leads.clean;
+      runs = λ clean office now.
+          let led = leads.runs clean office now in
+          (led.0, (led.1, all_given_trace vs office led.0 led.1), led.2);
+    }
 
 -- ---- if others' messages are quiet for the candidate
 

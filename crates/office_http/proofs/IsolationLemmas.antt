@@ -361,10 +361,13 @@ by_view : {S : Type 0} (store : Ghosts S) (input before after : Option (List ℕ
     → IfOk result (λ served. LeadsOffice store
     (λ office next. ServesByView input before after office next served) old new)
 by_view store input before after old new (Err fault) h = tt
-by_view store input before after old new (Ok served) h = λ clean office now.
-    let run = h clean office now in
-    let trace = each_by_view (run.1).items office run.0 (run.1).output (run.1).trace in
-    (run.0, (run.1, trace), run.2)
+by_view store input before after old new (Ok served) h = record {
+  clean = h.clean;
+  runs = λ clean office now.
+      let run = h.runs clean office now in
+      let trace = each_by_view (run.1).items office run.0 (run.1).output (run.1).trace in
+      (run.0, (run.1, trace), run.2);
+}
 
 pub serves_by_view : {S : Type 0} (store : Ghosts S) (input before after : Option (List ℕ))
     (old new : Held S) (result : Result Served ServeFault)

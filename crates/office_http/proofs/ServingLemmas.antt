@@ -52,19 +52,22 @@ module _ {S : Type 0} (store : Ghosts S) where
         → IfOk result (λ served. LeadsOffice store
         (λ office next. Serves Replies input before after office next served) old new)
     serves_leads (Err fault) x = tt
-    serves_leads (Ok served) x = λ clean office now.
-        let run = trace_leads x.items old x.output new x.trace clean office now in (
-          run.0,
-          record {
-            items = x.items;
-            output = x.output;
-            messages = x.messages;
-            trace = run.1;
-            count = x.count;
-            written = x.written;
-          },
-          run.2,
-        )
+    serves_leads (Ok served) x = record {
+      clean = trace_clean x.items old x.output new x.trace;
+      runs = λ clean office now.
+          let run = trace_leads x.items old x.output new x.trace clean office now in (
+            run.0,
+            record {
+              items = x.items;
+              output = x.output;
+              messages = x.messages;
+              trace = run.1;
+              count = x.count;
+              written = x.written;
+            },
+            run.2,
+          );
+    }
 
     -- no write of a reply failed
     whole_front : (items : List Item) (output : List ℕ) → IfSome input (Begins items 0)
@@ -72,38 +75,46 @@ module _ {S : Type 0} (store : Ghosts S) where
         → LeadsOffice store (λ office next. (its : List Item) × (out : List ℕ)
         × IfSome input (Begins its 0) × AnswersItems Replies its office out next
         × Appends before after out) old new
-    whole_front items output begins trace written = λ clean office now.
-        let run = trace_leads items old output new trace clean office now in
-        (run.0, (items, output, begins, run.1, written), run.2)
+    whole_front items output begins trace written = record {
+      clean = trace_clean items old output new trace;
+      runs = λ clean office now.
+          let run = trace_leads items old output new trace clean office now in
+          (run.0, (items, output, begins, run.1, written), run.2);
+    }
 
     broken_front : (items : List Item) (output : List ℕ) → IfSome input (Begins items 0)
         → WriterFailed (Answered store) input before after items output old new
         → LeadsOffice store (AnswersFront input before after Write) old new
-    broken_front items output begins x = λ clean office now.
-        let kept = trace_clean (x.last ∷ []) x.mid (x.sent ++ x.unsent) new x.last_trace clean in
-        let first = trace_leads x.whole old x.front x.mid x.trace kept office now in
-        let last = trace_leads (x.last ∷ []) x.mid
-        (x.sent ++ x.unsent) new x.last_trace clean first.0 first.2 in (
-          last.0,
-          (
-            items,
-            output,
-            begins,
-            record {
-              whole = x.whole;
-              front = x.front;
-              mid = first.0;
-              trace = first.1;
-              last = x.last;
-              sent = x.sent;
-              unsent = x.unsent;
-              last_trace = last.1;
-              next = x.next;
-              written = x.written;
-            },
-          ),
-          last.2,
-        )
+    broken_front items output begins x = record {
+      clean = λ clean. trace_clean x.whole old x.front x.mid x.trace (kept clean);
+      runs = λ clean office now.
+          let first = trace_leads x.whole old x.front x.mid x.trace (kept clean) office now in
+          let last = trace_leads (x.last ∷ []) x.mid
+          (x.sent ++ x.unsent) new x.last_trace clean first.0 first.2 in (
+            last.0,
+            (
+              items,
+              output,
+              begins,
+              record {
+                whole = x.whole;
+                front = x.front;
+                mid = first.0;
+                trace = first.1;
+                last = x.last;
+                sent = x.sent;
+                unsent = x.unsent;
+                last_trace = last.1;
+                next = x.next;
+                written = x.written;
+              },
+            ),
+            last.2,
+          );
+    }
+      where
+        kept : HasCleanDisk (state store new) → HasCleanDisk (state store x.mid)
+        kept = trace_clean (x.last ∷ []) x.mid (x.sent ++ x.unsent) new x.last_trace
 
     front_leads : (fault : ServeFault)
         → ServesFront (Answered store) input before after old new fault
@@ -121,11 +132,3 @@ module _ {S : Type 0} (store : Ghosts S) where
         → IfErr result (λ fault. LeadsOffice store (AnswersFront input before after fault) old new)
     serves_front_leads (Ok served) x = tt
     serves_front_leads (Err fault) x = front_leads fault x
-
-    -- a disk that is clean at the end was clean before
-    pub serves_clean : (result : Result Served ServeFault)
-        → IfOk result (λ served. Serves (Answered store) input before after old new served)
-        → IfErr result (λ fault. ServesFront (Answered store) input before after old new fault)
-        → HasCleanDisk (state store new) → HasCleanDisk (state store old)
-    serves_clean (Ok served) x y = trace_clean x.items old x.output new x.trace
-    serves_clean (Err fault) x y = trace_clean y.items old y.output new y.trace

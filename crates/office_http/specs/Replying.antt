@@ -50,16 +50,22 @@ IsDone status.Done = Unit {0}
 IsDone status.Created = Unit {0}
 IsDone other = ⊥
 
--- assuming the disk returns what was written, the office that the file represents gives this reply;
--- if the request was done, the store is open and all writes are committed
-pub record Answered {S : Type 0} (store : Ghosts S) (old : Held S) (request : PlainRequest)
-    (reply : PlainReply) (new : Held S) : Type 0 where
+-- assuming the disk returns what was written, the office that the file represents gives this reply
+-- to what a message asks; if that was done, the store is open and all writes are committed
+pub record AnsweredTo {S : Type 0} (store : Ghosts S) (old : Held S)
+    (asked : Result PlainCallerCommand Refusal) (reply : PlainReply) (new : Held S) : Type 0 where
   pub clean : HasCleanDisk (state store new) → HasCleanDisk (state store old)
   pub step : HasCleanDisk (state store new) → (office : OfficeState)
       → Represents (state store old) office
-      → (next : OfficeState) × Replies office request reply next × Represents (state store new) next
+      → (next : OfficeState) × RepliesTo asked office reply next × Represents (state store new) next
   pub all_committed : HasCleanDisk (state store new) → IsDone reply.status
       → IsCommitted (state store new)
+
+-- the same, to a request
+abbrev pub Answered : {S : Type 0} → Ghosts S → Held S → PlainRequest → PlainReply → Held S → Type 0
+Answered store old request reply new =
+    AnsweredTo store old
+    (command_or_refusal request.method request.target request.caller request.body) reply new
 
 -- ---- candidates
 

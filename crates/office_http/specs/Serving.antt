@@ -2,7 +2,6 @@
 use Rattle.std.specs.Prelude.{ℕ, List, Option, IfSome}
 use Rattle.std.specs.Io.KnownBytes.{Appends}
 use Rattle.sqlite.specs.Held.{Held, state}
-use Rattle.sqlite.specs.State.{HasCleanDisk}
 use Rattle.sqlite.specs.Store.{Ghosts}
 use Rattle.office_messages.specs.Messages.{Item, Begins}
 use Rattle.office_messages.specs.Serve.{WriterFailed, AnswersItems}
@@ -10,7 +9,7 @@ use Rattle.office_messages.specs.declared.connection.ServeFault.{ServeFault}
 use Rattle.office_messages.specs.declared.connection.ServeFault.TheVariants.{Write}
 use Rattle.office_model.specs.Office.{OfficeState}
 use Rattle.office_http.specs.Replying.{Replies}
-use Rattle.office_store.specs.Running.{Represents}
+use Rattle.office_store.specs.Running.{CallRan, Represents}
 
 -- the first messages of the stream were answered, with the replies of the office; if the writer
 -- failed, all replies but the last were written whole, and the last command is done too
@@ -27,6 +26,5 @@ AnswersFront input before after fault old new =
 -- for each office that it represented before
 abbrev pub LeadsOffice : {S : Type 0} → Ghosts S → (OfficeState → OfficeState → Type 0)
     → Held S → Held S → Type 0
-LeadsOffice store LeadsTo old new =
-    HasCleanDisk (state store new) → (office : OfficeState) → Represents (state store old) office
-    → (next : OfficeState) × LeadsTo office next × Represents (state store new) next
+LeadsOffice store LeadsTo old new = CallRan store old new (λ office.
+    (next : OfficeState) × LeadsTo office next × Represents (state store new) next)

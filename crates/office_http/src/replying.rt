@@ -5,10 +5,10 @@ ghost use Rattle.sqlite.specs.State.{HasCleanDisk};
 ghost use Rattle.office_policy.specs.Commands.{HasSmallNumbers, plain_command};
 ghost use Rattle.office_requests.specs.Requests.{plain_caller_command};
 ghost use Rattle.office_model.specs.Office.{OfficeState};
-ghost use Rattle.office_store.specs.Running.{IsCommitted, Represents};
+ghost use Rattle.office_store.specs.Running.{Represents};
 ghost use Rattle.office_messages.specs.Heads.{plain_request};
 ghost use Rattle.office_messages.specs.Reply.{plain_reply};
-ghost use Rattle.office_http.specs.Replying.{Answered, IsDone, RepliesTo, RepliesCandidateView};
+ghost use Rattle.office_http.specs.Replying.{Answered, AnsweredTo, RepliesCandidateView};
 
 use crate::answers::answer_reply;
 use office_desk::Desk;
@@ -46,15 +46,8 @@ pub fn reply<S: Alter>(
 // Returns the reply to a command. The room for it is allocated before anything is done.
 fn command_reply<S: Alter>(alloc: Global, desk: &mut Desk<S>, asked: &CallerCommand<'_>) -> Reply
     requires { HasSmallNumbers (plain_command asked.now.command) }
-    ensures step { HasCleanDisk (state S.Store desk.new) → (office : OfficeState)
-        → Represents (state S.Store desk.old) office
-        → (next : OfficeState)
-        × RepliesTo (Ok (plain_caller_command asked.now)) office (plain_reply result) next
-        × Represents (state S.Store desk.new) next }
-    ensures all_committed { HasCleanDisk (state S.Store desk.new)
-        → IsDone (plain_reply result).status → IsCommitted (state S.Store desk.new) }
-    ensures clean { HasCleanDisk (state S.Store desk.new)
-        → HasCleanDisk (state S.Store desk.old) }
+    ensures { AnsweredTo S.Store desk.old (Ok (plain_caller_command asked.now))
+        (plain_reply result) desk.new }
 {
     let Ok(room) = reply_room(alloc) else {
         return unavailable();

@@ -1,7 +1,5 @@
 // Serving one connection.
 ghost use Rattle.std.specs.Prelude.{◌≡◌, ◌≤◌, IfErr, IfOk};
-ghost use Rattle.sqlite.specs.Held.{state};
-ghost use Rattle.sqlite.specs.State.{HasCleanDisk};
 ghost use Rattle.office_messages.specs.Serve.{Serves};
 ghost use Rattle.office_http.specs.Transcripts.{ServesByView};
 ghost use Rattle.office_http.specs.Replying.{Replies};
@@ -59,7 +57,6 @@ pub fn serve<R: Read, W: Write, S: Alter>(
     ensures err { IfErr result (λ fault. LeadsOffice S.Store
         (AnswersFront (R.remaining reader.old) (W.contents writer.old) (W.contents writer.new)
         fault) desk.old desk.new) }
-    ensures clean { HasCleanDisk (state S.Store desk.new) → HasCleanDisk (state S.Store desk.old) }
     ensures spent { IfErr result (λ fault. fault ≡ ServeFault.TooMany → turns.new ≡ 0) }
     ensures turns { turns.new ≤ turns.old }
 {

@@ -3,7 +3,7 @@ use Rattle.office_messages.specs.Heads.{plain_request}
 use Rattle.office_messages.specs.Reply.{PlainReply, plain_reply}
 use Rattle.office_requests.specs.Requests.{command_or_refusal}
 use Rattle.office_requests.specs.Answering.{ReturnsCallerCommand}
-use Rattle.office_http.specs.Replying.{RepliesTo}
+use Rattle.office_http.specs.Replying.{AnsweredTo, RepliesTo}
 use Rattle.office_http.proofs.AnswerLemmas.{refused}
 use Rattle.office_http.proofs.CandidateLemmas.{replies_view}
 use Rattle.office_http.proofs.DoneLemmas.{not_unread}
@@ -37,6 +37,16 @@ returns-in-Err-clause-view g c = λ clean office now.
     (subst (λ (r : PlainReply). RepliesTo said office r office) (sym c.reply.ensures)
     (refused said c.in-Err.refusal office
     (subst (λ r. ReturnsCallerCommand said r) c.in-Err.is c.read_request.ensures.command)))
+
+pub returns-in-Ok-clause-answered : goal.returns-in-Ok-clause-answered
+returns-in-Ok-clause-answered g c =
+    let request = c.args.request.now in
+    let said = command_or_refusal request.method.now request.target.now (option_copied request.caller)
+    request.body.now in
+    subst (λ asked. AnsweredTo g.S.Store c.args.desk.now asked
+    (plain_reply c.command_reply.result) c.command_reply.new.desk)
+    (sym (subst (λ r. ReturnsCallerCommand said r) c.in-Ok.is c.read_request.ensures.command))
+    c.command_reply.ensures
 
 pub returns-in-Ok-clause-view : goal.returns-in-Ok-clause-view
 returns-in-Ok-clause-view g c = λ clean office now.

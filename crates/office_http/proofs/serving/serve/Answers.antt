@@ -1,7 +1,7 @@
 use Rattle.office_messages.proofs.RunLemmas.{lent_serves, lent_serves_front}
 use Rattle.office_http.specs.Replying.{Answered}
 use Rattle.office_http.proofs.IsolationLemmas.{serves_by_view}
-use Rattle.office_http.proofs.ServingLemmas.{serves_leads, serves_front_leads, serves_clean}
+use Rattle.office_http.proofs.ServingLemmas.{serves_leads, serves_front_leads}
 use Rattle.office_http.proofs.serving.serve.Goals as goal
 
 pub returns-clause-ok : goal.returns-clause-ok
@@ -19,13 +19,5 @@ returns-clause-view g c =
 pub returns-clause-err : goal.returns-clause-err
 returns-clause-err g c =
     serves_front_leads g.S.Store _ _ _ _ _ c.serve.result
-    (lent_serves_front (λ m. m.desk.ghost_name) (λ m. m.desk.now) (Answered g.S.Store) _ _ _ _ _ _
-    c.desk-1.given.1 c.serve.result c.serve.ensures.err)
-
-pub returns-clause-clean : goal.returns-clause-clean
-returns-clause-clean g c =
-    serves_clean g.S.Store _ _ _ _ _ c.serve.result
-    (lent_serves (λ m. m.desk.ghost_name) (λ m. m.desk.now) (Answered g.S.Store) _ _ _ _ _ _
-    c.desk-1.given.1 c.serve.result c.serve.ensures.ok)
     (lent_serves_front (λ m. m.desk.ghost_name) (λ m. m.desk.now) (Answered g.S.Store) _ _ _ _ _ _
     c.desk-1.given.1 c.serve.result c.serve.ensures.err)
