@@ -16,14 +16,14 @@ use Rattle.office_connections.proofs.ClientLemmas.{visits_keep}
 use Rattle.office_http.specs.Clients.{ServesAllByView}
 use Rattle.office_http.specs.Replying.{Answered, IsDone}
 use Rattle.office_http.specs.Transcripts.{RepliesOwnView}
-use Rattle.office_http.proofs.ClientLemmas.{visits_by_view, visits_clean}
+use Rattle.office_http.proofs.ClientLemmas.{visits_by_view}
 use Rattle.office_messages.specs.Reply.{PlainReply}
 use Rattle.office_messages.specs.Stream.{PlainRequest}
 use Rattle.office_messages.specs.Visits.{Visit, ServesVisits}
 use Rattle.office_messages.proofs.RunLemmas.{Lends}
 use Rattle.office_messages.proofs.VisitLemmas.{lent_visits, visits_along}
 use Rattle.office_model.specs.Office.{OfficeState}
-use Rattle.office_store.specs.Running.{IsCommitted, StateUnchanged}
+use Rattle.office_store.specs.Running.{IsCommitted, OfficeUnchanged}
 use Rattle.office_store.proofs.RunLemmas.{now_still}
 use Rattle.office_program.specs.Serve.{IsStoreShut, LeavesPort, OfficeServes}
 use Rattle.office_program.specs.Serve.{PrintsServed, ServesTerms}
@@ -52,7 +52,10 @@ module _ {S : Type 0} (store : Ghosts S) where
       visits = [];
       theirs = theirs;
       count = refl;
-      served = λ clean office now. (office, nobody_served office, now);
+      served = record {
+        clean = λ clean. clean;
+        runs = λ clean office now. (office, nobody_served office, now);
+      };
       printed = λ none. Appends-nil errors;
     };
     all = tt;
@@ -62,16 +65,15 @@ module _ {S : Type 0} (store : Ghosts S) where
   -- a request that was answered is still answered after the check of the store
   pub answered_on : (old mid new : Held S) (request : PlainRequest) (reply : PlainReply)
       → Answered store old request reply mid → (IsDone reply.status → new ≡ mid)
-      → (HasCleanDisk (state store new) → StateUnchanged (state store mid) (state store new))
-      → (HasCleanDisk (state store new) → HasCleanDisk (state store mid))
+      → OfficeUnchanged store mid new
       → Answered store old request reply new
-  answered_on old mid new request reply x done still clean = record {
-    clean = λ k. x.clean (clean k);
+  answered_on old mid new request reply x done same = record {
+    clean = λ k. x.clean (same.clean k);
     step = λ k office now.
-        let led = x.step (clean k) office now in
-        (led.0, led.1, now_still (state store mid) (state store new) led.0 (still k) led.2);
+        let led = x.step (same.clean k) office now in
+        (led.0, led.1, now_still (state store mid) (state store new) led.0 (same.unchanged k) led.2);
     all_committed = λ k is. subst (λ h. IsCommitted (state store h)) (sym (done is))
-        (x.all_committed (clean k) is);
+        (x.all_committed (same.clean k) is);
   }
 
   -- an answer of the machine is one of its desk, and it reports a closed store only if it is closed
@@ -105,10 +107,6 @@ module _ {S : Type 0} (store : Ghosts S) where
         clients_follow AreTheirs (ServesWhileOpen Answers is_shut) (OfficeServes store) old new
         (now old) last (λ vs run. visits_by_view store vs (now old) last (desk_visits vs run))
         service errors_old errors_new x
-
-    pub desk_clean : HasCleanDisk (state store last) → HasCleanDisk (state store (now old))
-    desk_clean =
-        visits_clean store x.visits (now old) last (desk_visits x.visits x.served)
 
     -- a store that was found closed is closed
     pub desk_shut : is_shut old ≡ false → IsTrue (is_shut new) → IsStoreShut store last

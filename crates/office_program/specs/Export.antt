@@ -1,5 +1,5 @@
 -- The effect of `export` on the office that a database represents.
-use Rattle.std.specs.Prelude.{◌≡◌, ◌<◌, ◌≤◌, List, length, ℕ, Option, Some, None, IsSome, option_map}
+use Rattle.std.specs.Prelude.{◌≡◌, ◌<◌, ◌≤◌, List, length, ℕ, Option, Some, None, Result, IfErr, IfOk, IsSome, option_map}
 use Rattle.std.specs.Io.KnownBytes.{Appends}
 use Rattle.sqlite.specs.State.{State}
 use Rattle.exam_model.specs.Instance.{Session}
@@ -32,6 +32,13 @@ RefusesExport office (fault.Store f) = f ≡ store.Store
 RefusesExport office fault.NoPublication = published_solution office ≡ None
 RefusesExport office fault.NoMemory = Unit {0}
 RefusesExport office fault.Write = (text : List ℕ) × (published_solution office ≡ Some text)
+
+-- a part of an export ended so: done, or refused; the database still represents the office
+pub record ExportRan {A : Type 0} (Done : A → Type 0) (office : OfficeState) (after : State)
+    (result : Result A ExportFault) : Type 0 where
+  pub done : IfOk result Done
+  pub refused : IfErr result (RefusesExport office)
+  pub stays : Represents after office
 
 -- a whole timetable: it has exams, and each has a place
 abbrev pub IsWhole : Placing → Type 0

@@ -1,5 +1,5 @@
 -- The effect of `load` on the office that a database represents, and what it prints.
-use Rattle.std.specs.Prelude.{◌≡◌, ℕ, ◌++◌, ◌∷◌, [], List, Option, Ok, codes, decimal}
+use Rattle.std.specs.Prelude.{◌≡◌, ℕ, ◌++◌, ◌∷◌, [], List, Option, Result, Ok, IfErr, OnOk, codes, decimal}
 use Rattle.std.specs.Io.KnownBytes.{Appends}
 use Rattle.sqlite.specs.State.{State}
 use Rattle.office_model.specs.Office.{OfficeState}
@@ -42,6 +42,14 @@ RefusesLoad text office after Write = (counts : Loaded) × IsLoaded text office 
 abbrev pub IfRefused : Type 0 → LoadFault → Type 0
 IfRefused Then (Store fault) = Then
 IfRefused Then Write = Unit {0}
+
+-- a load into an office ended so: the text is loaded and the line printed, or it was refused, and
+-- the database still represents the office
+pub record LoadRan (text : List ℕ) (office : OfficeState) (after : State)
+    (old new : Option (List ℕ)) (result : Result (Unit {0}) LoadFault) : Type 0 where
+  pub done : OnOk result (Loads text office after old new)
+  pub refused : IfErr result (RefusesLoad text office after)
+  pub stays : IfErr result (IfRefused (Represents after office))
 
 -- the fault is the first one of a text that the office refuses
 abbrev pub NamesTextFault : List ℕ → LoadFault → Type 0

@@ -1,10 +1,8 @@
 // The desk that answers the requests of `serve`.
 ghost use Rattle.std.specs.Prelude.{◌≡◌, IsTrue};
-ghost use Rattle.sqlite.specs.Held.{state};
-ghost use Rattle.sqlite.specs.State.{HasCleanDisk};
 ghost use Rattle.office_http.specs.Replying.{IsDone};
 ghost use Rattle.office_program.specs.Serve.{IsStoreShut};
-ghost use Rattle.office_store.specs.Running.{StateUnchanged};
+ghost use Rattle.office_store.specs.Running.{OfficeUnchanged};
 
 use crate::notices::{LongWork, announce};
 use office_connections::MayShut;
@@ -67,9 +65,7 @@ fn asks_to_publish(request: &Request<'_>) -> bool {
 fn is_shut_after<S: Alter>(status: Status, desk: &mut Desk<S>) -> bool
     ensures shut { IsTrue result → IsStoreShut S.Store desk.new }
     ensures done { IsDone status → desk.new ≡ desk.old }
-    ensures unchanged { HasCleanDisk (state S.Store desk.new)
-        → StateUnchanged (state S.Store desk.old) (state S.Store desk.new) }
-    ensures clean { HasCleanDisk (state S.Store desk.new) → HasCleanDisk (state S.Store desk.old) }
+    ensures unchanged { OfficeUnchanged S.Store desk.old desk.new }
 {
     match status {
         Status::Done | Status::Created => false,
@@ -80,9 +76,7 @@ fn is_shut_after<S: Alter>(status: Status, desk: &mut Desk<S>) -> bool
 // Returns whether the store is closed; false if that can't be found out.
 fn is_shut<S: Alter>(desk: &mut Desk<S>) -> bool
     ensures shut { IsTrue result → IsStoreShut S.Store desk.new }
-    ensures unchanged { HasCleanDisk (state S.Store desk.new)
-        → StateUnchanged (state S.Store desk.old) (state S.Store desk.new) }
-    ensures clean { HasCleanDisk (state S.Store desk.new) → HasCleanDisk (state S.Store desk.old) }
+    ensures unchanged { OfficeUnchanged S.Store desk.old desk.new }
 {
     match desk.is_shut() {
         Ok(is_shut) => is_shut,

@@ -7,8 +7,8 @@ ghost use Rattle.exam_model.specs.Timetable.{Placing};
 ghost use Rattle.office_files.specs.CanonicalSolution.{canonical_solution};
 ghost use Rattle.office_model.specs.Office.{OfficeState};
 ghost use Rattle.office_store.specs.Opening.{HoldsOffice};
-ghost use Rattle.office_store.specs.Running.{Represents};
-ghost use Rattle.office_program.specs.Export.{Exports, IsWhole, PrintsSolution, RefusesExport};
+ghost use Rattle.office_store.specs.Running.{CallRan};
+ghost use Rattle.office_program.specs.Export.{ExportRan, Exports, IsWhole, PrintsSolution, RefusesExport};
 ghost use Rattle.office_program.specs.Export.{published_solution};
 ghost use Rattle.office_program.specs.TaskFaults.{IsOfExport};
 
@@ -112,21 +112,14 @@ fn export_from<S: Alter, W: Write>(
     office: &mut Office<S>,
     writer: &mut W,
 ) -> Result<(), ExportFault>
-    ensures done { HasCleanDisk (state S.Store office.new) → (there : OfficeState)
-        → Represents (state S.Store office.old) there
-        → IfOk result (λ _. Exports there (state S.Store office.new)
-        (W.contents writer.old) (W.contents writer.new)) }
-    ensures refused { HasCleanDisk (state S.Store office.new) → (there : OfficeState)
-        → Represents (state S.Store office.old) there → IfErr result (RefusesExport there) }
-    ensures stays { HasCleanDisk (state S.Store office.new) → (there : OfficeState)
-        → Represents (state S.Store office.old) there
-        → Represents (state S.Store office.new) there }
+    ensures ran { CallRan S.Store office.old office.new (λ there. ExportRan
+        (λ _. Exports there (state S.Store office.new)
+        (W.contents writer.old) (W.contents writer.new))
+        there (state S.Store office.new) result) }
     ensures printed { IfOk result (λ _.
         PrintsSolution (W.contents writer.old) (W.contents writer.new)) }
     ensures unwritten { IfErr result (λ fault. fault ≢ ExportFault.Write
         → Keeps (W.contents writer.old) (W.contents writer.new)) }
-    ensures clean { HasCleanDisk (state S.Store office.new)
-        → HasCleanDisk (state S.Store office.old) }
 {
     let text = published_text(alloc, office)?;
     match writer.write_all(&text) {
@@ -137,19 +130,12 @@ fn export_from<S: Alter, W: Write>(
 
 // Returns the solution that the office has published.
 fn published_text<S: Alter>(alloc: Global, office: &mut Office<S>) -> Result<Vec<u8>, ExportFault>
-    ensures published { HasCleanDisk (state S.Store office.new) → (there : OfficeState)
-        → Represents (state S.Store office.old) there
-        → IfOk result (λ text. published_solution there ≡ Some text.items) }
-    ensures stays { HasCleanDisk (state S.Store office.new) → (there : OfficeState)
-        → Represents (state S.Store office.old) there
-        → Represents (state S.Store office.new) there }
-    ensures refused { HasCleanDisk (state S.Store office.new) → (there : OfficeState)
-        → Represents (state S.Store office.old) there → IfErr result (RefusesExport there) }
+    ensures ran { CallRan S.Store office.old office.new (λ there. ExportRan
+        (λ text. published_solution there ≡ Some text.items)
+        there (state S.Store office.new) result) }
     ensures solution { IfOk result (λ text. (T : Placing) × IsWhole T
         × (text.items ≡ canonical_solution T)) }
     ensures read { IfErr result (λ fault. fault ≢ ExportFault.Write) }
-    ensures clean { HasCleanDisk (state S.Store office.new)
-        → HasCleanDisk (state S.Store office.old) }
 {
     let found = match office.publication(alloc) {
         Ok(found) => found,

@@ -4,9 +4,9 @@ ghost use Rattle.std.specs.Io.KnownBytes.{Appends, Keeps};
 ghost use Rattle.sqlite.specs.Held.{state};
 ghost use Rattle.sqlite.specs.State.{HasCleanDisk};
 ghost use Rattle.office_model.specs.Office.{OfficeState};
-ghost use Rattle.office_store.specs.Running.{Represents};
+ghost use Rattle.office_store.specs.Running.{CallRan};
 ghost use Rattle.office_store.specs.Opening.{IsOfficeOf};
-ghost use Rattle.office_program.specs.Load.{IfRefused, Loads, NamesTextFault, PrintsCounts, RefusesLoad, loaded_text};
+ghost use Rattle.office_program.specs.Load.{IfRefused, LoadRan, Loads, NamesTextFault, PrintsCounts, RefusesLoad, loaded_text};
 
 use office_http::{Alter, Connection, Loaded, Office, StoreFault};
 use std::alloc::Global;
@@ -97,23 +97,13 @@ fn load_into<S: Alter, W: Write>(
     text: &[u8],
     writer: &mut W,
 ) -> Result<(), LoadFault>
-    ensures done { HasCleanDisk (state S.Store office.new) → (there : OfficeState)
-        → Represents (state S.Store office.old) there
-        → OnOk result (Loads text.now there (state S.Store office.new)
-        (W.contents writer.old) (W.contents writer.new)) }
+    ensures ran { CallRan S.Store office.old office.new (λ there. LoadRan text.now there
+        (state S.Store office.new) (W.contents writer.old) (W.contents writer.new) result) }
     ensures printed { OnOk result
         (PrintsCounts text.now (W.contents writer.old) (W.contents writer.new)) }
-    ensures refused { HasCleanDisk (state S.Store office.new) → (there : OfficeState)
-        → Represents (state S.Store office.old) there
-        → IfErr result (RefusesLoad text.now there (state S.Store office.new)) }
-    ensures stays { HasCleanDisk (state S.Store office.new) → (there : OfficeState)
-        → Represents (state S.Store office.old) there
-        → IfErr result (IfRefused (Represents (state S.Store office.new) there)) }
     ensures unwritten { IfErr result (λ fault. fault ≢ LoadFault.Write
         → Keeps (W.contents writer.old) (W.contents writer.new)) }
     ensures first { IfErr result (NamesTextFault text.now) }
-    ensures clean { HasCleanDisk (state S.Store office.new)
-        → HasCleanDisk (state S.Store office.old) }
 {
     let loaded = match office.load(alloc, text) {
         Ok(loaded) => loaded,

@@ -97,7 +97,6 @@ pub fn listen_and_serve<'a, S: Alter, O: Write, E: Write>(
     // This holds however the call ends; the contracts of sockets say nothing about their bytes.
     ensures reached { ServesTerms S.Store (λ visits. Unit {0}) terms result desk.old desk.new
         (E.contents err.old) (E.contents err.new) }
-    ensures clean { HasCleanDisk (state S.Store desk.new) → HasCleanDisk (state S.Store desk.old) }
     // The line of the port was printed: the requested port, or any if that was 0. If no write
     // failed, `err` has a line for each connection that ended with a fault.
     ensures served { IfOk result (PrintsServed terms (O.contents out.old) (O.contents out.new)
@@ -157,7 +156,6 @@ pub fn serve_clients<
     ensures served { ServesTerms S.Store
         (AreOfClients I.next_gives R.remaining W.contents clients.old) terms result
         desk.old desk.new (E.contents err.old) (E.contents err.new) }
-    ensures clean { HasCleanDisk (state S.Store desk.new) → HasCleanDisk (state S.Store desk.old) }
     ensures status { IfOk result (λ ending. ending.status ≡ 0) }
     ensures fault { IfErr result IsOfServe }
     ensures port { IfOk result (λ _. Appends (O.contents out.old) (O.contents out.new)

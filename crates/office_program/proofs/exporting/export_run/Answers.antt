@@ -18,19 +18,21 @@ returns-in-Err-clause-refused g c = λ clean there holds. elim c.in-Err.ensures.
 pub returns-in-Ok-export_from-clause-done : goal.returns-in-Ok-export_from-clause-done
 returns-in-Ok-export_from-clause-done g c = λ clean there holds.
     let now = subst (λ held. HasCleanDisk (state g.S.Store held)) c.release.ensures clean in
-    let found = c.in-Ok.ensures.adopted (c.export_from.ensures.clean now) in
+    let found = c.in-Ok.ensures.adopted (c.export_from.ensures.ran.clean now) in
     subst (λ held. Exports there (state g.S.Store held)
     (g.W.Write.contents c.args.writer.now) (g.W.Write.contents c.export_from.new.writer))
     (sym c.release.ensures)
-    (c.in-Ok-export_from.ensures.done now there (λ opened. found.represents there holds))
+    (c.in-Ok-export_from.ensures.ran.runs now there
+    (λ opened. found.represents there holds)).done
 
 -- the office that was found refuses
 pub returns-in-Err-export_from-clause-refused : goal.returns-in-Err-export_from-clause-refused
 returns-in-Err-export_from-clause-refused g c = λ clean there holds.
     let now = subst (λ held. HasCleanDisk (state g.S.Store held))
     c.release-in-Err-export_from.ensures clean in
-    let found = c.in-Ok.ensures.adopted (c.export_from.ensures.clean now) in
-    c.in-Err-export_from.ensures.refused now there (λ opened. found.represents there holds)
+    let found = c.in-Ok.ensures.adopted (c.export_from.ensures.ran.clean now) in
+    (c.in-Err-export_from.ensures.ran.runs now there
+    (λ opened. found.represents there holds)).refused
 
 -- no office was found, and the tables are unchanged
 pub returns-in-Err-clause-stays : goal.returns-in-Err-clause-stays
@@ -44,7 +46,8 @@ pub returns-in-Err-export_from-clause-stays : goal.returns-in-Err-export_from-cl
 returns-in-Err-export_from-clause-stays g c = λ clean kept there is opened.
     let released = c.release-in-Err-export_from.ensures in
     let now = subst (λ held. HasCleanDisk (state g.S.Store held)) released clean in
-    let found = c.in-Ok.ensures.adopted (c.export_from.ensures.clean now) in
+    let found = c.in-Ok.ensures.adopted (c.export_from.ensures.ran.clean now) in
     let after = subst (λ held. Represents (state g.S.Store held) there) (sym released)
-    (c.export_from.ensures.stays now there (λ opened. found.represents there is)) in
+    (c.export_from.ensures.ran.runs now there
+    (λ opened. found.represents there is)).stays in
     kept_holds _ there (after opened)

@@ -20,8 +20,8 @@ returns-in-Ok-load_into-clause-done g c = λ clean there is.
     subst (λ held. Loads c.args.text.now there (state g.S.Store held)
     (g.W.Write.contents c.args.writer.now) (g.W.Write.contents c.load_into.new.writer))
     (sym c.release.ensures)
-    (c.in-Ok-load_into.ensures.done now there
-    (c.in-Ok.ensures.found (c.load_into.ensures.clean now) there is))
+    (c.in-Ok-load_into.ensures.ran.runs now there
+    (c.in-Ok.ensures.found (c.load_into.ensures.ran.clean now) there is)).done
 
 -- the office that was found refuses
 pub returns-in-Err-load_into-clause-refused : goal.returns-in-Err-load_into-clause-refused
@@ -31,8 +31,8 @@ returns-in-Err-load_into-clause-refused g c = λ clean there is.
     subst (λ held. RefusesLoad c.args.text.now there (state g.S.Store held)
     c.in-Err-load_into.fault)
     (sym c.release-in-Err-load_into.ensures)
-    (c.in-Err-load_into.ensures.refused now there
-    (c.in-Ok.ensures.found (c.load_into.ensures.clean now) there is))
+    (c.in-Err-load_into.ensures.ran.runs now there
+    (c.in-Ok.ensures.found (c.load_into.ensures.ran.clean now) there is)).refused
 
 -- no office was found, and the tables are unchanged
 pub returns-in-Err-clause-stays : goal.returns-in-Err-clause-stays
@@ -49,5 +49,5 @@ returns-in-Err-load_into-clause-stays g c = λ clean kept there is.
     if_refused c.in-Err-load_into.fault
     (λ after opened. inr (kept_holds _ there
     (subst (λ held. Represents (state g.S.Store held) there) (sym released) after opened)))
-    (c.in-Err-load_into.ensures.stays now there
-    (c.in-Ok.ensures.found (c.load_into.ensures.clean now) there is))
+    (c.in-Err-load_into.ensures.ran.runs now there
+    (c.in-Ok.ensures.found (c.load_into.ensures.ran.clean now) there is)).stays

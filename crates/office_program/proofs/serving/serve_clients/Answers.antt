@@ -3,7 +3,7 @@ use Rattle.std.proofs.lemmas.Bool.{eqb-true}
 use Rattle.sqlite.specs.declared.error.Error.TheVariants.{SqliteFailure}
 use Rattle.sqlite.specs.declared.error.ErrorCode.TheVariants.{OutOfMemory}
 use Rattle.office_connections.proofs.ClientLemmas.{no_client}
-use Rattle.office_program.proofs.ServeFacts.{desk_clean, desk_serves, desk_shut, serves_nobody}
+use Rattle.office_program.proofs.ServeFacts.{desk_serves, desk_shut, serves_nobody}
 use Rattle.office_program.proofs.serving.serve_clients.Goals as goal
 
 pub returns-in_default-clause-served : goal.returns-in_default-clause-served
@@ -29,12 +29,6 @@ returns-in-Ok-announce_and_accept-clause-served g c =
       fewer = tt;
     }
 
-pub returns-in-Ok-announce_and_accept-clause-clean :
-    goal.returns-in-Ok-announce_and_accept-clause-clean
-returns-in-Ok-announce_and_accept-clause-clean g c =
-    desk_clean g.S.Store (λ m. m.desk.ghost_name) (λ m. m.desk.now) (λ m. m.is_shut) _ _ _
-    c.desk-1.given.1 _ _ _ _ c.in-Ok-announce_and_accept.ensures.served.serves
-
 -- the store is closed; or fewer clients were served, or none
 pub returns-clause-served : goal.returns-clause-served
 returns-clause-served g c =
@@ -59,11 +53,6 @@ returns-clause-served g c =
         ))
       ];
     }
-
-pub returns-clause-clean : goal.returns-clause-clean
-returns-clause-clean g c =
-    desk_clean g.S.Store (λ m. m.desk.ghost_name) (λ m. m.desk.now) (λ m. m.is_shut) _ _ _
-    c.desk-1.given.1 _ _ _ _ c.in-Err.ensures.served.serves
 
 -- the port was printed, unless that failed
 pub returns-clause-unprinted : goal.returns-clause-unprinted

@@ -26,13 +26,13 @@ pub returns-clause-reached : goal.returns-clause-reached
 returns-clause-reached g c = λ clean kept there is.
     let same = c.release.ensures ∙ c.into_office.ensures in
     let made = c.new-desk.ensures in
+    let x = c.listen_and_serve-done.ensures.reached in
     let at_end = subst (λ held. HasCleanDisk (state g.S.Store held)) same clean in
     let begun = subst (λ held. HasCleanDisk (state g.S.Store held)) made
-    (c.listen_and_serve-done.ensures.clean at_end) in
+    (x.serves.served.clean at_end) in
     let now = subst (λ held. Represents (state g.S.Store held) there) (sym made)
     (c.in-Ok.ensures.found begun there is) in
-    let x = c.listen_and_serve-done.ensures.reached in
-    let led = x.serves.served at_end there now in
+    let led = x.serves.served.runs at_end there now in
     let after = subst (λ held. Represents (state g.S.Store held) led.0) (sym same) led.2 in (
       x.serves.visits,
       omega (arith, x.serves.count, x.most),
