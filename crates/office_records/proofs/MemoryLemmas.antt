@@ -19,6 +19,7 @@ use Rattle.office_files.specs.InstanceText.{instance_in}
 use Rattle.office_files.proofs.CanonicalInstance.{instance_same}
 use Rattle.office_tables.specs.Tables.{Tables, Meta}
 use Rattle.office_tables.specs.TablesHeld.{HoldsTablesIn}
+use Rattle.office_tables.proofs.Frames.{held_at}
 use Rattle.office_tables.specs.declared.version.Version.{Version}
 use Rattle.office_tables.specs.declared.version.Version.TheVariants.{Two}
 use Rattle.office_tables.specs.Stored.{Holds, keyed_columns, keyless_columns}
@@ -149,11 +150,11 @@ module _ (version : Version) (db : Database) (p q : Tables) (held : HoldsTablesI
     (held2 : HoldsTablesIn version db q) where
   metas : IsPermutation p.meta q.meta
   metas = same_rows keyed_columns (meta_columns version) meta_back (meta_is version) p.meta q.meta
-      (db.trees 0) held.meta held2.meta
+      (db.trees 0) (held_at 0 held) (held_at 0 held2)
 
   enrols : IsPermutation p.enrol q.enrol
   enrols = same_rows keyless_columns enrol_columns columns_back columns_are p.enrol q.enrol (db.trees 2)
-      held.enrol held2.enrol
+      (held_at 2 held) (held_at 2 held2)
 
   nothing_loaded : (r : Records) → TablesRepresentOffice p None → TablesRepresentRecords q r → ⊥
   nothing_loaded r none some =

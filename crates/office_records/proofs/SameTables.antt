@@ -14,6 +14,7 @@ use Rattle.office_tables.specs.Stored.{Holds, keyed_columns, keyless_columns}
 use Rattle.office_tables.specs.TablesHeld.{HoldsTables, HoldsTablesIn}
 use Rattle.office_tables.specs.declared.version.Version.{Version}
 use Rattle.office_tables.specs.declared.version.Version.TheVariants.{Two}
+use Rattle.office_tables.proofs.Frames.{held_at}
 use Rattle.office_tables.proofs.SameRows.{same_drafts, same_student_shares}
 use Rattle.office_tables.specs.Owner.{owner_columns}
 use Rattle.office_tables.specs.Enrol.{enrol_columns}
@@ -95,65 +96,65 @@ all_empty t m o e d s p z x y b = λ i. record {
 module _ (version : Version) (db : Database) (t u : Tables) (p : HoldsTablesIn version db t)
     (q : HoldsTablesIn version db u) where
   metas : IsPermutation t.meta u.meta
-  metas = same_rows keyed_columns (meta_columns version) meta_back (meta_is version) _ _ _ p.meta q.meta
+  metas = same_rows keyed_columns (meta_columns version) meta_back (meta_is version) _ _ _ (held_at 0 p) (held_at 0 q)
 
   owners : IsPermutation t.owner u.owner
-  owners = same_rows keyed_columns owner_columns owner_of (λ r. refl) _ _ _ p.owner q.owner
+  owners = same_rows keyed_columns owner_columns owner_of (λ r. refl) _ _ _ (held_at 1 p) (held_at 1 q)
 
   enrols : IsPermutation t.enrol u.enrol
-  enrols = same_rows keyless_columns enrol_columns enrol_of (λ r. refl) _ _ _ p.enrol q.enrol
+  enrols = same_rows keyless_columns enrol_columns enrol_of (λ r. refl) _ _ _ (held_at 2 p) (held_at 2 q)
 
   drafts : IsPermutation t.draft u.draft
   drafts = same_drafts version db t u p q
 
   slots : IsPermutation t.slot u.slot
-  slots = same_rows keyless_columns slot_columns slot_of (λ r. refl) _ _ _ p.slot q.slot
+  slots = same_rows keyless_columns slot_columns slot_of (λ r. refl) _ _ _ (held_at 4 p) (held_at 4 q)
 
   placements : IsPermutation t.placed u.placed
-  placements = same_rows keyed_columns placed_columns placement_of (λ r. refl) _ _ _ p.placed q.placed
+  placements = same_rows keyed_columns placed_columns placement_of (λ r. refl) _ _ _ (held_at 5 p) (held_at 5 q)
 
   seats : IsPermutation t.seat u.seat
-  seats = same_rows keyless_columns seat_columns seat_of (λ r. refl) _ _ _ p.seat q.seat
+  seats = same_rows keyless_columns seat_columns seat_of (λ r. refl) _ _ _ (held_at 6 p) (held_at 6 q)
 
   student_shares : IsPermutation t.share_student u.share_student
   student_shares = same_student_shares version db t u p q
 
   part_shares : IsPermutation t.share_part u.share_part
   part_shares =
-      same_rows keyless_columns share_part_columns part_share_of (λ r. refl) _ _ _ p.share_part q.share_part
+      same_rows keyless_columns share_part_columns part_share_of (λ r. refl) _ _ _ (held_at 8 p) (held_at 8 q)
 
   batch_rows : IsPermutation t.batch u.batch
-  batch_rows = same_rows keyed_columns batch_columns batch_of (λ r. refl) _ _ _ p.batch q.batch
+  batch_rows = same_rows keyed_columns batch_columns batch_of (λ r. refl) _ _ _ (held_at 9 p) (held_at 9 q)
 
   one_meta : (m : Meta) → t.meta ≡ m ∷ [] → u.meta ≡ m ∷ []
   one_meta m is =
       same_few (m ∷ []) u.meta (omega arith) (subst (λ l. IsPermutation l u.meta) is metas)
 
   no_owner : t.owner ≡ [] → u.owner ≡ []
-  no_owner = none_held keyed_columns owner_columns _ _ _ p.owner q.owner
+  no_owner = none_held keyed_columns owner_columns _ _ _ (held_at 1 p) (held_at 1 q)
 
   no_placed : t.placed ≡ [] → u.placed ≡ []
-  no_placed = none_held keyed_columns placed_columns _ _ _ p.placed q.placed
+  no_placed = none_held keyed_columns placed_columns _ _ _ (held_at 5 p) (held_at 5 q)
 
   no_seat : t.seat ≡ [] → u.seat ≡ []
-  no_seat = none_held keyless_columns seat_columns _ _ _ p.seat q.seat
+  no_seat = none_held keyless_columns seat_columns _ _ _ (held_at 6 p) (held_at 6 q)
 
   no_share_student : t.share_student ≡ [] → u.share_student ≡ []
-  no_share_student = none_held keyed_columns share_student_columns _ _ _ p.share_student q.share_student
+  no_share_student = none_held keyed_columns share_student_columns _ _ _ (held_at 7 p) (held_at 7 q)
 
   no_share_part : t.share_part ≡ [] → u.share_part ≡ []
-  no_share_part = none_held keyless_columns share_part_columns _ _ _ p.share_part q.share_part
+  no_share_part = none_held keyless_columns share_part_columns _ _ _ (held_at 8 p) (held_at 8 q)
 
   no_batch : t.batch ≡ [] → u.batch ≡ []
-  no_batch = none_held keyed_columns batch_columns _ _ _ p.batch q.batch
+  no_batch = none_held keyed_columns batch_columns _ _ _ (held_at 9 p) (held_at 9 q)
 
   empty : t ≡ empty_tables → u ≡ empty_tables
   empty is =
       all_empty u (one_meta _ (ap (λ (t : Tables). t.meta) is))
       (no_owner (ap (λ (t : Tables). t.owner) is))
-      (none_held keyless_columns enrol_columns _ _ _ p.enrol q.enrol (ap (λ (t : Tables). t.enrol) is))
-      (none_held keyed_columns draft_columns _ _ _ p.draft q.draft (ap (λ (t : Tables). t.draft) is))
-      (none_held keyless_columns slot_columns _ _ _ p.slot q.slot (ap (λ (t : Tables). t.slot) is))
+      (none_held keyless_columns enrol_columns _ _ _ (held_at 2 p) (held_at 2 q) (ap (λ (t : Tables). t.enrol) is))
+      (none_held keyed_columns draft_columns _ _ _ (held_at 3 p) (held_at 3 q) (ap (λ (t : Tables). t.draft) is))
+      (none_held keyless_columns slot_columns _ _ _ (held_at 4 p) (held_at 4 q) (ap (λ (t : Tables). t.slot) is))
       (no_placed (ap (λ (t : Tables). t.placed) is)) (no_seat (ap (λ (t : Tables). t.seat) is))
       (no_share_student (ap (λ (t : Tables). t.share_student) is))
       (no_share_part (ap (λ (t : Tables). t.share_part) is))

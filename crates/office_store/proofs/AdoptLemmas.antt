@@ -1,26 +1,26 @@
 -- What reading all tables leaves unchanged, and what the migration makes of the tables.
-use Rattle.std.proofs.Common.{◌≡◌, ◌≢◌, ◌⊎◌, inl, inr, false, List, [], ◌∷◌, map, length, IsTrue}
-use Rattle.std.proofs.Common.{ap, refl, sym, ◌∙◌, arith, subst}
-use Rattle.std.specs.Prelude.{All, AllPairs, IfErr, Result}
+use Rattle.std.proofs.Common.{◌≡◌, ◌≢◌, ◌⊎◌, inl, inr, false, List, [], ◌∷◌, map, IsTrue}
+use Rattle.std.proofs.Common.{refl, sym, ◌∙◌, arith, subst}
+use Rattle.std.specs.Prelude.{All, AllPairs, IfErr, Ok, OnErr, OnOk, Option, Result, Some}
+use Rattle.std.proofs.lemmas.Result.{on_err_weaker, on_ok_weaker}
 use Rattle.std.proofs.lemmas.List.Elements.{All-from_recursion}
 use Rattle.std.proofs.lemmas.List.Kept.{AllPairs-cons}
-use Rattle.sqlite_schema.specs.declared.schema.Schema.{Schema}
-use Rattle.sqlite.proofs.StateLemmas.{survives_then}
+use Rattle.sqlite.proofs.StateLemmas.{survives_then, survives_weaker}
 use Rattle.sqlite_trees.specs.Tree.{IsAscending, Trees}
 use Rattle.sqlite.specs.Effect.{Database}
 use Rattle.sqlite.specs.Held.{Held, state}
 use Rattle.sqlite.specs.State.{HasCleanDisk, IsUnchanged, State, Survives}
 use Rattle.sqlite.specs.Store.{Ghosts}
-use Rattle.office_schema.specs.Schema.{office_schema, schema_before}
-use Rattle.office_tables.specs.Adopting.{tables_of}
+use Rattle.office_tables.specs.Adopting.{IsAdopted, tables_of}
 use Rattle.office_tables.specs.Batch.{counts_of, batch_columns}
-use Rattle.office_tables.specs.Readers.{Keeps}
+use Rattle.office_tables.specs.Readers.{Keeps, LeavesFile, LeavesTablesIn}
 use Rattle.office_tables.specs.Tables.{Batch, Tables}
-use Rattle.office_tables.specs.TablesHeld.{HoldsTables, HoldsTablesIn}
+use Rattle.office_tables.specs.TablesHeld.{HoldsSomeTables, HoldsTables, HoldsTablesIn}
 use Rattle.office_tables.specs.Versions.{schema_of}
 use Rattle.office_tables.specs.declared.found.Found.{Found}
 use Rattle.office_tables.specs.declared.version.Version.{Version}
 use Rattle.office_tables.specs.declared.version.Version.TheVariants.{One, Two}
+use Rattle.office_tables.proofs.Frames.{held_at}
 use Rattle.office_tables.proofs.TableLemmas.{keys_once}
 use Rattle.office_model.specs.Office.{OfficeState, IsOffice}
 use Rattle.office_model.specs.declared.fault.StoreFault.{StoreFault}
@@ -31,29 +31,18 @@ use Rattle.office_records.specs.Representation.{RepresentsOffice, RepresentsOffi
 use Rattle.office_records.proofs.BatchRowLemmas.{stored_short}
 use Rattle.office_records.proofs.MemoryLemmas.{same_memory_in}
 use Rattle.office_records.proofs.SameTables.{same_sound_in, same_represents_in}
-use Rattle.office_store.specs.Leaving.{MayMigrate, found_in}
+use Rattle.office_store.specs.Leaving.{MayMigrate}
 use Rattle.office_store.specs.Opening.{HoldsOffice, IsFoundOffice, DatabaseUpgraded, WeighsNoNight}
 use Rattle.office_store.specs.declared.memory.OfficeMemory.{OfficeMemory}
-use Rattle.office_tables.specs.Alterations.{Undone}
+use Rattle.office_tables.specs.Alterations.{Undone, found_in}
+use Rattle.office_tables.proofs.AdoptLemmas.{one_version, unchanged_then}
+use Rattle.office_tables.proofs.Reading.{keeps_after, on_ok_both}
 use Rattle.office_store.specs.Running.{IsAtRest, IsCommitted}
+use Rattle.office_store.specs.Transactions.{BroughtUp}
+use Rattle.office_store.proofs.LeavingLemmas.{survives_on, survives_same}
+use Rattle.office_store.proofs.RunLemmas.{clean_before}
 
 -- ---- readers, one after the other
-
-pub unchanged_then : (a b c : State) → IsUnchanged a b → IsUnchanged b c → IsUnchanged a c
-unchanged_then a b c first second = (
-  record {
-    was_open = first.0.was_open;
-    is_open = second.0.is_open;
-    now_is = second.0.now_is ∙ first.0.now_is;
-    committed_is = second.0.committed_is ∙ first.0.committed_is;
-    mode = second.0.mode ∙ first.0.mode;
-  },
-  record {
-    changes = second.1.changes ∙ first.1.changes;
-    last_rowid = second.1.last_rowid ∙ first.1.last_rowid;
-  },
-  second.2 ∙ first.2,
-)
 
 module _ {S : Type 0} (g : Ghosts S) (old mid : Held S) where
   -- the tables from before are still there
@@ -65,23 +54,10 @@ module _ {S : Type 0} (g : Ghosts S) (old mid : Held S) where
   held_still version t (inr still) held =
       subst (λ db. HoldsTablesIn version db t) (sym still.0.now_is) held
 
-  -- what changes nothing keeps all
-  pub kept_by : (mid ≡ old) ⊎ IsUnchanged (state g old) (state g mid)
-      → (old.in_transaction ≡ false → mid.in_transaction ≡ false)
-      → Keeps (state g old) (state g mid)
-  kept_by (inl same) mode =
-      subst (λ h. Keeps (state g old) (state g h)) (sym same) (record {
-        was_open = λ opened. opened;
-        now = λ opened. inl refl;
-        committed = λ opened. refl;
-        mode = λ rests. rests;
-      })
-  kept_by (inr still) mode = record {
-    was_open = λ opened. still.0.was_open;
-    now = λ opened. inl still.0.now_is;
-    committed = λ opened. still.0.committed_is;
-    mode = mode;
-  }
+  -- and so are tables of either version
+  pub some_still : HoldsSomeTables (state g old).now
+      → (mid ≡ old) ⊎ IsUnchanged (state g old) (state g mid) → HoldsSomeTables (state g mid).now
+  some_still some same = (some.0, some.1, held_still some.0 some.1 same some.2)
 
   module _ (new : Held S) where
     pub same_then : (mid ≡ old) ⊎ IsUnchanged (state g old) (state g mid)
@@ -102,31 +78,136 @@ module _ {S : Type 0} (g : Ghosts S) (old mid : Held S) where
     pub keeps_still : (mid ≡ old) ⊎ IsUnchanged (state g old) (state g mid)
         → Keeps (state g mid) (state g new) → Keeps (state g old) (state g new)
     keeps_still (inl same) keeps = subst (λ h. Keeps (state g h) (state g new)) same keeps
-    keeps_still (inr still) keeps = record {
-      was_open = λ opened. still.0.was_open;
-      now = λ opened. elim (keeps.now opened) [
-        | inl now ↦ inl (now ∙ still.0.now_is)
-        | inr back ↦ inr (back ∙ still.0.committed_is)
-      ];
-      committed = λ opened. keeps.committed opened ∙ still.0.committed_is;
-      mode = λ rests. keeps.mode (still.0.mode ∙ rests);
-    }
+    keeps_still (inr still) keeps =
+        keeps_after (state g old) (state g mid) (state g new) still keeps
 
--- ---- the versions
+-- what no reader leaves
+pub file_itself : {S : Type 0} (Given : Type 0) (g : Ghosts S) (a : Held S)
+    → LeavesFile {X = Unit {0}} {E = StoreFault} Given g a a (Ok tt)
+file_itself Given g a = record {
+  same = λ _ _. inl refl;
+  kept = λ _ _. record {
+    was_open = λ opened. opened;
+    now = λ _. inl refl;
+    committed = λ _. refl;
+    mode = λ rests. rests;
+  };
+  mode = λ rests. rests;
+  survives = survives_same (state g a);
+}
 
-differ : schema_before ≡ office_schema → ⊥
-differ is =
-    let long : length schema_before.tables ≡ length office_schema.tables
-    = ap (λ (s : Schema). length s.tables) is in
-    omega (long, arith)
+-- what a reader of tables of either version leaves
+pub file_of : {S X E : Type 0} {r : Result X E} (g : Ghosts S) (a b : Held S)
+    → ((version : Version) → LeavesTablesIn version g a b r)
+    → LeavesFile (HoldsSomeTables (state g a).now) g a b r
+file_of {r = r} g a b leaves = record {
+  same = λ clean some. on_ok_weaker r (λ still. inr still)
+      ((leaves some.0).same clean some.1 some.2);
+  kept = λ clean some. (leaves some.0).kept clean some.1 some.2;
+  mode = (leaves Two).mode;
+  survives = (leaves Two).survives;
+}
 
--- a database has only one version
-pub one_version : (db : Database) (v w : Version) → db.schema ≡ schema_of v
-    → db.schema ≡ schema_of w → v ≡ w
-one_version db One One a b = refl
-one_version db Two Two a b = refl
-one_version db One Two a b = absurd (differ (sym a ∙ b))
-one_version db Two One a b = absurd (differ (sym b ∙ a))
+-- what readers leave, one after another
+pub file_then : {S X Y E F : Type 0} {x : X} {r : Result Y F} (Given Next : Type 0) (g : Ghosts S)
+    (a b c : Held S) → LeavesFile {E = E} Given g a b (Ok x) → LeavesFile Next g b c r
+    → (HasCleanDisk (state g b) → Given → (b ≡ a) ⊎ IsUnchanged (state g a) (state g b) → Next)
+    → LeavesFile Given g a c r
+file_then {r = r} Given Next g a b c first later next = record {
+  same = λ clean given.
+      let mid = clean_before later.survives clean in
+      let was = first.same mid given in
+      on_ok_weaker r (both_same g a b c was) (later.same clean (next mid given was));
+  kept = λ clean given.
+      let mid = clean_before later.survives clean in
+      let was = first.same mid given in
+      keeps_still g a b c was (later.kept clean (next mid given was));
+  mode = λ rests. later.mode (first.mode rests);
+  survives = survives_on (state g a) (state g b) (state g c) first.survives later.survives;
+}
+
+-- the same, with a result that is an `Ok` only if the other is
+pub file_as : {S X Y E F : Type 0} {r : Result X E} {s : Result Y F} (Given : Type 0)
+    (g : Ghosts S) (a b : Held S) → ((P : Type 0) → OnOk r P → OnOk s P)
+    → LeavesFile Given g a b r → LeavesFile Given g a b s
+file_as Given g a b on_ok leaves = record {
+  same = λ clean given. on_ok _ (leaves.same clean given);
+  kept = leaves.kept;
+  mode = leaves.mode;
+  survives = leaves.survives;
+}
+
+pub tables_as : {S X Y E F : Type 0} {r : Result X E} {s : Result Y F} (version : Version)
+    (g : Ghosts S) (a b : Held S) → ((P : Type 0) → OnOk r P → OnOk s P)
+    → LeavesTablesIn version g a b r → LeavesTablesIn version g a b s
+tables_as version g a b on_ok leaves = record {
+  open_on_ok = λ clean. on_ok _ (leaves.open_on_ok clean);
+  was_open = leaves.was_open;
+  same = λ clean t held. on_ok _ (leaves.same clean t held);
+  kept = leaves.kept;
+  mode = leaves.mode;
+  survives = leaves.survives;
+}
+
+-- a reader of the tables that were found
+pub found_then : {S Y E F : Type 0} {r : Result Y F} (g : Ghosts S) (a b c : Held S)
+    (all : Option Found) (found : Found) → all ≡ Some found
+    → (HasCleanDisk (state g b) → IsAdopted (state g a).now all)
+    → LeavesFile {E = E} (Unit {0}) g a b (Ok all)
+    → LeavesFile (HoldsSomeTables (state g b).now) g b c r → LeavesFile (Unit {0}) g a c r
+found_then g a b c all found is adopts first later =
+    file_then (Unit {0}) (HoldsSomeTables (state g b).now) g a b c first later
+    (λ clean _ same. let adopted = subst (IsAdopted (state g a).now) is (adopts clean) in
+    some_still g a b (found.version, tables_of found adopted.0, adopted.2) same)
+
+-- ---- tables brought up to version 2
+
+module _ {S A E : Type 0} (g : Ghosts S) (found : Found) (old new : Held S) (r : Result A E) where
+  pub brought_clean : (v : Version) → BroughtUp v g found old new r → HasCleanDisk (state g new)
+      → HasCleanDisk (state g old)
+  brought_clean One ran = ran.clean
+  brought_clean Two left = subst (λ h. HasCleanDisk (state g h)) left.1
+
+  pub brought_rests : (v : Version) → BroughtUp v g found old new r → old.in_transaction ≡ false
+      → new.in_transaction ≡ false
+  brought_rests One ran rests = ran.rests
+  brought_rests Two left rests = subst (λ h. h.in_transaction ≡ false) (sym left.1) rests
+
+  pub brought_tables : (v : Version) → BroughtUp v g found old new r → HasCleanDisk (state g new)
+      → (batches : List Batch) → HoldsTablesIn v (state g old).now (tables_of found batches)
+      → OnOk r (HoldsTables (state g new).now (tables_of found batches))
+  brought_tables One ran clean batches held =
+      on_ok_weaker r (λ done. done.related batches held) (ran.done clean)
+  brought_tables Two left clean batches held =
+      on_ok_both r (subst (λ h. HoldsTables (state g h).now (tables_of found batches)) (sym left.1)
+      held)
+
+  pub brought_same : (v : Version) → BroughtUp v g found old new r → v ≡ Two → new ≡ old
+  brought_same One ran is = absurd (cc)
+  brought_same Two left is = left.1
+
+  pub brought_committed : (v : Version) → BroughtUp v g found old new r
+      → HasCleanDisk (state g new) → IsCommitted (state g old) → OnOk r (IsCommitted (state g new))
+  brought_committed One ran clean was =
+      on_ok_weaker r (λ done. (done.is_open, done.committed)) (ran.done clean)
+  brought_committed Two left clean was =
+      on_ok_both r (subst (λ h. IsCommitted (state g h)) (sym left.1) was)
+
+  pub brought_undone : (v : Version) → BroughtUp v g found old new r → HasCleanDisk (state g new)
+      → OnErr r (Undone (state g old) (state g new))
+  brought_undone One ran clean = ran.undone clean
+  brought_undone Two left clean = on_err_weaker r (λ never. absurd never) left.0
+
+  pub brought_survives : (v : Version) → BroughtUp v g found old new r
+      → Survives (state g old) (state g new) (λ trees. (v ≡ One) × ((batches : List Batch)
+      → HoldsTablesIn v (state g old).now (tables_of found batches)
+      → HoldsTables (found_in trees) (tables_of found batches)))
+  brought_survives One ran =
+      survives_weaker (state g old) (state g new) _ _ (λ _ trees made. (refl, made)) ran.survives
+  brought_survives Two left =
+      survives_weaker (state g old) (state g new) _ _ (λ _ trees none. absurd none)
+      (subst (λ h. Survives (state g old) (state g h) (λ _. ⊥)) (sym left.1)
+      (survives_same (state g old)))
 
 -- ---- an office that is found
 
@@ -144,7 +225,7 @@ module _ (db : Database) (found : Found) (batches : List Batch)
     rows = rows;
     apart = two_by_two (λ (b c : Batch). b.no ≢ c.no) batches
         (keys_once batch_columns (λ (b : Batch). b.no) (λ b. refl) batches
-        (db.trees 14) held.batch);
+        (db.trees 14) (held_at 9 held));
     short = short;
   }
 
@@ -152,7 +233,7 @@ module _ (db : Database) (found : Found) (batches : List Batch)
   module _ (o : OfficeState) (there : HoldsOffice db o) where
     kept : RepresentsOfficeIn found.version db o
     kept = subst (λ version. RepresentsOfficeIn version db o)
-        (one_version db there.0 found.version there.1.tables.schema held.schema) there.1
+        (one_version there.0 found.version (sym there.1.tables.schema ∙ held.schema)) there.1
 
     same_office : TablesRepresentOffice (tables_of found batches) o
     same_office =
@@ -178,7 +259,7 @@ module _ (db : Database) (found : Found) (batches : List Batch)
     -- tables of version 1 have no weight for exams over night
     weighs : WeighsNoNight found.version (memory_of o)
     weighs = subst (λ version. WeighsNoNight version (memory_of o))
-        (one_version db there.0 found.version there.1.tables.schema held.schema) there.2
+        (one_version there.0 found.version (sym there.1.tables.schema ∙ held.schema)) there.2
 
     -- nor has the memory of the tables that were found
     pub none_weighed : (memory : Memory) → (AreFoundBatches found.batches.items batches

@@ -28,9 +28,10 @@ use Rattle.office_model.specs.declared.fault.StoreFault.TheVariants.{BadSchema}
 use Rattle.office_records.specs.Representation.{RepresentsOffice}
 use Rattle.office_records.proofs.ReadableLemmas.{are_readable}
 use Rattle.office_tables.specs.Enrol.{FitsEnrol, StudentEnrolsRise}
-use Rattle.office_tables.specs.Readers.{LeavesCommitted, OpensNone}
+use Rattle.office_tables.specs.Readers.{LeavesCommittedIn, OpensNone}
 use Rattle.office_tables.specs.Selections.{AreListed, AreListedIfFit}
 use Rattle.office_tables.specs.Tables.{Tables}
+use Rattle.office_tables.specs.declared.version.Version.TheVariants.{Two}
 use Rattle.office_tables.specs.TablesHeld.{HoldsTables}
 use Rattle.office_tables.specs.declared.enrol.EnrolRow.{EnrolRow}
 use Rattle.office_store.specs.FoldReads.{HadEnrolments, HasRead, RowsUnchanged}
@@ -62,7 +63,7 @@ module _ {S : Type 0} (store : Ghosts S) where
   -- what a reader of one table leaves
   pub read_one : (a b : Held S) → (HasCleanDisk (state store b) → HasCleanDisk (state store a))
       → Survives (state store a) (state store b) (λ _. ⊥) → OpensNone store a b
-      → LeavesCommitted store a b
+      → LeavesCommittedIn Two store a b
       → (a.in_transaction ≡ false → b.in_transaction ≡ false) → HasRead store a b
   read_one a b clean survives was_open kept mode = record {
     clean = clean;

@@ -8,7 +8,7 @@ use Rattle.office_tables.specs.Alterations.{after_some}
 use Rattle.office_tables.specs.Tables.{Tables}
 use Rattle.office_tables.specs.TablesHeld.{HoldsTables}
 use Rattle.office_tables.specs.Owner.{without_owner, with_owner}
-use Rattle.office_tables.specs.declared.owner.InsertOwner.{InsertOwner}
+use Rattle.office_tables.specs.Inserted.{InsertOwner}
 use Rattle.office_tables.specs.declared.owner.OwnerRow.{OwnerRow}
 use Rattle.office_store.specs.Changes.{new_owner, owner_put}
 use Rattle.exam_model.specs.Enrolments.{Enrolled}

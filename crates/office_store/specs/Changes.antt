@@ -9,12 +9,11 @@ use Rattle.office_tables.specs.Draft.{with_draft, without_draft}
 use Rattle.office_tables.specs.Slot.{with_slot, with_slots, without_slot, without_slots}
 use Rattle.office_tables.specs.Tables.{Tables}
 use Rattle.office_tables.specs.declared.altering.Both.{Both}
-use Rattle.office_tables.specs.declared.owner.InsertOwner.{InsertOwner}
 use Rattle.office_tables.specs.declared.draft.DraftRow.{DraftRow}
 use Rattle.office_tables.specs.declared.enrol.EnrolRow.{EnrolRow}
 use Rattle.office_tables.specs.declared.slot.SlotRow.{SlotRow}
 use Rattle.office_tables.specs.declared.slot.DeleteSlot.{DeleteSlot}
-use Rattle.office_tables.specs.Inserted.{InsertSlot}
+use Rattle.office_tables.specs.Inserted.{InsertOwner, InsertSlot}
 use Rattle.office_records.specs.TableRows.{slot_row}
 
 -- the tables after a session and its enrolments are inserted

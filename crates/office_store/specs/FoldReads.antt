@@ -6,16 +6,17 @@ use Rattle.sqlite.specs.Store.{Ghosts}
 use Rattle.exam_model.specs.Enrolments.{Enrolled}
 use Rattle.office_model.specs.Office.{Records}
 use Rattle.office_records.specs.Representation.{RepresentsOffice}
-use Rattle.office_tables.specs.Readers.{LeavesCommitted, OpensNone}
+use Rattle.office_tables.specs.Readers.{LeavesCommittedIn, OpensNone}
 use Rattle.office_tables.specs.Tables.{Tables}
 use Rattle.office_tables.specs.TablesHeld.{HoldsTables}
+use Rattle.office_tables.specs.declared.version.Version.TheVariants.{Two}
 
 -- whatever the result: nothing is changed except what was not committed
 pub record HasRead {S : Type 0} (store : Ghosts S) (old new : Held S) : Type 0 where
   pub clean : HasCleanDisk (state store new) → HasCleanDisk (state store old)
   pub survives : Survives (state store old) (state store new) (λ _. ⊥)
   pub was_open : OpensNone store old new
-  pub kept : LeavesCommitted store old new
+  pub kept : LeavesCommittedIn Two store old new
   pub mode : old.in_transaction ≡ false → new.in_transaction ≡ false
 
 -- over a clean disk, if the tables are those of an office, everything is as it was

@@ -1,11 +1,11 @@
 -- What a later opening of the file may find after a call.
 use Rattle.std.specs.Prelude.{◌≡◌, ◌⊎◌, IfErr, IsTrue, None, OnOk, Result, Ok, Err}
-use Rattle.sqlite.specs.Effect.{Database}
 use Rattle.sqlite.specs.Held.{Held, state}
 use Rattle.sqlite.specs.State.{HasCleanDisk, State, Survives}
 use Rattle.sqlite.specs.Store.{Ghosts}
 use Rattle.sqlite_trees.specs.Tree.{Trees}
-use Rattle.office_schema.specs.Schema.{office_schema, schema_before}
+use Rattle.office_schema.specs.Schema.{schema_before}
+use Rattle.office_tables.specs.Alterations.{found_in}
 use Rattle.office_tables.specs.Schema.{no_schema}
 use Rattle.office_model.specs.Commands.{CommandResult}
 use Rattle.office_model.specs.Office.{OfficeState}
@@ -13,11 +13,7 @@ use Rattle.office_model.specs.declared.fault.StoreFault.{StoreFault}
 use Rattle.office_model.specs.declared.fault.StoreFault.TheVariants.{Store}
 use Rattle.office_records.specs.Representation.{RepresentsOffice}
 use Rattle.office_store.specs.Opening.{DatabaseUpgraded}
-use Rattle.office_store.specs.Running.{IsCommitted, StateUnchanged, StaysOnErr}
-
--- the database of a file with these trees and the office's schema
-abbrev pub found_in : Trees → Database
-found_in found = record { schema = office_schema; trees = found }
+use Rattle.office_store.specs.Running.{IsCommitted, OfficeUnchanged, StateUnchanged, StaysOnErr}
 
 -- the trees hold the office that the command makes of the one in the open file
 pub record HoldsNext {A : Type 0} (command : OfficeState → CommandResult A) (old : State)
@@ -53,6 +49,12 @@ pub record LeavesUnchanged {S A E : Type 0} (store : Ghosts S) (old new : Held S
   pub unchanged : HasCleanDisk (state store new)
       → StateUnchanged (state store old) (state store new)
   pub all_committed : HasCleanDisk (state store new) → OnOk result (IsCommitted (state store new))
+  pub survives : Survives (state store old) (state store new) (λ _. ⊥)
+
+-- what a question about the store itself leaves, whether it is open or not: all is as it was, and a
+-- later opening may find only what it might have found before
+pub record LeavesAsItWas {S : Type 0} (store : Ghosts S) (old new : Held S) : Type 0 where
+  pub unchanged : OfficeUnchanged store old new
   pub survives : Survives (state store old) (state store new) (λ _. ⊥)
 
 -- what a call that changes the office leaves: on an Err the database is as it was while it is open,

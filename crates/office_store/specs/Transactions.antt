@@ -1,29 +1,25 @@
--- What a whole transaction makes of a database.
-use Rattle.std.specs.Prelude.{◌≡◌, IsTrue, OnErr, OnOk, Result, false}
+-- What a migration makes of a database.
+use Rattle.std.specs.Prelude.{◌≡◌, List, OnErr, Result}
 use Rattle.sqlite.specs.Effect.{Database}
-use Rattle.sqlite.specs.Held.{Held, state}
-use Rattle.sqlite.specs.State.{HasCleanDisk, State, Survives}
+use Rattle.sqlite.specs.Held.{Held}
 use Rattle.sqlite.specs.Store.{Ghosts}
-use Rattle.office_tables.specs.Alterations.{Changed, HoldsChanged, Undone}
-use Rattle.office_tables.specs.Tables.{Tables}
+use Rattle.office_tables.specs.Adopting.{tables_of}
+use Rattle.office_tables.specs.Alterations.{TransactionRan}
+use Rattle.office_tables.specs.Tables.{Batch}
+use Rattle.office_tables.specs.TablesHeld.{HoldsTables, HoldsOldTables}
+use Rattle.office_tables.specs.declared.found.Found.{Found}
+use Rattle.office_tables.specs.declared.version.Version.{Version}
+use Rattle.office_tables.specs.declared.version.Version.TheVariants.{One, Two}
 
--- the database was open and is open, the transaction leads from the old to the new, and is
--- committed
-pub record Turned (P Q : Database → Type 0) (old new : State) : Type 0 where
-  pub was_open : IsTrue old.is_open
-  pub is_open : IsTrue new.is_open
-  pub committed : new.now ≡ new.committed
-  pub leads : P old.now → Q new.now
+-- the rows found, with any batches, were in tables of version 1 and are in tables of version 2
+abbrev pub RowsMigrated : Found → Database → Database → Type 0
+RowsMigrated found old new =
+    (batches : List Batch) → HoldsOldTables old (tables_of found batches)
+    → HoldsTables new (tables_of found batches)
 
--- the transaction made this alteration of the tables and committed it, or on an Err it was undone; a
--- later opening may find what it might have found before, or the altered tables
-pub record TablesAltered {S A E : Type 0} (store : Ghosts S) (alter : Tables → Tables)
-    (old new : Held S) (result : Result A E) : Type 0 where
-  pub done : HasCleanDisk (state store new)
-      → OnOk result (Changed alter (state store old) (state store new))
-  pub undone : HasCleanDisk (state store new)
-      → OnErr result (Undone (state store old) (state store new))
-  pub rests : new.in_transaction ≡ false
-  pub clean : HasCleanDisk (state store new) → HasCleanDisk (state store old)
-  pub survives : Survives (state store old) (state store new)
-      (HoldsChanged alter (state store old))
+-- tables of version 1 are migrated in a transaction; those of version 2 are left as they are
+abbrev pub BroughtUp : {S A E : Type 0} → Version → Ghosts S → Found → Held S → Held S
+    → Result A E → Type 0
+BroughtUp One store found old new result =
+    TransactionRan store (RowsMigrated found) old new result
+BroughtUp Two store found old new result = OnErr result ⊥ × (new ≡ old)

@@ -1,19 +1,16 @@
 // Opening a database that already holds an office.
-ghost use Rattle.std.specs.Prelude.{◌≡◌, ◌⊎◌, false, IfErr, IfOk, IsTrue, List, OnErr, OnOk};
+ghost use Rattle.std.specs.Prelude.{◌≡◌, ◌⊎◌, false, IfErr, IfOk, IsTrue, OnErr, OnOk};
 ghost use Rattle.sqlite.specs.Held.{state};
-ghost use Rattle.sqlite.specs.State.{HasCleanDisk, IsUnchanged, Survives};
+ghost use Rattle.sqlite.specs.State.{HasCleanDisk, IsUnchanged};
 ghost use Rattle.office_schema.specs.Schema.{office_schema};
-ghost use Rattle.office_tables.specs.Adopting.{tables_of};
 ghost use Rattle.office_tables.specs.Alterations.{Undone};
-ghost use Rattle.office_tables.specs.Readers.{Keeps};
-ghost use Rattle.office_tables.specs.TablesHeld.{HoldsTables, HoldsTablesIn};
-ghost use Rattle.office_tables.specs.Tables.{Batch};
+ghost use Rattle.office_tables.specs.Readers.{LeavesFile};
 ghost use Rattle.office_model.specs.Office.{OfficeState};
 ghost use Rattle.office_store.specs.Faults.{IsOfDatabase};
-ghost use Rattle.office_store.specs.Leaving.{Leaves, MayMigrate, connection_of, found_in};
+ghost use Rattle.office_store.specs.Leaving.{Leaves, MayMigrate, connection_of};
 ghost use Rattle.office_store.specs.Memory.{IsTogether};
 ghost use Rattle.office_store.specs.Opening.{HoldsOffice, IsFoundOffice, DatabaseUpgraded, WeighsNoNight};
-ghost use Rattle.office_store.specs.Running.{IsCommitted};
+ghost use Rattle.office_store.specs.Transactions.{BroughtUp};
 
 use crate::fault::Failed;
 use crate::found_drafts::drafts_found;
@@ -85,16 +82,11 @@ fn found_office<S: Alter>(
     ensures together { IfOk result (λ kept. IsTogether kept.1) }
     ensures open { HasCleanDisk (state S.Store conn.new)
         → OnOk result (IsTrue (state S.Store conn.new).is_open) }
-    ensures same { HasCleanDisk (state S.Store conn.new) → OnOk result ((conn.new ≡ conn.old)
-        ⊎ IsUnchanged (state S.Store conn.old) (state S.Store conn.new)) }
     ensures none { HasCleanDisk (state S.Store conn.new)
         → IfErr result (λ e. e ≡ StoreFault.BadSchema
         → (o : OfficeState) → HoldsOffice (state S.Store conn.old).now o → ⊥) }
     ensures fault { IfErr result IsOfDatabase }
-    ensures keeps { HasCleanDisk (state S.Store conn.new)
-        → Keeps (state S.Store conn.old) (state S.Store conn.new) }
-    ensures rests { conn.old.in_transaction ≡ false → conn.new.in_transaction ≡ false }
-    ensures survives { Survives (state S.Store conn.old) (state S.Store conn.new) (λ _. ⊥) }
+    ensures leaves { LeavesFile (Unit {0}) S.Store conn.old conn.new result }
 {
     let found = match adopt_tables(alloc, conn) {
         Ok(Some(found)) => found,
@@ -132,20 +124,7 @@ fn check_weight(version: Version, kept: &Option<(Instance, Enrolments)>) -> Resu
 // Migrates the tables to version 2 if they are of version 1.
 fn bring_up<S: Alter>(conn: &mut Connection<S>, found: &Found) -> Result<(), Failed>
     requires rests { conn.old.in_transaction ≡ false }
-    ensures tables { HasCleanDisk (state S.Store conn.new) → (batches : List Batch)
-        → HoldsTablesIn found.now.version (state S.Store conn.old).now (tables_of found.now batches)
-        → OnOk result (HoldsTables (state S.Store conn.new).now (tables_of found.now batches)) }
-    ensures same { found.now.version ≡ Version.Two → OnOk result (conn.new ≡ conn.old) }
-    ensures all_committed { HasCleanDisk (state S.Store conn.new)
-        → IsCommitted (state S.Store conn.old)
-        → OnOk result (IsCommitted (state S.Store conn.new)) }
-    ensures undone { HasCleanDisk (state S.Store conn.new)
-        → OnErr result (Undone (state S.Store conn.old) (state S.Store conn.new)) }
-    ensures rests { conn.new.in_transaction ≡ false }
-    ensures survives { Survives (state S.Store conn.old) (state S.Store conn.new) (λ trees.
-        (found.now.version ≡ Version.One) × ((batches : List Batch)
-        → HoldsTablesIn found.now.version (state S.Store conn.old).now (tables_of found.now batches)
-        → HoldsTables (found_in trees) (tables_of found.now batches))) }
+    ensures { BroughtUp found.now.version S.Store found.now conn.old conn.new result }
 {
     match found.version {
         Version::One => migrate_tables(conn, found.meta.published, &found.meta.instance),

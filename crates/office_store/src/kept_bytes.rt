@@ -1,12 +1,12 @@
 // The bytes of the kept batches, read one batch after the other.
-ghost use Rattle.std.specs.Prelude.{◌≡◌, ◌⊎◌, ◌==◌, All, IfErr, OnErr, OnOk, false, filter, map};
+ghost use Rattle.std.specs.Prelude.{◌≡◌, ◌==◌, All, IfErr, OnErr, OnOk, filter, map};
 ghost use Rattle.std.specs.List.{AllByRecursion};
 ghost use Rattle.std.specs.Prelude.{option_to_list};
 ghost use Rattle.sqlite.specs.Held.{state};
-ghost use Rattle.sqlite.specs.State.{HasCleanDisk, IsUnchanged, Survives};
+ghost use Rattle.sqlite.specs.State.{HasCleanDisk};
 ghost use Rattle.office_tables.specs.Batch.{batch_from, counts_of};
-ghost use Rattle.office_tables.specs.Readers.{LeavesCommittedIn};
-ghost use Rattle.office_tables.specs.TablesHeld.{HoldsTablesIn};
+ghost use Rattle.office_tables.specs.Readers.{LeavesFile, LeavesTablesIn};
+ghost use Rattle.office_tables.specs.TablesHeld.{HoldsSomeTables, HoldsTablesIn};
 ghost use Rattle.office_tables.specs.Tables.{Tables};
 ghost use Rattle.office_tables.specs.declared.version.Version.{Version};
 ghost use Rattle.office_records.specs.FoundBatches.{IsShort};
@@ -32,12 +32,8 @@ pub(crate) fn check_bytes<S: Alter>(
         → HoldsTablesIn version (state S.Store conn.old).now t
         → IfErr result (λ e. e ≡ StoreFault.BadSchema → All IsShort t.batch → ⊥) }
     ensures fault { IfErr result IsOfDatabase }
-    ensures same { HasCleanDisk (state S.Store conn.new) → (version : Version) (t : Tables)
-        → HoldsTablesIn version (state S.Store conn.old).now t → OnOk result ((conn.new ≡ conn.old)
-        ⊎ IsUnchanged (state S.Store conn.old) (state S.Store conn.new)) }
-    ensures kept { (version : Version) → LeavesCommittedIn version S.Store conn.old conn.new }
-    ensures mode { conn.old.in_transaction ≡ false → conn.new.in_transaction ≡ false }
-    ensures survives { Survives (state S.Store conn.old) (state S.Store conn.new) (λ _. ⊥) }
+    ensures leaves { LeavesFile (HoldsSomeTables (state S.Store conn.old).now) S.Store
+        conn.old conn.new result }
 {
     'batches: for row in batches {
         check_batch(alloc, conn, row.no)?;
@@ -55,12 +51,8 @@ fn check_batch<S: Alter>(alloc: Global, conn: &mut Connection<S>, no: u32) -> Re
         → HoldsTablesIn version (state S.Store conn.old).now t
         → IfErr result (λ e. e ≡ StoreFault.BadSchema → All IsShort t.batch → ⊥) }
     ensures fault { IfErr result IsOfDatabase }
-    ensures same { HasCleanDisk (state S.Store conn.new) → (version : Version) (t : Tables)
-        → HoldsTablesIn version (state S.Store conn.old).now t
-        → OnOk result (IsUnchanged (state S.Store conn.old) (state S.Store conn.new)) }
-    ensures kept { (version : Version) → LeavesCommittedIn version S.Store conn.old conn.new }
-    ensures mode { conn.old.in_transaction ≡ false → conn.new.in_transaction ≡ false }
-    ensures survives { Survives (state S.Store conn.old) (state S.Store conn.new) (λ _. ⊥) }
+    ensures leaves { (version : Version)
+        → LeavesTablesIn version S.Store conn.old conn.new result }
 {
     let found = match batch_of(alloc, conn, no) {
         Ok(found) => found,

@@ -10,7 +10,7 @@ ghost use Rattle.office_records.specs.Memory.{memory_of};
 ghost use Rattle.office_records.specs.Representation.{RepresentsOffice};
 ghost use Rattle.office_store.specs.Memory.{AreRescored, AreScored, AreSuited, IsMemoryOf};
 ghost use Rattle.office_store.specs.NewBatches.{Enrols, new_batch_put, put_line, students_of};
-ghost use Rattle.office_store.specs.Transactions.{TablesAltered};
+ghost use Rattle.office_tables.specs.Alterations.{TablesChanged, TransactionRan};
 
 use crate::fault::Failed;
 use crate::memory::{Drafts, OfficeMemory, no_drafts};
@@ -120,7 +120,7 @@ pub(crate) fn put_batch<S: Alter>(
 ) -> Result<(), Failed>
     requires rests { conn.old.in_transaction ≡ false }
     requires small { All (λ it. AreAmounts it.row) new.now.drafts.items }
-    ensures { TablesAltered S.Store (new_batch_put number text.now new.now)
+    ensures { TransactionRan S.Store (TablesChanged (new_batch_put number text.now new.now))
         conn.old conn.new result }
 {
     let batch = InsertBatch {

@@ -1,8 +1,9 @@
 // Whether a disk failure has closed the store.
 ghost use Rattle.std.specs.Prelude.{◌≡◌, IfErr, IfOk, MatchBool, None, Some};
 ghost use Rattle.sqlite.specs.Held.{state};
-ghost use Rattle.sqlite.specs.State.{HasCleanDisk, Survives};
-ghost use Rattle.office_store.specs.Running.{IsCommitted, OfficeUnchanged};
+ghost use Rattle.sqlite.specs.State.{HasCleanDisk};
+ghost use Rattle.office_store.specs.Leaving.{LeavesAsItWas};
+ghost use Rattle.office_store.specs.Running.{IsCommitted};
 ghost use Rattle.office_store.specs.Shut.{IsShut};
 
 use crate::office::Office;
@@ -16,9 +17,8 @@ impl<S: Alter> Office<S> {
         ensures shut { HasCleanDisk (state S.Store self.new) → IfOk result (λ is_shut.
             MatchBool is_shut (IsShut (state S.Store self.new))
             (IsCommitted (state S.Store self.new))) }
-        ensures unchanged { OfficeUnchanged S.Store self.old self.new }
+        ensures leaves { LeavesAsItWas S.Store self.old self.new }
         ensures fault { IfErr result (λ e. e ≡ StoreFault.Store) }
-        ensures survives { Survives (state S.Store self.old) (state S.Store self.new) (λ _. ⊥) }
     {
         self.lemma_at_rest();
         // The empty statement does nothing; only a closed store refuses it as `Closed`.

@@ -45,10 +45,11 @@ use Rattle.office_tables.specs.TablesHeld.{HoldsTablesIn}
 use Rattle.office_tables.specs.Versions.{schema_of}
 use Rattle.office_tables.specs.Stored.{Holds, keyed_columns, keyless_columns}
 use Rattle.office_tables.proofs.Reading.{keeps_after}
+use Rattle.office_tables.proofs.Frames.{held_at}
 
 -- ---- readers one after another
 
-unchanged_then : (a b c : State) → IsUnchanged a b → IsUnchanged b c → IsUnchanged a c
+pub unchanged_then : (a b c : State) → IsUnchanged a b → IsUnchanged b c → IsUnchanged a c
 unchanged_then a b c p q = (
   record {
     was_open = p.0.was_open;
@@ -158,13 +159,13 @@ session_found version db meta owners enrols m o e (Some found) is = record {
 session_found version db meta owners enrols m o e None (inl none) = λ t plain represents.
     subst (IsFoundMeta version (db.trees 0)) none m plain.row
     (subst (λ l. Holds keyed_columns (map (meta_columns version) l)
-    (db.trees 0)) plain.meta represents.meta)
+    (db.trees 0)) plain.meta (held_at 0 represents))
 session_found version db meta owners enrols m o e None (inr (inl none)) = λ t plain represents.
     subst (IsFound FitsOwner owner_columns keyed_columns (db.trees 1)) none o t.owner
-    plain.owner represents.owner
+    plain.owner (held_at 1 represents)
 session_found version db meta owners enrols m o e None (inr (inr none)) = λ t plain represents.
     subst (IsFound FitsEnrol enrol_columns keyless_columns (db.trees 2)) none e t.enrol
-    plain.enrol represents.enrol
+    plain.enrol (held_at 2 represents)
 
 pub drafts_found : (version : Version) (db : Database) (drafts : Option (Vec DraftRow Global))
     (slots : Option (Vec SlotRow Global))
@@ -178,10 +179,10 @@ drafts_found version db drafts slots d s (Some found) is = record {
 }
 drafts_found version db drafts slots d s None (inl none) = λ t plain represents.
     subst (AreFound FitsDraft (HaveDrafts version db)) none d t.draft plain.draft
-    (record { first = represents.draft; second = represents.night_draft })
+    (record { first = (held_at 3 represents); second = represents.night_draft })
 drafts_found version db drafts slots d s None (inr none) = λ t plain represents.
     subst (IsFound FitsSlot slot_columns keyless_columns
-    (db.trees 5)) none s t.slot plain.slot represents.slot
+    (db.trees 5)) none s t.slot plain.slot (held_at 4 represents)
 
 pub publication_found : (version : Version) (db : Database)
     (placements : Option (Vec PlacedRow Global)) (seats : Option (Vec SeatRow Global))
@@ -201,24 +202,24 @@ publication_found version db placements seats students parts p s n k (Some found
 publication_found version db placements seats students parts p s n k None (inl none) =
     λ t plain represents.
     subst (IsFound FitsPlacement placed_columns keyed_columns (db.trees 7)) none p t.placed plain.placed
-    represents.placed
+    (held_at 5 represents)
 publication_found version db placements seats students parts p s n k None (inr (inl none)) =
     λ t plain represents. subst (IsFound FitsSeat seat_columns keyless_columns (db.trees 8)) none s
     t.seat plain.seat
-    represents.seat
+    (held_at 6 represents)
 publication_found version db placements seats students parts p s n k None (inr (inr (inl none))) =
     λ t plain represents.
     subst (AreFound FitsStudentShare (HaveShares version db)) none n
     t.share_student plain.share_student
-    (record { first = represents.share_student; second = represents.night_share })
+    (record { first = (held_at 7 represents); second = represents.night_share })
 publication_found version db placements seats students parts p s n k None (inr (inr (inr none))) =
     λ t plain represents. subst (IsFound FitsPartShare share_part_columns keyless_columns
     (db.trees 12)) none k
-    t.share_part plain.share_part represents.share_part
+    t.share_part plain.share_part (held_at 8 represents)
 
 -- ---- any version
 
-one_version : (v w : Version) → schema_of v ≡ schema_of w → v ≡ w
+pub one_version : (v w : Version) → schema_of v ≡ schema_of w → v ≡ w
 one_version One One same = refl
 one_version Two Two same = refl
 one_version One Two same =
@@ -250,16 +251,25 @@ rows_found version db schema session drafts publication batches s d p b (Some fo
     let kept = subst (IsFoundBatches db) is.4 b in
     let represents : HoldsTablesIn version db (tables_of found kept.0) = record {
       schema = schema;
-      meta = here.meta;
-      owner = here.owner;
-      enrol = here.enrol;
-      draft = plan.draft.first;
-      slot = plan.slot;
-      placed = public.placed;
-      seat = public.seat;
-      share_student = public.share_student.first;
-      share_part = public.share_part;
-      batch = kept.2;
+      rows = (
+        here.meta,
+        (
+          here.owner,
+          (
+            here.enrol,
+            (
+              plan.draft.first,
+              (
+                plan.slot,
+                (
+                  public.placed,
+                  (public.seat, (public.share_student.first, (public.share_part, (kept.2, tt)))),
+                ),
+              ),
+            ),
+          ),
+        ),
+      );
       night_draft = plan.draft.second;
       night_share = public.share_student.second;
     } in
@@ -274,4 +284,4 @@ rows_found version db schema session drafts publication batches s d p b None
 rows_found version db schema session drafts publication batches s d p b None
     (inr (inr (inr none))) =
     in_no_version version db schema
-    (λ t plain represents. subst (IsFoundBatches db) none b t.batch plain.batch represents.batch)
+    (λ t plain represents. subst (IsFoundBatches db) none b t.batch plain.batch (held_at 9 represents))

@@ -26,11 +26,12 @@ use Rattle.sqlite.proofs.StateLemmas.{survives_weaker}
 use Rattle.sqlite.proofs.Callers.{IsPlain, command_of, reads_as}
 use Rattle.office_schema.specs.Schema.{office_schema}
 use Rattle.office_tables.specs.Asking.{select_query, IsReadOf, Means, Selects}
-use Rattle.office_tables.specs.Readers.{LeavesIfPlain, LeavesTables, Reads}
+use Rattle.office_tables.specs.Readers.{LeavesIfPlain, LeavesTables, LeavesTablesIn, Reads}
 use Rattle.office_tables.specs.Tables.{Tables}
 use Rattle.office_tables.specs.TablesHeld.{HoldsTables, HoldsTablesIn}
 use Rattle.office_tables.specs.Versions.{schema_of}
 use Rattle.office_tables.specs.declared.version.Version.{Version}
+use Rattle.office_tables.specs.declared.version.Version.TheVariants.{Two}
 use Rattle.office_tables.proofs.LookLemmas.{was_open}
 use Rattle.office_tables.proofs.Queries.{both_alike}
 use Rattle.office_tables.proofs.SilentLemmas.{commits_never}
@@ -72,21 +73,29 @@ module _ (version : Version) (q : Query) (sql : List ℕ) (means : Means (schema
   pub means_at : Means old.now.schema q sql
   means_at = subst (λ s. Means s q sql) (sym represents.schema) means
 
--- a reader that makes one query and answers `Ok` only if the query did
+-- a reader of both versions that makes one query and answers `Ok` only if the query did
+pub leaves_in : {S X Y : Type 0} {asked : Result X Error} {result : Result Y Error}
+    (version : Version) (g : Ghosts S) (q : Query) (sql : List ℕ)
+    → Means (schema_of version) q sql → Means office_schema q sql → (old new : Held S)
+    → LeavesIfPlain sql g old new asked → ((P : Type 0) → OnOk asked P → OnOk result P)
+    → LeavesTablesIn version g old new result
+leaves_in version g q sql means also old new h on_ok = record {
+  open_on_ok = λ clean. on_ok _ (h.open_on_ok clean);
+  was_open = h.was_open;
+  same = λ clean t represents. on_ok _
+      (h.same clean (plain_at version q sql means (state g old) t represents));
+  kept = λ clean t represents.
+      h.kept clean (plain_at version q sql means (state g old) t represents);
+  mode = h.mode;
+  survives = silent_in q sql also (state g old) (state g new) h.survives;
+}
+
+-- the same of version 2
 pub leaves_after : {S X Y : Type 0} {asked : Result X Error} {result : Result Y Error}
     (g : Ghosts S) (q : Query) (sql : List ℕ) → Means office_schema q sql → (old new : Held S)
     → LeavesIfPlain sql g old new asked → ((P : Type 0) → OnOk asked P → OnOk result P)
     → LeavesTables g old new result
-leaves_after g q sql means old new h on_ok = record {
-  open_on_ok = λ clean. on_ok _ (h.open_on_ok clean);
-  was_open = h.was_open;
-  same = λ clean t represents. on_ok _
-      (h.same clean (plain_in q sql means (state g old) (state g new) t represents));
-  kept = λ clean t represents.
-      h.kept clean (plain_in q sql means (state g old) (state g new) t represents);
-  mode = h.mode;
-  survives = silent_in q sql means (state g old) (state g new) h.survives;
-}
+leaves_after g q sql means = leaves_in Two g q sql means means
 
 -- if the rows that a query gives have a property, a reader that returns them reads rows with it
 pub reads_rows : {S R : Type 0} (g : Ghosts S) (q : Query) (sql : List ℕ)

@@ -28,13 +28,14 @@ use Rattle.office_tables.proofs.OrderLemmas.{read, rising, table_shown, typed}
 use Rattle.office_tables.proofs.Queries.{column_later, equal_numbers, equals, passes}
 use Rattle.office_tables.proofs.RecordsBack.{batch_of}
 use Rattle.office_tables.proofs.TableLemmas.{keys_once}
+use Rattle.office_tables.proofs.Frames.{held_at}
 
 -- no two batches have the same number
 pub kept_once : (version : Version) (db : Database) (t : Tables) → HoldsTablesIn version db t
     → IsAscending (λ a b. a.no ≢ b.no) t.batch
 kept_once version db t represents =
     keys_once batch_columns (λ (b : Batch). b.no) (λ b. refl) t.batch (db.trees 14)
-    represents.batch
+    (held_at 9 represents)
 
 -- ---- SELECT no, bytes, added, dropped, unchanged FROM batch WHERE no = ?1 ORDER BY no
 
@@ -87,7 +88,7 @@ rows_read version db n t represents found is =
     (table_shown batch_columns keyed_columns picked params 14 (equals 0 0 ∷ []) columns shown_is
     (λ x. refl) (passes params (equals 0 0 ∷ [])) (λ r. refl)
     (λ r. r.no == n) (λ x. equal_numbers x.no n) db.trees t.batch
-    represents.batch.same) is).0
+    (held_at 9 represents).same) is).0
 
 is_number : (m n : ℕ) → (m == n) ≡ true → m ≡ n
 is_number m n e = grind (arith, nat_tests)

@@ -16,7 +16,8 @@ use Rattle.sqlite.specs.State.{State, Executes}
 use Rattle.sqlite.specs.Term.{Term}
 use Rattle.sqlite.proofs.Callers.{IsPlain, command_of}
 use Rattle.office_schema.specs.Schema.{office_schema}
-use Rattle.office_tables.specs.Inserting.{IsTable, Stores, shown_by}
+use Rattle.office_tables.specs.Inserting.{IsTable, Stores}
+use Rattle.office_tables.specs.Stored.{shown_by}
 use Rattle.office_tables.specs.Steps.{HasRun, Makes}
 use Rattle.office_tables.specs.Tables.{Tables}
 use Rattle.office_tables.specs.TablesHeld.{all_columns}

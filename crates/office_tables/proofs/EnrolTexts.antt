@@ -25,6 +25,7 @@ use Rattle.office_tables.specs.Stored.{keyless_columns}
 use Rattle.office_tables.proofs.OrderLemmas.{by_number, columns_shown, read, rising, table_shown}
 use Rattle.office_tables.proofs.Queries.{column_less, equal_numbers, equals, passes}
 use Rattle.office_tables.proofs.RecordsBack.{enrol_of}
+use Rattle.office_tables.proofs.Frames.{held_at}
 
 abbrev pub enrol_terms : List Term
 enrol_terms = col 1 1 ∷ col 1 2 ∷ []
@@ -69,7 +70,7 @@ module _ (db : Database) (number : ℕ) (t : Tables) (represents : HoldsTables d
       (λ x. refl) (passes given (equals 0 0 ∷ [])) (λ r.
       ap (λ v. is_true (binary (Compare Eq Binary) v (Int (pos number))) && true) (column_less r 0))
       (λ r. r.student == number) (λ x. equal_numbers x.student number) db.trees t.enrol
-      represents.enrol.same
+      (held_at 2 represents).same
 
   enrols_of_read : (found : List EnrolRow)
       → IsReadOf enrol_columns 2 given enrols_of_query db.trees found

@@ -1,5 +1,5 @@
 -- All tables hold their rows, and still do after one of them has changed.
-use Rattle.std.proofs.Common.{◌≡◌, ◌≢◌, ℕ, zero, suc, List, [], ◌∷◌, map, not, ◌==◌, Some, true, arith, sym, subst}
+use Rattle.std.proofs.Common.{◌≡◌, ◌≢◌, ◌++◌, ℕ, zero, suc, List, [], ◌∷◌, length, map, not, ◌==◌, refl, Some, true, arith, sym, subst}
 use Rattle.std.specs.Prelude.{slice_get, slice_set}
 use Rattle.std.specs.List.{AllByRecursion, list_all}
 use Rattle.std.proofs.lemmas.Bool.{and_parts}
@@ -9,11 +9,13 @@ use Rattle.sqlite_value.specs.Order.{Row}
 use Rattle.sqlite_trees.specs.Tree.{Trees}
 use Rattle.sqlite_schema.specs.declared.schema.Table.{Table}
 use Rattle.sqlite.specs.Effect.{Database}
-use Rattle.office_schema.specs.Schema.{office_schema}
-use Rattle.office_tables.specs.Inserting.{IsTable, Others, has_own_tree, shown_by, simple_table}
+use Rattle.office_schema.specs.Schema.{night_draft_table, night_share_table, office_schema, schema_before}
+use Rattle.office_tables.specs.Inserting.{IsTable, Others, has_own_tree, simple_table}
 use Rattle.office_tables.specs.Tables.{Tables}
-use Rattle.office_tables.specs.TablesHeld.{HoldsTables, all_columns}
-use Rattle.office_tables.specs.Stored.{Holds}
+use Rattle.office_tables.specs.TablesHeld.{HoldsTables, HoldsTablesIn, all_columns, columns_in, night_columns_of}
+use Rattle.office_tables.specs.Stored.{HoldAll, Holds, shown_by}
+use Rattle.office_tables.specs.declared.version.Version.{Version}
+use Rattle.office_tables.specs.declared.version.Version.TheVariants.{Two}
 
 -- a statement has changed one table, which now holds these rows
 pub record OneShown (table : Table) (rows : List Row) (old new : Database) : Type 0 where
@@ -32,12 +34,25 @@ holds_none show stored none =
 
 -- ---- a list of tables
 
--- each table holds its rows
-abbrev pub HoldAll : List Table → List (List Row) → Trees → Type 0
-HoldAll [] rows trees = Unit {0}
-HoldAll (table ∷ tables) [] trees = Unit {0}
-HoldAll (table ∷ tables) (own ∷ rows) trees =
-    Holds (shown_by table.key) own (trees table.tree) × HoldAll tables rows trees
+-- the table at this place of a list holds its rows
+abbrev pub HoldsAt : ℕ → List Table → List (List Row) → Trees → Type 0
+HoldsAt at [] rows trees = Unit {0}
+HoldsAt at (table ∷ tables) [] trees = Unit {0}
+HoldsAt zero (table ∷ tables) (own ∷ rows) trees =
+    Holds (shown_by table.key) own (trees table.tree)
+HoldsAt (suc at) (table ∷ tables) (own ∷ rows) trees = HoldsAt at tables rows trees
+
+at_place : (tables : List Table) (rows : List (List Row)) (trees : Trees) (at : ℕ)
+    → HoldAll tables rows trees → HoldsAt at tables rows trees
+at_place [] rows trees at held = tt
+at_place (x ∷ tables) [] trees at held = tt
+at_place (x ∷ tables) (own ∷ rows) trees zero held = held.0
+at_place (x ∷ tables) (own ∷ rows) trees (suc at) held = at_place tables rows trees at held.1
+
+pub held_at : {version : Version} {db : Database} {t : Tables} (at : ℕ)
+    → HoldsTablesIn version db t → HoldsAt at schema_before.tables (columns_in version t) db.trees
+held_at {version} {db} {t} at h =
+    at_place schema_before.tables (columns_in version t) db.trees at h.rows
 
 differ : (m n : ℕ) → not (m == n) ≡ true → m ≢ n
 differ m n h e = grind (arith, nat_tests)
@@ -47,8 +62,9 @@ module _ (tree : ℕ) (old new : Trees) where
       → list_all (λ (other : Table). not (other.tree == tree)) tables ≡ true
       → AllByRecursion (λ (t : Table). t.tree ≢ tree → new t.tree ≡ old t.tree) tables
       → HoldAll tables rows old → HoldAll tables rows new
-  stay [] rows apart others held = tt
-  stay (x ∷ xs) [] apart others held = tt
+  stay [] [] apart others held = tt
+  stay [] (own ∷ rows) apart others held = held
+  stay (x ∷ xs) [] apart others held = held
   stay (x ∷ xs) (own ∷ rows) apart others held =
       let parts = and_parts _ _ apart in (
         still _ own _ _ (others.0 (differ x.tree tree parts.0)) held.0,
@@ -61,14 +77,14 @@ module _ (table : Table) (own : List Row) (old new : Trees)
       → slice_get tables at ≡ Some table → has_own_tree table.tree at tables ≡ true
       → AllByRecursion (λ (t : Table). t.tree ≢ table.tree → new t.tree ≡ old t.tree) tables
       → HoldAll tables rows old → HoldAll tables (slice_set rows at own) new
-  changed at [] rows found alone others all = tt
-  changed zero (x ∷ xs) [] found alone others all = tt
+  changed at [] rows found alone others all = absurd (cc)
+  changed zero (x ∷ xs) [] found alone others all = absurd all
   changed zero (x ∷ xs) (r ∷ rows) found alone others all =
       let is : x ≡ table = cc in (
         subst (λ (y : Table). Holds (shown_by y.key) own (new y.tree)) (sym is) held,
         stay table.tree old new xs rows alone others.1 all.1,
       )
-  changed (suc at) (x ∷ xs) [] found alone others all = tt
+  changed (suc at) (x ∷ xs) [] found alone others all = absurd all
   changed (suc at) (x ∷ xs) (r ∷ rows) found alone others all =
       let parts = and_parts _ _ alone in (
         still _ r _ _ (others.0 (differ x.tree table.tree parts.0)) all.0,
@@ -87,7 +103,42 @@ own_held table own trees zero (x ∷ xs) (r ∷ rows) found read all =
 own_held table own trees (suc at) (x ∷ xs) (r ∷ rows) found read all =
     own_held table own trees at xs rows found read all.1
 
+-- the tables of two lists
+module _ (trees : Trees) where
+  pub both_held : (tables more : List Table) (rows others : List (List Row))
+      → HoldAll tables rows trees → HoldAll more others trees
+      → HoldAll (tables ++ more) (rows ++ others) trees
+  both_held [] more [] others held last = last
+  both_held [] more (r ∷ rows) others held last = absurd held
+  both_held (x ∷ tables) more [] others held last = absurd held
+  both_held (x ∷ tables) more (r ∷ rows) others held last =
+      (held.0, both_held tables more rows others held.1 last)
+
+  parts_held : (tables more : List Table) (rows others : List (List Row))
+      → length tables ≡ length rows → HoldAll (tables ++ more) (rows ++ others) trees
+      → HoldAll tables rows trees × HoldAll more others trees
+  parts_held [] more [] others long held = (tt, held)
+  parts_held [] more (r ∷ rows) others long held = absurd (omega (arith, long))
+  parts_held (x ∷ tables) more [] others long held = absurd (omega (arith, long))
+  parts_held (x ∷ tables) more (r ∷ rows) others long held =
+      let parts = parts_held tables more rows others (omega (arith, long)) held.1 in
+      ((held.0, parts.0), parts.1)
+
+-- the tables are as they were
+pub all_still : (tables : List Table) (rows : List (List Row)) (old new : Trees)
+    → AllByRecursion (λ (t : Table). new t.tree ≡ old t.tree) tables
+    → HoldAll tables rows old → HoldAll tables rows new
+all_still [] [] old new same held = tt
+all_still [] (own ∷ rows) old new same held = held
+all_still (x ∷ tables) [] old new same held = held
+all_still (x ∷ tables) (own ∷ rows) old new same held =
+    (still _ own _ _ same.0 held.0, all_still tables rows old new same.1 held.1)
+
 -- ---- the tables of an office
+
+-- those of the amounts over night
+abbrev pub night_tables : List Table
+night_tables = night_draft_table ∷ night_share_table ∷ []
 
 -- the database has the twelve tables, and they hold these rows
 pub record AllShown (all : List (List Row)) (db : Database) : Type 0 where
@@ -97,49 +148,20 @@ pub record AllShown (all : List (List Row)) (db : Database) : Type 0 where
 pub all_shown : (db : Database) (t : Tables) → HoldsTables db t → AllShown (all_columns t) db
 all_shown db t h = record {
   schema = h.schema;
-  hold = (
-    h.meta,
-    (
-      h.owner,
-      (
-        h.enrol,
-        (
-          h.draft,
-          (
-            h.slot,
-            (
-              h.placed,
-              (
-                h.seat,
-                (
-                  h.share_student,
-                  (h.share_part, (h.batch, (h.night_draft, (h.night_share, tt)))),
-                ),
-              ),
-            ),
-          ),
-        ),
-      ),
-    ),
-  );
+  hold = both_held db.trees schema_before.tables night_tables (columns_in Two t)
+      (night_columns_of t) h.rows (h.night_draft, (h.night_share, tt));
 }
 
 pub tables_held : (db : Database) (t : Tables) → AllShown (all_columns t) db → HoldsTables db t
-tables_held db t shown = let h = shown.hold in record {
-  schema = shown.schema;
-  meta = h.0;
-  owner = h.1.0;
-  enrol = h.1.1.0;
-  draft = h.1.1.1.0;
-  slot = h.1.1.1.1.0;
-  placed = h.1.1.1.1.1.0;
-  seat = h.1.1.1.1.1.1.0;
-  share_student = h.1.1.1.1.1.1.1.0;
-  share_part = h.1.1.1.1.1.1.1.1.0;
-  batch = h.1.1.1.1.1.1.1.1.1.0;
-  night_draft = h.1.1.1.1.1.1.1.1.1.1.0;
-  night_share = h.1.1.1.1.1.1.1.1.1.1.1.0;
-}
+tables_held db t shown =
+    let parts = parts_held db.trees schema_before.tables night_tables (columns_in Two t)
+    (night_columns_of t) refl shown.hold in
+    record {
+      schema = shown.schema;
+      rows = parts.0;
+      night_draft = parts.1.0;
+      night_share = parts.1.1.0;
+    }
 
 module _ {at : ℕ} {table : Table} (is : IsTable at table) (all : List (List Row)) where
   -- the rows of one table

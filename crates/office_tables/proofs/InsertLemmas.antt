@@ -12,7 +12,8 @@ use Rattle.sqlite_value.specs.Order.{Row, column}
 use Rattle.sqlite.specs.State.{State, Executes}
 use Rattle.sqlite.specs.Term.{eval_all}
 use Rattle.office_tables.specs.Alterations.{after_all}
-use Rattle.office_tables.specs.Inserting.{Inserts, IsInsert, Shape, Stores, given_row, next_params, row_terms, shown_by, with_row, row_fits, rows_fit}
+use Rattle.office_tables.specs.Inserting.{Inserts, IsInsert, Shape, Stores, given_row, next_params, row_terms, with_row, row_fits, rows_fit}
+use Rattle.office_tables.specs.Stored.{shown_by}
 use Rattle.office_tables.specs.Steps.{Makes}
 use Rattle.office_tables.specs.Tables.{Tables}
 use Rattle.office_tables.specs.TablesHeld.{HoldsTables, all_columns}

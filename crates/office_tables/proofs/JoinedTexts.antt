@@ -27,6 +27,7 @@ use Rattle.office_tables.specs.Selections.{AreListed}
 use Rattle.office_tables.proofs.OrderLemmas.{by_number, read, rising}
 use Rattle.office_tables.proofs.Queries.{column_less, column_later, equal_pairs, equals, map_agree}
 use Rattle.office_tables.proofs.RecordsBack.{placement_of}
+use Rattle.office_tables.proofs.Frames.{held_at}
 
 -- ---- the matches in two tables
 
@@ -172,9 +173,9 @@ pub placements_of_read : (db : Database) (student : ℕ) (t : Tables) → HoldsT
     → AreListed PlacementsRise (placed_of student t) found
 placements_of_read db student t represents found is =
     let params : Row = Int (pos student) ∷ [] in
-    let stored = IsPermutation-flat_map (suited params db.trees) _ _ represents.enrol.same in
+    let stored = IsPermutation-flat_map (suited params db.trees) _ _ (held_at 2 represents).same in
     let typed = IsPermutation-flat_map_each _ _ (one_placed student db.trees t.placed
-    represents.placed.same) t.enrol in
+    (held_at 5 represents).same) t.enrol in
     let rows : IsPermutation (map (eval_all columns)
     (matches db.trees tests (inner 2 (inner 7 end)) (params ∷ [])))
     (map placed_columns (placed_of student t)) =

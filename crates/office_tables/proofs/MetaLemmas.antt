@@ -20,7 +20,7 @@ use Rattle.office_tables.specs.TablesHeld.{HoldsTables, all_columns}
 use Rattle.office_tables.specs.Meta.{flag, meta_columns}
 use Rattle.office_tables.specs.Stored.{keyed_columns}
 use Rattle.office_tables.proofs.Casts.{cast_int, cast_null}
-use Rattle.office_tables.proofs.Frames.{all_shown, none_shown, shown_next, tables_held}
+use Rattle.office_tables.proofs.Frames.{all_shown, held_at, none_shown, shown_next, tables_held}
 use Rattle.office_tables.proofs.DeleteLemmas.{IsDelete}
 use Rattle.office_tables.proofs.Rows.{meta_is}
 use Rattle.office_tables.proofs.Statements.{inserts}
@@ -63,7 +63,7 @@ added old new row count t represents h =
       schema = done.0;
       others = is.tables;
       holds = rw rows (holds_more keyed_columns (map (meta_columns Two) t.meta) stored new_row
-          (meta_columns Two row) refl refl fresh represents.meta);
+          (meta_columns Two row) refl refl fresh (held_at 0 represents));
     }))
 
 -- ---- DELETE

@@ -33,18 +33,19 @@ use Rattle.office_tables.specs.Inserting.{IsTable}
 use Rattle.office_tables.specs.Migrating.{IsWidened, without_nights}
 use Rattle.office_tables.specs.Schema.{HasRows}
 use Rattle.office_tables.specs.ShareStudent.{share_student_columns, night_share_columns}
-use Rattle.office_tables.specs.TablesHeld.{HoldsTables, HoldsOldTables, all_columns}
+use Rattle.office_tables.specs.TablesHeld.{HoldsTables, HoldsOldTables, all_columns, columns_in}
 use Rattle.office_tables.specs.Stored.{Holds, keyed_columns}
 use Rattle.office_tables.specs.Tables.{Tables}
 use Rattle.office_tables.proofs.AskLemmas.{unmapped}
 use Rattle.office_tables.proofs.Casts.{cast_int, cast_null}
-use Rattle.office_tables.proofs.Frames.{AllShown, OneShown, holds_none, shown_next, still, tables_held}
+use Rattle.office_tables.proofs.Frames.{AllShown, OneShown, all_still, both_held, holds_none, night_tables, shown_next, tables_held}
 use Rattle.office_tables.proofs.DeleteLemmas.{cleared}
 use Rattle.office_tables.proofs.MetaLemmas.{delete_means}
 use Rattle.office_tables.proofs.Queries.{answered_by, every, map_agree, one_table, passes, shown_of}
 use Rattle.office_tables.proofs.Rows.{draft_nights, meta_is, share_nights}
 use Rattle.office_tables.proofs.Statements.{inserts_from, simple_table}
 use Rattle.office_tables.proofs.TableLemmas.{holds_more}
+use Rattle.office_tables.proofs.WholeRows.{all_first}
 
 -- ---- INSERT .. SELECT the number, 0 FROM a table
 
@@ -205,43 +206,18 @@ still_none (r ∷ stored) holds =
 begun : (t : Tables) (db : Database) → IsWidened t db
     → AllShown (slice_set (slice_set (slice_set (all_columns t) 0 (map (meta_columns One) t.meta))
     10 []) 11 []) db
-begun t db wide = let b = wide.represents in let r = wide.widened.rows in record {
-  schema = wide.widened.schema_is;
-  hold = (
-    still _ _ _ _ r.0 b.meta,
-    (
-      still _ _ _ _ r.1.0 b.owner,
-      (
-        still _ _ _ _ r.1.1.0 b.enrol,
-        (
-          still _ _ _ _ r.1.1.1.0 b.draft,
-          (
-            still _ _ _ _ r.1.1.1.1.0 b.slot,
-            (
-              still _ _ _ _ r.1.1.1.1.1.0 b.placed,
-              (
-                still _ _ _ _ r.1.1.1.1.1.1.0 b.seat,
-                (
-                  still _ _ _ _ r.1.1.1.1.1.1.1.0 b.share_student,
-                  (
-                    still _ _ _ _ r.1.1.1.1.1.1.1.1.0 b.share_part,
-                    (
-                      still _ _ _ _ r.1.1.1.1.1.1.1.1.1.0 b.batch,
-                      (
-                        holds_none _ _ r.1.1.1.1.1.1.1.1.1.1.0,
-                        (holds_none _ _ r.1.1.1.1.1.1.1.1.1.1.1.0, tt),
-                      ),
-                    ),
-                  ),
-                ),
-              ),
-            ),
-          ),
-        ),
-      ),
-    ),
-  );
-}
+begun t db wide = let b = wide.represents in let same = wide.widened.rows in
+    let ten = all_first (λ (x : Table). db.trees x.tree ≡ without_nights wide.before.trees x.tree)
+    schema_before.tables night_tables same in
+    record {
+      schema = wide.widened.schema_is;
+      hold = both_held db.trees schema_before.tables night_tables (columns_in One t)
+          ([] ∷ [] ∷ [])
+          (all_still schema_before.tables (columns_in One t) wide.before.trees db.trees ten b.rows) (
+            holds_none _ _ same.1.1.1.1.1.1.1.1.1.1.0,
+            (holds_none _ _ same.1.1.1.1.1.1.1.1.1.1.1.0, tt),
+          );
+    }
 
 -- the three statements migrate all rows but the one about the office
 pub nights_filled : (t : Tables) (a b c d : State) (first second third : ℕ) → IsWidened t a.now

@@ -17,6 +17,7 @@ use Rattle.office_tables.specs.Owner.{owner_columns}
 use Rattle.office_tables.proofs.OrderLemmas.{read, rising, table_shown}
 use Rattle.office_tables.proofs.Queries.{column_later, equal_numbers, equals, passes}
 use Rattle.office_tables.proofs.RecordsBack.{owner_of}
+use Rattle.office_tables.proofs.Frames.{held_at}
 
 abbrev pub owners_of_text : List ℕ
 owners_of_text = codes "SELECT exam, dept FROM owner WHERE exam = ?1 ORDER BY exam"
@@ -53,4 +54,4 @@ owners_of_read db exam t represents found is =
     (table_shown owner_columns keyed_columns picked params 1 (equals 0 0 ∷ []) columns shown_is
     (λ x. refl) (passes params (equals 0 0 ∷ [])) (λ r. refl)
     (λ r. r.exam == exam) (λ x. equal_numbers x.exam exam) db.trees t.owner
-    represents.owner.same) is).0
+    (held_at 1 represents).same) is).0

@@ -21,6 +21,7 @@ use Rattle.office_tables.proofs.NightTexts.{paired}
 use Rattle.office_tables.proofs.Queries.{every, id_map, map_agree}
 use Rattle.office_tables.proofs.RecordsBack.{draft_of, student_share_of}
 use Rattle.office_tables.proofs.TableLemmas.{keys_once}
+use Rattle.office_tables.proofs.Frames.{held_at}
 
 -- ---- the rows of two tables in one list
 
@@ -132,11 +133,11 @@ pub same_drafts : (version : Version) (db : Database) (t u : Tables) → HoldsTa
 same_drafts One db t u p q =
     alike_before draft_of draft_shown (λ x. refl) draft_columns (λ (r : DraftRow). r.night)
     (λ x. refl) t.draft u.draft p.night_draft q.night_draft
-    (stored_alike _ _ (db.trees 4) p.draft q.draft)
+    (stored_alike _ _ (db.trees 4) (held_at 3 p) (held_at 3 q))
 same_drafts Two db t u p q =
     alike_now draft_of draft_shown (λ x. refl) draft_columns night_draft_columns
     (λ (r : DraftRow). r.no) (λ x. refl) (λ x y. refl) (λ x. refl) (db.trees 4) (db.trees 15)
-    t.draft u.draft p.draft q.draft p.night_draft q.night_draft
+    t.draft u.draft (held_at 3 p) (held_at 3 q) p.night_draft q.night_draft
 
 pub same_student_shares : (version : Version) (db : Database) (t u : Tables)
     → HoldsTablesIn version db t → HoldsTablesIn version db u → IsPermutation t.share_student u.share_student
@@ -144,9 +145,9 @@ same_student_shares One db t u p q =
     alike_before student_share_of share_shown (λ x. refl) share_student_columns
     (λ (r : StudentShareRow). r.night)
     (λ x. refl) t.share_student u.share_student p.night_share q.night_share
-    (stored_alike _ _ (db.trees 11) p.share_student q.share_student)
+    (stored_alike _ _ (db.trees 11) (held_at 7 p) (held_at 7 q))
 same_student_shares Two db t u p q =
     alike_now student_share_of share_shown (λ x. refl) share_student_columns night_share_columns
     (λ (r : StudentShareRow). r.student) (λ x. refl) (λ x y. refl) (λ x. refl) (db.trees 11)
-    (db.trees 16) t.share_student u.share_student p.share_student q.share_student p.night_share
+    (db.trees 16) t.share_student u.share_student (held_at 7 p) (held_at 7 q) p.night_share
     q.night_share

@@ -22,6 +22,7 @@ use Rattle.office_tables.specs.Selections.{AreListed}
 use Rattle.office_tables.proofs.OrderLemmas.{by_number, read, rising, table_shown}
 use Rattle.office_tables.proofs.Queries.{column_less, equal_numbers, equals, passes}
 use Rattle.office_tables.proofs.RecordsBack.{seat_of}
+use Rattle.office_tables.proofs.Frames.{held_at}
 
 abbrev pub seat_terms : List Term
 seat_terms = col 1 1 ∷ col 1 2 ∷ col 1 3 ∷ col 1 4 ∷ col 1 5 ∷ []
@@ -72,4 +73,4 @@ seats_of_read db number t represents found is =
     (λ x. refl) (passes params (equals 0 0 ∷ [])) (λ r.
     ap (λ v. is_true (binary (Compare Eq Binary) v (Int (pos number))) && true) (column_less r 0))
     (λ r. r.student == number) (λ x. equal_numbers x.student number) db.trees t.seat
-    represents.seat.same) is)
+    (held_at 6 represents).same) is)

@@ -34,6 +34,7 @@ use Rattle.office_tables.proofs.RecordsBack.{number, student_share_of, part_shar
 use Rattle.office_tables.proofs.SameRows.{alike_now}
 use Rattle.office_tables.proofs.Splitting.{share_student_splits}
 use Rattle.office_tables.proofs.TableLemmas.{holds_moved}
+use Rattle.office_tables.proofs.Frames.{held_at}
 
 -- ---- SELECT student, in_row, in_day, spread FROM share_student ORDER BY student
 
@@ -151,7 +152,7 @@ bare_shares_read db t represents none found is =
     by_number (λ (x : StudentShareRow). x.student) _ found
     (first_read db t.share_student found
     (shown_holds _ _ _ _ _ _ share_student_splits
-    (db.trees 11) t.share_student represents.share_student
+    (db.trees 11) t.share_student (held_at 7 represents)
     none) is)
 
 -- ---- SELECT student, night FROM night_share ORDER BY student
@@ -219,7 +220,7 @@ pub student_shares_read : (db : Database) (t : Tables) → HoldsTables db t
 student_shares_read db t represents found is =
     let xs = t.share_student in
     let first = first_read db (map share_student_splits.bare xs) is.rows
-    (bare_shown _ _ _ _ _ _ share_student_splits (db.trees 11) xs represents.share_student)
+    (bare_shown _ _ _ _ _ _ share_student_splits (db.trees 11) xs (held_at 7 represents))
     is.first in
     let columns : IsPermutation (map share_student_columns xs) (map share_student_columns found) =
     rw (is.columns, sym (bare_rows _ _ _ _ _ _ share_student_splits xs))
@@ -229,8 +230,8 @@ student_shares_read db t represents found is =
     by_number (λ (x : StudentShareRow). x.student) _ found (
       alike_now student_share_of share_shown (λ x. refl) share_student_columns night_share_columns
           (λ (x : StudentShareRow). x.student) (λ x. refl) (λ x y. refl) (λ x. refl) (db.trees 11)
-          (db.trees 16) xs found represents.share_student
-          (holds_moved keyed_columns _ _ (db.trees 11) columns represents.share_student)
+          (db.trees 16) xs found (held_at 7 represents)
+          (holds_moved keyed_columns _ _ (db.trees 11) columns (held_at 7 represents))
           represents.night_share
           (holds_moved keyed_columns _ _ (db.trees 16) amounts represents.night_share),
       rise_alike (λ (x : StudentShareRow). x.student ∷ []) is.rows found
@@ -291,7 +292,7 @@ student_shares_of_read db number t represents found is =
     share_student_picked (λ r s. refl) share_student_shown
     (λ r. r.student == number) (λ x y. equal_pairs x.student number y.student x.student)
     (λ x. refl) db.trees t.share_student
-    represents.share_student represents.night_share) is
+    (held_at 7 represents) represents.night_share) is
 
 abbrev pub share_part_terms : List Term
 share_part_terms = col 1 1 ∷ col 1 2 ∷ col 1 3 ∷ col 1 4 ∷ []
@@ -333,5 +334,5 @@ part_shares_read db t represents found is =
     (table_shown share_part_columns keyless_columns share_part_picked [] 12 [] share_part_terms
     share_part_shown (λ x. refl)
     (λ _. true) (λ r. refl) (λ _. true) (λ x. refl) db.trees t.share_part
-    represents.share_part.same))
+    (held_at 8 represents).same))
     is).0

@@ -1,25 +1,34 @@
 -- A whole transaction, from a connection at rest to its commit.
-use Rattle.std.proofs.Common.{◌≡◌, ◌∙◌, refl, sym, subst, IsTrue, Result, OnOk, arith, true, false, []}
+use Rattle.std.proofs.Common.{◌≡◌, ◌∙◌, inl, inr, refl, sym, subst, IsTrue, Result, OnOk, arith, true, false, []}
 use Rattle.std.proofs.lemmas.Result.{on_ok_weaker}
 use Rattle.sqlite.specs.declared.error.Error.{Error}
 use Rattle.sqlite.specs.Effect.{Database}
 use Rattle.sqlite.specs.Held.{Held, state}
-use Rattle.sqlite.specs.State.{HasCleanDisk, Survives, Shows, KeepsCounts}
+use Rattle.sqlite.specs.State.{HasCleanDisk, KeepsCommit, KeepsCounts, Shows, Survives}
+use Rattle.sqlite.specs.Steps.{FailsToCommit}
 use Rattle.sqlite.specs.Store.{Ghosts}
-use Rattle.sqlite.proofs.StateLemmas.{survives_then}
+use Rattle.sqlite.proofs.StateLemmas.{survives_then, survives_weaker}
 use Rattle.sqlite_trees.specs.Tree.{Trees}
-use Rattle.office_schema.specs.Schema.{office_schema}
-use Rattle.office_tables.specs.Alterations.{Changed, HoldsChanged}
+use Rattle.office_tables.specs.Alterations.{Committed, TablesChanged, TransactionRan, Undone, found_in}
 use Rattle.office_tables.specs.TablesHeld.{HoldsTables}
-use Rattle.office_tables.specs.Steps.{Within, Makes}
+use Rattle.office_tables.specs.Steps.{Within}
 use Rattle.office_tables.specs.Tables.{Tables}
 
+-- a relation to the new database that asks only for the office's schema and for the rows
+abbrev pub IsOfRows : (Database → Database → Type 0) → Type 0
+IsOfRows Related =
+    (old new : Database) (found : Trees) → found ≡ new.trees → Related old new
+    → Related old (found_in found)
+
 -- the trees of a database that holds these tables hold them too, under the office's schema
-trees_hold : (db : Database) (found : Trees) (t : Tables) → found ≡ db.trees → HoldsTables db t
-    → HoldsTables (record { schema = office_schema; trees = found }) t
+pub trees_hold : (db : Database) (found : Trees) (t : Tables) → found ≡ db.trees
+    → HoldsTables db t → HoldsTables (found_in found) t
 trees_hold db found t is held =
     subst (λ s. HoldsTables (record { schema = s; trees = found }) t) held.schema
     (subst (λ trees. HoldsTables (record { schema = db.schema; trees = trees }) t) (sym is) held)
+
+pub changed_rows : (f : Tables → Tables) → IsOfRows (TablesChanged f)
+changed_rows f old new found is made t held = trees_hold new found (f t) is (made t held)
 
 module _ {S : Type 0} (g : Ghosts S) (old begun last end : Held S)
     (begins : begun ≡ record old { in_transaction = true })
@@ -28,33 +37,14 @@ module _ {S : Type 0} (g : Ghosts S) (old begun last end : Held S)
   last_clean : HasCleanDisk (state g end) → HasCleanDisk (state g last)
   last_clean clean = omega (arith, survives.clean, clean)
 
-  was_open : HasCleanDisk (state g last) → IsTrue (state g last).is_open
-      → IsTrue (state g old).is_open
-  was_open clean = ((subst (λ h. Within (state g h) (state g last)) begins within).kept
-      clean).was_open
-
-  pub changed : (f : Tables → Tables)
-      → (HasCleanDisk (state g last) → IsTrue begun.in_transaction
-      → Makes f (state g begun) (state g last))
-      → (r : Result (Unit {0}) Error)
-      → (HasCleanDisk (state g end) → OnOk r (IsTrue (state g last).in_transaction
-      × Shows (state g last) (state g end) (state g last).now (state g last).now false
-      × KeepsCounts (state g last) (state g end) × ((state g end).marks ≡ [])))
-      → HasCleanDisk (state g end) → OnOk r (Changed f (state g old) (state g end))
-  changed f makes r ok clean =
-      let before = last_clean clean in
-      let made = subst (λ h. IsTrue h.in_transaction → Makes f (state g h) (state g last)) begins
-      (makes before) refl in
-      on_ok_weaker r (λ done. record {
-        was_open = was_open before done.1.was_open;
-        is_open = done.1.is_open;
-        committed = done.1.now_is ∙ sym done.1.committed_is;
-        makes = λ t h. subst (λ db. HoldsTables db (f t)) (sym done.1.now_is) (made.1 t h);
-      }) (ok clean)
+  begun_kept : HasCleanDisk (state g last) → KeepsCommit (state g old) (state g last)
+  begun_kept clean =
+      let kept = (subst (λ h. Within (state g h) (state g last)) begins within).kept clean in
+      record { was_open = kept.was_open; committed = kept.committed }
 
   -- a crash leaves what it would have left before the transaction
-  inside_survives : Survives (state g old) (state g last) (λ _. ⊥)
-  inside_survives =
+  begun_survives : Survives (state g old) (state g last) (λ _. ⊥)
+  begun_survives =
       let inside = (subst (λ h. Within (state g h) (state g last)) begins within).survives in
       record {
         clean = inside.clean;
@@ -65,15 +55,67 @@ module _ {S : Type 0} (g : Ghosts S) (old begun last end : Held S)
         crash = inside.crash;
       }
 
-  -- or what is committed: the tables after the change
-  pub survived : (f : Tables → Tables)
-      → (HasCleanDisk (state g last) → IsTrue begun.in_transaction
-      → Makes f (state g begun) (state g last))
-      → Survives (state g old) (state g end) (HoldsChanged f (state g old))
-  survived f makes =
-      survives_then (state g old) (state g last) (state g end) (λ _. ⊥)
-      (λ db. db ≡ (state g last).now.trees) (HoldsChanged f (state g old)) (λ _ db none. absurd none)
-      (λ clean db is t held. trees_hold (state g last).now db (f t) is
-      ((subst (λ h. IsTrue h.in_transaction → Makes f (state g h) (state g last)) begins
-      (makes (last_clean clean)) refl).1 t held))
-      inside_survives survives
+  module _ (Related : Database → Database → Type 0)
+      (makes : HasCleanDisk (state g last) → IsTrue begun.in_transaction
+      → IsTrue (state g last).in_transaction × Related (state g begun).now (state g last).now) where
+    made : HasCleanDisk (state g last)
+        → IsTrue (state g last).in_transaction × Related (state g old).now (state g last).now
+    made clean =
+        subst (λ h. IsTrue h.in_transaction → IsTrue (state g last).in_transaction
+        × Related (state g h).now (state g last).now) begins (makes clean) refl
+
+    -- after its commit
+    pub done_by : (r : Result (Unit {0}) Error)
+        → (HasCleanDisk (state g end) → OnOk r (IsTrue (state g last).in_transaction
+        × Shows (state g last) (state g end) (state g last).now (state g last).now false
+        × KeepsCounts (state g last) (state g end) × ((state g end).marks ≡ [])))
+        → HasCleanDisk (state g end) → OnOk r (Committed Related (state g old) (state g end))
+    done_by r ok clean =
+        let before = last_clean clean in
+        on_ok_weaker r (λ done. record {
+          was_open = (begun_kept before).was_open done.1.was_open;
+          is_open = done.1.is_open;
+          committed = done.1.now_is ∙ sym done.1.committed_is;
+          related = subst (Related (state g old).now) (sym done.1.now_is) (made before).1;
+        }) (ok clean)
+
+    -- or after its failure
+    pub undone_by : (e : Error) → FailsToCommit (state g last) (state g end) e
+        → HasCleanDisk (state g end) → Undone (state g old) (state g end)
+    undone_by e (inl fails) clean =
+        let kept = begun_kept (last_clean clean) in
+        let back = fails.3 in
+        record {
+          was_open = λ opened. kept.was_open (back.was_open opened);
+          now = λ opened. (back.undone opened).0 ∙ kept.committed (back.was_open opened);
+          committed = λ opened. (back.undone opened).1 ∙ kept.committed (back.was_open opened);
+        }
+    undone_by e (inr outside) clean =
+        absurd (let never : true ≡ false = sym (made (last_clean clean)).0 ∙ outside.1 in cc)
+
+    -- a later opening may find what is committed
+    pub survives_by : IsOfRows Related → Survives (state g old) (state g end)
+        (λ found. Related (state g old).now (found_in found))
+    survives_by of_rows =
+        survives_then (state g old) (state g last) (state g end) (λ _. ⊥)
+        (λ trees. trees ≡ (state g last).now.trees) _ (λ _ trees none. absurd none)
+        (λ clean trees is. of_rows _ (state g last).now trees is (made (last_clean clean)).1)
+        begun_survives survives
+
+-- a relation that follows from another
+pub ran_weaker : {S A E : Type 0} (g : Ghosts S) (old new : Held S) (result : Result A E)
+    (P Q : Database → Database → Type 0) → ((a b : Database) → P a b → Q a b)
+    → TransactionRan g P old new result → TransactionRan g Q old new result
+ran_weaker g old new result P Q weaker ran = record {
+  done = λ clean. on_ok_weaker result (λ done. record {
+    was_open = done.was_open;
+    is_open = done.is_open;
+    committed = done.committed;
+    related = weaker _ _ done.related;
+  }) (ran.done clean);
+  undone = ran.undone;
+  rests = ran.rests;
+  clean = ran.clean;
+  survives = survives_weaker (state g old) (state g new) _ _ (λ _ found. weaker _ (found_in found))
+      ran.survives;
+}

@@ -101,7 +101,7 @@ rows_long table cols c is unkeyed present schema trees stored typed all =
     (subst (λ l. are_typed table.key 0 l (drop 1 r) ≡ true) is (and_parts _ _ t).0)
     (subst (λ l. are_present table.key 0 l r ≡ true) is p)) stored typed all
 
-all_first : (P : Table → Type 0) (xs ys : List Table) → AllByRecursion P (xs ++ ys)
+pub all_first : (P : Table → Type 0) (xs ys : List Table) → AllByRecursion P (xs ++ ys)
     → AllByRecursion P xs
 all_first P [] ys all = tt
 all_first P (x ∷ xs) ys all = (all.0, all_first P xs ys all.1)

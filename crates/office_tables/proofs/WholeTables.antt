@@ -16,7 +16,7 @@ use Rattle.sqlite.specs.Term.{Term, col, eval_all}
 use Rattle.office_schema.specs.Schema.{office_schema, schema_before}
 use Rattle.office_tables.specs.declared.version.Version.{Version}
 use Rattle.office_tables.specs.declared.version.Version.TheVariants.{Two}
-use Rattle.office_tables.specs.Inserting.{shown_by}
+use Rattle.office_tables.specs.Stored.{shown_by}
 use Rattle.office_tables.specs.Listings.{Lists, ListsTable, IsListed, selected_columns, ordered_by}
 use Rattle.office_tables.specs.Records.{columns_from}
 use Rattle.office_tables.specs.Versions.{schema_of}

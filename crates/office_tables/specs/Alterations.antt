@@ -1,28 +1,50 @@
 -- The effect of a transaction on the tables.
-use Rattle.std.specs.Prelude.{◌≡◌, IsTrue, List, [], ◌∷◌, Option, None, Some}
-use Rattle.sqlite.specs.State.{State}
+use Rattle.std.specs.Prelude.{◌≡◌, false, IsTrue, List, [], ◌∷◌, OnErr, OnOk, Option, None, Result, Some}
+use Rattle.sqlite.specs.Effect.{Database}
+use Rattle.sqlite.specs.Held.{Held, state}
+use Rattle.sqlite.specs.State.{HasCleanDisk, State, Survives}
+use Rattle.sqlite.specs.Store.{Ghosts}
 use Rattle.sqlite_trees.specs.Tree.{Trees}
 use Rattle.office_schema.specs.Schema.{office_schema}
 use Rattle.office_tables.specs.Tables.{Tables}
 use Rattle.office_tables.specs.TablesHeld.{HoldsTables}
 
--- the database was open and still is; the tables have this change, and it is committed
-pub record Changed (f : Tables → Tables) (old new : State) : Type 0 where
+-- the tables have this change
+abbrev pub TablesChanged : (Tables → Tables) → Database → Database → Type 0
+TablesChanged f old new = (t : Tables) → HoldsTables old t → HoldsTables new (f t)
+
+-- the database of a file with these trees and the office's schema
+abbrev pub found_in : Trees → Database
+found_in found = record { schema = office_schema; trees = found }
+
+-- the database was open and still is; the old one and the new one are so related, and the new one is
+-- committed
+pub record Committed (Related : Database → Database → Type 0) (old new : State) : Type 0 where
   pub was_open : IsTrue old.is_open
   pub is_open : IsTrue new.is_open
   pub committed : new.now ≡ new.committed
-  pub makes : (t : Tables) → HoldsTables old.now t → HoldsTables new.now (f t)
-
--- the trees of a file after a crash: they hold the tables after this change
-abbrev pub HoldsChanged : (Tables → Tables) → State → Trees → Type 0
-HoldsChanged f old found =
-    (t : Tables) → HoldsTables old.now t → HoldsTables (record { schema = office_schema; trees = found }) (f t)
+  pub related : Related old.now new.now
 
 -- the database is as the last commit left it
 pub record Undone (old new : State) : Type 0 where
   pub was_open : IsTrue new.is_open → IsTrue old.is_open
   pub now : IsTrue new.is_open → new.now ≡ old.committed
   pub committed : IsTrue new.is_open → new.committed ≡ old.committed
+
+-- a whole transaction: on an `Ok` it is committed, and the databases before and after it are so
+-- related, on an `Err` it is undone; a later opening may find what it might have found before, or a
+-- database so related to the old one
+pub record TransactionRan {S A E : Type 0} (store : Ghosts S)
+    (Related : Database → Database → Type 0) (old new : Held S) (result : Result A E)
+    : Type 0 where
+  pub done : HasCleanDisk (state store new)
+      → OnOk result (Committed Related (state store old) (state store new))
+  pub undone : HasCleanDisk (state store new)
+      → OnErr result (Undone (state store old) (state store new))
+  pub rests : new.in_transaction ≡ false
+  pub clean : HasCleanDisk (state store new) → HasCleanDisk (state store old)
+  pub survives : Survives (state store old) (state store new)
+      (λ found. Related (state store old).now (found_in found))
 
 -- the tables after each alteration, one after the other
 abbrev pub after_all : {A : Type 0} → (A → Tables → Tables) → List A → Tables → Tables

@@ -1,10 +1,15 @@
 -- The insertions of a row, by its table.
 use Rattle.office_tables.specs.declared.enrol.EnrolRow.{EnrolRow}
+use Rattle.office_tables.specs.declared.owner.OwnerRow.{OwnerRow}
 use Rattle.office_tables.specs.declared.placed.PlacedRow.{PlacedRow}
 use Rattle.office_tables.specs.declared.seat.SeatRow.{SeatRow}
 use Rattle.office_tables.specs.declared.share_part.PartShareRow.{PartShareRow}
 use Rattle.office_tables.specs.declared.slot.SlotRow.{SlotRow}
 use Rattle.office_tables.specs.declared.table.Insert.{Insert}
+
+-- adds the owner of an exam
+abbrev pub InsertOwner : Type 0
+InsertOwner = Insert OwnerRow 2 1
 
 -- adds an enrolment
 abbrev pub InsertEnrol : Type 0

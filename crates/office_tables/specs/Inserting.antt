@@ -17,7 +17,7 @@ use Rattle.sqlite.specs.Source.TheVariants.{Values}
 use Rattle.sqlite.specs.Term.{Term, lit, col}
 use Rattle.sqlite.proofs.Callers.{IsPlain, command_of}
 use Rattle.office_schema.specs.Schema.{office_schema}
-use Rattle.office_tables.specs.Stored.{keyed_columns, keyless_columns}
+use Rattle.office_tables.specs.Stored.{shown_by}
 use Rattle.office_tables.specs.Tables.{Tables}
 use Rattle.office_tables.specs.TablesHeld.{all_columns}
 
@@ -52,11 +52,6 @@ row_terms (Some key) w at = col 0 at ∷ lit Null ∷ next_params (pred w) (suc 
 abbrev pub given_row : Option ℕ → Row → Row
 given_row None row = Null ∷ row
 given_row (Some key) row = column row 0 ∷ Null ∷ drop 1 row
-
--- the columns that a table shows of a stored row
-abbrev pub shown_by : Option ℕ → Row → Row
-shown_by None = keyless_columns
-shown_by (Some key) = keyed_columns
 
 -- ---- a type of rows
 

@@ -20,7 +20,7 @@ pub record Keeps (old new : State) : Type 0 where
   pub mode : old.in_transaction ≡ false → new.in_transaction ≡ false
 
 -- on a clean disk, a connection that answers `Ok` was open
-abbrev pub AnswersOpen : {S X : Type 0} → Ghosts S → Held S → Held S → Result X Error → Type 0
+abbrev pub AnswersOpen : {S X E : Type 0} → Ghosts S → Held S → Held S → Result X E → Type 0
 AnswersOpen store old new result =
     HasCleanDisk (state store new) → OnOk result (IsTrue (state store old).is_open)
 
@@ -39,8 +39,8 @@ ReadsIn version store is old new result =
     → IfOk result (is t)
 
 -- likewise, an `Ok` leaves everything unchanged
-abbrev pub LeavesAllIn : {S X : Type 0} → Version → Ghosts S
-    → Held S → Held S → Result X Error → Type 0
+abbrev pub LeavesAllIn : {S X E : Type 0} → Version → Ghosts S
+    → Held S → Held S → Result X E → Type 0
 LeavesAllIn version store old new result =
     HasCleanDisk (state store new) → (t : Tables) → HoldsTablesIn version (state store old).now t
     → OnOk result (IsUnchanged (state store old) (state store new))
@@ -56,22 +56,28 @@ abbrev pub Reads : {S X : Type 0} → Ghosts S → (Tables → X → Type 0)
     → Held S → Held S → Result X Error → Type 0
 Reads = ReadsIn Two
 
--- in version 2, an `Ok` leaves everything unchanged
-abbrev pub LeavesAll : {S X : Type 0} → Ghosts S → Held S → Held S → Result X Error → Type 0
-LeavesAll = LeavesAllIn Two
-
--- in version 2, whatever the result, the database is unchanged, or as the last commit left it
-abbrev pub LeavesCommitted : {S : Type 0} → Ghosts S → Held S → Held S → Type 0
-LeavesCommitted = LeavesCommittedIn Two
-
--- what a reader leaves: an `Ok` leaves everything unchanged, an `Err` the database as it was or as the
--- last commit left it; a later opening may find only what it might have found before
-pub record LeavesTables {S X : Type 0} (store : Ghosts S) (old new : Held S)
-    (result : Result X Error) : Type 0 where
+-- what a reader of tables of this version leaves: an `Ok` leaves everything unchanged, an `Err` the
+-- database as it was or as the last commit left it; a later opening may find only what it might have
+-- found before
+pub record LeavesTablesIn {S X E : Type 0} (version : Version) (store : Ghosts S) (old new : Held S)
+    (result : Result X E) : Type 0 where
   pub open_on_ok : AnswersOpen store old new result
   pub was_open : OpensNone store old new
-  pub same : LeavesAll store old new result
-  pub kept : LeavesCommitted store old new
+  pub same : LeavesAllIn version store old new result
+  pub kept : LeavesCommittedIn version store old new
+  pub mode : old.in_transaction ≡ false → new.in_transaction ≡ false
+  pub survives : Survives (state store old) (state store new) (λ _. ⊥)
+
+-- what a reader of tables of version 2 leaves
+abbrev pub LeavesTables : {S X : Type 0} → Ghosts S → Held S → Held S → Result X Error → Type 0
+LeavesTables = LeavesTablesIn Two
+
+-- what readers leave, one after another or none at all, if the file is as they expect
+pub record LeavesFile {S X E : Type 0} (Expected : Type 0) (store : Ghosts S) (old new : Held S)
+    (result : Result X E) : Type 0 where
+  pub same : HasCleanDisk (state store new) → Expected
+      → OnOk result ((new ≡ old) ⊎ IsUnchanged (state store old) (state store new))
+  pub kept : HasCleanDisk (state store new) → Expected → Keeps (state store old) (state store new)
   pub mode : old.in_transaction ≡ false → new.in_transaction ≡ false
   pub survives : Survives (state store old) (state store new) (λ _. ⊥)
 

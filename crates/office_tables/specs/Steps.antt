@@ -8,7 +8,7 @@ use Rattle.sqlite.specs.Held.{Held, state}
 use Rattle.sqlite.specs.State.{State, Executes, HasCleanDisk, Survives, KeepsCommit}
 use Rattle.sqlite.specs.Store.{Ghosts}
 use Rattle.office_tables.specs.Tables.{Tables}
-use Rattle.office_tables.specs.TablesHeld.{HoldsTables}
+use Rattle.office_tables.specs.Alterations.{TablesChanged}
 
 -- whatever the result: nothing is committed, and a crash leaves what it would have left before
 pub record Within (old new : State) : Type 0 where
@@ -22,7 +22,7 @@ Leads P Q old new = IsTrue new.in_transaction × (P old.now → Q new.now)
 -- the transaction continues, and the tables have this change
 abbrev pub Makes : (Tables → Tables) → State → State → Type 0
 Makes f old new =
-    IsTrue new.in_transaction × ((t : Tables) → HoldsTables old.now t → HoldsTables new.now (f t))
+    IsTrue new.in_transaction × TablesChanged f old.now new.now
 
 -- a statement has run, and the transaction continues
 pub record HasRun (sql : List ℕ) (params : Row) (old new : State) : Type 0 where

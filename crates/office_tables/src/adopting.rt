@@ -1,10 +1,10 @@
 // The tables of an office, read from a database with any contents.
-ghost use Rattle.std.specs.Prelude.{◌≡◌, ◌⊎◌, false, IfOk, IsSome, IsTrue, OnOk};
+ghost use Rattle.std.specs.Prelude.{IfOk, IsSome, IsTrue};
 ghost use Rattle.sqlite.specs.Held.{state};
-ghost use Rattle.sqlite.specs.State.{HasCleanDisk, IsUnchanged, Survives};
+ghost use Rattle.sqlite.specs.State.{HasCleanDisk};
 ghost use Rattle.office_tables.specs.Adopting.{IsAdopted, IsDrafts, IsFoundPart, HoldsDrafts, HoldsPublication, HoldsSession, HasAllOfPublication, IsSession, IsWhole};
-ghost use Rattle.office_tables.specs.Finders.{Adopts, Finds, Leaves, Looks};
-ghost use Rattle.office_tables.specs.Readers.{Keeps};
+ghost use Rattle.office_tables.specs.Finders.{Adopts};
+ghost use Rattle.office_tables.specs.Readers.{LeavesFile};
 
 use crate::batch::{BatchCountsRow, adopt_batches};
 use crate::draft::{DraftRow, adopt_drafts};
@@ -31,16 +31,10 @@ pub fn adopt_tables<S: Alter>(
 ) -> Result<Option<Found>, Error>
     ensures found { HasCleanDisk (state S.Store conn.new)
         → IfOk result (IsAdopted (state S.Store conn.old).now) }
-    ensures same { HasCleanDisk (state S.Store conn.new)
-        → OnOk result ((conn.new ≡ conn.old)
-        ⊎ IsUnchanged (state S.Store conn.old) (state S.Store conn.new)) }
     // If rows are found, the database is open.
     ensures open { HasCleanDisk (state S.Store conn.new)
         → IfOk result (λ found. IsSome found → IsTrue (state S.Store conn.new).is_open) }
-    ensures kept { HasCleanDisk (state S.Store conn.new)
-        → Keeps (state S.Store conn.old) (state S.Store conn.new) }
-    ensures mode { conn.old.in_transaction ≡ false → conn.new.in_transaction ≡ false }
-    ensures survives { Survives (state S.Store conn.old) (state S.Store conn.new) (λ _. ⊥) }
+    ensures leaves { LeavesFile (Unit {0}) S.Store conn.old conn.new result }
 {
     let Some(version) = version_of(alloc, conn.schema())? else {
         return Ok(None);
@@ -53,9 +47,7 @@ fn adopt_rows<S: Alter>(
     conn: &mut Connection<S>,
     version: Version,
 ) -> Result<Option<Found>, Error>
-    ensures found { Finds version S.Store IsAdopted conn.old conn.new result }
-    ensures same { Leaves version S.Store conn.old conn.new result }
-    ensures looks { Looks version (state S.Store conn.old) (state S.Store conn.new) }
+    ensures { Adopts version S.Store IsAdopted conn.old conn.new result }
 {
     let session = find_session(alloc, conn, version)?;
     let drafts = find_drafts(alloc, conn, version)?;

@@ -1,8 +1,7 @@
 // Whole transactions: an alteration of the tables is made completely, or not at all.
-ghost use Rattle.std.specs.Prelude.{◌≡◌, false, OnErr, OnOk};
+ghost use Rattle.std.specs.Prelude.{◌≡◌, false};
 ghost use Rattle.sqlite.specs.Held.{state};
-ghost use Rattle.sqlite.specs.State.{HasCleanDisk, Survives};
-ghost use Rattle.office_tables.specs.Alterations.{Changed, HoldsChanged, Undone};
+ghost use Rattle.office_tables.specs.Alterations.{TablesChanged, TransactionRan};
 ghost use Rattle.office_tables.specs.Steps.{Changes, Within};
 ghost use Rattle.office_tables.specs.Tables.{Tables};
 
@@ -31,15 +30,8 @@ pub fn transact<S: Alter, A: Alteration>(
 ) -> Result<(), Error>
     requires rests { conn.old.in_transaction ≡ false }
     requires fits { A.fits alteration.now }
-    ensures done { HasCleanDisk (state S.Store conn.new) → OnOk result
-        (Changed (A.alteration alteration.now) (state S.Store conn.old) (state S.Store conn.new)) }
-    ensures undone { HasCleanDisk (state S.Store conn.new)
-        → OnErr result (Undone (state S.Store conn.old) (state S.Store conn.new)) }
-    // A crash leaves what it would have left before, or the tables after the change.
-    ensures survives { Survives (state S.Store conn.old) (state S.Store conn.new)
-        (HoldsChanged (A.alteration alteration.now) (state S.Store conn.old)) }
-    ensures rests { conn.new.in_transaction ≡ false }
-    ensures clean { HasCleanDisk (state S.Store conn.new) → HasCleanDisk (state S.Store conn.old) }
+    ensures { TransactionRan S.Store (TablesChanged (A.alteration alteration.now))
+        conn.old conn.new result }
 {
     let mut tx = conn.transaction();
     alteration.apply(&mut tx)?;

@@ -1,11 +1,9 @@
 // Accepted batches of changes of enrolments.
-ghost use Rattle.std.specs.Prelude.{◌≡◌, ◌==◌, false, filter, map, option_to_list};
-ghost use Rattle.sqlite.specs.Held.{state};
-ghost use Rattle.sqlite.specs.State.{Survives};
+ghost use Rattle.std.specs.Prelude.{◌≡◌, ◌==◌, filter, map, option_to_list};
 ghost use Rattle.office_tables.specs.declared.version.Version.{Version};
 ghost use Rattle.office_tables.specs.Batch.{batch_columns, batch_from, counts_columns, with_batch, FitsBatch, FitsCounts, IsFoundBatches};
 ghost use Rattle.office_tables.specs.Finders.{Adopts};
-ghost use Rattle.office_tables.specs.Readers.{AnswersOpen, LeavesAllIn, LeavesCommittedIn, OpensNone, ReadsIn};
+ghost use Rattle.office_tables.specs.Readers.{LeavesTablesIn, ReadsIn};
 
 use crate::altering::Alteration;
 use crate::listing::read_table;
@@ -118,12 +116,8 @@ pub fn batch_of<S: Alter>(
     ensures row { (version : Version) → ReadsIn version S.Store
         (λ t found. filter (λ r. r.no == no) t.batch ≡ map batch_from (option_to_list found))
         conn.old conn.new result }
-    ensures open { AnswersOpen S.Store conn.old conn.new result }
-    ensures was_open { OpensNone S.Store conn.old conn.new }
-    ensures same { (version : Version) → LeavesAllIn version S.Store conn.old conn.new result }
-    ensures kept { (version : Version) → LeavesCommittedIn version S.Store conn.old conn.new }
-    ensures mode { conn.old.in_transaction ≡ false → conn.new.in_transaction ≡ false }
-    ensures survives { Survives (state S.Store conn.old) (state S.Store conn.new) (λ _. ⊥) }
+    ensures leaves { (version : Version)
+        → LeavesTablesIn version S.Store conn.old conn.new result }
 {
     let mut found: Vec<BatchRow> = stream(
         alloc,

@@ -1,15 +1,14 @@
 // Whole tables, read from a database if only its schema is known.
 ghost use Rattle.std.specs.Prelude.{◌≡◌, ◌↔◌, ℕ, List, [], map, IfOk, IfSome, IsTrue};
-ghost use Rattle.sqlite.specs.Held.{state};
 ghost use Rattle.sqlite.specs.Query.{IsAnswer};
 ghost use Rattle.sqlite.specs.Term.{Term};
 ghost use Rattle.sqlite_value.specs.declared.keys.Key.{Key};
 ghost use Rattle.sqlite_value.specs.Order.{Row as Columns, column};
 ghost use Rattle.office_tables.specs.declared.version.Version.{Version};
 ghost use Rattle.office_tables.specs.Readings.{IsNext, IsRead, ColumnRises};
-ghost use Rattle.office_tables.specs.Finders.{Adopts, Finds, IsFound, Leaves, Looks};
+ghost use Rattle.office_tables.specs.Finders.{Adopts, Finds, IsFound};
 ghost use Rattle.sqlite_schema.specs.declared.schema.Table.{Table};
-ghost use Rattle.office_tables.specs.Inserting.{shown_by};
+ghost use Rattle.office_tables.specs.Stored.{shown_by};
 ghost use Rattle.office_tables.specs.Listings.{one_table, Lists, ListsKeyed, ListsTable};
 
 use crate::records::Record;
@@ -47,9 +46,9 @@ pub(crate) fn read_table<S: Alter, R: Record + Drop>(
     conn: &mut Connection<S>,
     sql: &str,
 ) -> Result<Option<Vec<R>>, Error>
-    ensures found { (version : Version) (tree : ℕ) (show : Columns → Columns)
+    ensures adopts { (version : Version) (tree : ℕ) (show : Columns → Columns)
         → ListsTable version R.WIDTH tree show sql.now
-        → Finds version S.Store (λ db. IsFound R.fits R.columns_of show (db.trees tree))
+        → Adopts version S.Store (λ db. IsFound R.fits R.columns_of show (db.trees tree))
         conn.old conn.new result }
     // Records come in the order of their rows' numbers.
     ensures rise { (version : Version) (at tree : ℕ) (show : Columns → Columns)
@@ -57,12 +56,6 @@ pub(crate) fn read_table<S: Alter, R: Record + Drop>(
         → Finds version S.Store (λ _ found. IfSome found
         (λ records. ColumnRises at (map R.columns_of records.items)))
         conn.old conn.new result }
-    ensures same { (version : Version) (tree : ℕ) (show : Columns → Columns)
-        → ListsTable version R.WIDTH tree show sql.now
-        → Leaves version S.Store conn.old conn.new result }
-    ensures looks { (version : Version) (tree : ℕ) (show : Columns → Columns)
-        → ListsTable version R.WIDTH tree show sql.now
-        → Looks version (state S.Store conn.old) (state S.Store conn.new) }
 {
     let rows = list_rows(conn, sql)?;
     if !numbers_rise(&rows, R::WIDTH) {
@@ -73,17 +66,11 @@ pub(crate) fn read_table<S: Alter, R: Record + Drop>(
 
 // Returns the rows that a text lists.
 pub(crate) fn list_rows<S: Alter>(conn: &mut Connection<S>, sql: &str) -> Result<Vec<Row>, Error>
-    ensures rows { (version : Version) (tree : ℕ) (shown : List Term) (order : List (Term × Key))
+    ensures { (version : Version) (tree : ℕ) (shown : List Term) (order : List (Term × Key))
         → Lists version tree shown order sql.now
-        → Finds version S.Store
+        → Adopts version S.Store
         (λ db rows. IsAnswer (one_table tree [] shown order) db.trees [] rows.items)
         conn.old conn.new result }
-    ensures same { (version : Version) (tree : ℕ) (shown : List Term) (order : List (Term × Key))
-        → Lists version tree shown order sql.now
-        → Leaves version S.Store conn.old conn.new result }
-    ensures looks { (version : Version) (tree : ℕ) (shown : List Term) (order : List (Term × Key))
-        → Lists version tree shown order sql.now
-        → Looks version (state S.Store conn.old) (state S.Store conn.new) }
 {
     conn.query_all(sql, &[])
 }

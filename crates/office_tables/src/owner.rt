@@ -1,10 +1,11 @@
 // Owners of exams.
-ghost use Rattle.office_tables.specs.Owner.{owner_columns, with_owner, without_owner, FitsOwner};
+ghost use Rattle.office_tables.specs.Owner.{owner_columns, without_owner, FitsOwner};
 
 use crate::altering::Alteration;
 use crate::listing::Listed;
 use crate::records::Record;
 use crate::running::run;
+use crate::table::{Insert, InsertTexts, Table};
 use sqlite::{Alter, Error, Row, Transaction, params};
 
 /// The owner of an exam: a department, 1 to 999.
@@ -41,25 +42,44 @@ impl Listed for OwnerRow {
     }
 }
 
-/// Adds an owner.
-#[derive(Clone, Copy)]
-pub struct InsertOwner {
-    pub row: OwnerRow,
-}
+impl Table<2, 1> for OwnerRow {
+    ghost use Rattle.std.specs.Prelude.{false};
+    ghost use Rattle.std.proofs.Common.{arith};
+    ghost use Rattle.office_schema.specs.Schema.{owner_table};
 
-impl Alteration for InsertOwner {
-    ghost alteration = { λ it t. with_owner it.row t };
+    ghost shape = { record {
+      at = 1;
+      table = owner_table;
+      columns_of = owner_columns;
+      rows = λ t. t.owner;
+      with_rows = λ rows t. record t { owner = rows };
+    } };
+
+    ghost limited = { false };
 
     ghost fits = { λ _. Unit {0} };
 
-    fn apply<S: Alter>(&self, tx: &mut Transaction<'_, S>) -> Result<(), Error> {
-        run(
-            tx,
-            "INSERT INTO owner (exam, dept) VALUES (?1, ?2)",
-            params![self.row.exam, self.row.dept],
-        )
+    fn values(&self) -> [i64; 2] {
+        [self.exam, self.dept].map(i64::from)
     }
+
+    // Owners are added one by one.
+    fn inserts() -> InsertTexts {
+        InsertTexts {
+            one: "INSERT INTO owner (exam, dept) VALUES (?1, ?2)",
+            many: "INSERT INTO owner (exam, dept) VALUES (?1, ?2)",
+        }
+    }
+
+    ghost narrow = { Prim.omega arith };
+
+    ghost small = { Prim.omega arith };
+
+    ghost some = { Prim.omega arith };
 }
+
+/// Adds an owner.
+pub type InsertOwner = Insert<OwnerRow, 2, 1>;
 
 /// Deletes an exam's owner.
 #[derive(Clone, Copy)]

@@ -13,11 +13,9 @@ use Rattle.office_store.proofs.RunLemmas.{clean_before}
 use Rattle.office_store.specs.Faults.{IsOfDatabase}
 use Rattle.office_store.specs.Opening.{WeighsNoNight}
 use Rattle.office_model.specs.declared.fault.StoreFault.{StoreFault}
-use Rattle.office_store.proofs.AdoptLemmas.{both_same, found_batches, held_still, keeps_still}
-use Rattle.office_store.proofs.AdoptLemmas.{open_still}
+use Rattle.office_store.proofs.AdoptLemmas.{file_as, found_batches, found_then, held_still, open_still}
 use Rattle.office_store.proofs.AdoptLemmas.{none_long, none_refused, none_weighed}
 use Rattle.office_store.proofs.FoundDraftLemmas.{meaning}
-use Rattle.office_store.proofs.LeavingLemmas.{survives_on}
 use Rattle.office_store.proofs.AllDraftLemmas.{drafts_represent, found_drafts, found_together}
 use Rattle.office_store.proofs.InMemoryLemmas.{counted}
 use Rattle.office_store.proofs.adopting.found_office.Goals as goal
@@ -63,10 +61,10 @@ returns-in_err-check_bytes-clause-none g c clean =
     let db = (state g.S.Store old).now in
     let found = c.in-Ok-Some.found in
     let some : c.in-Ok-Some.field-0 ≡ Some found = search rules in
-    let clean_mid = clean_before c.check_bytes.ensures.survives clean in
+    let clean_mid = clean_before c.check_bytes.ensures.leaves.survives clean in
     let adopted = subst (IsAdopted db) some (c.in-Ok-Some.ensures.found clean_mid) in
     let held = held_still g.S.Store old mid found.version (tables_of found adopted.0)
-    (c.in-Ok-Some.ensures.same clean_mid) adopted.2 in
+    (c.in-Ok-Some.ensures.leaves.same clean_mid tt) adopted.2 in
     let long = c.in_err-check_bytes.ensures.long clean found.version (tables_of found adopted.0)
     held in
     let is : c.from_residual-in_err-check_bytes.result ≡ Err c.in_err-check_bytes.field-0.0
@@ -74,65 +72,21 @@ returns-in_err-check_bytes-clause-none g c clean =
     rw is (λ bad o there. long bad
     (none_long db found adopted.0 adopted.1 adopted.2 o there))
 
-pub returns-in_err-check_bytes-clause-keeps : goal.returns-in_err-check_bytes-clause-keeps
-returns-in_err-check_bytes-clause-keeps g c clean =
-    let old = c.args.conn.now in
-    let mid = c.adopt_tables.new.conn in
-    let found = c.in-Ok-Some.found in
-    let some : c.in-Ok-Some.field-0 ≡ Some found = search rules in
-    let clean_mid = clean_before c.check_bytes.ensures.survives clean in
-    let adopted = subst (IsAdopted (state g.S.Store old).now) some
-    (c.in-Ok-Some.ensures.found clean_mid) in
-    let same = c.in-Ok-Some.ensures.same clean_mid in
-    let held = held_still g.S.Store old mid found.version (tables_of found adopted.0) same
-    adopted.2 in
-    keeps_still g.S.Store old mid c.check_bytes.new.conn same
-    (c.check_bytes.ensures.kept found.version clean (tables_of found adopted.0) held)
-
-pub returns-clause-keeps : goal.returns-clause-keeps
-returns-clause-keeps g c clean =
-    let old = c.args.conn.now in
-    let mid = c.adopt_tables.new.conn in
-    let found = c.in-Ok-Some.found in
-    let some : c.in-Ok-Some.field-0 ≡ Some found = search rules in
-    let clean_mid = clean_before c.check_bytes.ensures.survives clean in
-    let adopted = subst (IsAdopted (state g.S.Store old).now) some
-    (c.in-Ok-Some.ensures.found clean_mid) in
-    let same = c.in-Ok-Some.ensures.same clean_mid in
-    let held = held_still g.S.Store old mid found.version (tables_of found adopted.0) same
-    adopted.2 in
-    keeps_still g.S.Store old mid c.check_bytes.new.conn same
-    (c.check_bytes.ensures.kept found.version clean (tables_of found adopted.0) held)
-
-pub returns-clause-same : goal.returns-clause-same
-returns-clause-same g c clean =
-    let old = c.args.conn.now in
-    let mid = c.adopt_tables.new.conn in
-    let found = c.in-Ok-Some.found in
-    let some : c.in-Ok-Some.field-0 ≡ Some found = search rules in
-    let clean_mid = clean_before c.check_bytes.ensures.survives clean in
-    let adopted = subst (IsAdopted (state g.S.Store old).now) some
-    (c.in-Ok-Some.ensures.found clean_mid) in
-    let same = c.in-Ok-Some.ensures.same clean_mid in
-    let held = held_still g.S.Store old mid found.version (tables_of found adopted.0) same
-    adopted.2 in
-    both_same g.S.Store old mid c.check_bytes.new.conn same
-    (c.in_ok-check_bytes.ensures.same clean found.version (tables_of found adopted.0) held)
-
 pub returns-clause-open : goal.returns-clause-open
 returns-clause-open g c clean =
     let old = c.args.conn.now in
     let mid = c.adopt_tables.new.conn in
     let found = c.in-Ok-Some.found in
     let some : c.in-Ok-Some.field-0 ≡ Some found = search rules in
-    let clean_mid = clean_before c.check_bytes.ensures.survives clean in
+    let clean_mid = clean_before c.check_bytes.ensures.leaves.survives clean in
     let adopted = subst (IsAdopted (state g.S.Store old).now) some
     (c.in-Ok-Some.ensures.found clean_mid) in
-    let same = c.in-Ok-Some.ensures.same clean_mid in
+    let same = c.in-Ok-Some.ensures.leaves.same clean_mid tt in
     let held = held_still g.S.Store old mid found.version (tables_of found adopted.0) same
     adopted.2 in
     open_still g.S.Store mid c.check_bytes.new.conn
-    (c.in_ok-check_bytes.ensures.same clean found.version (tables_of found adopted.0) held)
+    (c.in_ok-check_bytes.ensures.leaves.same clean
+    (found.version, tables_of found adopted.0, held))
     (c.in-Ok-Some.ensures.open clean_mid (subst IsSome (sym some) refl))
 
 pub returns-clause-kept : goal.returns-clause-kept
@@ -142,10 +96,10 @@ returns-clause-kept g c clean =
     let db = (state g.S.Store old).now in
     let found = c.in-Ok-Some.found in
     let some : c.in-Ok-Some.field-0 ≡ Some found = search rules in
-    let clean_mid = clean_before c.check_bytes.ensures.survives clean in
+    let clean_mid = clean_before c.check_bytes.ensures.leaves.survives clean in
     let adopted = subst (IsAdopted db) some (c.in-Ok-Some.ensures.found clean_mid) in
     let t = tables_of found adopted.0 in
-    let held = held_still g.S.Store old mid found.version t (c.in-Ok-Some.ensures.same clean_mid)
+    let held = held_still g.S.Store old mid found.version t (c.in-Ok-Some.ensures.leaves.same clean_mid tt)
     adopted.2 in
     let short = c.in_ok-check_bytes.ensures.short clean found.version t held
     (adopted.1 ∙ sym c.deref.ensures.value) in
@@ -183,10 +137,10 @@ returns-in_err-drafts-clause-none g c clean =
     let db = (state g.S.Store old).now in
     let found = c.in-Ok-Some.found in
     let some : c.in-Ok-Some.field-0 ≡ Some found = search rules in
-    let clean_mid = clean_before c.check_bytes.ensures.survives clean in
+    let clean_mid = clean_before c.check_bytes.ensures.leaves.survives clean in
     let adopted = subst (IsAdopted db) some (c.in-Ok-Some.ensures.found clean_mid) in
     let t = tables_of found adopted.0 in
-    let held = held_still g.S.Store old mid found.version t (c.in-Ok-Some.ensures.same clean_mid)
+    let held = held_still g.S.Store old mid found.version t (c.in-Ok-Some.ensures.leaves.same clean_mid tt)
     adopted.2 in
     let short = c.in_ok-check_bytes.ensures.short clean found.version t held
     (adopted.1 ∙ sym c.deref.ensures.value) in
@@ -196,27 +150,6 @@ returns-in_err-drafts-clause-none g c clean =
     = search rules in
     rw is (λ bad o kept. drafts_represent t are.0 are.1 are.2 are.3 c.in_ok-kept.kept.session are.4
     (c.in_err-drafts.ensures.bad bad) c.in_err-drafts.ensures.loaded)
-
-pub returns-in_err-drafts-clause-keeps : goal.returns-in_err-drafts-clause-keeps
-returns-in_err-drafts-clause-keeps g c clean =
-    let old = c.args.conn.now in
-    let mid = c.adopt_tables.new.conn in
-    let found = c.in-Ok-Some.found in
-    let some : c.in-Ok-Some.field-0 ≡ Some found = search rules in
-    let clean_mid = clean_before c.check_bytes.ensures.survives clean in
-    let adopted = subst (IsAdopted (state g.S.Store old).now) some
-    (c.in-Ok-Some.ensures.found clean_mid) in
-    let same = c.in-Ok-Some.ensures.same clean_mid in
-    let held = held_still g.S.Store old mid found.version (tables_of found adopted.0) same
-    adopted.2 in
-    keeps_still g.S.Store old mid c.check_bytes.new.conn same
-    (c.check_bytes.ensures.kept found.version clean (tables_of found adopted.0) held)
-
-pub returns-in_err-drafts-clause-survives : goal.returns-in_err-drafts-clause-survives
-returns-in_err-drafts-clause-survives g c =
-    survives_on (state g.S.Store c.args.conn.now) (state g.S.Store c.adopt_tables.new.conn)
-    (state g.S.Store c.check_bytes.new.conn) c.adopt_tables.ensures.survives
-    c.check_bytes.ensures.survives
 
 pub returns-clause-together : goal.returns-clause-together
 returns-clause-together g c =
@@ -234,14 +167,41 @@ returns-in_err-kept-clause-fault g c =
     of_database c.from_residual.result c.in_err-kept.field-0.0
     c.from_residual.ensures.1
 
-pub returns-in_err-check_bytes-clause-survives : goal.returns-in_err-check_bytes-clause-survives
-returns-in_err-check_bytes-clause-survives g c =
-    survives_on (state g.S.Store c.args.conn.now) (state g.S.Store c.adopt_tables.new.conn)
-    (state g.S.Store c.check_bytes.new.conn) c.adopt_tables.ensures.survives
-    c.check_bytes.ensures.survives
+-- ---- what the readers leave
 
-pub returns-clause-survives : goal.returns-clause-survives
-returns-clause-survives g c =
-    survives_on (state g.S.Store c.args.conn.now) (state g.S.Store c.adopt_tables.new.conn)
-    (state g.S.Store c.check_bytes.new.conn) c.adopt_tables.ensures.survives
-    c.check_bytes.ensures.survives
+pub returns-in-Err-clause-leaves : goal.returns-in-Err-clause-leaves
+returns-in-Err-clause-leaves g c =
+    file_as (Unit {0}) g.S.Store _ _ (λ P none. tt) c.adopt_tables.ensures.leaves
+
+pub returns-in-Ok-None-clause-leaves : goal.returns-in-Ok-None-clause-leaves
+returns-in-Ok-None-clause-leaves g c =
+    file_as (Unit {0}) g.S.Store _ _ (λ P none. tt) c.adopt_tables.ensures.leaves
+
+pub returns-in_err-kept-clause-leaves : goal.returns-in_err-kept-clause-leaves
+returns-in_err-kept-clause-leaves g c =
+    file_as (Unit {0}) g.S.Store _ _ (λ P none. search rules) c.adopt_tables.ensures.leaves
+
+pub returns-in_err-check_weight-clause-leaves : goal.returns-in_err-check_weight-clause-leaves
+returns-in_err-check_weight-clause-leaves g c =
+    file_as (Unit {0}) g.S.Store _ _ (λ P none. search rules) c.adopt_tables.ensures.leaves
+
+pub returns-in_err-check_bytes-clause-leaves : goal.returns-in_err-check_bytes-clause-leaves
+returns-in_err-check_bytes-clause-leaves g c =
+    let some : c.in-Ok-Some.field-0 ≡ Some c.in-Ok-Some.found = search rules in
+    file_as (Unit {0}) g.S.Store _ _ (λ P none. search rules)
+    (found_then g.S.Store _ _ _ c.in-Ok-Some.field-0 c.in-Ok-Some.found some
+    c.in-Ok-Some.ensures.found c.in-Ok-Some.ensures.leaves c.check_bytes.ensures.leaves)
+
+pub returns-in_err-drafts-clause-leaves : goal.returns-in_err-drafts-clause-leaves
+returns-in_err-drafts-clause-leaves g c =
+    let some : c.in-Ok-Some.field-0 ≡ Some c.in-Ok-Some.found = search rules in
+    file_as (Unit {0}) g.S.Store _ _ (λ P none. search rules)
+    (found_then g.S.Store _ _ _ c.in-Ok-Some.field-0 c.in-Ok-Some.found some
+    c.in-Ok-Some.ensures.found c.in-Ok-Some.ensures.leaves c.check_bytes.ensures.leaves)
+
+pub returns-clause-leaves : goal.returns-clause-leaves
+returns-clause-leaves g c =
+    let some : c.in-Ok-Some.field-0 ≡ Some c.in-Ok-Some.found = search rules in
+    file_as (Unit {0}) g.S.Store _ _ (λ P p. p)
+    (found_then g.S.Store _ _ _ c.in-Ok-Some.field-0 c.in-Ok-Some.found some
+    c.in-Ok-Some.ensures.found c.in-Ok-Some.ensures.leaves c.in_ok-check_bytes.ensures.leaves)

@@ -8,6 +8,8 @@ use Rattle.office_tables.specs.Tables.{Batch}
 use Rattle.office_model.specs.declared.fault.StoreFault.{StoreFault}
 use Rattle.office_model.specs.declared.fault.StoreFault.TheVariants.{BadSchema}
 use Rattle.office_records.specs.FoundBatches.{IsShort}
+use Rattle.office_tables.proofs.Reading.{on_ok_both}
+use Rattle.office_store.proofs.AdoptLemmas.{tables_as}
 use Rattle.office_store.proofs.kept_bytes.check_batch.Goals as goal
 
 -- a refusal for a property that doesn't hold
@@ -29,3 +31,12 @@ returns-clause-long g c clean version t held =
     (all-filter IsShort (λ (b : Batch). eqb b.no c.args.no) t.batch
     (recursion_from_All IsShort t.batch all)))
     c.check_length.ensures.long
+
+pub returns-in-Err-clause-leaves : goal.returns-in-Err-clause-leaves
+returns-in-Err-clause-leaves g c version =
+    tables_as version g.S.Store _ _ (λ P none. tt) (c.batch_of.ensures.leaves version)
+
+pub returns-clause-leaves : goal.returns-clause-leaves
+returns-clause-leaves g c version =
+    tables_as version g.S.Store _ _ (λ P p. on_ok_both c.check_length.result p)
+    (c.in-Ok.ensures.leaves version)

@@ -1,31 +1,54 @@
-use Rattle.std.proofs.Common.{rules, subst, ◌≡◌}
-use Rattle.sqlite.specs.Held.{state}
-use Rattle.sqlite.specs.State.{Survives}
-use Rattle.office_store.proofs.LeavingLemmas.{made_survive}
+use Rattle.std.proofs.Common.{rules, Ok, subst, ◌≡◌}
+use Rattle.sqlite.specs.Effect.{Database}
+use Rattle.office_tables.specs.Alterations.{TransactionRan}
 use Rattle.office_tables.specs.Schema.{IsBlank, no_schema}
 use Rattle.office_tables.specs.TablesHeld.{HoldsTables}
 use Rattle.office_tables.specs.Tables.{empty_tables}
-use Rattle.office_store.specs.Leaving.{found_in}
+use Rattle.office_tables.proofs.TurnLemmas.{IsOfRows, done_by, survives_by, trees_hold, undone_by}
+use Rattle.office_tables.proofs.LookLemmas.{on_err}
 use Rattle.office_store.proofs.transactions.make_tables.Goals as goal
 
-pub returns-in_err-commit-clause-survives : goal.returns-in_err-commit-clause-survives
-returns-in_err-commit-clause-survives g c =
-    let old = c.args.conn.now in
-    let same : c.commit.new.self.0 ≡ c.conn-2-1.given.0 = search rules in
-    subst (λ h. Survives (state g.S.Store old) (state g.S.Store h)
-    (λ found. IsBlank no_schema (state g.S.Store old).now → HoldsTables (found_in found) empty_tables))
-    same
-    (made_survive g.S.Store old c.transaction-tx.result.conn.now c.create_tables.new.tx.conn.now
-    c.commit.new.self.0 c.transaction-tx.ensures.begun c.create_tables.ensures.within
-    c.commit.ensures.survives c.in_ok-create_tables.ensures.makes)
+abbrev IsMade : Database → Database → Type 0
+IsMade old new = IsBlank no_schema old → HoldsTables new empty_tables
 
-pub returns-clause-survives : goal.returns-clause-survives
-returns-clause-survives g c =
+made_rows : IsOfRows IsMade
+made_rows old new found is made blank = trees_hold new found empty_tables is (made blank)
+
+pub returns : goal.returns
+returns g c =
     let old = c.args.conn.now in
-    let same : c.commit.new.self.0 ≡ c.conn-2-1.given.0 = search rules in
-    subst (λ h. Survives (state g.S.Store old) (state g.S.Store h)
-    (λ found. IsBlank no_schema (state g.S.Store old).now → HoldsTables (found_in found) empty_tables))
-    same
-    (made_survive g.S.Store old c.transaction-tx.result.conn.now c.create_tables.new.tx.conn.now
-    c.commit.new.self.0 c.transaction-tx.ensures.begun c.create_tables.ensures.within
-    c.commit.ensures.survives c.in_ok-create_tables.ensures.makes)
+    let begun = c.transaction-tx.result.conn.now in
+    let last = c.create_tables.new.tx.conn.now in
+    let end = c.commit.new.self.0 in
+    let same : end ≡ c.conn-2-1.given.0 = search rules in
+    subst (λ h. TransactionRan {A = Unit {0}} g.S.Store IsMade old h (Ok tt)) same (record {
+      done = done_by g.S.Store old begun last end c.transaction-tx.ensures.begun
+          c.create_tables.ensures.within c.commit.ensures.survives IsMade
+          c.in_ok-create_tables.ensures.makes (Ok tt) c.in_ok-commit.ensures.ok;
+      undone = search rules;
+      rests = search rules;
+      clean = search rules;
+      survives = survives_by g.S.Store old begun last end c.transaction-tx.ensures.begun
+          c.create_tables.ensures.within c.commit.ensures.survives IsMade
+          c.in_ok-create_tables.ensures.makes made_rows;
+    })
+
+pub returns-in_err-commit : goal.returns-in_err-commit
+returns-in_err-commit g c =
+    let old = c.args.conn.now in
+    let begun = c.transaction-tx.result.conn.now in
+    let last = c.create_tables.new.tx.conn.now in
+    let end = c.commit.new.self.0 in
+    let same : end ≡ c.conn-2-1.given.0 = search rules in
+    subst (λ h. TransactionRan g.S.Store IsMade old h c.from_residual-in_err-commit.result) same (record {
+      done = λ clean. search rules;
+      undone = λ clean. on_err c.from_residual-in_err-commit.result
+          (undone_by g.S.Store old begun last end c.transaction-tx.ensures.begun
+          c.create_tables.ensures.within c.commit.ensures.survives IsMade
+          c.in_ok-create_tables.ensures.makes c.in_err-commit.field-0.0 (c.in_err-commit.ensures.err clean) clean);
+      rests = search rules;
+      clean = search rules;
+      survives = survives_by g.S.Store old begun last end c.transaction-tx.ensures.begun
+          c.create_tables.ensures.within c.commit.ensures.survives IsMade
+          c.in_ok-create_tables.ensures.makes made_rows;
+    })

@@ -1,60 +1,69 @@
-use Rattle.std.proofs.Common.{rules, subst, ◌≡◌, [], ◌∷◌, OnErr}
+use Rattle.std.proofs.Common.{rules, Ok, refl, subst, ◌≡◌, IsTrue, [], ◌∷◌}
+use Rattle.sqlite.specs.Effect.{Database}
 use Rattle.sqlite.specs.Held.{state}
-use Rattle.sqlite.specs.State.{HasCleanDisk, Survives}
-use Rattle.office_store.proofs.LeavingLemmas.{migrated_survive, migrated_turned, migrated_undone}
-use Rattle.office_tables.specs.Alterations.{Undone}
+use Rattle.sqlite.specs.State.{State}
+use Rattle.office_tables.specs.Alterations.{TransactionRan}
+use Rattle.office_tables.specs.Steps.{Leads}
 use Rattle.office_tables.specs.TablesHeld.{HoldsTables, HoldsOldTables}
-use Rattle.office_tables.specs.Tables.{Meta, Tables}
+use Rattle.office_tables.specs.Tables.{Meta, Tables, empty_tables}
 use Rattle.office_tables.proofs.LookLemmas.{on_err}
-use Rattle.office_store.specs.Leaving.{found_in}
-use Rattle.office_store.specs.Transactions.{Turned}
+use Rattle.office_tables.proofs.TurnLemmas.{IsOfRows, done_by, survives_by, trees_hold, undone_by}
 use Rattle.office_store.proofs.transactions.migrate_tables.Goals as goal
 
-pub returns-in_err-commit-clause-survives : goal.returns-in_err-commit-clause-survives
-returns-in_err-commit-clause-survives g c =
-    let old = c.args.conn.now in
-    let row : Meta = record { published = c.args.published; instance = c.args.instance.now } in
-    let same : c.commit.new.self.0 ≡ c.conn-2-1.given.0 = search rules in
-    subst (λ h. Survives (state g.S.Store old) (state g.S.Store h) (λ found. (t : Tables)
-    → t.meta ≡ row ∷ [] → HoldsOldTables (state g.S.Store old).now t → HoldsTables (found_in found) t))
-    same
-    (migrated_survive g.S.Store old c.transaction-tx.result.conn.now c.migrate.new.tx.conn.now
-    c.commit.new.self.0 c.transaction-tx.ensures.begun c.migrate.ensures.within
-    c.commit.ensures.survives row c.in_ok-migrate.ensures.makes)
+abbrev AreMigrated : Meta → Database → Database → Type 0
+AreMigrated row old new =
+    (t : Tables) → t.meta ≡ row ∷ [] → HoldsOldTables old t → HoldsTables new t
 
-pub returns-clause-survives : goal.returns-clause-survives
-returns-clause-survives g c =
-    let old = c.args.conn.now in
-    let row : Meta = record { published = c.args.published; instance = c.args.instance.now } in
-    let same : c.commit.new.self.0 ≡ c.conn-2-1.given.0 = search rules in
-    subst (λ h. Survives (state g.S.Store old) (state g.S.Store h) (λ found. (t : Tables)
-    → t.meta ≡ row ∷ [] → HoldsOldTables (state g.S.Store old).now t → HoldsTables (found_in found) t))
-    same
-    (migrated_survive g.S.Store old c.transaction-tx.result.conn.now c.migrate.new.tx.conn.now
-    c.commit.new.self.0 c.transaction-tx.ensures.begun c.migrate.ensures.within
-    c.commit.ensures.survives row c.in_ok-migrate.ensures.makes)
+migrated_rows : (row : Meta) → IsOfRows (AreMigrated row)
+migrated_rows row old new found is made t has before = trees_hold new found t is (made t has before)
 
-pub returns-clause-done : goal.returns-clause-done
-returns-clause-done g c =
-    let old = c.args.conn.now in
-    let row : Meta = record { published = c.args.published; instance = c.args.instance.now } in
-    let same : c.commit.new.self.0 ≡ c.conn-2-1.given.0 = search rules in
-    subst (λ h. HasCleanDisk (state g.S.Store h) → (t : Tables) → t.meta ≡ row ∷ []
-    → Turned (λ db. HoldsOldTables db t) (λ db. HoldsTables db t) (state g.S.Store old) (state g.S.Store h))
-    same
-    (migrated_turned g.S.Store old c.transaction-tx.result.conn.now c.migrate.new.tx.conn.now
-    c.commit.new.self.0 c.transaction-tx.ensures.begun c.migrate.ensures.within
-    c.commit.ensures.survives row c.in_ok-migrate.ensures.makes c.in_ok-commit.ensures.ok)
+-- one statement about all tables with this row
+all_migrated : (row : Meta) (clean inside : Type 0) (old new : State) → ((t : Tables)
+    → t.meta ≡ row ∷ [] → clean → inside
+    → Leads (λ db. HoldsOldTables db t) (λ db. HoldsTables db t) old new)
+    → clean → inside → IsTrue new.in_transaction × AreMigrated row old.now new.now
+all_migrated row clean inside old new makes is_clean is_inside = (
+  (makes (record empty_tables { meta = row ∷ [] }) refl is_clean is_inside).0,
+  λ t is. (makes t is is_clean is_inside).1,
+)
 
-pub returns-in_err-commit-clause-undone : goal.returns-in_err-commit-clause-undone
-returns-in_err-commit-clause-undone g c =
+pub returns : goal.returns
+returns g c =
     let old = c.args.conn.now in
+    let begun = c.transaction-tx.result.conn.now in
+    let last = c.migrate.new.tx.conn.now in
+    let end = c.commit.new.self.0 in
     let row : Meta = record { published = c.args.published; instance = c.args.instance.now } in
-    let same : c.commit.new.self.0 ≡ c.conn-2-1.given.0 = search rules in
-    subst (λ h. HasCleanDisk (state g.S.Store h) → OnErr c.from_residual-in_err-commit.result
-    (Undone (state g.S.Store old) (state g.S.Store h))) same
-    (λ clean. on_err c.from_residual-in_err-commit.result
-    (migrated_undone g.S.Store old c.transaction-tx.result.conn.now c.migrate.new.tx.conn.now
-    c.commit.new.self.0 c.transaction-tx.ensures.begun c.migrate.ensures.within
-    c.commit.ensures.survives row c.in_ok-migrate.ensures.makes c.in_err-commit.field-0.0
-    (c.in_err-commit.ensures.err clean) clean))
+    let same : end ≡ c.conn-2-1.given.0 = search rules in
+    subst (λ h. TransactionRan {A = Unit {0}} g.S.Store (AreMigrated row) old h (Ok tt)) same (record {
+      done = done_by g.S.Store old begun last end c.transaction-tx.ensures.begun
+          c.migrate.ensures.within c.commit.ensures.survives (AreMigrated row)
+          (all_migrated row _ _ (state g.S.Store begun) (state g.S.Store last) c.in_ok-migrate.ensures.makes) (Ok tt) c.in_ok-commit.ensures.ok;
+      undone = search rules;
+      rests = search rules;
+      clean = search rules;
+      survives = survives_by g.S.Store old begun last end c.transaction-tx.ensures.begun
+          c.migrate.ensures.within c.commit.ensures.survives (AreMigrated row)
+          (all_migrated row _ _ (state g.S.Store begun) (state g.S.Store last) c.in_ok-migrate.ensures.makes) (migrated_rows row);
+    })
+
+pub returns-in_err-commit : goal.returns-in_err-commit
+returns-in_err-commit g c =
+    let old = c.args.conn.now in
+    let begun = c.transaction-tx.result.conn.now in
+    let last = c.migrate.new.tx.conn.now in
+    let end = c.commit.new.self.0 in
+    let row : Meta = record { published = c.args.published; instance = c.args.instance.now } in
+    let same : end ≡ c.conn-2-1.given.0 = search rules in
+    subst (λ h. TransactionRan g.S.Store (AreMigrated row) old h c.from_residual-in_err-commit.result) same (record {
+      done = λ clean. search rules;
+      undone = λ clean. on_err c.from_residual-in_err-commit.result
+          (undone_by g.S.Store old begun last end c.transaction-tx.ensures.begun
+          c.migrate.ensures.within c.commit.ensures.survives (AreMigrated row)
+          (all_migrated row _ _ (state g.S.Store begun) (state g.S.Store last) c.in_ok-migrate.ensures.makes) c.in_err-commit.field-0.0 (c.in_err-commit.ensures.err clean) clean);
+      rests = search rules;
+      clean = search rules;
+      survives = survives_by g.S.Store old begun last end c.transaction-tx.ensures.begun
+          c.migrate.ensures.within c.commit.ensures.survives (AreMigrated row)
+          (all_migrated row _ _ (state g.S.Store begun) (state g.S.Store last) c.in_ok-migrate.ensures.makes) (migrated_rows row);
+    })

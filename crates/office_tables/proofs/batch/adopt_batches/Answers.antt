@@ -10,15 +10,14 @@ pub returns : goal.returns
 returns g c version =
     let old = state g.S.Store c.args.conn.now in
     let new = state g.S.Store c.read_table.new.conn in
-    let lists = batch_lists version in
+    let all = c.read_table.ensures.adopts version 14 counts_shown (batch_lists version) in
     record {
       found = λ clean tables. ok_both c.read_table.result (IsUnchanged old new)
           (IsFound FitsCounts counts_columns counts_shown (old.now.trees 14))
           (IsFoundBatches old.now)
-          (c.read_table.ensures.same version 14 counts_shown lists clean tables)
-          (c.read_table.ensures.found version 14 counts_shown lists clean tables)
+          (all.same clean tables) (all.found clean tables)
           (λ found same is. batches_found version old.now tables.schema
           (tables.live same.0.was_open).0 found is);
-      same = c.read_table.ensures.same version 14 counts_shown lists;
-      looks = c.read_table.ensures.looks version 14 counts_shown lists;
+      same = all.same;
+      looks = all.looks;
     }

@@ -1,23 +1,45 @@
+use Rattle.std.proofs.Common.{rules, IsTrue}
 use Rattle.sqlite.specs.Held.{state}
-use Rattle.office_tables.proofs.LookLemmas.{look_text, look_plain, look_plain_in, was_open, on_err}
-use Rattle.office_tables.proofs.Reading.{kept_failed, shown_same, commits_nothing}
+use Rattle.sqlite.specs.State.{HasCleanDisk, IsUnchanged}
+use Rattle.office_tables.specs.Readers.{Keeps}
+use Rattle.office_tables.specs.Tables.{Tables}
+use Rattle.office_tables.specs.TablesHeld.{HoldsTables}
+use Rattle.office_tables.proofs.LookLemmas.{look_text, look_plain, look_plain_in, on_err, was_open}
+use Rattle.office_tables.proofs.Reading.{commits_nothing, kept_failed, kept_unchanged, shown_same}
 use Rattle.office_tables.proofs.looking.look.Goals as goal
 
-pub returns-clause-open : goal.returns-clause-open
-returns-clause-open g c clean = was_open look_text _ _ _ _ (c.in_ok-_rows.ensures.ok clean)
-
-pub returns-clause-same : goal.returns-clause-same
-returns-clause-same g c clean t represents =
+pub returns-clause-leaves : goal.returns-clause-leaves
+returns-clause-leaves g c =
     let old = state g.S.Store c.args.conn.now in
-    shown_same look_text _ old _ _ (look_plain_in old t represents) (c.in_ok-_rows.ensures.ok clean)
+    let new = state g.S.Store c.query_all.new.self in
+    let opened : HasCleanDisk new → IsTrue old.is_open =
+    λ clean. was_open look_text _ old new _ (c.in_ok-_rows.ensures.ok clean) in
+    let same : HasCleanDisk new → (t : Tables) → HoldsTables old.now t → IsUnchanged old new =
+    λ clean t represents. shown_same look_text _ old new _ (look_plain_in old t represents)
+    (c.in_ok-_rows.ensures.ok clean) in
+    record {
+      open_on_ok = opened;
+      was_open = λ clean _. opened clean;
+      same = same;
+      kept = λ clean t represents. kept_unchanged old new (same clean t represents);
+      mode = c.query_all.ensures.mode;
+      survives = commits_nothing look_text _ old new look_plain c.query_all.ensures.survives;
+    }
 
-pub returns-clause-survives : goal.returns-clause-survives
-returns-clause-survives g c =
-    commits_nothing look_text _ _ _ look_plain c.query_all.ensures.survives
-
-pub returns-in_err-_rows-clause-survives : goal.returns-in_err-_rows-clause-survives
-returns-in_err-_rows-clause-survives g c =
-    commits_nothing look_text _ _ _ look_plain c.query_all.ensures.survives
+pub returns-in_err-_rows-clause-leaves : goal.returns-in_err-_rows-clause-leaves
+returns-in_err-_rows-clause-leaves g c =
+    let old = state g.S.Store c.args.conn.now in
+    let new = state g.S.Store c.query_all.new.self in
+    let kept : HasCleanDisk new → Keeps old new =
+    λ clean. kept_failed look_text _ old new _ (c.in_err-_rows.ensures.err clean) in
+    record {
+      open_on_ok = λ clean. search rules;
+      was_open = λ clean. (kept clean).was_open;
+      same = λ clean t represents. search rules;
+      kept = λ clean t represents. kept clean;
+      mode = c.query_all.ensures.mode;
+      survives = commits_nothing look_text _ old new look_plain c.query_all.ensures.survives;
+    }
 
 pub returns-in_err-_rows-clause-failed : goal.returns-in_err-_rows-clause-failed
 returns-in_err-_rows-clause-failed g c clean =

@@ -15,7 +15,7 @@ invariant_of-result g c = (
     None,
     record {
       held = empty_tables;
-      tables = (c.in-Ok.ensures.done clean).leads (record { schema_is = search rules; rows = tt });
+      tables = (c.in-Ok.ensures.done clean).related (record { schema_is = search rules; rows = tt });
       represents = refl;
       sound = tt;
       office = tt;
@@ -34,7 +34,7 @@ invariant_of-result g c = (
 pub returns-in-Ok-clause-made : goal.returns-in-Ok-clause-made
 returns-in-Ok-clause-made g c clean = record {
   held = empty_tables;
-  tables = (c.in-Ok.ensures.done clean).leads (record { schema_is = search rules; rows = tt });
+  tables = (c.in-Ok.ensures.done clean).related (record { schema_is = search rules; rows = tt });
   represents = refl;
   sound = tt;
   office = tt;
