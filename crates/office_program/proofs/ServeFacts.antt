@@ -6,7 +6,6 @@ use Rattle.std.specs.Prelude.{MatchBool}
 use Rattle.std.specs.Io.KnownBytes.{Appends, Keeps}
 use Rattle.std.proofs.KnownBytes.{Appends-nil}
 use Rattle.sqlite.specs.Held.{Held, state}
-use Rattle.sqlite.specs.State.{HasCleanDisk}
 use Rattle.sqlite.specs.Store.{Ghosts}
 use Rattle.office_connections.specs.Clients.{ServesClients, ServesWhileOpen}
 use Rattle.office_connections.specs.Lines.{IsPortOf, PrintsFaults, listening_line}

@@ -7,7 +7,7 @@ use Rattle.std.proofs.lemmas.Bool.Decides.{nat_tests}
 use Rattle.std.proofs.lemmas.List.{append-nil, length-map}
 use Rattle.std.proofs.lemmas.List.Elements.{All-from_recursion, recursion_from_All}
 use Rattle.sqlite.specs.Held.{Held, state}
-use Rattle.sqlite.specs.State.{HasCleanDisk, IsUnchanged, Survives}
+use Rattle.sqlite.specs.State.{HasCleanDisk, IsUnchanged}
 use Rattle.sqlite.specs.Store.{Ghosts}
 use Rattle.exam_model.specs.Changes.{exams_sat}
 use Rattle.exam_model.specs.Enrolments.{AreEnrolments, Enrolled, IsAscending, students}
@@ -28,10 +28,8 @@ use Rattle.office_model.specs.declared.fault.StoreFault.TheVariants.{BadSchema}
 use Rattle.office_records.specs.Representation.{RepresentsOffice}
 use Rattle.office_records.proofs.ReadableLemmas.{are_readable}
 use Rattle.office_tables.specs.Enrol.{FitsEnrol, StudentEnrolsRise}
-use Rattle.office_tables.specs.Readers.{LeavesCommittedIn, OpensNone}
 use Rattle.office_tables.specs.Selections.{AreListed, AreListedIfFit}
 use Rattle.office_tables.specs.Tables.{Tables}
-use Rattle.office_tables.specs.declared.version.Version.TheVariants.{Two}
 use Rattle.office_tables.specs.TablesHeld.{HoldsTables}
 use Rattle.office_tables.specs.declared.enrol.EnrolRow.{EnrolRow}
 use Rattle.office_store.specs.FoldReads.{HadEnrolments, HasRead, RowsUnchanged}
@@ -58,19 +56,6 @@ module _ {S : Type 0} (store : Ghosts S) where
       mode = λ m. m;
     };
     mode = λ m. m;
-  }
-
-  -- what a reader of one table leaves
-  pub read_one : (a b : Held S) → (HasCleanDisk (state store b) → HasCleanDisk (state store a))
-      → Survives (state store a) (state store b) (λ _. ⊥) → OpensNone store a b
-      → LeavesCommittedIn Two store a b
-      → (a.in_transaction ≡ false → b.in_transaction ≡ false) → HasRead store a b
-  read_one a b clean survives was_open kept mode = record {
-    clean = clean;
-    survives = survives;
-    was_open = was_open;
-    kept = kept;
-    mode = mode;
   }
 
   pub same_itself : (a : Held S) → RowsUnchanged store a a

@@ -1,5 +1,5 @@
 -- What a connection leaves unchanged if it only reads rows, with one or several statements.
-use Rattle.std.specs.Prelude.{◌≡◌, IsTrue, false, Some}
+use Rattle.std.specs.Prelude.{◌≡◌, IsTrue, false, OnOk, Result, Some}
 use Rattle.sqlite.specs.Held.{Held, state}
 use Rattle.sqlite.specs.State.{HasCleanDisk, IsUnchanged, Survives}
 use Rattle.sqlite.specs.Store.{Ghosts}
@@ -24,6 +24,12 @@ abbrev pub RowsUnchanged : {S : Type 0} → Ghosts S → Held S → Held S → T
 RowsUnchanged store old new =
     HasCleanDisk (state store new) → (t : Tables) → HoldsTables (state store old).now t
     → IsTrue (state store old).is_open → IsUnchanged (state store old) (state store new)
+
+-- what such a call leaves: on an Ok the rows of an office are unchanged
+pub record LeavesRows {S A E : Type 0} (store : Ghosts S) (old new : Held S) (result : Result A E)
+    : Type 0 where
+  pub read : HasRead store old new
+  pub same : OnOk result (RowsUnchanged store old new)
 
 -- over a clean disk, the open file represented an office with these enrolments
 pub record HadEnrolments {S : Type 0} (store : Ghosts S) (old new : Held S) (E : Enrolled)

@@ -1,11 +1,11 @@
 -- What a later opening of the file may find after a call.
-use Rattle.std.specs.Prelude.{◌≡◌, ◌⊎◌, IfErr, IsTrue, None, OnOk, Result, Ok, Err}
+use Rattle.std.specs.Prelude.{◌≡◌, ◌⊎◌, IfErr, IsTrue, None, OnErr, OnOk, Result, Ok, Err}
 use Rattle.sqlite.specs.Held.{Held, state}
 use Rattle.sqlite.specs.State.{HasCleanDisk, State, Survives}
 use Rattle.sqlite.specs.Store.{Ghosts}
 use Rattle.sqlite_trees.specs.Tree.{Trees}
 use Rattle.office_schema.specs.Schema.{schema_before}
-use Rattle.office_tables.specs.Alterations.{found_in}
+use Rattle.office_tables.specs.Alterations.{Undone, found_in}
 use Rattle.office_tables.specs.Schema.{no_schema}
 use Rattle.office_model.specs.Commands.{CommandResult}
 use Rattle.office_model.specs.Office.{OfficeState}
@@ -33,13 +33,6 @@ abbrev pub MayCommit : {A : Type 0} → (OfficeState → CommandResult A) → St
     → Type 0
 MayCommit command old result found =
     IfErr result (λ e. e ≡ Store) × HoldsNext command old found
-
--- what the file holds after an opening that may commit such trees: on an Ok the database is open and
--- all is committed; a later opening may find what it might have found before, or such trees
-pub record Leaves {A E : Type 0} (may : Trees → Type 0) (old new : State) (result : Result A E)
-    : Type 0 where
-  pub all_committed : HasCleanDisk new → OnOk result (IsCommitted new)
-  pub survives : Survives old new may
 
 -- what a call that only reads leaves: while the database is open it is as it was, on an Ok it is open
 -- and all is committed, and a later opening may find only what it might have found before
@@ -72,6 +65,20 @@ pub record LeavesNext {S A : Type 0} (store : Ghosts S) (command : OfficeState �
 abbrev pub connection_of : {S : Type 0} → Result (Held S) (StoreFault × Held S) → Held S
 connection_of (Ok office) = office
 connection_of (Err refused) = refused.1
+
+-- what an opening leaves that may commit such trees: on an Ok the database is open and all is
+-- committed, on an Err the tables are as they were; a later opening may find what it might have found
+-- before, or such trees
+pub record LeavesOpened {S : Type 0} (store : Ghosts S)
+    (may : State → Result (Held S) (StoreFault × Held S) → Trees → Type 0) (old : Held S)
+    (result : Result (Held S) (StoreFault × Held S)) : Type 0 where
+  pub all_committed : HasCleanDisk (state store (connection_of result))
+      → OnOk result (IsCommitted (state store (connection_of result)))
+  pub undone : OnErr result ((connection_of result ≡ old)
+      ⊎ (HasCleanDisk (state store (connection_of result))
+      → Undone (state store old) (state store (connection_of result))))
+  pub survives : Survives (state store old) (state store (connection_of result))
+      (may (state store old) result)
 
 -- what making an office may commit if there was no table, unless it is refused with a named fault:
 -- the tables without a session

@@ -3,11 +3,10 @@ ghost use Rattle.std.specs.Prelude.{◌≡◌, ◌⊎◌, false, IfErr, IfOk, Is
 ghost use Rattle.sqlite.specs.Held.{state};
 ghost use Rattle.sqlite.specs.State.{HasCleanDisk, IsUnchanged};
 ghost use Rattle.office_schema.specs.Schema.{office_schema};
-ghost use Rattle.office_tables.specs.Alterations.{Undone};
 ghost use Rattle.office_tables.specs.Readers.{LeavesFile};
 ghost use Rattle.office_model.specs.Office.{OfficeState};
 ghost use Rattle.office_store.specs.Faults.{IsOfDatabase};
-ghost use Rattle.office_store.specs.Leaving.{Leaves, MayMigrate, connection_of};
+ghost use Rattle.office_store.specs.Leaving.{LeavesOpened, MayMigrate};
 ghost use Rattle.office_store.specs.Memory.{IsTogether};
 ghost use Rattle.office_store.specs.Opening.{HoldsOffice, IsFoundOffice, DatabaseUpgraded, WeighsNoNight};
 ghost use Rattle.office_store.specs.Transactions.{BroughtUp};
@@ -47,14 +46,10 @@ impl<S: Alter> Office<S> {
             → (o : OfficeState) → HoldsOffice (state S.Store conn).now o → ⊥) }
         // Only `Store` or `BadSchema`.
         ensures fault { IfErr result (λ e. IsOfDatabase e.0) }
-        // Whatever the refusal, the tables are as they were.
-        ensures undone { IfErr result (λ e. (e.1 ≡ conn) ⊎ (HasCleanDisk (state S.Store e.1)
-            → Undone (state S.Store conn) (state S.Store e.1))) }
-        // On `Ok` the database is open, and all is committed.
+        // On `Ok` the database is open, and all is committed; on `Err` the tables are as they were.
         // A later opening may find what it might have found before, or, if that was of version 1,
         // the same office in version 2.
-        ensures leaves { Leaves (MayMigrate (state S.Store conn) result) (state S.Store conn)
-            (state S.Store (connection_of result)) result }
+        ensures leaves { LeavesOpened S.Store MayMigrate conn result }
     {
         if !conn.is_autocommit() {
             return Err((StoreFault::Store, conn));

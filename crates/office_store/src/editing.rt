@@ -14,7 +14,7 @@ ghost use Rattle.office_model.specs.Commands.{renamed_fault};
 ghost use Rattle.office_model.specs.DraftCommands.{draft_edited};
 ghost use Rattle.office_store.specs.Changes.{move_writes, new_place};
 ghost use Rattle.office_store.specs.Editing.{Edits, Judges};
-ghost use Rattle.office_store.specs.FoldReads.{HasRead, RowsUnchanged};
+ghost use Rattle.office_store.specs.FoldReads.{LeavesRows};
 ghost use Rattle.office_store.specs.Leaving.{LeavesNext};
 ghost use Rattle.office_store.specs.Memory.{IsMemoryOf, IsTogether, scored_draft};
 ghost use Rattle.office_store.specs.Running.{IsCommitted, CommandRan};
@@ -95,8 +95,7 @@ fn edited_draft<S: Alter>(
         ≡ map (new_place number new.draft.timetable) (edited_exams edit)) }
     ensures suits { IfOk result (λ new. (I : Session) (E : Enrolled)
         → memory.now.kept ≡ Some (I, E) → Suits I new.draft.timetable) }
-    ensures read { HasRead S.Store conn.old conn.new }
-    ensures same { OnOk result (RowsUnchanged S.Store conn.old conn.new) }
+    ensures leaves { LeavesRows S.Store conn.old conn.new result }
 {
     let Some((instance, enrolments)) = &memory.kept else {
         return Err(StoreFault::NotLoaded);

@@ -6,7 +6,7 @@ ghost use Rattle.exam_model.specs.Enrolments.{Enrolled, IsAscending};
 ghost use Rattle.exam_model.specs.Pairs.{Pair};
 ghost use Rattle.exam_score.specs.Folds.{IsFoldOf, RepresentsPairs, pairs_sat};
 ghost use Rattle.exam_score.specs.Track.{track};
-ghost use Rattle.office_store.specs.FoldReads.{HadEnrolments, HasRead, RowsUnchanged};
+ghost use Rattle.office_store.specs.FoldReads.{HadEnrolments, LeavesRows};
 ghost use Rattle.office_store.specs.Folding.{CanTake, IsEditOf};
 ghost use Rattle.office_store.specs.Folding.{pairs_of_students, students_of_exams};
 ghost use Rattle.office_store.specs.Running.{ReturnsValue};
@@ -36,8 +36,7 @@ pub(crate) fn penalty_after<S: Alter>(
     ensures meaning { HadEnrolments S.Store conn.old conn.new enrolments.now
         → IsEditOf instance.now enrolments.now judged.now
         → ReturnsValue (track instance.now enrolments.now judged.now.new) result }
-    ensures read { HasRead S.Store conn.old conn.new }
-    ensures same { OnOk result (RowsUnchanged S.Store conn.old conn.new) }
+    ensures leaves { LeavesRows S.Store conn.old conn.new result }
 {
     let sizes = sizes_of(alloc, enrolments)?;
     let students = students_of_exams(alloc, enrolments, &judged.exams)?;
@@ -85,8 +84,7 @@ fn fold_students<'a, S: Alter>(
         empty.entry.later empty.entry.edited) }
     ensures fault { (E : Enrolled) → HadEnrolments S.Store conn.old conn.new E
         → IfErr result (λ e. e ≡ StoreFault.Store) }
-    ensures read { HasRead S.Store conn.old conn.new }
-    ensures same { OnOk result (RowsUnchanged S.Store conn.old conn.new) }
+    ensures leaves { LeavesRows S.Store conn.old conn.new result }
 {
     let mut fold = empty;
     let mut count = 0;
@@ -140,8 +138,7 @@ fn read_exams<S: Alter>(
         → IfOk result (λ exams. exams.items ≡ exams_sat E student) }
     ensures fault { (E : Enrolled) → HadEnrolments S.Store conn.old conn.new E
         → IfErr result (λ e. e ≡ StoreFault.Store) }
-    ensures read { HasRead S.Store conn.old conn.new }
-    ensures same { OnOk result (RowsUnchanged S.Store conn.old conn.new) }
+    ensures leaves { LeavesRows S.Store conn.old conn.new result }
 {
     let number = student.get();
     let Ok(found) = FindEnrolsOf { student: number }.ask(alloc, conn) else {

@@ -1,12 +1,11 @@
 // The office, and how its file is created and read.
-ghost use Rattle.std.specs.Prelude.{◌≡◌, ◌≢◌, ◌⊎◌, IfErr, IfOk, None};
+ghost use Rattle.std.specs.Prelude.{◌≡◌, ◌≢◌, IfErr, IfOk, None};
 ghost use Rattle.sqlite.specs.Held.{state};
 ghost use Rattle.sqlite.specs.State.{HasCleanDisk};
 ghost use Rattle.office_tables.specs.Schema.{no_schema};
 ghost use Rattle.office_store.specs.Faults.{IsOfDatabase};
-ghost use Rattle.office_store.specs.Leaving.{Leaves, LeavesUnchanged, MayMake, connection_of};
+ghost use Rattle.office_store.specs.Leaving.{LeavesOpened, LeavesUnchanged, MayMake};
 ghost use Rattle.office_store.specs.Running.{IsAtRest};
-ghost use Rattle.office_tables.specs.Alterations.{Undone};
 ghost use Rattle.office_records.specs.Representation.{RepresentsOffice};
 
 use crate::memory::OfficeMemory;
@@ -58,14 +57,10 @@ impl<S: Alter> Office<S> {
             → ((state S.Store conn).now.schema ≢ no_schema) × (e.1 ≡ conn)) }
         // Only `Store` or `BadSchema`.
         ensures fault { IfErr result (λ e. IsOfDatabase e.0) }
-        // Whatever the refusal, the tables are as they were.
-        ensures undone { IfErr result (λ e. (e.1 ≡ conn) ⊎ (HasCleanDisk (state S.Store e.1)
-            → Undone (state S.Store conn) (state S.Store e.1))) }
-        // On `Ok` the database is open, and all is committed.
+        // On `Ok` the database is open, and all is committed; on `Err` the tables are as they were.
         // A later opening may find what it might have found before, or, if there were no tables,
         // those of the office without a session.
-        ensures leaves { Leaves (MayMake (state S.Store conn) result) (state S.Store conn)
-            (state S.Store (connection_of result)) result }
+        ensures leaves { LeavesOpened S.Store MayMake conn result }
     {
         if !conn.is_autocommit() {
             return Err((StoreFault::Store, conn));

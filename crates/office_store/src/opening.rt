@@ -5,10 +5,9 @@ ghost use Rattle.sqlite.specs.State.{HasCleanDisk};
 ghost use Rattle.office_schema.specs.Schema.{schema_before};
 ghost use Rattle.office_model.specs.Office.{OfficeState};
 ghost use Rattle.office_store.specs.Faults.{IsOfDatabase};
-ghost use Rattle.office_store.specs.Leaving.{Leaves, MayOpen, connection_of};
+ghost use Rattle.office_store.specs.Leaving.{LeavesOpened, MayOpen};
 ghost use Rattle.office_store.specs.Opening.{IsOfficeOf};
 ghost use Rattle.office_store.specs.Running.{Represents};
-ghost use Rattle.office_tables.specs.Alterations.{Undone};
 
 use crate::office::Office;
 use office_model::StoreFault;
@@ -39,14 +38,10 @@ impl<S: Alter> Office<S> {
         ensures refused { IfErr result (λ e. HasCleanDisk (state S.Store e.1)
             → (e.0 ≡ StoreFault.Store) ⊎ ((there : OfficeState)
             → IsOfficeOf (state S.Store conn).now there → ⊥)) }
-        // Whatever the refusal, the tables are as they were.
-        ensures undone { IfErr result (λ e. (e.1 ≡ conn) ⊎ (HasCleanDisk (state S.Store e.1)
-            → Undone (state S.Store conn) (state S.Store e.1))) }
-        // On `Ok` the database is open, and all is committed.
+        // On `Ok` the database is open, and all is committed; on `Err` the tables are as they were.
         // A later opening may find what it might have found before, or what `create` or `adopt`
         // makes.
-        ensures leaves { Leaves (MayOpen (state S.Store conn) result) (state S.Store conn)
-            (state S.Store (connection_of result)) result }
+        ensures leaves { LeavesOpened S.Store MayOpen conn result }
     {
         if is_bare(&conn) {
             Office::create(conn)

@@ -1,5 +1,5 @@
 -- The effect of a reader on a connection to a database with the tables.
-use Rattle.std.specs.Prelude.{◌≡◌, ◌⊎◌, false, ℕ, IsTrue, IfOk, List, OnOk, Result}
+use Rattle.std.specs.Prelude.{◌≡◌, ◌⊎◌, false, ℕ, IsTrue, IfOk, List, OnErr, OnOk, Result}
 use Rattle.sqlite.specs.declared.error.Error.{Error}
 use Rattle.sqlite.specs.Given.{IsPlain}
 use Rattle.sqlite.specs.Held.{Held, state}
@@ -71,6 +71,14 @@ pub record LeavesTablesIn {S X E : Type 0} (version : Version) (store : Ghosts S
 -- what a reader of tables of version 2 leaves
 abbrev pub LeavesTables : {S X : Type 0} → Ghosts S → Held S → Held S → Result X Error → Type 0
 LeavesTables = LeavesTablesIn Two
+
+-- what a look at the file leaves: what a reader of its tables leaves, and, whatever the tables are, an
+-- `Err` the database as it was or as the last commit left it
+pub record LeavesLooked {S X : Type 0} (store : Ghosts S) (old new : Held S) (result : Result X Error)
+    : Type 0 where
+  pub tables : LeavesTables store old new result
+  pub failed : HasCleanDisk (state store new)
+      → OnErr result (Keeps (state store old) (state store new))
 
 -- what readers leave, one after another or none at all, if the file is as they expect
 pub record LeavesFile {S X E : Type 0} (Expected : Type 0) (store : Ghosts S) (old new : Held S)

@@ -36,7 +36,7 @@ returns-in-Err-export_from-clause-refused g c = λ clean there holds.
 
 -- no office was found, and the tables are unchanged
 pub returns-in-Err-clause-stays : goal.returns-in-Err-clause-stays
-returns-in-Err-clause-stays g c = λ clean kept there is opened. elim c.in-Err.ensures.undone [
+returns-in-Err-clause-stays g c = λ clean kept there is opened. elim c.in-Err.ensures.leaves.undone [
   | inl same ↦ subst (λ held. HoldsOffice (state g.S.Store held).now there) (sym same) is
   | inr undone ↦ subst (λ db. HoldsOffice db there) (kept ∙ sym ((undone clean).now opened)) is
 ]

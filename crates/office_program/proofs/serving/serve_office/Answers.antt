@@ -14,7 +14,7 @@ returns-in-Err-clause-reached g c = λ clean kept there is. (
   omega arith,
   there,
   nobody_served there,
-  λ opened. elim c.in-Err.ensures.undone [
+  λ opened. elim c.in-Err.ensures.leaves.undone [
     | inl same ↦ subst (λ held. IsOfficeOf (state g.S.Store held).now there) (sym same) is
     | inr undone ↦ subst (λ db. IsOfficeOf db there)
         (kept ∙ sym ((undone clean).now opened)) is

@@ -33,6 +33,9 @@ kept : {T E P : Type 0} (result : Result T E) → P → OnOk result P
 kept (Ok x) p = p
 kept (Err e) p = tt
 
-pub returns-clause-same : goal.returns-clause-same
-returns-clause-same g c =
-    kept c.exams_in_order.result (λ clean t represents _. c.in-Ok.ensures.leaves.same clean t represents)
+pub returns-clause-leaves : goal.returns-clause-leaves
+returns-clause-leaves g c = record {
+  read = search rules;
+  same = kept c.exams_in_order.result
+      (λ clean t represents _. c.in-Ok.ensures.leaves.same clean t represents);
+}

@@ -8,8 +8,8 @@ use Rattle.office_tables.proofs.LookLemmas.{look_text, look_plain, look_plain_in
 use Rattle.office_tables.proofs.Reading.{commits_nothing, kept_failed, kept_unchanged, shown_same}
 use Rattle.office_tables.proofs.looking.look.Goals as goal
 
-pub returns-clause-leaves : goal.returns-clause-leaves
-returns-clause-leaves g c =
+pub returns : goal.returns
+returns g c =
     let old = state g.S.Store c.args.conn.now in
     let new = state g.S.Store c.query_all.new.self in
     let opened : HasCleanDisk new → IsTrue old.is_open =
@@ -18,29 +18,31 @@ returns-clause-leaves g c =
     λ clean t represents. shown_same look_text _ old new _ (look_plain_in old t represents)
     (c.in_ok-_rows.ensures.ok clean) in
     record {
-      open_on_ok = opened;
-      was_open = λ clean _. opened clean;
-      same = same;
-      kept = λ clean t represents. kept_unchanged old new (same clean t represents);
-      mode = c.query_all.ensures.mode;
-      survives = commits_nothing look_text _ old new look_plain c.query_all.ensures.survives;
+      tables = record {
+        open_on_ok = opened;
+        was_open = λ clean _. opened clean;
+        same = same;
+        kept = λ clean t represents. kept_unchanged old new (same clean t represents);
+        mode = c.query_all.ensures.mode;
+        survives = commits_nothing look_text _ old new look_plain c.query_all.ensures.survives;
+      };
+      failed = λ clean. tt;
     }
 
-pub returns-in_err-_rows-clause-leaves : goal.returns-in_err-_rows-clause-leaves
-returns-in_err-_rows-clause-leaves g c =
+pub returns-in_err-_rows : goal.returns-in_err-_rows
+returns-in_err-_rows g c =
     let old = state g.S.Store c.args.conn.now in
     let new = state g.S.Store c.query_all.new.self in
     let kept : HasCleanDisk new → Keeps old new =
     λ clean. kept_failed look_text _ old new _ (c.in_err-_rows.ensures.err clean) in
     record {
-      open_on_ok = λ clean. search rules;
-      was_open = λ clean. (kept clean).was_open;
-      same = λ clean t represents. search rules;
-      kept = λ clean t represents. kept clean;
-      mode = c.query_all.ensures.mode;
-      survives = commits_nothing look_text _ old new look_plain c.query_all.ensures.survives;
+      tables = record {
+        open_on_ok = λ clean. search rules;
+        was_open = λ clean. (kept clean).was_open;
+        same = λ clean t represents. search rules;
+        kept = λ clean t represents. kept clean;
+        mode = c.query_all.ensures.mode;
+        survives = commits_nothing look_text _ old new look_plain c.query_all.ensures.survives;
+      };
+      failed = λ clean. on_err c.from_residual.result (kept clean);
     }
-
-pub returns-in_err-_rows-clause-failed : goal.returns-in_err-_rows-clause-failed
-returns-in_err-_rows-clause-failed g c clean =
-    on_err c.from_residual.result (kept_failed look_text _ _ _ _ (c.in_err-_rows.ensures.err clean))

@@ -66,6 +66,7 @@ returns-in-Ok-bring_up-clause-leaves g c = record {
       (awake_still g.S.Store c.args.conn c.found_office.new.conn (c.in-Ok.ensures.leaves.same clean_mid tt)
       (c.is_autocommit.ensures.settled c.if-not-is_autocommit.false)
       (c.in-Ok.ensures.open clean_mid));
+  undone = tt;
   survives = may_migrate g.S.Store c.args.conn c.found_office.new.conn c.bring_up.new.conn _ _
       (Ok c.bring_up.new.conn) tt
       (brought_clean g.S.Store _ _ _ c.bring_up.result _ c.bring_up.ensures)
@@ -77,6 +78,11 @@ returns-in-Ok-bring_up-clause-leaves g c = record {
 pub returns-clause-leaves : goal.returns-clause-leaves
 returns-clause-leaves g c = record {
   all_committed = search rules;
+  undone = inr (λ clean. undone_after g.S.Store c.args.conn c.found_office.new.conn
+      c.bring_up.new.conn
+      (c.in-Ok.ensures.leaves.same
+      (brought_clean g.S.Store _ _ _ c.bring_up.result _ c.bring_up.ensures clean) tt)
+      (brought_undone g.S.Store _ _ _ _ _ c.in-Err-bring_up.ensures clean));
   survives = may_migrate g.S.Store c.args.conn c.found_office.new.conn c.bring_up.new.conn _ _
       (Err (Store, c.bring_up.new.conn)) refl
       (brought_clean g.S.Store _ _ _ c.bring_up.result _ c.bring_up.ensures)
@@ -85,18 +91,15 @@ returns-clause-leaves g c = record {
       (brought_survives g.S.Store _ _ _ c.bring_up.result _ c.bring_up.ensures);
 }
 
-pub returns-clause-undone : goal.returns-clause-undone
-returns-clause-undone g c =
-    inr (λ clean. undone_after g.S.Store c.args.conn c.found_office.new.conn c.bring_up.new.conn
-    (c.in-Ok.ensures.leaves.same
-    (brought_clean g.S.Store _ _ _ c.bring_up.result _ c.bring_up.ensures clean) tt)
-    (brought_undone g.S.Store _ _ _ _ _ c.in-Err-bring_up.ensures clean))
-
 pub returns-in-Err-clause-no_office : goal.returns-in-Err-clause-no_office
 returns-in-Err-clause-no_office g c bad clean o holds = c.in-Err.ensures.none clean bad o holds
 
-pub returns-in-Err-clause-undone : goal.returns-in-Err-clause-undone
-returns-in-Err-clause-undone g c =
-    inr (λ clean. undone_reading (state g.S.Store c.args.conn) (state g.S.Store
-    c.found_office.new.conn)
-    (c.is_autocommit.ensures.settled c.if-not-is_autocommit.false) (c.in-Err.ensures.leaves.kept clean tt))
+pub returns-in-Err-clause-leaves : goal.returns-in-Err-clause-leaves
+returns-in-Err-clause-leaves g c = record {
+  all_committed = search rules;
+  undone = inr (λ clean. undone_reading (state g.S.Store c.args.conn)
+      (state g.S.Store c.found_office.new.conn)
+      (c.is_autocommit.ensures.settled c.if-not-is_autocommit.false)
+      (c.in-Err.ensures.leaves.kept clean tt));
+  survives = search rules;
+}

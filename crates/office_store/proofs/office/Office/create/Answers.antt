@@ -43,6 +43,7 @@ returns-in-Ok-clause-made g c clean = record {
 pub returns-in-Ok-clause-leaves : goal.returns-in-Ok-clause-leaves
 returns-in-Ok-clause-leaves g c = record {
   all_committed = search rules;
+  undone = tt;
   survives = let bare : (state g.S.Store c.args.conn).now.schema ≡ no_schema = search rules in
       may_make g.S.Store c.args.conn c.make_tables.new.conn (Ok c.make_tables.new.conn) bare tt
       c.make_tables.ensures.survives;
@@ -51,6 +52,7 @@ returns-in-Ok-clause-leaves g c = record {
 pub returns-in-Err-clause-leaves : goal.returns-in-Err-clause-leaves
 returns-in-Err-clause-leaves g c = record {
   all_committed = search rules;
+  undone = search rules;
   survives = let bare : (state g.S.Store c.args.conn).now.schema ≡ no_schema = search rules in
       may_make g.S.Store c.args.conn c.make_tables.new.conn (Err (Store, c.make_tables.new.conn))
       bare refl

@@ -19,12 +19,12 @@ use Rattle.office_store.proofs.office.Office.edit.Goals as goal
 -- the edit is refused
 pub invariant_of-self : goal.invariant_of-self
 invariant_of-self g c = (
-  c.edited_draft.ensures.read.mode c.self.invariant.0,
+  c.edited_draft.ensures.leaves.read.mode c.self.invariant.0,
   rest_read (state g.S.Store c.self.inside.conn) (state g.S.Store c.edited_draft.new.conn)
-      c.self.inside.memory c.self.invariant.1 c.edited_draft.ensures.read.clean
+      c.self.inside.memory c.self.invariant.1 c.edited_draft.ensures.leaves.read.clean
       (λ k _. (awake_inside g.S.Store c.look.new.self c.self.inside.conn c.self.view_is
       c.in_ok-look.ensures.leaves.all_committed k).1)
-      c.edited_draft.ensures.read.was_open c.edited_draft.ensures.read.kept,
+      c.edited_draft.ensures.leaves.read.was_open c.edited_draft.ensures.leaves.read.kept,
   c.self.invariant.2,
 )
 
@@ -33,7 +33,7 @@ returns-in_err-new-clause-runs g c =
     let start = c.look.new.self in
     let inside = c.self.inside.conn in
     let after = c.edited_draft.new.conn in
-    let read = c.edited_draft.ensures.read in
+    let read = c.edited_draft.ensures.leaves.read in
     let fault = c.in_err-new.field-0.0 in
     let command = draft_edited c.args.number c.args.edit in
     let is : c.from_residual-in_err-new.result ≡ Err fault = search rules in
@@ -62,7 +62,7 @@ invariant_of-self-in_err-put g c = (
       c.self.inside.memory c.self.invariant.1
       (λ k _. (awake_inside g.S.Store c.look.new.self c.self.inside.conn c.self.view_is
       c.in_ok-look.ensures.leaves.all_committed k).1)
-      c.edited_draft.ensures.read c.in_ok-new.ensures.same c.put.ensures.clean
+      c.edited_draft.ensures.leaves.read c.in_ok-new.ensures.leaves.same c.put.ensures.clean
       c.in_err-put.ensures.undone,
   c.self.invariant.2,
 )
@@ -73,7 +73,7 @@ invariant_of-self-2 g c =
     let inside = c.self.inside.conn in
     let mid = c.edited_draft.new.conn in
     let after = c.put.new.conn in
-    let read = c.edited_draft.ensures.read in
+    let read = c.edited_draft.ensures.leaves.read in
     let d = c.args.number in
     let draft = c.in_ok-new.new.draft in
     let row = c.draft_row.result in
@@ -94,7 +94,7 @@ invariant_of-self-2 g c =
           (λ o here is. c.in_ok-new.ensures.edits (c.put.ensures.clean k) all_committed o here is)
           c.draft_row.ensures.number c.draft_row.ensures.parts c.total.ensures.total
           (c.deref.ensures.value ∙ c.in_ok-new.ensures.places)
-          (made_on g.S.Store inside mid (state g.S.Store after).now c.in_ok-new.ensures.same
+          (made_on g.S.Store inside mid (state g.S.Store after).now c.in_ok-new.ensures.leaves.same
           (c.put.ensures.clean k) all_committed.0 make (c.in_ok-put.ensures.done k).related))
           (λ k. let all_committed = awake_inside g.S.Store start inside c.self.view_is
           c.in_ok-look.ensures.leaves.all_committed (read.clean (c.put.ensures.clean k)) in
@@ -115,7 +115,7 @@ returns-in_err-new-clause-leaves g c = record {
   unchanged_on_err = let start = c.look.new.self in
       let inside = c.self.inside.conn in
       let after = c.edited_draft.new.conn in
-      let read = c.edited_draft.ensures.read in
+      let read = c.edited_draft.ensures.leaves.read in
       stays_then g.S.Store c.args.self.now start after c.from_residual-in_err-new.result
       c.in_ok-look.ensures.leaves
       (λ k. subst (λ h. HasCleanDisk (state g.S.Store h)) c.self.view_is (read.clean k))
@@ -147,12 +147,12 @@ returns g c =
     c.put.new.conn c.self.inside.memory c.self.view_is c.self.invariant.1
     c.in_ok-look.ensures.leaves make c.total.result
     (altered_on g.S.Store inside mid c.put.new.conn c.self.inside.memory c.self.invariant.1
-    c.edited_draft.ensures.read c.in_ok-new.ensures.same (λ k. (committed k).0) make _
+    c.edited_draft.ensures.leaves.read c.in_ok-new.ensures.leaves.same (λ k. (committed k).0) make _
     c.in_ok-put.ensures)
     (λ k db makes. edit_moves (state g.S.Store inside).now db c.self.inside.memory d c.args.edit
     draft row c.total.result places
     (λ o here is. c.in_ok-new.ensures.edits (c.put.ensures.clean k)
-    (committed (c.edited_draft.ensures.read.clean (c.put.ensures.clean k))) o here is)
+    (committed (c.edited_draft.ensures.leaves.read.clean (c.put.ensures.clean k))) o here is)
     c.draft_row.ensures.number c.draft_row.ensures.parts c.total.ensures.total
     (c.deref.ensures.value ∙ c.in_ok-new.ensures.places) makes) in
     record { runs = next.0; leaves = next.1 }
@@ -174,12 +174,12 @@ returns-in_err-put g c =
     c.put.new.conn c.self.inside.memory c.self.view_is c.self.invariant.1
     c.in_ok-look.ensures.leaves make (total_of draft.parts)
     (altered_on g.S.Store inside mid c.put.new.conn c.self.inside.memory c.self.invariant.1
-    c.edited_draft.ensures.read c.in_ok-new.ensures.same (λ k. (committed k).0) make _
+    c.edited_draft.ensures.leaves.read c.in_ok-new.ensures.leaves.same (λ k. (committed k).0) make _
     c.in_err-put.ensures)
     (λ k db makes. edit_moves (state g.S.Store inside).now db c.self.inside.memory d c.args.edit
     draft row (total_of draft.parts) places
     (λ o here is. c.in_ok-new.ensures.edits (c.put.ensures.clean k)
-    (committed (c.edited_draft.ensures.read.clean (c.put.ensures.clean k))) o here is)
+    (committed (c.edited_draft.ensures.leaves.read.clean (c.put.ensures.clean k))) o here is)
     c.draft_row.ensures.number c.draft_row.ensures.parts refl
     (c.deref.ensures.value ∙ c.in_ok-new.ensures.places) makes)
     c.from_residual-in_err-put.result c.from_residual-in_err-put.ensures.1 in

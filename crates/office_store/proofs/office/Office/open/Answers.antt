@@ -42,6 +42,7 @@ returns-else-is_bare-clause-refused g c = if_err c.adopt.result _ _ _
 pub returns-then-is_bare-clause-leaves : goal.returns-then-is_bare-clause-leaves
 returns-then-is_bare-clause-leaves g c = record {
   all_committed = search rules;
+  undone = c.create.ensures.leaves.undone;
   survives = survives_weaker (state g.S.Store c.args.conn)
       (state g.S.Store (connection_of c.create.result)) _ _ (λ _ found made. inl made)
       c.create.ensures.leaves.survives;
@@ -50,6 +51,7 @@ returns-then-is_bare-clause-leaves g c = record {
 pub returns-else-is_bare-clause-leaves : goal.returns-else-is_bare-clause-leaves
 returns-else-is_bare-clause-leaves g c = record {
   all_committed = search rules;
+  undone = c.adopt.ensures.leaves.undone;
   survives = survives_weaker (state g.S.Store c.args.conn)
       (state g.S.Store (connection_of c.adopt.result)) _ _ (λ _ found made. inr made)
       c.adopt.ensures.leaves.survives;
