@@ -193,3 +193,33 @@ PAGES = [
     ("a page", ask("ada", "GET", "/candidate.html"), 200),
     ("the page of /", ask("ada", "GET", "/"), 200),
 ]
+# What writes a line into the log of changes: the fields that it has of a request.
+LONG = "/drafts/1/" + 'a"' * 200
+LOGGED_QUESTIONS = [
+    ask("registry", "PUT", "/exams/3/owner", b'{"dept":3}'),
+    ask("registry", "PUT", "/exams/3/owner", b'{"dept":' + b" " * 300 + b"3}"),
+    ask("nobody", "POST", LONG, b"{}"),
+    ask("registry", "POST", "/drafts/1/exams/9/move", '{"é":1}'.encode()),
+]
+LOGGED = [
+    ("registry", "office", "POST", "/drafts/1/publish", 200, ""),
+    ("registry", "office", "POST", "/drafts/1/publish", 403, ""),
+    ("registry", "office", "PUT", "/drafts/2", 201, ""),
+    ("physics", "dept:3", "POST", "/drafts/1/publish", 403, ""),
+    ("registry", "office", "PUT", "/exams/3/owner", 200, '{"dept":3}'),
+    ("registry", "office", "PUT", "/exams/3/owner", 200, '{"dept":' + " " * 192),
+    ("-", "", "POST", LONG[:200], 400, ""),
+    ("registry", "office", "POST", "/drafts/1/exams/9/move", 400, '{"'),
+]
+# What nobody who isn't signed in may write into a log.
+STRANGERS = [
+    *(message(method, path, b"", None, fields) for method, path in (
+        ("POST", "/drafts/1/publish"), ("PUT", "/" + "a" * 1_900), ("DELETE", "/nothing"),
+        ("POST", "/labels/students.json"), ("GET", "/nothing.css"), ("PUT", "/-/drafts/1"))
+      for fields in ([], [password("registry", "guess")], [password("eve\r\nx", "guess")],
+                     ["Origin: https://elsewhere.example"])),
+    message("PUT", "/instance", b"", None, ["Content-Length: 999999999"]),
+    message("POST", "/drafts/1", b"", None, ["Content-Length: 5"]),
+    b"POST /drafts/1 HTTP/1.1\r\n\r\n", b"POST\r\n\r\n", b"\x16\x03\x01\x02\x00\r\n\r\n",
+    b"POST /\xff\xfe HTTP/1.1\r\nHost: office\r\n\r\n", b"POST / HTTP/1.1\r\nA: " + b"b" * 40_000 + b"\r\n\r\n",
+]

@@ -27,8 +27,8 @@ import browser
 import front_pages
 import openapi
 from front_cases import (
-    CALLERS, CANDIDATE, FAULTY_PEOPLE, FIRST_VIEW, LABELS, LOOKED_FOR, MADE, PAGES, SECOND_VIEW,
-    TARGETS, WIDE, WIDE_LABELS, WIDE_SOLUTION, ask, password, told_error)
+    CALLERS, CANDIDATE, FAULTY_PEOPLE, FIRST_VIEW, LABELS, LOGGED, LOGGED_QUESTIONS, LOOKED_FOR, MADE,
+    PAGES, SECOND_VIEW, STRANGERS, TARGETS, WIDE, WIDE_LABELS, WIDE_SOLUTION, ask, password, told_error)
 from run_serve import Office, Run, one_reply, rest
 from serve_cases import SOLUTION, message, reply
 
@@ -36,6 +36,7 @@ TOP = pathlib.Path(__file__).resolve().parent.parent
 NGINX = shutil.which("nginx") or shutil.which("nginx", path="/usr/sbin:/usr/local/sbin")
 LOG = ("log_format exchange '$request_method $request_uri $upstream_status"
        " $upstream_http_content_type'; access_log run/exchanges exchange;\n    access_log run/changes")
+TIME = r"\d{4}-\d\d-\d\dT\d\d:\d\d:\d\d[+-]"
 SECONDS = 20
 # For the tests that ask often from one address or with wrong passwords, and those of slow clients.
 QUICK = (("rate=20r/s", "rate=9000r/s"), ("rate=300r/s", "rate=9000r/s"),
@@ -218,9 +219,19 @@ def no_office(run):
     front.told(ask("registry", "POST", "/drafts/1/publish"))
     front.told(message("POST", "/drafts/1/publish", caller=None, fields=[password("ada", "guess")]))
     front.stop()
-    run.judge("the log of changes that the front refused", {("ada", 401), ("registry", 503)},
-              {(line["user"], line["status"]) for line in front.changes()
-               if "/drafts/1/publish" in line["request"]})
+    run.judge("the log of changes without an office", [("registry", "/drafts/1/publish", 503)],
+              [(line["user"], line["path"], line["status"]) for line in front.changes()])
+
+
+def strangers_leave_no_trace(run, front):
+    """Whoever isn't signed in writes no byte into the logs, whatever they send."""
+    logs = [front.folder / "run" / name for name in ("changes.log", "errors")]
+    sizes = [log.stat().st_size for log in logs]
+    for question in STRANGERS:
+        for _ in range(20):
+            front.told(question)
+    statuses(front, message("POST", "/drafts/1/" + "a" * 1_900, caller=None), 3_000)
+    run.judge("bytes in the logs", sizes, [log.stat().st_size for log in logs])
 
 
 def statuses(front, question, count):
@@ -303,17 +314,20 @@ def health(run, front, answer):
 
 
 def log_of_changes(run, front):
-    """Who changed what: each request that may change something, and no other."""
+    """Who changed what: each change that was passed to the office or forbidden, and nothing else."""
+    for question in LOGGED_QUESTIONS:
+        front.told(question)
+    # A line is written after the reply.
+    browser.until("the last line is there", lambda: front.changes()[-1]["path"].endswith("9/move"))
     lines = front.changes()
-    found = {(line["user"], line["caller"], line["request"], line["status"]) for line in lines}
-    for line in (("registry", "office", "POST /drafts/1/publish HTTP/1.1", 200),
-                 ("registry", "office", "PUT /drafts/2 HTTP/1.1", 201),
-                 ("physics", "dept:3", "POST /drafts/1/publish HTTP/1.1", 403)):
-        run.judge("the log of changes", True, line in found)
+    found = [tuple(line[name] for name in ("user", "caller", "method", "path", "status", "body"))
+             for line in lines]
+    for line in LOGGED:
+        run.judge(f"the log of changes has {line}", True, line in found)
+    fields = ["at", "method", "path", "status", "caller", "user", "body"]
     run.judge("its fields, and which requests", ([], []), (
-        [line for line in lines if list(line) != ["at", "user", "caller", "request", "status"]
-         or not re.match(r"\d{4}-\d\d-\d\dT\d\d:\d\d:\d\d[+-]", line["at"])],
-        [line for line in lines if line["request"].startswith(("GET ", "HEAD "))]))
+        [line for line in lines if list(line) != fields or not re.match(TIME, line["at"])],
+        [line for line in lines if line["method"] in ("GET", "HEAD", "")]))
 
 
 def styled_pages(run, front):
@@ -536,6 +550,7 @@ def before_the_office(run, front, office):
         limits(run, office)
         no_office(run)
     log_of_changes(run, front)
+    strangers_leave_no_trace(run, front)
 
 
 @contextlib.contextmanager

@@ -5,6 +5,7 @@ The package is unpacked into a folder, and the blocks of that page are typed wit
 if there is one, has to find nothing. The version is in VERSION; the changelog and docs/openapi.yaml
 repeat it. Without dpkg-deb and help2man a line says that the package is left out.
 """
+import http.server
 import os
 import pathlib
 import re
@@ -12,6 +13,7 @@ import shutil
 import subprocess
 import sys
 import tempfile
+import threading
 
 from cases import Cases
 
@@ -33,6 +35,40 @@ def of_the_repository(judged):
     judged.judge("the version of docs/openapi.yaml", VERSION, described and described[1])
 
 
+class Office(http.server.BaseHTTPRequestHandler):
+    """A stub of an office: nothing is published."""
+
+    def do_GET(self):
+        body = b'{"error":"publication"}'
+        self.send_response(404)
+        self.send_header("Content-Length", str(len(body)))
+        self.end_headers()
+        self.wfile.write(body)
+
+    def log_message(self, *_):
+        pass
+
+
+def says_status(judged, folder, program):
+    """What examoffice-status says of an office, and of a disk that is 9 or 10 percent free."""
+    disks = folder / "disks"
+    disks.mkdir()
+    environment = {**os.environ, "PATH": f"{disks}:{os.environ['PATH']}"}
+    with http.server.HTTPServer(("127.0.0.1", 0), Office) as office:
+        threading.Thread(target=office.serve_forever).start()
+        port = str(office.server_port)
+        for free, status in ((9, 3), (10, 0)):
+            (disks / "df").write_text("#!/bin/sh\nprintf 'Filesystem 1024-blocks Used Available\\n"
+                                      f"/dev/sda 1000 {1000 - 10 * free} {10 * free} -\\n'\n")
+            (disks / "df").chmod(0o755)
+            came, said = ran(program, port, env=environment)
+            judged.judge(f"{free} % free", (status, free < 10, True),
+                         (came, "warning: only 9 % of" in said, "nothing is published" in said))
+        office.shutdown()
+    judged.judge("no office on a port", 1, ran(program, port)[0])
+    judged.judge("no port", 2, ran(program, "--port")[0])
+
+
 def of_the_package(judged, folder):
     package = folder / f"examoffice_{VERSION}_amd64.deb"
     judged.judge("it is made", 0, ran(TOP / "packaging" / "make", folder)[0])
@@ -52,7 +88,11 @@ def of_the_package(judged, folder):
     judged.judge("its commands, and the status of their help", dict.fromkeys(
         ("examoffice", "examoffice-session-from-csv", "examoffice-status",
          "examoffice-users-from-csv"), 0), commands)
-    judged.judge("no office on a port", 1, ran(root / "usr" / "bin" / "examoffice-status", "1")[0])
+    says_status(judged, folder, root / "usr" / "bin" / "examoffice-status")
+    if shutil.which("logrotate"):
+        status, said = ran("logrotate", "--debug", "--state", folder / "state",
+                           root / "etc/logrotate.d/examoffice")
+        judged.judge("logrotate takes its file", (0, False), (status, "error" in said))
     links = {it: os.readlink(root / "etc" / "examoffice" / "front" / it) for it in ("page", "run")}
     judged.judge("the front's folders", {"page": "/usr/share/examoffice/page",
                                          "run": "/var/lib/examoffice-front"}, links)
