@@ -334,6 +334,7 @@ def departments_page(run, chromium, front):
             reader.text("#status"), reader.run("return document.querySelector('#undo').hidden")))
 
     hall, room = "Great Hall, Main building", "Room 2.14, Physics building"
+    front.told(ask("registry", "PUT", "/exams/3/owner", b'{"dept":0}'))
     with reading(chromium, front, "physics") as reader:
         friday, monday = (f"{reader.run(SHORT_DAY, 'en-GB', date)}, {reader.run(START, 'en-GB', start)}"
                           for date, start in ((FRIDAY, "17:00:00"), (MONDAY, "09:30:00")))
