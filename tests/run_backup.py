@@ -1,12 +1,16 @@
 #!/usr/bin/env python3
-"""run_backup.py PROGRAM: whether tools/backup copies the file of an office that runs, checks the copy,
-keeps the newest ones, and always continues the office."""
+"""run_backup.py PROGRAM: whether tools/backup copies the file of an office that runs, checks the
+copy, keeps the copies that it says, and always continues the office."""
+import concurrent.futures
+import contextlib
+import datetime
 import os
 import pathlib
 import signal
 import subprocess
 import sys
 import tempfile
+import threading
 import time
 
 from cases import Cases
@@ -36,52 +40,98 @@ def ended(process):
     return process.returncode, said, faults
 
 
-def state_of(office):
-    """How the system sees the office's process: T if it is stopped."""
-    return pathlib.Path(f"/proc/{office.process.pid}/stat").read_text().rpartition(")")[2].split()[0]
-
-
 def asked(office, question):
     with office.connect() as client:
         client.sendall(question)
         return one_reply(client)
 
 
-def slow_copies(folder):
-    """A PATH in which cp takes long, and makes a file `copying` when it starts."""
-    room = folder / "slow"
-    room.mkdir()
-    (room / "cp").write_text(f"#!/bin/sh\ntouch '{folder}/copying'\nexec sleep 30\n")
-    (room / "cp").chmod(0o755)
-    return f"{room}:{os.environ['PATH']}"
+def edits(office, is_over):
+    """Edits a draft all the time; the longest wait for a reply, in seconds."""
+    longest, period = 0, 0
+    while not is_over.is_set():
+        began, period = time.monotonic(), 3 - period
+        asked(office, message("POST", "/drafts/1/exams/3/move",
+                              b'{"period":%d,"room":1}' % period))
+        longest = max(longest, time.monotonic() - began)
+    return longest
+
+
+@contextlib.contextmanager
+def edited(office):
+    """An office that is edited meanwhile; the longest wait comes when it is over."""
+    is_over = threading.Event()
+    with concurrent.futures.ThreadPoolExecutor(1) as pool:
+        try:
+            yield pool.submit(edits, office, is_over)
+        finally:
+            is_over.set()
+
+
+@contextlib.contextmanager
+def reader_of(database):
+    """A process that has the file open and only reads it."""
+    with database.open("rb") as file:
+        process = subprocess.Popen(["sleep", "600"], stdin=file)
+    try:
+        yield process
+    finally:
+        process.kill()
+        process.wait()
 
 
 def while_it_runs(judged, program, folder, office, database):
-    copies = folder / "copies"
-    made = []
-    for _ in range(3):
-        status, said, faults = ended(backup(program, database, copies, 2))
-        judged.judge("a copy is made", (0, ""), (status, faults))
-        made.append(said.strip())
-        time.sleep(1.1)
-    judged.judge("the newest are kept, and nothing else", sorted(made)[1:],
-                 sorted(str(it) for it in copies.iterdir()))
+    copies = folder / "copies of it"
+    status, first, faults = ended(backup(program, database, copies))
+    judged.judge("a copy is made", (0, ""), (status, faults))
+    judged.judge("nothing has changed", (0, first, ""), ended(backup(program, database, copies)))
     before = asked(office, PENALTY)
-    copy = Office(program, made[-1])
-    judged.judge("a copy is the same office", before, asked(copy, PENALTY))
+    with edited(office) as longest:
+        came = [ended(backup(program, database, copies, "--wait", "0")) for _ in range(3)]
+    judged.judge("copies of an office that is edited", [(0, "")] * 3, [it[::2] for it in came])
+    judged.judge("it waited", True, longest.result() < 1)
+    judged.judge("nothing else is kept", sorted({first, *(it[1] for it in came)}),
+                 sorted(f"{it}\n" for it in copies.iterdir() if it.name != ".lock"))
+    copy = Office(program, came[-1][1].strip())
+    judged.judge("a copy is an office", True, asked(copy, PENALTY)[0] == before[0] == 200)
     copy.killed()
-    for number in SIGNALS:
-        running = backup(program, database, copies, 2, path=slow_copies(folder / number.name))
-        end = time.monotonic() + SECONDS
-        # A signal that comes while the script forks would wait for the copy to end.
-        while not (folder / number.name / "copying").exists() and time.monotonic() < end:
-            time.sleep(0.01)
-        time.sleep(0.2)
-        judged.judge(f"{number.name}, the office is stopped", "T", state_of(office))
-        # as a terminal and systemd do, to all processes of it
-        os.killpg(running.pid, number)
-        running.communicate(timeout=SECONDS)
-        judged.judge(f"{number.name}, the office goes on", before, asked(office, PENALTY))
+    kills(judged, program, office, database, copies)
+
+
+def kills(judged, program, office, database, copies):
+    """The office goes on, whenever and however a backup ends."""
+    with edited(office) as longest:
+        for delay in range(12):
+            running = backup(program, database, copies, "--wait", "0")
+            time.sleep(0.04 + delay * 0.02)
+            running.send_signal((*SIGNALS, signal.SIGKILL)[delay % 4])
+            running.communicate(timeout=SECONDS)
+    judged.judge("after signals the office goes on", True, longest.result() < 1)
+    judged.judge("after signals a copy is made", 0, ended(backup(program, database, copies))[0])
+    judged.judge("what they left is deleted", [], list(copies.glob(".copying.*")))
+
+
+def thinning(judged, program, folder, database):
+    """Of four copies a day all of the last day are kept, and of a month the last of each day."""
+    copies, now = folder / "many", datetime.datetime.utcnow()
+    copies.mkdir()
+
+    def name(moment):
+        return f"term-{moment:%Y%m%dT%H%M%SZ}.db"
+
+    midnight = now.replace(hour=0, minute=0, second=0)
+    times = [midnight - datetime.timedelta(days=day) + datetime.timedelta(hours=hour)
+             for day in range(1, 41) for hour in (1, 7, 13, 19)]
+    for moment in times:
+        (copies / name(moment)).touch()
+    (copies / "term-older.db").touch()
+    _, made, _ = ended(backup(program, database, copies))
+    day = datetime.timedelta(days=1)
+    kept = [moment for moment in times
+            if moment > now - day or (moment.hour == 19 and moment > now - 31 * day)]
+    others = pathlib.Path(made.strip()).name, "term-older.db", ".lock"
+    judged.judge("which copies are kept", sorted([*map(name, kept), *others]),
+                 sorted(it.name for it in copies.iterdir()))
 
 
 def of_no_office(judged, program, folder):
@@ -89,7 +139,9 @@ def of_no_office(judged, program, folder):
     subprocess.run(["sqlite3", str(database), "CREATE TABLE meta (id)"], check=True)
     judged.judge("another program's file", (1, "", "backup: the copy is not an office: examoffice: store fault 9\n"),
                  ended(backup(program, database, copies)))
-    judged.judge("nothing is kept of it", [], list(copies.iterdir()))
+    judged.judge("nothing is kept of it", [".lock"], [it.name for it in copies.iterdir()])
+    words = "backup: the copy can't be checked: /none: No such file or directory\n"
+    judged.judge("no program", (1, "", words), ended(backup("/none", database, copies)))
     judged.judge("no file", (1, "", f"backup: there is no file {folder}/no.db\n"),
                  ended(backup(program, folder / "no.db", copies)))
     judged.judge("no words", 2, ended(backup(program))[0])
@@ -99,19 +151,21 @@ def main():
     if len(sys.argv) != 2:
         sys.exit("usage: run_backup.py PROGRAM")
     program, judged = pathlib.Path(sys.argv[1]).resolve(), Cases("backup")
-    with tempfile.TemporaryDirectory() as folder:
+    with tempfile.TemporaryDirectory(prefix="a blank ") as folder:
         folder = pathlib.Path(folder)
-        for number in SIGNALS:
-            (folder / number.name).mkdir()
         database = folder / "term.db"
         subprocess.run([program, "load", "--db", database, EXAMPLES / "small.exam"], check=True,
                        stdout=subprocess.DEVNULL, timeout=SECONDS)
-        office = Office(program, database)
-        try:
-            asked(office, message("PUT", "/drafts/1", SOLUTION))
-            while_it_runs(judged, program, folder, office, database)
-        finally:
-            office.killed()
+        with reader_of(database) as reader:
+            office = Office(program, database)
+            try:
+                asked(office, message("PUT", "/drafts/1", SOLUTION))
+                while_it_runs(judged, program, folder, office, database)
+                thinning(judged, program, folder, database)
+            finally:
+                office.killed()
+            judged.judge("who only reads isn't stopped", (0, 0),
+                         os.waitpid(reader.pid, os.WUNTRACED | os.WCONTINUED | os.WNOHANG))
         of_no_office(judged, program, folder)
     return judged.end()
 
