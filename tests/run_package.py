@@ -93,11 +93,35 @@ def of_the_package(judged, folder):
         status, said = ran("logrotate", "--debug", "--state", folder / "state",
                            root / "etc/logrotate.d/examoffice")
         judged.judge("logrotate takes its file", (0, False), (status, "error" in said))
-    links = {it: os.readlink(root / "etc" / "examoffice" / "front" / it) for it in ("page", "run")}
-    judged.judge("the front's folders", {"page": "/usr/share/examoffice/page",
-                                         "run": "/var/lib/examoffice-front"}, links)
+    of_the_front(judged, root)
+    of_the_pages(judged, root / "usr/share/doc/examoffice")
+
+
+def of_the_front(judged, root):
+    front = root / "usr/share/examoffice/front"
+    names = "callers", "labels", "local.conf", "sessions.conf", "users"
+    judged.judge("what an operator changes", {
+        "run": "/var/lib/examoffice-front",
+        **{name: f"/etc/examoffice/front/{name}" for name in names}},
+        {it.name: os.readlink(it) for it in front.iterdir() if it.is_symlink()})
     judged.judge("all pages", sorted(it.name for it in (TOP / "front" / "page").iterdir()),
-                 sorted(it.name for it in (root / "usr/share/examoffice/page").iterdir()))
+                 sorted(it.name for it in (front / "page").iterdir()))
+    judged.judge("no known password", [], [
+        str(it) for folder in ("etc", "usr/share/examoffice") for it in (root / folder).rglob("*")
+        if it.is_file() and b"try-" in it.read_bytes()])
+    judged.judge("no question at an upgrade", ["logrotate.d/examoffice"], [
+        str(it.relative_to(root / "etc")) for it in (root / "etc").rglob("*") if it.is_file()])
+
+
+def of_the_pages(judged, folder):
+    """Links of the pages lead to files of the package."""
+    pages, dead = sorted(folder.rglob("*.md")), []
+    for page in pages:
+        for link in re.findall(r"\]\(([^)#\s:]+)(?:#[^)\s]*)?\)", page.read_text()):
+            if not (page.parent / link).exists():
+                dead.append(f"{page.relative_to(folder)}: {link}")
+    judged.judge("links that lead nowhere", (True, []), (len(pages) > 20, dead))
+    judged.judge("files to begin with", True, (folder / "examples/small/exams.csv").exists())
 
 
 def main():

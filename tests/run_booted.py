@@ -1,0 +1,190 @@
+#!/usr/bin/env python3
+"""run_booted.py ROOT OLD: the Debian package in a booted systemd, by hand, as root.
+
+ROOT is a folder that mmdebstrap made (docs/WORKING.md has the command), which is copied; OLD a
+package of an earlier version. It is installed and set up; then the package of this repository
+is installed over the running office, removed and purged, and installed anew.
+"""
+import os
+import pathlib
+import re
+import shutil
+import subprocess
+import sys
+import tempfile
+import time
+
+from cases import Cases
+from run_package import TOP, VERSION, ran
+
+SECONDS = 60
+FRONT = "/etc/examoffice/front"
+ASK = "curl -s -m 20 -u {}:{} http://127.0.0.1:{}/publication/penalty | tail -1"
+PATH = "export PATH=/usr/sbin:/usr/bin LC_ALL=C"
+UNITS = "examoffice@term", "examoffice-front", "examoffice-backup@term.timer"
+BOOT = ("mount -t tmpfs tmpfs /run && mkdir -p /run/systemd/nspawn && exec systemd-nspawn --quiet"
+        " --boot --register=no --keep-unit --private-network --directory={}")
+
+
+class Machine:
+    """A container of systemd-nspawn."""
+
+    def __init__(self, root):
+        self.process = subprocess.Popen(
+            ["unshare", "--mount", "--propagation", "private", "sh", "-c", BOOT.format(root)],
+            stdin=subprocess.DEVNULL, stdout=subprocess.DEVNULL, stderr=subprocess.DEVNULL)
+        end = time.monotonic() + SECONDS
+        while "running" not in self.types("systemctl is-system-running || true"):
+            if time.monotonic() > end:
+                raise TimeoutError(self.types("systemctl --failed"))
+            time.sleep(0.5)
+
+    def leader(self):
+        """The process that is the first one in the container."""
+        children = pathlib.Path(f"/proc/{self.process.pid}/task/{self.process.pid}/children")
+        return children.read_text().split()[:1]
+
+    def types(self, commands):
+        """What a shell in it prints."""
+        leader = self.leader()
+        if not leader:
+            return ""
+        return ran("nsenter", "--target", leader[0], "--mount", "--uts", "--ipc", "--net", "--pid",
+                   "--root", "--wd", "sh", "-c", f"{PATH}\n{commands}",
+                   timeout=SECONDS * 2)[1].strip()
+
+    def stop(self):
+        self.types("systemctl poweroff --force")
+        try:
+            self.process.wait(SECONDS)
+        except subprocess.TimeoutExpired:
+            self.process.kill()
+
+
+def pids(machine):
+    return machine.types(f"systemctl show --property=MainPID --value {' '.join(UNITS[:2])}").split()
+
+
+def wait(machine, commands, expected):
+    """What the commands print, at the latest after some seconds."""
+    end = time.monotonic() + 20
+    while (came := machine.types(commands)) != expected and time.monotonic() < end:
+        time.sleep(0.5)
+    return came
+
+
+def set_up_old(judged, machine):
+    """Today's package, with an address, a password and a rate of its own."""
+    machine.types(f"""dpkg -i /old.deb; mkdir -p /var/lib/examoffice
+        examoffice load --db /var/lib/examoffice/term.db /small.exam
+        echo PORT=8080 > /etc/examoffice/term.env; cd {FRONT}
+        sed -i 's/127.0.0.1:8000;/127.0.0.1:8123;/; s/rate=300r/rate=301r/' nginx.conf
+        printf 'registry:%s\\n' "$(openssl passwd -apr1 own-word)" > {FRONT}/users
+        chgrp www-data {FRONT}/users
+        systemctl enable --now {' '.join(UNITS)}
+        sleep 2; draft=http://127.0.0.1:8080/drafts/1
+        curl -s -H 'X-Caller: office' -X PUT --data-binary @/small.sol $draft
+        curl -s -H 'X-Caller: office' -X POST $draft/publish""")
+    judged.judge("the old package serves", "total 37",
+                 wait(machine, ASK.format("registry", "own-word", 8123), "total 37"))
+
+
+def upgrade(judged, machine):
+    before = pids(machine)
+    said = machine.types("dpkg -i --force-confold /new.deb")
+    judged.judge("no question is asked", False, "Configuration file" in said)
+    judged.judge("it serves with its own address and password", "total 37",
+                 wait(machine, ASK.format("registry", "own-word", 8123), "total 37"))
+    after = pids(machine)
+    judged.judge("both are the new ones", True,
+                 all(old != new for old, new in zip(before, after, strict=True)))
+    judged.judge("the program is that of the package", "/usr/bin/examoffice",
+                 machine.types(f"readlink /proc/{after[0]}/exe"))
+    judged.judge("what was changed", "1\n1", machine.types(
+        f"grep -c 301r {FRONT}/local.conf; ls {FRONT}/nginx.conf.dpkg-old | wc -l"))
+    judged.judge("its units", ["active"] * 3, machine.types(
+        f"systemctl is-active {' '.join(UNITS)}").split())
+    status = "the office on http://127.0.0.1:8080 answers\npublished, total penalty 37"
+    judged.judge("status", status, machine.types("examoffice-status 2>&1"))
+    said = machine.types("systemctl set-property --runtime examoffice@term MemoryMax=8M"
+                         "; examoffice-status"
+                         "; systemctl set-property --runtime examoffice@term MemoryMax=2G")
+    judged.judge("half of its memory is taken", True,
+                 said.startswith("warning: examoffice@term.service has taken "))
+    judged.judge("again, while it runs", "total 37", wait(
+        machine, "dpkg -i /new.deb > /dev/null 2>&1; sleep 1; "
+        + ASK.format("registry", "own-word", 8123), "total 37"))
+
+
+def backups(judged, machine):
+    machine.types("""cd /etc/examoffice; printf '#!/bin/sh\\nls "$1"/"$2"-*.db > /shipped\\n' > ship
+        chmod 755 /etc/examoffice/ship; rm -rf /var/backups/examoffice
+        systemctl start examoffice-backup@term; systemctl start examoffice-backup@term""")
+    judged.judge("one backup, and who may read it", "1\n600\n700", machine.types(
+        "ls /var/backups/examoffice | wc -l; stat -c %a /var/backups/examoffice/term-*.db"
+        " /var/backups/examoffice"))
+    judged.judge("it is sent away", "1", wait(machine, "wc -l < /shipped", "1"))
+    judged.judge("it is the office, of four exams", "4", machine.types(
+        "cp /var/backups/examoffice/term-*.db /copy.db; examoffice export --db /copy.db | wc -l"))
+    for unit, most in (("examoffice@term", 1.5), ("examoffice-backup@term", 1.5),
+                       ("examoffice-front", 3.0)):
+        said = machine.types(f"systemd-analyze security --no-pager {unit} | tail -1")
+        found = re.search(r": ([\d.]+) ", said)
+        judged.judge(f"the sandbox of {unit}", True,
+                     float(found[1]) <= most if found else said)
+
+
+def logs(judged, machine):
+    judged.judge("the log, rotated", "640 root www-data\n1", machine.types("""
+        publish() { curl -s -u registry:own-word -X POST http://127.0.0.1:8123/drafts/1/publish; }
+        publish > /dev/null; logrotate --force /etc/logrotate.d/examoffice; sleep 1
+        publish > /dev/null; sleep 0.5
+        stat -c '%a %U %G' /var/lib/examoffice-front/changes.log
+        grep -c publish /var/lib/examoffice-front/changes.log"""))
+
+
+def removal(judged, machine):
+    machine.types("dpkg -r examoffice")
+    judged.judge("removed", ["inactive"] * 3, machine.types(
+        f"systemctl is-active {' '.join(UNITS)}").split())
+    machine.types("dpkg -P examoffice")
+    kept = "/etc/examoffice/ship\n/etc/examoffice/term.env\nterm.db\n0"
+    judged.judge("purged", kept, machine.types(
+        "find /etc/examoffice -type f | grep -v dpkg-old | sort; ls /var/lib/examoffice | grep db$"
+        "\nfind /etc/systemd/system -name 'examoffice*' | wc -l"))
+
+
+def anew(judged, machine):
+    said = machine.types(f"dpkg -i /new.deb; systemctl enable --now {' '.join(UNITS[:2])}")
+    judged.judge("where the password is", True, "/etc/examoffice/registry-password" in said)
+    judged.judge("who may read it", "600 root\n640 www-data", machine.types(
+        f"stat -c '%a %U' /etc/examoffice/registry-password; stat -c '%a %G' {FRONT}/users"))
+    judged.judge("a new installation", "total 37", wait(machine, ASK.format(
+        "registry", "$(cat /etc/examoffice/registry-password)", 8000), "total 37"))
+    judged.judge("no known password", "401", machine.types(
+        "curl -s -o /dev/null -w %{http_code} -u registry:try-registry 127.0.0.1:8000/me"))
+
+
+def main():
+    root, old = (pathlib.Path(word).resolve() for word in sys.argv[1:])
+    judged = Cases("booted")
+    with tempfile.TemporaryDirectory(dir=root.parent) as folder:
+        ran(TOP / "packaging" / "make", folder)
+        subprocess.run(["cp", "-a", root, f"{folder}/root"], check=True)
+        made = pathlib.Path(folder) / "root"
+        shutil.copy(f"{folder}/examoffice_{VERSION}_amd64.deb", made / "new.deb")
+        shutil.copy(old, made / "old.deb")
+        for name in ("small.exam", "small.sol"):
+            shutil.copy(TOP / "examples" / name, made)
+        os.chmod(folder, 0o755)
+        machine = Machine(made)
+        try:
+            for part in (set_up_old, upgrade, backups, logs, removal, anew):
+                part(judged, machine)
+        finally:
+            machine.stop()
+    return judged.end()
+
+
+if __name__ == "__main__":
+    sys.exit(main())
