@@ -113,6 +113,9 @@ TARGETS = [
     ("a page of the front's own", ask("ada", "GET", "/-/unavailable"), 404),
     ("a long target", ask("ada", "GET", "/me/" + "x" * 9_000), REQUEST),
     ("a long field", ask("ada", "GET", "/me", b"", "A: " + "x" * 40_000), REQUEST),
+    ("an odd transfer", ask("registry", "PUT", "/instance", b"", "Transfer-Encoding: gzip"),
+     told_error(501, "transfer")),
+    ("a version that is none", CANDIDATE.replace(b"HTTP/1.1", b"HTTP/3.1"), REQUEST),
     ("no Host", CANDIDATE.replace(b"Host: office\r\n", b""), REQUEST),
     ("a body that is too long", ask("registry", "PUT", "/instance", b"", "Content-Length: 4194305"),
      told_error(413, "length")),
@@ -170,17 +173,37 @@ LABELS = [
            ("registry", b"office"), ("physics", b"dept:3"), ("ada", b"cand:1"), ("nobody", b""))),
 ]
 # Files of people for tools/users_from_csv that are faulty, and what is printed.
+A_NAME = "a name of letters, digits and . _ @ + - is expected, not"
 FAULTY_PEOPLE = [
     ("user,caller\nregistry,office\nRegistry,dept:1\n", "line 3, user: 'Registry' is on line 2 already"),
-    ("user,caller\n~x,office\n", "line 2, user: a name of letters, digits and . _ @ + - is expected, "
-     "not '~x'"),
-    ("user,caller\ndefault,office\n", "line 2, user: a name of letters, digits and . _ @ + - is "
-     "expected, not 'default'"),
+    ("user,caller\n~x,office\n", f"line 2, user: {A_NAME} '~x'"),
+    ("user,caller\ndefault,office\n", f"line 2, user: {A_NAME} 'default'"),
+    ('user,caller\n"a\nb",office\n', f"line 3, user: {A_NAME} 'a\\nb'"),
+    ("user,caller\nx\0y,office\n", f"line 2, user: {A_NAME} 'x\\x00y'"),
+    (f"user,caller\n{'x' * 255},office\n",
+     "line 2, user: a name of at most 254 letters is expected, not one of 255"),
     ("user,caller\nx,dept:1000\n", "line 2, caller: office, dept:N or cand:N is expected, not 'dept:1000'"),
+    ("user,caller\nx,1;y office\n",
+     "line 2, caller: office, dept:N or cand:N is expected, not '1;y office'"),
     ("user,student\nx,s9\n", "line 2, student: there is no student 's9' in --students"),
-    ("name,caller\nx,office\n", "line 1, user: there is no such column"),
-    ("user\nx\n", "line 1, caller: there is no such column, nor student"),
+    ("user,caller,password\nx,office,a\0b\n",
+     "line 2, password: a password has no line breaks and no NUL"),
+    ('user,caller,password\nx,office,"a\nb"\n',
+     "line 3, password: a password has no line breaks and no NUL"),
+    (f"user,caller,password\nx,office,{'é' * 129}\n",
+     "line 2, password: a password has at most 256 bytes"),
+    ("name,caller\nx,office\n", "line 1, user: there is no such column (there are: name, caller)"),
+    ("user\nx\n", "line 2, caller: office, dept:N or cand:N is expected, not ''"),
     ('user,caller\n"x,office\n', "line 2: this is not CSV: unexpected end of data"),
+]
+# Files of students that it doesn't take, and what is printed.
+FAULTY_STUDENTS = [
+    *((text, "this is no students.json of session_from_csv")
+      for text in ("", "null", "[1]", '{"students": 1}', '{"students": [{"id": 1, "number": 1}]}')),
+    *((f'{{"students": [{{"id": "S1", "number": {number}}}]}}',
+       f"the number of 's1' is {shown}, not one from 0 to 999999999")
+      for number, shown in (('"1;x office"', "'1;x office'"), ("true", "True"), ("-1", "-1"),
+                            ("1000000000", "1000000000"))),
 ]
 # What is asked of the front's pages, and what the front answers itself.
 PAGES = [

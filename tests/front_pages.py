@@ -146,10 +146,21 @@ def signing_on(run, chromium, front, sso):
         run.judge("signed on", ("Candidate 1", "2 exams", False), (
             chromium.text("#candidate"), chromium.text("#status"), chromium.run(hidden)))
         chromium.click("#sign-out")
-        chromium.waits("return location.pathname === '/oauth2/sign_out'")
+        chromium.waits("return location.pathname === '/signed-out.html'")
         run.judge("signed out", [401, 401], [
             chromium.run("return fetch(arguments[0]).then(reply => reply.status)", path)
             for path in ("/me", "/-/user")])
+
+
+def no_formulas(run, chromium, front):
+    """No field of a CSV file that the pages offer runs as a formula in a spreadsheet."""
+    host = chromium.new_host()
+    chromium.go(f"http://registry:try-registry@{host}:{front.port}/not-found.html")
+    rows = [["=1+1", "+1+cmd|' /C calc'!A0", "@SUM(1)", "-2+3", "\t=1", "＝1", '="a,b"'],
+            ["O'Neill, Al", -5, 7, "a=b", None, "-3", ""]]
+    run.judge("fields that a spreadsheet would run", "\ufeff'=1+1,'+1+cmd|' /C calc'!A0,'@SUM(1),"
+              "'-2+3,'\t=1,'＝1,\"'=\"\"a,b\"\"\"\r\n\"O'Neill, Al\",-5,7,a=b,,-3,\r\n",
+              chromium.run("return import('/csv.js').then(csv => csv.csvText(arguments[0]))", rows))
 
 
 def list_of_sessions(run, chromium, many):
@@ -1062,6 +1073,7 @@ def judge(run, started, front, wide, sso, many, office, program, folder):
         part(run, chromium, front)
     new_session(run, chromium, program)
     signing_on(run, chromium, front, sso)
+    no_formulas(run, chromium, front)
     list_of_sessions(run, chromium, many)
     calendar_file(run, chromium, wide)
     printed(run, chromium, wide)

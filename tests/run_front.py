@@ -9,13 +9,16 @@ printed with what was expected and what came, and the last line counts the cases
 """
 import argparse
 import contextlib
+import grp
 import gzip
 import http.client
 import http.server
 import json
+import os
 import pathlib
 import re
 import shutil
+import signal
 import socket
 import subprocess
 import sys
@@ -27,8 +30,9 @@ import browser
 import front_pages
 import openapi
 from front_cases import (
-    CALLERS, CANDIDATE, FAULTY_PEOPLE, FIRST_VIEW, LABELS, LOGGED, LOGGED_QUESTIONS, LOOKED_FOR, MADE,
-    PAGES, SECOND_VIEW, STRANGERS, TARGETS, WIDE, WIDE_LABELS, WIDE_SOLUTION, ask, password, told_error)
+    CALLER, CALLERS, CANDIDATE, FAULTY_PEOPLE, FAULTY_STUDENTS, FIRST_VIEW, LABELS, LOGGED,
+    LOGGED_QUESTIONS, LOOKED_FOR, MADE, PAGES, SECOND_VIEW, STRANGERS, TARGETS, WIDE, WIDE_LABELS,
+    WIDE_SOLUTION, ask, password, told_error)
 from run_serve import Office, Run, one_reply, rest
 from serve_cases import SOLUTION, message, reply
 
@@ -105,6 +109,13 @@ class Front:
         """The lines of the log of changes."""
         return [json.loads(line) for line in
                 (self.folder / "run" / "changes.log").read_text().splitlines()]
+
+    def reload(self):
+        """Reads the files again; what it has read answers when this returns."""
+        self.process.send_signal(signal.SIGHUP)
+        old = pathlib.Path(f"/proc/{self.process.pid}/task/{self.process.pid}/children")
+        workers = set(old.read_text().split())
+        browser.until("the old workers are gone", lambda: not workers & set(old.read_text().split()))
 
     def stop(self):
         self.process.terminate()
@@ -365,28 +376,38 @@ def users_from_csv(run, office):
     folder.mkdir()
     people, made, front = folder / "people.csv", folder / "made", folder / "front"
 
-    def ended(text):
+    def ended(text, students=TOP / "front/labels/students.json"):
         people.write_text(text)
-        return subprocess.run([tool, people, made, "--students", TOP / "front/labels/students.json"],
+        return subprocess.run([tool, people, made, "--students", students],
                               capture_output=True, text=True, timeout=SECONDS)
 
     for text, words in FAULTY_PEOPLE:
         came = ended(text)
-        run.judge(f"people: {text}", (1, f"{words}\n", False),
+        run.judge(f"people: {text}", (1, f"people.csv, {words}\n", False),
                   (came.returncode, came.stderr, made.exists()))
+    for text, words in FAULTY_STUDENTS:
+        (folder / "students.json").write_text(text)
+        came = ended("user,caller\nx,office\n", folder / "students.json")
+        run.judge(f"students: {text}", (1, f"students.json: {words}\n", False),
+                  (came.returncode, came.stderr, made.exists()))
+    longest = "long-" + "x" * 249
     came = ended("User;Caller;Student;Password\noffice-1;office;;with blanks: é\nada@x;;S1;\n"
-                 "ben;cand:2;;ben's\n")
+                 f"ben;cand:2;;ben's\n{longest};cand:2;;{'w' * 256}\n")
     run.judge("people", (0, ""), (came.returncode, came.stderr))
     run.judge("who may read passwords", "600", oct((made / "passwords.csv").stat().st_mode)[-3:])
     passwords = dict(line.split(",") for line in
                      (made / "passwords.csv").read_text().splitlines()[1:])
     run.judge("passwords that were made", ["ada@x"], [*passwords])
+    if os.geteuid() == 0:
+        groups = [(made / name).stat().st_gid for name in ("users", "callers")]
+        run.judge("nginx may read them", [grp.getgrnam("www-data").gr_gid] * 2, groups)
     shutil.copytree(TOP / "front", front)
     for name in ("users", "callers"):
         (front / name).write_bytes((made / name).read_bytes())
     made_front = Front(folder, office.port)
     for user, word, path, answer in (
             ("ada@x", passwords["ada@x"], "/me", FIRST_VIEW), ("ben", "ben's", "/me", SECOND_VIEW),
+            (longest, "w" * 256, "/me", SECOND_VIEW),
             ("office-1", "with blanks: é", "/drafts/1/violations", (200, b"breaches 0\n"))):
         run.judge(f"{user} signs in", answer, made_front.told(message(
             "GET", path, caller=None, fields=[password(user, word)])))
@@ -400,6 +421,9 @@ class Agent(http.server.BaseHTTPRequestHandler):
 
     # Who signs in at the provider next.
     signs_in = "ada"
+
+    def do_POST(self):
+        self.do_GET()
 
     def do_GET(self):
         path, _, query = self.path.partition("?")
@@ -465,6 +489,21 @@ def single_sign_on(run, front):
              (200, b'{"caller":"cand:1","sign_out":"/oauth2/sign_out"}'))):
         run.judge(f"single sign-on: {name}", answer, told(path, *fields))
     run.judge("single sign-on: what nginx asks the agent", 404, told("/-/who", ada)[0])
+    with (front.folder / "callers").open("a") as callers:
+        callers.write("Eva cand:1;\n~^s(?<number_of>[0-9]+)$ cand:$number_of;\n")
+    subprocess.run([front.folder / "spell"], check=True)
+    front.reload()
+    for name, user, answer in (
+            ("as it is spelled", "Eva", FIRST_VIEW), ("in small letters", "eva", CALLER),
+            ("the office in capital letters", "REGISTRY", CALLER),
+            ("by a pattern", "s2", SECOND_VIEW), ("by a pattern, in capital letters", "S2", CALLER)):
+        run.judge(f"single sign-on: a name {name}", answer, told("/me", f"Cookie: signed_in={user}"))
+    for name, status, fields in (("by another site", 403, {"Origin": "https://elsewhere.example"}),
+                                 ("by nobody's page", 403, {}),
+                                 ("by its own page", 200, {"Origin": f"http://127.0.0.1:{front.port}"})):
+        run.judge(f"signing out {name}", status,
+                  front.fetch("/oauth2/sign_out", method="POST", **fields)[0])
+    run.judge("signing out by a link", 403, front.fetch("/oauth2/sign_out")[0])
     for path in ("/", "/registry.html", "/me"):
         status, header, _ = front.fetch(path, Accept="text/html,*/*", Host="exams.example")
         run.judge(f"{path} sends to sign in", (302, f"http://exams.example/oauth2/start?rd={path}"),
@@ -509,9 +548,11 @@ def several_sessions(run, front):
 
 def caches(run, name, front, **signed):
     """What a browser may keep."""
-    for path, expected in (("/", "no-cache"), ("/style.css", "no-cache"), ("/candidate.html", "no-cache"),
-                           ("/labels/labels.json", "no-cache"), ("/me", "no-store"),
-                           ("/-/user", "no-store"), ("/health", "no-store"), ("/nothing", "no-store")):
+    for path, expected in (
+            ("/", "no-store"), ("/style.css", "no-cache"), ("/candidate.html", "no-store"),
+            ("/labels/labels.json", "private, no-cache"), ("/labels/students.json", "no-store"),
+            ("/me", "no-store"), ("/-/user", "no-store"), ("/health", "no-store"),
+            ("/nothing", "no-store")):
         run.judge(f"what may be kept of {path}, {name}", expected,
                   front.fetch(path, **signed)[1]["Cache-Control"])
 

@@ -229,7 +229,8 @@ def released_calls(repository, banned):
         yield f"what is installed runs: {words[0]}", shown, done.stdout
         for folder in ("bin", "share"):
             shutil.rmtree(repository.caller / folder)
-    yield "no folder to install to", 2, repository.call("install", "here").returncode
+    for words in (("here",), ("--prefix", ""), ("--prefix=",), ("--prefix",)):
+        yield f"no folder to install to: {words}", 2, repository.call("install", *words).returncode
 
 
 def asked_builds(repository):

@@ -218,11 +218,17 @@ export function download(name, type, text) {
   setTimeout(() => URL.revokeObjectURL(href), 60_000);
 }
 
-/** Shows the link that signs out, if the front has one; returns who the reader is to the office. */
+/** Signs the reader out by a request that only a page of the front can send. */
+async function signOut(path) {
+  await fetch(path, { method: 'POST', redirect: 'manual' });
+  window.location.replace('/signed-out.html');
+}
+
+/** Shows the button that signs out, if the front has one; returns who the reader is to the office. */
 export async function readUser() {
   const user = await ask('/-/user');
-  if (user.sign_out) byId('sign-out').href = user.sign_out;
   byId('sign-out').hidden = !user.sign_out;
+  byId('sign-out').onclick = () => signOut(user.sign_out);
   return user.caller;
 }
 
