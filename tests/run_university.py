@@ -1,10 +1,11 @@
 #!/usr/bin/env python3
 """run_university.py PROGRAM: the pages at the size of a university, and the time that they take.
 
-The CSV files of examples/university become a session; a browser opens the registry's page, publishes
-the timetable, prints it, and sends late changes by codes; a hundred candidates open their pages at once
-from one address. A failing case is printed with what was expected and what came; then come the times,
-and the last line counts the cases. It isn't part of the gate, which `./test university` says.
+The CSV files of examples/university become a session; a browser opens the registry's page,
+publishes the timetable, prints it, and sends late changes by codes; a hundred candidates open
+their pages at once from one address. A failing case is printed with what was expected and what
+came; then come the times, and the last line counts the cases. It isn't part of the gate, which
+`./test university` says.
 """
 import collections
 import concurrent.futures
@@ -18,7 +19,7 @@ import tempfile
 import time
 
 import browser
-import front_pages
+from front_page import is_read, reading, sheets_printed
 from front_cases import ask, password
 from run_front import NGINX, TOP, Front
 from run_serve import Office, Run
@@ -72,14 +73,15 @@ def registrys_week(run, times, chromium, front, labels):
             UNIVERSITY / "timetable.sol").read_bytes()))[0])
     with contextlib.ExitStack() as stack:
         with times.of("the registry's page is ready"):
-            reader = stack.enter_context(front_pages.reading(chromium, front, "registry"))
+            reader = stack.enter_context(reading(chromium, front, "registry"))
         run.judge("the session's title", "University of Example · Summer examinations 2027",
                   reader.text("#session-title"))
         with times.of("publish, and show it"):
             reader.click("#cards article button.main")
             reader.waits("return document.querySelector('#confirm').open")
             reader.click("#confirm-yes")
-            reader.waits("return document.querySelector('#status').innerText.includes('is published')")
+            reader.waits("return document.querySelector('#status').innerText.includes('is "
+                         "published')")
         run.judge("what was published",
                   "Draft 1 is published; the seats of 25,000 candidates have changed.",
                   reader.text("#status"))
@@ -100,7 +102,7 @@ def registrys_week(run, times, chromium, front, labels):
         with times.of("check a hundred late changes"):
             reader.click("#batch button")
             reader.waits("return !document.querySelector('#batch-preview').hidden")
-            front_pages.is_read(reader)
+            is_read(reader)
         effect = reader.text("#batch-effect")
         with times.of("send them"):
             reader.click("#batch-send")
@@ -110,7 +112,8 @@ def registrys_week(run, times, chromium, front, labels):
 
 
 def seat_lists(run, times, reader, front, labels):
-    """A candidate is found by name, and a door list for each room and period has every candidate."""
+    """A candidate is found by name, and a door list for each room and period has every
+    candidate."""
     made = front.folder / "labels" / "students.json"
     students = {student["number"]: student for student in json.loads(made.read_text())["students"]}
     seats = [line.split(",") for line in front.told(ask("registry", "GET", "/publication/seats"))[1]
@@ -120,16 +123,16 @@ def seat_lists(run, times, reader, front, labels):
     with times.of("find a candidate's seats"):
         reader.click("#seat-find button")
         reader.waits("return document.querySelector('#seat-found table')")
-        front_pages.is_read(reader)
+        is_read(reader)
     run.judge("a candidate's seats", sum(seat[0] == seats[0][0] for seat in seats),
               len(reader.texts("#seat-found tbody tr")))
     reader.click("#seat-print button")
-    front_pages.is_read(reader)
+    is_read(reader)
     run.judge("too many sheets", True, reader.text("#error").startswith(
         f"These are {len(seats):,} seats, and a browser can print 10,000 at once."))
     seats = [seat for seat in seats if seat[2] == "0"]
     with times.of("door lists of one period, as PDF"):
-        pages, lines = front_pages.sheets_printed(run, reader, "door", "0")
+        pages, lines = sheets_printed(run, reader, "door", "0")
     rooms = len({room for _, _, _, room, _ in seats})
     print(f"university: {len(seats)} seats of a period in {rooms} rooms, on {pages} pages")
     if lines is not None:
@@ -169,7 +172,7 @@ def main():
                 with browser.Browser(run.folder) as chromium:
                     registrys_week(run, times, chromium, front, labels)
                     with times.of("a candidate's page is ready"):
-                        with front_pages.reading(chromium, front, CANDIDATES[0]) as reader:
+                        with reading(chromium, front, CANDIDATES[0]) as reader:
                             run.judge("a candidate's page", True,
                                       "Seat assigned" in reader.text("#timetable, #past"))
                 many_candidates(run, times, front)

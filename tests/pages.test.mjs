@@ -1,0 +1,133 @@
+// The pages' functions that need no browser: `node --test tests/pages.test.mjs` runs these tables.
+import assert from 'node:assert/strict';
+import test from 'node:test';
+
+// Node has no navigator before its version 21.
+globalThis.navigator ??= { languages: ['en-GB'] };
+const {
+  batchText, changesIn, effectOf, examFinder, inverseOf, studentFinder,
+} = await import('../front/page/batches.js');
+const { calendarText } = await import('../front/page/calendar.js');
+const { columnsOf, csvText, recordsOf } = await import('../front/page/csv.js');
+const {
+  differences, differencesForCandidate, differencesForDepartment, Names,
+} = await import('../front/page/labels.js');
+
+const LABELS = {
+  departments: { 1: 'Mathematics' },
+  exams: [{ code: 'MATH101', title: 'Calculus', minutes: 120, department: 1 },
+    { code: 'PHYS102', title: '', minutes: 60, department: null }],
+  rooms: [{ name: 'Hall', building: 'Main', capacity: 3 }, { name: 'Lab', building: '', capacity: 2 }],
+  periods: [{ date: '2005-04-15', start: '09:30:00' }, { date: '2005-04-18', start: '14:00:00' }],
+};
+const SESSION = { candidates: [[1, 2], [1]], minutes: [120, 60], capacities: [3, 2],
+  periods: LABELS.periods };
+const STUDENTS = [{ number: 12, id: 's12' }, { number: 3, id: 's3' }, { number: 2, id: '0000002' }];
+
+/** A copy of the labels with one field of one row changed. */
+const changed = (table, row, field, value) => ({ ...LABELS,
+  [table]: LABELS[table].map((it, i) => (i === row ? { ...it, [field]: value } : it)) });
+
+/** A test for each case: its name, what is expected, and what there is. */
+function cases(about, table) {
+  for (const [name, expected, found] of table) {
+    test(`${about}: ${name}`, () => assert.deepEqual(found(), expected));
+  }
+}
+
+const batchOf = (text) => {
+  const { changes, faults } = changesIn(text, studentFinder(STUDENTS),
+    examFinder(new Names(LABELS), SESSION));
+  return faults.length ? faults : batchText(changes);
+};
+const HEADER = 'student,exam,action\n';
+
+cases('CSV texts of spreadsheets become batches', [
+  ['other words and another order', `${HEADER}12,0,add\n`,
+    () => batchOf('Exam,Status,Candidate no.\nMATH101,enrolled,s12\n')],
+  ['semicolons and quotes', `${HEADER}3,1,drop\n`,
+    () => batchOf('"student";"exam";"action"\r\n"s3";"phys102";"Withdrawn"\r\n')],
+  ['tabs, a mark at the front, an ID with zeros', `${HEADER}2,1,add\n`,
+    () => batchOf('\ufeffSTUDENT NUMBER\tModule code\tChange\n0000002\t1\t+\n')],
+  ['a remark of two lines', `${HEADER}1,0,add\n2,0,drop\n`,
+    () => batchOf('student,exam,action,remark\n1,0,add,"moved, ""late""\nin May"\n2,0,drop,')],
+  ['unknown words', ['Line 2: unknown student x', 'Line 3: unknown exam 2',
+    'Line 4: unknown action ad; it must be add or drop'],
+  () => batchOf(`${HEADER}x,0,add\n1,2,add\n1,0,ad\n`)],
+  ['no column', ['Line 1: there is no column for action'], () => batchOf('student,exam\n1,0')],
+  ['no line', ['There is no line after the first'], () => batchOf(HEADER)],
+]);
+
+const read = (text) => text.split(' ').map((line) => line.split(','))
+  .map(([student, exam, action]) => ({ student: Number(student), exam: Number(exam), action }));
+// Candidates 1 and 3 take exam 0, candidate 2 takes exam 1.
+const effect = effectOf(read('1,0,add 5,0,add 1,1,add 2,1,drop 2,1,drop 7,1,drop'), [[1, 3], [2]]);
+
+cases('what changes do', [
+  ['how many act, and how many do not', [2, 1, 1, 2],
+    () => [effect.add, effect.drop, effect.there, effect.absent]],
+  ['their opposite, the last one first', read('2,1,add 1,1,drop 5,0,drop'),
+    () => inverseOf(effect.acting)],
+]);
+
+cases('CSV', [
+  ['records with their lines', [{ line: 1, fields: ['a', 'b'] }, { line: 3, fields: ['1', 'x\ny'] },
+    { line: 5, fields: ['2', ''] }], () => recordsOf('a;b\n\n 1 ;"x\ny"\n2;\n')],
+  ['columns by any of their names', { exam: 1, date: -1 },
+    () => columnsOf(['Student', 'Exam-Code'], { exam: ['examcode', 'exam'], date: ['date'] })],
+  ['a text for spreadsheets', '\ufeffa,"b;c"\r\n1,"say ""x"""\r\n,2\r\n',
+    () => csvText([['a', 'b;c'], [1, 'say "x"'], [null, 2]])],
+  // Each of these would run as a formula without the apostrophe in front.
+  ...[['=1+1', "'=1+1"], ["+1+cmd|' /C calc'!A0", "'+1+cmd|' /C calc'!A0"], ['@SUM(1)', "'@SUM(1)"],
+    ['-2+3', "'-2+3"], ['\t=1', "'\t=1"], ['＝1', "'＝1"], ['="a,b"', '"\'=""a,b"""'],
+  ].map(([field, text]) => [`the formula ${field}`, `\ufeff${text}\r\n`, () => csvText([[field]])]),
+  ['what is no formula', '\ufeff"O\'Neill, Al",-5,7,a=b,,-3,\r\n',
+    () => csvText([["O'Neill, Al", -5, 7, 'a=b', null, '-3', '']])],
+]);
+
+const EVENT = { uid: 'u', date: '2005-12-31', start: '23:30:00', location: '', minutes: 60,
+  summary: `${'é'.repeat(40)},;\\\n` };
+const ends = (name) => ['BEGIN', 'END'].map((word) => `${word}:${name}`);
+
+cases('calendars', [
+  // The first line of the summary has 8 bytes and 33 letters of two bytes; one more would make 76.
+  ['over midnight, a long name, signs that have a meaning', [
+    ends('VCALENDAR')[0], 'VERSION:2.0', 'PRODID:-//examoffice//candidate//EN', ends('VEVENT')[0],
+    'UID:u', 'DTSTAMP:19700101T000000Z', 'DTSTART:20051231T233000', 'DTEND:20060101T003000',
+    `SUMMARY:${'é'.repeat(33)}`, ` ${'é'.repeat(7)}\\,\\;\\\\\\n`, 'LOCATION:', ends('VEVENT')[1],
+    ends('VCALENDAR')[1], ''], () => calendarText([EVENT], new Date(0)).split('\r\n')],
+  ['no minutes, no end', false,
+    () => calendarText([{ ...EVENT, minutes: null }], new Date(0)).includes('DTEND')],
+]);
+
+const ROW = { exam: 1, room: 1, period: 1, date: '2005-04-18', start: '14:00:00' };
+const UNDATED = { exam: 1, room: null, period: null, date: null, start: null };
+const DRAFT = { places: [{ period: 0, room: 1 }, { period: null, room: null }] };
+const few = { ...LABELS, exams: LABELS.exams.slice(1), rooms: [], periods: [] };
+
+cases('names of another session', [
+  // Labels, and what differs for the office, for a candidate and for a department.
+  ['the same', LABELS, [], [], []],
+  ['other rooms', changed('rooms', 1, 'capacity', 1), ['rooms'], [], []],
+  ['other minutes', changed('exams', 1, 'minutes', 61), ['exams'], [], []],
+  ['another date', changed('periods', 1, 'date', '2005-04-19'), ['periods'], ['periods'], []],
+  ['another start', changed('periods', 1, 'start', '14:30:00'), ['periods'], ['periods'], []],
+  ['fewer', few, ['exams', 'rooms', 'periods'], ['exams', 'rooms', 'periods'],
+    ['exams', 'rooms', 'periods']],
+].map(([name, labels, ...expected]) => [name, expected, () => [differences(labels, SESSION),
+  differencesForCandidate(labels, [ROW, UNDATED]), differencesForDepartment(labels, DRAFT)]]));
+
+const named = new Names(LABELS);
+const numbered = new Names();
+
+cases('names and numbers', [
+  ['an exam', ['MATH101', 'Calculus', 'Mathematics', 120],
+    () => [named.exam(0), named.examTitle(0), named.department(0), named.minutes(0)]],
+  ['an exam without a title or a department', ['PHYS102', null, null],
+    () => [named.exam(1), named.examTitle(1), named.department(1)]],
+  ['rooms', ['Hall, Main', 'Lab'], () => [0, 1].map((room) => named.roomInBuilding(room))],
+  ['numbers', ['Exam 0', null, null, 'Room 1', 'Period 1', 'period 1, room 0', 'not placed'],
+    () => [numbered.exam(0), numbered.examTitle(0), numbered.minutes(0), numbered.room(1),
+      numbered.period(1), numbered.place({ period: 1, room: 0 }),
+      named.place({ period: null, room: null })]],
+]);

@@ -1,0 +1,92 @@
+"""Late changes on the registry's page: lines become a batch, which is shown before it is sent."""
+from front_cases import ask
+from front_page import opened
+from serve_cases import batch_text
+
+CHECK = "click #batch button"
+SEND = "click #batch-send"
+NUMBER, LINES, PREVIEW = "value #batch-number", "value #batch-lines", "hidden #batch-preview"
+FILE_LINES = b"student,exam,action\r\n2,0,add"
+# What is wrong with lines that can't be sent.
+WRONG_LINES = [
+    ("student,exam,action\n3,0,ad", "Line 2: unknown action ad; it must be add or drop"),
+    ("student,exam,action\n3,0,add\nx,1,add", "Line 3: unknown student x"),
+    ("student,exam,action\n\n3,4,add", "Line 3: unknown exam 4"),
+    ("Student ID;Exam code;Action\ns1;MATH999;enrol", "Line 2: unknown exam MATH999"),
+    ("student,exam\n1,0", "Line 1: there is no column for action"),
+    ("student,exam,action\n", "There is no line after the first"),
+]
+TAKEN = ("Batch 504010800 was refused. A different batch was already sent under this number. "
+         "Please choose a "
+         "new number.")
+BOTH, NEITHER = "Choose a file or paste lines, not both.", "Choose a file, or paste lines."
+FAULT = "Nothing was sent: 1 fault."
+
+
+def pasted(lines):
+    return ["reset #batch", ("type", "#batch-lines", lines), CHECK]
+
+
+def by_keyboard(page, front):
+    """A batch is written, checked and sent without a mouse."""
+    page.judge("the proposed number", {NUMBER: "504010800"})
+    page.act("focus #batch-lines")
+    for line in ("Student ID;Exam code;Action", "s3;MATH101;enrol", "s2;math101;add"):
+        page.act(("write", line), "press enter")
+    page.steps(
+        ("the button that a key reaches after the lines",
+         [("write", "s2;MATH101;withdrawn"), "press tab"],
+         {"focused": "Check"}),
+        ("what a batch would do", "press enter", {
+            PREVIEW: False, "#batch-effect": "1 to add, 1 to drop, 1 already there.",
+            "focused": "Send batch 504010800"}))
+    page.run.judge("nothing is sent yet", False, any(
+        "/batches/504010800" in target for _, target, _, _ in front.exchanges()))
+    page.steps(("what a batch did", "press enter", {
+        "said": "Batch 504010800 is accepted: 1 added, 1 dropped, 1 unchanged.", "focus": "status",
+        LINES: "", NUMBER: "504010801"}))
+    page.run.judge("what was sent",
+                   (200, b'{"added":1,"batch":504010800,"dropped":1,"unchanged":1}'),
+                   front.told(ask("registry", "PUT", "/batches/504010800",
+                                  batch_text("3,0,add", "2,0,add", "2,0,drop"))))
+
+
+def faulty_lines(page):
+    """Lines with a fault aren't sent, and stay in the form; so does a number that is taken."""
+    page.steps(
+        *((f"what is wrong with {lines}", pasted(lines), {
+            "said": f"{FAULT}\n{fault}", "fault": ["batch-lines", "true", FAULT], LINES: lines,
+            PREVIEW: True})
+          for lines, fault in WRONG_LINES),
+        ("a number that is taken", [*pasted("student,exam,action\n3,0,add"),
+                                    ("set", "#batch-number", "504010800"), CHECK, SEND],
+         {"said": TAKEN, "fault": ["batch-number", "true", TAKEN]}))
+
+
+def files_of_lines(page, front):
+    """A file in the office's own form is sent as it is, and its opposite can be prepared."""
+    file = page.run.folder / "late.csv"
+    file.write_bytes(FILE_LINES)
+    choose = ("type", "#batch-file", file)
+    page.steps(
+        ("a file and lines", [choose, CHECK], {"fault": ["batch-lines", "true", BOTH]}),
+        ("neither a file nor lines", ["reset #batch", ("set", "#batch-number", "9"), CHECK],
+         {"fault": ["batch-lines", "true", NEITHER]}),
+        ("a file is checked", [choose, CHECK], {PREVIEW: False}),
+        ("a file is sent", SEND, {"said": "Batch 9 is accepted: 1 added, 0 dropped, 0 unchanged."}))
+    page.run.judge("its bytes", (200, b'{"added":1,"batch":9,"dropped":0,"unchanged":0}'),
+                   front.told(ask("registry", "PUT", "/batches/9", FILE_LINES)))
+    page.steps(
+        ("the opposite of a batch", "click #batch-inverse",
+         {LINES: "student,exam,action\n2,0,drop\n"}),
+        ("the opposite is checked", CHECK, {PREVIEW: False}),
+        ("it takes the batch back", SEND, {
+            "said": "Batch 504010801 is accepted: 0 added, 1 dropped, 0 unchanged."}))
+
+
+def late_changes(run, chromium, front):
+    """Lines with codes become a batch, which is shown before it is sent; and its opposite."""
+    with opened(run, chromium, front, "registry") as page:
+        by_keyboard(page, front)
+        faulty_lines(page)
+        files_of_lines(page, front)

@@ -1,0 +1,276 @@
+"""The registry's page: timetables and what they break, publishing, drafts, owners, and a new
+session."""
+import time
+
+from front_cases import ask
+from front_page import csv_file, opened
+from pages_seats import SEATS_NAMED, WHERE, WHOSE
+from serve_cases import SMALL, SOLUTION
+
+FRIDAY, MONDAY = "2005-04-15", "2005-04-18"
+HALL, ROOM = "Great Hall, Main building", "Room 2.14, Physics building"
+CARD = "#cards article:nth-child(%d)"
+DETAILS, PUBLISH = f"{CARD} button", f"{CARD} button.main"
+
+# ---- Overview
+
+# The points of two drafts, by part, and the place of their cards.
+PARTS = [(2, [7, 5, 3, 0, 0, 0, 15, 7]), (3, [0, 0, 3, 0, 0, 4, 20, 7])]
+
+
+def registrys_page(run, chromium, front):
+    """Penalties by part are shown as bars, violations in words, and rooms by period."""
+    with opened(run, chromium, front, "registry") as page:
+        run.judge("errors in the console", [], page.reader.complaints("network", "javascript"))
+        page.judge("the timetables", {
+            "titles #cards h3": ["Published 37 points", "Draft 1 37 points", "Draft 2 34 points"],
+            "texts #cards .verdict": ["What candidates see", "Breaks no rule",
+                                      "Breaks rules: 1 violation"]})
+        for place, points in PARTS:
+            rows = f"{CARD % place} .bars tr"
+            page.judge(f"the parts of card {place}", {
+                f"texts {rows} td:last-child": [str(number) for number in points]})
+            run.judge(f"the bars of card {place}", [True] * 8, [
+                abs(width - number / 20) < 0.02
+                for width, number in zip(page.look(f"widths {rows} .bar"), points)])
+        page.steps(("the details of a draft", f"click {DETAILS % 3}", {
+            "texts #violations li": ["After Exam MATH102 must come after exam MATH101, and does "
+                                     "not."],
+            "focus": "detail-title", "rows #grid tr": [
+                ["Period", "Great Hall\nMain building\n3 seats",
+                 "Room 2.14\nPhysics building\n2 seats"],
+                *([f"Period {number}\n{page.moment(date, start)}", *rooms]
+                  for number, (date, start, *rooms) in enumerate((
+                      (FRIDAY, "09:30:00", "", ""),
+                      (FRIDAY, "14:00:00", "MATH102 Linear algebra\n2 of 3", ""),
+                      (FRIDAY, "17:00:00", "PHYS102 Optics\n1 of 3", ""),
+                      (MONDAY, "09:30:00", "MATH101 Calculus\n2 of 3",
+                       "PHYS101 Mechanics\n1 of 2"))))]}))
+
+
+# ---- Publishing
+
+OPEN = "document.querySelector('#confirm').open"
+ASKS = [f"focus {PUBLISH % 2}", "press enter"]
+
+
+def publications(front):
+    return sum(target.endswith("/publish") for _, target, _, _ in front.exchanges())
+
+
+def moved(run, front, period, room, penalty):
+    """The office moves exam 3 of draft 1, and one candidate with it."""
+    run.judge("a move", (200, b'{"draft":1,"penalty":%d}' % penalty), front.told(
+        ask("registry", "POST", "/drafts/1/exams/3/move",
+            b'{"period":%d,"room":%d}' % (period, room))))
+
+
+def publishing_asks(page, front):
+    """Publish asks first, and publishes nothing if it is left in any way."""
+    page.judge("what can be published", {
+        f"disabled {PUBLISH % 2}": False, f"disabled {PUBLISH % 3}": True,
+        f"disabled {PUBLISH % 4}": True,
+        f"{CARD % 4} .verdict": "Breaks no rule; 4 exams not placed"})
+    before = publications(front)
+    for leave in ("click #confirm button", "press escape", "press enter"):
+        page.steps(("publish asks", ASKS,
+                    {"#confirm-title": "Publish draft 1?", "open #confirm": True}))
+        page.run.judge("nothing has changed", False, "changed" in page.look("words #confirm-text"))
+        page.steps(("it was left", leave, {"open #confirm": False}))
+    page.run.judge("the published timetable, to keep", SOLUTION.decode().split(), page.reader.run(
+        "return fetch(document.querySelector('#confirm-text a[download]').href)"
+        ".then(reply => reply.text())").split())
+    page.run.judge("nothing was published", before, publications(front))
+
+
+def publishing_shows_changes(page, front):
+    """A draft that changed since the registrar looked is shown, once, before it can be
+    published."""
+    before = publications(front)
+    moved(page.run, front, 3, 1, 44)
+    page.steps(("publish asks", ASKS, {"open #confirm": True}))
+    words = page.look("words #confirm-text")
+    for part in ("It had 37 points when you looked, and has 44 now. 1 exam has moved:",
+                 f"PHYS102: {page.moment(FRIDAY, '17:00:00')}, {HALL} before, "
+                 f"{page.moment(MONDAY, '09:30:00')}, {ROOM} now"):
+        page.run.judge("what changed since the page was read", (part, True), (part, part in words))
+    page.steps(
+        ("its card", "press escape",
+         {"open #confirm": False, f"words {CARD % 2} h3": "Draft 1 44 points"}),
+        ("publish asks again", ASKS, {"open #confirm": True}))
+    page.run.judge("it has been seen", False, "changed" in page.look("words #confirm-text"))
+    moved(page.run, front, 2, 0, 37)
+    page.act("press tab enter")
+    page.reader.waits("return document.querySelector('#confirm-text').innerText.includes("
+                      "'It had 44 points when you looked, and has 37 now.')")
+    page.run.judge("it asks again", (True, before),
+                   (page.look("open #confirm"), publications(front)))
+    page.act("press escape")
+    moved(page.run, front, 3, 1, 44)
+    page.steps(("publish asks", ASKS, {"open #confirm": True}),
+               ("it is left", "press escape", {"open #confirm": False}))
+    time.sleep(0.3)
+    page.run.judge("nothing was published meanwhile", before, publications(front))
+
+
+def published(page, front):
+    """A draft is published by keyboard; those whose seats changed are offered as a file."""
+    before = publications(front)
+    page.steps(
+        ("publish asks", ASKS, {"open #confirm": True}),
+        ("what was published", "press tab enter", {
+            "#status": "Draft 1 is published; the seats of 1 candidate have changed.",
+            "#changed-seats": "Seats changed by publishing Draft 1, as CSV",
+            f"words {CARD % 1} h3": "Published 44 points"}))
+    page.run.judge("it was published once", before + 1, publications(front))
+    page.judge_file("changed-seats.csv", "#changed-seats", csv_file(
+        ",".join([*WHOSE, *(f"{name} {when}" for when in ("before", "now") for name in WHERE)]),
+        f"{SEATS_NAMED[5]},2005-04-18,09:30,Room 2.14,Physics building,2"))
+
+
+def not_publishable(page, front):
+    """A draft that can't be published any more, and one that is gone."""
+    before = publications(front)
+    front.told(ask("registry", "DELETE", "/drafts/1/exams/3"))
+    page.steps(("a draft that can't be published any more", f"click {PUBLISH % 2}", {
+        "#error": "Draft 1 has changed since you looked. It can't be published now: breaks no "
+                  "rule; "
+                  "1 exam not placed.", "open #confirm": False}))
+    page.run.judge("it wasn't published", before, publications(front))
+    front.told(ask("registry", "POST", "/drafts/1/exams/3/place", b'{"period":3,"room":1}'))
+    front.told(ask("registry", "DELETE", "/drafts/3"))
+    page.steps(("a draft that is gone", f"click {DETAILS % 4}",
+                {"#error": "This draft no longer exists."}))
+
+
+def publishing(run, chromium, front):
+    """Publish asks first, by keyboard too, and never publishes what the registrar has not seen."""
+    front.told(ask("registry", "PUT", "/drafts/3"))
+    with opened(run, chromium, front, "registry") as page:
+        for part in (publishing_asks, publishing_shows_changes, published, not_publishable):
+            part(page, front)
+
+
+# ---- Drafts and owners
+
+TITLE = "#detail-title"
+DRAFT = "click #draft button.main"
+OWNERS = "click #owners button.main"
+BY_EXAM = [
+    "MATH101,Calculus,Mathematics,2005-04-18,09:30,11:30,Great Hall,Main building",
+    "MATH102,Linear algebra,Mathematics,2005-04-15,14:00,15:30,Great Hall,Main building",
+    "PHYS101,Mechanics,Physics,2005-04-18,09:30,11:30,Room 2.14,Physics building",
+    "PHYS102,Optics,Physics,2005-04-15,17:00,18:00,Great Hall,Main building"]
+# What is looked for in a timetable, and the exams that are found.
+FOUND = [("optics", ["PHYS102"]), ("phys great", ["PHYS102"]),
+         ("MATHEMATICS", ["MATH101", "MATH102"]),
+         ("2.14", ["PHYS101"]), ("x", [])]
+OWNER_FILES = [
+    ("Exam;Dept\nMATH101;Chemistry\n9;3\n",
+     "No owner was set: 2 faults.\nLine 2: unknown department Chemistry\nLine 3: unknown exam 9"),
+    ("Exam;Dept\nmath101;mathematics\n3;0\n", "2 exams have their owners.")]
+
+
+def written(run, name, content):
+    """A file for a form."""
+    path = run.folder / name
+    path.write_bytes(content)
+    return path
+
+
+def making_drafts(page):
+    """Drafts are made, from a file and empty, and dropped."""
+    faulty = written(page.run, "faulty.sol", SOLUTION.replace(b"1, 0", b"1, x"))
+    page.steps(
+        ("a faulty file", [("type", "#draft-file", faulty), DRAFT], {
+            "said": "Draft 3 was not made. Line 2: a whole number is expected.",
+            "fault": ["draft-file", "true",
+                      "Draft 3 was not made. Line 2: a whole number is expected."]}),
+        ("a draft from a file",
+         [("type", "#draft-file", written(page.run, "new.sol", SOLUTION)), DRAFT],
+         {"said": "Draft 3 is made."}),
+        ("an empty draft", DRAFT, {"said": "Draft 4 is made.",
+                                   f"{CARD % 5} .verdict": "Breaks no rule; 4 exams not placed"}),
+        ("dropping asks", f"click {CARD % 5} .buttons button:last-child",
+         {"#confirm-title": "Drop draft 4?"}),
+        ("a draft is dropped", "click #confirm-yes", {"#status": "Draft 4 is dropped."}))
+
+
+def looking_at_drafts(page):
+    """The address has the draft that is shown, and the browser's back and forward go between
+    drafts."""
+    page.steps(
+        *(("the address of a draft", f"click {DETAILS % 3}", {"hash": "#draft-2", TITLE: "Draft 2"})
+          for _ in range(2)),
+        ("another draft", f"click {DETAILS % 4}", {TITLE: "Draft 3"}),
+        ("back", "go back", {TITLE: "Draft 2"}), ("back again", "go back", {TITLE: "Published"}),
+        ("forward", "go forward", {TITLE: "Draft 2"}),
+        ("the link that skips", ["focus .skip", "press enter"], {
+            "focus": "main", "hash": "#main", TITLE: "Draft 2"}))
+
+
+def files_of_drafts(page):
+    """A draft is downloaded as a solution, and as CSV in three orders."""
+    page.judge_file("draft-2.sol", "#download-solution", "3, 0\r\n1, 0\r\n3, 1\r\n2, 0\r\n")
+    head = "exam,title,department,date,start,end,room,building"
+    for order, exams in (("exam", (0, 1, 2, 3)), ("room", (1, 3, 0, 2)), ("day", (1, 3, 0, 2))):
+        page.judge_file(f"draft-2-by-{order}.csv", f"#download-{order}",
+                        csv_file(head, *(BY_EXAM[exam] for exam in exams)))
+
+
+def comparing_and_finding(page):
+    """Two drafts are compared, and exams found by code, title, department and room."""
+    friday, monday = page.moment(FRIDAY, "09:30:00"), page.moment(MONDAY, "09:30:00")
+    page.steps(("differences", ("set", "#compare", "Draft 3"), {
+        "#differences p": "1 exam has another place.", "rows #differences tr": [
+            ["Exam", "Draft 2", "Draft 3"],
+            ["MATH101", f"{monday}, {HALL}", f"{friday}, {HALL}"]]}))
+    for words, exams in FOUND:
+        page.steps((f"what is found for {words}", ("set", "#find", words), {
+            "#found p": f"{len(exams)} exam{'' if len(exams) == 1 else 's'}.",
+            "names #found tbody th": exams}))
+    page.steps(("what is known of it", ("set", "#find", "mechanics"), {"rows #found tbody tr": [
+        ["PHYS101\nMechanics", "Physics", "1 candidate", monday, ROOM]]}))
+
+
+def setting_owners(page, front):
+    """Owners come from a CSV file, or for all exams from the departments of the names."""
+    for number, (text, words) in enumerate(OWNER_FILES):
+        path = written(page.run, f"owners-{number}.csv", text.encode())
+        page.steps((f"owners: {words}", [("type", "#owners-file", path), OWNERS], {"said": words}))
+    page.steps(("owners of the names", "click #owners-labels",
+                {"said": "4 exams have their owners."}))
+    last = [target for method, target, status, _ in front.exchanges()
+            if (method, status) == ("PUT", 200) and target.endswith("/owner")][-4:]
+    page.run.judge("which exams got owners", [f"/exams/{exam}/owner" for exam in range(4)], last)
+    front.told(ask("registry", "DELETE", "/drafts/3"))
+
+
+def registrys_work(run, chromium, front):
+    """Drafts are made, looked at, compared, downloaded and dropped; exams get owners."""
+    with opened(run, chromium, front, "registry") as page:
+        for part in (making_drafts, looking_at_drafts, files_of_drafts, comparing_and_finding):
+            part(page)
+        setting_owners(page, front)
+
+
+# ---- A new session
+
+FAULTY_SESSION = SMALL.replace(b"15:04:2005, 14", b"31:04:2005, 14")
+SECTIONS = ("hidden #session-new", "hidden #setup", "hidden #late", "hidden #detail")
+
+
+def new_session(run, chromium, program):
+    """A session is loaded from a file on the page; a faulty file is named with its line."""
+    send = "click #session button"
+    with program() as front, opened(run, chromium, front, "registry") as page:
+        page.steps(
+            ("no session", [], {"#status": "No session is loaded yet.",
+                                **dict(zip(SECTIONS, (False, True, True, True)))}),
+            ("a faulty session",
+             [("type", "#session-file", written(run, "faulty.exam", FAULTY_SESSION)), send],
+             {"said": "The session was not loaded. Line 8: a date such as 15:04:2005 is "
+                      "expected."}),
+            ("a session", [("type", "#session-file", written(run, "whole.exam", SMALL)), send],
+             {"said": "The session is loaded: 4 exams, 6 enrolments, 4 periods, 2 rooms.",
+              **dict(zip(SECTIONS, (True, False, False, True)))}))
