@@ -1,7 +1,10 @@
 """What users ask through the front, and what is answered: messages to nginx, who asks and what."""
 import base64
+import pathlib
 
 from serve_cases import FIRST, SECOND, SOLUTION, cost, me, message, report
+
+TOP = pathlib.Path(__file__).resolve().parent.parent
 
 BROKEN = b"3, 0\n1, 0\n3, 1\n2, 0\n"
 
@@ -164,6 +167,13 @@ LABELS = [
     *((f"students for {user}", ask(user, "GET", "/labels/students.json", b"", *fields), P2)
       for user, fields in (("ada", ()), ("physics", ()), ("nobody", ()),
                            ("ben", ("X-Caller: office",)))),
+    *((f"their own name, for {user}", ask(user, "GET", "/labels/name.json", b"", *fields), answer)
+      for user, fields, answer in (
+          ("ben", (), (200, (TOP / "front/labels/names/2.json").read_bytes())),
+          ("ben", ("X-Caller: cand:1",), (200, (TOP / "front/labels/names/2.json").read_bytes())),
+          ("registry", (), (200, b"null")), ("nobody", (), (200, b"null")))),
+    ("another's name", ask("ben", "GET", "/labels/names/1.json"), 404),
+    ("the ledger", ask("registry", "GET", "/labels/ledger.db"), 404),
     ("students by another path", ask("ada", "GET", "/labels/./students.json"), P2),
     ("a change of labels", ask("registry", "PUT", "/labels/labels.json", b"{}"),
      told_error(405, "method")),
@@ -185,7 +195,7 @@ FAULTY_PEOPLE = [
     ("user,caller\nx,dept:1000\n", "line 2, caller: office, dept:N or cand:N is expected, not 'dept:1000'"),
     ("user,caller\nx,1;y office\n",
      "line 2, caller: office, dept:N or cand:N is expected, not '1;y office'"),
-    ("user,student\nx,s9\n", "line 2, student: there is no student 's9' in --students"),
+    ("user,student\nx,s9\n", "line 2, student: there is no student 's9'"),
     ("user,caller,password\nx,office,a\0b\n",
      "line 2, password: a password has no line breaks and no NUL"),
     ('user,caller,password\nx,office,"a\nb"\n',
@@ -201,7 +211,7 @@ FAULTY_STUDENTS = [
     *((text, "this is no students.json of session_from_csv")
       for text in ("", "null", "[1]", '{"students": 1}', '{"students": [{"id": 1, "number": 1}]}')),
     *((f'{{"students": [{{"id": "S1", "number": {number}}}]}}',
-       f"the number of 's1' is {shown}, not one from 0 to 999999999")
+       f"the number of 'S1' is {shown}, not one from 0 to 999999999")
       for number, shown in (('"1;x office"', "'1;x office'"), ("true", "True"), ("-1", "-1"),
                             ("1000000000", "1000000000"))),
 ]

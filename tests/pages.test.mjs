@@ -1,5 +1,6 @@
 // The pages' functions that need no browser: `node --test tests/pages.test.mjs` runs these tables.
 import assert from 'node:assert/strict';
+import { readFileSync } from 'node:fs';
 import test from 'node:test';
 
 // Node has no navigator before its version 21.
@@ -10,7 +11,7 @@ const {
 const { calendarText } = await import('../front/page/calendar.js');
 const { columnsOf, csvText, recordsOf } = await import('../front/page/csv.js');
 const {
-  differences, differencesForCandidate, differencesForDepartment, Names,
+  differences, differencesForCandidate, differencesForDepartment, faultsOfNames, isSealed, Names,
 } = await import('../front/page/labels.js');
 
 const LABELS = {
@@ -116,6 +117,45 @@ cases('names of another session', [
     ['exams', 'rooms', 'periods']],
 ].map(([name, labels, ...expected]) => [name, expected, () => [differences(labels, SESSION),
   differencesForCandidate(labels, [ROW, UNDATED]), differencesForDepartment(labels, DRAFT)]]));
+
+// Two exams of six candidates, of which the first has 1 to 6 and the second 7 to 12, and one of 300.
+const numbersFrom = (first, count) => [...Array(count).keys()].map((number) => first + number);
+const TAKING = [numbersFrom(1, 6), numbersFrom(7, 6), numbersFrom(100, 300)];
+const FRAME = ['[Exams:3]', '60', '60', '60'];
+const fileOf = (taking) => ({ ledger: 'a', session: FRAME, students: numbersFrom(1, 400).map((number) => (
+  { number, exams: [...taking.keys()].filter((exam) => taking[exam].includes(number)) })) });
+const HELD = { frame: FRAME, candidates: TAKING };
+const CODES = { ledger: 'a', exams: [{ code: 'A' }, { code: 'B' }, { code: 'C' }] };
+const without = (exam, count) => TAKING.map((taking, i) => (i === exam ? taking.slice(count) : taking));
+
+cases('what ties names to a session', [
+  ['the same', [], CODES, fileOf(TAKING), HELD],
+  ['labels that were changed', ['labels.json was changed by hand'], { ...CODES, isSealed: false },
+    fileOf(TAKING), HELD],
+  ['students that were changed', ['students.json was changed by hand'], CODES,
+    { ...fileOf(TAKING), isSealed: false }, HELD],
+  ['another state', ['labels.json and students.json were not made together'], CODES,
+    { ...fileOf(TAKING), ledger: 'b' }, HELD],
+  ['another rule',
+    ['the exams, periods, rooms or rules of these names are those of another session'], CODES,
+    fileOf(TAKING), { ...HELD, frame: [...FRAME, '0, AFTER, 1'] }],
+  // Of 312 enrolments 5 % are 15.6.
+  ['15 that are gone', [], CODES, fileOf(TAKING), { ...HELD, candidates: without(2, 15) }],
+  ['16 that are gone', ['only 296 of 312 enrolments of these names are in the office, so they are of '
+    + 'another session'], CODES, fileOf(TAKING), { ...HELD, candidates: without(2, 16) }],
+  ['any number that came', [], CODES, fileOf(without(2, 200)), HELD],
+  ['two exams exchanged', ['the office has other candidates in A, B than these names say'], CODES,
+    fileOf([TAKING[1], TAKING[0], TAKING[2]]), { ...HELD, candidates: TAKING }],
+  ['no students', [], CODES, null, HELD],
+  ['no ledger', [], { exams: [] }, { students: [] }, HELD],
+].map(([name, expected, ...given]) => [name, expected, () => faultsOfNames(...given)]));
+
+test('the digest of a file is that of its lines', async () => {
+  const text = readFileSync(new URL('../front/labels/students.json', import.meta.url), 'utf8');
+  const found = [text, text.replace('Ada Archer', 'Ada Adams'), text.replace(/"digest".*/, '"a": 1}'),
+    text.replace(/("digest": "[^"]*)[0-9a-f]"/, '$1"'), '{"digest": ""}'].map(isSealed);
+  assert.deepEqual(await Promise.all(found), [true, false, false, false, null]);
+});
 
 const named = new Names(LABELS);
 const numbered = new Names();

@@ -126,7 +126,9 @@ class Run(Cases):
         out = self.folder / "out"
         shutil.rmtree(out, ignore_errors=True)
         ended = subprocess.run([TOOL, source, out, *more], capture_output=True, timeout=60)
-        files = {path.name: path.read_bytes() for path in out.iterdir()} if out.exists() else {}
+        files = {path.name: path.read_bytes() for path in out.glob("now/*.*")}
+        if ended.returncode:
+            files = {path.name: path.read_bytes() for path in out.rglob("*") if path.is_file()}
         return ended.returncode, ended.stderr.decode(), ended.stdout.decode(), files
 
     def edited(self, *edits):
@@ -174,6 +176,9 @@ def examples(run, program):
     run.judge("its session", (EXAMPLES / "small.exam").read_bytes(), small["session.exam"])
     for name in ("labels.json", "students.json"):
         run.judge(f"front/labels/{name}", (LABELS / name).read_bytes(), small[name])
+    for path in sorted((run.folder / "out" / "now" / "names").iterdir()):
+        run.judge(f"front/labels/names/{path.name}", (LABELS / "names" / path.name).read_bytes(),
+                  path.read_bytes())
     agree(run, "the small example", small)
     status, faults, summary, files = run.made(UNIVERSITY)
     run.judge("the university", (

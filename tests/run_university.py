@@ -52,18 +52,18 @@ def set_up(run, times):
     with times.of("session and labels from CSV"):
         subprocess.run([TOP / "tools" / "session_from_csv", UNIVERSITY, made], check=True)
     with times.of("load"):
-        subprocess.run([run.program, "load", "--db", database, made / "session.exam"], check=True,
+        subprocess.run([run.program, "load", "--db", database, made / "now" / "session.exam"], check=True,
                        stdout=subprocess.DEVNULL)
     office = Office(run.program, database)
     folder = run.folder / "university"
     shutil.copytree(TOP / "front", folder / "front")
     for name in ("labels.json", "students.json"):
-        shutil.copy(made / name, folder / "front" / "labels" / name)
+        shutil.copyfile(made / "now" / name, folder / "front" / "labels" / name)
     with (folder / "front" / "users").open("a") as users:
         users.writelines(f"{user}:{{PLAIN}}try-{user}\n" for user in CANDIDATES)
     with (folder / "front" / "callers").open("a") as callers:
         callers.write('"~^s(?<number>[0-9]{1,9})$" cand:$number;\n')
-    return office, folder, json.loads((made / "labels.json").read_text())
+    return office, folder, json.loads((made / "now" / "labels.json").read_text())
 
 
 def registrys_week(run, times, chromium, front, labels):

@@ -1,6 +1,5 @@
 // Late changes: a CSV file of the university's own, checked and shown before it is sent as a batch.
 import { columnsOf, recordsOf } from './csv.js';
-import { readStudents } from './labels.js';
 import {
   byId, change, count, faultList, numeral, Refusal, showProgress,
 } from './office.js';
@@ -116,8 +115,7 @@ export function setUpBatches(office, load) {
     }
     const text = file ? await file.text() : pasted;
     await load();
-    const students = office.names.labels ? await readStudents() : [];
-    const { changes, faults } = changesIn(text, studentFinder(students),
+    const { changes, faults } = changesIn(text, studentFinder(office.names.students),
       examFinder(office.names, office.session));
     if (faults.length) {
       throw new Refusal(400, {}, `Nothing was sent: ${count(faults.length, 'fault')}.`,

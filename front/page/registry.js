@@ -3,7 +3,7 @@
 import { setUpBatches } from './batches.js';
 import { confirmFirst } from './confirm.js';
 import { changesBetween, penaltyIn, readAgain, readDrafts, verdict } from './drafts.js';
-import { applyLabels, differences, Names, readLabels } from './labels.js';
+import { applyOfficeNames, Names, readLabels } from './labels.js';
 import { offerChanges, readSeats, setUpSeats, showSeats } from './seats.js';
 import { askToDrop, setUpForms, showForms } from './setup.js';
 import { showComparison, showDownloads, showFinder } from './tables.js';
@@ -19,7 +19,7 @@ const office = { timetables: [], session: null, names: new Names(), open: null }
 
 // ---- Texts of the office
 
-/** A session's exams (minutes and candidates), periods and rooms. */
+/** A session's exams (minutes and candidates), periods and rooms, and its lines without candidates. */
 function sessionIn(text) {
   const fields = (line) => line.split(',').map((field) => field.trim());
   const lines = (section) => section.split('\r\n').slice(0, -1).map(fields);
@@ -29,6 +29,8 @@ function sessionIn(text) {
     candidates: exams.map(([, ...students]) => students.map(Number)),
     periods: periods.map(([date, start]) => ({ date: date.split(':').reverse().join('-'), start })),
     capacities: rooms.map(([capacity]) => Number(capacity)),
+    frame: text.split('\r\n').slice(0, -1).map((line, number) => (
+      number > 0 && number <= exams.length ? line.split(',', 1)[0] : line)),
   };
 }
 
@@ -66,8 +68,7 @@ async function load() {
   await readUser();
   const text = await askOrNull('not-loaded', '/instance');
   office.session = text && sessionIn(text);
-  const labels = text && await readLabels();
-  office.names = applyLabels(labels, labels ? differences(labels, office.session) : []);
+  office.names = await applyOfficeNames(text && await readLabels(), office.session);
   const published = text && await readPublished();
   const drafts = text ? await readDrafts() : [];
   office.timetables = [...(published ? [published] : []), ...drafts];

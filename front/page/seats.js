@@ -1,7 +1,6 @@
 // Who sits where: the seat list of the published timetable, searched, compared, downloaded, printed.
 import { studentFinder } from './batches.js';
 import { csvText } from './csv.js';
-import { readStudents } from './labels.js';
 import {
   ask, byId, cell, columnHead, count, dayInShort, download, element, numeral, Refusal, row, rowHead,
   showProgress, time, unseen,
@@ -48,7 +47,7 @@ export class People {
   }
 }
 
-const readPeople = async ({ names }) => new People(names.labels ? await readStudents() : []);
+const peopleOf = ({ names }) => new People(names.students);
 
 // ---- Seats and enrolments
 
@@ -189,7 +188,7 @@ export function showSeats({ names, session }, isPublished) {
 /** Offers what the publication of a draft changed as a file; `before` has the seats of the last one. */
 export async function offerChanges(draft, before, office) {
   const changes = changesBetween(before ?? [], await readSeats());
-  const people = await readPeople(office);
+  const people = peopleOf(office);
   byId('changed-seats').hidden = !changes.length;
   byId('changed-seats').textContent = `Seats changed by publishing ${draft}, as CSV`;
   byId('changed-seats').onclick = () => downloadRows('changed-seats.csv',
@@ -203,7 +202,7 @@ export function setUpSeats(office, readSession) {
     showProgress(words, async () => {
       await readSession();
       const seats = await readSeats();
-      return seats ? work(seats, office, await readPeople(office)) : 'Nothing is published yet.';
+      return seats ? work(seats, office, peopleOf(office)) : 'Nothing is published yet.';
     });
   };
 

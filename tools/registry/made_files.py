@@ -1,21 +1,23 @@
-"""The files that are made of a session: for the office, for the pages."""
+"""The files that are made of a ledger: for the office, for the pages, for the front."""
 from __future__ import annotations
 
+import hashlib
 import json
-import os
-import pathlib
 import re
-from collections.abc import Collection, Mapping
+from collections.abc import Collection, Iterator, Mapping
 from typing import Any
 
-from .session import TEXTS, Session
+from .ledger import Ledger
+from .session import TEXTS, WEIGHTS, Session
 
 MOST_BYTES = 4_194_304
+JSON_END = re.compile(r'^"digest": "([0-9a-f]{64})"\}\n\Z', re.M)
+PLAIN_END = re.compile(r"^# digest ([0-9a-f]{64})\n\Z", re.M)
 
 
 def student_numbers(ids: Collection[str]) -> dict[str, int]:
-    """The number of each student: the digits of their ID if all have 1 to 9 of them, no two the
-    same; otherwise their place in the order of IDs."""
+    """The number of each student of a new session: the digits of their ID if all have 1 to 9 of
+    them, no two the same; otherwise their place in the order of IDs."""
     digits = {student: "".join(re.findall("[0-9]", student)) for student in ids}
     numbers = {student: int(text) for student, text in digits.items() if 1 <= len(text) <= 9}
     if len(set(numbers.values())) == len(digits):
@@ -23,23 +25,37 @@ def student_numbers(ids: Collection[str]) -> dict[str, int]:
     return {student: number for number, student in enumerate(sorted(ids))}
 
 
-def session_text(session: Session, numbers: Mapping[str, int]) -> str:
-    """The session's file."""
-    candidates: list[list[int]] = [[] for _ in session.exams]
-    for student, exams in session.enrolments.items():
-        for number in exams:
-            candidates[number].append(numbers[student])
+def session_text(session: Session, candidates: Mapping[int, Collection[int]],
+                 weights: Collection[str]) -> str:
+    """The session's file, with these candidates of each exam and these lines of weights."""
     lines = [f"[Exams:{len(session.exams)}]"]
-    lines += [", ".join(map(str, [exam.minutes, *sorted(taking)]))
-              for exam, taking in zip(session.exams, candidates)]
+    lines += [", ".join(map(str, [exam.minutes, *sorted(candidates.get(number, ()))]))
+              for number, exam in enumerate(session.exams)]
     lines.append(f"[Periods:{len(session.periods)}]")
     lines += [f"{':'.join(reversed(period.date.split('-')))}, {period.start}, {period.minutes}, "
               f"{period.penalty}" for period in session.periods]
     lines.append(f"[Rooms:{len(session.rooms)}]")
     lines += [f"{room.capacity}, {room.penalty}" for room in session.rooms]
     lines += ["[PeriodHardConstraints]", *session.period_rules, "[RoomHardConstraints]",
-              *session.room_rules, "[InstitutionalWeightings]", *session.weights]
+              *session.room_rules, "[InstitutionalWeightings]", *weights]
     return "".join(f"{line}\n" for line in lines)
+
+
+def candidates_of(pairs: Collection[tuple[int, int]]) -> dict[int, list[int]]:
+    """The candidates of each exam."""
+    candidates: dict[int, list[int]] = {}
+    for student, exam in pairs:
+        candidates.setdefault(exam, []).append(student)
+    return candidates
+
+
+def frame_of(session: Session) -> list[str]:
+    """The lines of a session without its candidates, as the office writes them."""
+    known = dict(line.split(",", 1) for line in session.weights)
+    weights = [f"{word},{known.get(word) or ','.join(['0'] * numbers)}"
+               for word, numbers in WEIGHTS.items() if word != "OVERNIGHT" or
+               known.get(word, "0") != "0"]
+    return session_text(session, {}, weights).splitlines()
 
 
 def lines_of_json(value: Mapping[str, Any]) -> str:
@@ -52,6 +68,36 @@ def lines_of_json(value: Mapping[str, Any]) -> str:
         else:
             parts.append(f"{json.dumps(name)}: {json.dumps(part, ensure_ascii=False)}")
     return "{" + ",\n".join(parts) + "}\n"
+
+
+def digest_of(text: str) -> str:
+    return hashlib.sha256(text.encode()).hexdigest()
+
+
+def sealed_json(value: Mapping[str, Any], state: str) -> str:
+    """A text of JSON with the digests of the ledger's state and of its own lines at its end."""
+    text = lines_of_json({**value, "ledger": state, "digest": ""}).rpartition('"digest"')[0]
+    return f'{text}"digest": "{digest_of(text)}"}}\n'
+
+
+def sealed_plain(text: str, state: str) -> str:
+    """A text with comments that have these two digests at its end."""
+    text = f"{text}# ledger {state}\n"
+    return f"{text}# digest {digest_of(text)}\n"
+
+
+def is_sealed(text: str) -> bool | None:
+    """Whether a file's digest is that of its lines; None if it was made of no ledger."""
+    found = JSON_END.search(text) or PLAIN_END.search(text)
+    if not found:
+        return False if state_in(text) else None
+    return digest_of(text[:found.start()]) == found[1]
+
+
+def state_in(text: str) -> str | None:
+    """The digest of the ledger's state of which a file was made."""
+    found = re.search(r'^(?:"ledger": "|# ledger )([0-9a-f]{64})', text, re.M)
+    return found[1] if found else None
 
 
 def labels_of(session: Session) -> dict[str, Any]:
@@ -67,11 +113,32 @@ def labels_of(session: Session) -> dict[str, Any]:
                     for period in session.periods]}
 
 
-def write_file(path: pathlib.Path, text: str, mode: int = 0o644) -> None:
-    """Writes a file in one step, never through a link."""
-    part = path.with_name(f".{path.name}.part")
-    part.unlink(missing_ok=True)
-    with open(os.open(part, os.O_WRONLY | os.O_CREAT | os.O_EXCL | os.O_NOFOLLOW, mode), "w",
-              encoding="utf-8", newline="\n") as file:
-        file.write(text)
-    part.replace(path)
+def students_of(ledger: Ledger, session: Session) -> dict[str, Any]:
+    """For the office only: who each number is, and what ties these names to the office: the exams
+    of each, and the session's lines."""
+    exams: dict[int, list[int]] = {}
+    for student, exam in sorted(ledger.expected_pairs()):
+        exams.setdefault(student, []).append(exam)
+    return {"students": [{"number": student.number, "id": student.id, "name": student.name,
+                          "exams": exams.get(student.number, [])} for student in ledger.students()],
+            "session": frame_of(session)}
+
+
+def session_file(ledger: Ledger, session: Session) -> str:
+    """The session's file as it was made, for the office to load."""
+    return session_text(session, candidates_of(ledger.loaded_pairs()), session.weights)
+
+
+def files_of(ledger: Ledger, state: str) -> Iterator[tuple[str, str]]:
+    """All files that are made of a ledger, by their names."""
+    session = ledger.session()
+    yield "session.exam", session_file(ledger, session)
+    yield "labels.json", sealed_json(labels_of(session), state)
+    yield "students.json", sealed_json(students_of(ledger, session), state)
+    for student in ledger.students():
+        yield f"names/{student.number}.json", sealed_json(
+            {"number": student.number, "id": student.id, "name": student.name}, state)
+    users = ledger.users()
+    if users:
+        lines = "".join(f"{name} {caller};\n" for name, caller in users)
+        yield "callers", sealed_plain(lines, state)

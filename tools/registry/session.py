@@ -195,21 +195,23 @@ def read_periods(rows: list[Row]) -> list[Period]:
             for row, date, start in zip(rows, dates_of(rows), starts_of(rows))]
 
 
-def with_zeros(ids: Iterable[str]) -> dict[str, str]:
-    """The IDs that lost their leading zeros, each with the one that has them."""
+def with_zeros(ids: Collection[str], known: Collection[str]) -> dict[str, str]:
+    """The IDs that lost their leading zeros, each with the one that has them. One that is known is
+    whole as it is."""
     whole: dict[str, list[str]] = {}
     for text in ids:
         if text[:1] == "0" and text.isascii() and text.isdigit():
             whole.setdefault(without_zeros(text), []).append(text)
-    lost = {text for text in ids if text in whole and text not in whole[text]}
+    lost = {text for text in ids if text in whole and text not in known}
     return {text: whole[text][0] for text in lost if len(whole[text]) == 1}
 
 
-def read_enrolments(rows: list[Row], codes: Known | None, session: Session) -> int:
+def read_enrolments(rows: list[Row], codes: Known | None, known_ids: Collection[str],
+                    session: Session) -> int:
     """Reads the names of students by ID, and the exams of each; returns how many IDs had lost their
     zeros."""
     named_on: dict[str, int] = {}
-    mended = with_zeros({row.get("student") for row in rows})
+    mended = with_zeros({row.get("student") for row in rows}, known_ids)
     pairs = 0
     for row in rows:
         text, exam = row.text("student"), number_of(row, "exam", codes, "exam")
@@ -233,7 +235,8 @@ def known_unless(unread: bool, numbers: Mapping[str, int]) -> Known | None:
     return None if unread else Known(numbers)
 
 
-def read_session(folder: pathlib.Path, wanted: Wanted, faults: Faults) -> Session:
+def read_session(folder: pathlib.Path, wanted: Wanted, faults: Faults,
+                 known_ids: Collection[str] = ()) -> Session:
     """The session in the CSV files of a folder; it counts only if there is no fault."""
     tables = tables_in(folder, wanted, faults)
     unread = {name for name in COLUMNS if faults.are_of(f"{name}.csv")}
@@ -251,7 +254,7 @@ def read_session(folder: pathlib.Path, wanted: Wanted, faults: Faults) -> Sessio
         exam.code: number for number, exam in reversed([*enumerate(session.exams)])})
     session.rooms = read_rooms(tables["rooms"].rows)
     session.periods = read_periods(tables["periods"].rows)
-    mended = read_enrolments(tables["enrolments"].rows, codes, session)
+    mended = read_enrolments(tables["enrolments"].rows, codes, known_ids, session)
     session.period_rules, session.room_rules = (
         rule_lines(kinds["rule"], words, codes) for words in (PERIOD_RULES, ROOM_RULES))
     session.notes = [f"{name}.csv is read as {table.encoding}" for name, table in tables.items()

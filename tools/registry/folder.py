@@ -1,0 +1,131 @@
+"""The folder of a session: its ledger, and the files that were made of it last."""
+from __future__ import annotations
+
+import json
+import os
+import pathlib
+import shutil
+from collections.abc import Iterable
+
+from .ledger import NAME, Ledger
+from .made_files import files_of, is_sealed, state_in
+from .office import are_of_another_session
+
+NOW, STATES = "now", "states"
+SEALED = ("labels.json", "students.json", "callers")
+OLD = ("session.exam", "labels.json", "students.json")
+
+
+def write_file(path: pathlib.Path, text: str, mode: int = 0o640) -> None:
+    """Writes a new file, never through a link."""
+    flags = os.O_WRONLY | os.O_CREAT | os.O_EXCL | os.O_NOFOLLOW
+    with open(os.open(path, flags, mode), "w", encoding="utf-8", newline="\n") as file:
+        file.write(text)
+
+
+def sync(path: pathlib.Path) -> None:
+    """Waits until a file or a folder is on the disk."""
+    opened = os.open(path, os.O_RDONLY)
+    os.fsync(opened)
+    os.close(opened)
+
+
+class Folder:
+    """A folder with a ledger: `now` leads to the files of its last state, which lie in `states`."""
+
+    def __init__(self, path: pathlib.Path) -> None:
+        self.path = path
+        self.ledger = path / NAME
+
+    def is_old(self) -> bool:
+        """Whether it has a session without a ledger, as older tools made it."""
+        return not self.ledger.exists() and any((self.path / name).exists() for name in OLD)
+
+    def current(self) -> int | None:
+        """The number of the state that `now` leads to."""
+        link = self.path / NOW
+        name = os.readlink(link) if link.is_symlink() else ""
+        number = name.removeprefix(f"{STATES}/")
+        return int(number) if number.isdigit() and (self.path / name).is_dir() else None
+
+    def make_files(self, ledger: Ledger, number: int, digest: str) -> None:
+        """Writes the files of a state and switches to them in one step. What an earlier run left of
+        them is removed, and so are all states but the last two."""
+        states = self.path / STATES
+        states.mkdir(mode=0o750, exist_ok=True)
+        part, whole = states / f"{number}.part", states / f"{number}"
+        for left in (part, whole):
+            shutil.rmtree(left, ignore_errors=True)
+        part.mkdir(mode=0o750)
+        (part / "names").mkdir(mode=0o750)
+        for name, text in files_of(ledger, digest):
+            write_file(part / name, text)
+        for path in (*part.glob("*.*"), part / "names", part):
+            sync(path)
+        part.rename(whole)
+        self.switch(number)
+        sync(self.path)
+        self.remove_but(number, number - 1)
+
+    def switch(self, number: int) -> None:
+        """Lets `now` lead to a state."""
+        link = self.path / f".{NOW}.part"
+        link.unlink(missing_ok=True)
+        link.symlink_to(f"{STATES}/{number}")
+        link.replace(self.path / NOW)
+
+    def take(self, ledger: Ledger) -> None:
+        """Puts a new ledger, which was made beside it, into its place."""
+        ledger.close()
+        self.new_ledger().replace(self.ledger)
+
+    def new_ledger(self) -> pathlib.Path:
+        """Where a ledger lies until it is whole."""
+        return self.path / f".{NAME}.part"
+
+    def remove_but(self, *numbers: int) -> None:
+        for left in (self.path / STATES).iterdir():
+            if left.name not in map(str, numbers):
+                shutil.rmtree(left, ignore_errors=True)
+
+    def faults(self, ledger: Ledger, labels: pathlib.Path | None = None) -> list[str]:
+        """What is wrong with the files that names are read from: those of `now`, or of another
+        folder to which they were copied."""
+        return faults_of(ledger, labels or self.path / NOW)
+
+
+def faults_of(ledger: Ledger, folder: pathlib.Path) -> list[str]:
+    """What is wrong with the files of a folder that were made of a ledger."""
+    found: dict[str, str] = {}
+    faults: list[str] = []
+    for name in SEALED:
+        path = folder / name
+        if path.exists():
+            text = path.read_text(encoding="utf-8")
+            found[name] = state_in(text) or ""
+            faults += faults_of_text(ledger, path, text)
+            if name == "students.json" and not faults:
+                faults += faults_of_pairs(ledger, path, text)
+    if not faults and len(set(found.values())) > 1:
+        faults.append(f"{folder}: {' and '.join(found)} are of different states of the ledger")
+    return faults
+
+
+def faults_of_pairs(ledger: Ledger, path: pathlib.Path, text: str) -> Iterable[str]:
+    """Whether the enrolments of students.json are those of another ledger, which may have the same
+    names."""
+    pairs = {(student["number"], exam) for student in json.loads(text)["students"]
+             for exam in student["exams"]}
+    if are_of_another_session(ledger.expected_pairs(), pairs):
+        yield f"{path} was made of another ledger: it has other enrolments"
+
+
+def faults_of_text(ledger: Ledger, path: pathlib.Path, text: str) -> Iterable[str]:
+    sealed = is_sealed(text)
+    if sealed is None:
+        yield f"{path} was not made of a ledger"
+    elif not sealed:
+        yield (f"{path} was changed by hand: its lines don't have their digest. Remove it, and "
+               "make it again with tools/session_from_csv")
+    elif state_in(text) not in ledger.digests():
+        yield f"{path} was made of another ledger"

@@ -1,0 +1,115 @@
+"""Questions to an office, and whether it has the session of a ledger."""
+from __future__ import annotations
+
+import base64
+import os
+import urllib.error
+import urllib.parse
+import urllib.request
+
+from .ledger import Ledger
+from .made_files import frame_of
+
+# An office that lacks more of the enrolments that it should have has another session: this share in
+# percent, or this number in a small session.
+MOST_LACKING, MOST_LACKING_PAIRS = 5, 10
+# Smaller exams can have wholly other candidates after late changes.
+LEAST_COMPARED = 5
+# The variable with a program's token for a front.
+TOKEN = "EXAMOFFICE_TOKEN"
+
+
+class Refused(Exception):
+    """An office that can't be asked, or that refuses, in words."""
+
+
+class Office:
+    """An office by its address, or by that of its front."""
+
+    def __init__(self, address: str) -> None:
+        parts = urllib.parse.urlsplit(address)
+        self.address = parts._replace(netloc=parts.netloc.rpartition("@")[2]).geturl().rstrip("/")
+        self.fields = {"X-Caller": "office"}
+        if parts.username:
+            words = f"{urllib.parse.unquote(parts.username)}:" \
+                    f"{urllib.parse.unquote(parts.password or '')}"
+            self.fields["Authorization"] = f"Basic {base64.b64encode(words.encode()).decode()}"
+        elif os.environ.get(TOKEN):
+            self.fields["Authorization"] = f"Bearer {os.environ[TOKEN]}"
+
+    def ask(self, method: str, path: str, body: bytes | None = None) -> str:
+        """The reply to a request."""
+        request = urllib.request.Request(f"{self.address}{path}", body, self.fields, method=method)
+        try:
+            with urllib.request.urlopen(request, timeout=120) as reply:
+                text: str = reply.read().decode()
+                return text
+        except urllib.error.HTTPError as refusal:
+            raise Refused(f"{method} {path} is refused with {refusal.code}: "
+                          f"{refusal.read(200).decode('utf-8', 'replace')}") from refusal
+        except OSError as fault:
+            raise Refused(f"{self.address} can't be asked: {fault}") from fault
+
+    def instance(self) -> Instance:
+        return Instance(self.ask("GET", "/instance"))
+
+
+class Instance:
+    """What an office says of its session: its lines without candidates, and its enrolments."""
+
+    def __init__(self, text: str) -> None:
+        self.frame: list[str] = []
+        self.pairs: set[tuple[int, int]] = set()
+        lines = text.splitlines()
+        exams = int(lines[0].strip("[]").partition(":")[2])
+        for number, line in enumerate(lines):
+            if 1 <= number <= exams:
+                line, *candidates = line.split(", ")
+                self.pairs.update((int(student), number - 1) for student in candidates)
+            self.frame.append(line)
+
+
+def first_difference(known: list[str], found: list[str]) -> str:
+    """Where two lists of lines differ first, in words."""
+    section = ""
+    for one, other in zip([*known, "nothing"], [*found, "nothing"]):
+        section = one.strip("[]") if one.startswith("[") else section
+        if one != other:
+            return f"{section}: {one!r} in the ledger, {other!r} in the office"
+    return "the number of lines"
+
+
+def exchanged(expected: set[tuple[int, int]], found: set[tuple[int, int]], exams: int
+              ) -> list[tuple[int, int]]:
+    """Exams whose candidates in the office are rather those of another exam of the ledger."""
+    wanted: list[set[int]] = [set() for _ in range(exams)]
+    taking: list[set[int]] = [set() for _ in range(exams)]
+    for pairs, sets in ((expected, wanted), (found, taking)):
+        for student, exam in pairs:
+            sets[exam].add(student)
+    strange = [exam for exam in range(exams)
+               if len(wanted[exam]) >= LEAST_COMPARED
+               and 2 * len(wanted[exam] & taking[exam]) < len(wanted[exam])]
+    return [(exam, other) for exam in strange for other in strange if exam != other
+            and 2 * len(wanted[other] & taking[exam]) > len(wanted[other] | taking[exam])]
+
+
+def are_of_another_session(expected: set[tuple[int, int]], found: set[tuple[int, int]]) -> bool:
+    """Whether too many of the enrolments that a ledger expects are lacking."""
+    return len(expected - found) > max(MOST_LACKING_PAIRS, MOST_LACKING * len(expected) / 100)
+
+
+def faults_of_office(ledger: Ledger, instance: Instance) -> list[str]:
+    """Why an office doesn't have the session of a ledger; nothing if it has."""
+    session = ledger.session()
+    frame = frame_of(session)
+    if frame != instance.frame:
+        return [f"the office has another session: {first_difference(frame, instance.frame)}"]
+    expected = ledger.expected_pairs()
+    if are_of_another_session(expected, instance.pairs):
+        return [f"the office has another session: it lacks {len(expected - instance.pairs):,} of "
+                f"{len(expected):,} enrolments of the ledger, and at most {MOST_LACKING} % may be "
+                "lacking"]
+    return [f"{session.exams[exam].code} has in the office the candidates of "
+            f"{session.exams[other].code}"
+            for exam, other in exchanged(expected, instance.pairs, len(session.exams))]
