@@ -104,16 +104,32 @@ def upgrade(judged, machine):
         f"grep -c 301r {FRONT}/local.conf; ls {FRONT}/nginx.conf.dpkg-old | wc -l"))
     judged.judge("its units", ["active"] * 3, machine.types(
         f"systemctl is-active {' '.join(UNITS)}").split())
-    status = "the office on http://127.0.0.1:8080 answers\npublished, total penalty 37"
-    judged.judge("status", status, machine.types("examoffice-status 2>&1"))
+    status = "the office of term answers\npublished, total penalty 37"
+    judged.judge("status", status, machine.types("examoffice-status 2>&1 | grep -v space"))
     said = machine.types("systemctl set-property --runtime examoffice@term MemoryMax=8M"
                          "; examoffice-status"
                          "; systemctl set-property --runtime examoffice@term MemoryMax=2G")
     judged.judge("half of its memory is taken", True,
                  said.startswith("warning: examoffice@term.service has taken "))
+    who_reaches_it(judged, machine)
     judged.judge("again, while it runs", "total 37", wait(
         machine, "dpkg -i /new.deb > /dev/null 2>&1; sleep 1; "
         + ASK.format("registry", "own-word", 8123), "total 37"))
+
+
+def who_reaches_it(judged, machine):
+    """The office's port is reached by the queue alone, and the queue's sockets by the front alone."""
+    ask = "curl -s -o /dev/null -w %{http_code} -m 5 -H 'X-Caller: office'"
+    port = f"{ask} http://127.0.0.1:8080/publication"
+    for unit, code in (("examoffice-front", "000"), ("examoffice-queue", "200")):
+        judged.judge(f"the office's port, from {unit}", code, machine.types(
+            f"nsenter --net --target $(systemctl show --property=MainPID --value {unit}) {port}"))
+    judged.judge("the office's port, from elsewhere", "000", machine.types(port))
+    queue = f"{ask} --unix-socket /run/examoffice-queue/term.sock http://office/publication"
+    for user, code in (("www-data", "200"), ("nobody", "000")):
+        judged.judge(f"the queue, as {user}", code, machine.types(
+            f"setpriv --reuid={user} --regid={user if user != 'nobody' else 'nogroup'}"
+            f" --init-groups {queue}"))
 
 
 def backups(judged, machine):
@@ -127,7 +143,7 @@ def backups(judged, machine):
     judged.judge("it is the office, of four exams", "4", machine.types(
         "cp /var/backups/examoffice/term-*.db /copy.db; examoffice export --db /copy.db | wc -l"))
     for unit, most in (("examoffice@term", 1.5), ("examoffice-backup@term", 1.5),
-                       ("examoffice-front", 3.0)):
+                       ("examoffice-front", 3.0), ("examoffice-queue", 1.5)):
         said = machine.types(f"systemd-analyze security --no-pager {unit} | tail -1")
         found = re.search(r": ([\d.]+) ", said)
         judged.judge(f"the sandbox of {unit}", True,

@@ -28,6 +28,7 @@ import time
 
 import browser
 import front_pages
+import front_queue
 import openapi
 from front_cases import (
     CALLER, CALLERS, CANDIDATE, FAULTY_PEOPLE, FAULTY_STUDENTS, FIRST_VIEW, LABELS, LOGGED,
@@ -58,7 +59,9 @@ class Front:
         pathlib.Path(folder).chmod(0o755)
         texts = {path: path.read_text() for path in self.folder.glob("*.conf")}
         for old, new in (("127.0.0.1:8000", f"127.0.0.1:{self.port}"),
-                         ("127.0.0.1:8080", f"127.0.0.1:{office_port}"),
+                         ("127.0.0.1:8080", office_port if isinstance(office_port, str)
+                          else f"127.0.0.1:{office_port}"),
+                         ("/run/examoffice-queue", str(self.folder.parent / "queue")),
                          ("access_log run/changes", LOG), *edits):
             if not any(old in text for text in texts.values()):
                 raise ValueError(f"no file has {old}")
@@ -651,6 +654,8 @@ def main():
         try:
             front = Front(folder, office.port)
             replies = []
+            queued = threading.Thread(target=front_queue.judge, args=(run, Front))
+            queued.start()
             busy = threading.Thread(target=busy_office, args=(run.folder / "busy", replies))
             busy.start()
             try:
@@ -669,6 +674,7 @@ def main():
                 described_exchanges(run, front, 100)
             finally:
                 front.stop()
+                queued.join()
                 busy.join()
             run.judge("a queue in front of the office", [(200, b"{}")], replies)
         finally:

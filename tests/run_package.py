@@ -108,7 +108,7 @@ def of_the_front(judged, root):
                  sorted(it.name for it in (front / "page").iterdir()))
     judged.judge("no known password", [], [
         str(it) for folder in ("etc", "usr/share/examoffice") for it in (root / folder).rglob("*")
-        if it.is_file() and b"try-" in it.read_bytes()])
+        if it.is_file() and b"try-reg" in it.read_bytes()])
     judged.judge("no question at an upgrade", ["logrotate.d/examoffice"], [
         str(it.relative_to(root / "etc")) for it in (root / "etc").rglob("*") if it.is_file()])
 

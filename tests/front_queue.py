@@ -1,0 +1,264 @@
+"""The queue between the front and the office: crowds, restarts, deaths, and what is asked again."""
+import collections
+import contextlib
+import os
+import pathlib
+import selectors
+import shutil
+import socket
+import subprocess
+import threading
+import time
+
+import browser
+from front_cases import CANDIDATE, FIRST_VIEW, ask, parted, told_error
+from run_serve import Run
+from serve_cases import SMALL, SOLUTION, reply
+
+TOP = pathlib.Path(__file__).resolve().parent.parent
+HAPROXY = shutil.which("haproxy") or shutil.which("haproxy", path="/usr/sbin")
+SECONDS = 25
+CROWD = 1_000
+
+
+class Queue:
+    """HAProxy with the front's queue, before an office on that port."""
+
+    def __init__(self, folder, port):
+        self.folder = pathlib.Path(folder)
+        self.folder.mkdir(parents=True)
+        (self.folder / "term.env").write_text(f"PORT={port}\n")
+        with (self.folder / "offices.cfg").open("wb") as made:
+            subprocess.run([TOP / "front" / "offices", self.folder], stdout=made, check=True)
+        self.address = f"unix:{self.folder}/term.sock:"
+        self.environment = {**os.environ, "QUEUE": str(self.folder)}
+        self.start()
+
+    def start(self):
+        self.process = subprocess.Popen(
+            [HAPROXY, "-db", "-q", "-f", TOP / "front" / "queue.cfg", "-f",
+             self.folder / "offices.cfg"],
+            env=self.environment, stdin=subprocess.DEVNULL, stderr=subprocess.DEVNULL,
+            group="www-data" if os.geteuid() == 0 else None)
+        browser.until("the queue listens", self.listens)
+
+    def listens(self):
+        with contextlib.suppress(OSError), socket.socket(socket.AF_UNIX) as one:
+            one.connect(str(self.folder / "term.sock"))
+            return True
+        return False
+
+    def stop(self):
+        self.process.kill()
+        self.process.wait()
+
+
+class RestartingOffice:
+    """An office that is started again on its port a moment after it has ended, as systemd does."""
+
+    def __init__(self, program, database, port, connections=1_000_000):
+        self.words = [program, "serve", "--db", str(database), "--port", str(port),
+                      "--connections", str(connections)]
+        self.is_over, self.starts = threading.Event(), 0
+        self.process = None
+        self.thread = threading.Thread(target=self.runs)
+        self.thread.start()
+        browser.until("the office listens", lambda: self.starts)
+
+    def runs(self):
+        while not self.is_over.is_set():
+            self.process = subprocess.Popen(self.words, stdin=subprocess.DEVNULL,
+                                            stdout=subprocess.PIPE, stderr=subprocess.DEVNULL)
+            if self.process.stdout.readline():
+                self.starts += 1
+            self.process.wait()
+            self.process.stdout.close()
+            time.sleep(0.3)
+
+    def stop(self):
+        self.is_over.set()
+        while self.thread.is_alive():
+            self.process.kill()
+            self.thread.join(0.2)
+
+
+def addresses(count):
+    """So many addresses of this machine."""
+    return [f"127.{64 + number // 62_500}.{number // 250 % 250}.{number % 250 + 1}"
+            for number in range(count)]
+
+
+def crowd(port, questions):
+    """What comes back to each of these questions, all asked at once, each from an address of its
+    own, and the longest wait. A question that gets no reply in time has None."""
+    selector, began, waits = selectors.DefaultSelector(), time.monotonic(), {}
+    replies, parts = [None] * len(questions), collections.defaultdict(bytes)
+    for number, (source, question) in enumerate(zip(addresses(len(questions)), questions)):
+        client = socket.socket()
+        client.setblocking(False)
+        client.bind((source, 0))
+        client.connect_ex(("127.0.0.1", port))
+        selector.register(client, selectors.EVENT_WRITE, (number, question))
+    while selector.get_map() and time.monotonic() < began + SECONDS:
+        for key, events in selector.select(1):
+            number, question = key.data
+            if events & selectors.EVENT_WRITE:
+                key.fileobj.send(question)
+                selector.modify(key.fileobj, selectors.EVENT_READ, key.data)
+                continue
+            with contextlib.suppress(ConnectionResetError):
+                parts[number] += (part := key.fileobj.recv(65_536))
+                if part:
+                    continue
+            replies[number], waits[number] = parts[number], time.monotonic() - began
+            selector.unregister(key.fileobj)
+            key.fileobj.close()
+    for key in [*selector.get_map().values()]:
+        key.fileobj.close()
+    return [came and parted(came) for came in replies], max(waits.values(), default=None)
+
+
+def closing(question):
+    return question[:-2] + b"Connection: close\r\n\r\n"
+
+
+def a_crowd(run, front):
+    """A thousand candidates at once are all answered."""
+    came, longest = crowd(front.port, [closing(CANDIDATE)] * CROWD)
+    run.judge("a thousand candidates at once", {FIRST_VIEW: CROWD}, collections.Counter(came))
+    run.judge("how long the last one waits", True, longest < 15)
+
+
+class Clients:
+    """Clients that ask all the time, each for this long; what came back, counted."""
+
+    def __init__(self, front, question, count, seconds):
+        self.front, self.question, self.end = front, question, time.monotonic() + seconds
+        self.statuses = collections.Counter()
+        self.threads = [threading.Thread(target=self.asks) for _ in range(count)]
+        for thread in self.threads:
+            thread.start()
+
+    def asks(self):
+        while time.monotonic() < self.end:
+            came = self.front.told(self.question)
+            self.statuses[came and came[0]] += 1
+            time.sleep(0.01)
+
+    def result(self):
+        for thread in self.threads:
+            thread.join()
+        return self.statuses
+
+
+def restarts(run, make_front):
+    """An office that is killed, or that ends after its connections, costs no question."""
+    apart = Run.apart(run.program, run.folder, "front", "restarts")
+    port = browser.free_port()
+    office = RestartingOffice(run.program, apart.database(SMALL), port, connections=150)
+    queue = Queue(apart.folder / "queue", port)
+    front = make_front(apart.folder, queue.address)
+    try:
+        clients = Clients(front, ask("registry", "GET", "/instance"), 12, 5)
+        for _ in range(3):
+            time.sleep(1.2)
+            office.process.kill()
+        statuses = clients.result()
+        run.judge("questions beside restarts", {200}, set(statuses))
+        run.judge("restarts, and questions", True, office.starts > 4 and statuses[200] > 150)
+        office.stop()
+        began = time.monotonic()
+        run.judge("no office", told_error(503, "unavailable"),
+                  front.told(ask("registry", "GET", "/instance")))
+        run.judge("it is waited for", True, 8 < time.monotonic() - began < SECONDS)
+        time.sleep(1)
+        began = time.monotonic()
+        status, header, body = front.fetch("/instance", "registry", Accept="text/html,*/*")
+        run.judge("the page for a browser", (503, "text/html; charset=utf-8", True),
+                  (status, header["Content-Type"], b"The office doesn't answer" in body))
+        run.judge("then nobody waits", True, time.monotonic() - began < 5)
+    finally:
+        office.stop()
+        front.stop()
+        queue.stop()
+
+
+def a_dying_office(listener, asked, is_over):
+    """Reads each request and ends the connection; the second time it answers the same one."""
+    listener.settimeout(0.2)
+    while not is_over.is_set():
+        with contextlib.suppress(TimeoutError):
+            connection, _ = listener.accept()
+            with connection:
+                line = connection.recv(65_536).partition(b"\r\n")[0]
+                asked[line] += 1
+                if asked[line] > 1:
+                    connection.sendall(reply(200, "{}"))
+
+
+def never_twice(run, make_front):
+    """A change that an office may have read isn't sent again; a question is."""
+    asked, is_over = collections.Counter(), threading.Event()
+    with socket.create_server(("127.0.0.1", 0)) as listener:
+        stub = threading.Thread(target=a_dying_office, args=(listener, asked, is_over))
+        stub.start()
+        queue = Queue(run.folder / "dying" / "queue", listener.getsockname()[1])
+        front = make_front(run.folder / "dying", queue.address)
+        try:
+            for method, path, answer, times in (
+                    ("POST", "/drafts/1/swap", told_error(503, "unavailable"), 1),
+                    ("PUT", "/drafts/1", told_error(503, "unavailable"), 1),
+                    ("DELETE", "/drafts/1", told_error(503, "unavailable"), 1),
+                    ("GET", "/drafts/1", (200, b"{}"), 2)):
+                run.judge(f"{method} to an office that reads it and dies", (answer, times),
+                          (front.told(ask("registry", method, path)),
+                           asked[f"{method} {path} HTTP/1.1".encode()]))
+        finally:
+            is_over.set()
+            stub.join()
+            front.stop()
+            queue.stop()
+
+
+def metrics(run, front):
+    """The numbers of the queue, on this machine only."""
+    front.told(CANDIDATE)
+    status, _, body = front.fetch("/metrics")
+    run.judge("metrics", (200, True), (status, b'haproxy_backend_http_responses_total{proxy="term"'
+                                       in body))
+    run.judge("metrics, from elsewhere", 404, front.fetch("/metrics", source="127.0.0.2")[0])
+
+
+def judge(of_front, make_front):
+    """All of it; `make_front` makes a front in a folder before an office at an address."""
+    run = Run.apart(of_front.program, of_front.folder, "front", "queued")
+    judge_all(run, make_front)
+    of_front.count, of_front.failed = of_front.count + run.count, of_front.failed + run.failed
+
+
+def judge_all(run, make_front):
+    if not HAPROXY:
+        print("front: the queue is left out without haproxy")
+        return
+    office = run.office()
+    queue = Queue(run.folder / "queue", office.port)
+    front = make_front(run.folder, queue.address)
+    others = [threading.Thread(target=part, args=(run, make_front))
+              for part in (restarts, never_twice)]
+    for thread in others:
+        thread.start()
+    try:
+        for question, status in ((ask("registry", "PUT", "/drafts/1", SOLUTION), 201),
+                                 (ask("registry", "POST", "/drafts/1/publish"), 200)):
+            run.judge("the start", status, front.told(question)[0])
+        a_crowd(run, front)
+        metrics(run, front)
+        queue.stop()
+        queue.start()
+        run.judge("a queue that was killed and started", FIRST_VIEW, front.told(CANDIDATE))
+    finally:
+        for thread in others:
+            thread.join()
+        front.stop()
+        queue.stop()
+        office.killed()
