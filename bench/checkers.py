@@ -16,6 +16,9 @@ ORACLE = [sys.executable, str(HERE / "oracle.py")]
 
 Answer = namedtuple("Answer", "status stdout stderr")
 
+# For modules that the benches and the tests share.
+sys.path.append(str(TOP / "tests"))
+
 
 def say(text):
     print(text, file=sys.stderr, flush=True)

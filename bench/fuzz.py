@@ -18,12 +18,15 @@ from known import FAULTS, REPORTS
 
 PIECES = ["\r", "\n", "\r\n", ",", " ", "\t", "[", "]", ":", "0", "00", "-", "1441", "100001", "4",
           "99999999999999999999", "x", "after", "Exclusion", "EXAM_COINCIDENCE", "room_exclusive",
-          "[Exams:4]", "[Rooms : 2 ]", "TWOINAROW,3", "FRONTLOAD,2,2,2,", "OVERNIGHT,3", "overnight",
-          "29:02:2005", "29:02:2004", ",,", ", ", "1, 2", "[InstitutionalWeightings]", "24:00:00", "9:5:0",
+          "[Exams:4]", "[Rooms : 2 ]", "TWOINAROW,3", "FRONTLOAD,2,2,2,", "OVERNIGHT,3",
+          "overnight",
+          "29:02:2005", "29:02:2004", ",,", ", ", "1, 2", "[InstitutionalWeightings]", "24:00:00",
+          "9:5:0",
           "\x00", "\xe9"]
 LONGEST = 5_000
 # The periods of an instance are on four days from one of these.
-FIRST_DAYS = [datetime.date(*day) for day in ((2005, 1, 1), (2004, 12, 30), (2004, 2, 27), (2005, 2, 27))]
+FIRST_DAYS = [datetime.date(*day) for day in ((2005, 1, 1), (2004, 12, 30), (2004, 2, 27),
+                                              (2005, 2, 27))]
 
 
 def damaged_lines(rng, text):
@@ -64,7 +67,8 @@ def made(rng):
         lines.append(", ".join(map(str, [rng.choice([60, 90, 120]), *names])))
     lines.append(f"[Periods:{periods}]")
     days = [first + datetime.timedelta(rng.randrange(4)) for _ in range(periods)]
-    lines += [f"{day:%d:%m:%Y}, 9:0:0, {rng.choice([90, 120])}, {rng.choice([0, 7])}" for day in days]
+    lines += [f"{day:%d:%m:%Y}, 9:0:0, {rng.choice([90, 120])}, {rng.choice([0, 7])}"
+              for day in days]
     lines.append(f"[Rooms:{rooms}]")
     lines += [f"{rng.randrange(200)}, {rng.choice([0, 5])}" for _ in range(rooms)]
     lines.append("[PeriodHardConstraints]")

@@ -2,11 +2,11 @@
 """gate_times.py COMMAND ..: what a run of the gate takes, crate by crate.
 
 Runs the command in a session of its own, and looks twice a second at the prover's processes of that
-session. In the end it prints a row for each crate: seconds of processor for proofs, for tests and for
-the wrong bodies of the gate, then the seconds of the whole run beside the gate's budget, and how long
-a Python loop of 5,000,000 additions took. Proofs that an earlier run kept take nothing: only a run
-from nothing (`rt ci --anew` in ./test, or a machine that has kept none) is measured against the
-budget."""
+session. In the end it prints a row for each crate: seconds of processor for proofs, for tests and
+for the wrong bodies of the gate, then the seconds of the whole run beside the gate's budget, and
+how long a Python loop of 5,000,000 additions took. Proofs that an earlier run kept take nothing:
+only a run from nothing (`rt ci --anew` in ./test, or a machine that has kept none) is measured
+against the budget."""
 import resource
 import subprocess
 import sys
@@ -31,7 +31,8 @@ def main(words):
     loops.append(loop())
     print(table(seen))
     used = resource.getrusage(resource.RUSAGE_CHILDREN)
-    print(f"{used.ru_utime + used.ru_stime:,.0f} s of processor in all; the budget from nothing is {BUDGET:,} s")
+    print(f"{used.ru_utime + used.ru_stime:,.0f} s of processor in all; the budget from nothing is "
+          f"{BUDGET:,} s")
     print(f"{minutes:.1f} minutes; the loop took {loops[0]:.2f} s before, {loops[1]:.2f} s after")
     return run.returncode
 
@@ -44,7 +45,8 @@ def loop():
 
 
 def provers(session):
-    """Each prover that a run of rt began in a session: its crate, its kind and its seconds so far."""
+    """Each prover that a run of rt began in a session: its crate, its kind and its seconds so
+    far."""
     found = {}
     for at in Path("/proc").glob("[0-9]*"):
         try:

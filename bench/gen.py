@@ -14,8 +14,8 @@ from collections import namedtuple
 
 Shape = namedtuple("Shape", "exams students periods rooms pairs period_rules room_rules weights")
 
-# weights: two in a row, two in a day, period spread, mixed durations, of the front load the exams, the
-# periods and the weight, and over night, if it has one
+# weights: two in a row, two in a day, period spread, mixed durations, of the front load the exams,
+# the periods and the weight, and over night, if it has one
 SHAPES = {
     "set1": Shape(607, 7_891, 54, 7, 32_380, 12, 0, (7, 5, 5, 10, (100, 30, 5))),
     "set2": Shape(870, 12_743, 40, 49, 37_379, 12, 2, (15, 5, 1, 25, (250, 30, 5))),
@@ -29,7 +29,8 @@ SHAPES = {
     "limits": Shape(2_000, 60_000, 200, 200, 200_000, 5_000, 1_000, (7, 5, 20, 10, (250, 30, 5))),
     "dense": Shape(2_000, 200, 200, 200, 200_000, 5_000, 1_000, (7, 5, 20, 10, (250, 30, 5))),
     # At the limits, with the weighting that the competition doesn't have.
-    "nights": Shape(2_000, 60_000, 200, 200, 200_000, 5_000, 1_000, (7, 5, 20, 10, (250, 30, 5), 8)),
+    "nights": Shape(2_000, 60_000, 200, 200, 200_000, 5_000, 1_000,
+                    (7, 5, 20, 10, (250, 30, 5), 8)),
     # Few large exams whose students are listed in falling order: slow where each is inserted at
     # its place.
     "backwards": Shape(4, 100_000, 200, 200, 200_000, 2, 0, (7, 5, 20, 10, (2, 30, 5))),

@@ -8,9 +8,8 @@ import pathlib
 import sys
 import tempfile
 
-from checkers import ORACLE, TOP, Answer, ask, baselines, difference, program
-
-sys.path.insert(0, str(TOP / "tests"))
+from checkers import ORACLE, Answer, ask, baselines, difference, program
+# In tests/, which checkers adds to the path.
 from cases import Cases
 from check_cases import FAULTS, PARTS, REPORTS
 

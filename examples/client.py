@@ -63,7 +63,8 @@ def day(url):
     published = office.ask("POST", "/drafts/1/publish")
     yield f"published; {published['changed']} candidates have new seats"
     for exam in Office(url, "cand:2").ask("GET", "/me")["exams"]:
-        yield f"candidate 2: exam {exam['exam']} on {exam['date']} at {exam['start']}, seat {exam['seat']}"
+        yield (f"candidate 2: exam {exam['exam']} on {exam['date']} at {exam['start']}, "
+               f"seat {exam['seat']}")
     batch = b"student,exam,action\n1,0,drop\n"
     for time in ("once", "again"):
         counts = office.ask("PUT", "/batches/8", batch)

@@ -1,8 +1,8 @@
 #!/usr/bin/env python3
 """The invariants of the architecture that docs/ARCHITECTURE.md states, compared with the crates.
 
-The libraries of a crate are read from crates.txt, what it names from the `use` lines of its sources,
-definitions and proofs. The list of the crates has to have the order of crates.txt.
+The libraries of a crate are read from crates.txt, what it names from the `use` lines of its
+sources, definitions and proofs. The list of the crates has to have the order of crates.txt.
 Prints a line for each failure; status 1 if there is one.
 """
 
@@ -21,7 +21,8 @@ SQL_LIBRARIES = {
 }
 # Who may name a connection, a store, a database and its values besides.
 SQLITE_NAMERS = SQL_CRATES | {
-    "office_records", "office_store", "office_desk", "office_http", "office_program", "worked_offices",
+    "office_records", "office_store", "office_desk", "office_http", "office_program",
+    "worked_offices",
     "worked_desks",
 }
 
@@ -103,7 +104,8 @@ def only_the_calendar_loads_jiff(crates, knows):
 
 
 def sql_is_known_below(crates, knows):
-    """SQL is known by the crates of the schema and the statements, SQLite by those of the office."""
+    """SQL is known by the crates of the schema and the statements, SQLite by those of the
+    office."""
     for crate in crates:
         if crate in SQL_CRATES:
             continue
@@ -182,7 +184,8 @@ def main():
     for invariant in INVARIANTS:
         judged.add(1, [f"{invariant.__name__}: {fault}" for fault in invariant(crates, knows)])
     page = TOP / "docs" / "ARCHITECTURE.md"
-    faults = (*stands_above(crates), *disorder("the list of docs/ARCHITECTURE.md", drawn(page, crates), crates))
+    faults = (*stands_above(crates),
+              *disorder("the list of docs/ARCHITECTURE.md", drawn(page, crates), crates))
     judged.add(1, [f"order: {fault}" for fault in faults])
     return judged.end("invariants, the order of the crates among them")
 

@@ -9,15 +9,10 @@ import shutil
 import socket
 import time
 
-import debian  # noqa: F401
+import debian
 
-try:
-    from selenium import webdriver
-    from selenium.webdriver.chrome.service import Service
-    from selenium.webdriver.common.action_chains import ActionChains
-    from selenium.webdriver.common.by import By
-except ImportError:
-    webdriver = None
+selenium = debian.module("selenium.webdriver")
+chrome = debian.module("selenium.webdriver.chrome.service")
 
 # Long, because a busy machine needs seconds to show a page.
 SECONDS = 120
@@ -38,7 +33,7 @@ def missing():
     """Which of the Debian packages aren't installed."""
     programs = {"chromium": "chromium", "chromedriver": "chromium-driver"}
     return [*(package for name, package in programs.items() if not shutil.which(name)),
-            *(["python3-selenium"] if webdriver is None else [])]
+            *(["python3-selenium"] if selenium is None else [])]
 
 
 def free_port():
@@ -62,7 +57,8 @@ def until(what, is_so):
 
 @contextlib.contextmanager
 def starting(folder):
-    """A browser that starts while other tests run: what waits for it; None if something is missing."""
+    """A browser that starts while other tests run: what waits for it; None if something is
+    missing."""
     if missing():
         yield None
         return
@@ -75,20 +71,21 @@ def starting(folder):
 
 
 class Browser:
-    """A browser. For each reader it opens a host of their own, so that none has another's password."""
+    """A browser. For each reader it opens a host of their own, so that none has another's
+    password."""
 
     def __init__(self, folder):
         folder = pathlib.Path(folder)
-        options = webdriver.ChromeOptions()
+        options = selenium.ChromeOptions()
         options.binary_location = shutil.which("chromium")
         for word in ("--headless=new", "--no-sandbox", "--disable-dev-shm-usage", "--disable-gpu",
                      "--hide-scrollbars", f"--user-data-dir={folder / 'browser'}",
                      "--host-resolver-rules=MAP *.localhost 127.0.0.1, MAP * ~NOTFOUND"):
             options.add_argument(word)
         options.set_capability("goog:loggingPrefs", {"browser": "ALL"})
-        service = Service(shutil.which("chromedriver"),
-                          env={**os.environ, "TZ": ZONE, "TMPDIR": str(folder)})
-        self.driver = webdriver.Chrome(service=service, options=options)
+        service = chrome.Service(shutil.which("chromedriver"),
+                                 env={**os.environ, "TZ": ZONE, "TMPDIR": str(folder)})
+        self.driver = selenium.Chrome(service=service, options=options)
         self.driver.set_script_timeout(SECONDS)
         self.readers, self.clock = 0, None
         self.agent = self.run("return navigator.userAgent")
@@ -142,19 +139,19 @@ class Browser:
                         selector)
 
     def click(self, selector):
-        self.driver.find_element(By.CSS_SELECTOR, selector).click()
+        self.driver.find_element("css selector", selector).click()
 
     def types(self, selector, text):
         """Types into a field; into one for files, the path of one."""
-        self.driver.find_element(By.CSS_SELECTOR, selector).send_keys(text)
+        self.driver.find_element("css selector", selector).send_keys(text)
 
     def press(self, *keys):
         """Presses keys, one after another, wherever the focus is."""
-        ActionChains(self.driver, duration=0).send_keys(*keys).perform()
+        selenium.ActionChains(self.driver, duration=0).send_keys(*keys).perform()
 
     def complaints(self, *sources):
-        """What the console got from these sources, else from all but the network, which reports each
-        refusal."""
+        """What the console got from these sources, else from all but the network, which reports
+        each refusal."""
         return [entry["message"] for entry in self.driver.get_log("browser")
                 if (entry["source"] in sources if sources else entry["source"] != "network")]
 

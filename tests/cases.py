@@ -19,7 +19,8 @@ class Cases:
         self.count += 1
         if expected != got:
             self.failed += 1
-            print(f"{self.about}: {name}", f"  expected {shown(expected)}", f"  got      {shown(got)}",
+            print(f"{self.about}: {name}", f"  expected {shown(expected)}",
+                  f"  got      {shown(got)}",
                   sep="\n", flush=True)
 
     def add(self, count, faults):
@@ -43,7 +44,8 @@ class Cases:
         return made
 
     def end(self, what="cases"):
-        """Prints the line that counts the cases, and returns the status: 1 if one failed or none was run."""
+        """Prints the line that counts the cases, and returns the status: 1 if one failed or none
+        was run."""
         print(f"{self.about}: {self.count} {what}, {self.failed} failed")
         return int(self.failed > 0 or self.count == 0)
 

@@ -1,6 +1,7 @@
 """Small instances and solutions with known answers: what `check` prints of them.
 
-Each answer follows from the rules by hand: a report by docs/RULES.md, a fault by docs/FORMATS.md."""
+Each answer follows from the rules by hand: a report by docs/RULES.md, a fault by
+docs/FORMATS.md."""
 import pathlib
 
 TOP = pathlib.Path(__file__).resolve().parent.parent
@@ -62,7 +63,8 @@ REPORTS = {
     "too early": (SMALL, EARLY, ["After 1 0"], [0, 0, 3, 0, 0, 4, 20, 7]),
     "smallest": (SMALLEST, "0,0", [], [0] * 8),
     "clash": (SMALL, "0, 0\n0, 0\n3, 1\n2, 0\n",
-              ["Clash 0 1", "Capacity 0 0", "Capacity 1 1", "After 1 0"], [0, 5, 2, 0, 10, 0, 15, 7]),
+              ["Clash 0 1", "Capacity 0 0", "Capacity 1 1", "After 1 0"],
+              [0, 5, 2, 0, 10, 0, 15, 7]),
     "not alone": (with_rules(EXCLUSIONS, ALONE), TOGETHER,
                   ["Exclusion 2 3", "RoomExclusive 2 3"], [7, 0, 3, 0, 10, 0, 10, 14]),
     "not alone, by lines that come twice":

@@ -1,9 +1,10 @@
 #!/usr/bin/env python3
 """What a crate cites of another's specs/ and proofs/, compared with the pages that define it.
 
-Each word that another crate cites has to be defined by the page that is named, and each word of specs/
-needs a comment: docs/generated/WORDS.md shows it. Types and constants of the code (`declared`) are left
-out. A citation is a path of a `use`, or one in an attribute of a tactic (`using`, `unfolding`).
+Each word that another crate cites has to be defined by the page that is named, and each word of
+specs/ needs a comment: docs/generated/WORDS.md shows it. Types and constants of the code
+(`declared`) are left out. A citation is a path of a `use`, or one in an attribute of a tactic
+(`using`, `unfolding`).
 Prints a line for each failure; status 1 if there is one.
 """
 
@@ -16,13 +17,15 @@ from cases import Cases
 
 TOP = pathlib.Path(__file__).resolve().parent.parent
 CITED = re.compile(
-    r"\bRattle\.([a-z][a-z0-9_]*)\.(specs|proofs)\.((?:[A-Za-z0-9_]+\.)*[A-Za-z0-9_]+)(?:\.\{([^}]*)\})?"
+    r"\bRattle\.([a-z][a-z0-9_]*)\.(specs|proofs)\.((?:[A-Za-z0-9_]+\.)*[A-Za-z0-9_]+)"
+    r"(?:\.\{([^}]*)\})?"
 )
 IN_ATTRIBUTE = re.compile(r"\b([a-z][a-z0-9_]*)::(specs|proofs)::([A-Za-z0-9_:]+)::([A-Za-z0-9_]+)")
 # what the code declares, and what a derive writes for it
 OF_THE_CODE = ("declared", "contracts")
 # what a definition or a lemma begins with, and a field of a record or a variant
-HEAD = re.compile(r"( *)(?:(?:pub|abbrev|unfoldable|opaque|data|record) +)+([^\s:(){}]+)(?=[\s:({])")
+HEAD = re.compile(r"( *)(?:(?:pub|abbrev|unfoldable|opaque|data|record) "
+                  r"+)+([^\s:(){}]+)(?=[\s:({])")
 MEMBER = re.compile(r"  ((?:[^\s:(){}]+ )+):")
 WITH_MEMBERS = re.compile(r"(?:\w+ )*(?:data|record) ")
 ATTRIBUTES = re.compile(r"\b(?:pub|abbrev|unfoldable|opaque) +")
@@ -36,7 +39,8 @@ def listed():
 
 
 def cited_words(crates):
-    """The names that other crates cite of each page, by crate, folder and page; of a variant, its type's."""
+    """The names that other crates cite of each page, by crate, folder and page; of a variant, its
+    type's."""
     found = {}
     for crate in crates:
         for cited, folder, page, word in citations(crate, crates):
@@ -46,7 +50,8 @@ def cited_words(crates):
 
 
 def citations(crate, crates):
-    """The crate, folder, page and word of each citation of another crate; without a word, the page's name."""
+    """The crate, folder, page and word of each citation of another crate; without a word, the
+    page's name."""
     for path in sources(crate):
         text = path.read_text()
         for cited, folder, page, words in CITED.findall(text) + IN_ATTRIBUTE.findall(text):
@@ -72,7 +77,8 @@ def definitions(path):
         if at is not None and HEAD.match(lines[at])[2] not in ("mod", "use"):
             lines = [line.removeprefix(HEAD.match(lines[at])[1]) for line in lines]
             kept = type_of(lines[at:])
-            members = [name for line in kept[1:] if (found := MEMBER.match(line)) for name in found[1].split()]
+            members = [name for line in kept[1:] if (found := MEMBER.match(line))
+                       for name in found[1].split()]
             comment = [line.lstrip() for line in lines[:at] if line.lstrip().startswith("--")]
             yield {bare(HEAD.match(lines[at])[2]), *members}, comment, kept
 
@@ -80,7 +86,8 @@ def definitions(path):
 def parameters(module):
     """The head of a module as a comment."""
     text = f"what follows takes {' '.join(module[2].split())} first"
-    return "".join(f"{module[1]}  -- {line}\n" for line in textwrap.wrap(text, 96, break_long_words=False))
+    return "".join(f"{module[1]}  -- {line}\n" for line in textwrap.wrap(text, 96,
+                                                                         break_long_words=False))
 
 
 def type_of(lines):
@@ -96,7 +103,8 @@ def bare(name):
 
 
 def faults(crate, folder, page, names):
-    """The cited words of a page that it doesn't define, and those of specs/ that have no comment."""
+    """The cited words of a page that it doesn't define, and those of specs/ that have no
+    comment."""
     path = TOP / "crates" / crate / folder / f"{page}.antt"
     if not path.exists():
         yield f"{crate} has no {folder}/{page}"

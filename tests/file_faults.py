@@ -1,4 +1,5 @@
-"""file_faults.py: for a fault of a file, a line of examples/small.exam and a text that has this fault in its place.
+"""file_faults.py: for a fault of a file, a line of examples/small.exam and a text that has this
+fault in its place.
 
 `./pages` shows them in docs/generated/FAULTS.md; run_program.py has the program judge each.
 """

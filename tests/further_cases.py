@@ -1,9 +1,9 @@
-"""Further cases of the office over sockets, which run_serve.py sends and no sweep does: streams that are
-no plain requests, edits and owners, and the texts of batches."""
+"""Further cases of the office over sockets, which run_serve.py sends and no sweep does: streams
+that are no plain requests, edits and owners, and the texts of batches."""
 from serve_cases import (
     COINCIDING, EMPTY, FROM_SOLUTION, NIGHTLY, NIGHTS, PENALTY, SHOWN, SMALL, SMALLEST, VIOLATIONS,
-    asked_by, at, bad_file, batch, broken, case, clear, cost, drafted, enrolled, error, forbidden, me,
-    message, move, place, publish, published, reply, report, swap, text)
+    asked_by, bad_file, batch, broken, case, clear, cost, drafted, enrolled, error, forbidden,
+    me, message, move, place, publish, published, reply, report, swap, text)
 
 ASKED = asked_by(99), me(99, 0)
 REQUEST, LENGTH = error(400, "request"), error(413, "length")
@@ -25,7 +25,8 @@ def longest_head():
 STREAMS = {
     "a transfer encoding without a host": (fields("Transfer-Encoding: chunked"), REQUEST),
     "two hosts": (fields("Host: a", "Host: a"), REQUEST),
-    "two lengths": (fields("Host: a", "Content-Length: 5", "Content-Length: 5") + b"abcde", REQUEST),
+    "two lengths": (fields("Host: a", "Content-Length: 5", "Content-Length: 5") + b"abcde",
+                    REQUEST),
     "two lengths in one field": (fields("Host: a", "Content-Length: 5, 5") + b"abcde", REQUEST),
     "an empty length": (fields("Host: a", "Content-Length:"), REQUEST),
     "a length with a sign": (fields("Host: a", "Content-Length: +5") + b"abcde", REQUEST),
@@ -37,7 +38,8 @@ STREAMS = {
     "33 fields": (fields("Host: a", *["A: b"] * 32), REQUEST),
     "the longest head": (longest_head(), ASKED[1]),
     "a head that is a byte longer": (b"\n" + longest_head(), REQUEST),
-    "two callers": (fields("Host: a", "X-Caller: office", "X-Caller: office"), error(400, "caller")),
+    "two callers": (fields("Host: a", "X-Caller: office", "X-Caller: office"),
+                    error(400, "caller")),
     "a body that is cut": (fields("Host: a", "Content-Length: 10") + b"123456789", b""),
     "the older HTTP, and no answer to what follows":
         (b"GET /me HTTP/1.0\r\nX-Caller: cand:99\r\n\r\nGET", ASKED[1]),
@@ -52,8 +54,8 @@ STREAMS = {
 CONNECTIONS = {"close": False, "Close": False, "keep-alive ,\tCLOSE": False, "closed": True,
                "keep-alive": True}
 
-# Three exams: students 100 to 399 sit exams 0 and 1, and of these 100 to 199 sit exam 2 too. Periods
-# 0 to 2 are of one day, 3 is of the next.
+# Three exams: students 100 to 399 sit exams 0 and 1, and of these 100 to 199 sit exam 2 too.
+# Periods 0 to 2 are of one day, 3 is of the next.
 CROWDED = "\n".join([
     "[Exams:3]", *(", ".join(map(str, [60, *range(100, end)])) for end in (400, 400, 200)),
     "[Periods:4]", "15:04:2005, 09:30:00, 60, 0", "15:04:2005, 12:00:00, 60, 0",
@@ -106,8 +108,8 @@ EDITS = [
          (clear(2), drafted(200, 26)),
          (clear(3), drafted(200, 10)),
          (VIOLATIONS, text("breaches 4\nClash 0 1\nCapacity 0 0\nCapacity 1 1\nAfter 1 0\n"))),
-    # Row 7, day 5, spread 3, front load 4, periods 15 and rooms 7. Exam 1 has 7 and 2 of these, then
-    # exam 2 5 and 7, then exam 3 5 and 1.
+    # Row 7, day 5, spread 3, front load 4, periods 15 and rooms 7. Exam 1 has 7 and 2 of these,
+    # then exam 2 5 and 7, then exam 3 5 and 1.
     case("exams that are not placed break nothing, beside one that is too long", SMALL,
          (draft(1, b"2, 0\n1, 0\n3, 1\n0, 0\n"), drafted(201, 41)),
          (clear(1), drafted(200, 32)),
@@ -120,8 +122,8 @@ EDITS = [
          (move(3, 3, 1), drafted(200, 36)),
          (move(0, 0, 1), broken("Coincidence", 0, 1)),
          (clear(0), drafted(200, 35))),
-    # Exams 0 and 1 share 300 students, and exam 2 shares 100 with either. By the periods of exams 0,
-    # 1 and 2, what each two of them cost:
+    # Exams 0 and 1 share 300 students, and exam 2 shares 100 with either. By the periods of exams
+    # 0, 1 and 2, what each two of them cost:
     #   0, 1, 3: 0 and 1 in a row and in the spread, 1 and 2 in the spread: 300 * (7 + 1) + 100
     #   0, 2, 3: 0 and 1 in a day and in the spread, 1 and 2 in the spread: 300 * (5 + 1) + 100
     #   -, 2, 3: 1 and 2 in the spread: 100
@@ -204,7 +206,8 @@ ALIKE = [
 FAULTY = {
     b"": (11, 1), b"\n\n": (11, 1), b"1,1,add": (11, 1), b"exam,student,action\n1,1,add": (11, 1),
     b"student,exam,action,note": (11, 1), b"student,exam\n1,1,add": (11, 1),
-    HEADER + b"x,2000,move": (4, 2), HEADER + b",1,add": (4, 2), HEADER + b"1000000000,x,add": (8, 2),
+    HEADER + b"x,2000,move": (4, 2), HEADER + b",1,add": (4, 2),
+    HEADER + b"1000000000,x,add": (8, 2),
     HEADER + b"1,-1,add": (4, 2), HEADER + b"1,2000,move": (8, 2), HEADER + b"1,1,move,x": (7, 2),
     HEADER + b"1,1": (7, 2), HEADER + b"1,1,add,x": (10, 2), HEADER + b"1,1,add,,": (10, 2),
     HEADER + b"\n1,1,add\n\n1,1,": (7, 3), HEADER + b" \n1,1,add": (4, 2), HEADER + b'""': (4, 2),

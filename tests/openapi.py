@@ -1,10 +1,10 @@
 #!/usr/bin/env python3
 """openapi.py: docs/openapi.yaml says what the source and docs/FORMATS.md say, no more and no less.
 
-Paths, methods and callers are compared with the routes and the policy in the source, statuses and errors with
-docs/FORMATS.md, each example with its schema, and the schemas are judged; a difference is printed, and the last line
-counts the comparisons. For other tests `Described` judges an exchange by that file: whether it has the request, and
-the reply's status, type and body.
+Paths, methods and callers are compared with the routes and the policy in the source, statuses and
+errors with docs/FORMATS.md, each example with its schema, and the schemas are judged; a difference
+is printed, and the last line counts the comparisons. For other tests `Described` judges an
+exchange by that file: whether it has the request, and the reply's status, type and body.
 
 Debian's python3-yaml and python3-jsonschema read it. Without them a line says that it is left out,
 and `Described` finds no fault.
@@ -14,17 +14,10 @@ import pathlib
 import re
 import sys
 
-import debian  # noqa: F401
+import debian
 from cases import Cases
 
-try:
-    import yaml
-except ImportError:
-    yaml = None
-try:
-    import jsonschema
-except ImportError:
-    jsonschema = None
+yaml, jsonschema = debian.module("yaml"), debian.module("jsonschema")
 
 TOP = pathlib.Path(__file__).resolve().parent.parent
 REQUESTS = TOP / "crates" / "office_requests" / "src"
@@ -149,11 +142,14 @@ def routes():
 def callers():
     """Of the source: the callers that the policy permits each method of each path."""
     policy = (POLICY / "policy.rt").read_text().split("fn kind(")[1].split("\n    }\n")[0]
-    rows = re.findall(r"((?:Command::\w+(?:\([^)]*\))?(?: \| )?)+|_) => (?:\{\s*)?Kind::(\w+)", policy)
-    kinds = {command: kind for names, kind in rows for command in re.findall(r"Command::(\w+)", names)}
+    rows = re.findall(r"((?:Command::\w+(?:\([^)]*\))?(?: \| )?)+|_) => (?:\{\s*)?Kind::(\w+)",
+                      policy)
+    kinds = {command: kind for names,
+             kind in rows for command in re.findall(r"Command::(\w+)", names)}
     rest, found, path_of = dict(rows)["_"], {}, pages()
     table = (REQUESTS / "commands.rt").read_text()
-    for verb, page, command in re.findall(r"\(Verb::(\w+), Page::(\w+)\) =>.*?Command::(\w+)", table, re.S):
+    for verb, page, command in re.findall(r"\(Verb::(\w+), Page::(\w+)\) =>.*?Command::(\w+)",
+                                          table, re.S):
         found[path_of[page], verb.lower()] = CALLERS[kinds.get(command, rest)]
     return found
 

@@ -1,8 +1,9 @@
 #!/usr/bin/env python3
 """The code that pages of docs/ quote, compared with the source.
 
-A block that begins with ```quote FILE, a file below crates/, has to be in that file as it is, except for
-the indentation of the whole block. Prints a line for each failure; status 1 if there is one.
+A block that begins with ```quote FILE, a file below crates/, has to be in that file as it is,
+except for the indentation of the whole block. Prints a line for each failure; status 1 if there is
+one.
 """
 import pathlib
 import re

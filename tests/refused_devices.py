@@ -115,8 +115,8 @@ def call_in_turn(run, name, path, question, first=()):
     """A message, while each of its calls of the disk is refused in turn. If it is answered, all
     that was written is synced, and the next process finds it done. Otherwise the reply is 503, or
     none comes, and the next process finds the office before the message or after it. Until then the
-    office shows what it did before, or it has ended, with store fault 8 and status 1. As long as the
-    disk refuses all calls, each question may be answered 503, but no longer."""
+    office shows what it did before, or it has ended, with store fault 8 and status 1. As long as
+    the disk refuses all calls, each question may be answered 503, but no longer."""
     office = Office(run, path, first=first)
     before, answer, after = office.shown(), office.reply(question), office.shown()
     office.ending()
@@ -186,8 +186,8 @@ def version_of(run, path):
 
 
 def migration(run):
-    """An export from a file of version 1, likewise. The file is then of version 1 or 2, and the next
-    process finds the same office."""
+    """An export from a file of version 1, likewise. The file is then of version 1 or 2, and the
+    next process finds the same office."""
     path = run.folder / "old.db"
     copy_database(VERSION_1, path)
     words = "export", "--db", path
@@ -199,9 +199,10 @@ def migration(run):
             run.refuse(DISK, k, *how)
             ending = run.ending(*words)
             refused, version = run.stop_refusing(DISK), version_of(run, path)
-            outcome = f"{'exported' if ending == ample else 'refused'} and of version {version[0][0]}"
+            outcome = "exported" if ending == ample else "refused"
             may_be = [[(2,)]] if ending == ample else [[(1,)], [(2,)]]
-            run.record(outcome, f"migration, {call(k, *how)}", (True, True, shown),
+            run.record(f"{outcome} and of version {version[0][0]}",
+                       f"migration, {call(k, *how)}", (True, True, shown),
                        (ending == ample or refused and ending in faults or ending,
                         version in may_be or version, found(run, path)))
             if not refused:

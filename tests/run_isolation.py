@@ -4,10 +4,10 @@
 Each round makes two offices at random that agree on one candidate's view and on little else: exams,
 rooms, rules, other candidates and places differ. She asks the same in both, and the same batches
 change her enrolments, amid others' requests that are quiet for her and differ too. Her replies are
-held against the text of her view, worked out here, byte for byte. Then, after another publication in
-half of the rounds, the shares that stock sqlite3 finds are summed, and held against the penalty that
-the program's `check` prints for the exported timetable with the published enrolments. A failing case
-is printed with what was expected and what came, and the last line counts the cases.
+held against the text of her view, worked out here, byte for byte. Then, after another publication
+in half of the rounds, the shares that stock sqlite3 finds are summed, and held against the penalty
+that the program's `check` prints for the exported timetable with the published enrolments. A
+failing case is printed with what was expected and what came, and the last line counts the cases.
 """
 import argparse
 import functools

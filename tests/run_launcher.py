@@ -1,11 +1,11 @@
 #!/usr/bin/env python3
-"""run_launcher.py LAUNCHER: whether the launcher builds when it must, runs the release at once, passes
-every word on, installs what belongs to the program, and compares release and sources only when it
-is asked; and whether `release/check` distinguishes one release from another.
+"""run_launcher.py LAUNCHER: whether the launcher builds when it must, runs the release at once,
+passes every word on, installs what belongs to the program, and compares release and sources only
+when it is asked; and whether `release/check` distinguishes one release from another.
 
 It runs copies of the launcher and of the files of `release/` beside it in a repository of its own,
-with a stand-in for `rt` that writes a stand-in program, so nothing is proved here. Each failing case
-is printed with what was expected and what came, and the last line counts the cases.
+with a stand-in for `rt` that writes a stand-in program, so nothing is proved here. Each failing
+case is printed with what was expected and what came, and the last line counts the cases.
 """
 import os
 import pathlib
@@ -191,8 +191,9 @@ def releases(repository, banned):
     yield ("the program is not what its sources are built to", 1, repository.checked()[0])
     kit = repository.top / "release" / "KIT"
     kit.write_text("another kit\n")
-    yield ("a release of another kit can't be compared", (0, "release: it is whole, and was built with another "
-           "kit (another kit), so its bytes are not compared\n"), repository.checked())
+    yield ("a release of another kit can't be compared",
+           (0, "release: it is whole, and was built with another kit (another kit), so its bytes "
+            "are not compared\n"), repository.checked())
     kit.write_text("a kit\n")
     with open(repository.top / "release" / "examoffice", "a", encoding="utf-8") as program:
         program.write("\n")
@@ -212,7 +213,8 @@ def released_calls(repository, banned):
     (worked / "lib.rt").write_text("\n")
     (repository.top / "crates.txt").write_text("# Still one crate.\nexamoffice:\n")
     yield "tests are none of its sources", "", repository.call("--version").stderr
-    for case, text, said in (("an edit", "\n\n\n", OLDER), ("an edit that is taken back", "\n\n", "")):
+    for case, text, said in (("an edit", "\n\n\n", OLDER),
+                             ("an edit that is taken back", "\n\n", "")):
         repository.source.write_text(text)
         done = repository.call(path=banned)
         yield (f"the release runs at once: {case}", (0, shown, "", builds),
@@ -221,7 +223,8 @@ def released_calls(repository, banned):
     for words in (("--prefix", str(repository.caller)), (f"--prefix={repository.caller}",)):
         done = repository.call("install", *words)
         yield (f"it is installed: {words[0]}",
-               (0, f"installed {repository.caller}/bin/examoffice\n"), (done.returncode, done.stdout))
+               (0, f"installed {repository.caller}/bin/examoffice\n"),
+               (done.returncode, done.stdout))
         found = sorted(str(it.relative_to(repository.caller)) for it in repository.caller.rglob("*")
                        if it.is_file())
         yield f"what is installed: {words[0]}", INSTALLED, found
@@ -240,8 +243,8 @@ def asked_builds(repository):
     yield ("a build is asked for", (0, "", builds, OLDER.split(";")[0]),
            (done.returncode, done.stdout, repository.builds(), done.stderr.splitlines()[0]))
     empty = f"{repository.caller}\n0\n[]\n"
-    yield "a program that was built runs", (0, empty, False, builds), told(repository,
-                                                                          repository.call())
+    yield ("a program that was built runs", (0, empty, False, builds),
+           told(repository, repository.call()))
     yield ("a build is asked for again", (0, "", False, builds),
            told(repository, repository.call("--build")))
 

@@ -2,8 +2,8 @@
 """run_program.py PROGRAM: the whole program from outside, called from a folder of its own.
 
 Each case compares standard output, standard error and the exit status byte for byte; some have a
-terminal as standard error. What docs/generated/FAULTS.md says of the numbers of faults is asked too: its
-words of the help, its lines of the small instance. A failing case is printed with what was
+terminal as standard error. What docs/generated/FAULTS.md says of the numbers of faults is asked
+too: its words of the help, its lines of the small instance. A failing case is printed with what was
 expected and what came, and the last line counts the cases.
 """
 import json
@@ -506,7 +506,8 @@ def main():
             path.parent.mkdir(exist_ok=True)
             path.write_bytes(text)
         for case in CASES:
-            judged.judge(case.name, (case.status, case.stdout, case.stderr), run(program, case, folder))
+            judged.judge(case.name, (case.status, case.stdout, case.stderr),
+                         run(program, case, folder))
         judged.judge("an export makes no file", False, pathlib.Path(folder, "absent.db").exists())
     sys.exit(judged.end())
 

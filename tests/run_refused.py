@@ -35,8 +35,8 @@ BODIES = {
     ("PUT", "/instance"): [SMALL], ("PUT", "/exams/{e}/owner"): [b'{"dept":3}'],
     ("PUT", "/drafts/{d}"): [b"", SOLUTION],
     ("PUT", "/batches/{n}"): [batch_text("1,1,add", "1,1,add", "9,2,drop")],
-    **{("POST", f"/drafts/{{d}}/exams/{{e}}/{edit}"): [at(*place) for place in
-                                                     itertools.product(range(5), range(3))]
+    **{("POST", f"/drafts/{{d}}/exams/{{e}}/{edit}"):
+       [at(*place) for place in itertools.product(range(5), range(3))]
        for edit in ("place", "move")}}
 
 
@@ -106,7 +106,8 @@ def sweeps(states, folder):
                     (*state, ("load", "--db", "FILE", small), 1, 20))
         yield Sweep("starts of a server, every 20th allocation", memory.start, (*state, 1, 20))
     yield from sliced("a session, reads of a byte", devices.reads)
-    yield Sweep("a session, every 20th read of a byte interrupted", devices.interrupted_reads, (1, 20))
+    yield Sweep("a session, every 20th read of a byte interrupted", devices.interrupted_reads,
+                (1, 20))
     yield from sliced("a session, writes of seven bytes", devices.writes)
     for words in (("check", small, solution), ("check", faulty, solution), ("--help",),
                   ("check", "--frobnicate")):

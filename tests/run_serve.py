@@ -247,12 +247,14 @@ def nights_are_kept(run):
     which one was altered is no office's."""
     costs = report(7, 5, 3, 0, 0, 15, 7, 43, night=6)
     shown_again = [(PENALTY, text(costs)), (SHOWN[1], text(costs)),
-                   (asked_by(2, "/penalty"), cost(0, 5, 1)), (asked_by(3, "/penalty"), cost(0, 0, 1, 6))]
+                   (asked_by(2, "/penalty"), cost(0, 5, 1)),
+                   (asked_by(3, "/penalty"), cost(0, 0, 1, 6))]
     database = served_again(
         run, "nights that are kept",
         [(message("PUT", "/drafts/1", NIGHTLY), drafted(201, 43)), (publish(), published(3, 43)),
          *shown_again], [*shown_again, (publish(), published(0, 43)), *shown_again], NIGHTS)
-    for change in ("UPDATE night_draft SET night = 0", "UPDATE night_share SET night = 5 WHERE student = 3",
+    for change in ("UPDATE night_draft SET night = 0",
+                   "UPDATE night_share SET night = 5 WHERE student = 3",
                    "UPDATE night_share SET night = 3 WHERE student > 1"):
         altered = run.folder / "altered.db"
         shutil.copy(database, altered)
@@ -263,7 +265,8 @@ def nights_are_kept(run):
 
 def draft_survives_adopt(run):
     """An owner and an edited draft are there when the file is served again."""
-    owner, places = message("PUT", "/exams/0/owner", b'{"dept":3}'), ((0, 0), (3, 1), (1, 0), (2, 0))
+    owner, places = message("PUT", "/exams/0/owner", b'{"dept":3}'), ((0, 0), (3, 1), (1, 0),
+                                                                      (2, 0))
     served_again(run, "draft_survives_adopt",
                  [(owner, reply(200, '{"dept":3,"exam":0}')), (FROM_SOLUTION, drafted(201, 37)),
                   (swap(1, 2), drafted(200, 30))],
@@ -407,7 +410,8 @@ def hostile_messages(run):
     """A body that is a byte too long is refused for its sender or for its length, and the next
     question on the connection is answered."""
     after = asked_by(99), me(99, 0)
-    exchanges = [(message("PUT", "/drafts/1", b"0" * 1_048_577, caller), answer) for caller, answer in
+    exchanges = [(message("PUT", "/drafts/1", b"0" * 1_048_577, caller), answer) for caller,
+                 answer in
                  (("office", error(413, "length")), ("cand:1", forbidden("P1")),
                   ("dept:3", forbidden("P2")))]
     exchanged(run, "hostile_messages, a body that is too long", run.database(None),
@@ -435,7 +439,8 @@ def longest_body(run):
             client.sendall(body[start:start + 64])
         client.shutdown(socket.SHUT_WR)
         got = rest(client)
-    run.judge("the longest body", (reply(201, '{"exams":4,"pairs":6,"periods":4,"rooms":2}'), (0, b"")),
+    run.judge("the longest body",
+              (reply(201, '{"exams":4,"pairs":6,"periods":4,"rooms":2}'), (0, b"")),
               (got, office.ended()))
 
 
@@ -512,7 +517,8 @@ def closed_streams(run):
 def publication_is_told(run):
     """A terminal as standard error gets a line before a publication in a large file, and only
     where the office asks for it; a small file is told of nowhere."""
-    for name, start, exchanges in ("a small file", SMALL, PUBLISHED), ("a large file", MANY, UNPLACED):
+    for name, start, exchanges in ("a small file", SMALL, PUBLISHED), ("a large file", MANY,
+                                                                       UNPLACED):
         reader, screen = os.openpty()
         tty.setraw(screen)
         office = run.office(start, stderr=screen, connections=1)
@@ -711,8 +717,8 @@ def drafts_of(office):
     return found
 
 
-# A hundred exams with a period each, a draft of them, and a batch that enrols a hundred candidates in
-# each: every pair of exams shares all of them.
+# A hundred exams with a period each, a draft of them, and a batch that enrols a hundred candidates
+# in each: every pair of exams shares all of them.
 HUNDRED = "\n".join(["[Exams:100]", *["60"] * 100, "[Periods:100]",
                      *["01:01:2000, 09:00:00, 60, 0"] * 100, "[Rooms:1]", "100, 0",
                      "[PeriodHardConstraints]", "[RoomHardConstraints]",
@@ -783,7 +789,8 @@ def tests_of(is_plain):
     """The tests that run side by side. Those that wait begin first, because they take longest."""
     waiting = [default_patience, patient_client, slow_clients]
     own = [stored_by_hand, adopt_after_republication, nights_are_kept, draft_survives_adopt,
-           last_message, long_message, longest_body, cut_messages, hostile_messages, batches_are_kept,
+           last_message, long_message, longest_body, cut_messages, hostile_messages,
+           batches_are_kept,
            publication_is_told]
     others = [worked_examples, stock_curl, many_connections, failing_reader_and_writer,
               port_is_taken, locked_database, closed_streams, longest_batch, most_batches,

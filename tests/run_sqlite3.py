@@ -1,11 +1,11 @@
 #!/usr/bin/env python3
 """run_sqlite3.py PROGRAM: the databases of the program beside the stock command sqlite3.
 
-What was loaded is read by sqlite3, and compared with docs/generated/TABLES.md and the small example; what
-sqlite3 wrote as drafted and published is found and exported; what a program before this one left
-becomes version 2 of the same office; a database that sqlite3 made, or changed so that it represents
-no office, is refused, and its dump by sqlite3 is then as it was. A failing case is printed with what
-was expected and what came, and the last line counts the cases.
+What was loaded is read by sqlite3, and compared with docs/generated/TABLES.md and the small
+example; what sqlite3 wrote as drafted and published is found and exported; what a program before
+this one left becomes version 2 of the same office; a database that sqlite3 made, or changed so
+that it represents no office, is refused, and its dump by sqlite3 is then as it was. A failing case
+is printed with what was expected and what came, and the last line counts the cases.
 """
 import pathlib
 import re
@@ -39,8 +39,8 @@ DRAFTED = ("INSERT INTO owner VALUES (2, 999)",
 FOUND, REFUSED = ((1, b"", b"examoffice: store fault %d\n" % fault) for fault in (1, 9))
 BATCHES = ("WITH RECURSIVE n(no) AS (VALUES (0) UNION ALL SELECT no + 1 FROM n LIMIT %d)"
            " INSERT INTO batch SELECT no, x'', 0, 0, 0 FROM n")
-# The stored session with a weight of nights at its end, which costs nothing: no two of its dates are
-# one day apart.
+# The stored session with a weight of nights at its end, which costs nothing: no two of its dates
+# are one day apart.
 NIGHTS = "UPDATE meta SET instance = CAST(instance || 'OVERNIGHT,%d' || x'0D0A' AS BLOB)"
 # What a statement makes of that office.
 CHANGES = {
@@ -98,13 +98,14 @@ PUBLISHED = ("UPDATE meta SET published = 1",
              " (2, 0, 0, 0), (2, 1, 7, 0)")
 EXPORTED = (0, b"0, 0\r\n1, 0\r\n3, 1\r\n2, 0\r\n", b"")
 NO_PUBLICATION = (1, b"", b"examoffice: no publication\n")
-# Offices of the small example as earlier releases left them, all with tables of version 1, and what an
-# export prints of each: one of 25 November 2026 with an owner, two drafts, a publication and a later
-# batch; two of 27 November 2026, the second after two publications.
+# Offices of the small example as earlier releases left them, all with tables of version 1, and
+# what an export prints of each: one of 25 November 2026 with an owner, two drafts, a publication
+# and a later batch; two of 27 November 2026, the second after two publications.
 BEFORE = {"everything": EXPORTED, "loaded": NO_PUBLICATION,
           "published_twice": (0, b"0, 0\r\n1, 0\r\n3, 1\r\n3, 1\r\n", b"")}
 PENALTY_OF_SECOND = report(7, 0, 3, 10, 0, 10, 14, 44)
-# What makes version 2 of their tables, after the statements of docs/generated/TABLES.md for the two new ones.
+# What makes version 2 of their tables, after the statements of docs/generated/TABLES.md for the
+# two new ones.
 FILLED = ("INSERT INTO night_draft SELECT no, 0 FROM draft",
           "INSERT INTO night_share SELECT student, 0 FROM share_student",
           "UPDATE meta SET version = 2")
@@ -147,8 +148,8 @@ PUBLISHED_CHANGES = {
     "INSERT INTO share_part (kind, no, penalty, mixed) VALUES (3, 0, 0, 0)": REFUSED,
     "DELETE FROM share_student; DELETE FROM night_share; DELETE FROM share_part": REFUSED,
 }
-# Another draft of the small solution; and what makes of an office with both drafts and a publication
-# tables that no office has.
+# Another draft of the small solution; and what makes of an office with both drafts and a
+# publication tables that no office has.
 SECOND_DRAFT = ("INSERT INTO draft VALUES (5, 7, 5, 3, 0, 0, 15, 7)",
                 "INSERT INTO night_draft VALUES (5, 0)",
                 "INSERT INTO slot VALUES (5, 0, 0, 0), (5, 1, 1, 0), (5, 2, 3, 1), (5, 3, 2, 0)")
@@ -279,7 +280,8 @@ def tables_that_stand_for_nothing(program, folder):
 
 
 def made_before(program, folder):
-    """What an earlier release left becomes version 2 of the same office, and is then left as it is."""
+    """What an earlier release left becomes version 2 of the same office, and is then left as it
+    is."""
     office, wanted = folder / "before.db", folder / "wanted.db"
     new_tables = [text for text in documented() if text.startswith("CREATE TABLE night_")]
     for name, exported in BEFORE.items():

@@ -1,12 +1,12 @@
 #!/usr/bin/env python3
-"""run_using.py PROGRAM [PAGE..]: whether the commands of README.md, USING.md, WEEK.md and OPERATING.md print
-what these pages say.
+"""run_using.py PROGRAM [PAGE..]: whether the commands of README.md, USING.md, WEEK.md and
+OPERATING.md print what these pages say.
 
-A page's blocks of commands are typed into one shell, in a fresh folder that has the examples, tools and
-the program. The output of each is compared with the block below it, byte for byte, except for the port,
-which is a free one, and the line end after a reply that has none. Each request has to be in
-docs/openapi.yaml, with its status and type. A failing block is printed with the expected and the actual
-output, and the last line counts the blocks.
+A page's blocks of commands are typed into one shell, in a fresh folder that has the examples,
+tools and the program. The output of each is compared with the block below it, byte for byte,
+except for the port, which is a free one, and the line end after a reply that has none. Each
+request has to be in docs/openapi.yaml, with its status and type. A failing block is printed with
+the expected and the actual output, and the last line counts the blocks.
 """
 import os
 import pathlib

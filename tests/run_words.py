@@ -1,8 +1,8 @@
 #!/usr/bin/env python3
 """run_words.py: whether `./words` prints what words of a contract mean.
 
-Each command that a page of docs/ or README.md names is run. Its page has to end with the word that was
-asked for, and may use no word of a page that it prints before that word is defined.
+Each command that a page of docs/ or README.md names is run. Its page has to end with the word that
+was asked for, and may use no word of a page that it prints before that word is defined.
 """
 import pathlib
 import re
@@ -13,7 +13,8 @@ from cases import Cases
 
 TOP = pathlib.Path(__file__).resolve().parent.parent
 NAMED = re.compile(r"\./words ([a-z_]+) ([^\s`]+)")
-HEAD = re.compile(r"^ *(?:(?:pub|abbrev|unfoldable|opaque|data|record)\s+)+([^\s:(){}]+)(?=[\s:({])")
+HEAD = re.compile(
+    r"^ *(?:(?:pub|abbrev|unfoldable|opaque|data|record)\s+)+([^\s:(){}]+)(?=[\s:({])")
 
 
 def asked(*words):
@@ -36,8 +37,10 @@ def main():
         status, text, _ = asked(crate, word)
         judged.judge(f"{crate} {word}", (0, word), (status, (defined(text) or [None])[-1]))
     _, text, _ = asked("exam_rules", "breaches_of")
-    order = [word for word in defined(text) if word in ("place_satisfies", "breaks", "pairs_breaking", "breaches_of")]
-    judged.judge("what is used comes first", ["place_satisfies", "breaks", "pairs_breaking", "breaches_of"], order)
+    order = [word for word in defined(text) if word in ("place_satisfies", "breaks",
+                                                        "pairs_breaking", "breaches_of")]
+    judged.judge("what is used comes first",
+                 ["place_satisfies", "breaks", "pairs_breaking", "breaches_of"], order)
     both = ("exam_rules", "breaks"), ("exam_score", "total_of")
     judged.judge("two words: the definitions of both", set(defined(asked(*both[0], *both[1])[1])),
                  {name for one in both for name in defined(asked(*one)[1])})

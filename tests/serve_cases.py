@@ -1,5 +1,5 @@
-"""Messages to the office and the bytes that it replies: the worked examples, and others that many tests
-ask."""
+"""Messages to the office and the bytes that it replies: the worked examples, and others that many
+tests ask."""
 import json
 import pathlib
 from collections import namedtuple
@@ -213,11 +213,13 @@ INSTANCE = message("GET", "/instance"), text(SMALL.replace(b"\n", b"\r\n"))
 SHOWN = [message("GET", f"/publication{page}") for page in ("", "/penalty", "/rooms", "/seats")]
 
 
-# What publishing stores: the name of the case, session and solution, its penalty, what sqlite3 selects.
+# What publishing stores: the name of the case, session and solution, its penalty, what sqlite3
+# selects.
 SEATS = "SELECT exam, student, period, room, seat FROM seat ORDER BY exam, student"
 SHARES = ("SELECT * FROM share_student NATURAL JOIN night_share ORDER BY student; "
           "SELECT kind, no, penalty, mixed FROM share_part ORDER BY kind, no")
-PARTS = ("SELECT * FROM draft NATURAL JOIN night_draft; SELECT sum(in_row), sum(in_day), sum(spread), "
+PARTS = ("SELECT * FROM draft NATURAL JOIN night_draft; SELECT sum(in_row), sum(in_day), "
+         "sum(spread), "
          "sum(night) FROM share_student NATURAL JOIN night_share")
 STORED = (
     ("worked_seats", SMALL, SOLUTION, 37, SEATS,

@@ -1,22 +1,24 @@
 #!/usr/bin/env python3
 """The wrong bodies that the gate does not try each time: crates/*/wrong-bodies/*.edit.
 
-    python3 tests/wrong_bodies.py try [CRATE..]   tries those of these crates, or of all, that were not
+    python3 tests/wrong_bodies.py try [CRATE..]   tries those of these crates, or of all, that were
+    not
                                                   refused with these sources before
     python3 tests/wrong_bodies.py current         lists those that have to be tried
 
 A crate is proved first, without an edit. Then its edits are tried in a copy, over what that proof
 kept, so that a check proves what an edit touches; each must be refused by the prover. A function is
-proved from its own body and from the contracts of what it calls, so edits of different functions are
-tried together, in one check: an edit is refused if a goal of its own function stays open. That this
-function calls another that is not proved doesn't count. What is not refused so is tried alone, and is
-refused if a goal of any function stays open, that of a caller, say; the rest is left to
-`rt must-fail`. All checks of a crate, and crates, run side by side.
+proved from its own body and from the contracts of what it calls, so edits of different functions
+are tried together, in one check: an edit is refused if a goal of its own function stays open. That
+this function calls another that is not proved doesn't count. What is not refused so is tried
+alone, and is refused if a goal of any function stays open, that of a caller, say; the rest is left
+to `rt must-fail`. All checks of a crate, and crates, run side by side.
 
-wrong-bodies/TRIED has a line for each edit that was refused: a hash of the crate's sources and of the
-edit without its two head lines, and the edit's name. So an edit that is added or changed is tried by itself, and a change of the
-sources makes all edits of the crate to be tried again. Those in wrong-bodies/waiting/ are new, or were refused with earlier sources, and
-wait for a longer run: `current` counts them, and `try` takes them back."""
+wrong-bodies/TRIED has a line for each edit that was refused: a hash of the crate's sources and of
+the edit without its two head lines, and the edit's name. So an edit that is added or changed is
+tried by itself, and a change of the sources makes all edits of the crate to be tried again. Those
+in wrong-bodies/waiting/ are new, or were refused with earlier sources, and wait for a longer run:
+`current` counts them, and `try` takes them back."""
 import hashlib
 import os
 import re
@@ -61,7 +63,8 @@ def main(words):
 
 
 def crates_with_edits():
-    return sorted(at.parent.name for at in ROOT.glob("crates/*/wrong-bodies") if any(at.rglob("*.edit")))
+    return sorted(at.parent.name
+                  for at in ROOT.glob("crates/*/wrong-bodies") if any(at.rglob("*.edit")))
 
 
 def waiting(name):
@@ -78,11 +81,13 @@ def say_current(crates):
     for name in crates:
         judged.add(len(edits_of(name)),
                    [f"{name}: {at.stem} has to be tried" for at in untried(name)]
-                   + [f"{name}: {at.stem}: {file} has no such text: {old}" for at, file, old in misplaced(name)])
+                   + [f"{name}: {at.stem}: {file} has no such text: {old}" for at, file,
+                      old in misplaced(name)])
     if late:
         print(f"wrong bodies: run ./test wrong {' '.join(late)}", file=sys.stderr)
     for name in filter(waiting, crates):
-        print(f"wrong bodies: {len(waiting(name))} wait: ./test wrong {name} tries them", file=sys.stderr)
+        print(f"wrong bodies: {len(waiting(name))} wait: ./test wrong {name} tries them",
+              file=sys.stderr)
     return judged.end("edits")
 
 
@@ -95,7 +100,8 @@ def try_all(names):
     if not are_proved(names):
         print(f"wrong bodies: 0 refused, {wanted} not refused")
         return 1
-    print(f"wrong bodies: their crates proved, {(time.monotonic() - begun) / 60:.1f} minutes", flush=True)
+    print(f"wrong bodies: their crates proved, {(time.monotonic() - begun) / 60:.1f} minutes",
+          flush=True)
     names = sorted(names, key=lambda name: -len(untried(name)) * size_of(name))
     # the crates' threads only wait for their checks
     with ThreadPoolExecutor(lanes()) as checks, ThreadPoolExecutor(len(names) or 1) as crates:
@@ -134,7 +140,8 @@ def try_crate(name, checks):
         said = checks.submit(must_fail, copies, left).result() if left else ""
     late = re.findall(rf"must-fail {name}/(\S+?)(?:\.edit)?: refused, as it must be", said)
     refused += [edit for edit in left if edit.at.stem in late]
-    print(f"{said}wrong bodies: {name}: {len(refused)} of {len(edits)} refused, {len(alone)} of them alone, "
+    print(f"{said}wrong bodies: {name}: {len(refused)} of {len(edits)} refused, {len(alone)} of "
+          f"them alone, "
           f"{time.monotonic() - begun:.0f} s", flush=True)
     keep(name, before, {edit.at.name for edit in refused})
     return len(refused)
@@ -177,7 +184,8 @@ class Copies:
 
 
 def copy_to(copy):
-    """The repository, with links to the built libraries, whose files are replaced and never changed."""
+    """The repository, with links to the built libraries, whose files are replaced and never
+    changed."""
     for name in ("crates.txt", "HANDLES"):
         shutil.copy(ROOT / name, copy / name)
     for crate in ROOT.glob("crates/*"):
@@ -219,7 +227,8 @@ class Edit:
 
     def is_of(self, crate, path):
         """Whether a function's path, as the prover prints it, may be that of one it is in. A method
-        is printed with the module of its type, which may be another than that of the edited file."""
+        is printed with the module of its type, which may be another than that of the edited
+        file."""
         *outer, last = path.split("::")
         for file, (owner, name) in self.functions:
             module = re.sub(r"^src/|\.rt$", "", file).split("/")
@@ -242,7 +251,8 @@ def function_of(file, text):
         begun = re.match(r"( *)(?:pub(?:\(crate\))? )?fn (\w+)", line)
         if not begun:
             continue
-        end = next((after for after in range(number, len(lines)) if lines[after] == begun[1] + "}"), 0)
+        end = next((after for after in range(number, len(lines)) if lines[after] == begun[1] + "}"),
+                   0)
         if number < found[0] < end:
             return (owner if begun[1] else None), begun[2]
     return None
@@ -274,7 +284,8 @@ def try_together(copies, edits):
             if (crate / part).is_dir():
                 shutil.copytree(ROOT / "crates" / name / part, crate / part, dirs_exist_ok=True)
     failing = OPEN.findall(said) if "logic=not-proved" in said else []
-    at = {edit: [path for path in failing if len(edits) == 1 or edit.is_of(name, path)] for edit in edits}
+    at = {edit: [path for path in failing if len(edits) == 1 or edit.is_of(name, path)]
+          for edit in edits}
     for edit in edits:
         if at[edit]:
             print(f"{name}/{edit.at.name}: refused at {at[edit][0]}", flush=True)
@@ -295,7 +306,8 @@ def run(words, at):
 
 
 def lanes():
-    available = int(re.search(r"MemAvailable:\s+(\d+)", Path("/proc/meminfo").read_text())[1]) * 1024
+    available = int(re.search(r"MemAvailable:\s+(\d+)",
+                              Path("/proc/meminfo").read_text())[1]) * 1024
     return max(1, min(len(os.sched_getaffinity(0)), available // MEMORY))
 
 
@@ -316,9 +328,11 @@ def misplaced(name):
 
 
 def heads_of(at):
-    """An edit's wrong idea, and the call and the clause that refuse it; what isn't said is empty."""
+    """An edit's wrong idea, and the call and the clause that refuse it; what isn't said is
+    empty."""
     lines = at.read_text().splitlines()
-    return [line.removeprefix(head) if line.startswith(head) else "" for head, line in zip(HEADS, lines)]
+    return [line.removeprefix(head) if line.startswith(head) else "" for head,
+            line in zip(HEADS, lines)]
 
 
 def size_of(name):

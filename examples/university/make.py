@@ -1,10 +1,11 @@
 #!/usr/bin/env python3
-"""make.py: makes this folder's files, a made-up university's session and a timetable without a breach.
+"""make.py: makes this folder's files, a made-up university's session and a timetable without a
+breach.
 
-The same bytes each time; it needs ../../tools/session_from_csv. 25 departments have 60 exams each, 15 for
-each of four years. A student takes the three core exams of their year, some others of it, and perhaps
-one of three other departments. The timetable is greedy: the largest exams first, each in the free room and
-period that puts it furthest from the other exams of its candidates.
+The same bytes each time; it needs ../../tools/session_from_csv. 25 departments have 60 exams each,
+15 for each of four years. A student takes the three core exams of their year, some others of it,
+and perhaps one of three other departments. The timetable is greedy: the largest exams first, each
+in the free room and period that puts it furthest from the other exams of its candidates.
 """
 import collections
 import csv
@@ -28,16 +29,21 @@ DEPARTMENTS = {
 TITLES = ["Foundations of {}", "Methods of {}", "Theory of {}", "History of {}", "{} in practice",
           "{} and society", "Topics in {}", "Problems of {}", "Data in {}", "Ethics of {}",
           "Research in {}", "{} laboratory", "Reading {}", "Writing about {}", "Seminar in {}"]
-GIVEN = ["Ada", "Amir", "Anna", "Asha", "Ben", "Bo", "Carla", "Chen", "Cleo", "Daniel", "Dora", "Elif",
+GIVEN = ["Ada", "Amir", "Anna", "Asha", "Ben", "Bo", "Carla", "Chen", "Cleo", "Daniel", "Dora",
+         "Elif",
          "Emil", "Eva", "Fatima", "Felix", "Grace", "Hana", "Henry", "Ines", "Ivan", "Jack", "Jana",
          "Kofi", "Laila", "Leo", "Lucia", "Marta", "Mei", "Milan", "Nadia", "Noah", "Olga", "Omar",
          "Paula", "Priya", "Rosa", "Ruth", "Samir", "Sara", "Sofia", "Tariq", "Tom", "Uma", "Vera",
          "Wei", "Yara", "Yusuf", "Zoe", "Zuri"]
 FAMILY = ["Adeyemi", "Ahmed", "Almeida", "Andersen", "Baker", "Bauer", "Bianchi", "Brown", "Carter",
-          "Chen", "Costa", "Diaz", "Dubois", "Evans", "Fischer", "Garcia", "Green", "Haddad", "Hughes",
-          "Ito", "Jansen", "Jones", "Kaya", "Khan", "Kim", "Kowalski", "Kumar", "Lee", "Lopez", "Martin",
-          "Mensah", "Moreau", "Murphy", "Nguyen", "Novak", "Okafor", "Patel", "Petrov", "Rossi", "Santos",
-          "Schmidt", "Silva", "Singh", "Smith", "Suzuki", "Taylor", "Wang", "Weber", "Wilson", "Young"]
+          "Chen", "Costa", "Diaz", "Dubois", "Evans", "Fischer", "Garcia", "Green", "Haddad",
+          "Hughes",
+          "Ito", "Jansen", "Jones", "Kaya", "Khan", "Kim", "Kowalski", "Kumar", "Lee", "Lopez",
+          "Martin",
+          "Mensah", "Moreau", "Murphy", "Nguyen", "Novak", "Okafor", "Patel", "Petrov", "Rossi",
+          "Santos",
+          "Schmidt", "Silva", "Singh", "Smith", "Suzuki", "Taylor", "Wang", "Weber", "Wilson",
+          "Young"]
 BUILDINGS = ["Main building", "Library", "Sports hall", "North campus", "South campus"]
 YEARS, PER_YEAR, CORE, STUDENTS = 4, 15, 3, 25_000
 DAYS, STARTS = 15, (("09:00", 180, 0), ("13:00", 180, 0), ("17:00", 120, 5))
@@ -63,7 +69,8 @@ def exams(rng):
         for year in range(1, YEARS + 1):
             for number, title in enumerate(TITLES, 1):
                 yield (f"{code}{year}{number:02}",
-                       f"{title.format(department if title[0] == '{' else department.lower())} {year}",
+                       f"{title.format(department if title[0] == '{' else department.lower())} "
+                       f"{year}",
                        rng.choice((60, 90, 120, 120, 120, 180)), department)
 
 
@@ -73,7 +80,8 @@ def enrolments(rng):
     of_year = STUDENTS // YEARS
     for year in range(1, YEARS + 1):
         for number in range(1, of_year + 1):
-            student, name = f"s{2027 - year}{number:04}", f"{rng.choice(GIVEN)} {rng.choice(FAMILY)}"
+            student = f"s{2027 - year}{number:04}"
+            name = f"{rng.choice(GIVEN)} {rng.choice(FAMILY)}"
             code = codes[number % len(codes)]
             others = rng.sample(range(CORE + 1, PER_YEAR + 1), rng.choice((0, 1, 1, 2, 2)))
             taken = [f"{code}{year}{exam:02}" for exam in [*range(1, CORE + 1), *sorted(others)]]
@@ -138,7 +146,8 @@ def timetable(session):
     places = {}
 
     def room_for(exam, period, *but):
-        """The smallest room with enough seats left; with exams of the same length, if there is one."""
+        """The smallest room with enough seats left; with exams of the same length, if there is
+        one."""
         fitting = [room for room in range(len(rooms)) if room not in but
                    and left[period][room] >= len(listed[exam]) - 1
                    and (exam not in alone or lasting[period][room] is None)]
@@ -161,7 +170,8 @@ def timetable(session):
                 total += count * max(0, CLOSE + 1 - gap) ** 2
         return total
 
-    order = sorted(range(len(listed)), key=lambda exam: (exam not in partner, -len(listed[exam]), exam))
+    order = sorted(range(len(listed)),
+                   key=lambda exam: (exam not in partner, -len(listed[exam]), exam))
     for exam in order:
         if exam in places:
             continue

@@ -6,10 +6,23 @@ import {
 } from './office.js';
 
 // What was last read and shown: the department's number, the names, all drafts, and the open one.
-const page = { department: 0, names: new Names(), drafts: [], draft: null };
+const page = {
+  department: 0,
+  names: new Names(),
+  /** @type {import('./drafts.js').Draft[]} */
+  drafts: [],
+  /** @type {import('./drafts.js').Draft | null} */
+  draft: null,
+};
 
 // The change that takes the last one back, or null.
 let undo = null;
+
+/** The open draft; the page shows nothing that needs one while there is none. */
+function openDraft() {
+  if (!page.draft) throw new Error('no draft is open');
+  return page.draft;
+}
 
 // ---- Reading
 
@@ -37,14 +50,15 @@ async function load() {
 
 /** The department's exams as the labels have them; without labels all exams. */
 function ownExams() {
-  return page.draft.places.map(({ exam }) => exam).filter((exam) => (
+  return openDraft().places.map(({ exam }) => exam).filter((exam) => (
     !page.names.labels || page.names.labels.exams[exam].department === page.department));
 }
 
 async function reread() {
-  page.draft = await readAgain(page.draft.number);
+  const found = await readAgain(openDraft().number);
+  page.draft = found;
   showDraft();
-  return page.draft;
+  return found;
 }
 
 // ---- One draft
@@ -71,7 +85,7 @@ function placeRow({ exam, period, room }) {
 }
 
 function showDraft() {
-  const { draft } = page;
+  const draft = openDraft();
   const own = new Set(ownExams());
   byId('draft-title').textContent = draft.name;
   byId('draft-points').textContent = `${count(draft.penalty.total, 'point')}. ${verdict(draft)}.`;
@@ -95,12 +109,12 @@ const choices = (labelled, words) => Array.from(
   { length: labelled?.length ?? MOST_NUMBERS }, (_, number) => option(number, words(number)));
 
 function fillForm() {
-  const { names, drafts, draft } = page;
+  const { names, drafts } = page;
   const { labels } = names;
   const exams = ownExams().map((exam) => (
     [exam, [names.exam(exam), names.examTitle(exam)].filter(Boolean).join(' ')]));
   byId('draft-number').replaceChildren(...drafts.map(({ number, name }) => option(number, name)));
-  byId('draft-number').value = draft.number;
+  byId('draft-number').value = openDraft().number;
   for (const list of ['edit-exam', 'edit-other']) {
     byId(list).replaceChildren(...exams.map((exam) => option(...exam)));
   }
@@ -112,12 +126,14 @@ function fillForm() {
   chooseExam();
 }
 
-const placeOf = (exam, draft = page.draft) => draft.places[exam];
+const placeOf = (exam, draft = openDraft()) => draft.places[exam];
 
 /** Shows the fields that a change needs, with the exam's place; another exam to swap with. */
 function chooseExam() {
   const kind = byId('edit-kind').value;
-  for (const field of document.querySelectorAll('#edit [data-for]')) {
+  /** @type {NodeListOf<HTMLElement>} */
+  const fields = document.querySelectorAll('#edit [data-for]');
+  for (const field of fields) {
     field.hidden = field.dataset.for !== kind;
   }
   const exam = Number(byId('edit-exam').value);
@@ -185,7 +201,7 @@ function undoText({ kind, exam, other }, draft) {
 
 /** Makes a change, unless the draft is no longer as the page showed it. */
 async function make(wanted) {
-  const seen = page.draft;
+  const seen = openDraft();
   const found = await reread();
   const changes = changesBetween(seen, found, page.names);
   if (changes.length) {
@@ -211,10 +227,11 @@ byId('undo').addEventListener('click', () => showProgress('Changing the draft �
 for (const field of ['edit-exam', 'edit-kind']) byId(field).addEventListener('change', chooseExam);
 byId('draft-number').addEventListener('change', () => showProgress('Opening the draft …', async () => {
   setUndo(null);
-  page.draft = await readAgain(Number(byId('draft-number').value));
+  const chosen = await readAgain(Number(byId('draft-number').value));
+  page.draft = chosen;
   showDraft();
   chooseExam();
-  return `${page.draft.name} is shown.`;
+  return `${chosen.name} is shown.`;
 }));
 
 const refresh = () => showProgress('Loading your exams …', load);

@@ -5,7 +5,21 @@ import { ask, askOrNull, count, element, numeral, Refusal } from './office.js';
 const NUMBERS = [1, 2, 3, 4, 5, 6, 7, 8];
 const MOST_MOVES_SHOWN = 20;
 
-/** The names and numbers of a penalty report. */
+/**
+ * Where an exam is; nowhere, if period and room are null.
+ * @typedef {{ exam: number, period: number | null, room: number | null }} Place
+ *
+ * What drafts and the published timetable have: a penalty by part, breaches, and exams without a place.
+ * @typedef {{ name: string, penalty: { parts: [string, number][], total: number }, unplaced: number[],
+ *   breaches: { rule: string, exam: number, other: number }[] }} Judged
+ *
+ * @typedef {Judged & { number: number, places: Place[], uses?: undefined }} Draft
+ */
+
+/**
+ * The names and numbers of a penalty report.
+ * @returns {Judged['penalty']}
+ */
 export function penaltyIn(report) {
   const lines = report.trimEnd().split('\n').map((line) => line.match(/^(.*) (\d+)$/));
   const capital = (name) => name[0].toUpperCase() + name.slice(1);
@@ -22,6 +36,7 @@ function breachesIn(report) {
 /**
  * Returns a draft, or null. Its places, penalty and violations are three requests; if it changes
  * between them, they are read again.
+ * @returns {Promise<Draft | null>}
  */
 export async function readDraft(number) {
   for (let tries = 0; tries < 5; tries += 1) {
@@ -38,10 +53,14 @@ export async function readDraft(number) {
   throw new Refusal(503, { error: 'unavailable' });
 }
 
+/** Returns the drafts that there are. */
 export async function readDrafts() {
   const drafts = [];
-  for (const number of NUMBERS) drafts.push(await readDraft(number));
-  return drafts.filter((draft) => draft !== null);
+  for (const number of NUMBERS) {
+    const draft = await readDraft(number);
+    if (draft) drafts.push(draft);
+  }
+  return drafts;
 }
 
 /** Like `readDraft`; refused if the draft no longer exists. */

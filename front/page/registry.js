@@ -14,12 +14,31 @@ import {
 
 const MOST_SHOWN = 200;
 
+/**
+ * @typedef {{ minutes: number[], candidates: number[][], capacities: number[],
+ *   periods: { date: string, start: string }[], frame: string[] }} Session
+ * @typedef {{ period: number, room: number, used: number, capacity: number, exams: number[] }} Use
+ * @typedef {import('./drafts.js').Judged & { number?: undefined, places?: undefined, uses: Use[] }} Published
+ * @typedef {import('./drafts.js').Draft | Published} Timetable
+ */
+
 // The timetables as they were last read and shown.
-const office = { timetables: [], session: null, names: new Names(), open: null };
+const office = {
+  /** @type {Timetable[]} */
+  timetables: [],
+  /** @type {Session | null} */
+  session: null,
+  names: new Names(),
+  /** @type {string | null} */
+  open: null,
+};
 
 // ---- Texts of the office
 
-/** A session's exams (minutes and candidates), periods and rooms, and its lines without candidates. */
+/**
+ * A session's exams (minutes and candidates), periods and rooms, and its lines without candidates.
+ * @returns {Session}
+ */
 function sessionIn(text) {
   const fields = (line) => line.split(',').map((field) => field.trim());
   const lines = (section) => section.split('\r\n').slice(0, -1).map(fields);
@@ -42,7 +61,10 @@ function usesIn(report) {
   });
 }
 
-/** The rooms in use in a draft, with their exams and the number of seats needed. */
+/**
+ * The rooms in use in a draft, with their exams and the number of seats needed.
+ * @returns {Use[]}
+ */
 function usesOf(places, session) {
   const uses = new Map();
   for (const { exam, period, room } of places.filter((place) => place.period !== null)) {
@@ -57,6 +79,7 @@ function usesOf(places, session) {
 
 // ---- Reading
 
+/** @returns {Promise<Published | null>} */
 async function readPublished() {
   const report = await ask('/-/publication/penalty');
   if (report.publication === null) return null;
@@ -67,7 +90,7 @@ async function readPublished() {
 async function load() {
   await readUser();
   const text = await askOrNull('not-loaded', '/instance');
-  office.session = text && sessionIn(text);
+  office.session = text ? sessionIn(text) : null;
   office.names = await applyOfficeNames(text && await readLabels(), office.session);
   const published = text && await readPublished();
   const drafts = text ? await readDrafts() : [];
@@ -150,7 +173,7 @@ function showOverview() {
 
 function markOpen() {
   for (const found of document.querySelectorAll('[data-of]')) {
-    found.setAttribute('aria-pressed', found.dataset.of === office.open);
+    found.setAttribute('aria-pressed', `${found.getAttribute('data-of') === office.open}`);
   }
 }
 
@@ -202,6 +225,7 @@ function showUnplaced(exams) {
 // On paper each row is a table of its own, with a line for each room: style.css.
 function showGrid(uses, name) {
   const { session } = office;
+  if (!session) return;
   const at = new Map(uses.map((use) => [`${use.period} ${use.room}`, use]));
   const rooms = [...session.capacities.keys()];
   const body = session.periods.map((when, period) => row(periodHead(period, when),

@@ -25,7 +25,11 @@ const KINDS = {
   labels: { title: 'Seat labels', order: 'seat' },
 };
 
-/** The seats of each room in each period, by period and then by room: only those of one, if it is given. */
+/**
+ * The seats of each room in each period, by period and then by room: only those of one, if it is given.
+ * @param {any[]} seats
+ * @param {{ period?: number | null, room?: number | null }} only
+ */
 export function sheetsOf(seats, { period = null, room = null } = {}) {
   const sheets = new Map();
   for (const seat of seats) {

@@ -1,0 +1,280 @@
+#!/usr/bin/env python3
+"""quality.py [CHECK..]: every file is judged by the tools for its language; with names, by these
+only.
+
+KINDS says which kind a file is, CHECKS which tool judges a kind. A file of no kind is a failure,
+and so is a tool that isn't installed, a complaint, or an exception without a reason. An exception
+is a comment of EXCEPTIONS on the line of the complaint; there may be MOST of them in all.
+"""
+import concurrent.futures
+import json
+import os
+import pathlib
+import re
+import shutil
+import subprocess
+import sys
+import tempfile
+
+import openapi
+from cases import Cases
+
+TOP = pathlib.Path(__file__).resolve().parent.parent
+COLUMNS = 100
+PROOF_COLUMNS = 120
+# How many exceptions there may be in all, and what each begins with; its reason comes after it.
+MOST = 10
+EXCEPTIONS = re.compile(
+    r"(?:# noqa(?:: ?[A-Z]\d+)?|# type: ignore(?:\[[\w-]+\])?|# shellcheck disable=[\w,]+"
+    r"|// eslint-disable-line [\w-]+|// @ts-expect-error|<!-- tidy:)(.*)")
+# The proofs with longer lines than PROOF_COLUMNS, and how many: a list that may only get shorter.
+LONG_PROOFS = TOP / "tests" / "long_proofs.json"
+
+# ---- Files
+
+# The kind of a file: by what its name ends with or begins with, or by its first line.
+KINDS = [
+    ("rattle", r"crates/.*|crates\.txt|HANDLES", ""),  # `rt ci` judges these
+    ("made", r"docs/generated/.*|docs/openapi\.yaml|release/(KIT|SHA256|SOURCES|examoffice)"
+     r"|release/share/(?!man).*", ""),  # compared with what makes them, by other parts of the tests
+    ("tool", r"tools/.*\.py", ""), ("tool", r"tools/.*", "#!.*python"),
+    ("python", r".*\.py", ""), ("python", r".*", "#!.*python"), ("shell", r".*", "#!.*sh$"),
+    ("page script", r"front/page/.*\.js", ""), ("script", r".*\.m?js", ""),
+    ("html", r".*\.html", ""), ("style", r".*\.css", ""), ("nginx", r"front/.*\.conf", ""),
+    ("nginx", r"front/(callers|users)", ""), ("man", r".*\.[18]", ""), ("page", r".*\.md", ""),
+    ("unit", r"packaging/.*\.(service|timer|socket|target)", ""), ("json", r".*\.json", ""),
+    # What the tests compile, or read as it is.
+    ("compiled", r".*\.(cpp|h|rs|rt\.in|toml|lock)|bench/office/Makefile", ""),
+    ("read", r".*\.(csv|exam|sol|sqlite|gz|png|svg|logrotate|gitignore|cfg|tmpfiles|sysusers)"
+     r"|\.gitignore|COPYRIGHT|VERSION|tests/packages|packaging/debian/.*|packaging/.*\.(conf|d)",
+     ""),
+]
+
+
+def kind_of(name):
+    path = TOP / name
+    with open(path, "rb") as file:
+        first = file.readline(200).decode(errors="replace").rstrip()
+    for kind, pattern, head in KINDS:
+        if re.fullmatch(pattern, name) and re.match(head, first):
+            return kind
+    return None
+
+
+def files():
+    """The files that git knows or would know, by kind; those of no kind by None."""
+    names = subprocess.run(["git", "ls-files", "-co", "--exclude-standard"], cwd=TOP, check=True,
+                           stdout=subprocess.PIPE, text=True).stdout.splitlines()
+    kinds = {}
+    for name in sorted(set(names)):
+        if (TOP / name).is_file():
+            kinds.setdefault(kind_of(name), []).append(name)
+    return kinds
+
+
+# ---- Tools
+
+# Debian's own Node finds Debian's modules; another one has to be told.
+NODE = {"NODE_PATH": "/usr/share/nodejs:/usr/lib/nodejs"}
+
+
+def complaints(words, env=None, cwd=TOP):
+    """What a tool prints, if it prints anything or fails."""
+    if not shutil.which(words[0], path=f"{os.environ['PATH']}:/usr/sbin"):
+        return [f"{words[0]} is not installed (tests/packages)"]
+    done = subprocess.run(
+        words, cwd=cwd, stdin=subprocess.DEVNULL, stdout=subprocess.PIPE, stderr=subprocess.STDOUT,
+        text=True, check=False,
+        env={**os.environ, "PATH": f"{os.environ['PATH']}:/usr/sbin", **(env or {})})
+    said = [line for line in done.stdout.splitlines() if line.strip()]
+    return said or ([f"{words[0]} ended with status {done.returncode}"] if done.returncode else [])
+
+
+def shellcheck(kinds):
+    return complaints(["shellcheck", "--format=gcc", "-x", *kinds["shell"]])
+
+
+def flake8(kinds):
+    return complaints(["flake8", "--isolated", f"--max-line-length={COLUMNS}",
+                       *kinds["python"], *kinds["tool"]])
+
+
+def mypy(path, names, *options):
+    said = complaints(["mypy", "--scripts-are-modules", "--explicit-package-bases",
+                       "--no-error-summary",
+                       "--cache-dir",
+                       str(pathlib.Path(tempfile.gettempdir()) / f"mypy-{os.getuid()}"),
+                       *options, *names], {"MYPYPATH": path})
+    return [line for line in said if not line.startswith("Success")]
+
+
+def mypy_of_tools(kinds):
+    return mypy("tools", kinds["tool"], "--strict")
+
+
+def mypy_of_tests(kinds):
+    return mypy("tests:bench:tools", kinds["python"], "--ignore-missing-imports")
+
+
+def eslint(kinds):
+    return complaints(["eslint", "--no-eslintrc", "--config", "tests/eslint.json", "--format=unix",
+                       *kinds["page script"], *kinds["script"]], NODE)
+
+
+def types(_):
+    return complaints(["tsc", "--project", "tests/tsconfig.json"])
+
+
+def node_tests(kinds):
+    """What the tests of the pages' functions say of those that fail."""
+    tests = [name for name in kinds["script"] if name.endswith(".test.mjs")]
+    said = complaints(["node", "--test", *tests])
+    return [] if "# fail 0" in said else [line for line in said if "not ok" in line] or said
+
+
+def nginx(kinds):
+    """The configuration as it is, and with single sign-on and several sessions in place of that."""
+    said = []
+    with tempfile.TemporaryDirectory() as folder:
+        front = pathlib.Path(folder) / "front"
+        shutil.copytree(TOP / "front", front)
+        (front / "run").mkdir(exist_ok=True)
+        for changes in ({}, {"password.conf": "sso.conf"}):
+            for file in front.glob("*.conf"):
+                text = file.read_text()
+                for old, new in changes.items():
+                    text = text.replace(f"include {old};", f"include {new};")
+                file.write_text(text)
+            lines = complaints(["nginx", "-t", "-p", str(front), "-c", "nginx.conf"])
+            if not any("test is successful" in line for line in lines):
+                said += lines
+    return said
+
+
+def tidy(kinds):
+    return [line for name in kinds["html"] for line in complaints(
+        ["tidy", "-quiet", "-errors", "--gnu-emacs", "yes", "--drop-empty-elements", "no", name])]
+
+
+def mandoc(kinds):
+    return complaints(["mandoc", "-T", "lint", "-W", "warning", *kinds["man"]])
+
+
+def described(_):
+    """What the schema of OpenAPI's own schemas says of docs/openapi.yaml."""
+    if openapi.missing():
+        return [f"{name} is not installed (tests/packages)" for name in openapi.missing()]
+    document = openapi.read((TOP / "docs" / "openapi.yaml").read_text())
+    validator = openapi.jsonschema.Draft202012Validator
+    said = []
+    for name, schema in document["components"]["schemas"].items():
+        try:
+            validator.check_schema(schema)
+        except openapi.jsonschema.SchemaError as error:
+            said.append(f"docs/openapi.yaml: {name}: {error.message}")
+    return said
+
+
+def json_files(kinds):
+    said = []
+    for name in kinds["json"]:
+        try:
+            json.loads((TOP / name).read_text())
+        except ValueError as error:
+            said.append(f"{name}: {error}")
+    return said
+
+
+# ---- Lines
+
+def long_proofs(kinds):
+    """Proofs with more long lines than LONG_PROOFS has of them, or with fewer; imports don't
+    count."""
+    counts = {}
+    for name in kinds["rattle"]:
+        if "/proofs/" in name:
+            long = sum(len(line) > PROOF_COLUMNS and not re.match(r" *(pub )?use ", line)
+                       for line in (TOP / name).read_text().splitlines())
+            if long:
+                counts[name] = long
+    listed = json.loads(LONG_PROOFS.read_text())
+    return [f"{name}: {counts.get(name, 0)} lines of more than {PROOF_COLUMNS} columns, but "
+            f"{LONG_PROOFS.name} has {listed.get(name, 0)}"
+            for name in sorted({*counts, *listed}) if counts.get(name, 0) != listed.get(name, 0)]
+
+
+def exceptions(kinds):
+    """Exceptions without a reason, and all of them if there are too many."""
+    said, found = [], []
+    own = pathlib.Path(__file__).resolve()
+    for kind in ("python", "tool", "shell", "page script", "script", "html"):
+        for name in kinds[kind]:
+            if (TOP / name).resolve() == own:
+                continue
+            for number, line in enumerate((TOP / name).read_text().splitlines(), 1):
+                mark = EXCEPTIONS.search(line)
+                if mark:
+                    found.append(f"{name}:{number}: {line.strip()}")
+                    if len(mark[1].split()) < 3:
+                        said.append(f"{name}:{number}: an exception without a reason")
+    return said + (found + [f"more than {MOST} exceptions"] if len(found) > MOST else [])
+
+
+def unknown(kinds):
+    return [f"{name}: no kind of KINDS in tests/quality.py" for name in kinds.get(None, [])]
+
+
+def ids(kinds):
+    """What the scripts of a page ask for by its id has to be in the page, or made by a script."""
+    said = []
+    for name in kinds["html"]:
+        text, seen, used = (TOP / name).read_text(), set(), set()
+        made = set(re.findall(r'\bid="([\w-]+)"', text))
+        scripts = re.findall(r'<script[^>]* src="/?([\w.-]+)"', text)
+        while scripts:
+            script = scripts.pop()
+            if script not in seen:
+                seen.add(script)
+                code = (TOP / name).with_name(script).read_text()
+                scripts += re.findall(r"from '\./([\w.-]+)'", code)
+                used |= set(re.findall(r"byId\('([\w-]+)'\)", code))
+                made |= set(re.findall(r"\bid: '([\w-]+)'", code))
+        said += [f"{name}: a script asks for #{one}, which isn't there"
+                 for one in sorted(used - made)]
+    return said
+
+
+def links(_):
+    said = complaints([sys.executable, "tests/links.py"])
+    return [] if said[-1].endswith(" 0 failed") else said
+
+
+CHECKS = {
+    "files without a check": unknown, "exceptions": exceptions, "proofs": long_proofs,
+    "shellcheck": shellcheck, "flake8": flake8, "mypy of tools": mypy_of_tools,
+    "mypy of tests": mypy_of_tests, "eslint": eslint, "types of scripts": types,
+    "functions of pages": node_tests, "ids": ids, "nginx": nginx, "tidy": tidy, "mandoc": mandoc,
+    "openapi": described, "JSON": json_files, "links": links,
+}
+
+
+def excepted(complaint):
+    """Whether the line that a tool complains of has an exception that the tool itself doesn't
+    know."""
+    place = re.match(r"([\w./-]+\.html):(\d+):", complaint)
+    return place and "<!-- tidy:" in (TOP / place[1]).read_text().splitlines()[int(place[2]) - 1]
+
+
+def main(names):
+    judged = Cases("quality")
+    kinds = files()
+    checks = {name: CHECKS[name] for name in names or CHECKS}
+    with concurrent.futures.ThreadPoolExecutor(3) as pool:
+        for name, said in zip(checks, pool.map(lambda check: check(kinds), checks.values())):
+            faults = [line for line in said if not excepted(line)]
+            judged.add(1, [f"{name}:\n  " + "\n  ".join(faults)] if faults else [])
+    return judged.end("checks")
+
+
+if __name__ == "__main__":
+    sys.exit(main(sys.argv[1:]))
