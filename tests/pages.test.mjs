@@ -97,6 +97,10 @@ cases('calendars', [
     'UID:u', 'DTSTAMP:19700101T000000Z', 'DTSTART:20051231T233000', 'DTEND:20060101T003000',
     `SUMMARY:${'é'.repeat(33)}`, ` ${'é'.repeat(7)}\\,\\;\\\\\\n`, 'LOCATION:', ends('VEVENT')[1],
     ends('VCALENDAR')[1], ''], () => calendarText([EVENT], new Date(0)).split('\r\n')],
+  ['lines of 75 bytes, and of one more', [`SUMMARY:${'a'.repeat(67)}`, `SUMMARY:${'a'.repeat(67)}`, ' b'],
+    () => ['', 'b'].flatMap((more) => calendarText(
+      [{ ...EVENT, summary: 'a'.repeat(67) + more }], new Date(0)).split('\r\n').filter(
+      (line) => /^SUMMARY|^ /.test(line)))],
   ['no minutes, no end', false,
     () => calendarText([{ ...EVENT, minutes: null }], new Date(0)).includes('DTEND')],
 ]);

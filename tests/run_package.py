@@ -29,7 +29,7 @@ def ran(*words, **more):
 
 
 def of_the_repository(judged):
-    first = re.search(r"^## (\S+)", (TOP / "CHANGELOG.md").read_text(), re.M)
+    first = re.search(r"^## (\d\S*)", (TOP / "CHANGELOG.md").read_text(), re.M)
     judged.judge("the version of the changelog", VERSION, first and first[1])
     described = re.search(r"^  version: (\S+)", (TOP / "docs" / "openapi.yaml").read_text(), re.M)
     judged.judge("the version of docs/openapi.yaml", VERSION, described and described[1])
