@@ -6,7 +6,8 @@ and pages_all; front_page has what a user does on a page and what a page shows.
 import shutil
 
 import browser
-from pages_all import list_of_sessions, other_labels, pages_for_everybody, pages_in_error, pictures
+from pages_all import (
+    list_of_sessions, other_labels, pages_for_everybody, pages_in_error, pictures, style_is_read)
 from pages_candidate import (
     calendar_file, candidates_page, moved_exam, next_exam_first, signing_on, states_of_exams)
 from pages_department import departments_page, pages_of_others
@@ -18,7 +19,7 @@ from pages_seats import printed, seats_after_changes, seats_of_candidates
 PARTS = (candidates_page, next_exam_first, registrys_page, seats_of_candidates, departments_page,
          pages_of_others, publishing, moved_exam, seats_after_changes, states_of_exams,
          late_changes,
-         registrys_work)
+         registrys_work, style_is_read)
 
 
 def judge(run, started, front, wide, sso, many, office, program, folder):

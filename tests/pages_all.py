@@ -125,6 +125,26 @@ def pages_for_everybody(run, chromium, front):
                 "e.offsetWidth).length"))
 
 
+STYLE = """
+return fetch('/style.css').then(reply => reply.text()).then(text => {
+  const plain = text.replace(/\\/\\*[^]*?\\*\\//g, '');
+  const wrong = [...plain.matchAll(/([\\w-]+)\\s*:\\s*([^;{}]+)[;}]/g)]
+    .filter(([, name, value]) => !name.startsWith('--') && !CSS.supports(name,
+    value.replace('!important', '').trim())) .map(([, name, value]) => `${name}: ${value}`);
+  const selectors = [...plain.matchAll(/([^{};@]+)\\{/g)].map(([, list]) => list.trim())
+    .filter(list => list && !/^(\\(|and|media|print|page|from|to|\\d)/.test(list));
+  return [wrong, selectors.filter(list => {
+    try { document.querySelector(list); return false; } catch { return true; } })];
+});
+"""
+
+
+def style_is_read(run, chromium, front):
+    """The browser knows every declaration and every selector of the pages' style sheet."""
+    with reading(chromium, front, "ada") as reader:
+        run.judge("what the browser doesn't read of style.css", [[], []], reader.run(STYLE))
+
+
 def list_of_sessions(run, chromium, many):
     """A page lists the sessions of one front."""
     chromium.new_host()

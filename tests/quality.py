@@ -43,8 +43,9 @@ KINDS = [
     ("html", r".*\.html", ""), ("style", r".*\.css", ""), ("nginx", r"front/.*\.conf", ""),
     ("nginx", r"front/(callers|users)", ""), ("man", r".*\.[18]", ""), ("page", r".*\.md", ""),
     ("unit", r"packaging/.*\.(service|timer|socket|target)", ""), ("json", r".*\.json", ""),
-    # What the tests compile, or read as it is.
-    ("compiled", r".*\.(cpp|h|rs|rt\.in|toml|lock)|bench/office/Makefile", ""),
+    ("c++", r".*\.cpp", ""),
+    # What the tests compile, or read as it is; lintian judges units, as a part of the package.
+    ("compiled", r".*\.(h|rs|rt\.in|toml|lock)|bench/office/Makefile", ""),
     ("read", r".*\.(csv|exam|sol|sqlite|gz|png|svg|logrotate|gitignore|cfg|tmpfiles|sysusers)"
      r"|\.gitignore|COPYRIGHT|VERSION|tests/packages|packaging/debian/.*|packaging/.*\.(conf|d)",
      ""),
@@ -92,6 +93,12 @@ def complaints(words, env=None, cwd=TOP):
 
 def shellcheck(kinds):
     return complaints(["shellcheck", "--format=gcc", "-x", *kinds["shell"]])
+
+
+def warnings(kinds):
+    """What g++ warns of."""
+    return [line for name in kinds["c++"] for line in complaints(
+        ["g++", "-std=c++17", "-fsyntax-only", "-Wall", "-Wextra", "-I", "bench/office", name])]
 
 
 def flake8(kinds):
@@ -244,6 +251,28 @@ def ids(kinds):
     return said
 
 
+def styles(kinds):
+    """Classes, ids and variables of style sheets that no page and no script has, and braces left
+    open."""
+    used = "\n".join((TOP / name).read_text() for name in [*kinds["html"], *kinds["page script"]])
+    said = []
+    for name in kinds["style"]:
+        text = re.sub(r"/\*.*?\*/", "", (TOP / name).read_text(), flags=re.S)
+        if text.count("{") != text.count("}"):
+            said.append(f"{name}: {text.count('{')} braces are opened and {text.count('}')} closed")
+        selectors = " ".join(re.findall(r"([^{};]+)\{", text))
+        for sign, one in sorted(set(re.findall(r"([.#])([a-zA-Z][\w-]*)", selectors))):
+            if not re.search(rf"(?<![\w-]){one}(?![\w-])", used):
+                said.append(f"{name}: no page has {sign}{one}")
+        for one in sorted(set(re.findall(r"(--[\w-]+)\s*:", text))):
+            if f"var({one}" not in text:
+                said.append(f"{name}: nothing uses {one}")
+        for one in sorted(set(re.findall(r"var\((--[\w-]+)", text))):
+            if not re.search(rf"{one}\s*:", text) and f"'{one}'" not in used:
+                said.append(f"{name}: nothing sets {one}")
+    return said
+
+
 def links(_):
     said = complaints([sys.executable, "tests/links.py"])
     return [] if said[-1].endswith(" 0 failed") else said
@@ -251,9 +280,10 @@ def links(_):
 
 CHECKS = {
     "files without a check": unknown, "exceptions": exceptions, "proofs": long_proofs,
-    "shellcheck": shellcheck, "flake8": flake8, "mypy of tools": mypy_of_tools,
+    "shellcheck": shellcheck, "C++": warnings, "flake8": flake8, "mypy of tools": mypy_of_tools,
     "mypy of tests": mypy_of_tests, "eslint": eslint, "types of scripts": types,
-    "functions of pages": node_tests, "ids": ids, "nginx": nginx, "tidy": tidy, "mandoc": mandoc,
+    "functions of pages": node_tests, "ids": ids, "styles": styles, "nginx": nginx, "tidy": tidy,
+    "mandoc": mandoc,
     "openapi": described, "JSON": json_files, "links": links,
 }
 
