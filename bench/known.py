@@ -1,7 +1,7 @@
 #!/usr/bin/env python3
 """known.py [--program PATH]: the program and the baselines on small files with known answers.
 
-The cases stand in tests/check_cases.py. The oracle is asked where there is a report.
+The cases are in tests/check_cases.py. The oracle is asked where there is a report.
 """
 import argparse
 import pathlib

@@ -1,7 +1,7 @@
 #!/usr/bin/env python3
 """oracle.py INSTANCE SOLUTION: the two reports, straight from the definitions and slowly.
 
-It reads well-formed files alone, adds up, for each two exams, what each student of both pays for
+It reads only well-formed files, adds up, for each two exams, what each student of both pays for
 them, and keeps no index: a third opinion beside the two fast checkers.
 """
 import sys

@@ -153,7 +153,7 @@ class CountedServer(Server):
 
 
 def one_reply(client, came=b""):
-    """A whole reply, and what came behind it."""
+    """A whole reply, and what came after it."""
     while b"\r\n\r\n" not in came:
         came += client.recv(65_536) or sys.exit("a connection ended early")
     head, _, _ = came.partition(b"\r\n\r\n")
@@ -259,7 +259,7 @@ def drafts_of(solution):
 
 
 def edits_of(server, solution, sizes, wanted):
-    """An exam of about so many students, its place, and a clear and a place of it in the last
+    """An exam of about this many students, its place, and a clear and a place of it in the last
     draft, of which both are accepted."""
     places = solution.splitlines()
     for exam in sorted(range(len(sizes)), key=lambda exam: (abs(sizes[exam] - wanted), exam)):

@@ -30,7 +30,7 @@ def solution_of():
 
 
 def instance_of(pairs, each):
-    """The text of an instance; its rooms hold whatever stands there, and it has no rule."""
+    """The text of an instance; its rooms are large enough for everything, and it has no rule."""
     lines = [f"[Exams:{EXAMS}]"]
     lines += [", ".join(map(str, [60 + exam % 3 * 30, *students]))
               for exam, students in enumerate(exams_of(pairs, each))]

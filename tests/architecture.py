@@ -96,7 +96,7 @@ def session_knows_no_file_and_no_database(crates, knows):
 
 
 def only_the_calendar_loads_jiff(crates, knows):
-    """What names jiff loads all of its statements."""
+    """A crate that names jiff loads all of its statements."""
     for crate in crates:
         if crate != "exam_calendar":
             for name in sorted({"jiff", "jiff_core"} & set(knows[crate])):
@@ -127,7 +127,7 @@ def messages_know_no_route(crates, knows):
 
 
 def main_knows_the_program_alone(crates, knows):
-    """What `main` does is a library."""
+    """`main` only calls a library."""
     for name, where in knows["examoffice"].items():
         if name not in ("office_program", "std"):
             yield f"examoffice knows {name} ({where})"
@@ -149,7 +149,7 @@ def drawn(page, crates):
 
 
 def disorder(where, found, crates):
-    """What is missing or out of the order of crates.txt in a list of crates."""
+    """Yields what is missing in a list of crates, or out of the order of crates.txt."""
     for name in crates:
         if name not in found:
             yield f"{where} has no {name}"
@@ -163,11 +163,11 @@ def disorder(where, found, crates):
 
 
 def stands_above(crates):
-    """A crate of the repository is listed below those that stand on it."""
+    """A crate of the repository is listed before those that use it."""
     before = set()
     for crate, libraries in crates.items():
         for name in sorted((libraries & set(crates)) - before):
-            yield f"crates.txt lists {crate} before {name}, on which it stands"
+            yield f"crates.txt lists {crate} before {name}, which it uses"
         before.add(crate)
 
 

@@ -120,7 +120,7 @@ class Browser:
         self.driver.get(url)
 
     def run(self, script, *args):
-        """What the function body returns."""
+        """Returns what the function body returns."""
         return self.driver.execute_script(script, *args)
 
     def waits(self, script, *args):
@@ -150,8 +150,8 @@ class Browser:
         selenium.ActionChains(self.driver, duration=0).send_keys(*keys).perform()
 
     def complaints(self, *sources):
-        """What the console got from these sources, else from all but the network, which reports
-        each refusal."""
+        """Returns what the console got from these sources, else from all but the network, which
+        reports each refusal."""
         return [entry["message"] for entry in self.driver.get_log("browser")
                 if (entry["source"] in sources if sources else entry["source"] != "network")]
 

@@ -31,7 +31,7 @@ def with_rules(period_rules, room_rules=""):
 
 
 def up_to(text, length=0):
-    """The small instance cut so many bytes behind the beginning of this text."""
+    """The small instance, cut this many bytes after the beginning of this text."""
     return SMALL[:SMALL.index(text) + length]
 
 
@@ -85,7 +85,7 @@ REPORTS = {
     "the largest room": (with_line(12, "100000, 0"), PLACED, [], [7, 5, 3, 0, 0, 0, 15, 7]),
     "the greatest student number":
         (with_line(2, "120, 999999999, 2"), PLACED, [], [7, 0, 2, 0, 0, 0, 15, 7]),
-    "cut behind the last header, so that all weights are 0":
+    "cut after the last header, so that all weights are 0":
         (up_to("TWOINAROW"), PLACED, [], [0, 0, 0, 0, 0, 0, 15, 7]),
     "without the last line end": (SMALL[:-1], PLACED, [], [7, 5, 3, 0, 0, 0, 15, 7]),
     "a coincidence of exams that share a student":
@@ -116,8 +116,8 @@ FAULTS = {
     "no such day": (with_line(8, "31:04:2005, 14:00:00, 120, 0"), PLACED,
                     "instance line 8: fault 5"),
     "cut in a time": (up_to("15:04:2005, 14:0", 16), PLACED, "instance line 6: fault 3"),
-    "cut behind the rooms": (up_to("[PeriodHard"), PLACED, "instance line 14: fault 2"),
-    "cut behind a word": (up_to("TWOINADAY", 9), PLACED, "instance line 19: fault 4"),
+    "cut after the rooms": (up_to("[PeriodHard"), PLACED, "instance line 14: fault 2"),
+    "cut after a word": (up_to("TWOINADAY", 9), PLACED, "instance line 19: fault 4"),
     "nothing": ("", PLACED, "instance line 1: fault 2"),
     "too long": (SMALL.ljust(4_194_305), PLACED, "instance line 0: fault 1"),
     "too long, of blanks": (" " * 4_194_305, PLACED, "instance line 0: fault 1"),
@@ -148,11 +148,11 @@ FAULTS = {
     "cut in the first header": (SMALL[:3], PLACED, "instance line 1: fault 2"),
     "cut in a header": (up_to("[PeriodHardConstraints", 22), PLACED, "instance line 14: fault 2"),
     "cut in a word": (up_to("FRONTLOAD", 5), PLACED, "instance line 22: fault 7"),
-    "cut behind a comma": (up_to("FRONTLOAD,1,2,", 14), PLACED, "instance line 22: fault 4"),
+    "cut after a comma": (up_to("FRONTLOAD,1,2,", 14), PLACED, "instance line 22: fault 4"),
     "too many pairs": (TOO_MANY_PAIRS, "", "instance line 2001: fault 8"),
     "three lines": (SMALL, "".join(PLACED.splitlines(True)[:3]), "solution line 4: fault 3"),
     "five lines": (SMALL, PLACED + "0, 0\n", "solution line 5: fault 3"),
-    "a word behind a blank line": (SMALL, PLACED + "\nx", "solution line 6: fault 3"),
+    "a word after a blank line": (SMALL, PLACED + "\nx", "solution line 6: fault 3"),
     "no such period": (SMALL, PLACED.replace("1, 0", "4, 0"), "solution line 2: fault 8"),
     "a sign": (SMALL, PLACED.replace("1, 0", "-1, -1"), "solution line 2: fault 4"),
     "a single field": (SMALL, PLACED.replace("1, 0", "0"), "solution line 2: fault 4"),

@@ -1,5 +1,6 @@
 #!/usr/bin/env python3
-"""What a crate cites of another's specs/ and proofs/, compared with the pages that define it.
+"""The words that a crate cites of another's specs/ and proofs/, compared with the pages that
+define it.
 
 Each word that another crate cites has to be defined by the page that is named, and each word of
 specs/ needs a comment: docs/generated/WORDS.md shows it. Types and constants of the code

@@ -32,7 +32,7 @@ STREAMS = {
     "a length with a sign": (fields("Host: a", "Content-Length: +5") + b"abcde", REQUEST),
     "two spaces in the first line": (b"GET  /me HTTP/1.1\r\nHost: a\r\n\r\n", REQUEST),
     "two CR": (b"GET /me HTTP/1.1\r\r\n\r\n", REQUEST),
-    "two CR behind empty lines": (b"\r\n\r\nGET /me HTTP/1.1\r\r\n\r\n", REQUEST),
+    "two CR after empty lines": (b"\r\n\r\nGET /me HTTP/1.1\r\r\n\r\n", REQUEST),
     "a length beyond the limit": (fields("Host: a", "Content-Length: 4194305"), LENGTH),
     "a length of 23 digits": (fields("Host: a", f"Content-Length: {'9' * 23}"), LENGTH),
     "33 fields": (fields("Host: a", *["A: b"] * 32), REQUEST),

@@ -69,7 +69,7 @@ def content(path):
 
 
 def fault(page, link, site):
-    """What is wrong with a link; None if it leads somewhere. A path of the front begins at its
+    """Says what is wrong with a link; None if it leads somewhere. A path of the front begins at its
     pages."""
     parts = urllib.parse.urlsplit(link)
     if parts.scheme or parts.netloc:

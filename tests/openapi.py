@@ -52,7 +52,7 @@ def read(text):
 # ---- Exchanges
 
 class Described:
-    """What docs/openapi.yaml says."""
+    """The requests and replies that docs/openapi.yaml describes."""
 
     def __init__(self):
         self.pages = []
@@ -82,7 +82,7 @@ class Described:
         return page[method.lower()]["responses"]
 
     def fault(self, method, path, status, kind, body=None):
-        """What is wrong with an exchange, or None."""
+        """Says what is wrong with an exchange; None if nothing is."""
         if missing():
             return None
         response = self.responses(method, path).get(str(status))
@@ -100,7 +100,7 @@ class Described:
         return f"{asked}: {wrong}" if wrong else None
 
     def unlike(self, value, schema):
-        """What of a value isn't as its schema says, or None."""
+        """Says what of a value isn't as its schema says; None if nothing is."""
         with_parts = {**schema, "components": self.whole["components"]}
         wrong = jsonschema.Draft202012Validator(with_parts).iter_errors(value)
         return next((error.message for error in wrong), None)

@@ -35,7 +35,7 @@ const kind = (cell) => cell.tagName === 'TD' ? 'cell'
 return [...document.querySelectorAll('table')].filter(table => table.checkVisibility())
   .map(table => [table.caption.innerText, [...table.rows].map(row => [...row.cells].map(kind))]);
 """
-# Texts whose colour is too close to what is behind them: below 4.5 to 1.
+# Texts whose colour is too close to their background: below 4.5 to 1.
 CONTRAST = """
 const numbers = (colour) => colour.match(/[\\d.]+/g).map(Number);
 const light = ([r, g, b]) => {
@@ -43,12 +43,12 @@ const light = ([r, g, b]) => {
     .map(v => v <= 0.04045 ? v / 12.92 : ((v + 0.055) / 1.055) ** 2.4);
   return 0.2126 * x + 0.7152 * y + 0.0722 * z;
 };
-const behind = (e) => {
+const background = (e) => {
   const colour = numbers(getComputedStyle(e).backgroundColor);
-  return colour[3] === 0 ? behind(e.parentElement) : colour;
+  return colour[3] === 0 ? background(e.parentElement) : colour;
 };
 const ratio = (e) => {
-  const [dark, bright] = [light(numbers(getComputedStyle(e).color)), light(behind(e))]
+  const [dark, bright] = [light(numbers(getComputedStyle(e).color)), light(background(e))]
     .sort((a, b) => a - b);
   return (bright + 0.05) / (dark + 0.05);
 };

@@ -75,12 +75,12 @@ def files():
 
 # ---- Tools
 
-# Debian's own Node finds Debian's modules; another one has to be told.
+# Debian's own Node finds Debian's modules; another one needs the path.
 NODE = {"NODE_PATH": "/usr/share/nodejs:/usr/lib/nodejs"}
 
 
 def complaints(words, env=None, cwd=TOP):
-    """What a tool prints, if it prints anything or fails."""
+    """Returns the lines that a tool prints; one more if it fails and prints none."""
     if not shutil.which(words[0], path=f"{os.environ['PATH']}:/usr/sbin"):
         return [f"{words[0]} is not installed (tests/packages)"]
     done = subprocess.run(
@@ -96,7 +96,7 @@ def shellcheck(kinds):
 
 
 def warnings(kinds):
-    """What g++ warns of."""
+    """Returns the warnings of g++."""
     return [line for name in kinds["c++"] for line in complaints(
         ["g++", "-std=c++17", "-fsyntax-only", "-Wall", "-Wextra", "-I", "bench/office", name])]
 
@@ -133,7 +133,7 @@ def types(_):
 
 
 def node_tests(kinds):
-    """What the tests of the pages' functions say of those that fail."""
+    """Returns the failing tests of the pages' functions."""
     tests = [name for name in kinds["script"] if name.endswith(".test.mjs")]
     said = complaints(["node", "--test", *tests])
     return [] if "# fail 0" in said else [line for line in said if "not ok" in line] or said
@@ -168,7 +168,7 @@ def mandoc(kinds):
 
 
 def described(_):
-    """What the schema of OpenAPI's own schemas says of docs/openapi.yaml."""
+    """Returns the faults of the schemas of docs/openapi.yaml."""
     if openapi.missing():
         return [f"{name} is not installed (tests/packages)" for name in openapi.missing()]
     document = openapi.read((TOP / "docs" / "openapi.yaml").read_text())
@@ -232,7 +232,7 @@ def unknown(kinds):
 
 
 def ids(kinds):
-    """What the scripts of a page ask for by its id has to be in the page, or made by a script."""
+    """An element that a script asks for by its id is in the page, or made by a script."""
     said = []
     for name in kinds["html"]:
         text, seen, used = (TOP / name).read_text(), set(), set()

@@ -1,4 +1,4 @@
-"""What the sweeps of run_refused.py share: the program while its calls are refused, the states of
+"""Shared by the sweeps of run_refused.py: the program while its calls are refused, the states of
 an office, the commands that it gets there, and all that an office shows."""
 import contextlib
 import errno
@@ -227,7 +227,7 @@ class Office:
         self.start()
 
     def reply(self, question):
-        """Returns what comes back on a connection of its own; nothing if it is reset or refused."""
+        """Returns the replies on a connection of its own; nothing if it is reset or refused."""
         try:
             with self.server.connect() as client:
                 came = run_serve.told(client, question)
@@ -236,7 +236,7 @@ class Office:
         return b"" if isinstance(came, OSError) else came
 
     def reply_under(self, question, kind, k, *how):
-        """Returns what comes back while a call is refused, and how many calls were."""
+        """Returns the replies while a call is refused, and how many calls were."""
         self.run.refuse(kind, k, *how)
         came = self.reply(question)
         return came, self.run.stop_refusing(kind)

@@ -2,12 +2,13 @@
 """run_isolation.py PROGRAM: a candidate's reply depends only on their view.
 
 Each round makes two offices at random that agree on one candidate's view and on little else: exams,
-rooms, rules, other candidates and places differ. She asks the same in both, and the same batches
-change her enrolments, amid others' requests that are quiet for her and differ too. Her replies are
-held against the text of her view, worked out here, byte for byte. Then, after another publication
-in half of the rounds, the shares that stock sqlite3 finds are summed, and held against the penalty
-that the program's `check` prints for the exported timetable with the published enrolments. A
-failing case is printed with what was expected and what came, and the last line counts the cases.
+rooms, rules, other candidates and places differ. The candidate sends the same requests to both, and
+the same batches change their enrolments, between requests of others that don't concern them and
+that differ too. Each reply is compared with the text of the view, worked out here, byte for byte.
+Then, in half of the rounds after another publication, the shares that sqlite3 finds are added up
+and compared with the penalty that the program's `check` prints for the exported timetable with the
+published enrolments. A failing case is printed with what was expected and what came, and the last
+line counts the cases.
 """
 import argparse
 import functools
@@ -28,7 +29,7 @@ SECONDS = 60
 AT_ONCE = 4
 # Two days of four periods each, in which every exam fits.
 PERIODS = [(f"{day}:04:2005", f"{hour:02}:15:00") for day in (14, 15) for hour in (8, 11, 14, 17)]
-# What two offices share: the candidate, her exams, the places of these and of those that she may
+# What two offices share: the candidate, their exams, the places of these and of those that they may
 # change to, the weights, and the penalties of the periods.
 Shared = namedtuple("Shared", "candidate exams places weights penalties")
 # An office: its exams with their students, the place of each, its rooms, and its text.
@@ -38,15 +39,15 @@ Made = namedtuple("Made", "exams places rooms text")
 def shared_at_random(rng):
     exams = rng.sample(range(8), rng.randint(2, 6))
     places = zip(rng.sample(range(len(PERIODS)), len(exams)), rng.choices(range(3), k=len(exams)))
-    hers = set(exams[:rng.randint(1, len(exams))])
+    own = set(exams[:rng.randint(1, len(exams))])
     weights = [rng.randint(0, 9) for _ in range(2)] + [rng.randint(0, 7), rng.randint(0, 20),
                                                        rng.choice([0, rng.randint(1, 9)])]
-    return Shared(rng.choice([0, 5, 40, 999_999_999]), hers, dict(zip(exams, places)), weights,
+    return Shared(rng.choice([0, 5, 40, 999_999_999]), own, dict(zip(exams, places)), weights,
                   [rng.choice([0, 0, rng.randint(1, 50)]) for _ in PERIODS])
 
 
 def office_at_random(rng, shared):
-    """An office in which the candidate has her exams and places, and all else is at random."""
+    """An office in which the candidate has the shared exams and places; the rest is at random."""
     count, students = rng.randint(8, 14), rng.sample(range(1, 80), rng.randint(3, 9))
     students = [student for student in students if student != shared.candidate]
     exams = {exam: {shared.candidate} if exam in shared.exams else set() for exam in range(count)}
@@ -101,7 +102,7 @@ def solution(office):
 # ---- what the candidate sees
 
 def seats(office, candidate):
-    """Her seats: one more than the pairs before hers in the same room and period."""
+    """The candidate's seats: one more than the earlier pairs in the same room and period."""
     pairs = sorted((exam, student) for exam, students in office.exams.items()
                    for student in students)
     return {exam: 1 + sum(office.places[other] == office.places[exam]
@@ -110,8 +111,8 @@ def seats(office, candidate):
 
 
 def personal(shared):
-    """Her cost in a row, in a day, by spread and over night: summed over all pairs of her published
-    exams. The two days are consecutive."""
+    """The candidate's cost in a row, in a day, by spread and over night, summed over all pairs of
+    their published exams. The two days are consecutive."""
     row, day, spread, _, night = shared.weights
     periods, sums = sorted(shared.places[exam][0] for exam in shared.exams), [0, 0, 0, 0]
     for index, first in enumerate(periods):
@@ -125,7 +126,7 @@ def personal(shared):
 
 
 def her_exam(exam, office, seat, enrolled):
-    """One of her exams: its published place, in this office, if it has one."""
+    """One of the candidate's exams: its published place in this office, if it has one."""
     period, room = office.places[exam]
     date, start = PERIODS[period]
     day, month, year = date.split(":")
@@ -134,7 +135,7 @@ def her_exam(exam, office, seat, enrolled):
 
 
 class Candidate:
-    """She as both offices have her: where she sits, and where she is enrolled now."""
+    """The candidate, as both offices store them: their seats, and their enrolments now."""
 
     def __init__(self, shared, office):
         self.shared, self.seats = shared, seats(office, shared.candidate)
@@ -146,7 +147,7 @@ class Candidate:
                 for exam in exams}
 
     def exchange(self, rng):
-        """What she asks at random, and the reply by her view."""
+        """A random question of the candidate, and the reply by their view."""
         number, texts = self.shared.candidate, self.texts()
         exam = rng.choice([*texts, rng.randrange(20)])
         return rng.choice([
@@ -162,7 +163,7 @@ class Candidate:
 # ---- others' requests
 
 def quiet(rng, office, number):
-    """A request at random that is quiet for her, however it is answered."""
+    """A random request that doesn't concern the candidate, whatever is replied."""
     exam, draft = rng.randrange(len(office.exams) + 1), rng.randint(1, 8)
     place = at(rng.randrange(len(PERIODS)), rng.randrange(len(office.rooms)))
     student = rng.randint(100, 999)
@@ -249,7 +250,8 @@ class Run(run_serve.Run):
     accepted = again = 0
 
     def command(self, *words):
-        """What it prints; status 3 says that a timetable has a breach. Any other ends the test."""
+        """Returns what it prints; status 3 says that a timetable has a breach. Any other ends the
+        test."""
         ended = subprocess.run([*map(str, words)], stdin=subprocess.DEVNULL, capture_output=True,
                                timeout=SECONDS, check=False)
         if ended.returncode not in (0, 3):
@@ -266,7 +268,7 @@ class Run(run_serve.Run):
         return database
 
     def changes_her(self, rng, candidate, clients, number):
-        """A batch that names her: she is enrolled by it where both accept it."""
+        """A batch that names the candidate; it changes their enrolments if both accept it."""
         shared, is_add = candidate.shared, rng.random() < 0.6
         exam = rng.choice([*shared.places])
         text = f"student,exam,action\n{shared.candidate},{exam},{'add' if is_add else 'drop'}\n"

@@ -79,7 +79,7 @@ class Repository:
         return self.call(start=self.top / "release" / script)
 
     def checked(self):
-        """What `release/check` ended with, and said of the release."""
+        """Returns the status of `release/check`, and what it said of the release."""
         done = self.release("check")
         return done.returncode, done.stdout
 
@@ -88,7 +88,7 @@ class Repository:
         return len(counted.read_text().splitlines()) if counted.exists() else 0
 
     def touch(self, path, seconds):
-        """Gives the file a time so many seconds after that of the built file, if there is one."""
+        """Gives the file a time this many seconds after that of the built file, if there is one."""
         built = self.crate / "out" / "examoffice"
         if built.exists():
             time = built.stat().st_mtime + seconds
@@ -96,7 +96,8 @@ class Repository:
 
 
 def told(repository, done):
-    """What a run showed: its status, its output, whether it spoke of a build, and all builds."""
+    """Returns what a run showed: its status, its output, whether it spoke of a build, and all
+    builds."""
     return done.returncode, done.stdout, "building the program" in done.stderr, repository.builds()
 
 

@@ -75,7 +75,7 @@ class AnyOf:
 
 
 class Within:
-    """Stands for any output whose lines have at most so many characters."""
+    """Is equal to any output whose lines have at most this many characters."""
 
     def __init__(self, columns):
         self.columns = columns
@@ -223,9 +223,10 @@ CASES = [
     check("an exam too early", "small.exam", "early.sol", EARLY, "After 1 0"),
     check("a room too small", "small.exam", "crowded.sol", CROWDED,
           "Clash 0 1", "Capacity 0 0", "Capacity 1 1", "After 1 0"),
-    check("an exam not alone", "alone.exam", "together.sol", TOGETHER,
+    check("an exam with another in its room", "alone.exam", "together.sol", TOGETHER,
           "Exclusion 2 3", "RoomExclusive 2 3"),
-    check("an exam not alone, by lines that come twice", "alone_twice.exam", "together.sol",
+    check("an exam with another in its room, by lines that come twice", "alone_twice.exam",
+          "together.sol",
           TOGETHER, "Exclusion 2 3", "RoomExclusive 2 3"),
     check("over night", "nights.exam", "early.sol", NIGHTLY, "After 1 0"),
     check("over a weekend", "weekend.exam", "early.sol", EARLY, "After 1 0"),
@@ -288,7 +289,7 @@ CASES = [
          b"", b"examoffice: instance line 1: fault 3\n"),
     Case("solutions of a session that isn't there", ("check-all", "none.exam", "small.sol"), 1,
          b"", b"examoffice: cannot read none.exam\n"),
-    Case("solutions told to a full device",
+    Case("solutions printed to a full device",
          ("check-all", "small.exam", "three.sol", "small.sol", "none.sol"), 1, b"",
          b"three.sol: examoffice: solution line 4: fault 3\nexamoffice: cannot write\n",
          "/dev/full"),
@@ -300,11 +301,11 @@ CASES = [
     load("the smallest instance in an empty file", "empty.db", "smallest.exam", 1, 0, 1, 1),
     unloaded("a faulty instance", "spring.db", "five.exam", b"instance line 1: fault 3"),
     load("a right instance after a faulty one", "spring.db", "small.exam", 4, 6, 4, 2),
-    Case("the database behind the instance", ("load", "crlf.exam", "--db=crlf.db"), 0,
+    Case("the database after the instance", ("load", "crlf.exam", "--db=crlf.db"), 0,
          b"loaded exams 4 pairs 6 periods 4 rooms 2\n"),
-    Case("a load told to a full device", ("load", "--db", "full.db", "small.exam"), 1, b"",
+    Case("a load printed to a full device", ("load", "--db", "full.db", "small.exam"), 1, b"",
          b"examoffice: cannot write\n", "/dev/full"),
-    unloaded("a load that was not told", "full.db", "small.exam", b"store fault 1"),
+    unloaded("a load that was not printed", "full.db", "small.exam", b"store fault 1"),
     unloaded("no instance to load", "none.db", "none.exam", b"cannot read none.exam"),
     unloaded("neither instance nor database", "none/none.db", "none.exam",
              b"cannot read none.exam"),
@@ -319,7 +320,7 @@ CASES = [
          b"examoffice: cannot open database\n"),
     Case("a server of a file that is no database", served("small.sol"), 1, b"",
          b"examoffice: cannot open database\n"),
-    Case("a server that is told to a full device", served(), 1, b"",
+    Case("a server that prints to a full device", served(), 1, b"",
          b"examoffice: cannot write\n", "/dev/full"),
     unexported("an export where nothing is published", "term.db", b"no publication"),
     unexported("an export of an empty file", "bare.db", b"store fault 9"),
@@ -340,7 +341,7 @@ CASES = [
          Holding(b"there is no such fault")),
     Case("a fault of no kind", ("explain", "door", "1"), 2, b"",
          Holding(b"there is no such fault")),
-    Case("a fault told to a full device", ("explain", "file", "5"), 1, b"",
+    Case("a fault printed to a full device", ("explain", "file", "5"), 1, b"",
          b"examoffice: cannot write\n", "/dev/full"),
     Case("the version", ("-V",), 0, f"examoffice {VERSION}\n".encode()),
     Case("the version in full", ("--version",), 0, Holding(f"examoffice {VERSION}".encode()),
@@ -465,7 +466,7 @@ CASES = [
 
 
 def run(program, case, folder):
-    """What the program ended with: its status, standard output and standard error."""
+    """Returns how it ended: its status, standard output and standard error."""
     output = open(case.device, "wb") if case.device else subprocess.PIPE
     screen = os.openpty() if case.terminal else None
     journal = {"JOURNAL_STREAM": "8:1"} if case.journal else {}
@@ -488,7 +489,7 @@ def run(program, case, folder):
 
 
 def all_shown(screen):
-    """What a terminal shows: a NUL is written behind it and read for."""
+    """Returns what a terminal shows; a NUL that is written after it marks its end."""
     os.write(screen[1], b"\0")
     shown = b""
     while not shown.endswith(b"\0"):

@@ -70,7 +70,7 @@ class Office:
 
 
 def received(client, length):
-    """So many bytes of a connection, or fewer where it ends."""
+    """Returns this many bytes of a connection, or fewer if it ends."""
     parts = bytearray()
     while len(parts) < length:
         part = client.recv(min(length - len(parts), 65_536))
@@ -85,7 +85,7 @@ def rest(client):
 
 
 def told(client, question):
-    """What came back to all that was sent, or the error where the connection was reset."""
+    """Returns the replies to all that is sent, or the error if the connection is reset."""
     try:
         client.sendall(question)
         client.shutdown(socket.SHUT_WR)
@@ -95,7 +95,7 @@ def told(client, question):
 
 
 def asked(client, question, answer):
-    """Asks; what came back, of the answer's length."""
+    """Asks, and returns as many bytes as the answer has."""
     client.sendall(question)
     return received(client, len(answer))
 
@@ -193,7 +193,7 @@ def served_again(run, name, first, again, start=SMALL):
 
 
 def exported(run, database, **more):
-    """What `export` of a file ends with: its status, standard output and standard error."""
+    """Returns how `export` of a file ended: its status, standard output and standard error."""
     streams = {"stdout": subprocess.PIPE, "stderr": subprocess.PIPE, **more}
     done = subprocess.run([run.program, "export", "--db", str(database)], **streams,
                           stdin=subprocess.DEVNULL, timeout=SECONDS, check=False)
@@ -201,7 +201,7 @@ def exported(run, database, **more):
 
 
 def adopt_after_republication(run):
-    """What was published last is there, byte for byte, when the file is served again, and is
+    """The last publication is there, byte for byte, when the file is served again, and is
     exported. A file without tables is no office's, nor is one whose stored share was altered, and
     none is made where there are tables."""
     no_office = 1, b"", b"examoffice: store fault 9\n"
@@ -365,7 +365,7 @@ def most_pairs(run):
 
 
 def stock_curl(run):
-    """What a first user types."""
+    """The commands that a first user types."""
     office, caller = run.office(connections=3), ["-H", "X-Caller: office"]
     drafts = f"http://127.0.0.1:{office.port}/drafts/1"
     commands = [["--data-binary", f"@{EXAMPLES / 'small.sol'}", "-X", "PUT", drafts],
@@ -451,7 +451,7 @@ def vanish(client):
 
 
 def failing_reader_and_writer(run):
-    """A client that vanishes behind its reply, and one before it: the command stands, and the next
+    """Clients that vanish after their reply, and before it: the command is stored, and the next
     one is served."""
     office = run.office(connections=4)
     client = office.connect()
@@ -516,7 +516,7 @@ def closed_streams(run):
 
 def publication_is_told(run):
     """A terminal as standard error gets a line before a publication in a large file, and only
-    where the office asks for it; a small file is told of nowhere."""
+    where the office asks for it; a small file leads to no line."""
     for name, start, exchanges in ("a small file", SMALL, PUBLISHED), ("a large file", MANY,
                                                                        UNPLACED):
         reader, screen = os.openpty()
@@ -544,7 +544,7 @@ def publication_is_told(run):
 
 
 def trickle(act, seconds, times):
-    """Acts so often, so many seconds apart, until it fails."""
+    """Acts this many times, this many seconds apart, until it fails."""
     with contextlib.suppress(OSError):
         for _ in range(times):
             act()
@@ -599,7 +599,7 @@ def slow_clients(run):
 
 def patient_client(run):
     """Within its limits a client is served for longer than the patience: it waits before it asks,
-    and halfway through its message, and sends its next message behind the first half of one."""
+    and halfway through its message, and sends its next message after the first half of one."""
     office, patience = run.office(connections=1, patience=3), 3
     question, answer = message("GET", "/drafts/1"), error(404, "draft")
     middle, got, began = len(question) // 2, b"", time.monotonic()
@@ -690,7 +690,7 @@ def one_reply(client):
 
 
 def change_until_killed(office, rng, drafts):
-    """Makes changes until the office is gone: what stands, and what may stand beside it."""
+    """Makes changes until the office is gone. Returns what is stored, and what else may be."""
     asked_for, wrong = drafts, 0
     with contextlib.suppress(OSError):
         while True:
@@ -804,7 +804,7 @@ def words():
     parser.add_argument("program", metavar="PROGRAM")
     parser.add_argument("--kills", type=int, default=20, help="kills at random moments (20)")
     parser.add_argument("--plain", action="store_true",
-                        help="a program that has no limits of time and does not read on behind its "
+                        help="a program that has no limits of time and does not read on after its "
                              "last reply, as bench/office")
     return parser.parse_args()
 

@@ -168,7 +168,7 @@ EMPTY = ("owner", "draft", "slot", "placed", "seat", "share_student", "share_par
 
 
 def ended(*words):
-    """What a command ended with: its status, standard output and standard error."""
+    """Returns how it ended: its status, standard output and standard error."""
     done = subprocess.run(words, stdin=subprocess.DEVNULL, capture_output=True, timeout=SECONDS,
                           check=False)
     return done.returncode, done.stdout, done.stderr
@@ -280,7 +280,7 @@ def tables_that_stand_for_nothing(program, folder):
 
 
 def made_before(program, folder):
-    """What an earlier release left becomes version 2 of the same office, and is then left as it
+    """A file of an earlier release becomes version 2 of the same office, and is then left as it
     is."""
     office, wanted = folder / "before.db", folder / "wanted.db"
     new_tables = [text for text in documented() if text.startswith("CREATE TABLE night_")]

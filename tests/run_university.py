@@ -32,7 +32,7 @@ PATHS = ("/", "/me", "/me/penalty", "/-/user", "/labels/labels.json")
 
 
 class Times:
-    """What took how long."""
+    """The seconds that each act took."""
 
     def __init__(self):
         self.lines = []
@@ -52,7 +52,8 @@ def set_up(run, times):
     with times.of("session and labels from CSV"):
         subprocess.run([TOP / "tools" / "session_from_csv", UNIVERSITY, made], check=True)
     with times.of("load"):
-        subprocess.run([run.program, "load", "--db", database, made / "now" / "session.exam"], check=True,
+        subprocess.run([run.program, "load", "--db", database, made / "now" / "session.exam"],
+                       check=True,
                        stdout=subprocess.DEVNULL)
     office = Office(run.program, database)
     folder = run.folder / "university"
@@ -144,7 +145,7 @@ def seat_lists(run, times, reader, front, labels):
 
 
 def many_candidates(run, times, front):
-    """A hundred candidates behind one address open their pages at once."""
+    """A hundred candidates of one address open their pages at once."""
     def opened(user):
         return [front.told(message("GET", path, caller=None, fields=[
             password(user), "Accept: text/html,*/*"]))[0] for path in PATHS]

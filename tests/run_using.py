@@ -48,7 +48,8 @@ class Shell:
                 env={**os.environ, "CURL_HOME": str(folder)}, start_new_session=True)
 
     def answer(self, commands, expected):
-        """What the commands print; a program that they leave running may print a moment later."""
+        """Returns what the commands print; a program that they leave running may print a moment
+        later."""
         self.process.stdin.write(commands.encode() + b"printf '\\001'\n")
         self.process.stdin.flush()
         came, end = b"", time.monotonic() + SECONDS
@@ -63,7 +64,7 @@ class Shell:
         return came.replace(END, b"").decode()
 
     def ended(self):
-        """Ends the shell and what it left running; the exchanges that curl told."""
+        """Ends the shell and what it left running; returns the exchanges that curl printed."""
         os.killpg(self.process.pid, signal.SIGTERM)
         self.process.communicate()
         for line in self.errors.read_text().splitlines():

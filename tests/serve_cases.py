@@ -165,7 +165,7 @@ SEAT_HEAD = "student,exam,period,room,seat\n"
 SEAT_LIST, MOVED_SEATS = (
     f"{SEAT_HEAD}1,0,0,0,1\n2,0,0,0,2\n2,1,1,0,1\n3,1,1,0,2\n3,2,3,1,1\n{last}\n"
     for last in ("1,3,2,0,1", "1,3,3,1,2"))
-# Exam 2 moved out of the room and period where it stands with exam 3.
+# Exam 2 moved out of the room and period that it has with exam 3.
 OUT_TEXT = "0, 0\r\n1, 0\r\n0, 1\r\n3, 1\r\n"
 OUT_ROOMS = ("per room    used     cap  exams\n  0    0       2       3  0\n"
              "  0    1       1       2  2\n  1    0       2       3  1\n"
@@ -237,7 +237,7 @@ STORED = (
     ("parts with a night", NIGHTS, NIGHTLY, 43, PARTS, b"1|7|5|3|0|0|15|7|6 7|5|3|6 "))
 
 
-# What candidate 2 asks in either office: exam 2 exists in both, exam 4 in the other alone.
+# What candidate 2 asks in either office: exam 2 exists in both, exam 4 only in the other.
 SECOND_EXAMS = [(asked_by(2, f"/exam/{exam}"), answer) for exam, answer in
                 [*((exam, reply(200, SECOND[exam])) for exam in (0, 1)),
                  *((exam, error(404, "exam")) for exam in (2, 4, 9))]]
@@ -246,7 +246,7 @@ SECOND_ASKS = ((asked_by(2), SECOND_PAGE), *SECOND_EXAMS, (asked_by(2, "/penalty
 
 
 def moved_shown(places, parts, rooms, seats, third):
-    """What is shown of a publication in which exam 3 has moved, to whoever sees it."""
+    """The replies about a publication in which exam 3 has moved, for each caller."""
     return ((SHOWN[0], text(places)), (SHOWN[1], text(parts)), (SHOWN[2], text(rooms)),
             (SHOWN[3], text(seats)),
             (asked_by(1), me(1, 1, *FIRST_MOVED)), (asked_by(2), SECOND_PAGE), (asked_by(3), third))
