@@ -1,4 +1,4 @@
-"""A second, plain reader of a session's CSV files: in UTF-8, with commas and the tools' own columns."""
+"""A second, plain reader of a session's CSV files: in UTF-8, with commas and our own columns."""
 import csv
 import gzip
 
@@ -7,8 +7,9 @@ WEIGHTS = ["TWOINAROW", "TWOINADAY", "PERIODSPREAD", "NONMIXEDDURATIONS", "FRONT
 
 def rows(folder, table):
     path = folder / f"{table}.csv"
-    opened = path.open if path.exists() else lambda *_, **more: gzip.open(f"{path}.gz", "rt", **more)
-    with opened("r", encoding="utf-8", newline="") as file:
+    opened = open if path.exists() else gzip.open
+    found = path if path.exists() else f"{path}.gz"
+    with opened(found, "rt", encoding="utf-8", newline="") as file:
         return list(csv.DictReader(file))
 
 

@@ -21,20 +21,17 @@ import sys
 import tempfile
 import unicodedata
 
-TOP = pathlib.Path(__file__).resolve().parent.parent
-sys.dont_write_bytecode = True
-sys.path.insert(0, str(TOP / "tools"))
-
-import browser  # noqa: E402
-from cases import Cases  # noqa: E402
-from front_page import reading  # noqa: E402
-from registry.csv_tables import Faults, Wanted  # noqa: E402
-from registry.ledger import Ledger  # noqa: E402
-from registry.made_files import sealed_json, student_numbers  # noqa: E402
-from registry.session import read_session  # noqa: E402
-from registry.update import bring_up_to_date  # noqa: E402
-from run_front import NGINX, Front  # noqa: E402
-from run_serve import Office, Run  # noqa: E402
+import browser
+from cases import Cases
+from front_page import reading
+from tools_path import TOP
+from registry.csv_tables import Faults, Wanted
+from registry.ledger import Ledger
+from registry.made_files import sealed_json, student_numbers
+from registry.session import read_session
+from registry.update import bring_up_to_date
+from run_front import NGINX, Front
+from run_serve import Office, Run
 
 SMALL, UNIVERSITY = TOP / "examples" / "small", TOP / "examples" / "university"
 TOOL = TOP / "tools" / "session_from_csv"
@@ -206,7 +203,7 @@ FURTHER = [
      f"{SIZES}1 title and 0 names brought up to date, 0 new students\n"),
     ("a new student in front", [A_NEW_STUDENT], 0, SIZES.replace("3 students, 6", "4 students, 7")
      + "0 titles and 0 names brought up to date, 1 new student\n1 enrolment more and 0 fewer than "
-     "the office should have: send them as late changes\n"),
+     "the office should have: tools/changes_from_csv sends them\n"),
     ("a name", [("enrolments", "Ada Archer", "Ada Adams")], 0,
      f"{SIZES}0 titles and 1 name brought up to date, 0 new students\n"),
     ("another building and another title of the session", [

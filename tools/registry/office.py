@@ -3,6 +3,7 @@ from __future__ import annotations
 
 import base64
 import os
+import re
 import urllib.error
 import urllib.parse
 import urllib.request
@@ -20,7 +21,12 @@ TOKEN = "EXAMOFFICE_TOKEN"
 
 
 class Refused(Exception):
-    """An office that can't be asked, or that refuses, in words."""
+    """An office that can't be asked (status 0), or that refuses, in words."""
+
+    def __init__(self, words: str, status: int = 0, answer: str = "") -> None:
+        super().__init__(words)
+        self.status, found = status, re.search(r'"error":"([a-z-]+)"', answer)
+        self.error = found[1] if found else ""
 
 
 class Office:
@@ -45,8 +51,9 @@ class Office:
                 text: str = reply.read().decode()
                 return text
         except urllib.error.HTTPError as refusal:
-            raise Refused(f"{method} {path} is refused with {refusal.code}: "
-                          f"{refusal.read(200).decode('utf-8', 'replace')}") from refusal
+            answer = refusal.read(200).decode("utf-8", "replace")
+            raise Refused(f"{method} {path} is refused with {refusal.code}: {answer}", refusal.code,
+                          answer) from refusal
         except OSError as fault:
             raise Refused(f"{self.address} can't be asked: {fault}") from fault
 
