@@ -109,13 +109,18 @@ def functions(crate):
     return set(re.findall(r"\b(?:fn|struct|enum|trait|type) (\w+)", text))
 
 
-def main(folder=TOP):
-    judged = Cases("links")
-    folder = pathlib.Path(folder).resolve()
+def judge(judged, folder):
+    """Judges each link of the pages below a folder."""
     for page in pages(folder):
         for link in content(page)[0]:
             judged.judge(f"{page.relative_to(folder)}: {link}", None,
                          fault(page, link, page.parent))
+
+
+def main(folder=TOP):
+    judged = Cases("links")
+    folder = pathlib.Path(folder).resolve()
+    judge(judged, folder)
     if folder == TOP:
         for number, name, crate in walked(TOP / "docs" / "MAP.md"):
             judged.judge(f"docs/MAP.md:{number}: {name} is in {crate}", True,

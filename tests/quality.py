@@ -75,18 +75,18 @@ def files():
 
 # ---- Tools
 
+# Debian has nginx where only root's PATH reaches.
+PATH = f"{os.environ['PATH']}:/usr/sbin"
 # Debian's own Node finds Debian's modules; another one needs the path.
 NODE = {"NODE_PATH": "/usr/share/nodejs:/usr/lib/nodejs"}
 
 
-def complaints(words, env=None, cwd=TOP):
+def complaints(words, env=None):
     """Returns the lines that a tool prints; one more if it fails and prints none."""
-    if not shutil.which(words[0], path=f"{os.environ['PATH']}:/usr/sbin"):
-        return [f"{words[0]} is not installed (tests/packages)"]
     done = subprocess.run(
-        words, cwd=cwd, stdin=subprocess.DEVNULL, stdout=subprocess.PIPE, stderr=subprocess.STDOUT,
+        words, cwd=TOP, stdin=subprocess.DEVNULL, stdout=subprocess.PIPE, stderr=subprocess.STDOUT,
         text=True, check=False,
-        env={**os.environ, "PATH": f"{os.environ['PATH']}:/usr/sbin", **(env or {})})
+        env={**os.environ, "PATH": PATH, **(env or {})})
     said = [line for line in done.stdout.splitlines() if line.strip()]
     return said or ([f"{words[0]} ended with status {done.returncode}"] if done.returncode else [])
 
@@ -169,8 +169,6 @@ def mandoc(kinds):
 
 def described(_):
     """Returns the faults of the schemas of docs/openapi.yaml."""
-    if openapi.missing():
-        return [f"{name} is not installed (tests/packages)" for name in openapi.missing()]
     document = openapi.read((TOP / "docs" / "openapi.yaml").read_text())
     validator = openapi.jsonschema.Draft202012Validator
     said = []
@@ -278,14 +276,27 @@ def links(_):
     return [] if said[-1].endswith(" 0 failed") else said
 
 
+# Each check, and the program that it needs.
 CHECKS = {
-    "files without a check": unknown, "exceptions": exceptions, "proofs": long_proofs,
-    "shellcheck": shellcheck, "C++": warnings, "flake8": flake8, "mypy of tools": mypy_of_tools,
-    "mypy of tests": mypy_of_tests, "eslint": eslint, "types of scripts": types,
-    "functions of pages": node_tests, "ids": ids, "styles": styles, "nginx": nginx, "tidy": tidy,
-    "mandoc": mandoc,
-    "openapi": described, "JSON": json_files, "links": links,
+    "files without a check": (unknown, "git"), "exceptions": (exceptions, "git"),
+    "proofs": (long_proofs, "git"), "shellcheck": (shellcheck, "shellcheck"),
+    "C++": (warnings, "g++"), "flake8": (flake8, "flake8"),
+    "mypy of tools": (mypy_of_tools, "mypy"),
+    "mypy of tests": (mypy_of_tests, "mypy"), "eslint": (eslint, "eslint"),
+    "types of scripts": (types, "tsc"), "functions of pages": (node_tests, "node"),
+    "ids": (ids, "git"), "styles": (styles, "git"), "nginx": (nginx, "nginx"),
+    "tidy": (tidy, "tidy"),
+    "mandoc": (mandoc, "mandoc"), "openapi": (described, "git"), "JSON": (json_files, "git"),
+    "links": (links, "git"),
 }
+
+
+def lacks(name):
+    """What a check needs and isn't installed; None if nothing is."""
+    tool = CHECKS[name][1]
+    if not shutil.which(tool, path=PATH):
+        return tool
+    return " and ".join(openapi.missing()) or None if name == "openapi" else None
 
 
 def excepted(complaint):
@@ -297,8 +308,11 @@ def excepted(complaint):
 
 def main(names):
     judged = Cases("quality")
-    kinds = files()
-    checks = {name: CHECKS[name] for name in names or CHECKS}
+    checks = {name: CHECKS[name][0] for name in names or CHECKS}
+    for name in [name for name in checks if lacks(name)]:
+        print(f"quality: {name} is left out without {lacks(name)}")
+        del checks[name]
+    kinds = files() if checks else {}
     with concurrent.futures.ThreadPoolExecutor(3) as pool:
         for name, said in zip(checks, pool.map(lambda check: check(kinds), checks.values())):
             faults = [line for line in said if not excepted(line)]
