@@ -6,13 +6,15 @@ import test from 'node:test';
 // Node has no navigator before its version 21.
 globalThis.navigator ??= { languages: ['en-GB'] };
 const {
-  batchText, changesIn, effectOf, examFinder, inverseOf, studentFinder,
-} = await import('../front/page/batches.js');
+  batchTexts, changesOfList, effectOf, inverseText, linesIn,
+} = await import('../front/page/batch_lines.js');
 const { calendarText } = await import('../front/page/calendar.js');
 const { columnsOf, csvText, recordsOf } = await import('../front/page/csv.js');
+const { distance, fold, studentIdentities } = await import('../front/page/identities.js');
 const {
   differences, differencesForCandidate, differencesForDepartment, faultsOfNames, isSealed, Names,
 } = await import('../front/page/labels.js');
+const { clashesOf, fullRoomsOf } = await import('../front/page/preview.js');
 
 const LABELS = {
   departments: { 1: 'Mathematics' },
@@ -23,7 +25,8 @@ const LABELS = {
 };
 const SESSION = { candidates: [[1, 2], [1]], minutes: [120, 60], capacities: [3, 2],
   periods: LABELS.periods };
-const STUDENTS = [{ number: 12, id: 's12' }, { number: 3, id: 's3' }, { number: 2, id: '0000002' }];
+const STUDENTS = [{ number: 12, id: 's12', name: "D'Angelo, Chloë" },
+  { number: 3, id: 's3', name: 'Bo Łukasz' }, { number: 2, id: '0000002', name: '' }];
 
 /** A copy of the labels with one field of one row changed. */
 const changed = (table, row, field, value) => ({ ...LABELS,
@@ -36,27 +39,92 @@ function cases(about, table) {
   }
 }
 
-const batchOf = (text) => {
-  const { changes, faults } = changesIn(text, studentFinder(STUDENTS),
-    examFinder(new Names(LABELS), SESSION));
-  return faults.length ? faults : batchText(changes);
+/** The names of a session, with students and with what was changed here. */
+const namesOf = (students, here = []) => Object.assign(new Names(LABELS), { students, here });
+const KNOWN = namesOf(STUDENTS);
+const batchOf = (text, names = KNOWN) => {
+  const { isList, changes, faults } = linesIn(text, names, SESSION);
+  return faults.length ? faults : [isList, ...batchTexts(changes)];
 };
 const HEADER = 'student,exam,action\n';
 
 cases('CSV texts of spreadsheets become batches', [
-  ['other words and another order', `${HEADER}12,0,add\n`,
+  ['other words and another order', [false, `${HEADER}12,0,add\n`],
     () => batchOf('Exam,Status,Candidate no.\nMATH101,enrolled,s12\n')],
-  ['semicolons and quotes', `${HEADER}3,1,drop\n`,
-    () => batchOf('"student";"exam";"action"\r\n"s3";"phys102";"Withdrawn"\r\n')],
-  ['tabs, a mark at the front, an ID with zeros', `${HEADER}2,1,add\n`,
-    () => batchOf('\ufeffSTUDENT NUMBER\tModule code\tChange\n0000002\t1\t+\n')],
-  ['a remark of two lines', `${HEADER}1,0,add\n2,0,drop\n`,
-    () => batchOf('student,exam,action,remark\n1,0,add,"moved, ""late""\nin May"\n2,0,drop,')],
-  ['unknown words', ['Line 2: unknown student x', 'Line 3: unknown exam 2',
-    'Line 4: unknown action ad; it must be add or drop'],
-  () => batchOf(`${HEADER}x,0,add\n1,2,add\n1,0,ad\n`)],
-  ['no column', ['Line 1: there is no column for action'], () => batchOf('student,exam\n1,0')],
+  ['semicolons, quotes, capital letters', [false, `${HEADER}3,1,drop\n`],
+    () => batchOf('"student";"exam";"action"\r\n"S3";"phys102";"Withdrawn"\r\n')],
+  ['tabs, a mark at the front, an ID with fewer zeros', [false, `${HEADER}2,1,add\n`],
+    () => batchOf('\ufeffSTUDENT NUMBER\tModule code\tChange\n002\tPHYS102\t+\n')],
+  ['a remark of two lines, and the office\'s numbers', [false, `${HEADER}1,0,add\n2,0,drop\n`],
+    () => batchOf('office student,office exam,action,remark\n1,0,add,"moved, ""late""\nin May"\n'
+      + '2,0,drop,')],
+  ['numbers, where there are no names', [false, `${HEADER}7,1,add\n`],
+    () => batchOf(`${HEADER}7,1,add\n`, new Names())],
+  ['unknown words', ['Line 2: A12: no such student. s12 is D\'Angelo, Chloë',
+    'Line 3: Bo Lukasz: no such student. s3 is Bo Łukasz',
+    'Line 3: MATH1O1: no such exam. MATH101 is Calculus',
+    'Line 4: unknown action ad; it must be add, drop or new',
+    'Line 5: X123456: no such student', 'Line 6: nothing: no such exam'],
+  () => batchOf(`${HEADER}A12,MATH101,add\nBo Lukasz,MATH1O1,add\ns3,MATH101,ad\n`
+    + 'X123456,MATH101,add\ns3,,add\n')],
+  ['numbers, where there are names', ['Line 2: 9: no such student; if it is the '
+    + 'office\'s number, call the column "office student"', 'Line 2: 0: no such exam; if it is the '
+    + 'office\'s number, call the column "office exam"'], () => batchOf(`${HEADER}9,0,add\n`)],
+  ['an exam that does not exist', ['Line 2: unknown exam 2'],
+    () => batchOf('student,office exam,action\ns3,2,add\n')],
+  ['a name of somebody else', ['Line 3: s3 is Bo Łukasz, not Chloe DAngelo'],
+    () => batchOf('student,name,exam,action\ns12,Chloe d’Angelo,MATH101,add\n'
+      + 's3,Chloe DAngelo,MATH101,add\n')],
+  ['a new student', ['Line 2: a new student is added by tools/changes_from_csv, not on this page'],
+    () => batchOf(`${HEADER}r9,MATH101,new\n`)],
+  ['a list', [true, `${HEADER}12,0,add\n3,1,add\n`],
+    () => batchOf('Student ID;Course code\ns12;MATH101\ns3;PHYS102\n')],
+  ['a list without names', ['Line 1: there is no column for action. A full list of enrolments has '
+    + 'none, but needs the names of this session'], () => batchOf('student,exam\n1,0', new Names())],
+  ['no column', ['Line 1: there is no column for exam (there are: student, action)'],
+    () => batchOf('student,action\n1,add')],
   ['no line', ['There is no line after the first'], () => batchOf(HEADER)],
+]);
+
+const MARKS = [['García', 'garcia'], ['OBrien', 'obrien'], ["O'Neill", 'oneill'], ['O’Neill', 'oneill'],
+  ['Łukasiewicz', 'lukasiewicz'], ['Großmann', 'grossmann'], ['Nguye\u0302\u0303n', 'nguyen'],
+  ['李', '李']];
+
+cases('who is who', [
+  ...MARKS.map(([name, words]) => [`${name} without marks`, words, () => fold(name)]),
+  ['how much texts differ', [0, 1, 1, 1, 3], () => [['a', 'a'], ['ab', 'a'], ['ab', 'xb'],
+    ['01000223', 'A1000223'], ['', 'abc']].map(([one, other]) => distance(one, other))],
+  ['one ID that lost its zeros, and two that are alike', [2, 7, null, null],
+    () => ['2', '07', '7', '5'].map((text) => studentIdentities([...STUDENTS,
+      { number: 7, id: '07', name: '' }, { number: 8, id: '007', name: '' }]).number(text))],
+]);
+
+// Students 1 and 2 take exam 0, student 1 takes exam 1; student 3 was added here, 2 was dropped.
+const LISTED = namesOf([{ number: 1, id: 'a', exams: [0, 1] }, { number: 2, id: 'b', exams: [0] },
+  { number: 3, id: 'c', exams: [1] }], [
+  { student: 3, exam: 1, action: 'add', at: '2027-05-14T10:00:00Z', by: 'ada' },
+  { student: 2, exam: 1, action: 'drop', at: '2027-05-13T10:00:00Z', by: 'ben' }]);
+const differing = (pairs, candidates) => {
+  const { changes, kept } = changesOfList(pairs.map(([student, exam]) => ({ student, exam })), LISTED,
+    candidates);
+  return [changes.map(({ student, exam, action }) => `${student},${exam},${action}`),
+    kept.map(({ student, exam, action, by }) => `${student},${exam},${action} ${by}`)];
+};
+
+cases('a full list', [
+  ['the same', [[], []], () => differing([[1, 0], [2, 0], [1, 1], [3, 1]], [[1, 2], [1, 3]])],
+  ['drops before adds', [['1,0,drop', '4,0,add'], []],
+    () => differing([[4, 0], [2, 0], [1, 1], [3, 1]], [[1, 2], [1, 3]])],
+  ['what was changed here', [[], ['3,1,add ada', '2,1,drop ben']],
+    () => differing([[1, 0], [2, 0], [1, 1], [2, 1]], [[1, 2], [1, 3]])],
+  ['what was changed on the page since', [[], ['4,0,add undefined', '1,0,drop undefined']],
+    () => differing([[1, 0], [2, 0], [1, 1], [3, 1]], [[2, 4], [1, 3]])],
+  ['batches that are short enough', [3, true, 120_000], () => {
+    const texts = batchTexts([...Array(120_000).keys()].map((number) => (
+      { student: 100_000_000 + number, exam: 1_000 + (number % 500), action: 'drop' })));
+    return [texts.length, texts.every((text) => text.length <= 1_048_576 && text.startsWith(HEADER)),
+      texts.join('').split('\n').length - 1 - texts.length];
+  }],
 ]);
 
 const read = (text) => text.split(' ').map((line) => line.split(','))
@@ -64,11 +132,26 @@ const read = (text) => text.split(' ').map((line) => line.split(','))
 // Candidates 1 and 3 take exam 0, candidate 2 takes exam 1.
 const effect = effectOf(read('1,0,add 5,0,add 1,1,add 2,1,drop 2,1,drop 7,1,drop'), [[1, 3], [2]]);
 
+// Exams 0 and 1 are at one time; exam 0 is in a room of 3 seats, exam 1 in one of 2.
+const TIMETABLE = { places: [{ exam: 0, period: 0, room: 0 }, { exam: 1, period: 0, room: 1 }] };
+const USED = { uses: [{ period: 0, room: 0, exams: [0, 1] }] };
+const PLACED = { candidates: [[1, 3], [2]], capacities: [3, 2] };
+
 cases('what changes do', [
   ['how many act, and how many do not', [2, 1, 1, 2],
     () => [effect.add, effect.drop, effect.there, effect.absent]],
-  ['their opposite, the last one first', read('2,1,add 1,1,drop 5,0,drop'),
-    () => inverseOf(effect.acting)],
+  ['their opposite, the last one first',
+    'office student,office exam,action\n2,1,add\n1,1,drop\n5,0,drop\n',
+    () => inverseText(effect.acting, new Names())],
+  ['their opposite, by IDs and codes', `${HEADER}0000002,PHYS102,add\n1,PHYS102,drop\n5,MATH101,drop\n`,
+    () => inverseText(effect.acting, KNOWN)],
+  ['two exams at one time', [{ student: 1, exams: [0, 1] }],
+    () => clashesOf(effect.acting, PLACED.candidates, TIMETABLE)],
+  ['no timetable', [], () => clashesOf(effect.acting, PLACED.candidates, undefined)],
+  // Exam 0 has three candidates then, exam 1 one.
+  ['rooms with enough seats', [], () => fullRoomsOf(effect.acting, PLACED, TIMETABLE)],
+  ['a room that is too small', [4], () => fullRoomsOf(effect.acting, PLACED, USED)
+    .map(({ needed }) => needed)],
 ]);
 
 cases('CSV', [

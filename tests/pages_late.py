@@ -6,14 +6,23 @@ from serve_cases import batch_text
 CHECK = "click #batch button"
 SEND = "click #batch-send"
 NUMBER, LINES, PREVIEW = "value #batch-number", "value #batch-lines", "hidden #batch-preview"
-FILE_LINES = b"student,exam,action\r\n2,0,add"
+FILE_LINES = b"office student,office exam,action\r\n2,0,add"
 # What is wrong with lines that can't be sent.
 WRONG_LINES = [
-    ("student,exam,action\n3,0,ad", "Line 2: unknown action ad; it must be add or drop"),
-    ("student,exam,action\n3,0,add\nx,1,add", "Line 3: unknown student x"),
-    ("student,exam,action\n\n3,4,add", "Line 3: unknown exam 4"),
-    ("Student ID;Exam code;Action\ns1;MATH999;enrol", "Line 2: unknown exam MATH999"),
-    ("student,exam\n1,0", "Line 1: there is no column for action"),
+    ("student,exam,action\ns3,MATH101,ad",
+     "Line 2: unknown action ad; it must be add, drop or new"),
+    ("student,exam,action\ns3,MATH101,add\nA3,MATH102,add",
+     "Line 3: A3: no such student. s3 is Cleo Carter"),
+    ("student,exam,action\n3,MATH101,add", "Line 2: 3: no such student. s3 is Cleo Carter; if it "
+     'is the office\'s number, call the column "office student"'),
+    ("student,office exam,action\n\ns3,4,add", "Line 3: unknown exam 4"),
+    ("Student ID;Exam code;Action\ns1;MATH1O1;enrol",
+     "Line 2: MATH1O1: no such exam. MATH101 is Calculus"),
+    ("student,name,exam,action\ns1,Ben Baker,MATH101,drop",
+     "Line 2: s1 is Ada Archer, not Ben Baker"),
+    ("student,exam,action\nr9,MATH101,new",
+     "Line 2: a new student is added by tools/changes_from_csv, not on this page"),
+    ("student,action\ns1,add", "Line 1: there is no column for exam (there are: student, action)"),
     ("student,exam,action\n", "There is no line after the first"),
 ]
 TAKEN = ("Batch 504010800 was refused. A different batch was already sent under this number. "
@@ -39,7 +48,12 @@ def by_keyboard(page, front):
          {"focused": "Check"}),
         ("what a batch would do", "press enter", {
             PREVIEW: False, "#batch-effect": "1 to add, 1 to drop, 1 already there.",
-            "focused": "Send batch 504010800"}))
+            "focused": "Send batch 504010800",
+            "rows #batch-lists tr": [
+                ["Candidate", "Exam"], ["Ben Baker\ns2", "MATH101\nCalculus"],
+                ["Candidate", "Exam"], ["Ben Baker\ns2", "MATH101\nCalculus"],
+                ["Candidate", "Exam", "Why"],
+                ["Cleo Carter\ns3", "MATH101\nCalculus", "enrolled already"]]}))
     page.run.judge("nothing is sent yet", False, any(
         "/batches/504010800" in target for _, target, _, _ in front.exchanges()))
     page.steps(("what a batch did", "press enter", {
@@ -58,7 +72,7 @@ def faulty_lines(page):
             "said": f"{FAULT}\n{fault}", "fault": ["batch-lines", "true", FAULT], LINES: lines,
             PREVIEW: True})
           for lines, fault in WRONG_LINES),
-        ("a number that is taken", [*pasted("student,exam,action\n3,0,add"),
+        ("a number that is taken", [*pasted("student,exam,action\ns3,MATH101,add"),
                                     ("set", "#batch-number", "504010800"), CHECK, SEND],
          {"said": TAKEN, "fault": ["batch-number", "true", TAKEN]}))
 
@@ -75,13 +89,49 @@ def files_of_lines(page, front):
         ("a file is checked", [choose, CHECK], {PREVIEW: False}),
         ("a file is sent", SEND, {"said": "Batch 9 is accepted: 1 added, 0 dropped, 0 unchanged."}))
     page.run.judge("its bytes", (200, b'{"added":1,"batch":9,"dropped":0,"unchanged":0}'),
-                   front.told(ask("registry", "PUT", "/batches/9", FILE_LINES)))
+                   front.told(ask("registry", "PUT", "/batches/9", batch_text("2,0,add"))))
     page.steps(
         ("the opposite of a batch", "click #batch-inverse",
-         {LINES: "student,exam,action\n2,0,drop\n"}),
+         {LINES: "student,exam,action\ns2,MATH101,drop\n"}),
         ("the opposite is checked", CHECK, {PREVIEW: False}),
         ("it takes the batch back", SEND, {
             "said": "Batch 504010801 is accepted: 0 added, 1 dropped, 0 unchanged."}))
+
+
+LIST = ("Student ID;Course code\ns1;MATH101\ns1;PHYS102\ns2;MATH101\ns2;MATH102\ns3;MATH102\n"
+        "s3;PHYS101\n")
+KEPT = [["Candidate", "Exam", "Why"],
+        ["Cleo Carter\ns3", "MATH101\nCalculus", "added, changed here"],
+        ["Ben Baker\ns2", "MATH101\nCalculus", "dropped, changed here"]]
+
+
+def full_lists(page):
+    """A whole list becomes the changes that it lacks; what was changed here stays."""
+    room = page.moment("2005-04-18", "09:30:00")
+    page.steps(
+        ("a list that was sent already", pasted(LIST), {
+            PREVIEW: False, "#batch-effect": "0 to add, 0 to drop, 2 kept.",
+            "hidden #batch-send": True}),
+        ("what was changed on the page stays", [], {"rows #batch-lists tr": KEPT}),
+        ("a list with one more", pasted(f"{LIST}s2;PHYS102\n"), {
+            "#batch-effect": "1 to add, 0 to drop, 2 kept.", "rows #batch-lists tr": [
+                ["Candidate", "Exam"], ["Ben Baker\ns2", "PHYS102\nOptics"],
+                ["Room", "Period", "Candidates"],
+                ["Room 2.14, Physics building", room, "3 candidates, 2 seats"],
+                *KEPT]}),
+        ("a list with one less", pasted(LIST.replace("s3;PHYS101\n", "")), {
+            "#batch-effect": "0 to add, 1 to drop, 2 kept."}),
+        ("more than a tenth is asked about", SEND, {
+            "open #confirm": True, "#confirm-title": "Drop 1 enrolments?"}),
+        ("nothing is sent then", "click #confirm button", {"open #confirm": False, PREVIEW: False}),
+        ("two exams at one time", pasted("student,exam,action\ns1,PHYS101,add"), {
+            "rows #batch-lists tr": [
+                ["Candidate", "Exam"], ["Ada Archer\ns1", "PHYS101\nMechanics"],
+                ["Candidate", "Exam", "Exam"],
+                ["Ada Archer\ns1", "PHYS101\nMechanics", "PHYS102\nOptics"],
+                ["Room", "Period", "Candidates"],
+                ["Room 2.14, Physics building", room, "3 candidates, 2 seats"]]}),
+        ("it is left", "reset #batch", {LINES: ""}))
 
 
 def late_changes(run, chromium, front):
@@ -90,3 +140,4 @@ def late_changes(run, chromium, front):
         by_keyboard(page, front)
         faulty_lines(page)
         files_of_lines(page, front)
+        full_lists(page)

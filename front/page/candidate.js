@@ -17,6 +17,7 @@ const NOTES = {
     + 'It will disappear from this page when the timetable is next published.'],
 };
 
+/** @type {[string, string, string][]} */
 const PARTS = [
   ['row', 'Two exams in a row', 'one directly after the other on the same day'],
   ['day', 'Two exams on one day', 'with at least one period between them'],

@@ -6,13 +6,16 @@ const SEPARATORS = [',', ';', '\t'];
  * Returns the records of a CSV text that aren't empty: each with its line and its fields, trimmed.
  * What separates them is what the first line has most of: commas, semicolons or tabs. A field may be
  * quoted; a quote that isn't closed ends with the text.
+ * @param {string} text
+ * @returns {{line: number, fields: string[]}[]}
  */
 export function recordsOf(text) {
   const [first] = text.split('\n', 1);
   const times = (sign) => first.split(sign).length;
   const separator = SEPARATORS.reduce((one, other) => (times(other) > times(one) ? other : one));
   const records = [];
-  let [line, began, fields, field, isQuoted] = [1, 1, [], '', false];
+  let fields = /** @type {string[]} */ ([]);
+  let [line, began, field, isQuoted] = [1, 1, '', false];
   const endField = () => {
     fields.push(field.trim());
     field = '';

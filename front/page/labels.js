@@ -124,6 +124,7 @@ export async function applyOfficeNames(labels, session) {
   if (!names.labels) return names;
   showNote(cautionOf(labels, file));
   names.students = file?.students ?? [];
+  names.here = file?.here ?? [];
   return names;
 }
 
@@ -167,6 +168,11 @@ export class Names {
     this.labels = labels;
     /** @type {{number: number, id: string, name: string, exams?: number[]}[]} */
     this.students = [];
+    /**
+     * Enrolments that were changed here, and not by a list of the student system.
+     * @type {{student: number, exam: number, action: string, at: string, by: string}[]}
+     */
+    this.here = [];
   }
 
   /** What the university calls an exam: its code, or "Exam 0". */

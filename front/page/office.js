@@ -93,6 +93,12 @@ function refusalText(status, answer) {
  * the reader; if a field is at fault, it has the field's id.
  */
 export class Refusal extends Error {
+  /**
+   * @param {number} status
+   * @param {{error?: string, rule?: string}} answer
+   * @param {string} message
+   * @param {{details?: Node[], field?: string}} more
+   */
   constructor(status, answer, message = refusalText(status, answer), { details, field } = {}) {
     super(message);
     this.details = details ?? [];
@@ -173,6 +179,7 @@ const isPresent = (it) => it !== null && it !== undefined && it !== false;
 // On a phone the rows of a table are shown as blocks. Some screen readers then no longer take it for a
 // table, so its roles are written out.
 const ROLES = { table: 'table', thead: 'rowgroup', tbody: 'rowgroup', tr: 'row', td: 'cell' };
+/** @type {(name: string, attributes: {scope?: string}) => string|undefined} */
 const roleOf = (name, { scope }) => (
   name === 'th' ? `${scope === 'col' ? 'column' : 'row'}header` : ROLES[name]);
 
@@ -193,6 +200,10 @@ export const columnHead = (...children) => element('th', { scope: 'col' }, ...ch
 export const small = (...children) => element('span', {}, ...children);
 export const unseen = (name, text) => element(name, { class: 'unseen' }, text);
 
+/**
+ * An element of the page, which has it; of which kind it is, is said there.
+ * @type {(id: string) => any}
+ */
 export const byId = (id) => document.getElementById(id);
 
 const numerals = new Intl.NumberFormat(language);

@@ -1,6 +1,6 @@
 // Who sits where: the seat list of the published timetable, searched, compared, downloaded, printed.
-import { studentFinder } from './batches.js';
 import { csvText } from './csv.js';
+import { fold, studentIdentities } from './identities.js';
 import {
   ask, byId, cell, columnHead, count, dayInShort, download, element, numeral, Refusal, row, rowHead,
   showProgress, time, unseen,
@@ -37,12 +37,15 @@ export class People {
     return this.byNumber.get(number)?.name ?? '';
   }
 
-  /** The numbers of the students whose number or ID this is, or whose names have these words. */
+  /** The numbers of the students whose ID or number this is, or whose names have these words. */
   found(text) {
-    const words = text.toLowerCase().split(/\s+/).filter(Boolean);
-    const number = studentFinder(this.students)(text.trim());
-    const named = words.length ? this.students.filter(({ name }) => (
-      words.every((word) => name.toLowerCase().includes(word)))) : [];
+    const words = fold(text).split(/\s+/).filter(Boolean);
+    const number = studentIdentities(this.students).number(text.trim())
+      ?? (/^\d{1,9}$/.test(text.trim()) ? Number(text) : null);
+    const named = words.length ? this.students.filter(({ name }) => {
+      const folded = fold(name ?? '');
+      return words.every((word) => folded.includes(word));
+    }) : [];
     return new Set([...(number === null ? [] : [number]), ...named.map((student) => student.number)]);
   }
 }

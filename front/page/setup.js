@@ -32,7 +32,8 @@ export function ownersIn(text, names, exams) {
   const codes = new Map((names.labels?.exams ?? []).map(({ code }, i) => [code.toLowerCase(), i]));
   const departments = new Map(Object.entries(names.labels?.departments ?? {})
     .map(([number, name]) => [name.toLowerCase(), Number(number)]));
-  const numberIn = (text, most) => (/^\d{1,9}$/.test(text) && Number(text) <= most ? Number(text) : null);
+  const numberIn = (digits, most) => (
+    /^\d{1,9}$/.test(digits) && Number(digits) <= most ? Number(digits) : null);
   const faults = [];
   const owners = records.map(({ line, fields }) => {
     const [exam, department] = Object.values(columns).map((column) => fields[column] ?? '');

@@ -7,6 +7,7 @@ import re
 from collections.abc import Collection, Iterator, Mapping
 from typing import Any
 
+from .changes import base_pairs, changes_here
 from .ledger import Ledger
 from .session import TEXTS, WEIGHTS, Session
 
@@ -119,9 +120,17 @@ def students_of(ledger: Ledger, session: Session) -> dict[str, Any]:
     exams: dict[int, list[int]] = {}
     for student, exam in sorted(ledger.expected_pairs()):
         exams.setdefault(student, []).append(exam)
-    return {"students": [{"number": student.number, "id": student.id, "name": student.name,
-                          "exams": exams.get(student.number, [])} for student in ledger.students()],
-            "session": frame_of(session)}
+    students = [{"number": student.number, "id": student.id, "name": student.name,
+                 "exams": exams.get(student.number, [])} for student in ledger.students()]
+    return {"here": changed_here(ledger), "students": students, "session": frame_of(session)}
+
+
+def changed_here(ledger: Ledger) -> list[dict[str, Any]]:
+    """The enrolments that differ from the student system's last list, because they were changed
+    here."""
+    differing = base_pairs(ledger) ^ ledger.expected_pairs()
+    return [{"student": pair[0], "exam": pair[1], "action": made.action, "at": made.at,
+             "by": made.by} for pair, made in changes_here(ledger).items() if pair in differing]
 
 
 def session_file(ledger: Ledger, session: Session) -> str:
