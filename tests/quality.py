@@ -168,16 +168,11 @@ def mandoc(kinds):
 
 
 def described(_):
-    """Returns the faults of the schemas of docs/openapi.yaml."""
+    """Returns the members of docs/openapi.yaml that have another form than OpenAPI's."""
+    shape = json.loads((TOP / "tests" / "openapi_shape.json").read_text())
     document = openapi.read((TOP / "docs" / "openapi.yaml").read_text())
-    validator = openapi.jsonschema.Draft202012Validator
-    said = []
-    for name, schema in document["components"]["schemas"].items():
-        try:
-            validator.check_schema(schema)
-        except openapi.jsonschema.SchemaError as error:
-            said.append(f"docs/openapi.yaml: {name}: {error.message}")
-    return said
+    return [f"docs/openapi.yaml: {'/'.join(map(str, fault.absolute_path))}: {fault.message:.300}"
+            for fault in openapi.jsonschema.Draft202012Validator(shape).iter_errors(document)]
 
 
 def json_files(kinds):
