@@ -50,7 +50,6 @@ def registrys_page(run, chromium, front):
 
 # ---- Publishing
 
-OPEN = "document.querySelector('#confirm').open"
 ASKS = [f"focus {PUBLISH % 2}", "press enter"]
 
 

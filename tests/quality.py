@@ -6,6 +6,7 @@ KINDS says which kind a file is, CHECKS which tool judges a kind. A file of no k
 and so is a tool that isn't installed, a complaint, or an exception without a reason. An exception
 is a comment of EXCEPTIONS on the line of the complaint; there may be MOST of them in all.
 """
+import collections
 import concurrent.futures
 import json
 import os
@@ -203,6 +204,26 @@ def long_proofs(kinds):
             for name in sorted({*counts, *listed}) if counts.get(name, 0) != listed.get(name, 0)]
 
 
+# What a file of Python or JavaScript defines at its top.
+DEFINED = re.compile(r"^(?:export )?(?:async )?(?:def|class|function|const|let) (\w+)|^(\w+) = ",
+                     re.M)
+
+
+def unused(kinds):
+    """Names that no line uses: neither in their own file nor in one that names it."""
+    texts = {name: (TOP / name).read_text() for kind in ("python", "tool", "page script", "script")
+             for name in kinds[kind]}
+    words = {name: collections.Counter(re.findall(r"\w+", text)) for name, text in texts.items()}
+    said = []
+    for name, text in texts.items():
+        stem = pathlib.Path(name).stem
+        users = [other for other in texts if other != name and stem in words[other]]
+        for one in (mark[1] or mark[2] for mark in DEFINED.finditer(text)):
+            if words[name][one] < 2 and not any(one in words[other] for other in users):
+                said.append(f"{name}: nothing uses {one}")
+    return said
+
+
 def exceptions(kinds):
     """Exceptions without a reason, and all of them if there are too many."""
     said, found = [], []
@@ -274,7 +295,8 @@ def links(_):
 # Each check, and the program that it needs.
 CHECKS = {
     "files without a check": (unknown, "git"), "exceptions": (exceptions, "git"),
-    "proofs": (long_proofs, "git"), "shellcheck": (shellcheck, "shellcheck"),
+    "unused names": (unused, "git"), "proofs": (long_proofs, "git"),
+    "shellcheck": (shellcheck, "shellcheck"),
     "C++": (warnings, "g++"), "flake8": (flake8, "flake8"),
     "mypy of tools": (mypy_of_tools, "mypy"),
     "mypy of tests": (mypy_of_tests, "mypy"), "eslint": (eslint, "eslint"),
