@@ -9,7 +9,8 @@ import browser
 from pages_all import (
     list_of_sessions, other_labels, pages_for_everybody, pages_in_error, pictures, style_is_read)
 from pages_candidate import (
-    calendar_file, candidates_page, moved_exam, next_exam_first, signing_on, states_of_exams)
+    calendar_file, candidates_page, moved_exam, next_exam_first, overlapping_exams, signing_on,
+    states_of_exams)
 from pages_department import departments_page, pages_of_others
 from pages_late import late_changes
 from pages_registry import new_session, publishing, registrys_page, registrys_work
@@ -18,6 +19,7 @@ from pages_seats import printed, seats_after_changes, seats_of_candidates
 # Of the small office, in this order: each begins with what those before it left.
 PARTS = (candidates_page, next_exam_first, registrys_page, seats_of_candidates, departments_page,
          pages_of_others, publishing, moved_exam, seats_after_changes, states_of_exams,
+         overlapping_exams,
          late_changes,
          registrys_work, style_is_read)
 

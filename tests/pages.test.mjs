@@ -10,10 +10,12 @@ const {
 } = await import('../front/page/batch_lines.js');
 const { calendarText } = await import('../front/page/calendar.js');
 const { columnsOf, csvText, recordsOf } = await import('../front/page/csv.js');
+const { overlapsOf, pointsInWords, studentsAtOnce } = await import('../front/page/conflicts.js');
 const { distance, fold, studentIdentities } = await import('../front/page/identities.js');
 const {
   differences, differencesForCandidate, differencesForDepartment, faultsOfNames, isSealed, Names,
 } = await import('../front/page/labels.js');
+const { examsWith } = await import('../front/page/tables.js');
 const { clashesOf, fullRoomsOf } = await import('../front/page/preview.js');
 
 const LABELS = {
@@ -137,6 +139,17 @@ const TIMETABLE = { places: [{ exam: 0, period: 0, room: 0 }, { exam: 1, period:
 const USED = { uses: [{ period: 0, room: 0, exams: [0, 1] }] };
 const PLACED = { candidates: [[1, 3], [2]], capacities: [3, 2] };
 
+const ALIKE = new Names({ ...LABELS, exams: ['ENG 101.2 of MA 101', 'Élan', 'MA 101']
+  .map((code) => ({ code, title: "O’Neill's", minutes: 60, department: null })) });
+const examsFound = (words) => examsWith(words, [0, 1, 2].map((exam) => ({ exam, room: null })), ALIKE)
+  .map(({ exam }) => exam);
+
+cases('exams that are looked for', [
+  ['the one with this code first', [2, 0], () => examsFound('ma 101')],
+  ['without accents', [1], () => examsFound('elan')],
+  ['with another apostrophe', [0, 1, 2], () => examsFound("O'Neills")],
+]);
+
 cases('what changes do', [
   ['how many act, and how many do not', [2, 1, 1, 2],
     () => [effect.add, effect.drop, effect.there, effect.absent]],
@@ -167,6 +180,32 @@ cases('CSV', [
   ].map(([field, text]) => [`the formula ${field}`, `\ufeff${text}\r\n`, () => csvText([[field]])]),
   ['what is no formula', '\ufeff"O\'Neill, Al",-5,7,a=b,,-3,\r\n',
     () => csvText([["O'Neill, Al", -5, 7, 'a=b', null, '-3', '']])],
+]);
+
+/** An exam from a start on, on the first day or on another. */
+const timed = (start, minutes, date = '2027-05-18') => ({ date, start: `${start}:00`, minutes });
+const [MORNING, SAME, LATER] = [timed('09:00', 120), timed('09:00', 60), timed('14:00', 120)];
+const POINTLESS = 'No points for the exams in which you have a seat.';
+
+cases('exams at one time', [
+  ['the same start', 1, () => overlapsOf([MORNING, SAME, LATER]).length],
+  ['one begins before the other ends', 1, () => overlapsOf([MORNING, timed('10:59', 60)]).length],
+  ['one begins when the other ends', 0, () => overlapsOf([MORNING, timed('11:00', 60)]).length],
+  ['another day', 0, () => overlapsOf([MORNING, timed('09:00', 120, '2027-05-19')]).length],
+  ['no lengths', 1, () => overlapsOf([timed('09:00', null), timed('09:00', null), LATER]).length],
+  ['points', '1 point for the exams in which you have a seat. Fewer is better.',
+    () => pointsInWords(1, [MORNING, SAME])],
+  ['no points, and an overlap',
+    'Two of your exams overlap. Points count only exams in which you have a seat.',
+    () => pointsInWords(0, [MORNING, SAME])],
+  ['no points, and two exams on one day', POINTLESS, () => pointsInWords(0, [MORNING, LATER])],
+  ['no points at all', 'No points: no two of your exams are on one day.',
+    () => pointsInWords(0, [MORNING, timed('09:00', 120, '2027-05-19')])],
+  // Periods 0 and 1 overlap, 2 is later. Exams 0 and 1 are in period 0, exam 2 in 1, exam 3 in 2.
+  ['who takes two', [{ student: 1, exams: [0, 1, 2] }, { student: 2, exams: [0, 2] }],
+    () => studentsAtOnce(new Map([[3, { period: 2 }], [0, { period: 0 }], [1, { period: 0 }],
+      [2, { period: 1 }]]), { candidates: [[1, 2], [1, 5], [1, 2, 4], [1, 2, 3]],
+      periods: [MORNING, timed('10:00', 120), LATER] })],
 ]);
 
 const EVENT = { uid: 'u', date: '2005-12-31', start: '23:30:00', location: '', minutes: 60,

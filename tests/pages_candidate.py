@@ -1,8 +1,9 @@
 """The page of a candidate, as candidates read it."""
 import re
 
-from front_cases import FIRST_VIEW
-from front_page import days_and_exams, is_read, opened
+from front_cases import FIRST_VIEW, ask
+from front_page import DAY, START, days_and_exams, is_read, opened
+from serve_cases import batch_text
 
 FRIDAY, MONDAY = "2005-04-15", "2005-04-18"
 # Of the small example, as a candidate's page has them: the time at which an exam ends, its minutes,
@@ -29,7 +30,7 @@ def candidates_page(run, chromium, front):
                                   (FRIDAY, "17:00:00", PHYS102, HALL, "1", "Seat assigned"))
             run.judge(f"the language {language}", True, rows[0][0].startswith(friday))
             page.judge(f"a candidate's exams, {language}", {
-                "days": rows, "#candidate": "Candidate 1", "#status": "2 exams",
+                "days": rows, "#candidate": "Ada Archer · s1", "#status": "2 exams",
                 "#session-title": "University of Example · Examinations in April 2005",
                 "#contact": "Questions? exams@university.example",
                 "hrefs #contact a": ["mailto:exams@university.example"],
@@ -87,6 +88,31 @@ def states_of_exams(run, chromium, front):
             run.judge(f"the exam of {user}", row, rows[0])
 
 
+def overlapping_exams(run, chromium, front):
+    """A candidate with two exams at one time reads it, and whom to write to."""
+    def sent(number, action):
+        run.judge(f"a batch to {action}", 200, front.told(ask(
+            "registry", "PUT", f"/batches/{number}", batch_text(f"1,2,{action}")))[0])
+
+    sent(7, "add")
+    with opened(run, chromium, front, "ada") as page:
+        day, start = (page.reader.run(script, "en-GB", f"{MONDAY}T09:30:00Z") for script in (
+            DAY, START))
+        page.judge("two exams at one time", {
+            "texts #overlaps p": [
+                f"Two of your exams overlap: PHYS101 and PHYS102, {day}, {start}.",
+                "Please write to exams@university.example now."],
+            "hrefs #overlaps a": ["mailto:exams@university.example"]})
+        run.judge("none are close together", False, "close together." in page.look("text body"))
+    with opened(run, chromium, front, "registry") as page:
+        page.judge("what the registry reads", {"texts .concern": [
+            "2 candidates without a seat: Ada Archer (s1), Cleo Carter (s3).",
+            "1 candidate with two exams at one time: Ada Archer (s1)."]})
+    sent(8, "drop")
+    with opened(run, chromium, front, "ada") as page:
+        page.judge("one of them is dropped", {"hidden #overlaps": True})
+
+
 def moved_exam(run, chromium, front):
     """After a publication that moves an exam its candidate sees the new place and seat."""
     with opened(run, chromium, front, "ada") as page:
@@ -104,7 +130,7 @@ def signing_on(run, chromium, front, sso):
     for _ in range(2):
         chromium.go(f"http://{host}:{sso.port}/")
         is_read(chromium)
-        run.judge("signed on", ("Candidate 1", False), (
+        run.judge("signed on", ("Ada Archer · s1", False), (
             chromium.text("#candidate"),
             chromium.run("return document.querySelector('#sign-out').hidden")))
         chromium.click("#sign-out")

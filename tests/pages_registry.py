@@ -163,7 +163,7 @@ BY_EXAM = [
 # What is looked for in a timetable, and the exams that are found.
 FOUND = [("optics", ["PHYS102"]), ("phys great", ["PHYS102"]),
          ("MATHEMATICS", ["MATH101", "MATH102"]),
-         ("2.14", ["PHYS101"]), ("x", [])]
+         ("2.14", ["PHYS101"]), ("x", []), ("Óptics", ["PHYS102"]), ("phys102", ["PHYS102"])]
 OWNER_FILES = [
     ("Exam;Dept\nMATH101;Chemistry\n9;3\n",
      "No owner was set: 2 faults.\nLine 2: unknown department Chemistry\nLine 3: unknown exam 9"),

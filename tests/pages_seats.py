@@ -33,9 +33,12 @@ def where_candidates_sit(page):
         ("MATH101\nCalculus", "09:30:00", "2"), ("MATH102\nLinear algebra", "14:00:00", "1"))]
     head = ["Candidate", "Exam", "Period", "Room", "Seat"]
     page.steps(
-        *((f"where {words} sits", finds(words), {"#status": "2 exams found.", FOUND: [head, *bens]})
-          for words in ("2", "S2", "baker", " Ben  Baker ")),
-        *((f"where {words} sits", finds(words), {"#status": NOBODY, FOUND: []})
+        *((f"where {words} sits", finds(words), {
+            "#status": "1 candidate with 2 exams found.", FOUND: [head, *bens],
+            "#seat-found p": "1 candidate with 2 exams found."})
+          for words in ("2", "S2", "baker", " Ben  Baker ", "Bèn b'äker")),
+        *((f"where {words} sits", finds(words), {
+            "#status": NOBODY, "#seat-found p": NOBODY, FOUND: []})
           for words in ("99", "nobody", "s", "  ")),
         ("who has no seat", "click #seatless", {
             "#status": "Everybody who is enrolled has a seat.", FOUND: []}))
@@ -83,7 +86,9 @@ def seats_after_changes(run, chromium, front):
     run.judge("a batch", (200, b'{"added":1,"batch":5,"dropped":0,"unchanged":0}'),
               front.told(ask("registry", "PUT", "/batches/5", batch_text("3,0,add"))))
     with opened(run, chromium, front, "registry") as page:
-        page.judge("seats of the publication", {"#grid tbody td": "MATH101 Calculus\n2 of 3"})
+        page.judge("seats of the publication", {
+            "#grid tbody td": "MATH101 Calculus\n2 of 3",
+            "texts .concern": ["1 candidate without a seat: Cleo Carter (s3)."]})
         page.steps(("candidates of the draft", "click #cards article:nth-child(2) button",
                     {"#grid tbody td": "MATH101 Calculus\n3 of 3"}))
     run.judge("another batch", (200, b'{"added":0,"batch":6,"dropped":1,"unchanged":1}'),

@@ -1,6 +1,9 @@
 // A candidate's page: their examinations by day, the next one first, and how close together these are.
 import { calendarText } from './calendar.js';
-import { applyLabels, differencesForCandidate, readLabels } from './labels.js';
+import { overlapsOf, pointsInWords } from './conflicts.js';
+import {
+  applyLabels, differencesForCandidate, linkTo, readLabels, readOwnName,
+} from './labels.js';
 import {
   ask, byId, cell, columnHead, count, day, download, element, endTime, numeral, readUser, row,
   rowHead, showProgress, time,
@@ -116,17 +119,29 @@ function showCalendar(candidate, exams, names) {
 
 // ---- How close together they are
 
-function costSummary(cost) {
-  if (!cost.penalty) return 'No points: no two of your exams are close together.';
-  return `${count(cost.penalty, 'point')} for the exams in which you have a seat. Fewer is better.`;
+/** The exams of a candidate that they have to sit, with times and lengths. */
+const timedExams = (exams, names) => exams.filter(({ date, state }) => date && state !== 'withdrawn')
+  .map((exam) => ({ ...exam, minutes: names.minutes(exam.exam) }));
+
+/** Says which exams overlap, and whom to write to. */
+function showOverlaps(exams, names) {
+  const pairs = overlapsOf(exams);
+  const contact = names.labels?.contact;
+  byId('overlaps').hidden = !pairs.length;
+  byId('overlaps').replaceChildren(...pairs.map(([one, other]) => element('p', {},
+    'Two of your exams overlap: ', names.exam(one.exam), ' and ', names.exam(other.exam), ', ',
+    day(one.date), ', ', time(one.start), one.start === other.start ? '' : [' and ', time(other.start)],
+    '.')),
+  element('p', {}, contact ? ['Please write to ', linkTo(contact), ' now.']
+    : 'Please tell the registry now.'));
 }
 
 function partRow(cost, [part, name, reason]) {
   return row(rowHead(name, element('span', { class: 'reason' }, reason)), cell(numeral(cost[part])));
 }
 
-function showCost(cost, exams) {
-  byId('cost-summary').textContent = costSummary(cost);
+function showCost(cost, exams, names) {
+  byId('cost-summary').textContent = pointsInWords(cost.penalty, timedExams(exams, names));
   byId('cost-parts').tBodies[0].replaceChildren(...PARTS.map((part) => partRow(cost, part)),
     element('tr', { class: 'total' }, rowHead('Total'), cell(numeral(cost.penalty))));
   byId('cost-parts').hidden = !cost.penalty;
@@ -147,12 +162,15 @@ async function load() {
   const exams = view.exams.sort(byDate);
   const names = applyLabels(labels, labels ? differencesForCandidate(labels, exams) : []);
   const past = exams.filter((exam) => isPast(exam, names));
-  byId('candidate').textContent = `Candidate ${view.candidate}`;
+  const own = await readOwnName(view.candidate, labels);
+  byId('candidate').textContent = own ? [own.name, own.id].filter(Boolean).join(' · ')
+    : `Candidate ${view.candidate}`;
+  showOverlaps(timedExams(exams, names), names);
   showDays('timetable', exams.filter((exam) => !past.includes(exam)), names);
   showDays('past', past, names);
   showNotes(exams);
   showCalendar(view.candidate, exams, names);
-  showCost(cost, exams);
+  showCost(cost, exams, names);
   return examCount(exams, past);
 }
 

@@ -47,10 +47,13 @@ export const readLabels = () => readSealed('/labels/labels.json');
 /** Returns the file of students, which only the office may read, or null if there is none. */
 export const readStudents = () => readSealed('/labels/students.json');
 
-/** Returns the reader's own number, ID and name, or null if there is no file of them. */
-export async function readOwnName(candidate) {
+/**
+ * Returns the reader's own number, ID and name; null if there is no file of them, or another one than
+ * the labels were made with.
+ */
+export async function readOwnName(candidate, labels) {
   const own = await readSealed('/labels/name.json');
-  return own?.number === candidate && own.isSealed !== false ? own : null;
+  return own?.number === candidate && own.isSealed !== false && own.ledger === labels?.ledger ? own : null;
 }
 
 const isSame = (one, other) => JSON.stringify(one) === JSON.stringify(other);
@@ -244,9 +247,12 @@ export function applyLabels(labels, different) {
   return applyNames(new Names(fault ? null : labels));
 }
 
+/** A contact as a link, if it is an address. */
+export function linkTo(contact) {
+  const href = /^\S+@\S+$/.test(contact) ? `mailto:${contact}` : /^https:\/\//.test(contact) && contact;
+  return href ? element('a', { href }, contact) : contact;
+}
+
 function showContact(contact) {
-  const href = /^\S+@\S+$/.test(contact ?? '') ? `mailto:${contact}`
-    : /^https:\/\//.test(contact ?? '') && contact;
-  byId('contact').replaceChildren(...(contact
-    ? ['Questions? ', href ? element('a', { href }, contact) : contact] : []));
+  byId('contact').replaceChildren(...(contact ? ['Questions? ', linkTo(contact)] : []));
 }

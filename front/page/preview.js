@@ -6,7 +6,7 @@ import {
 const MOST_SHOWN = 200;
 
 /** Where each exam of a timetable is: its period and its room. */
-function placesIn(timetable) {
+export function placesIn(timetable) {
   if (!timetable) return new Map();
   return new Map(timetable.uses
     ? timetable.uses.flatMap(({ period, room, exams }) => exams.map((exam) => [exam, { period, room }]))

@@ -4,7 +4,7 @@ import { setUpBatches } from './batches.js';
 import { confirmFirst } from './confirm.js';
 import { changesBetween, penaltyIn, readAgain, readDrafts, verdict } from './drafts.js';
 import { applyOfficeNames, Names, readLabels } from './labels.js';
-import { offerChanges, readSeats, setUpSeats, showSeats } from './seats.js';
+import { concerns, offerChanges, readSeats, setUpSeats, showSeats } from './seats.js';
 import { askToDrop, setUpForms, showForms } from './setup.js';
 import { showComparison, showDownloads, showFinder } from './tables.js';
 import {
@@ -29,6 +29,8 @@ const office = {
   /** @type {Session | null} */
   session: null,
   names: new Names(),
+  // The published seats, or null.
+  seats: null,
   /** @type {string | null} */
   open: null,
 };
@@ -46,7 +48,8 @@ function sessionIn(text) {
   return {
     minutes: exams.map(([minutes]) => Number(minutes)),
     candidates: exams.map(([, ...students]) => students.map(Number)),
-    periods: periods.map(([date, start]) => ({ date: date.split(':').reverse().join('-'), start })),
+    periods: periods.map(([date, start, minutes]) => (
+      { date: date.split(':').reverse().join('-'), start, minutes: Number(minutes) })),
     capacities: rooms.map(([capacity]) => Number(capacity)),
     frame: text.split('\r\n').slice(0, -1).map((line, number) => (
       number > 0 && number <= exams.length ? line.split(',', 1)[0] : line)),
@@ -93,6 +96,7 @@ async function load() {
   office.session = text ? sessionIn(text) : null;
   office.names = await applyOfficeNames(text && await readLabels(), office.session);
   const published = text && await readPublished();
+  office.seats = published && await readSeats();
   const drafts = text ? await readDrafts() : [];
   office.timetables = [...(published ? [published] : []), ...drafts];
   showOverview();
@@ -160,6 +164,7 @@ function card(timetable, most) {
     bars(timetable, most),
     element('p', { class: breaches.length ? 'verdict broken' : 'verdict' },
       number ? verdict(timetable) : 'What candidates see'),
+    ...(number ? [] : concerns(office)),
     element('div', { class: 'buttons' }, show, ...(number ? [publishing, dropping] : [])));
 }
 

@@ -1,6 +1,8 @@
 // Who sits where: the seat list of the published timetable, searched, compared, downloaded, printed.
 import { csvText } from './csv.js';
+import { studentsAtOnce } from './conflicts.js';
 import { fold, studentIdentities } from './identities.js';
+import { placesIn } from './preview.js';
 import {
   ask, byId, cell, columnHead, count, dayInShort, download, element, numeral, Refusal, row, rowHead,
   showProgress, time, unseen,
@@ -37,7 +39,7 @@ export class People {
     return this.byNumber.get(number)?.name ?? '';
   }
 
-  /** The numbers of the students whose ID or number this is, or whose names have these words. */
+  /** The numbers of the students whose ID or number this is, then of those whose names have these words. */
   found(text) {
     const words = fold(text).split(/\s+/).filter(Boolean);
     const number = studentIdentities(this.students).number(text.trim())
@@ -46,7 +48,8 @@ export class People {
       const folded = fold(name ?? '');
       return words.every((word) => folded.includes(word));
     }) : [];
-    return new Set([...(number === null ? [] : [number]), ...named.map((student) => student.number)]);
+    return [...new Set([...(number === null ? [] : [number]),
+      ...named.map((student) => student.number)])];
   }
 }
 
@@ -150,23 +153,56 @@ function showFound(caption, heads, found, people, made) {
 }
 
 function showCandidates(seats, office, people) {
-  const found = examsOf(people.found(byId('seat-words').value), seats, office.session);
+  const order = people.found(byId('seat-words').value);
+  const places = new Map(order.map((student, place) => [student, place]));
+  const found = examsOf(new Set(order), seats, office.session)
+    .sort((a, b) => places.get(a.student) - places.get(b.student));
   showFound('Seats that were found', ['Exam', 'Period', 'Room', 'Seat'], found, people,
     (one) => [examCell(one.exam, office.names), ...placeCells(one, office)].flat());
-  return found.length ? `${count(found.length, 'exam')} found.`
-    : 'No candidate of this session has this number, ID or name.';
+  const students = new Set(found.map(({ student }) => student)).size;
+  return answered(students ? `${count(students, 'candidate')} with ${count(found.length, 'exam')} found.`
+    : 'No candidate of this session has this number, ID or name.');
+}
+
+/** Shows an answer beside its question, too. */
+function answered(words) {
+  byId('seat-found').prepend(element('p', {}, words));
+  return words;
 }
 
 function showSeatless(seats, office, people) {
   const pairs = withoutSeat(seats, office.session);
   showFound('Enrolments without a seat', ['Exam'], pairs, people, ({ exam }) => [
     examCell(exam, office.names)]);
-  if (!pairs.length) return 'Everybody who is enrolled has a seat.';
+  if (!pairs.length) return answered('Everybody who is enrolled has a seat.');
   const button = element('button', { type: 'button', id: 'seatless-csv' }, 'Download as CSV');
   button.addEventListener('click', () => downloadRows('without-seat.csv',
     seatlessRows(pairs, office, people)));
   byId('seat-found').append(element('p', { class: 'buttons' }, button));
-  return `${count(pairs.length, 'enrolment has', 'enrolments have')} no seat.`;
+  return answered(`${count(pairs.length, 'enrolment has', 'enrolments have')} no seat.`);
+}
+
+// ---- What the registry should do something about
+
+const MOST_NAMED = 5;
+
+function concern(words, students, people) {
+  const named = students.slice(0, MOST_NAMED).map((student) => (
+    people.name(student) ? `${people.name(student)} (${people.id(student)})` : people.id(student)));
+  const more = students.length - named.length;
+  return students.length ? [element('p', { class: 'concern' }, `${count(students.length, 'candidate')} ${
+    words}: ${named.join(', ')}${more > 0 ? ` and ${more} more` : ''}.`)] : [];
+}
+
+/** Who has no seat in the published timetable, and who has two exams at one time, as elements. */
+export function concerns(office) {
+  const { seats, session, timetables } = office;
+  if (!seats) return [];
+  const people = peopleOf(office);
+  const seatless = [...new Set(withoutSeat(seats, session).map(({ student }) => student))];
+  const together = studentsAtOnce(placesIn(timetables[0]), session).map(({ student }) => student);
+  return [...concern('without a seat', seatless.sort((a, b) => a - b), people),
+    ...concern('with two exams at one time', together, people)];
 }
 
 // ---- The section of the page

@@ -1,5 +1,6 @@
 // A timetable as tables: files to download, what differs from another one, and what is looked for.
 import { csvText } from './csv.js';
+import { fold } from './identities.js';
 import {
   byId, cell, columnHead, count, dayInShort, download, element, endTime, row, rowHead, time, unseen,
 } from './office.js';
@@ -96,14 +97,20 @@ export function showComparison(timetable, office) {
 
 // ---- What is looked for
 
-/** The exams whose number, code, title, department, room or building has these words. */
+/**
+ * The exams whose number, code, title, department, room or building has these words, without accents;
+ * the one with this code first.
+ */
 export function examsWith(words, places, names) {
-  const wanted = words.toLowerCase().split(/\s+/).filter(Boolean);
-  return places.filter(({ exam, room }) => {
-    const text = [names.exam(exam), names.examTitle(exam), names.department(exam),
-      room !== null && names.roomInBuilding(room)].filter(Boolean).join(' ').toLowerCase();
+  const whole = fold(words.trim());
+  const wanted = whole.split(/\s+/).filter(Boolean);
+  const isCode = ({ exam }) => fold(names.exam(exam)) === whole;
+  const found = places.filter(({ exam, room }) => {
+    const text = fold([names.exam(exam), names.examTitle(exam), names.department(exam),
+      room !== null && names.roomInBuilding(room)].filter(Boolean).join(' '));
     return wanted.every((word) => text.includes(word));
   });
+  return [...found.filter(isCode), ...found.filter((place) => !isCode(place))];
 }
 
 function find(timetable, { names, session }) {
