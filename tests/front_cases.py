@@ -8,13 +8,15 @@ TOP = pathlib.Path(__file__).resolve().parent.parent
 
 BROKEN = b"3, 0\n1, 0\n3, 1\n2, 0\n"
 
-# A session with 40 rooms, and six days of two periods. Candidate 1 takes exams 0 to 4, on five days; each
-# other exam has one candidate.
+# A session with 40 rooms, and six days of two periods. Candidate 1 takes exams 0 to 4, on five
+# days; each other exam has one candidate.
 WIDE_ROOMS, WIDE_PERIODS = 40, 12
 WIDE = "".join(f"{line}\n" for line in [
-    f"[Exams:{WIDE_ROOMS}]", *(f"60, {1 if exam < 5 else 1_000 + exam}" for exam in range(WIDE_ROOMS)),
-    f"[Periods:{WIDE_PERIODS}]", *(f"{6 + half // 2:02}:06:2005, {9 + 5 * (half % 2):02}:00:00, 120, 0"
-                                   for half in range(WIDE_PERIODS)),
+    f"[Exams:{WIDE_ROOMS}]",
+    *(f"60, {1 if exam < 5 else 1_000 + exam}" for exam in range(WIDE_ROOMS)),
+    f"[Periods:{WIDE_PERIODS}]",
+    *(f"{6 + half // 2:02}:06:2005, {9 + 5 * (half % 2):02}:00:00, 120, 0"
+      for half in range(WIDE_PERIODS)),
     f"[Rooms:{WIDE_ROOMS}]", *(f"{20 + room}, 0" for room in range(WIDE_ROOMS)),
     "[PeriodHardConstraints]", "[RoomHardConstraints]", "[InstitutionalWeightings]",
     "PERIODSPREAD,2"]).encode()
@@ -26,7 +28,8 @@ WIDE_LABELS = {
               for room in range(WIDE_ROOMS)],
     "periods": [{"date": f"2005-06-{6 + half // 2:02}", "start": f"{9 + 5 * (half % 2):02}:00:00",
                  "minutes": 120} for half in range(WIDE_PERIODS)]}
-WIDE_SOLUTION = "".join(f"{2 * exam % WIDE_PERIODS}, {exam}\n" for exam in range(WIDE_ROOMS)).encode()
+WIDE_SOLUTION = "".join(f"{2 * exam % WIDE_PERIODS}, {exam}\n"
+                        for exam in range(WIDE_ROOMS)).encode()
 
 
 def password(user, word=None):
@@ -134,9 +137,10 @@ TARGETS = [
      (200, b'{"changed":0,"draft":1,"penalty":37}')),
 ]
 # What the registry's page looks for: null if it isn't there.
-NO_DRAFT, ONE_DRAFT = (200, b'{"draft":null}'), (200, b'{"draft":1,"exams":['
-    b'{"exam":0,"period":0,"room":0},{"exam":1,"period":1,"room":0},{"exam":2,"period":3,"room":1},'
-    b'{"exam":3,"period":2,"room":0}],"penalty":37}')
+NO_DRAFT = 200, b'{"draft":null}'
+ONE_DRAFT = 200, (
+    b'{"draft":1,"exams":[{"exam":0,"period":0,"room":0},{"exam":1,"period":1,"room":0},'
+    b'{"exam":2,"period":3,"room":1},{"exam":3,"period":2,"room":0}],"penalty":37}')
 LOOKED_FOR = [
     ("a draft that isn't there", ask("registry", "GET", "/-/drafts/8"), NO_DRAFT),
     ("a draft that is there", ask("physics", "GET", "/-/drafts/1"), ONE_DRAFT),
@@ -185,14 +189,16 @@ LABELS = [
 # Files of people for tools/users_from_csv that are faulty, and what is printed.
 A_NAME = "a name of letters, digits and . _ @ + - is expected, not"
 FAULTY_PEOPLE = [
-    ("user,caller\nregistry,office\nRegistry,dept:1\n", "line 3, user: 'Registry' is on line 2 already"),
+    ("user,caller\nregistry,office\nRegistry,dept:1\n",
+     "line 3, user: 'Registry' is on line 2 already"),
     ("user,caller\n~x,office\n", f"line 2, user: {A_NAME} '~x'"),
     ("user,caller\ndefault,office\n", f"line 2, user: {A_NAME} 'default'"),
     ('user,caller\n"a\nb",office\n', f"line 3, user: {A_NAME} 'a\\nb'"),
     ("user,caller\nx\0y,office\n", f"line 2, user: {A_NAME} 'x\\x00y'"),
     (f"user,caller\n{'x' * 255},office\n",
      "line 2, user: a name of at most 254 letters is expected, not one of 255"),
-    ("user,caller\nx,dept:1000\n", "line 2, caller: office, dept:N or cand:N is expected, not 'dept:1000'"),
+    ("user,caller\nx,dept:1000\n",
+     "line 2, caller: office, dept:N or cand:N is expected, not 'dept:1000'"),
     ("user,caller\nx,1;y office\n",
      "line 2, caller: office, dept:N or cand:N is expected, not '1;y office'"),
     ("user,student\nx,s9\n", "line 2, student: there is no student 's9'"),
@@ -254,5 +260,6 @@ STRANGERS = [
     message("PUT", "/instance", b"", None, ["Content-Length: 999999999"]),
     message("POST", "/drafts/1", b"", None, ["Content-Length: 5"]),
     b"POST /drafts/1 HTTP/1.1\r\n\r\n", b"POST\r\n\r\n", b"\x16\x03\x01\x02\x00\r\n\r\n",
-    b"POST /\xff\xfe HTTP/1.1\r\nHost: office\r\n\r\n", b"POST / HTTP/1.1\r\nA: " + b"b" * 40_000 + b"\r\n\r\n",
+    b"POST /\xff\xfe HTTP/1.1\r\nHost: office\r\n\r\n",
+    b"POST / HTTP/1.1\r\nA: " + b"b" * 40_000 + b"\r\n\r\n",
 ]

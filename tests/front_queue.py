@@ -34,15 +34,18 @@ class Queue:
         self.environment = {**os.environ, "QUEUE": str(self.folder)}
         self.start()
 
-    def start(self):
-        self.process = subprocess.Popen(
-            [HAPROXY, "-db", "-q", "-f", TOP / "front" / "queue.cfg", "-f",
-             self.folder / "offices.cfg"],
-            env=self.environment, stdin=subprocess.DEVNULL, stderr=subprocess.DEVNULL,
-            group="www-data" if os.geteuid() == 0 else None)
+    def start(self, *more):
+        files = TOP / "front" / "queue.cfg", *more, self.folder / "offices.cfg"
+        with (self.folder / "errors").open("wb") as errors:
+            self.process = subprocess.Popen(
+                [HAPROXY, "-db", "-q", *(word for file in files for word in ("-f", file))],
+                env=self.environment, stdin=subprocess.DEVNULL, stdout=errors, stderr=errors,
+                group="www-data" if os.geteuid() == 0 else None)
         browser.until("the queue listens", self.listens)
 
     def listens(self):
+        if self.process.poll() is not None:
+            raise OSError((self.folder / "errors").read_text())
         with contextlib.suppress(OSError), socket.socket(socket.AF_UNIX) as one:
             one.connect(str(self.folder / "term.sock"))
             return True

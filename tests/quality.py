@@ -47,7 +47,7 @@ KINDS = [
     ("c++", r".*\.cpp", ""),
     # What the tests compile, or read as it is; lintian judges units, as a part of the package.
     ("compiled", r".*\.(h|rs|rt\.in|toml|lock)|bench/office/Makefile", ""),
-    ("read", r".*\.(csv|exam|sol|sqlite|gz|png|svg|logrotate|gitignore|cfg|tmpfiles|sysusers)"
+    ("read", r".*\.(csv|exam|sol|sqlite|gz|png|svg|logrotate|gitignore|cfg|lua|tmpfiles|sysusers)"
      r"|\.gitignore|COPYRIGHT|VERSION|tests/packages|packaging/debian/.*|packaging/.*\.(conf|d)",
      ""),
 ]

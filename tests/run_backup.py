@@ -23,7 +23,7 @@ SIGNALS = signal.SIGTERM, signal.SIGINT, signal.SIGHUP
 
 
 def with_signals():
-    """Undoes what `nohup` and a background job leave: no shell can trap a signal that it ignores."""
+    """Undoes what `nohup` and a background job leave: signals that are ignored."""
     for number in SIGNALS:
         signal.signal(number, signal.SIG_DFL)
 
@@ -137,7 +137,8 @@ def thinning(judged, program, folder, database):
 def of_no_office(judged, program, folder):
     database, copies = folder / "damaged.db", folder / "none"
     subprocess.run(["sqlite3", str(database), "CREATE TABLE meta (id)"], check=True)
-    judged.judge("another program's file", (1, "", "backup: the copy is not an office: examoffice: store fault 9\n"),
+    words = "backup: the copy is not an office: examoffice: store fault 9\n"
+    judged.judge("another program's file", (1, "", words),
                  ended(backup(program, database, copies)))
     judged.judge("nothing is kept of it", [".lock"], [it.name for it in copies.iterdir()])
     words = "backup: the copy can't be checked: /none: No such file or directory\n"

@@ -118,18 +118,27 @@ def upgrade(judged, machine):
 
 
 def who_reaches_it(judged, machine):
-    """The office's port is reached by the queue alone, and the queue's sockets by the front alone."""
+    """Only the queue reaches the office's port, and only the front the queue's sockets."""
     ask = "curl -s -o /dev/null -w %{http_code} -m 5 -H 'X-Caller: office'"
     port = f"{ask} http://127.0.0.1:8080/publication"
-    for unit, code in (("examoffice-front", "000"), ("examoffice-queue", "200")):
+    for unit, code in (("examoffice-front", "000"), ("examoffice-agent", "000"),
+                       ("examoffice-queue", "200")):
         judged.judge(f"the office's port, from {unit}", code, machine.types(
             f"nsenter --net --target $(systemctl show --property=MainPID --value {unit}) {port}"))
     judged.judge("the office's port, from elsewhere", "000", machine.types(port))
     queue = f"{ask} --unix-socket /run/examoffice-queue/term.sock http://office/publication"
-    for user, code in (("www-data", "200"), ("nobody", "000")):
-        judged.judge(f"the queue, as {user}", code, machine.types(
-            f"setpriv --reuid={user} --regid={user if user != 'nobody' else 'nogroup'}"
-            f" --init-groups {queue}"))
+    agent = f"{ask} --unix-socket /run/examoffice-agent/agent.sock http://office/-/sign-in"
+    for user, queued, signed in (("www-data", "200", "000"), ("nobody", "000", "000"),
+                                 ("examoffice-agent", "000", "200")):
+        become = f"setpriv --reuid={user} --regid=$(id -g {user}) --init-groups"
+        judged.judge(f"the queue and the agent, as {user}", f"{queued}\n{signed}",
+                     machine.types(f"{become} {queue}; echo; {become} {agent}"))
+    for user, file in (("www-data", "front/users"), ("www-data", "front.key"),
+                       ("examoffice-queue", "front/users"), ("examoffice-queue", "front.key"),
+                       ("examoffice-agent", "front/labels/students.json")):
+        judged.judge(f"{file}, as {user}", "", machine.types(
+            f"setpriv --reuid={user} --regid=$(id -g {user}) --init-groups"
+            f" cat /etc/examoffice/{file} 2> /dev/null"))
 
 
 def backups(judged, machine):
@@ -142,8 +151,9 @@ def backups(judged, machine):
     judged.judge("it is sent away", "1", wait(machine, "wc -l < /shipped", "1"))
     judged.judge("it is the office, of four exams", "4", machine.types(
         "cp /var/backups/examoffice/term-*.db /copy.db; examoffice export --db /copy.db | wc -l"))
-    for unit, most in (("examoffice@term", 1.5), ("examoffice-backup@term", 1.5),
-                       ("examoffice-front", 3.0), ("examoffice-queue", 1.5)):
+    for unit, most in (
+            ("examoffice@term", 1.5), ("examoffice-backup@term", 1.5), ("examoffice-front", 3.0),
+            ("examoffice-queue", 1.5), ("examoffice-agent", 1.5)):
         said = machine.types(f"systemd-analyze security --no-pager {unit} | tail -1")
         found = re.search(r": ([\d.]+) ", said)
         judged.judge(f"the sandbox of {unit}", True,
@@ -173,10 +183,14 @@ def removal(judged, machine):
 def anew(judged, machine):
     said = machine.types(f"dpkg -i /new.deb; systemctl enable --now {' '.join(UNITS[:2])}")
     judged.judge("where the password is", True, "/etc/examoffice/registry-password" in said)
-    judged.judge("who may read it", "600 root\n640 www-data", machine.types(
+    judged.judge("who may read it", "600 root\n640 examoffice-agent", machine.types(
         f"stat -c '%a %U' /etc/examoffice/registry-password; stat -c '%a %G' {FRONT}/users"))
     judged.judge("a new installation", "total 37", wait(machine, ASK.format(
         "registry", "$(cat /etc/examoffice/registry-password)", 8000), "total 37"))
+    judged.judge("signing in on the page", "303\n200", machine.types(
+        "curl -s -o /dev/null -w '%{http_code}\\n' -c /jar http://127.0.0.1:8000/-/sign-in"
+        " -d user=registry --data-urlencode password@/etc/examoffice/registry-password\n"
+        "curl -s -o /dev/null -w %{http_code} -b /jar http://127.0.0.1:8000/publication/penalty"))
     judged.judge("no known password", "401", machine.types(
         "curl -s -o /dev/null -w %{http_code} -u registry:try-registry 127.0.0.1:8000/me"))
 

@@ -2,10 +2,11 @@
 """run_front.py PROGRAM [--pictures FOLDER]: the front and its pages before the office.
 
 A copy of front/ runs on free ports, before an office of the small example. What nginx must refuse
-or drop is sent over raw sockets (front_cases.py); then Chromium reads the pages as their users would
-(front_pages.py). Each exchange that reached the office must be in docs/openapi.yaml. What needs a
-program or a Debian package that isn't installed is left out, and a line says so. A failing case is
-printed with what was expected and what came, and the last line counts the cases.
+or drop is sent over raw sockets (front_cases.py); crowds, restarts and guesses come beside it
+(front_queue.py, front_sign_in.py); then Chromium reads the pages as users would (front_pages.py).
+Each exchange that reached the office must be in docs/openapi.yaml. What needs a program or a Debian
+package that isn't installed is left out, and a line says so. A failing case is printed with what
+was expected and what came, and the last line counts the cases.
 """
 import argparse
 import contextlib
@@ -29,6 +30,7 @@ import time
 import browser
 import front_pages
 import front_queue
+import front_sign_in
 import openapi
 from front_cases import (
     CALLER, CALLERS, CANDIDATE, FAULTY_PEOPLE, FAULTY_STUDENTS, FIRST_VIEW, LABELS, LOGGED,
@@ -40,12 +42,14 @@ from serve_cases import SOLUTION, message, reply
 TOP = pathlib.Path(__file__).resolve().parent.parent
 NGINX = shutil.which("nginx") or shutil.which("nginx", path="/usr/sbin:/usr/local/sbin")
 LOG = ("log_format exchange '$request_method $request_uri $upstream_status"
-       " $upstream_http_content_type'; access_log run/exchanges exchange;\n    access_log run/changes")
+       " $upstream_http_content_type'; access_log run/exchanges exchange;\n"
+       "    access_log run/changes")
 TIME = r"\d{4}-\d\d-\d\dT\d\d:\d\d:\d\d[+-]"
 SECONDS = 20
 # For the tests that ask often from one address or with wrong passwords, and those of slow clients.
 QUICK = (("rate=20r/s", "rate=9000r/s"), ("rate=300r/s", "rate=9000r/s"),
-         ("auth_delay 1s", "auth_delay 0"), ("client_header_timeout 10s", "client_header_timeout 4s"),
+         ("auth_delay 1s", "auth_delay 0"),
+         ("client_header_timeout 10s", "client_header_timeout 4s"),
          ("client_body_timeout 10s", "client_body_timeout 4s"))
 
 
@@ -118,7 +122,8 @@ class Front:
         self.process.send_signal(signal.SIGHUP)
         old = pathlib.Path(f"/proc/{self.process.pid}/task/{self.process.pid}/children")
         workers = set(old.read_text().split())
-        browser.until("the old workers are gone", lambda: not workers & set(old.read_text().split()))
+        browser.until("the old workers are gone",
+                      lambda: not workers & set(old.read_text().split()))
 
     def stop(self):
         self.process.terminate()
@@ -256,14 +261,15 @@ def statuses(front, question, count):
 
 
 def limits(run, office):
-    """The limits as they are in nginx.conf: by user, by address, none for the office and for files."""
+    """The limits of password.conf: by user, by address, none for the office and for files."""
     front = Front(run.folder / "limits", office.port, edits=())
     asked = statuses(front, ask("ada", "GET", "/me/penalty"), 200)
     run.judge("a user who asks too often", (True, True, {b"200", b"429"}),
               (asked[:60] == [b"200"] * 60, asked.count(b"200") < 150, set(asked)))
     run.judge("another user at their address", SECOND_VIEW,
               front.told(ask("ben", "GET", "/me")))
-    run.judge("the office", {b"200"}, set(statuses(front, ask("registry", "GET", "/drafts/1"), 200)))
+    run.judge("the office", {b"200"},
+              set(statuses(front, ask("registry", "GET", "/drafts/1"), 200)))
     run.judge("a second later", True, browser.until(
         "they are served again", lambda: front.told(CANDIDATE) == FIRST_VIEW))
     began = time.monotonic()
@@ -320,15 +326,16 @@ def compressed(run, front):
 
 def health(run, front, answer):
     """Whether the office answers, without a password, on this machine only."""
-    for what, expected, more in (("health", answer, {}),
-                                 ("health, from elsewhere", (404, None), {"source": "127.0.0.2"}),
-                                 ("a change of health", told_error(405, "method"), {"method": "POST"})):
+    for what, expected, more in (
+            ("health", answer, {}),
+            ("health, from elsewhere", (404, None), {"source": "127.0.0.2"}),
+            ("a change of health", told_error(405, "method"), {"method": "POST"})):
         status, _, body = front.fetch("/health", **more)
         run.judge(what, expected, (status, body if expected[1] else None))
 
 
 def log_of_changes(run, front):
-    """Who changed what: each change that was passed to the office or forbidden, and nothing else."""
+    """Who changed what: changes that were passed to the office or forbidden, and nothing else."""
     for question in LOGGED_QUESTIONS:
         front.told(question)
     # A line is written after the reply.
@@ -361,7 +368,8 @@ def described_exchanges(run, front, least):
     described = openapi.Described()
     exchanges = list(front.exchanges())
     faults = {described.fault(*exchange) for exchange in exchanges} - {None}
-    run.judge("exchanges that docs/openapi.yaml has", (set(), True), (faults, len(exchanges) > least))
+    run.judge("exchanges that docs/openapi.yaml has", (set(), True),
+              (faults, len(exchanges) > least))
     for name, question, answer in CALLERS + TARGETS:
         if isinstance(answer, tuple) and b'"origin"' not in answer[1]:
             method, path = question.decode().split(" ")[:2]
@@ -499,11 +507,14 @@ def single_sign_on(run, front):
     for name, user, answer in (
             ("as it is spelled", "Eva", FIRST_VIEW), ("in small letters", "eva", CALLER),
             ("the office in capital letters", "REGISTRY", CALLER),
-            ("by a pattern", "s2", SECOND_VIEW), ("by a pattern, in capital letters", "S2", CALLER)):
-        run.judge(f"single sign-on: a name {name}", answer, told("/me", f"Cookie: signed_in={user}"))
-    for name, status, fields in (("by another site", 403, {"Origin": "https://elsewhere.example"}),
-                                 ("by nobody's page", 403, {}),
-                                 ("by its own page", 200, {"Origin": f"http://127.0.0.1:{front.port}"})):
+            ("by a pattern", "s2", SECOND_VIEW),
+            ("by a pattern, in capital letters", "S2", CALLER)):
+        run.judge(f"single sign-on: a name {name}", answer,
+                  told("/me", f"Cookie: signed_in={user}"))
+    for name, status, fields in (
+            ("by another site", 403, {"Origin": "https://elsewhere.example"}),
+            ("by nobody's page", 403, {}),
+            ("by its own page", 200, {"Origin": f"http://127.0.0.1:{front.port}"})):
         run.judge(f"signing out {name}", status,
                   front.fetch("/oauth2/sign_out", method="POST", **fields)[0])
     run.judge("signing out by a link", 403, front.fetch("/oauth2/sign_out")[0])
@@ -561,7 +572,7 @@ def caches(run, name, front, **signed):
 
 
 def words_of_pages(run):
-    """The pages have words for each rule and each error, and for no fault that docs/generated/FAULTS.md lacks."""
+    """The pages have words for each rule and error, and for no fault that FAULTS.md lacks."""
     formats = (TOP / "docs" / "FORMATS.md").read_text()
     numbered = (TOP / "docs" / "generated" / "FAULTS.md").read_text().split("\n## ")[1]
     script = (TOP / "front" / "page" / "office.js").read_text()
@@ -654,8 +665,10 @@ def main():
         try:
             front = Front(folder, office.port)
             replies = []
-            queued = threading.Thread(target=front_queue.judge, args=(run, Front))
-            queued.start()
+            queued = [threading.Thread(target=module.judge, args=(run, Front))
+                      for module in (front_queue, front_sign_in)]
+            for thread in queued:
+                thread.start()
             busy = threading.Thread(target=busy_office, args=(run.folder / "busy", replies))
             busy.start()
             try:
@@ -670,12 +683,14 @@ def main():
                     if not given.no_browser:
                         front_pages.judge(run, started, front, wide, sso, many, office,
                                           lambda: new_office(run), given.pictures)
+                        if started:
+                            front_sign_in.in_browser(run, started(), Front)
                     described_exchanges(run, wide, 1 if given.no_browser else 5)
                 described_exchanges(run, front, 100)
             finally:
                 front.stop()
-                queued.join()
-                busy.join()
+                for thread in (*queued, busy):
+                    thread.join()
             run.judge("a queue in front of the office", [(200, b"{}")], replies)
         finally:
             office.killed()

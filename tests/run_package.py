@@ -1,9 +1,10 @@
 #!/usr/bin/env python3
-"""run_package.py: whether packaging/make makes a Debian package from which docs/USING.md can be followed.
+"""run_package.py: whether packaging/make makes a Debian package, by which USING can be typed.
 
-The package is unpacked into a folder, and the blocks of that page are typed with its program. lintian,
-if there is one, has to find nothing. The version is in VERSION; the changelog and docs/openapi.yaml
-repeat it. Without dpkg-deb and help2man a line says that the package is left out.
+The package is unpacked into a folder, and the blocks of docs/USING.md are typed with its program.
+lintian, if there is one, has to find nothing. The version is in VERSION; the changelog and
+docs/openapi.yaml repeat it. Without dpkg-deb and help2man a line says that the package is left
+out.
 """
 import http.server
 import os
@@ -73,9 +74,9 @@ def of_the_package(judged, folder):
     package = folder / f"examoffice_{VERSION}_amd64.deb"
     judged.judge("it is made", 0, ran(TOP / "packaging" / "make", folder)[0])
     if shutil.which("lintian"):
+        become = {"user": "nobody"} if os.geteuid() == 0 else {}
         judged.judge("lintian", (0, ""), ran("lintian", "--fail-on", "error,warning", package,
-                                            env={**os.environ, "LC_ALL": "C"}, user="nobody")
-                     if os.geteuid() == 0 else ran("lintian", package))
+                                             env={**os.environ, "LC_ALL": "C"}, **become))
     root = folder / "root"
     judged.judge("it is unpacked", (0, ""), ran("dpkg-deb", "-x", package, root))
     program = root / "usr" / "bin" / "examoffice"
@@ -87,7 +88,8 @@ def of_the_package(judged, folder):
     commands = {it.name: ran(it, "--help")[0] for it in program.parent.iterdir()}
     judged.judge("its commands, and the status of their help", dict.fromkeys(
         ("examoffice", "examoffice-session-from-csv", "examoffice-status",
-         "examoffice-users-from-csv", "examoffice-changes-from-csv"), 0), commands)
+         "examoffice-token", "examoffice-users-from-csv", "examoffice-changes-from-csv"), 0),
+        commands)
     says_status(judged, folder, root / "usr" / "bin" / "examoffice-status")
     if shutil.which("logrotate"):
         status, said = ran("logrotate", "--debug", "--state", folder / "state",

@@ -1,0 +1,423 @@
+"""Signing in: checks names and passwords, makes the sessions that HAProxy verifies (sign_in.cfg).
+
+Only this program sees passwords. It runs as one process with some threads, because its counts of
+wrong passwords are in its memory (and in a file, so that a restart keeps them):
+
+    gunicorn --workers 1 --threads 16 --bind unix:agent.sock agent:app
+
+FRONT_FOLDER has the files `users` (NAME:HASH, or NAME:{PLAIN}WORD), `callers` and `programs`.
+FRONT_STATE is a folder of its own, with `sessions.map` for HAProxy. FRONT_KEY signs.
+"""
+import base64
+import binascii
+import collections
+import contextlib
+import hashlib
+import hmac
+import ipaddress
+import os
+import pathlib
+import re
+import secrets
+import sqlite3
+import threading
+import time
+
+import flask
+import jwt
+import passlib.context
+import passlib.exc
+
+FOLDER, STATE = (pathlib.Path(os.environ[name]) for name in ("FRONT_FOLDER", "FRONT_STATE"))
+KEY = os.environ["FRONT_KEY"]
+SESSION_SECONDS, DEVICE_SECONDS = 8 * 3600, 90 * 86_400
+# Wrong passwords a minute: for a user, from browsers that never signed in as them (half as many
+# from an address that is noisy); from a browser that did; from an address, for all users.
+OF_USER, OF_DEVICE, OF_ADDRESS = 10, 10, 30
+# An address is noisy after so many wrong passwords or refusals in ten minutes.
+NOISY_FAILURES, NOISY_REFUSALS = 2, 11
+MINUTE, KEPT_SECONDS = 60, 600
+LONGEST_NAME, LONGEST_PASSWORD, MOST_DEVICE_USERS, MOST_KNOWN = 254, 1_024, 8, 10_000
+# As few hashes at once as there are processors; each takes 19 MB and some 30 ms.
+HASHES_AT_ONCE = int(os.environ.get("FRONT_HASHES", os.cpu_count() or 1))
+HASHES = passlib.context.CryptContext(
+    schemes=["argon2", "apr_md5_crypt", "sha512_crypt", "sha256_crypt", "ldap_salted_sha1",
+             "ldap_sha1"],
+    argon2__type="ID", argon2__time_cost=2, argon2__memory_cost=19_456, argon2__parallelism=1)
+# A name that nobody has takes as long as one that somebody has.
+NOBODY = HASHES.hash(secrets.token_hex())
+PAGES = {
+    None: (200, ""),
+    "out": (200, "You have signed out."),
+    "wrong": (401, "This name and password don't belong together."),
+    "often": (429, "Too many wrong passwords were entered for this name or from your network. Wait"
+                   " a minute, then try again. A device on which you have signed in before is not"
+                   " affected."),
+    "tls": (403, "Passwords are only taken over https."),
+}
+SCHEMA = """
+CREATE TABLE IF NOT EXISTS failed (key TEXT, at REAL);
+CREATE TABLE IF NOT EXISTS users (name TEXT PRIMARY KEY, seal TEXT, since INTEGER);
+CREATE TABLE IF NOT EXISTS gone (token TEXT PRIMARY KEY, until INTEGER);
+CREATE TABLE IF NOT EXISTS renewed (name TEXT PRIMARY KEY, seal TEXT, hash TEXT);
+"""
+
+app = flask.Flask(__name__, static_folder=None, template_folder="page")
+app.config["MAX_CONTENT_LENGTH"] = 8_192
+lock, hashing = threading.RLock(), threading.BoundedSemaphore(HASHES_AT_ONCE)
+
+
+def milliseconds():
+    return time.time_ns() // 1_000_000
+
+
+def sealed(*texts):
+    """A digest that only who has the key can make."""
+    return hmac.digest(KEY.encode(), "\0".join(texts).encode(), hashlib.sha256).hex()
+
+
+class Kept:
+    """What a restart keeps: counts, hashes that were renewed, since when sessions count."""
+
+    def __init__(self):
+        self.db = sqlite3.connect(STATE / "agent.db", check_same_thread=False, isolation_level=None)
+        self.db.execute("PRAGMA journal_mode = WAL")
+        self.db.execute("PRAGMA synchronous = NORMAL")
+        self.db.executescript(SCHEMA)
+
+    def ask(self, text, *values):
+        with lock:
+            return self.db.execute(text, values).fetchall()
+
+
+kept = Kept()
+
+
+# ---- Counts of wrong passwords
+
+class Counts:
+    """When something failed, by what is counted; at most the last ten minutes."""
+
+    def __init__(self):
+        self.moments, self.swept = collections.defaultdict(collections.deque), 0.0
+        for key, moment in kept.ask("SELECT key, at FROM failed ORDER BY at"):
+            self.moments[key].append(moment)
+
+    def lately(self, key, seconds=MINUTE):
+        after = time.time() - seconds
+        return sum(moment > after for moment in self.moments.get(key, ()))
+
+    def add(self, key, moment):
+        self.moments[key].append(moment)
+        kept.ask("INSERT INTO failed VALUES (?, ?)", key, moment)
+
+    def note(self, key):
+        """Counts a refusal: only in memory, and no more than matter."""
+        self.moments[key].append(time.time())
+        while len(self.moments[key]) > NOISY_REFUSALS:
+            self.moments[key].popleft()
+
+    def take_back(self, key, moment):
+        with contextlib.suppress(ValueError):
+            self.moments[key].remove(moment)
+        kept.ask("DELETE FROM failed WHERE key = ? AND at = ?", key, moment)
+
+    def sweep(self):
+        """Forgets what is too old, once a minute."""
+        now = time.time()
+        if now > self.swept + MINUTE:
+            self.swept = now
+            kept.ask("DELETE FROM failed WHERE at < ?", now - KEPT_SECONDS)
+            for key in [key for key, moments in self.moments.items()
+                        if not moments or moments[-1] < now - KEPT_SECONDS]:
+                del self.moments[key]
+
+
+counts = Counts()
+
+
+def is_full(user, address, device):
+    if device:
+        return counts.lately(f"device {device} {user}") >= OF_DEVICE
+    noisy = (counts.lately(f"address {address}", KEPT_SECONDS) >= NOISY_FAILURES
+             or counts.lately(f"refused {address}", KEPT_SECONDS) >= NOISY_REFUSALS)
+    return (counts.lately(f"user {user}") >= (OF_USER // 2 if noisy else OF_USER)
+            or counts.lately(f"address {address}") >= OF_ADDRESS)
+
+
+# ---- Users
+
+class Users:
+    """The users of the file, by their name in small letters: how it is spelled, and their hash."""
+
+    def __init__(self):
+        self.marks, self.lines = None, {}
+
+    @staticmethod
+    def changed_marks():
+        paths = (FOLDER / name for name in ("users", "callers", "programs"))
+        return [(path.stat().st_mtime_ns, path.stat().st_ino) if path.exists() else None
+                for path in paths]
+
+    def read(self):
+        """Reads the files again if they have changed."""
+        marks = self.changed_marks()
+        with lock:
+            if marks == self.marks:
+                return
+            lines = (line.partition(":")[::2] for line in text_of("users").splitlines()
+                     if ":" in line and line[0] not in "#:")
+            self.lines = {name.lower(): (name, word.split(":")[0]) for name, word in lines}
+            self.marks = marks
+            known.clear()
+            note_sessions(self.lines)
+
+    def find(self, user):
+        self.read()
+        return self.lines.get(user.lower())
+
+
+users = Users()
+# Names and passwords of programs on this machine that were right.
+known = collections.OrderedDict()
+
+
+def text_of(name):
+    with contextlib.suppress(FileNotFoundError):
+        return (FOLDER / name).read_text(encoding="utf-8", errors="replace")
+    return ""
+
+
+def callers():
+    """Each name of `callers` in small letters, with the rest of its line."""
+    lines = (line.split(";")[0].split(None, 1) for line in text_of("callers").splitlines()
+             if line.lstrip()[:1] != "#")
+    return {pair[0].strip('"').lower(): pair[1] for pair in lines if len(pair) == 2}
+
+
+def programs():
+    """Each program, and since when its tokens count (tools/token)."""
+    return re.findall(r"^(program:\S+) .*; # \S+ ([0-9]+)$", text_of("programs"), re.M)
+
+
+def note_sessions(lines):
+    """Notes since when each user's sessions count: a new password or caller ends earlier ones."""
+    listed, now = callers(), milliseconds()
+    old = {name: (seal, since)
+           for name, seal, since in kept.ask("SELECT name, seal, since FROM users")}
+    with lock:
+        kept.db.execute("BEGIN")
+        for name, (_, word) in lines.items():
+            seal = sealed("user", name, word, listed.get(name, ""))
+            before, since = old.get(name, ("", 0))
+            if before != seal:
+                # Sessions of somebody who was removed ended then.
+                kept.db.execute("INSERT OR REPLACE INTO users VALUES (?, ?, ?)",
+                                (name, seal, now if before else -since))
+        for name in {name for name, (seal, _) in old.items() if seal} - set(lines):
+            kept.db.execute("UPDATE users SET seal = '', since = ? WHERE name = ?", (-now, name))
+        kept.db.execute("COMMIT")
+    write_sessions()
+
+
+def write_sessions():
+    """Writes what HAProxy looks up: since when a user's sessions count, and which have ended."""
+    with lock:
+        kept.ask("DELETE FROM gone WHERE until < ?", int(time.time()))
+        since = [*kept.ask("SELECT name, since FROM users WHERE seal <> ''"), *programs()]
+        lines = [f"u:{name} {moment}\n" for name, moment in since]
+        lines += [f"t:{token} 1\n" for token, in kept.ask("SELECT token FROM gone")]
+        part = STATE / ".sessions.map.part"
+        part.write_text(f"# {secrets.token_hex()}\n" + "".join(lines))
+        part.chmod(0o640)
+        part.replace(STATE / "sessions.map")
+
+
+def is_right(found, word):
+    """Whether the word is the user's. An old hash becomes argon2id, in the agent's own file."""
+    name, stored = found or ("", NOBODY)
+    renewed = kept.ask("SELECT hash FROM renewed WHERE name = ? AND seal = ?", name.lower(),
+                       sealed("hash", stored))
+    current = renewed[0][0] if renewed else stored
+    if current.startswith("$argon2"):
+        return HASHES.verify(word, current) and found is not None
+    if current.startswith("{PLAIN}"):
+        right = hmac.compare_digest(current[len("{PLAIN}"):].encode(), word.encode())
+    else:
+        right = HASHES.verify(word, current)
+    # As long as for all others, also if it is wrong.
+    new = HASHES.hash(word)
+    if right:
+        kept.ask("INSERT OR REPLACE INTO renewed VALUES (?, ?, ?)", name.lower(),
+                 sealed("hash", stored), new)
+    return right
+
+
+def judged(user, word, address, device):
+    """200, 401 or 429. A try is counted before its hash, and taken back if the word is right, so
+    that many at once get no further than one after another."""
+    found = users.find(user)
+    # Names that nobody has share some counts, so that they don't fill the memory.
+    name = user.lower() if found else f"nobody {int(sealed(user), 16) % 4096}"
+    keys = [f"device {device} {name}"] if device else [f"user {name}", f"address {address}"]
+    moment = time.time()
+    with lock:
+        counts.sweep()
+        if is_full(name, address, device):
+            counts.note(f"refused {address}")
+            return 429
+        for key in keys:
+            counts.add(key, moment)
+    right = False
+    with hashing, contextlib.suppress(ValueError, passlib.exc.PasswordValueError):
+        right = is_right(found, word)
+    if right:
+        with lock:
+            for key in keys:
+                counts.take_back(key, moment)
+    return 200 if right else 401
+
+
+# ---- Tokens
+
+def token(kind, seconds, **more):
+    return jwt.encode({**more, "k": kind, "h": flask.request.host, "i": milliseconds(),
+                       "exp": int(time.time()) + seconds}, KEY, algorithm="HS256")
+
+
+def said(cookie, kind):
+    """What a token of this host says, or nothing."""
+    with contextlib.suppress(jwt.InvalidTokenError):
+        claims = jwt.decode(flask.request.cookies.get(cookie, ""), KEY, algorithms=["HS256"])
+        if (claims.get("k"), claims.get("h")) == (kind, flask.request.host):
+            return claims
+    return {}
+
+
+def is_secure():
+    return flask.request.headers.get("X-Scheme") == "https"
+
+
+def cookie_names():
+    """Of the session and of the device: only https can set those that begin so."""
+    return ("__Host-session", "__Secure-device") if is_secure() else ("session", "device")
+
+
+def address():
+    """The client's address; of IPv6 the network, because a client has all addresses of one."""
+    text = flask.request.headers.get("X-Real-IP", "")
+    with contextlib.suppress(ValueError):
+        found = ipaddress.ip_address(text)
+        found = getattr(found, "ipv4_mapped", None) or found
+        if found.version == 6:
+            return str(ipaddress.ip_network(f"{found}/64", strict=False))
+    return text
+
+
+def is_loopback():
+    with contextlib.suppress(ValueError):
+        return ipaddress.ip_address(flask.request.headers.get("X-Real-IP", "")).is_loopback
+    return False
+
+
+def wants_page():
+    return "text/html" in flask.request.headers.get("Accept", "")
+
+
+def place_of(text):
+    """Where to go afterwards: a path of this host, else the first page."""
+    return text if re.fullmatch(r"/([A-Za-z0-9_][A-Za-z0-9_./-]{0,199})?", text) else "/"
+
+
+def shown(what, user="", place="/"):
+    status, words = PAGES[what]
+    if wants_page() or status == 200:
+        body = flask.render_template("sign-in.html", words=words, user=user, place=place)
+    else:
+        body = flask.jsonify(error={401: "signed-out", 429: "often"}.get(status, "forbidden"))
+    reply = flask.make_response(body, status)
+    if status in (401, 429):
+        reply.headers["X-Failed"] = str(status)
+    if status == 429:
+        reply.headers["Retry-After"] = str(MINUTE)
+    return reply
+
+
+# ---- What is asked
+
+@app.get("/-/sign-in")
+def page():
+    return shown("out" if "out" in flask.request.args else None,
+                 place=place_of(flask.request.args.get("to", "/")))
+
+
+@app.post("/-/sign-in")
+def sign_in():
+    form = flask.request.form
+    user, word = form.get("user", "").strip()[:LONGEST_NAME], form.get("password", "")
+    place = place_of(form.get("to", "/"))
+    if not is_secure() and not is_loopback():
+        return shown("tls")
+    if len(word) > LONGEST_PASSWORD:
+        return shown("wrong", user, place)
+    session, device = cookie_names()
+    mine = said(device, "device")
+    knows = user.lower() in mine.get("u", [])
+    status = judged(user, word, address(), mine["j"] if knows else None)
+    if status != 200:
+        return shown("often" if status == 429 else "wrong", user, place)
+    reply = flask.redirect(place, 303)
+    same = {"httponly": True, "secure": is_secure(), "samesite": "Lax"}
+    name = users.find(user)[0]
+    reply.set_cookie(session, token("session", SESSION_SECONDS, u=name, n=name.lower(),
+                                    j=secrets.token_urlsafe(12)), path="/", **same)
+    people = [*[it for it in mine.get("u", []) if it != user.lower()], user.lower()]
+    reply.set_cookie(device, token("device", DEVICE_SECONDS, u=people[-MOST_DEVICE_USERS:],
+                                   j=mine.get("j") or secrets.token_urlsafe(12)),
+                     path="/-/sign-in", max_age=DEVICE_SECONDS, **same)
+    return reply
+
+
+@app.post("/-/sign-out")
+def sign_out():
+    session, _ = cookie_names()
+    claims = said(session, "session")
+    if claims:
+        kept.ask("INSERT OR REPLACE INTO gone VALUES (?, ?)", claims["j"], claims["exp"])
+        write_sessions()
+    reply = flask.redirect("/-/sign-in?out", 303)
+    reply.delete_cookie(session, path="/", secure=is_secure(), httponly=True, samesite="Lax")
+    return reply
+
+
+@app.get("/who")
+def who():
+    """Basic, for programs on this machine; a right password is remembered until files change."""
+    text = flask.request.headers.get("Authorization", "").partition(" ")[2]
+    try:
+        user, _, word = base64.b64decode(text, validate=True).decode().partition(":")
+    except (binascii.Error, UnicodeDecodeError):
+        return "", 401
+    found, seal = users.find(user), sealed("basic", user, word)
+    if not is_loopback() or len(word) > LONGEST_PASSWORD:
+        return "", 401
+    if seal not in known:
+        status = judged(user, word, address(), None)
+        if status != 200:
+            return "", 403 if status == 429 else 401, {"X-Failed": str(status)}
+        known[seal] = True
+        while len(known) > MOST_KNOWN:
+            known.popitem(last=False)
+    return "", 200, {"X-Auth-Request-User": found[0]}
+
+
+def watch():
+    """Reads the files again when they change, so that who is no longer a user is nobody soon."""
+    while True:
+        with contextlib.suppress(OSError):
+            users.read()
+        time.sleep(1)
+
+
+users.read()
+threading.Thread(target=watch, daemon=True).start()

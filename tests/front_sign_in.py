@@ -1,0 +1,466 @@
+"""Signing in on a page: sessions, guesses, devices, what ends a session, programs' tokens."""
+import collections
+import concurrent.futures
+import contextlib
+import http.client
+import os
+import pathlib
+import re
+import secrets
+import shutil
+import socket
+import subprocess
+import threading
+import time
+import urllib.parse
+
+import browser
+import debian
+import front_queue
+from front_cases import FIRST_VIEW, password, told_error
+from run_serve import Run
+from serve_cases import SOLUTION
+
+
+jwt = debian.module("jwt")
+
+TOP = pathlib.Path(__file__).resolve().parent.parent
+GUNICORN = shutil.which("gunicorn")
+SECONDS = 25
+
+
+def missing():
+    """Which of the Debian packages aren't installed."""
+    there = {"haproxy": front_queue.HAPROXY, "gunicorn": GUNICORN, "python3-jwt": jwt}
+    return [name for name, found in there.items() if not found]
+
+
+class Agent:
+    """The agent that checks passwords, with files of its own."""
+
+    def __init__(self, folder, front_folder, key):
+        self.folder, self.socket = folder / "agent", folder / "agent" / "agent.sock"
+        self.folder.mkdir()
+        self.environment = {
+            **os.environ, "FRONT_FOLDER": str(front_folder), "FRONT_STATE": str(self.folder),
+            "FRONT_KEY": key, "FRONT_AGENT": str(self.socket), "MALLOC_ARENA_MAX": "2",
+            "FRONT_LUA": str(TOP / "front" / "sessions.lua"),
+            "FRONT_PAGES": str(TOP / "front" / "page"), "PYTHONDONTWRITEBYTECODE": "1"}
+        self.start()
+
+    def start(self):
+        self.process = subprocess.Popen(
+            [GUNICORN, "--workers", "1", "--threads", "16", "--bind", f"unix:{self.socket}",
+             "--chdir", TOP / "front", "--graceful-timeout", "2", "agent:app"],
+            env=self.environment, stdin=subprocess.DEVNULL, stdout=subprocess.DEVNULL,
+            stderr=subprocess.DEVNULL)
+        browser.until("the agent runs", lambda: self.socket.exists()
+                      and (self.folder / "sessions.map").exists())
+
+    def stop(self):
+        self.process.terminate()
+        self.process.wait(SECONDS)
+
+
+class SignInQueue(front_queue.Queue):
+    """HAProxy with the queue, and with what verifies sessions."""
+
+    def __init__(self, folder, port, agent):
+        self.more = agent.environment
+        super().__init__(folder, port)
+
+    def start(self):
+        self.environment = {**self.more, "QUEUE": str(self.folder)}
+        super().start(TOP / "front" / "sign_in.cfg")
+
+
+class Client:
+    """A browser without pages: an address, cookies, and what comes back."""
+
+    def __init__(self, front, source="127.0.0.1", host=None):
+        self.front, self.source, self.cookies = front, source, {}
+        self.host = host or f"127.0.0.1:{front.port}"
+
+    def ask(self, method, path, body=None, **fields):
+        client = http.client.HTTPConnection("127.0.0.1", self.front.port, SECONDS, (self.source, 0))
+        with contextlib.closing(client):
+            cookies = "; ".join(f"{name}={text}" for name, text in self.cookies.items())
+            client.request(method, path, body, {
+                "Host": self.host, **({"Cookie": cookies} if cookies else {}),
+                **{name.replace("_", "-"): text for name, text in fields.items()}})
+            reply = client.getresponse()
+            for line in reply.headers.get_all("Set-Cookie", ()):
+                name, text = re.match(r"([^=]+)=([^;]*)", line).groups()
+                self.cookies[name] = text
+            return reply.status, reply.headers, reply.read()
+
+    def view(self, path="/me"):
+        status, _, body = self.ask("GET", path)
+        return status, body
+
+    def sign_in(self, user, word=None, **more):
+        form = urllib.parse.urlencode({"user": user, "password": word or f"try-{user}", **more})
+        return self.ask("POST", "/-/sign-in", form, Accept="text/html",
+                        Content_Type="application/x-www-form-urlencoded",
+                        Origin=f"http://{self.host}")
+
+    def sign_out(self):
+        return self.ask("POST", "/-/sign-out", Origin=f"http://{self.host}")
+
+
+class Stack:
+    """Front, queue, agent and office."""
+
+    def __init__(self, run, make_front, name, edits=()):
+        self.run = Run.apart(run.program, run.folder, "front", name)
+        self.office = self.run.office()
+        self.key = secrets.token_hex(32)
+        shutil.copytree(TOP / "front", self.run.folder / "front")
+        self.agent = Agent(self.run.folder, self.run.folder / "front", self.key)
+        self.queue = SignInQueue(self.run.folder / "queue", self.office.port, self.agent)
+        self.front = make_front(self.run.folder, self.queue.address, (
+            ("include password.conf", "include sign_in.conf"), *edits))
+
+    def stop(self):
+        self.front.stop()
+        self.queue.stop()
+        self.agent.stop()
+        self.office.killed()
+
+
+def sessions(run, stack):
+    """A session is made by a right password, says who a user is, and ends."""
+    ada = Client(stack.front)
+    status, header, page = ada.ask("GET", "/registry.html", Accept="text/html")
+    run.judge("nobody's page", (302, f"http://{ada.host}/-/sign-in?to=/registry.html"),
+              (status, header["Location"]))
+    run.judge("nobody's reply", told_error(401, "signed-out"), ada.view())
+    status, header, page = ada.ask("GET", "/-/sign-in?to=/registry.html")
+    run.judge("the page to sign in", (200, True, "no-store", "same-origin"), (
+        status, all(part in page.decode() for part in (
+            'autocomplete="username"', 'autocomplete="current-password"', "<label>User name ",
+            'value="/registry.html"')), header["Cache-Control"], header["Referrer-Policy"]))
+    status, header, page = ada.sign_in("ada", "guess")
+    run.judge("a wrong password", (401, True, None), (
+        status, b"belong together" in page, header["Set-Cookie"]))
+    status, header, _ = ada.sign_in("ada", to="/candidate.html")
+    session, device = header.get_all("Set-Cookie")
+    run.judge("a right one", (303, "/candidate.html"), (status, header["Location"]))
+    run.judge("the cookies", (["HttpOnly", "Path=/", "SameSite=Lax"],
+                              ["HttpOnly", "Max-Age=7776000", "Path=/-/sign-in", "SameSite=Lax"]),
+              tuple(sorted(part for part in text.split("; ")[1:] if not part.startswith("Expires"))
+                    for text in (session, device)))
+    run.judge("a session", FIRST_VIEW, ada.view())
+    run.judge("who it is", (200, b'{"caller":"cand:1","sign_out":"/-/sign-out"}'),
+              ada.view("/-/user"))
+    run.judge("X-Caller beside it", FIRST_VIEW,
+              ada.ask("GET", "/me", X_Caller="office", X_Auth_Request_User="registry")[::2])
+    for place in ("//evil.example", "https://evil.example", "/\\evil", "javascript:1", "/-/user"):
+        other = Client(stack.front)
+        run.judge(f"the way back to {place}", "/", other.sign_in("ada", to=place)[1]["Location"])
+    run.judge("a name in capital letters", 303, Client(stack.front).sign_in("ADA", "try-ada")[0])
+    run.judge("another site's form", 403, ada.ask(
+        "POST", "/-/sign-in", "user=ada&password=try-ada", Origin="https://elsewhere.example",
+        Content_Type="application/x-www-form-urlencoded")[0])
+    run.judge("another site's change", told_error(403, "forbidden", rule="origin"), ada.ask(
+        "PUT", "/exams/1/owner", "{}", Origin="https://elsewhere.example")[::2])
+
+
+def ends(run, stack):
+    """Whoever signed out, was removed, or has another password or caller is nobody, with a kept
+    cookie too; and so after a restart of the queue and the agent."""
+    people = {user: Client(stack.front) for user in ("ada", "ben", "cleo", "physics", "registry")}
+    for user, client in people.items():
+        run.judge(f"{user} signs in", 303, client.sign_in(user)[0])
+    old = dict(people["ada"].cookies)
+    run.judge("signing out by a link", 403, people["ada"].ask("GET", "/-/sign-out")[0])
+    run.judge("signing out by another site", 403, people["ada"].ask(
+        "POST", "/-/sign-out", Origin="https://elsewhere.example")[0])
+    run.judge("signing out", (303, ""),
+              (people["ada"].sign_out()[0], people["ada"].cookies["session"]))
+    people["ada"].cookies = old
+    folder = stack.front.folder
+    users = (folder / "users").read_text()
+    (folder / "users").write_text(re.sub(r"ben:.*\n", "", users).replace("try-cleo", "new-word"))
+    callers = (folder / "callers").read_text()
+    (folder / "callers").write_text(callers.replace("dept:3", "dept:4"))
+    for user in ("ada", "ben", "cleo", "physics"):
+        browser.until(f"{user} is nobody", lambda: people[user].view("/-/user")[0] == 401)
+    run.judge("whoever stays", 200, people["registry"].view("/-/user")[0])
+    stack.queue.stop()
+    stack.queue.start()
+    stack.agent.stop()
+    run.judge("without the agent", (401, 200), tuple(
+        people[user].view("/-/user")[0] for user in ("ada", "registry")))
+    run.judge("signing in without the agent", 503, Client(stack.front).sign_in("registry")[0])
+    stack.agent.start()
+    run.judge("a new password", (401, 303), tuple(
+        Client(stack.front).sign_in("cleo", word)[0] for word in ("try-cleo", "new-word")))
+    (folder / "users").write_text(users)
+    (folder / "callers").write_text(callers)
+
+
+def forged(run, stack):
+    """Tokens that nobody gave."""
+    ada = Client(stack.front)
+    ada.sign_in("ada")
+    right, device = ada.cookies["session"], ada.cookies["device"]
+    claims = jwt.decode(right, stack.key, algorithms=["HS256"])
+
+    def made(key=stack.key, algorithm="HS256", **more):
+        return jwt.encode({**claims, **more}, key, algorithm=algorithm)
+
+    head, body, seal = right.split(".")
+    other = made(u="registry", n="registry").split(".")
+    for name, token, status in (
+            ("as it is", right, 200), ("made by the key", made(), 200),
+            ("of another user", ".".join((head, other[1], seal)), 401),
+            ("by another key", made("x" * 64), 401), ("without a seal", f"{head}.{body}.", 401),
+            ("without an algorithm", made(None, "none"), 401),
+            ("of another algorithm", made(algorithm="HS512"), 401),
+            ("that has ended", made(exp=int(time.time()) - 5), 401),
+            ("of before", made(i=claims["i"] - 10**12, n="eve"), 401),
+            ("of another host", made(h="elsewhere.example"), 401), ("of a device", device, 401),
+            ("of a program", made(k="program"), 401),
+            ("of a user who isn't there", made(n="eve"), 401),
+            ("junk", "a.b.c", 401), ("nothing", "", 401), ("long", "x" * 6_000, 401)):
+        ada.cookies = {"session": token}
+        run.judge(f"a token {name}", status, ada.view("/-/user")[0])
+        if token not in (right, ""):
+            ada.cookies = {}
+            run.judge(f"a bearer's token {name}", 401,
+                      ada.ask("GET", "/-/user", Authorization=f"Bearer {token}")[0])
+
+
+def guesses(run, stack):
+    """At most ten guesses a minute of strangers reach an account, and its user notices nothing."""
+    known = Client(stack.front)
+    known.sign_in("registry")
+    signed_in = dict(known.cookies)
+    addresses = [f"127.9.{number}.1" for number in range(40)]
+    statuses = collections.Counter()
+
+    def guess(number):
+        client = Client(stack.front, addresses[number % len(addresses)])
+        if number % 5 == 0:
+            return client.ask("GET", "/me", Authorization=password("registry", f"w{number}")
+                              .removeprefix("Authorization: "))[0]
+        return client.sign_in("Registry" if number % 3 else "registry", f"w{number}")[0]
+
+    with concurrent.futures.ThreadPoolExecutor(40) as pool:
+        for status in pool.map(guess, range(400)):
+            statuses[status] += 1
+    run.judge("guesses of one account by strangers", ({401, 429}, True),
+              (set(statuses), 5 <= statuses[401] <= 10))
+    reply = Client(stack.front, "127.9.0.1").sign_in("registry", "try-registry")
+    run.judge("a new device meanwhile", (429, "60"), (reply[0], reply[1]["Retry-After"]))
+    run.judge("it says so", True, b"Wait a minute" in reply[2])
+    run.judge("whoever is signed in", 200, known.view("/-/user")[0])
+    known.cookies = {"device": signed_in["device"]}
+    run.judge("a known device signs in", 303, known.sign_in("registry")[0])
+    stolen = Client(stack.front)
+    stolen.cookies = {"device": signed_in["device"]}
+    words = [stolen.sign_in("registry", f"w{number}")[0] for number in range(13)]
+    run.judge("guesses on a known device", [401] * 10 + [429] * 3, words)
+    stack.agent.stop()
+    stack.agent.start()
+    run.judge("after a restart they are counted", 429,
+              Client(stack.front, "127.9.0.2").sign_in("registry", "w")[0])
+    nobody = Client(stack.front, "127.8.0.1")
+    run.judge("names that nobody has are refused alike", [401] * 10 + [429] * 2,
+              [Client(stack.front, f"127.8.{n}.1").sign_in("eve", "w")[0] for n in range(12)])
+    run.judge("another account from there", 303, nobody.sign_in("ada")[0])
+
+
+def old_hashes(run, stack):
+    """Hashes of htpasswd sign in, and are argon2id afterwards in the agent's file."""
+    users = stack.front.folder / "users"
+    made = subprocess.run(["openssl", "passwd", "-apr1", "an old word"], capture_output=True,
+                          text=True, check=True).stdout.strip()
+    before = users.read_text()
+    users.write_text(f"{before}olga:{made}\n")
+    olga = Client(stack.front)
+    came = [olga.sign_in("olga", word)[0] for word in ("an old word", "another", "an old word")]
+    run.judge("an old hash", [303, 401, 303], came)
+    rows = subprocess.run(
+        ["sqlite3", stack.agent.folder / "agent.db", "SELECT name, hash FROM renewed"],
+        capture_output=True, text=True, check=True).stdout
+    run.judge("it became argon2id", True, "olga|$argon2id$" in rows and "ada|$argon2id$" in rows)
+    users.write_text(before)
+
+
+def programs(run, stack):
+    """A program has a token in place of a password, until it is removed."""
+    key = stack.run.folder / "front.key"
+    key.write_text(f"FRONT_KEY={stack.key}\n")
+
+    def ended(*words):
+        done = subprocess.run(
+            ["/usr/bin/python3", TOP / "tools" / "token", "--front", stack.front.folder,
+             "--key", key, *words], capture_output=True, text=True, check=False)
+        return done.returncode, done.stdout.strip() or done.stderr.strip()
+
+    status, token = ended("add", "nightly", "office")
+    stack.front.reload()
+    nightly = Client(stack.front)
+
+    def asks(path):
+        return nightly.ask("GET", path, Authorization=f"Bearer {token}")[0]
+
+    browser.until("the program signs in", lambda: asks("/drafts/1") == 200)
+    nightly.cookies = {"session": token}
+    run.judge("its token as a cookie", 401, nightly.ask("GET", "/drafts/1")[0])
+    run.judge("added twice", (1, "token: there is a program nightly; remove it first"),
+              ended("add", "nightly", "office"))
+    run.judge("an odd caller", 1, ended("add", "other", "cand:1; x office")[0])
+    run.judge("the list", ["nightly", "office"], ended("list")[1].split()[:2])
+    run.judge("removed", (0, ""), ended("remove", "nightly"))
+    browser.until("the program is nobody", lambda: asks("/drafts/1") == 401)
+    other = [ended(*words)[1] for words in (
+        ("add", "nightly", "dept:3"), ("remove", "nightly"), ("add", "nightly", "dept:3"))][2]
+    stack.front.reload()
+    browser.until("another one counts", lambda: nightly.ask(
+        "GET", "/drafts/1", Authorization=f"Bearer {other}")[0] == 200)
+    run.judge("the old one doesn't", 401, asks("/drafts/1"))
+
+
+def basic(run, stack):
+    """A password with each request is for programs on this machine."""
+    field = password("registry").removeprefix("Authorization: ")
+    here, there = Client(stack.front), Client(stack.front, "127.7.0.1")
+    run.judge("Basic", (200, 200), tuple(
+        client.ask("GET", "/drafts/1", Authorization=field)[0] for client in (here, there)))
+    reply = agent_asked(stack, "GET", "/who", Authorization=field, X_Real_IP="192.0.2.1")
+    run.judge("Basic from elsewhere", 401, reply)
+
+
+def agent_asked(stack, method, path, body=None, **fields):
+    """The status of a request to HAProxy, as nginx makes it for a client at another address."""
+    name = "basic" if path == "/who" else "sign_in"
+    with contextlib.closing(http.client.HTTPConnection("office", timeout=SECONDS)) as client:
+        client.sock = socket.socket(socket.AF_UNIX)
+        client.sock.connect(str(stack.queue.folder / f"{name}.sock"))
+        client.request(method, path, body, {name.replace("_", "-"): text
+                                            for name, text in fields.items()})
+        return client.getresponse().status
+
+
+def networks(run, stack):
+    """Addresses of IPv6 are counted by their network; from elsewhere one signs in by https only."""
+    def guess(address, number, scheme="https"):
+        return agent_asked(stack, "POST", "/-/sign-in", f"user=nobody-{number}&password=x",
+                           Content_Type="application/x-www-form-urlencoded", X_Real_IP=address,
+                           X_Scheme=scheme, Accept="text/html")
+
+    run.judge("http from elsewhere", 403, guess("192.0.2.7", 0, "http"))
+    came = [guess(f"2001:db8:0:1::{number + 1:x}", number) for number in range(33)]
+    run.judge("a network of IPv6", [401] * 30 + [429] * 3, came)
+    run.judge("another one", 401, guess("2001:db8:0:2::1", 99))
+
+
+def over_tls(run, make_front):
+    """With https the cookies are the host's own and Secure."""
+    folder = run.folder / "tls"
+    folder.mkdir()
+    subprocess.run(["openssl", "req", "-x509", "-newkey", "rsa:2048", "-nodes", "-subj",
+                    "/CN=localhost", "-keyout", folder / "key", "-out", folder / "pem"], check=True,
+                   stdout=subprocess.DEVNULL, stderr=subprocess.DEVNULL)
+    port = browser.free_port()
+    stack = Stack(run, make_front, "over_tls", ((
+        "server_name _;", f"listen 127.0.0.1:{port} ssl; ssl_certificate {folder}/pem;"
+                          f" ssl_certificate_key {folder}/key; server_name _;"),))
+    curl = ["curl", "-ks", "--cookie-jar", folder / "jar", "--cookie", folder / "jar"]
+
+    def asks(*words):
+        return subprocess.run([*curl, *words], capture_output=True, text=True, check=False,
+                              timeout=SECONDS).stdout
+
+    try:
+        heads = asks("-D", "-", "-d", "user=ada&password=try-ada",
+                     f"https://127.0.0.1:{port}/-/sign-in").splitlines()
+        cookies = [line.split(": ")[1] for line in heads if line.lower().startswith("set-cookie")]
+        run.judge("cookies over https", (["__Host-session", "__Secure-device"], True),
+                  ([text.partition("=")[0] for text in cookies],
+                   all("; Secure" in text and "; HttpOnly" in text for text in cookies)))
+        run.judge("a session over https", '{"caller":"cand:1","sign_out":"/-/sign-out"}',
+                  asks(f"https://127.0.0.1:{port}/-/user"))
+        mixed = Client(stack.front)
+        mixed.sign_in("ada")
+        run.judge("a session of http over https", '{"error":"signed-out"}', asks(
+            "-H", f"Cookie: session={mixed.cookies['session']}", "-H", f"Host: {mixed.host}",
+            "--cookie-jar", folder / "none", "--cookie", folder / "none",
+            f"https://127.0.0.1:{port}/-/user"))
+    finally:
+        stack.stop()
+
+
+def first_sign_ins(run, stack):
+    """Many people of one address sign in for the first time at once: all are served."""
+    users = stack.front.folder / "users"
+    before, count = users.read_text(), 100
+    hashed = subprocess.run(["openssl", "passwd", "-apr1", "-stdin"], check=True, text=True,
+                            input="a word\n", capture_output=True).stdout.strip()
+    users.write_text(before + "".join(f"s{number}:{hashed}\n" for number in range(count)))
+    with concurrent.futures.ThreadPoolExecutor(count) as pool:
+        came = collections.Counter(pool.map(
+            lambda number: Client(stack.front, "127.6.0.1").sign_in(f"s{number}", "a word")[0],
+            range(count)))
+    run.judge("first sign-ins at once", {303: count}, came)
+    users.write_text(before)
+
+
+def judge_stack(run, make_front):
+    stack = Stack(run, make_front, "signed")
+    try:
+        office = Client(stack.front)
+        office.sign_in("registry")
+        for method, path, body, status in (("PUT", "/drafts/1", SOLUTION, 201),
+                                           ("POST", "/drafts/1/publish", b"", 200)):
+            run.judge("the start", status, office.ask(method, path, body)[0])
+        for part in (sessions, forged, old_hashes, programs, basic, networks, first_sign_ins, ends,
+                     guesses):
+            part(run, stack)
+    finally:
+        stack.stop()
+
+
+def in_browser(run, chromium, make_front):
+    """A reader is sent to the form, signs in, finds the page that they wanted, and signs out."""
+    if missing():
+        return
+    stack = Stack(run, make_front, "in_browser")
+    try:
+        host = f"http://{chromium.new_host()}:{stack.front.port}"
+        chromium.go(f"{host}/registry.html")
+        chromium.types("[name=user]", "registry")
+        chromium.types("[name=password]", "guess")
+        chromium.click("form button")
+        chromium.waits("return document.querySelector('#words')")
+        run.judge("a wrong password, on the page", "registry",
+                  chromium.run("return document.querySelector('[name=user]').value"))
+        chromium.types("[name=password]", "try-registry")
+        chromium.click("form button")
+        chromium.waits("return location.pathname === '/registry.html'"
+                       " && document.readyState === 'complete'"
+                       " && !document.body.hasAttribute('aria-busy')")
+        run.judge("cookies that a script sees", "", chromium.run("return document.cookie"))
+        chromium.click("#sign-out")
+        chromium.waits("return location.pathname === '/signed-out.html'")
+        run.judge("signed out on the page", 401, chromium.run(
+            "return fetch('/me').then(reply => reply.status)"))
+        run.judge("complaints of the form and its pages", [], chromium.complaints("security"))
+    finally:
+        stack.stop()
+
+
+def judge(of_front, make_front):
+    """All of it; `make_front` makes a front in a folder before an office at an address."""
+    if missing():
+        print(f"front: signing in is left out without {' and '.join(missing())}")
+        return
+    run = Run.apart(of_front.program, of_front.folder, "front", "sign_in")
+    tls = threading.Thread(target=over_tls, args=(run, make_front))
+    tls.start()
+    judge_stack(run, make_front)
+    tls.join()
+    of_front.count, of_front.failed = of_front.count + run.count, of_front.failed + run.failed
