@@ -58,10 +58,10 @@ class Session:
         said, faults = process.communicate(timeout=SECONDS)
         return process.returncode, re.sub(r"batch \d{9}", "batch N", said), faults
 
-    def ask(self, method, path, body=None):
-        """The office's reply to the office."""
+    def ask(self, method, path, body=None, caller="office"):
+        """The office's reply to somebody."""
         connection = http.client.HTTPConnection("127.0.0.1", self.office.port, timeout=SECONDS)
-        connection.request(method, path, body, {"X-Caller": "office", "Connection": "close"})
+        connection.request(method, path, body, {"X-Caller": caller, "Connection": "close"})
         return connection.getresponse().read().decode()
 
     def by_page(self, number, *lines):
@@ -71,8 +71,9 @@ class Session:
 
     def candidates(self):
         """The candidates of each exam, as the office has them."""
-        lines = self.ask("GET", "/instance").splitlines()[1:5]
-        return [[int(number) for number in line.split(", ")[1:]] for line in lines]
+        lines = self.ask("GET", "/instance").splitlines()
+        exams = lines[1:lines.index("[Periods:4]")]
+        return [[int(number) for number in line.split(", ")[1:]] for line in exams]
 
     def rows(self, statement):
         with contextlib.closing(sqlite3.connect(self.made / "ledger.db")) as ledger:

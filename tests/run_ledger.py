@@ -192,7 +192,7 @@ def names_in(made):
 
 
 SIZES = "4 exams, 3 students, 6 enrolments, 4 periods, 2 rooms\n"
-NEXT = "a session that is made can't change so"
+NEXT = "a session that is made can't change so; tools/next_session makes the next one"
 SHUFFLED = ("exams", "MATH101,Calculus,120,Mathematics\nMATH102,Linear algebra,90,Mathematics\n",
             "MATH102,Linear algebra,90,Mathematics\nMATH101,Calculus and more,120,Mathematics\n")
 A_NEW_STUDENT = ("enrolments", "name,exam\n", "name,exam\nr9,Zoë Zander,MATH101\n")
@@ -229,7 +229,12 @@ FURTHER = [
     ("another weight", [("rules", "TWOINADAY,5", "TWOINADAY,6")], 1,
      f"rules.csv: TWOINADAY,6 is new: {NEXT}\nrules.csv: TWOINADAY,5 is missing: {NEXT}\n"),
     ("another number of a department", [("rules", "department,3", "department,4")], 1,
-     f"rules.csv: Physics: the department's number is 3 in the session, not 4: {NEXT}\n"),
+     "rules.csv: department Physics has the number 3 in the session, not 4: a department keeps its "
+     "number and its name\n"),
+    ("another name of a department", [("rules", "3,Physics", "3,Phys"),
+                                      ("exams", ",Physics", ",Phys")], 1,
+     "rules.csv: department 3 is Physics in the session, not Phys: a department keeps its "
+     "number and its name\n"),
 ]
 KNOWN = {"s1": (1, "Ada Archer"), "s2": (2, "Ben Baker"), "s3": (3, "Cleo Carter")}
 

@@ -88,8 +88,8 @@ def of_the_package(judged, folder):
     commands = {it.name: ran(it, "--help")[0] for it in program.parent.iterdir()}
     judged.judge("its commands, and the status of their help", dict.fromkeys(
         ("examoffice", "examoffice-session-from-csv", "examoffice-status",
-         "examoffice-token", "examoffice-users-from-csv", "examoffice-changes-from-csv"), 0),
-        commands)
+         "examoffice-token", "examoffice-users-from-csv", "examoffice-changes-from-csv",
+         "examoffice-next-session"), 0), commands)
     says_status(judged, folder, root / "usr" / "bin" / "examoffice-status")
     if shutil.which("logrotate"):
         status, said = ran("logrotate", "--debug", "--state", folder / "state",

@@ -9,7 +9,7 @@ from .csv_tables import Faults, Known
 from .ledger import Ledger
 from .session import Exam, Period, Room, Session, count
 
-NEXT = "a session that is made can't change so"
+NEXT = "a session that is made can't change so; tools/next_session makes the next one"
 
 
 @dataclasses.dataclass
@@ -85,12 +85,17 @@ def compare_sessions(known: Session, found: Session, faults: Faults) -> None:
             for fact in ("minutes", "penalty"):
                 compare_facts("periods.csv", time, fact, getattr(periods[time], fact),
                               getattr(period, fact), faults)
-    names = {number: name for name, number in known.departments.items()}
-    for name, number in found.departments.items():
-        if name in known.departments:
-            compare_facts("rules.csv", name, "the department's number", known.departments[name],
-                          number, faults)
-        elif number in names:
+    compare_departments(known.departments, found.departments, faults)
+
+
+def compare_departments(known: dict[str, int], found: dict[str, int], faults: Faults) -> None:
+    """Faults for departments with another number, or with the number of another one."""
+    names = {number: name for name, number in known.items()}
+    for name, number in found.items():
+        if name in known and known[name] != number:
+            faults.add("rules.csv", None, None, f"department {name} has the number {known[name]} "
+                       f"in the session, not {number}: a department keeps its number and its name")
+        elif names.get(number, name) != name:
             faults.add("rules.csv", None, None, f"department {number} is {names[number]} in the "
                        f"session, not {name}: a department keeps its number and its name")
 
