@@ -204,14 +204,14 @@ def long_proofs(kinds):
             for name in sorted({*counts, *listed}) if counts.get(name, 0) != listed.get(name, 0)]
 
 
-# What a file of Python defines at its top.
-DEFINED = re.compile(r"^(?:async )?(?:def|class) (\w+)|^(\w+) = ",
+# What a file of Python or JavaScript defines at its top.
+DEFINED = re.compile(r"^(?:export )?(?:async )?(?:def|class|function|const|let) (\w+)|^(\w+) = ",
                      re.M)
 
 
 def unused(kinds):
     """Names that no line uses: neither in their own file nor in one that names it."""
-    texts = {name: (TOP / name).read_text() for kind in ("python", "tool")
+    texts = {name: (TOP / name).read_text() for kind in ("python", "tool", "page script", "script")
              for name in kinds[kind]}
     words = {name: collections.Counter(re.findall(r"\w+", text)) for name, text in texts.items()}
     said = []

@@ -18,6 +18,7 @@ import json
 import os
 import pathlib
 import re
+import resource
 import shutil
 import signal
 import socket
@@ -653,6 +654,9 @@ def main():
     words.add_argument("--pictures", type=pathlib.Path, help="a folder for pictures of the pages")
     words.add_argument("--no-browser", action="store_true", help="leaves the pages out")
     given = words.parse_args()
+    # A crowd of clients needs more files than most people's limit, which they may raise.
+    most = resource.getrlimit(resource.RLIMIT_NOFILE)[1]
+    resource.setrlimit(resource.RLIMIT_NOFILE, (most, most))
     if not NGINX:
         print("front: left out without nginx-light")
         return 0

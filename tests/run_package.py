@@ -16,6 +16,7 @@ import sys
 import tempfile
 import threading
 
+import links
 from cases import Cases
 
 TOP = pathlib.Path(__file__).resolve().parent.parent
@@ -97,6 +98,8 @@ def of_the_package(judged, folder):
         judged.judge("logrotate takes its file", (0, False), (status, "error" in said))
     of_the_front(judged, root)
     of_the_pages(judged, root / "usr/share/doc/examoffice")
+    if shutil.which("mandoc"):
+        of_the_manual(judged, root / "usr/share/man/man1")
 
 
 def of_the_front(judged, root):
@@ -116,14 +119,17 @@ def of_the_front(judged, root):
 
 
 def of_the_pages(judged, folder):
-    """Links of the pages lead to files of the package."""
-    pages, dead = sorted(folder.rglob("*.md")), []
-    for page in pages:
-        for link in re.findall(r"\]\(([^)#\s:]+)(?:#[^)\s]*)?\)", page.read_text()):
-            if not (page.parent / link).exists():
-                dead.append(f"{page.relative_to(folder)}: {link}")
-    judged.judge("links that lead nowhere", (True, []), (len(pages) > 20, dead))
+    """Links of the pages lead to files of the package, and to their headings."""
+    judged.judge("many pages", True, len(links.pages(folder)) > 20)
+    links.judge(judged, folder)
     judged.judge("files to begin with", True, (folder / "examples/small/exams.csv").exists())
+
+
+def of_the_manual(judged, folder):
+    """mandoc finds nothing in the manual pages."""
+    for page in sorted(folder.glob("*.gz")):
+        judged.judge(f"mandoc, {page.name}", (0, ""), ran(
+            "mandoc", "-T", "lint", "-W", "warning", page))
 
 
 def main():
