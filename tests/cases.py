@@ -3,10 +3,23 @@ import concurrent.futures
 import contextlib
 import io
 import os
+import threading
 
 LONGEST = 1_200
 # A service of systemd has this, and the program then says more of a fault.
 os.environ.pop("JOURNAL_STREAM", None)
+
+
+# The threads that an exception ended. Python only prints it, and the cases that they had are lost.
+broken_threads = []
+
+
+def note_broken(thread):
+    threading.__excepthook__(thread)
+    broken_threads.append(thread)
+
+
+threading.excepthook = note_broken
 
 
 class Cases:
@@ -46,6 +59,8 @@ class Cases:
     def end(self, what="cases"):
         """Prints the line that counts the cases, and returns the status: 1 if one failed or none
         was run."""
+        if broken_threads:
+            self.add(1, [f"{len(broken_threads)} threads ended by an exception"])
         print(f"{self.about}: {self.count} {what}, {self.failed} failed")
         return int(self.failed > 0 or self.count == 0)
 

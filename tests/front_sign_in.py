@@ -26,7 +26,8 @@ jwt = debian.module("jwt")
 
 TOP = pathlib.Path(__file__).resolve().parent.parent
 GUNICORN = shutil.which("gunicorn")
-SECONDS = 25
+# Beyond this nothing is waited for. Long, because other tests run beside.
+SECONDS = 100
 
 
 def missing():
