@@ -49,6 +49,8 @@ NOBODY = HASHES.hash(secrets.token_hex())
 PAGES = {
     None: (200, ""),
     "out": (200, "You have signed out."),
+    "link": (200, "This browser may sign in now, whatever others try. The link has been used up."),
+    "used": (200, "This link was used already, or is too old. Ask your registry for another one."),
     "wrong": (401, "This name and password don't belong together."),
     "often": (429, "Too many wrong passwords were entered for this name or from your network. Wait"
                    " a minute, then try again. A device on which you have signed in before is not"
@@ -285,13 +287,17 @@ def token(kind, seconds, **more):
                        "exp": int(time.time()) + seconds}, KEY, algorithm="HS256")
 
 
-def said(cookie, kind):
+def claims_of(text, kind):
     """What a token of this host says, or nothing."""
     with contextlib.suppress(jwt.InvalidTokenError):
-        claims = jwt.decode(flask.request.cookies.get(cookie, ""), KEY, algorithms=["HS256"])
+        claims = jwt.decode(text, KEY, algorithms=["HS256"])
         if (claims.get("k"), claims.get("h")) == (kind, flask.request.host):
             return claims
     return {}
+
+
+def said(cookie, kind):
+    return claims_of(flask.request.cookies.get(cookie, ""), kind)
 
 
 def is_secure():
@@ -347,8 +353,29 @@ def shown(what, user="", place="/"):
 
 @app.get("/-/sign-in")
 def page():
+    if "link" in flask.request.args:
+        return by_link(claims_of(flask.request.args["link"], "link"))
     return shown("out" if "out" in flask.request.args else None,
                  place=place_of(flask.request.args.get("to", "/")))
+
+
+def by_link(link):
+    """Makes this browser one that signed in before, once for each link (tools/token link)."""
+    if not link or kept.ask("SELECT 1 FROM gone WHERE token = ?", link["j"]):
+        return shown("used")
+    kept.ask("INSERT INTO gone VALUES (?, ?)", link["j"], link["exp"])
+    reply = shown("link", link["u"])
+    add_device(reply, link["u"].lower(), {})
+    return reply
+
+
+def add_device(reply, user, device):
+    """Gives a browser the cookie of those who signed in on it."""
+    people = [*[it for it in device.get("u", []) if it != user], user]
+    reply.set_cookie(cookie_names()[1], token(
+        "device", DEVICE_SECONDS, u=people[-MOST_DEVICE_USERS:],
+        j=device.get("j") or secrets.token_urlsafe(12)), path="/-/sign-in", max_age=DEVICE_SECONDS,
+        httponly=True, secure=is_secure(), samesite="Lax")
 
 
 @app.post("/-/sign-in")
@@ -367,14 +394,11 @@ def sign_in():
     if status != 200:
         return shown("often" if status == 429 else "wrong", user, place)
     reply = flask.redirect(place, 303)
-    same = {"httponly": True, "secure": is_secure(), "samesite": "Lax"}
     name = users.find(user)[0]
     reply.set_cookie(session, token("session", SESSION_SECONDS, u=name, n=name.lower(),
-                                    j=secrets.token_urlsafe(12)), path="/", **same)
-    people = [*[it for it in mine.get("u", []) if it != user.lower()], user.lower()]
-    reply.set_cookie(device, token("device", DEVICE_SECONDS, u=people[-MOST_DEVICE_USERS:],
-                                   j=mine.get("j") or secrets.token_urlsafe(12)),
-                     path="/-/sign-in", max_age=DEVICE_SECONDS, **same)
+                                    j=secrets.token_urlsafe(12)), path="/",
+                     httponly=True, secure=is_secure(), samesite="Lax")
+    add_device(reply, user.lower(), mine)
     return reply
 
 

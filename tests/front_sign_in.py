@@ -233,6 +233,22 @@ def forged(run, stack):
                       ada.ask("GET", "/-/user", Authorization=f"Bearer {token}")[0])
 
 
+def by_link(run, stack):
+    """A new device signs in amid guesses, by a link that the registry gives; it works once."""
+    key = stack.run.folder / "front.key"
+    made = subprocess.run(
+        ["/usr/bin/python3", TOP / "tools" / "token", "--key", key, "link", "registry",
+         f"127.0.0.1:{stack.front.port}"], capture_output=True, text=True, check=True).stdout
+    path = made.strip().partition(str(stack.front.port))[2]
+    new, second = Client(stack.front, "127.9.0.3"), Client(stack.front, "127.9.0.3")
+    run.judge("a link", (200, True),
+              (new.ask("GET", path)[0], made.startswith("http://127.0.0.1")))
+    run.judge("signing in after it", 303, new.sign_in("registry")[0])
+    run.judge("the link again", True, b"was used already" in second.ask("GET", path)[2])
+    run.judge("signing in after that", 429, second.sign_in("registry")[0])
+    run.judge("a changed link", True, b"was used already" in second.ask("GET", path[:-3])[2])
+
+
 def guesses(run, stack):
     """At most ten guesses a minute of strangers reach an account, and its user notices nothing."""
     known = Client(stack.front)
@@ -262,6 +278,7 @@ def guesses(run, stack):
     stolen = Client(stack.front)
     stolen.cookies = {"device": signed_in["device"]}
     words = [stolen.sign_in("registry", f"w{number}")[0] for number in range(13)]
+    by_link(run, stack)
     run.judge("guesses on a known device", [401] * 10 + [429] * 3, words)
     stack.agent.stop()
     stack.agent.start()
@@ -357,6 +374,17 @@ def networks(run, stack):
     came = [guess(f"2001:db8:0:1::{number + 1:x}", number) for number in range(33)]
     run.judge("a network of IPv6", [401] * 30 + [429] * 3, came)
     run.judge("another one", 401, guess("2001:db8:0:2::1", 99))
+    for number in range(40):
+        guess(f"2001:db8:0:1::{number + 1:x}", number)
+    known = Client(stack.front)
+    known.sign_in("ada")
+    pages = {"a network that floods": ("2001:db8:0:1::7", "", 429),
+             "a known device there": ("2001:db8:0:1::7", known.cookies["device"], 200),
+             "another network": ("2001:db8:0:2::7", "", 200)}
+    for name, (address, device, status) in pages.items():
+        run.judge(f"the form for {name}", status, agent_asked(
+            stack, "GET", "/-/sign-in", X_Real_IP=address, X_Scheme="http", Host=known.host,
+            Cookie=f"device={device}"))
 
 
 def over_tls(run, make_front):

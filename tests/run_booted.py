@@ -189,7 +189,7 @@ def anew(judged, machine):
         "registry", "$(cat /etc/examoffice/registry-password)", 8000), "total 37"))
     judged.judge("signing in on the page", "303\n200", machine.types(
         "curl -s -o /dev/null -w '%{http_code}\\n' -c /jar http://127.0.0.1:8000/-/sign-in"
-        " -d user=registry --data-urlencode password@/etc/examoffice/registry-password\n"
+        " -d user=registry --data-urlencode password=$(cat /etc/examoffice/registry-password)\n"
         "curl -s -o /dev/null -w %{http_code} -b /jar http://127.0.0.1:8000/publication/penalty"))
     judged.judge("no known password", "401", machine.types(
         "curl -s -o /dev/null -w %{http_code} -u registry:try-registry 127.0.0.1:8000/me"))

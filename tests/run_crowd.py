@@ -1,0 +1,299 @@
+#!/usr/bin/env python3
+"""run_crowd.py PROGRAM [PART..] [--minutes N]: days and attacks at a university's size, by hand.
+
+Before the office of examples/university stand the queue, the agent and the front, with an account
+for each of 25,000 students; all is on this machine. A part is one of PARTS, by default all. Each
+prints its lines of the table in docs/OPERATING.md. `day` and `attack` take N minutes (10) each.
+"""
+import argparse
+import asyncio
+import collections
+import contextlib
+import multiprocessing
+import os
+import pathlib
+import random
+import re
+import socket
+import statistics
+import subprocess
+import sys
+import tempfile
+import time
+
+import browser
+import front_queue
+import front_sign_in
+from front_sign_in import jwt
+from run_front import Front
+from run_serve import Run
+
+TOP = pathlib.Path(__file__).resolve().parent.parent
+UNIVERSITY = TOP / "examples" / "university"
+# Requests a second of 25,000 people who come within ten minutes, two each.
+RATE = 84
+CANDIDATES, ATTACKERS, SLOW = 300, 100, 17_500
+KILL_SECONDS = 8
+SECONDS = 60
+
+
+class Waits:
+    """How long replies took, by their status, or by why there was none."""
+
+    def __init__(self):
+        self.seconds, self.statuses = [], collections.Counter()
+
+    def add(self, status, seconds):
+        self.statuses[status] += 1
+        self.seconds.append(seconds)
+
+    def __str__(self):
+        if not self.seconds:
+            return "nothing"
+        ordered = sorted(self.seconds)
+        late = ordered[int(len(ordered) * 0.99)]
+        said = ", ".join(f"{count} x {status}" for status, count in sorted(
+            self.statuses.items(), key=str))
+        return (f"{said}; half {statistics.median(ordered) * 1000:.0f} ms,"
+                f" 99 % {late:.2f} s, worst {ordered[-1]:.2f} s")
+
+
+class University:
+    """The office, its front, and who is signed in."""
+
+    def __init__(self, run):
+        self.run = run
+        self.port, database = browser.free_port(), run.folder / "term.db"
+        subprocess.run([run.program, "load", "--db", database, UNIVERSITY / "session.exam"],
+                       check=True, stdout=subprocess.DEVNULL)
+        exams = (UNIVERSITY / "session.exam").read_text().split("[Periods")[0].splitlines()[1:]
+        self.exams = range(len(exams))
+        self.students = sorted({int(field) for line in exams for field in line.split(",")[1:]})
+        self.office = front_queue.RestartingOffice(run.program, database, self.port)
+        self.key = os.urandom(32).hex()
+        folder = run.folder / "front"
+        subprocess.run(["cp", "-r", TOP / "front", folder], check=True)
+        hashed = subprocess.run(["openssl", "passwd", "-apr1", "a word"], check=True, text=True,
+                                capture_output=True).stdout.strip()
+        (folder / "users").write_text("registry:{PLAIN}try-registry\n" + "".join(
+            f"s{number}:{hashed}\n" for number in self.students))
+        (folder / "callers").write_text("registry office;\n" + "".join(
+            f"s{number} cand:{number};\n" for number in self.students))
+        self.agent = front_sign_in.Agent(run.folder, folder, self.key)
+        self.queue = front_sign_in.SignInQueue(run.folder / "queue", self.port, self.agent)
+        self.front = Front(run.folder, self.queue.address,
+                           (("include password.conf", "include sign_in.conf"),))
+        self.host = f"127.0.0.1:{self.front.port}"
+
+    def cookie(self, user):
+        """A session, as the agent makes it."""
+        now = time.time()
+        token = jwt.encode({"u": user, "n": user, "k": "session", "h": self.host, "j": user,
+                            "i": int(now * 1000), "exp": int(now) + 8 * 3600}, self.key)
+        return f"Cookie: session={token}"
+
+    def message(self, user, method="GET", path="/me", body=b""):
+        """A request of somebody who is signed in."""
+        lines = [f"{method} {path} HTTP/1.1", f"Host: {self.host}", "Connection: close",
+                 self.cookie(user), *([f"Content-Length: {len(body)}"] if body else []), "", ""]
+        return "\r\n".join(lines).encode() + body
+
+    async def ask(self, message, source="127.0.0.1"):
+        """The status, and the seconds until the whole reply was there."""
+        began = time.monotonic()
+        try:
+            reader, writer = await asyncio.open_connection(
+                "127.0.0.1", self.front.port, local_addr=(source, 0))
+            writer.write(message)
+            came = await asyncio.wait_for(reader.read(-1), SECONDS)
+            writer.close()
+            status = int(came.split(b" ", 2)[1]) if came else "closed"
+        except (OSError, asyncio.TimeoutError) as fault:
+            status = str(fault) or type(fault).__name__
+        return status, time.monotonic() - began
+
+    def office_asks(self, method, path, body=b""):
+        status, seconds = asyncio.run(self.ask(self.message("registry", method, path, body)))
+        return status, seconds
+
+    def stop(self):
+        for part in (self.front, self.queue, self.agent, self.office):
+            part.stop()
+
+
+async def visits(university, waits, seconds, rate=RATE, source="127.0.0.1"):
+    """Candidates who open their pages, so many a second."""
+    tasks, end, turn = [], time.monotonic() + seconds, time.monotonic()
+    while turn < end:
+        message = university.message(f"s{random.choice(university.students)}")
+
+        async def one(message=message):
+            waits.add(*await university.ask(message, source))
+
+        tasks.append(asyncio.create_task(one()))
+        turn += 1 / rate
+        await asyncio.sleep(max(0, turn - time.monotonic()))
+    await asyncio.gather(*tasks)
+
+
+async def day(university, minutes):
+    """Visits all the time; meanwhile edits, a batch and publications."""
+    waits, edits, said = Waits(), Waits(), {}
+
+    async def office_works():
+        solution = (UNIVERSITY / "timetable.sol").read_bytes()
+        # Drops of students who don't take the exam: none of them acts, and each is judged.
+        batch = "student,exam,action\n" + "".join(
+            f"{number},{number % 1_500},drop\n" for number in university.students[:10_000])
+        for name, method, path, body in (
+                ("a draft", "PUT", "/drafts/1", solution),
+                ("the first publication", "POST", "/drafts/1/publish", b""),
+                ("a batch of 10,000 lines", "PUT", "/batches/1", batch.encode()),
+                ("another publication", "POST", "/drafts/1/publish", b"")):
+            said[name] = await university.ask(university.message("registry", method, path, body))
+        end = time.monotonic() + minutes * 60 - 15
+        while time.monotonic() < end:
+            exam = random.choice(university.exams)
+            edits.add(*await university.ask(university.message(
+                "registry", "DELETE", f"/drafts/1/exams/{exam}")))
+            await asyncio.sleep(1)
+
+    await asyncio.gather(visits(university, waits, minutes * 60), office_works())
+    for name, (status, seconds) in said.items():
+        print(f"{name}: {status}, {seconds:.1f} s")
+    print(f"{RATE} candidates a second, {minutes} minutes: {waits}")
+    print(f"an edit a second: {edits}", flush=True)
+
+
+async def at_once(university):
+    """A thousand and two thousand at once, of one address."""
+    for count in (1_000, 2_000):
+        waits, began = Waits(), time.monotonic()
+        messages = [university.message(f"s{number}") for number in university.students[:count]]
+        for status, seconds in await asyncio.gather(*map(university.ask, messages)):
+            waits.add(status, seconds)
+        print(f"{count} at once: {waits};"
+              f" {count / (time.monotonic() - began):.0f} a second", flush=True)
+
+
+async def restarts(university):
+    """The office is killed twelve times under 700 clients."""
+    waits, end = Waits(), time.monotonic() + 12 * KILL_SECONDS + 5
+
+    async def client(number):
+        message = university.message(f"s{university.students[number]}")
+        while time.monotonic() < end:
+            waits.add(*await university.ask(message))
+            await asyncio.sleep(1 + random.random())
+
+    async def killer():
+        for _ in range(12):
+            await asyncio.sleep(KILL_SECONDS)
+            university.office.process.kill()
+
+    await asyncio.gather(killer(), *map(client, range(700)))
+    print(f"12 kills under 700 clients: {waits}", flush=True)
+
+
+def guesses(university_port, host, sources, seconds, found):
+    """Guesses the registry's password, many requests on each connection; what came, counted."""
+    os.nice(19)
+    body = b"user=registry&password=guess"
+    message = (f"POST /-/sign-in HTTP/1.1\r\nHost: {host}\r\nContent-Length: {len(body)}\r\n"
+               "Content-Type: application/x-www-form-urlencoded\r\n\r\n").encode() + body
+    end, came = time.monotonic() + seconds, collections.Counter()
+    while time.monotonic() < end:
+        with contextlib.suppress(OSError), socket.create_connection(
+                ("127.0.0.1", university_port), SECONDS, (random.choice(sources), 0)) as client:
+            client.sendall(message * 50)
+            client.shutdown(socket.SHUT_WR)
+            text = b""
+            while part := client.recv(65_536):
+                text += part
+            came.update(re.findall(rb"HTTP/1.1 (\d+)", text))
+    found.put(came)
+
+
+def junk(university_port, sources, seconds, found):
+    """Long requests of nobody."""
+    os.nice(19)
+    message = b"POST /drafts/1/" + b"a" * 7_900 + b" HTTP/1.1\r\nHost: x\r\n\r\n"
+    end, count = time.monotonic() + seconds, 0
+    while time.monotonic() < end:
+        with contextlib.suppress(OSError), socket.create_connection(
+                ("127.0.0.1", university_port), SECONDS, (random.choice(sources), 0)) as client:
+            for _ in range(100):
+                client.sendall(message)
+                count += client.recv(65_536).count(b"HTTP/1.1")
+    found.put(count)
+
+
+def slow(university_port, sources, seconds, count):
+    """Connections that send a part of a request and wait, begun again when they are closed."""
+    os.nice(19)
+    end, held = time.monotonic() + seconds, []
+    while time.monotonic() < end:
+        with contextlib.suppress(OSError):
+            if len(held) >= count:
+                held.pop(0).close()
+            held.append(socket.create_connection(("127.0.0.1", university_port), SECONDS,
+                                                 (random.choice(sources), 0)))
+            held[-1].sendall(b"POST /-/sign-in HTTP/1.1\r\nHost: x\r\nContent-")
+
+
+def disk(university):
+    """The bytes of all that front and agent write."""
+    folders = university.front.folder / "run", university.agent.folder
+    return sum(path.stat().st_size for folder in folders for path in folder.rglob("*")
+               if path.is_file() and path.name != "exchanges")
+
+
+async def attack(university, minutes):
+    """Guesses, junk and slow connections of a hundred addresses; candidates at one of them."""
+    sources = front_queue.addresses(ATTACKERS)
+    seconds, before, port = minutes * 60, disk(university), university.front.port
+    found, counted = multiprocessing.Queue(), multiprocessing.Queue()
+    processes = [multiprocessing.Process(target=guesses, args=(
+        port, university.host, sources, seconds, found)) for _ in range(3)]
+    processes += [multiprocessing.Process(target=junk, args=(port, sources, seconds, counted)),
+                  multiprocessing.Process(target=slow, args=(port, sources, seconds, SLOW))]
+    for process in processes:
+        process.start()
+    waits = Waits()
+    await visits(university, waits, seconds, CANDIDATES / 10, sources[0])
+    came = sum((found.get() for _ in range(3)), collections.Counter())
+    lines = counted.get()
+    for process in processes:
+        process.join()
+    tried = sum(came.values())
+    print(f"attack of {minutes} minutes: {tried} guesses ({tried / seconds:.0f} a second),"
+          f" {came[b'401']} reached the account ({came[b'401'] / minutes:.1f} a minute),"
+          f" {lines} junk requests, {(disk(university) - before) / minutes / 1e6:.2f} MB a minute")
+    print(f"{CANDIDATES} signed-in candidates at such an address: {waits}", flush=True)
+
+
+def main():
+    words = argparse.ArgumentParser(description=__doc__.partition("\n")[0])
+    words.add_argument("program")
+    words.add_argument("part", nargs="*", default=["day", "at_once", "restarts", "attack"])
+    words.add_argument("--minutes", type=float, default=10)
+    given = words.parse_args()
+    if front_sign_in.missing():
+        sys.exit(f"these are missing: {' '.join(front_sign_in.missing())}")
+    with tempfile.TemporaryDirectory() as folder:
+        os.chmod(folder, 0o755)
+        university = University(Run(pathlib.Path(given.program).resolve(), folder, "crowd"))
+        try:
+            for part in given.part:
+                function = PARTS[part]
+                more = (given.minutes,) if part in ("day", "attack") else ()
+                asyncio.run(function(university, *more))
+        finally:
+            university.stop()
+    return 0
+
+
+PARTS = {"day": day, "at_once": at_once, "restarts": restarts, "attack": attack}
+
+if __name__ == "__main__":
+    sys.exit(main())
