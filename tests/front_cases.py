@@ -1,4 +1,4 @@
-"""What users ask through the front, and what is answered: messages to nginx, who asks and what."""
+"""Questions of users to the front with their replies: messages to nginx, and who sends them."""
 import base64
 import pathlib
 
@@ -66,8 +66,8 @@ REQUEST, CALLER, PATH = (told_error(status, error) for status, error in
 CANDIDATE = ask("ada", "GET", "/me")
 
 
-def behind_line(field):
-    """Her message with a line that isn't ended as lines are."""
+def after_line(field):
+    """A candidate's message with a line that isn't ended as lines are."""
     return CANDIDATE.replace(b"Host: office\r\n", b"Host: office\r\n" + field)
 
 
@@ -92,9 +92,9 @@ CALLERS = [
      FIRST_VIEW),
     ("X_Caller", ask("ada", "GET", "/me", b"", "X_Caller: office"), FIRST_VIEW),
     ("X-Caller of nobody", ask("nobody", "GET", "/me", b"", "X-Caller: cand:1"), CALLER),
-    ("a bare LF before X-Caller", behind_line(b"A: b\nX-Caller: office\r\n"), FIRST_VIEW),
-    ("a bare LF behind X-Caller", behind_line(b"X-Caller: office\n"), FIRST_VIEW),
-    ("a bare CR before X-Caller", behind_line(b"A: b\rX-Caller: office\r\n"), REQUEST),
+    ("a bare LF before X-Caller", after_line(b"A: b\nX-Caller: office\r\n"), FIRST_VIEW),
+    ("a bare LF after X-Caller", after_line(b"X-Caller: office\n"), FIRST_VIEW),
+    ("a bare CR before X-Caller", after_line(b"A: b\rX-Caller: office\r\n"), REQUEST),
     ("a bare LF in a target", ask("ada", "GET", "/me\nX-Caller: office"), None),
     ("Connection that names X-Caller", ask("ada", "GET", "/me", b"", "Connection: X-Caller"),
      FIRST_VIEW),

@@ -168,7 +168,7 @@ class Page:
 
 
 def days_and_exams(page, language, *rows):
-    """What a candidate's page should show: a heading for each day, and a row for each exam."""
+    """Returns what a candidate's page should show: a heading for each day, a row for each exam."""
     made, last = [], None
     for date, start, (end, minutes, name), *others in rows:
         if date != last:

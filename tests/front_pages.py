@@ -25,7 +25,7 @@ PARTS = (candidates_page, next_exam_first, registrys_page, seats_of_candidates, 
 
 
 def judge(run, started, front, wide, sso, many, office, program, folder):
-    """What Chromium shows; with pictures, if there is a folder for them."""
+    """Judges what Chromium shows; makes pictures, if there is a folder for them."""
     if not started:
         print(f"front: the pages are left out without {' and '.join(browser.missing())}")
         return

@@ -92,7 +92,7 @@ def addresses(count):
 
 
 def crowd(port, questions):
-    """What comes back to each of these questions, all asked at once, each from an address of its
+    """Returns the replies to these questions, all asked at once, each from an address of its
     own, and the longest wait. A question that gets no reply in time has None."""
     selector, began, waits = selectors.DefaultSelector(), time.monotonic(), {}
     replies, parts = [None] * len(questions), collections.defaultdict(bytes)

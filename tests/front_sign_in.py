@@ -76,7 +76,7 @@ class SignInQueue(front_queue.Queue):
 
 
 class Client:
-    """A browser without pages: an address, cookies, and what comes back."""
+    """A browser without pages: an address, its cookies, and the replies to it."""
 
     def __init__(self, front, source="127.0.0.1", host=None):
         self.front, self.source, self.cookies = front, source, {}

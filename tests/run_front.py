@@ -89,7 +89,7 @@ class Front:
         return socket.create_connection(("127.0.0.1", self.port), SECONDS)
 
     def told(self, question):
-        """What comes back to these bytes: status and body, or None where the connection ends."""
+        """Returns the reply to these bytes, its status and body; None if the connection ends."""
         with self.connect() as client:
             client.sendall(question)
             with contextlib.suppress(OSError):
@@ -107,7 +107,7 @@ class Front:
             return reply.status, reply.headers, reply.read()
 
     def exchanges(self):
-        """What reached the office."""
+        """Returns the exchanges that reached the office."""
         for line in (self.folder / "run" / "exchanges").read_text().splitlines():
             method, target, status, kind = line.split(" ", 3)
             if status not in ("-", "502", "504"):
@@ -154,7 +154,7 @@ def who_asks_and_what(run, front):
 
 
 def what_passes(run, folder):
-    """No more than these fields reaches what stands behind the front."""
+    """Only these fields reach the office."""
     with socket.create_server(("127.0.0.1", 0)) as listener:
         other = Front(folder / "fields", listener.getsockname()[1])
         with other.connect() as client:
@@ -194,7 +194,7 @@ def waits_for_no_body(run, front):
 
 
 def many_at_once(run, front):
-    """Forty clients at once, and each gets her own."""
+    """Forty clients at once, and each gets their own."""
     wrong = []
 
     def asks(user, view):
@@ -232,7 +232,7 @@ def slow_ones(run, front):
 
 
 def no_office(run):
-    """Where nothing listens behind the front."""
+    """The front's replies if no office listens."""
     front = Front(run.folder / "alone", browser.free_port())
     run.judge("no office", told_error(503, "unavailable"), front.told(CANDIDATE))
     health(run, front, told_error(503, "unavailable"))
@@ -326,7 +326,7 @@ def compressed(run, front):
 
 
 def health(run, front, answer):
-    """Whether the office answers, without a password, on this machine only."""
+    """It says whether the office answers, without a password, on this machine only."""
     for what, expected, more in (
             ("health", answer, {}),
             ("health, from elsewhere", (404, None), {"source": "127.0.0.2"}),
@@ -363,7 +363,7 @@ def styled_pages(run, front):
 
 
 def described_exchanges(run, front, least):
-    """What reached the office is in docs/openapi.yaml."""
+    """Each exchange that reached the office is in docs/openapi.yaml."""
     if openapi.missing():
         return
     described = openapi.Described()
@@ -463,7 +463,7 @@ class Agent(http.server.BaseHTTPRequestHandler):
 
 @contextlib.contextmanager
 def signed_on(run, office):
-    """A front with sso.conf, and the stub behind it."""
+    """A front with sso.conf, and the stub that it asks."""
     with http.server.ThreadingHTTPServer(("127.0.0.1", 0), Agent) as agent:
         threading.Thread(target=agent.serve_forever).start()
         front = Front(run.folder / "sso", office.port, (
@@ -562,7 +562,7 @@ def several_sessions(run, front):
 
 
 def caches(run, name, front, **signed):
-    """What a browser may keep."""
+    """The replies that a browser may keep."""
     for path, expected in (
             ("/", "no-store"), ("/style.css", "no-cache"), ("/candidate.html", "no-store"),
             ("/labels/labels.json", "private, no-cache"), ("/labels/students.json", "no-store"),

@@ -51,7 +51,7 @@ SECTIONS = ("[PeriodHardConstraints]", "[RoomHardConstraints]", "[InstitutionalW
 
 
 class NotALedger(Exception):
-    """What stands in the way of reading a ledger, in words."""
+    """Why a ledger can't be read, in words."""
 
 
 @contextmanager
