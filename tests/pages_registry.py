@@ -166,8 +166,14 @@ FOUND = [("optics", ["PHYS102"]), ("phys great", ["PHYS102"]),
          ("2.14", ["PHYS101"]), ("x", []), ("Óptics", ["PHYS102"]), ("phys102", ["PHYS102"])]
 OWNER_FILES = [
     ("Exam;Dept\nMATH101;Chemistry\n9;3\n",
-     "No owner was set: 2 faults.\nLine 2: unknown department Chemistry\nLine 3: unknown exam 9"),
-    ("Exam;Dept\nmath101;mathematics\n3;0\n", "2 exams have their owners.")]
+     "No owner was set: 3 faults.\nLine 2: Chemistry: no such department\n"
+     "Line 3: 9: no such exam; if it is the office's number, call the column \"office exam\"\n"
+     "Line 3: 3: no such department; if it is the office's number, call the column "
+     "\"office department\""),
+    ("Exam;Dept\nMATH1O1;Physic\n", "No owner was set: 2 faults.\nLine 2: MATH1O1: no such exam. "
+     "MATH101 is Calculus\nLine 2: Physic: no such department. Physics is department 3"),
+    ("Office exam;Department number\n4;3\n", "No owner was set: 1 fault.\nLine 2: unknown exam 4"),
+    ("Exam;Dept\nmath101;mathematics\nPHYS102;0\n", "2 exams have their owners.")]
 
 
 def written(run, name, content):

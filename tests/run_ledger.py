@@ -524,6 +524,12 @@ def noticed(run, office, made, notes):
                 run.judge(f"{name}, on the page", (True, bool(said)), (said in note, bool(note)))
                 run.judge(f"{name}: names are shown", not said,
                           title.startswith("University of Example"))
+                for user in ("ada", "physics") if name == "two equal exams" else ():
+                    with reading(chromium, front, user) as reader:
+                        run.judge(f"{name}, on the page of {user}", (
+                            "The file of names was changed by hand, so this page shows numbers. "
+                            "Please tell the registry.", ""), (
+                            reader.text("#labels-note"), reader.text("#session-title")))
     finally:
         front.stop()
 

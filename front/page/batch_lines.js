@@ -1,6 +1,6 @@
 // Lines of a CSV file that become late changes, and the batches of them that the office takes.
 import { columnsOf, recordsOf } from './csv.js';
-import { examIdentities, fold, studentIdentities } from './identities.js';
+import { examIdentities, fold, numberIn, studentIdentities } from './identities.js';
 
 const COLUMNS = {
   student: ['student', 'studentid', 'studentnumber', 'studentno', 'id', 'candidate', 'candidateid',
@@ -22,15 +22,10 @@ const HEADER = 'student,exam,action\n';
 const MOST_BYTES = 1_048_576;
 // A search for the nearest takes a while, and further faults aren't shown.
 const MOST_SEARCHED = 20;
-const NUMBER = /^\d{1,9}$/;
 
-/**
- * Reads who and what a line names. Without names anything that is a number is one; with names a number
- * is taken only from a column that says so.
- */
+/** Reads who and what a line names. */
 class Reader {
   constructor(names, exams, columns) {
-    this.hasNames = Boolean(names.labels);
     this.exams = exams;
     this.columns = columns;
     this.students = studentIdentities(names.students);
@@ -43,28 +38,15 @@ class Reader {
     this.faults.push(`Line ${line}: ${words}`);
   }
 
-  /** The number in a column of numbers, or of an ID or code. */
-  numberOf(kind, what, known, { line, fields }) {
-    const number = fields[this.columns[`office ${kind}`]] ?? '';
-    const text = fields[this.columns[kind]] ?? '';
-    if (this.columns[`office ${kind}`] >= 0 || !this.hasNames || !known.known.length) {
-      if (NUMBER.test(number || text)) return Number(number || text);
-      this.fault(line, `unknown ${what} ${number || text}`);
-      return null;
-    }
-    const found = known.number(text);
-    if (found === null) {
-      const isSearched = this.faults.length < MOST_SEARCHED;
-      const hint = NUMBER.test(text) && isSearched ? `; if it is the office's number, call the column `
-        + `"office ${kind}"` : '';
-      this.fault(line, `${text || 'nothing'}: no such ${what}${
-        isSearched ? known.nearest(text) : ''}${hint}`);
-    }
-    return found;
+  numberOf(kind, known, record) {
+    const isSearched = this.faults.length < MOST_SEARCHED;
+    const { number, fault } = numberIn(record, this.columns, kind, known, isSearched);
+    if (fault) this.fault(record.line, fault);
+    return number;
   }
 
   student(record) {
-    const number = this.numberOf('student', 'student', this.students, record);
+    const number = this.numberOf('student', this.students, record);
     const said = record.fields[this.columns.name] ?? '';
     const known = this.people.get(number);
     if (said && known?.name && !haveOneWord(said, known.name)) {
@@ -74,7 +56,7 @@ class Reader {
   }
 
   exam(record) {
-    const number = this.numberOf('exam', 'exam', this.codes, record);
+    const number = this.numberOf('exam', this.codes, record);
     if (number === null || number < this.exams) return number;
     this.fault(record.line, `unknown exam ${number}`);
     return null;

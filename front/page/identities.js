@@ -75,6 +75,38 @@ export class Identities {
   }
 }
 
+const NUMBER = /^\d{1,9}$/;
+
+/**
+ * The number of what a line names, or what is wrong with it. If names are at hand, a number is taken
+ * only from a column that says so.
+ * @param {{fields: string[]}} record
+ * @param {Record<string, number>} columns
+ * @param {string} kind
+ * @param {Identities} known
+ * @param {boolean} isSearched
+ * @returns {{number: number|null, fault: string}}
+ */
+export function numberIn({ fields }, columns, kind, known, isSearched = true) {
+  const column = `office ${kind}`;
+  const number = fields[columns[column]] ?? '';
+  const text = fields[columns[kind]] ?? '';
+  if (columns[column] >= 0 || !known.known.length) {
+    const found = NUMBER.test(number || text) ? Number(number || text) : null;
+    return { number: found, fault: found === null ? `unknown ${kind} ${number || text}` : '' };
+  }
+  const found = known.number(text);
+  if (found !== null) return { number: found, fault: '' };
+  const hint = NUMBER.test(text) ? `; if it is the office's number, call the column "${column}"` : '';
+  return { number: null, fault: `${text || 'nothing'}: no such ${kind}${
+    isSearched ? `${known.nearest(text)}${hint}` : ''}` };
+}
+
+/** The departments of the labels, by their names. */
+export const departmentIdentities = (labels) => new Identities(
+  Object.entries(labels?.departments ?? {}).map(([number, name]) => (
+    { text: name, number: Number(number), name: `department ${number}` })));
+
 /** The students of the names, by their IDs. */
 export const studentIdentities = (students) => new Identities(
   students.map(({ id, number, name }) => ({ text: id, number, name: name ?? '' })));

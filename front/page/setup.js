@@ -1,6 +1,7 @@
 // The registry's set-up: a session, drafts, and the departments that own exams.
 import { confirmFirst } from './confirm.js';
 import { columnsOf, recordsOf } from './csv.js';
+import { departmentIdentities, examIdentities, numberIn } from './identities.js';
 import {
   ask, byId, change, count, element, faultList, Refusal, showProgress,
 } from './office.js';
@@ -8,7 +9,12 @@ import {
 const COLUMNS = {
   exam: ['exam', 'examcode', 'examnumber', 'code', 'course', 'coursecode', 'module', 'modulecode'],
   department: ['department', 'dept', 'owner'],
+  // The office's own numbers.
+  'office exam': ['officeexam'],
+  'office department': ['officedepartment', 'departmentnumber', 'deptnumber'],
 };
+// What says that an exam has no owner.
+const NONE = ['0', 'none'];
 const NUMBERS = [1, 2, 3, 4, 5, 6, 7, 8];
 
 /** Does the work; a refusal is shown at this field, too. */
@@ -25,26 +31,25 @@ async function atField(field, work) {
 export function ownersIn(text, names, exams) {
   const [header, ...records] = recordsOf(text);
   const columns = columnsOf(header?.fields ?? [], COLUMNS);
-  const missing = Object.keys(columns).filter((column) => columns[column] < 0);
+  const missing = ['exam', 'department'].filter((kind) => (
+    columns[kind] < 0 && columns[`office ${kind}`] < 0));
   if (missing.length) {
     return { owners: [], faults: [`Line 1: there is no column for ${missing.join(', ')}`] };
   }
-  const codes = new Map((names.labels?.exams ?? []).map(({ code }, i) => [code.toLowerCase(), i]));
-  const departments = new Map(Object.entries(names.labels?.departments ?? {})
-    .map(([number, name]) => [name.toLowerCase(), Number(number)]));
-  const numberIn = (digits, most) => (
-    /^\d{1,9}$/.test(digits) && Number(digits) <= most ? Number(digits) : null);
+  const known = { exam: examIdentities(names.labels), department: departmentIdentities(names.labels) };
+  const most = { exam: exams - 1, department: 999 };
   const faults = [];
-  const owners = records.map(({ line, fields }) => {
-    const [exam, department] = Object.values(columns).map((column) => fields[column] ?? '');
-    const owner = {
-      exam: codes.get(exam.toLowerCase()) ?? numberIn(exam, exams - 1),
-      dept: departments.get(department.toLowerCase()) ?? numberIn(department, 999),
-    };
-    if (owner.exam === null) faults.push(`Line ${line}: unknown exam ${exam}`);
-    if (owner.dept === null) faults.push(`Line ${line}: unknown department ${department}`);
-    return owner;
-  });
+  const numberOf = (kind, record) => {
+    const { number, fault } = numberIn(record, columns, kind, known[kind]);
+    const isUnknown = number !== null && number > most[kind];
+    if (fault || isUnknown) faults.push(`Line ${record.line}: ${fault || `unknown ${kind} ${number}`}`);
+    return number;
+  };
+  const owners = records.map((record) => ({
+    exam: numberOf('exam', record),
+    dept: NONE.includes(record.fields[columns.department]?.toLowerCase()) ? 0
+      : numberOf('department', record),
+  }));
   if (!records.length) faults.push('There is no line after the first');
   return { owners, faults };
 }
