@@ -25,7 +25,8 @@ STEP = re.compile(r"^ *((?:[\w:]+(?: > |, )?)+) {2,}([a-z]+_[a-z]+)\b")
 def pages(folder):
     """The pages below a folder; of the repository only those that git knows."""
     if folder == TOP:
-        names = subprocess.run(["git", "ls-files", "*.md", "*.html"], cwd=TOP, check=True,
+        names = subprocess.run(["git", "-c", "safe.directory=*", "ls-files", "*.md", "*.html"],
+                               cwd=TOP, check=True,
                                stdout=subprocess.PIPE, text=True).stdout.splitlines()
         return [TOP / name for name in names]
     return sorted(it for it in folder.rglob("*") if it.suffix in (".md", ".html"))

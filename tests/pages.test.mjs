@@ -1,10 +1,12 @@
 // The pages' functions that need no browser: `node --test tests/pages.test.mjs` runs these tables.
 import assert from 'node:assert/strict';
+import { webcrypto } from 'node:crypto';
 import { readFileSync } from 'node:fs';
 import test from 'node:test';
 
-// Node has no navigator before its version 21.
+// Node has no navigator before its version 21, and no crypto as a global before 19.
 globalThis.navigator ??= { languages: ['en-GB'] };
+globalThis.crypto ??= webcrypto;
 const {
   batchTexts, changesOfList, effectOf, inverseText, linesIn,
 } = await import('../front/page/batch_lines.js');

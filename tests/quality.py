@@ -65,7 +65,8 @@ def kind_of(name):
 
 def files():
     """The files that git knows or would know, by kind; those of no kind by None."""
-    names = subprocess.run(["git", "ls-files", "-co", "--exclude-standard"], cwd=TOP, check=True,
+    names = subprocess.run(["git", "-c", "safe.directory=*", "ls-files", "-co",
+                            "--exclude-standard"], cwd=TOP, check=True,
                            stdout=subprocess.PIPE, text=True).stdout.splitlines()
     kinds = {}
     for name in sorted(set(names)):
