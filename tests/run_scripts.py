@@ -207,7 +207,11 @@ class Side:
 
     def ask(self, messages):
         if not self.office:
-            self.office = Office(self.program, self.path)
+            try:
+                self.office = Office(self.program, self.path)
+            except OSError:
+                self.said.append(b"it does not start")
+                return
         with self.office.connect() as client:
             came = told(client, b"".join(messages))
         self.said.append(came if isinstance(came, bytes) else f"{type(came).__name__}".encode())
