@@ -8,6 +8,7 @@ version. Then, at the size of a university, names that belong to somebody else: 
 them, and the registry's page notices them. A failing case is printed with what was expected and
 what came, and the last line counts the cases.
 """
+import contextlib
 import functools
 import json
 import os
@@ -309,6 +310,19 @@ def files_are_safe(run, folder):
         tool(SMALL, made)[0], "is not a ledger" in tool(SMALL, made)[2]))
 
 
+@contextlib.contextmanager
+def loaded_office(run, folder, session):
+    """The address of an office that has this session."""
+    (folder / "loaded.exam").write_text(session)
+    subprocess.run([run.program, "load", "--db", folder / "loaded.db", folder / "loaded.exam"],
+                   check=True, stdout=subprocess.DEVNULL)
+    office = Office(run.program, folder / "loaded.db")
+    try:
+        yield f"http://127.0.0.1:{office.port}"
+    finally:
+        office.killed()
+
+
 def older_version(run, folder):
     """A session that was made without a ledger is taken over by one command, and by no other."""
     made, csv = folder / "made", folder / "csv"
@@ -350,6 +364,14 @@ def older_version(run, folder):
         one: number for one, (number, _) in names_in(made)[0].items()})
     run.judge("it is taken over once", (1, "", f"{made / 'ledger.db'} is there already\n"),
               tool("--take-over", made))
+    (made / "ledger.db").unlink()
+    (made / "session.exam").unlink()
+    with loaded_office(run, folder, "\n".join(lines) + "\n") as address:
+        run.judge("it is taken over from the office", (0, ""), tool(
+            "--take-over", made, "--office", address)[::2])
+        run.judge("its office", 0, tool("--check", made, "--office", address)[0])
+    run.judge("its session is the office's", "\n".join(lines) + "\n",
+              (made / "now" / "session.exam").read_text())
 
 
 def users(run, folder):

@@ -55,8 +55,11 @@ FAULTS = [
     ("exams", "Linear", '"Linear', "exams.csv, line 5: this is not CSV: unexpected end of data"),
     ("exams", "Optics", "Mécanique Opti\udcff", f"exams.csv, line 5: {NO_TEXT}"),
     ("exams", "Optics", "Opti\udc81", f"exams.csv, line 5: {NO_TEXT}"),
-    ("exams", "Optics", "Op\u202etics", "exams.csv, line 5, title: 'Op\\u202etics' has a mark of "
-     "direction or a control character (U+202E)"),
+    ("exams", "Optics", "Op\u202etics", "exams.csv, line 5, title: 'Op\\u202etics' has a mark that "
+     "nobody sees, such as one of direction (U+202E)"),
+    ("enrolments", "s3,Cleo Carter,PHYS101", "s3\u200b,Cleo Carter,PHYS101",
+     "enrolments.csv, line 7, student: 's3\\u200b' has a mark that nobody sees, such as one of "
+     "direction (U+200B)"),
     ("exams", ALL_EXAMS, "", "exams.csv: 1 to 2000 lines are expected, not 0"),
     ("rooms", "Room 2.14", "Great Hall",
      "rooms.csv, line 3, name: 'Great Hall' is on line 2 already"),

@@ -117,7 +117,11 @@ function cautionOf(labels, file) {
  * why. Returns the names, which have the students too.
  */
 export async function applyOfficeNames(labels, session) {
-  const file = labels && await readStudents();
+  let file = labels && await readStudents();
+  // Between the two a tool may have switched to other files.
+  if (labels && file && labels.ledger !== file.ledger) {
+    [labels, file] = [await readLabels(), await readStudents()];
+  }
   const [fault] = labels ? faultsOfNames(labels, file, session) : [];
   if (fault) {
     showNote(`This page shows numbers, because ${fault}. Ask the person who installed these files.`);

@@ -14,9 +14,10 @@ MOST_BYTES = 64 * 1024 * 1024
 MOST_NUMBER = 100_000
 MOST_LINES_PRINTED = 50
 SEPARATORS = ",;\t"
-# Marks that change the direction of the text around them, so that a name reads as another one.
-DIRECTION = re.compile("[\u061c\u200e\u200f\u202a-\u202e\u2066-\u2069]")
-CONTROL = re.compile("[\x00-\x08\x0b\x0c\x0e-\x1f\x7f-\x9f]")
+# What nobody sees: marks that change the direction of the text around them, so that a name reads as
+# another one, marks without a width, with which two IDs look alike, and control characters.
+UNSEEN = re.compile("[\u061c\u200e\u200f\u202a-\u202e\u2066-\u2069\u00ad\u200b\u2060\ufeff"
+                    "\x00-\x08\x0b\x0c\x0e-\x1f\x7f-\x9f]")
 
 
 class Faults:
@@ -114,9 +115,9 @@ class Row:
         value = self.get(column)
         if value.isascii() and value.isprintable() and "  " not in value:
             return value
-        mark = DIRECTION.search(value) or CONTROL.search(value)
+        mark = UNSEEN.search(value)
         if mark:
-            self.fault(column, f"{value!r} has a mark of direction or a control character "
+            self.fault(column, f"{value!r} has a mark that nobody sees, such as one of direction "
                                f"(U+{ord(mark[0]):04X})")
         return " ".join(value.split())
 

@@ -8,6 +8,7 @@ from typing import Any
 
 from .csv_tables import Faults
 from .ledger import Ledger
+from .office import Office
 from .session import TEXTS, Exam, Period, Room, Session
 
 
@@ -73,12 +74,15 @@ def add_labels(session: Session, labels: dict[str, Any], faults: Faults) -> None
     names_twice("labels.json", "rooms", (room.name for room in session.rooms), faults)
 
 
-def take_over(folder: pathlib.Path, path: pathlib.Path, faults: Faults) -> Ledger | None:
-    """A ledger in a new file, of the three files of a folder; None with a fault."""
+def take_over(folder: pathlib.Path, path: pathlib.Path, office: Office | None, faults: Faults
+              ) -> Ledger | None:
+    """A ledger in a new file, of the files of names in a folder and of the session's file there, or
+    of what an office has loaded; None with a fault."""
     try:
         texts = {name: (folder / name).read_text(encoding="utf-8")
-                 for name in ("session.exam", "labels.json", "students.json")}
-        session, candidates = session_in(texts["session.exam"])
+                 for name in ("labels.json", "students.json")}
+        session, candidates = session_in(office.ask("GET", "/instance") if office else (
+            folder / "session.exam").read_text(encoding="utf-8"))
         students = json.loads(texts["students.json"])["students"]
         add_labels(session, json.loads(texts["labels.json"]), faults)
     except (OSError, ValueError, KeyError, TypeError) as fault:
