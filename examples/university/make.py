@@ -210,7 +210,7 @@ def main():
     write("rules", rules(listed, rng))
     with tempfile.TemporaryDirectory() as folder:
         subprocess.run([TOOL, HERE, folder], check=True)
-        session = pathlib.Path(folder) / "session.exam"
+        session = pathlib.Path(folder) / "now" / "session.exam"
         places = timetable(session)
         (HERE / "session.exam").write_bytes(session.read_bytes())
     (HERE / "timetable.sol").write_text("".join(
