@@ -394,8 +394,7 @@ def sign_in():
     if status != 200:
         return shown("often" if status == 429 else "wrong", user, place)
     reply = flask.redirect(place, 303)
-    name = users.find(user)[0]
-    reply.set_cookie(session, token("session", SESSION_SECONDS, u=name, n=name.lower(),
+    reply.set_cookie(session, token("session", SESSION_SECONDS, u=users.find(user)[0],
                                     j=secrets.token_urlsafe(12)), path="/",
                      httponly=True, secure=is_secure(), samesite="Lax")
     add_device(reply, user.lower(), mine)

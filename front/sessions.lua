@@ -1,39 +1,33 @@
--- Keeps HAProxy's copy of sessions.map as the file is: looks each second whether the agent has written another.
+-- What HAProxy asks of sessions.map, which the agent writes: since when the sessions of a user count, and which
+-- have ended. The file is looked at each second. Each thread has its own copy.
 local path = os.getenv("FRONT_STATE") .. "/sessions.map"
-local version, known = nil, nil
-local map = Map.new(path, Map._str)
+-- No token is as young as this.
+local never = "9000000000000000"
+local version, since, gone = nil, {}, {}
 
--- The first line of the file, which is another one each time; and its entries, if it has changed.
+-- Reads the file if it is another one, which its first line says.
 local function read()
   local file = io.open(path)
-  if not file then return nil end
-  local first, entries = file:read("l"), {}
+  if not file then return end
+  local first = file:read("l")
   if first ~= version then
+    local users, tokens = {}, {}
     for line in file:lines() do
-      local key, value = line:match("^(%S+) (%S+)$")
-      if key then entries[key] = value end
+      local kind, name, number = line:match("^(%a):(%S+) (%d+)$")
+      if kind == "u" then users[name] = number end
+      if kind == "t" then tokens[name] = true end
     end
+    version, since, gone = first, users, tokens
   end
   file:close()
-  return first, entries
 end
 
-local function update()
-  local first, entries = read()
-  if not first or first == version then return end
-  for key, value in pairs(entries) do
-    local old = known and known[key] or not known and map:lookup(key)
-    if old ~= value then core.set_map(path, key, value) end
-  end
-  for key in pairs(known or {}) do
-    if not entries[key] then core.del_map(path, key) end
-  end
-  version, known = first, entries
-end
-
+read()
+core.register_converters("since", function(name) return since[name] or never end)
+core.register_converters("has_ended", function(token) return gone[token] and "1" or "0" end)
 core.register_task(function()
   while true do
-    pcall(update)
     core.msleep(1000)
+    pcall(read)
   end
 end)

@@ -212,7 +212,7 @@ def forged(run, stack):
         return jwt.encode({**claims, **more}, key, algorithm=algorithm)
 
     head, body, seal = right.split(".")
-    other = made(u="registry", n="registry").split(".")
+    other = made(u="registry").split(".")
     for name, token, status in (
             ("as it is", right, 200), ("made by the key", made(), 200),
             ("of another user", ".".join((head, other[1], seal)), 401),
@@ -220,10 +220,10 @@ def forged(run, stack):
             ("without an algorithm", made(None, "none"), 401),
             ("of another algorithm", made(algorithm="HS512"), 401),
             ("that has ended", made(exp=int(time.time()) - 5), 401),
-            ("of before", made(i=claims["i"] - 10**12, n="eve"), 401),
+            ("of before", made(i=claims["i"] - 10**12, u="eve"), 401),
             ("of another host", made(h="elsewhere.example"), 401), ("of a device", device, 401),
             ("of a program", made(k="program"), 401),
-            ("of a user who isn't there", made(n="eve"), 401),
+            ("of a user who isn't there", made(u="eve"), 401),
             ("junk", "a.b.c", 401), ("nothing", "", 401), ("long", "x" * 6_000, 401)):
         ada.cookies = {"session": token}
         run.judge(f"a token {name}", status, ada.view("/-/user")[0])
@@ -254,6 +254,11 @@ def guesses(run, stack):
     known = Client(stack.front)
     known.sign_in("registry")
     signed_in = dict(known.cookies)
+    logs = [stack.front.folder / "run" / name for name in ("changes.log", "errors")]
+    sizes = [log.stat().st_size for log in logs]
+    slow = [stack.front.connect() for _ in range(300)]
+    for client in slow:
+        client.sendall(b"POST /-/sign-in HTTP/1.1\r\nHost: x\r\nContent-")
     addresses = [f"127.9.{number}.1" for number in range(40)]
     statuses = collections.Counter()
 
@@ -272,7 +277,13 @@ def guesses(run, stack):
     reply = Client(stack.front, "127.9.0.1").sign_in("registry", "try-registry")
     run.judge("a new device meanwhile", (429, "60"), (reply[0], reply[1]["Retry-After"]))
     run.judge("it says so", True, b"Wait a minute" in reply[2])
-    run.judge("whoever is signed in", 200, known.view("/-/user")[0])
+    began = time.monotonic()
+    run.judge("whoever is signed in, fifty times", {200},
+              {known.view("/drafts/1")[0] for _ in range(50)})
+    run.judge("they don't wait", True, time.monotonic() - began < 10)
+    run.judge("bytes in the logs", sizes, [log.stat().st_size for log in logs])
+    for client in slow:
+        client.close()
     known.cookies = {"device": signed_in["device"]}
     run.judge("a known device signs in", 303, known.sign_in("registry")[0])
     stolen = Client(stack.front)
@@ -423,13 +434,36 @@ def over_tls(run, make_front):
         stack.stop()
 
 
+def a_crowd(run, stack):
+    """A thousand requests come at once from one address; the office isn't limited, others are."""
+    def question(user, path):
+        client = Client(stack.front)
+        client.sign_in(user)
+        return (f"GET {path} HTTP/1.1\r\nHost: {client.host}\r\nConnection: close\r\n"
+                f"Cookie: session={client.cookies['session']}\r\n\r\n").encode()
+
+    came, _ = front_queue.crowd(stack.front.port, [question("cleo", "/me/penalty")] * 300)
+    statuses = collections.Counter(status for status, _ in came)
+    run.judge("one user's 300 requests", ({200, 429}, True),
+              (set(statuses), 195 <= statuses[200] <= 205))
+    came, longest = front_queue.crowd(stack.front.port, [question("registry", "/drafts/1")]
+                                      * front_queue.CROWD, ["127.5.0.1"] * front_queue.CROWD)
+    run.judge("a thousand at once, of one address", {200: front_queue.CROWD},
+              collections.Counter(status for status, _ in came))
+    run.judge("how long the last one waits", True, longest < 15)
+
+
 def first_sign_ins(run, stack):
-    """Many people of one address sign in for the first time at once: all are served."""
+    """25,000 users are new: many of one address sign in at once, and who was signed in goes on."""
     users = stack.front.folder / "users"
     before, count = users.read_text(), 100
     hashed = subprocess.run(["openssl", "passwd", "-apr1", "-stdin"], check=True, text=True,
                             input="a word\n", capture_output=True).stdout.strip()
-    users.write_text(before + "".join(f"s{number}:{hashed}\n" for number in range(count)))
+    users.write_text(before + "".join(f"s{number}:{hashed}\n" for number in range(25_000)))
+    ada, began = Client(stack.front), time.monotonic()
+    ada.sign_in("ada")
+    run.judge("whoever is signed in, when 25,000 users are new", {200},
+              {ada.view("/-/user")[0] for _ in iter(lambda: time.monotonic() < began + 3, False)})
     with concurrent.futures.ThreadPoolExecutor(count) as pool:
         came = collections.Counter(pool.map(
             lambda number: Client(stack.front, "127.6.0.1").sign_in(f"s{number}", "a word")[0],
@@ -446,8 +480,8 @@ def judge_stack(run, make_front):
         for method, path, body, status in (("PUT", "/drafts/1", SOLUTION, 201),
                                            ("POST", "/drafts/1/publish", b"", 200)):
             run.judge("the start", status, office.ask(method, path, body)[0])
-        for part in (sessions, forged, old_hashes, programs, basic, networks, first_sign_ins, ends,
-                     guesses):
+        for part in (sessions, forged, old_hashes, programs, basic, networks, a_crowd,
+                     first_sign_ins, ends, guesses):
             part(run, stack)
     finally:
         stack.stop()

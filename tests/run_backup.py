@@ -89,7 +89,7 @@ def while_it_runs(judged, program, folder, office, database):
     with edited(office) as longest:
         came = [ended(backup(program, database, copies, "--wait", "0")) for _ in range(3)]
     judged.judge("copies of an office that is edited", [(0, "")] * 3, [it[::2] for it in came])
-    judged.judge("it waited", True, longest.result() < 1)
+    judged.judge("it waited", True, longest.result() < 5)
     judged.judge("nothing else is kept", sorted({first, *(it[1] for it in came)}),
                  sorted(f"{it}\n" for it in copies.iterdir() if it.name != ".lock"))
     copy = Office(program, came[-1][1].strip())
@@ -106,7 +106,7 @@ def kills(judged, program, office, database, copies):
             time.sleep(0.04 + delay * 0.02)
             running.send_signal((*SIGNALS, signal.SIGKILL)[delay % 4])
             running.communicate(timeout=SECONDS)
-    judged.judge("after signals the office goes on", True, longest.result() < 1)
+    judged.judge("after signals the office goes on", True, longest.result() < 5)
     judged.judge("after signals a copy is made", 0, ended(backup(program, database, copies))[0])
     judged.judge("what they left is deleted", [], list(copies.glob(".copying.*")))
 

@@ -88,7 +88,7 @@ class University:
     def cookie(self, user):
         """A session, as the agent makes it."""
         now = time.time()
-        token = jwt.encode({"u": user, "n": user, "k": "session", "h": self.host, "j": user,
+        token = jwt.encode({"u": user, "k": "session", "h": self.host, "j": user,
                             "i": int(now * 1000), "exp": int(now) + 8 * 3600}, self.key)
         return f"Cookie: session={token}"
 
