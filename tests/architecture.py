@@ -31,6 +31,10 @@ STATEMENT = re.compile(
 )
 DEVICES = re.compile(r"\bstd::(fs|io|net|env|process)\b|\bRattle\.std\.specs\.Io\b")
 GHOST_USE = re.compile(r"\buse\s+(?:path\s+)?Rattle\.([a-z][a-z0-9_]*)")
+# Arithmetic that wraps, and a shift that may drop bits: the prover asks of neither that nothing is lost.
+WRAPS = re.compile(r"\b(?:wrapping|overflowing|unchecked)_[a-z]+\b|\b(?!1(?:u32|u64|usize)?\b)[\w)\]]+ <<=? [\w(]")
+# The one shift whose contract says which bits are dropped.
+SAID_SHIFT = ("office_files", "    word << (56 - 8 * count) << 8 ")
 CODE_USE = re.compile(r"^\s*(?:pub(?:\([a-z]+\))?\s+)?use\s+([a-z][a-z0-9_]*)", re.M)
 
 
@@ -133,12 +137,24 @@ def main_knows_the_program_alone(crates, knows):
             yield f"examoffice knows {name} ({where})"
 
 
+def no_arithmetic_wraps(crates, knows):
+    """Code has no arithmetic that wraps or drops bits, but for one shift that its contract describes."""
+    for crate in crates:
+        for path, text in sources(crate):
+            if path.suffix != ".rt":
+                continue
+            for number, line in enumerate(text.splitlines(), 1):
+                if WRAPS.search(line) and (crate, line) != SAID_SHIFT:
+                    yield f"{path.relative_to(TOP)}:{number} may wrap or drop bits"
+
+
 INVARIANTS = [
     session_knows_no_file_and_no_database,
     only_the_calendar_loads_jiff,
     sql_is_known_below,
     messages_know_no_route,
     main_knows_the_program_alone,
+    no_arithmetic_wraps,
 ]
 
 

@@ -486,6 +486,33 @@ def port_is_taken(run):
               (done.returncode, done.stdout, done.stderr, got, office.ended()))
 
 
+def own_addresses():
+    """The addresses of this machine but for those of loopback."""
+    lines = pathlib.Path("/proc/net/fib_trie").read_text(encoding="ascii").splitlines()
+    found = {line.split()[-1] for line, next_ in zip(lines, lines[1:]) if "/32 host LOCAL" in next_}
+    return sorted(address for address in found if not address.startswith("127."))
+
+
+def connection_to(address, port):
+    """What becomes of a connection to this address: "connected", or the name of the error."""
+    try:
+        with socket.create_connection((address, port), SECONDS):
+            return "connected"
+    except OSError as fault:
+        return type(fault).__name__
+
+
+def other_addresses(run):
+    """Only 127.0.0.1 is listened on: whoever reaches the port is believed to be the caller they name."""
+    office = run.office(connections=1)
+    for address in "127.0.0.2", "::1", *own_addresses():
+        came = connection_to(address, office.port)
+        refused = ("ConnectionRefusedError", "OSError") if address == "::1" else ("ConnectionRefusedError",)
+        run.judge(f"a connection to {address}", True, came in refused or came)
+    run.judge("a connection to 127.0.0.1", ("connected", (0, b"")),
+              (connection_to("127.0.0.1", office.port), office.ended()))
+
+
 def locked_database(run):
     """A file that an office serves can't be opened; a line for a journal says why."""
     office = run.office(connections=1)
@@ -793,7 +820,7 @@ def tests_of(is_plain):
            batches_are_kept,
            publication_is_told]
     others = [worked_examples, stock_curl, many_connections, failing_reader_and_writer,
-              port_is_taken, locked_database, closed_streams, longest_batch, most_batches,
+              port_is_taken, other_addresses, locked_database, closed_streams, longest_batch, most_batches,
               most_pairs]
     tests = others if is_plain else [*waiting, *others, *own]
     return {test.__name__: test for test in tests}

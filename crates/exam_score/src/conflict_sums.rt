@@ -1,6 +1,5 @@
 // Row, day, spread and night: each pair of exams that share students, if these are listed.
 ghost use Rattle.std.specs.Prelude.{◌≡◌, ◌<◌, ◌≤◌, ◌+◌, ◌*◌, ◌^◌, ◌⊎◌, IfOk, IsTrue, length, map, slice_index};
-ghost use Rattle.exam_terms.specs.declared.limits.TheConstants.{MAX_PERIODS};
 ghost use Rattle.exam_model.specs.Fits.{period_of};
 ghost use Rattle.exam_model.specs.PairCost.{cost_between};
 ghost use Rattle.exam_model.specs.Timetable.{period_number};
@@ -56,8 +55,7 @@ pub(crate) fn sums_of_conflicts(
 // Returns how far apart two periods are at most that cost anything.
 fn reach_of(instance: &Instance, lines: &[Line]) -> u32
     requires table { IsTable instance.now lines.now }
-    ensures reach { IsReach instance.now result }
-    ensures small { result ≤ MAX_PERIODS }
+    ensures { IsReach instance.now result }
 {
     let mut reach = 0;
     for period in 0..instance.periods() {
@@ -71,7 +69,6 @@ fn reach_of(instance: &Instance, lines: &[Line]) -> u32
 fn add_costs(sums: &mut Amounts<u64>, costs: &Costs, periods: &[u32], conflict: &Conflict)
     requires table { IsTable costs.now.instance.now costs.now.lines.now }
     requires reach { IsReach costs.now.instance.now costs.now.reach }
-    requires small { costs.now.reach ≤ MAX_PERIODS }
     requires exists { conflict.now.exam < length periods.now }
     requires other_exists { conflict.now.other < length periods.now }
     requires room { EachInTable (λ k. table_amount sums.old k
@@ -91,13 +88,11 @@ fn add_costs(sums: &mut Amounts<u64>, costs: &Costs, periods: &[u32], conflict: 
     sums.add(more, conflict.students);
 }
 
-// Returns whether two numbers are farther apart than this, by one comparison: their difference is
-// below -reach or above it.
+// Returns whether two numbers differ by more than this.
 fn are_apart(one: u32, other: u32, reach: u32) -> bool
-    requires small { reach ≤ MAX_PERIODS }
     ensures { IsTrue result → (other + reach < one) ⊎ (one + reach < other) }
 {
-    one.wrapping_sub(other).wrapping_add(reach) > 2 * reach
+    one.abs_diff(other) > reach
 }
 
 // Returns the costs of two periods, by the line of the later one.

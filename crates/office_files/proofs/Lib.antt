@@ -31,3 +31,4 @@ mod CanonicalSteps
 mod CanonicalItems
 mod CanonicalSections
 pub mod CanonicalInstance
+mod EightLanes

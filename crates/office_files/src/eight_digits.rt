@@ -55,7 +55,7 @@ fn flags_from_ten(word: u64) -> u64
     ((word & 0x7f7f_7f7f_7f7f_7f7f) + 0x7676_7676_7676_7676 | word) & 0x8080_8080_8080_8080
 }
 
-// Returns the word with its first `count` bytes moved up to the end.
+// Returns the word with its first `count` bytes moved up to the end; the others are dropped.
 #[inline(always)]
 fn keep_first(word: u64, count: u32) -> u64
     requires { count < 8 }
@@ -64,14 +64,15 @@ fn keep_first(word: u64, count: u32) -> u64
     word << (56 - 8 * count) << 8 // no shift by 64 is defined
 }
 
-// Returns the value of eight digits, the first of them in the lowest byte.
+// Returns the value of eight digits, the first of them in the lowest byte. Each step joins
+// neighbours, and no lane overflows: the masks keep a lane below 16, 256 and 65,536.
 #[inline(always)]
 fn value_of_eight(word: u64) -> u64
     ensures { (ds : List ℕ) → IsEightDigits ds → word ≡ number_l 256 ds
         → result ≡ number_from_digits 10 ds }
 {
-    let pairs = word.wrapping_mul(10).wrapping_add(word >> 8);
-    let first = (pairs & 0x0000_00ff_0000_00ff).wrapping_mul(100 + (1_000_000 << 32));
-    let second = ((pairs >> 16) & 0x0000_00ff_0000_00ff).wrapping_mul(1 + (10_000 << 32));
-    first.wrapping_add(second) >> 32
+    let digits = word & 0x0f0f_0f0f_0f0f_0f0f;
+    let pairs = (digits * 10 + (digits >> 8)) & 0x00ff_00ff_00ff_00ff;
+    let fours = (pairs * 100 + (pairs >> 16)) & 0x0000_ffff_0000_ffff;
+    (fours * 10_000 + (fours >> 32)) & 0xffff_ffff
 }

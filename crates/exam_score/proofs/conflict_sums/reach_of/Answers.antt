@@ -14,27 +14,24 @@ loop-period-preserved c =
     let found = line_found lines n n here (λ i. n)
     (omega (arith, c.requires.table.count, c.loop-period-test.true, c.periods-period-end.ensures.count))
     c.index-lines-period.is in
-    record {
-      small = omega (arith, c.loop-period.invariant.small, c.saturating_sub-reach.ensures, c.saturating_sub-back.ensures);
-      back = λ p line lt at. elim (cases_eq p n) [
-        | inl last ↦
-            (let same : here.first ≡ line.first =
-            ap (λ z. z.first)
-            (same_Some here line (sym found ∙ ap (slice_get lines) (sym last) ∙ at)) in
-            omega (
-              arith,
-              ap (λ z. z.first) c.index-lines-period.is,
-              c.saturating_sub-reach.ensures,
-              c.saturating_sub-back.ensures,
-            ))
-        | inr other ↦
-            (let old = c.loop-period.invariant.back p line (omega arith) at in
-            omega (arith, c.saturating_sub-reach.ensures))
-      ];
-    }
+    λ p line lt at. elim (cases_eq p n) [
+      | inl last ↦
+          (let same : here.first ≡ line.first =
+          ap (λ z. z.first)
+          (same_Some here line (sym found ∙ ap (slice_get lines) (sym last) ∙ at)) in
+          omega (
+            arith,
+            ap (λ z. z.first) c.index-lines-period.is,
+            c.saturating_sub-reach.ensures,
+            c.saturating_sub-back.ensures,
+          ))
+      | inr other ↦
+          (let old = c.loop-period.invariant p line (omega arith) at in
+          omega (arith, c.saturating_sub-reach.ensures))
+    ]
 
-pub returns-clause-reach : goal.returns-clause-reach
-returns-clause-reach c =
+pub returns : goal.returns
+returns c =
     is_reach c.args.instance.now c.args.lines.now c.loop-period.reach c.requires.table
-    (λ p line lt at. c.loop-period.invariant.back p line
+    (λ p line lt at. c.loop-period.invariant p line
     (omega (arith, c.requires.table.count, c.loop-period-test.false, c.periods-period-end.ensures.count)) at)

@@ -5,8 +5,5 @@ use Rattle.exam_score.proofs.conflict_sums.reach_of.Given as goal
 
 -- the periods so far reach no farther back
 abbrev pub invariant-loop-period : goal.invariant-loop-period
-invariant-loop-period l = record {
-  small : l.reach ≤ l.period;
-  back : (p : ℕ) (line : Line) → p < l.period → slice_get l.lines p ≡ Some line
-      → p ≤ line.first + l.reach;
-}
+invariant-loop-period l = (p : ℕ) (line : Line) → p < l.period
+    → slice_get l.lines p ≡ Some line → p ≤ line.first + l.reach

@@ -1,4 +1,4 @@
-use Rattle.core.proofs.dec2flt.Eight.{eight_is}
+use Rattle.office_files.proofs.EightLanes.{eight_is}
 use Rattle.office_files.proofs.eight_digits.value_of_eight.Goals as goal
 
 pub returns : goal.returns
