@@ -1,10 +1,10 @@
 #!/usr/bin/env python3
 """The wrong bodies that the gate does not try each time: crates/*/wrong-bodies/*.edit.
 
-    python3 tests/wrong_bodies.py try [CRATE..]   tries those of these crates, or of all, that were
-    not
-                                                  refused with these sources before
-    python3 tests/wrong_bodies.py current         lists those that have to be tried
+    python3 tests/wrong_bodies.py try [CRATE..]   tries those of these crates, or of all, that were not
+                                                  refused with these sources before, or are due
+    python3 tests/wrong_bodies.py current         lists those that have to be tried, and counts those
+                                                  that are due
 
 A crate is proved first, without an edit. Then its edits are tried in a copy, over what that proof
 kept, so that a check proves what an edit touches; each must be refused by the prover. A function is
@@ -14,11 +14,13 @@ this function calls another that is not proved doesn't count. What is not refuse
 alone, and is refused if a goal of any function stays open, that of a caller, say; the rest is left
 to `rt must-fail`. All checks of a crate, and crates, run side by side.
 
-wrong-bodies/TRIED has a line for each edit that was refused: a hash of the crate's sources and of
-the edit without its two head lines, and the edit's name. So an edit that is added or changed is
-tried by itself, and a change of the sources makes all edits of the crate to be tried again. Those
-in wrong-bodies/waiting/ are new, or were refused with earlier sources, and wait for a longer run:
-`current` counts them, and `try` takes them back."""
+wrong-bodies/TRIED is one line: a hash of the crate's sources, a hash of what its proofs read of others
+(the public contracts and the definitions of the crates below, and the kit), and a hash of each edit
+that was refused with them, its two head lines left out. So an edit that is added or changed is tried by
+itself. A change of the crate's sources makes all its edits to be tried again, and `current` fails until
+they are. A change below makes them due: `current` counts them, because its crate is proved anew anyway,
+and a release has none. Those in wrong-bodies/waiting/ are new, or were refused with earlier sources, and
+wait for a longer run: `current` counts them, and `try` takes them back."""
 import hashlib
 import os
 import re
@@ -29,6 +31,8 @@ import tempfile
 import time
 from concurrent.futures import ThreadPoolExecutor
 from contextlib import contextmanager
+from functools import cache
+from importlib.machinery import SourceFileLoader
 from pathlib import Path
 from queue import Empty, SimpleQueue
 
@@ -81,28 +85,27 @@ def say_current(crates):
     for name in crates:
         judged.add(len(edits_of(name)),
                    [f"{name}: {at.stem} has to be tried" for at in untried(name)]
-                   + [f"{name}: {at.stem}: {file} has no such text: {old}" for at, file,
-                      old in misplaced(name)])
+                   + [f"{name}: {at.stem}: {file} has no such text: {old}" for at, file, old in misplaced(name)]
+                   + [f"{name}: {at.stem} is refused by {word}, which is no word of its crate"
+                      for at, word in unknown_words(name)])
     if late:
         print(f"wrong bodies: run ./test wrong {' '.join(late)}", file=sys.stderr)
     for name in filter(waiting, crates):
-        print(f"wrong bodies: {len(waiting(name))} wait: ./test wrong {name} tries them",
-              file=sys.stderr)
-    return judged.end("edits")
+        print(f"wrong bodies: {len(waiting(name))} wait: ./test wrong {name} tries them", file=sys.stderr)
+    return judged.end(f"edits, {sum(len(due(name)) for name in crates)} due because of a crate below")
 
 
 def try_all(names):
     begun = time.monotonic()
     for name in names:
         take_back(name)
-    names = [name for name in names if untried(name)]
-    wanted = sum(len(untried(name)) for name in names)
+    names = [name for name in names if wanted_of(name)]
+    wanted = sum(len(wanted_of(name)) for name in names)
     if not are_proved(names):
         print(f"wrong bodies: 0 refused, {wanted} not refused")
         return 1
-    print(f"wrong bodies: their crates proved, {(time.monotonic() - begun) / 60:.1f} minutes",
-          flush=True)
-    names = sorted(names, key=lambda name: -len(untried(name)) * size_of(name))
+    print(f"wrong bodies: their crates proved, {(time.monotonic() - begun) / 60:.1f} minutes", flush=True)
+    names = sorted(names, key=lambda name: -len(wanted_of(name)) * size_of(name))
     # the crates' threads only wait for their checks
     with ThreadPoolExecutor(lanes()) as checks, ThreadPoolExecutor(len(names) or 1) as crates:
         refused = sum(crates.map(lambda name: try_crate(name, checks), names))
@@ -128,7 +131,7 @@ def upwards(names):
 def try_crate(name, checks):
     """Tries the crate's wrong bodies, and returns how many of them were refused."""
     before, begun = hashes(name), time.monotonic()
-    edits = [Edit(name, at) for at in untried(name)]
+    edits = [Edit(name, at) for at in wanted_of(name)]
     with Copies(name) as copies:
         def refused_of(batches):
             return sum(checks.map(lambda batch: try_together(copies, batch), batches), [])
@@ -149,10 +152,10 @@ def try_crate(name, checks):
 
 def keep(name, before, refused):
     """Notes the edits that were refused, if nothing that they were tried with has changed since."""
-    now, noted = hashes(name), tried(name)
-    lines = [f"{value} {at}" for at, value in now.items()
-             if noted.get(at) == value or at in refused and before.get(at) == value]
-    mark(name).write_text("".join(line + "\n" for line in lines))
+    own, below, edits = hashes(name)
+    noted = tried(name)[2] if tried(name)[:2] == (own, below) else set()
+    noted |= {before[2][at] for at in refused if before[:2] == (own, below) and at in before[2]}
+    mark(name).write_text(" ".join([own, below, *(edits[at] for at in edits if edits[at] in noted)]) + "\n")
 
 
 class Copies:
@@ -316,15 +319,39 @@ def edits_of(name):
 
 
 def untried(name):
-    """The edits of a crate that were not refused with the sources as they are."""
-    now, noted = hashes(name), tried(name)
-    return [at for at in edits_of(name) if noted.get(at.name) != now[at.name]]
+    """The edits of a crate that were not refused with the crate's sources as they are."""
+    own, _, edits = hashes(name)
+    noted = tried(name)
+    return [at for at in edits_of(name) if own != noted[0] or edits[at.name] not in noted[2]]
+
+
+def due(name):
+    """The edits of a crate that were refused with its sources, but before a crate below changed."""
+    if hashes(name)[1] == tried(name)[1]:
+        return []
+    late = untried(name)
+    return [at for at in edits_of(name) if at not in late]
+
+
+def wanted_of(name):
+    return untried(name) + due(name)
 
 
 def misplaced(name):
     """The edits of a crate that replace what isn't in the file that they name."""
     return [(at, file, old) for at in edits_of(name) for file, old, _ in Edit(name, at).places
             if old not in (ROOT / "crates" / name / file).read_text()]
+
+
+def unknown_words(name):
+    """The edits of a crate, and those that the gate tries, that are said to be refused by what is no
+    word of the crate."""
+    words = set(re.findall(r"[\w-]+", "\n".join(file.read_text() for file in files_of(name))))
+    crate = ROOT / "crates" / name
+    for at in sorted([*crate.glob("wrong-bodies/*.edit"), *crate.glob("must-fail/*.edit")]):
+        for cited in re.findall(r"`([^`]+)`", heads_of(at)[1]):
+            if not words.issuperset(re.findall(r"[A-Za-z_][\w-]*", cited)):
+                yield at, cited
 
 
 def heads_of(at):
@@ -345,9 +372,44 @@ def files_of(name):
 
 
 def hashes(name):
-    """For each edit of a crate, by its file's name, a hash of it and of the crate's sources."""
-    sources = hash_of(files_of(name))
-    return {at.name: hash_of([at], sources) for at in edits_of(name)}
+    """A hash of a crate's sources, one of what its proofs read of others, and that of each edit by its
+    file's name."""
+    edits = {at.name: hash_of([at])[:12] for at in edits_of(name)}
+    return hash_of(files_of(name))[:16], below_of(name), edits
+
+
+@cache
+def below_of(name):
+    """A hash of the public contracts and the definitions of the crates below, and of the kit."""
+    kit = (ROOT / "release" / "KIT").read_text()
+    return hash_of([], kit + "".join(contracts_of(crate) for crate in sorted(crates_below(name))))[:16]
+
+
+@cache
+def contracts_of(name):
+    """A crate's public types and calls with their clauses, without comments, and its definitions."""
+    pages = SourceFileLoader("pages", str(ROOT / "pages")).load_module()
+    types, found = pages.public_types(name), []
+    for module in pages.modules_of(name):
+        code = False
+        for line in pages.module_section(name, module, types):
+            code = line == "```text" or code and line != "```"
+            if (code or line.startswith("####")) and not line.lstrip().startswith("//"):
+                found.append(line)
+    specs = [file for file in files_of(name) if file.is_relative_to(ROOT / "crates" / name / "specs")]
+    return hash_of(specs, "\n".join(found))
+
+
+def crates_below(name):
+    """The crates of the repository on which a crate stands."""
+    lines = (line.split("#")[0].split(":") for line in (ROOT / "crates.txt").read_text().splitlines())
+    stands_on = {line[0].split()[0]: line[1].split() for line in lines if len(line) == 2}
+    found, left = set(), [name]
+    while left:
+        new = set(stands_on.get(left.pop(), [])) & set(stands_on) - found
+        found |= new
+        left += new
+    return found
 
 
 def hash_of(files, begun_with=""):
@@ -371,9 +433,10 @@ def mark(name):
 
 
 def tried(name):
-    """The hash with which each edit of a crate was refused, by the name of the edit's file."""
-    lines = mark(name).read_text().splitlines() if mark(name).is_file() else []
-    return {at: value for value, at in (line.split() for line in lines)}
+    """The hashes of the crate's sources and of what is below, and those of the edits that were refused
+    with them."""
+    words = mark(name).read_text().split() if mark(name).is_file() else []
+    return (words[0], words[1], set(words[2:])) if len(words) > 1 else ("", "", set())
 
 
 if __name__ == "__main__":
