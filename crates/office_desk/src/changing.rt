@@ -70,7 +70,8 @@ pub(crate) fn edit<S: Alter>(
     number: u32,
     change: Edit,
 ) -> Result<Answer, Answer>
-    ensures { OutcomeAnswered S.Store (edit_outcome number change) office.old office.new result }
+    ensures { OutcomeAnswered S.Store (Unit {0}) (edit_outcome number change)
+        office.old office.new result }
 {
     let penalty = office.edit(alloc, number, change)?;
     Ok(Answer::Edited(number, penalty))

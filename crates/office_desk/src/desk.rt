@@ -3,7 +3,8 @@ ghost use Rattle.std.specs.Prelude.{◌≡◌, ◌⊎◌, IfErr, IfOk, MatchBool
 ghost use Rattle.sqlite.specs.Held.{state};
 ghost use Rattle.sqlite.specs.State.{HasCleanDisk};
 ghost use Rattle.office_policy.specs.Commands.{HasSmallNumbers, plain_command};
-ghost use Rattle.office_store.specs.Running.{IsCommitted, OfficeUnchanged};
+ghost use Rattle.office_store.specs.Leaving.{LeavesAsItWas};
+ghost use Rattle.office_store.specs.Running.{IsCommitted};
 ghost use Rattle.office_store.specs.Shut.{IsShut};
 ghost use Rattle.office_desk.specs.Answers.{plain_answer};
 ghost use Rattle.office_desk.specs.Performing.{CommandAnswered, CommandPerformed, answer_of};
@@ -76,7 +77,7 @@ impl<S: Alter> Desk<S> {
         ensures shut { HasCleanDisk (state S.Store self.new) → IfOk result (λ is_shut.
             MatchBool is_shut (IsShut (state S.Store self.new))
             (IsCommitted (state S.Store self.new))) }
-        ensures unchanged { OfficeUnchanged S.Store self.old self.new }
+        ensures leaves { LeavesAsItWas S.Store self.old self.new }
         ensures fault { IfErr result (λ e. e ≡ StoreFault.Store) }
     {
         self.office.is_shut()

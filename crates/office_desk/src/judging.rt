@@ -2,6 +2,7 @@
 ghost use Rattle.sqlite.specs.Held.{state};
 ghost use Rattle.office_policy.specs.Commands.{plain_command};
 ghost use Rattle.office_model.specs.Step.{allowed_in};
+ghost use Rattle.office_store.specs.Leaving.{LeavesAsItWas};
 ghost use Rattle.office_store.specs.Running.{CallRan, QueryOutcome, Represents};
 
 use exam_terms::DeptNo;
@@ -18,9 +19,10 @@ pub(crate) fn permission<S: Alter>(
     caller: Caller,
     command: &Command<'_>,
 ) -> Result<Result<(), Denial>, StoreFault>
-    ensures { CallRan S.Store office.old office.new (λ o.
+    ensures asked { CallRan S.Store office.old office.new (λ o.
         QueryOutcome (allowed_in o caller (plain_command command.now)) o
         (Represents (state S.Store office.new)) result) }
+    ensures leaves { LeavesAsItWas S.Store office.old office.new }
 {
     match caller {
         Caller::Dept(dept) => permission_by_owners(office, alloc, dept, command),
@@ -36,9 +38,10 @@ fn permission_by_owners<S: Alter>(
     dept: DeptNo,
     command: &Command<'_>,
 ) -> Result<Result<(), Denial>, StoreFault>
-    ensures { CallRan S.Store office.old office.new (λ o.
+    ensures asked { CallRan S.Store office.old office.new (λ o.
         QueryOutcome (allowed_in o (Caller.Dept dept) (plain_command command.now)) o
         (Represents (state S.Store office.new)) result) }
+    ensures leaves { LeavesAsItWas S.Store office.old office.new }
 {
     let caller = Caller::Dept(dept);
     let Kind::Editing(a, b) = command.kind() else {

@@ -1,5 +1,8 @@
 -- From an answer of the desk to a reply.
 use Rattle.std.proofs.Common.{◌≡◌, Result, Ok, Err, refl, sym, subst, inl, inr}
+use Rattle.sqlite.specs.State.{State, Survives}
+use Rattle.sqlite.proofs.StateLemmas.{survives_weaker}
+use Rattle.sqlite_trees.specs.Tree.{Trees}
 use Rattle.office_messages.specs.Reply.{PlainReply}
 use Rattle.office_requests.specs.Requests.{PlainCallerCommand}
 use Rattle.office_requests.specs.Answering.{ReturnsCallerCommand, refusal_reply}
@@ -10,7 +13,13 @@ use Rattle.office_model.specs.Answers.{PlainAnswer}
 use Rattle.office_model.specs.Office.{OfficeState}
 use Rattle.office_model.specs.Step.{Steps}
 use Rattle.office_model.proofs.AnswerLemmas.{shown_stays}
+use Rattle.office_store.proofs.LeavingLemmas.{survives_same}
 use Rattle.office_http.specs.Replying.{IsReplyOf, RepliesTo}
+
+-- if nothing is done, nothing is committed
+pub nothing_survives : (a : State) (P : Trees → Type 0) → Survives a a P
+nothing_survives a P =
+    survives_weaker a a (λ _. ⊥) P (λ _ db none. absurd none) (survives_same a)
 
 -- a step whose answer the reply expresses, or a step whose reply is `unavailable`
 pub replied : (asked : PlainCallerCommand) (old new : OfficeState) (answer : PlainAnswer)

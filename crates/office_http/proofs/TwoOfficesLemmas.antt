@@ -1,5 +1,5 @@
 -- An office in memory, and its replies after a list of requests.
-use Rattle.std.proofs.Common.{◌≡◌, ◌≢◌, ◌⊎◌, ◌∙◌, ◌<◌, ◌+◌, ℕ, List, take, get_or, length, fold, None, Result, Ok, Err, ap, inl, inr, refl, subst, sym}
+use Rattle.std.proofs.Common.{◌≡◌, ◌≢◌, ◌∙◌, ◌<◌, ◌+◌, ℕ, List, take, get_or, length, None, Result, Ok, Err, ap, inl, inr, sym}
 use Rattle.std.proofs.lemmas.List.Sums.{fold_more}
 use Rattle.office_messages.specs.FixedReplies.{unavailable}
 use Rattle.office_messages.specs.Heads.{plain_request}
@@ -11,7 +11,7 @@ use Rattle.office_requests.specs.Requests.{PlainCallerCommand, command_or_refusa
 use Rattle.office_requests.specs.declared.requests.Refusal.{Refusal}
 use Rattle.office_model.specs.Office.{OfficeState}
 use Rattle.office_model.specs.Step.{Outcome}
-use Rattle.office_model.specs.Views.{View, view_of}
+use Rattle.office_model.specs.Views.{View}
 use Rattle.office_replies.specs.Replies.{reply_to}
 use Rattle.office_http.specs.CandidateMessages.{bytes_of, reply_from_view}
 use Rattle.office_http.specs.Replying.{Replies, RepliesTo, RepliesCandidateView}

@@ -1,8 +1,9 @@
 -- The office's reply to a request.
 use Rattle.std.specs.Prelude.{◌≡◌, ◌⊎◌, ℕ, true, Option, Some, None, Result, Ok, Err}
 use Rattle.sqlite.specs.Held.{Held, state}
-use Rattle.sqlite.specs.State.{HasCleanDisk}
+use Rattle.sqlite.specs.State.{HasCleanDisk, State, Survives}
 use Rattle.sqlite.specs.Store.{Ghosts}
+use Rattle.sqlite_trees.specs.Tree.{Trees}
 use Rattle.office_messages.specs.Reply.{PlainReply}
 use Rattle.office_messages.specs.FixedReplies.{unavailable}
 use Rattle.office_messages.specs.Stream.{PlainRequest}
@@ -22,7 +23,8 @@ use Rattle.office_model.specs.Office.{OfficeState}
 use Rattle.office_model.specs.Step.{Steps}
 use Rattle.office_model.specs.Views.{View, view_of}
 use Rattle.office_replies.specs.Replies.{reply_to, view_text}
-use Rattle.office_store.specs.Running.{IsCommitted, Represents}
+use Rattle.office_store.specs.Running.{IsCommitted, Represents, StateUnchanged}
+use Rattle.office_desk.specs.Performing.{MayChange, MayCommitStep}
 
 -- a message that asks for a command is one step of the office, and the reply is the step's answer;
 -- any other message is refused, and the office is unchanged
@@ -50,8 +52,22 @@ IsDone status.Done = Unit {0}
 IsDone status.Created = Unit {0}
 IsDone other = ⊥
 
+-- the message asks for no command that may change the office
+abbrev pub IsQuestion : Result PlainCallerCommand Refusal → Type 0
+IsQuestion (Ok asked) = MayChange asked.command → ⊥
+IsQuestion (Err refusal) = Unit {0}
+
+-- what a later opening may find after this reply, beside what it might have found before: the office
+-- after the step of a command that may change it and isn't refused
+abbrev pub MayCommitReply : Result PlainCallerCommand Refusal → State → PlainReply → Trees → Type 0
+MayCommitReply (Ok asked) old reply found =
+    (answer : PlainAnswer) × IsReplyOf answer reply
+    × MayCommitStep asked.caller asked.command old answer found
+MayCommitReply (Err refusal) old reply found = ⊥
+
 -- assuming the disk returns what was written, the office that the file represents gives this reply
--- to what a message asks; if that was done, the store is open and all writes are committed
+-- to what a message asks; if that was done, the store is open and all writes are committed; a
+-- question leaves every row as it was
 pub record AnsweredTo {S : Type 0} (store : Ghosts S) (old : Held S)
     (asked : Result PlainCallerCommand Refusal) (reply : PlainReply) (new : Held S) : Type 0 where
   pub clean : HasCleanDisk (state store new) → HasCleanDisk (state store old)
@@ -60,6 +76,10 @@ pub record AnsweredTo {S : Type 0} (store : Ghosts S) (old : Held S)
       → (next : OfficeState) × RepliesTo asked office reply next × Represents (state store new) next
   pub all_committed : HasCleanDisk (state store new) → IsDone reply.status
       → IsCommitted (state store new)
+  pub unchanged : IsQuestion asked → HasCleanDisk (state store new)
+      → StateUnchanged (state store old) (state store new)
+  pub survives : Survives (state store old) (state store new)
+      (MayCommitReply asked (state store old) reply)
 
 -- the same, to a request
 abbrev pub Answered : {S : Type 0} → Ghosts S → Held S → PlainRequest → PlainReply → Held S → Type 0

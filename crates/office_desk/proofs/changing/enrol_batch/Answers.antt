@@ -3,7 +3,7 @@ use Rattle.office_policy.specs.CommandBodies.{plain_text}
 use Rattle.office_model.specs.Answers.{now_enrolled}
 use Rattle.office_model.specs.Batches.{batch_enrolled}
 use Rattle.office_model.specs.Step.{outcome}
-use Rattle.office_desk.proofs.AnswerLemmas.{body_performed, fault_performed, text_faulty}
+use Rattle.office_desk.proofs.AnswerLemmas.{body_performed, fault_changed, text_faulty}
 use Rattle.office_desk.proofs.changing.enrol_batch.Goals as goal
 
 pub returns-in_err-text : goal.returns-in_err-text
@@ -16,7 +16,7 @@ returns-in_err-text g c caller =
 pub returns-in_err-counts : goal.returns-in_err-counts
 returns-in_err-counts g c caller =
     rw c.in_ok-text.ensures
-    (fault_performed g.S.Store (now_enrolled c.args.number)
+    (fault_changed g.S.Store (now_enrolled c.args.number)
     (batch_enrolled c.args.number c.in_ok-text.text.now) c.args.office.now c.enrol_batch.new.self _ _
-    c.in_err-counts.ensures.runs c.in_err-counts.ensures.leaves.clean
+    c.in_err-counts.ensures.runs c.in_err-counts.ensures.leaves
     c.from_residual-in_err-counts.ensures.1)

@@ -3,7 +3,7 @@ use Rattle.office_policy.specs.CommandBodies.{plain_text}
 use Rattle.office_model.specs.Answers.{now_loaded}
 use Rattle.office_model.specs.Loading.{load_session}
 use Rattle.office_model.specs.Step.{outcome}
-use Rattle.office_desk.proofs.AnswerLemmas.{body_performed, fault_performed, text_faulty}
+use Rattle.office_desk.proofs.AnswerLemmas.{body_performed, fault_changed, text_faulty}
 use Rattle.office_desk.proofs.changing.load.Goals as goal
 
 pub returns-in_err-text : goal.returns-in_err-text
@@ -15,7 +15,7 @@ returns-in_err-text g c caller =
 pub returns-in_err-loaded : goal.returns-in_err-loaded
 returns-in_err-loaded g c caller =
     rw c.in_ok-text.ensures
-    (fault_performed g.S.Store now_loaded (load_session c.in_ok-text.text.now) c.args.office.now
+    (fault_changed g.S.Store now_loaded (load_session c.in_ok-text.text.now) c.args.office.now
     c.load.new.self _ _
-    c.in_err-loaded.ensures.runs c.in_err-loaded.ensures.leaves.clean
+    c.in_err-loaded.ensures.runs c.in_err-loaded.ensures.leaves
     c.from_residual-in_err-loaded.ensures.1)

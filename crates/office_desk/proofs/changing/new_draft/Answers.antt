@@ -3,7 +3,7 @@ use Rattle.office_policy.specs.CommandBodies.{plain_text}
 use Rattle.office_model.specs.Answers.{now_drafted}
 use Rattle.office_model.specs.DraftCommands.{draft_made}
 use Rattle.office_model.specs.Step.{outcome}
-use Rattle.office_desk.proofs.AnswerLemmas.{body_performed, fault_performed, text_faulty}
+use Rattle.office_desk.proofs.AnswerLemmas.{body_performed, fault_changed, text_faulty}
 use Rattle.office_desk.proofs.changing.new_draft.Goals as goal
 
 pub returns-in_err-text : goal.returns-in_err-text
@@ -16,7 +16,7 @@ returns-in_err-text g c caller =
 pub returns-in_err-penalty : goal.returns-in_err-penalty
 returns-in_err-penalty g c caller =
     rw c.in_ok-text.ensures
-    (fault_performed g.S.Store (now_drafted c.args.number)
+    (fault_changed g.S.Store (now_drafted c.args.number)
     (draft_made c.args.number c.in_ok-text.text.now) c.args.office.now c.new_draft.new.self _ _
-    c.in_err-penalty.ensures.runs c.in_err-penalty.ensures.leaves.clean
+    c.in_err-penalty.ensures.runs c.in_err-penalty.ensures.leaves
     c.from_residual-in_err-penalty.ensures.1)

@@ -2,7 +2,7 @@ use Rattle.std.proofs.Common.{◌∙◌, ap, inl, inr, subst}
 use Rattle.office_reports.specs.Reports.{penalty_text}
 use Rattle.office_model.specs.Step.{publication_in, published_penalty}
 use Rattle.office_store.specs.Publications.{AddUpIn}
-use Rattle.office_desk.proofs.AnswerLemmas.{text_answered}
+use Rattle.office_desk.proofs.AnswerLemmas.{read_survives, text_answered}
 use Rattle.office_desk.proofs.publications.publication_penalty.Goals as goal
 
 pub returns : goal.returns
@@ -19,4 +19,7 @@ returns g c caller = record {
       );
   all_committed = λ clean. inr (c.in_ok-shares.ensures.leaves.all_committed clean);
   clean = c.in_ok-shares.ensures.leaves.clean;
+  unchanged = λ _. c.in_ok-shares.ensures.leaves.unchanged;
+  survives = read_survives g.S.Store ⊥ _ c.args.office.now c.shares.new.self _
+      c.in_ok-shares.ensures.leaves;
 }

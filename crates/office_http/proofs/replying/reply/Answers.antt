@@ -1,10 +1,11 @@
-use Rattle.std.proofs.Common.{option_copied, subst, sym}
+use Rattle.std.proofs.Common.{option_copied, refl, subst, sym}
+use Rattle.sqlite.specs.Held.{state}
 use Rattle.office_messages.specs.Heads.{plain_request}
 use Rattle.office_messages.specs.Reply.{PlainReply, plain_reply}
 use Rattle.office_requests.specs.Requests.{command_or_refusal}
 use Rattle.office_requests.specs.Answering.{ReturnsCallerCommand}
-use Rattle.office_http.specs.Replying.{AnsweredTo, RepliesTo}
-use Rattle.office_http.proofs.AnswerLemmas.{refused}
+use Rattle.office_http.specs.Replying.{AnsweredTo, MayCommitReply, RepliesTo}
+use Rattle.office_http.proofs.AnswerLemmas.{nothing_survives, refused}
 use Rattle.office_http.proofs.CandidateLemmas.{replies_view}
 use Rattle.office_http.proofs.DoneLemmas.{not_unread}
 use Rattle.office_http.proofs.replying.reply.Goals as goal
@@ -19,6 +20,9 @@ returns-in-Err-clause-answered g c =
       clean = λ h. h;
       all_committed = λ clean done.
           not_unread c.in-Err.refusal (plain_reply c.reply.result) c.reply.ensures done;
+      unchanged = λ _ clean opened. (opened, refl);
+      survives = nothing_survives (state g.S.Store c.args.desk.now)
+          (MayCommitReply said (state g.S.Store c.args.desk.now) (plain_reply c.reply.result));
       step = λ clean office now. (
         office,
         subst (λ (r : PlainReply). RepliesTo said office r office) (sym c.reply.ensures)

@@ -15,7 +15,8 @@ returns-in-Ok-Ok g c =
     (subst (CommandAnswered g.S.Store caller command c.self.inside.office c.perform.new.office)
     (sym c.into_answer.ensures)
     (performed_answered g.S.Store caller command c.self.inside.office c.permission.new.office
-    c.perform.new.office _ c.in-Ok-Ok.field-0-is c.in-Ok-Ok.ensures _ c.perform.ensures))
+    c.permission.ensures.leaves c.perform.new.office _ c.in-Ok-Ok.field-0-is
+    c.in-Ok-Ok.ensures.asked _ c.perform.ensures))
 
 pub returns-in-Ok-Err : goal.returns-in-Ok-Err
 returns-in-Ok-Err g c =
@@ -24,7 +25,8 @@ returns-in-Ok-Err g c =
     subst (λ h. CommandAnswered g.S.Store caller command h c.permission.new.office
     (denied c.in-Ok-Err.denial)) c.self.view_is
     (denied_answered g.S.Store caller command c.self.inside.office c.permission.new.office
-    _ c.in-Ok-Err.denial c.in-Ok-Err.field-0-is c.in-Ok-Err.ensures)
+    c.permission.ensures.leaves _ c.in-Ok-Err.denial c.in-Ok-Err.field-0-is
+    c.in-Ok-Err.ensures.asked)
 
 pub returns-in-Err : goal.returns-in-Err
 returns-in-Err g c =
@@ -35,4 +37,4 @@ returns-in-Err g c =
     (subst (CommandAnswered g.S.Store caller command c.self.inside.office c.permission.new.office)
     (sym c.from.ensures)
     (failed_answered g.S.Store caller command c.self.inside.office c.permission.new.office
-    c.in-Err.fault c.in-Err.ensures))
+    c.permission.ensures.leaves c.in-Err.fault c.in-Err.ensures.asked))
