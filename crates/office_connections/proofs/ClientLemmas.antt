@@ -1,10 +1,8 @@
 -- Clients one after another, and the lines of their connections' faults.
-use Rattle.std.proofs.Common.{◌≡◌, ℕ, ◌+◌, ◌≤◌, Bool, false, List, [], ◌∷◌, ◌++◌, map, length}
-use Rattle.std.proofs.Common.{Option, Some, Result, Ok, Err, IfOk, IfErr, refl, sym, ap, subst}
-use Rattle.std.proofs.Common.{◌∙◌, arith}
-use Rattle.std.proofs.lemmas.List.{map-append}
+use Rattle.std.proofs.Common.{◌≡◌, ℕ, ◌+◌, ◌<◌, ◌≤◌, ◌⊎◌, Bool, false, true, List, [], ◌∷◌, ◌++◌, length}
+use Rattle.std.proofs.Common.{Option, None, Result, Ok, Err, IfOk, IfErr, IsTrue, refl, sym, subst}
+use Rattle.std.proofs.Common.{◌∙◌, arith, inl, inr}
 use Rattle.std.specs.Io.KnownBytes.{Appends}
-use Rattle.std.specs.Iterator.{Yields}
 use Rattle.office_messages.specs.declared.connection.Served.{Served}
 use Rattle.office_messages.specs.declared.connection.ServeFault.{ServeFault}
 use Rattle.office_messages.specs.Reply.{PlainReply}
@@ -13,48 +11,81 @@ use Rattle.office_messages.specs.Stream.{PlainRequest}
 use Rattle.office_messages.specs.Visits.{ServesVisit, ServesVisits, Visit, faults_of, with_fault}
 use Rattle.office_messages.proofs.RunLemmas.{trace_keeps}
 use Rattle.office_messages.proofs.VisitLemmas.{faults_more}
-use Rattle.office_connections.specs.Clients.{CameBetween, IsNextConnection, ServesClients, ServesWhileOpen}
+use Rattle.office_connections.specs.Clients.{AreOfClients, CameBetween, IsNextConnection, ServesClients}
+use Rattle.office_connections.specs.Clients.{ServesPlan, ServesPlanned, ServesWhileOpen}
 use Rattle.office_connections.specs.Lines.{PrintsFaults, fault_lines}
 use Rattle.office_connections.specs.declared.accepting.Service.{Service}
+use Rattle.office_connections.specs.declared.running.RunFault.{RunFault}
+use Rattle.office_connections.specs.declared.running.RunFault.TheVariants.{Listen, Shut}
 use Rattle.office_connections.proofs.LineLemmas.{more_lines}
 
-yields_more : {I A : Type 0} (gives : I → Option A → I → Type 0) (xs : List A) (x : A)
-    (start last next : I) → Yields gives start xs last → gives last (Some x) next
-    → Yields gives start (xs ++ x ∷ []) next
-yields_more gives [] x start last next is gave =
-    (next, subst (λ i. gives i (Some x) next) (sym is) gave, refl)
-yields_more gives (y ∷ xs) x start last next (mid, first, rest) gave =
-    (mid, first, yields_more gives xs x mid last next rest gave)
-
-module _ {I R W : Type 0} (gives : I → Option (R × W) → I → Type 0)
+module _ {I R W : Type 0} (accepts : I → Option (R × W) → I → Type 0)
+    (takes_back : I → W → I → Type 0)
     (remaining : R → Option (List ℕ)) (contents : W → Option (List ℕ)) where
-  pub no_client : (start : I) → CameBetween gives remaining contents start [] start
-  no_client start = record { clients = []; came = refl; inputs = refl; befores = refl }
-
   -- one more client
   pub came_more : (start last next : I) (vs : List Visit) (v : Visit)
-      → CameBetween gives remaining contents start vs last
-      → IsNextConnection gives remaining contents last v next
-      → CameBetween gives remaining contents start (vs ++ v ∷ []) next
-  came_more start last next vs v x y = record {
-    clients = x.clients ++ (y.from, y.to) ∷ [];
-    came = yields_more gives x.clients (y.from, y.to) start last next x.came y.came;
-    inputs = map-append (λ v. v.input) vs (v ∷ [])
-        ∙ ap (λ l. l ++ v.input ∷ []) x.inputs
-        ∙ ap (λ i. map (λ c. remaining c.0) x.clients ++ i ∷ []) y.input
-        ∙ sym (map-append (λ c. remaining c.0) x.clients ((y.from, y.to) ∷ []));
-    befores = map-append (λ v. v.before) vs (v ∷ [])
-        ∙ ap (λ l. l ++ v.before ∷ []) x.befores
-        ∙ ap (λ i. map (λ c. contents c.1) x.clients ++ i ∷ []) y.before
-        ∙ sym (map-append (λ c. contents c.1) x.clients ((y.from, y.to) ∷ []));
-  }
+      → CameBetween accepts takes_back remaining contents start vs last
+      → IsNextConnection accepts takes_back remaining contents last v next
+      → CameBetween accepts takes_back remaining contents start (vs ++ v ∷ []) next
+  came_more start last next [] v is y = (
+    next,
+    subst (λ i. IsNextConnection accepts takes_back remaining contents i v next) is y,
+    refl,
+  )
+  came_more start last next (w ∷ vs) v (mid, first, rest) y =
+      (mid, first, came_more mid last next vs v rest y)
+
+  module _ (Serve : List Visit → Type 0) (is_shut : Bool) (connections : ℕ) (service : Service)
+      (errors_old errors_new : Option (List ℕ)) where
+    abbrev Came : I → I → Type 0
+    Came start last = ServesClients
+        (λ has_failed visits. CameBetween accepts takes_back remaining contents start visits last)
+        Serve service errors_old errors_new
+
+    abbrev Planned : I → I → Type 0
+    Planned start new = ServesPlanned (AreOfClients accepts takes_back remaining contents start new)
+        Serve is_shut connections service errors_old errors_new
+
+    -- no accept failed
+    pub all_accepted : (start new : I) → Came start new → service.accepted ≤ connections
+        → (service.accepted < connections → IsTrue is_shut) → Planned start new
+    all_accepted start new x most all = record {
+      serves = record {
+        visits = x.visits;
+        has_failed = false;
+        theirs = x.theirs;
+        count = x.count;
+        served = x.served;
+        printed = x.printed;
+      };
+      most = most;
+      all = λ none fewer. all fewer;
+      failed = λ is. let never : true ≡ false = sym is in cc;
+    }
+
+    -- the last accept failed
+    pub last_failed : (start last new : I) → Came start last → accepts last None new
+        → service.accepted < connections → is_shut ≡ false → Planned start new
+    last_failed start last new x none fewer opened = record {
+      serves = record {
+        visits = x.visits;
+        has_failed = true;
+        theirs = (last, x.theirs, none);
+        count = x.count;
+        served = x.served;
+        printed = x.printed;
+      };
+      most = omega (arith, fewer);
+      all = λ is. let never : true ≡ false = is in cc;
+      failed = λ is. (fewer, opened);
+    }
 
 module _ {S : Type 0} (Answers : S → PlainRequest → PlainReply → S → Type 0) where
   module _ (is_shut : S → Bool) where
     -- one more connection
     pub open_more : (vs : List Visit) (v : Visit) (old mid new : S)
-        → ServesWhileOpen Answers is_shut vs old mid → is_shut mid ≡ false
-        → ServesVisit Answers v mid new → ServesWhileOpen Answers is_shut (vs ++ v ∷ []) old new
+        → ServesWhileOpen Answers is_shut old mid vs → is_shut mid ≡ false
+        → ServesVisit Answers v mid new → ServesWhileOpen Answers is_shut old new (vs ++ v ∷ [])
     open_more [] v old mid new is opened served = (
       subst (λ (s : S). is_shut s ≡ false) is opened,
       new,
@@ -66,7 +97,7 @@ module _ {S : Type 0} (Answers : S → PlainRequest → PlainReply → S → Typ
 
     -- they were served
     pub served_open : (vs : List Visit) (old new : S)
-        → ServesWhileOpen Answers is_shut vs old new → ServesVisits Answers vs old new
+        → ServesWhileOpen Answers is_shut old new vs → ServesVisits Answers vs old new
     served_open [] old new is = is
     served_open (v ∷ vs) old new (was, mid, first, rest) =
         (mid, first, served_open vs mid new rest)
@@ -110,29 +141,77 @@ few_faults : (vs : List Visit) → length (faults_of vs) ≤ length vs
 few_faults [] = omega arith
 few_faults (v ∷ vs) = omega (arith, one_fault v.ended (faults_of vs), few_faults vs)
 
-module _ {S T : Type 0} (AreTheirs : List Visit → Type 0) where
-  -- a consequence for the served connections holds for all
-  pub clients_follow : (Serve : List Visit → S → S → Type 0) (Others : List Visit → T → T → Type 0)
-      (old new : S) (start end : T)
-      → ((vs : List Visit) → Serve vs old new → Others vs start end)
-      → (service : Service) (errors_old errors_new : Option (List ℕ))
-      → ServesClients AreTheirs Serve service old new errors_old errors_new
-      → ServesClients AreTheirs Others service start end errors_old errors_new
-  clients_follow Serve Others old new start end follows service errors_old errors_new x = record {
-    visits = x.visits;
-    theirs = x.theirs;
-    count = x.count;
-    served = follows x.visits x.served;
-    printed = x.printed;
+none_failed : (b is_shut : Bool) (n most : ℕ) → (IsTrue b → (n < most) × (is_shut ≡ false))
+    → (n ≡ most) ⊎ IsTrue is_shut → b ≡ false
+none_failed false is_shut n most failed other = refl
+none_failed true is_shut n most failed (inl all) = absurd (omega (arith, (failed refl).0, all))
+none_failed true is_shut n most failed (inr shut) =
+    let never : true ≡ false = sym shut ∙ (failed refl).1 in absurd cc
+
+one_failed : (b is_shut : Bool) (n most : ℕ) → (b ≡ false → n < most → IsTrue is_shut)
+    → n < most → is_shut ≡ false → IsTrue b
+one_failed true is_shut n most all fewer opened = refl
+one_failed false is_shut n most all fewer opened =
+    let never : true ≡ false = sym (all refl fewer) ∙ opened in absurd cc
+
+module _ (AreTheirs : Bool → List Visit → Type 0) (Serve : List Visit → Type 0) (is_shut : Bool)
+    (connections : ℕ) (service : Service) (errors_old errors_new : Option (List ℕ))
+    (x : ServesPlanned AreTheirs Serve is_shut connections service errors_old errors_new) where
+  -- the run of a machine that is open
+  pub ran : is_shut ≡ false → (outcome : Result ℕ RunFault)
+      → IfOk outcome (λ unwritten.
+      (service.accepted ≡ connections) × (service.unwritten ≡ unwritten))
+      → IfErr outcome (λ fault. (fault ≡ Listen) × (service.accepted < connections))
+      → ServesPlan AreTheirs Serve is_shut connections outcome errors_old errors_new
+  ran opened (Ok unwritten) all fewer = record {
+    service = service;
+    most = x.most;
+    serves = x.serves;
+    all = (all.0, all.1, none_failed _ _ _ _ x.failed (inl all.0), opened);
+    fewer = tt;
+  }
+  ran opened (Err fault) all fewer = record {
+    service = service;
+    most = x.most;
+    serves = x.serves;
+    all = tt;
+    fewer = inr (inl (fewer.0, fewer.1, one_failed _ _ _ _ x.all fewer.1 opened, opened));
   }
 
+  -- the run of a machine that is shut
+  pub ran_shut : IsTrue is_shut
+      → ServesPlan AreTheirs Serve is_shut connections (Err Shut) errors_old errors_new
+  ran_shut shut = record {
+    service = service;
+    most = x.most;
+    serves = x.serves;
+    all = tt;
+    fewer = inr (inr (refl, none_failed _ _ _ _ x.failed (inr shut), shut));
+  }
+
+-- a consequence for the served connections holds for all
+pub clients_follow : (AreTheirs Those : Bool → List Visit → Type 0)
+    (Serve Others : List Visit → Type 0)
+    → ((has_failed : Bool) (vs : List Visit) → AreTheirs has_failed vs → Those has_failed vs)
+    → ((vs : List Visit) → Serve vs → Others vs)
+    → (service : Service) (errors_old errors_new : Option (List ℕ))
+    → ServesClients AreTheirs Serve service errors_old errors_new
+    → ServesClients Those Others service errors_old errors_new
+clients_follow AreTheirs Those Serve Others those follows service errors_old errors_new x = record {
+  visits = x.visits;
+  has_failed = x.has_failed;
+  theirs = those x.has_failed x.visits x.theirs;
+  count = x.count;
+  served = follows x.visits x.served;
+  printed = x.printed;
+}
+
 -- the lines that were printed are those of at most as many faults as clients were served
-pub prints_faults : {S : Type 0} (AreTheirs : List Visit → Type 0)
-    (Serve : List Visit → S → S → Type 0) (service : Service) (old new : S)
-    (errors_old errors_new : Option (List ℕ))
-    → ServesClients AreTheirs Serve service old new errors_old errors_new
+pub prints_faults : (AreTheirs : Bool → List Visit → Type 0) (Serve : List Visit → Type 0)
+    (service : Service) (errors_old errors_new : Option (List ℕ))
+    → ServesClients AreTheirs Serve service errors_old errors_new
     → service.unwritten ≡ 0 → PrintsFaults service.accepted errors_old errors_new
-prints_faults AreTheirs Serve service old new errors_old errors_new x none = (
+prints_faults AreTheirs Serve service errors_old errors_new x none = (
   faults_of x.visits,
   omega (arith, few_faults x.visits, x.count),
   x.printed none,

@@ -1,11 +1,12 @@
 // Clients, one after another.
-ghost use Rattle.std.specs.Prelude.{◌≡◌, ◌<◌, ◌≤◌, ◌⊎◌, [], IfNone, IfSome, IsTrue, None, OnOk};
+ghost use Rattle.std.specs.Prelude.{◌≡◌, [], IfNone, IfSome, IsTrue, None, OnOk};
 ghost use Rattle.std.specs.Io.KnownBytes.{Appends};
 ghost use Rattle.office_messages.specs.Visits.{ServesVisit, Visit, with_fault};
 ghost use Rattle.office_connections.specs.Lines.{connection_fault_number, fault_line, fault_lines};
-ghost use Rattle.office_connections.specs.Clients.{AreOfClients, IsNextConnection, ServesClients};
+ghost use Rattle.office_connections.specs.Clients.{AreOfClients, IsNextConnection, ServesPlanned};
 ghost use Rattle.office_connections.specs.Clients.{ServesWhileOpen};
 
+use crate::clients::Clients;
 use crate::serving::answer_client;
 use crate::shutting::MayShut;
 use crate::timed::Timed;
@@ -42,19 +43,16 @@ pub fn accept_all<
     M: Machine + MayShut,
     R: Read + Timed + Drop,
     W: Write + Timed + Drop,
-    I: Iterator<Item = (R, W)>,
+    I: Clients<Reader = R, Writer = W>,
     E: Write,
 >(alloc: Global, clock: &C, clients: &mut I, plan: Plan, machine: &mut M, err: &mut E) -> Service
-    requires { I.can_next clients.old }
-
-    // One machine serves all clients in turn, and its replies are written to each client. It was
-    // open before each of them.
-    ensures served { ServesClients (AreOfClients I.next_gives R.remaining W.contents clients.old)
-        (ServesWhileOpen M.Answers M.is_shut) result machine.old machine.new
-        (E.contents err.old) (E.contents err.new) }
-    ensures most { result.accepted ≤ plan.connections }
-    ensures all { result.accepted < plan.connections → IsTrue (M.is_shut machine.new)
-        ⊎ ((last : I) × I.next_gives last None clients.new) }
+    // One machine serves all clients in turn, and was open before each of them. What is added to a
+    // client's writer until it is handed back are the machine's replies to that client's messages.
+    // As many clients are served as planned, unless an accept failed or the machine is shut.
+    ensures served { ServesPlanned
+        (AreOfClients I.accepts I.takes_back R.remaining W.contents clients.old clients.new)
+        (ServesWhileOpen M.Answers M.is_shut machine.old machine.new) (M.is_shut machine.new)
+        plan.connections result (E.contents err.old) (E.contents err.new) }
 {
     let mut service = Service {
         accepted: 0,
@@ -71,14 +69,14 @@ pub fn accept_all<
     service
 }
 
-// Serves the next client, if there is one, and prints the fault of its connection. Returns whether
-// there is no line, or it was written.
+// Serves the next client, if there is one, hands its writer back, and prints the fault of its
+// connection. Returns whether there is no line, or it was written.
 fn accept_next<
     C: Clock,
     M: Machine,
     R: Read + Timed + Drop,
     W: Write + Timed + Drop,
-    I: Iterator<Item = (R, W)>,
+    I: Clients<Reader = R, Writer = W>,
     E: Write,
 >(
     alloc: Global,
@@ -88,18 +86,18 @@ fn accept_next<
     machine: &mut M,
     err: &mut E,
 ) -> Option<bool>
-    requires { I.can_next clients.old }
     ensures some { IfSome result (λ is_err_written. (visit : Visit)
-        × IsNextConnection I.next_gives R.remaining W.contents clients.old visit clients.new
+        × IsNextConnection I.accepts I.takes_back R.remaining W.contents
+        clients.old visit clients.new
         × ServesVisit M.Answers visit machine.old machine.new
         × (IsTrue is_err_written → Appends (E.contents err.old) (E.contents err.new)
         (fault_lines (with_fault visit.ended [])))) }
-    ensures none { IfNone result (I.next_gives clients.old None clients.new
+    ensures none { IfNone result (I.accepts clients.old None clients.new
         × (machine.new ≡ machine.old) × (err.new ≡ err.old)) }
-    ensures goes { IfSome result (λ _. I.can_next clients.new) }
 {
-    let (from, to) = clients.next()?;
-    let (served, _) = answer_client(alloc, clock, from, to, machine, patience);
+    let (from, to) = clients.accept()?;
+    let (served, written) = answer_client(alloc, clock, from, to, machine, patience);
+    clients.hand_back(written);
     match served {
         Ok(_) => Some(true),
         Err(fault) => Some(print_fault(fault, err).is_ok()),

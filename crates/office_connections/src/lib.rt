@@ -2,6 +2,7 @@
 #![tactic(auto)]
 
 mod accepting;
+mod clients;
 mod listening;
 mod pace;
 mod paced;
@@ -11,7 +12,8 @@ mod shutting;
 mod timed;
 
 pub use accepting::{Plan, Service, accept_all};
-pub use listening::{Listening, MAX_PORT, Sockets, announce, listen};
+pub use clients::Clients;
+pub use listening::{Listening, MAX_PORT, Ports, Sockets, announce};
 pub use running::{RunFault, announce_and_accept};
 pub use serving::answer_client;
 pub use shutting::MayShut;

@@ -1,43 +1,58 @@
 // The port, and the clients that connect to it.
-ghost use Rattle.std.specs.Prelude.{IfOk, OnOk};
+ghost use Rattle.std.specs.Prelude.{ℕ, IfOk, OnOk};
 ghost use Rattle.std.specs.Io.KnownBytes.{Appends};
 ghost use Rattle.office_connections.specs.Lines.{IsPortOf, listening_line};
 
+use crate::clients::Clients;
 use std::io;
 use std::io::Write;
-use std::net::{Ipv4Addr, Net, SocketAddr, TcpListener, TcpStream};
+use std::net::{Ipv4Addr, SocketAddr, TcpListener, TcpStream};
 
 /// The greatest port.
 pub const MAX_PORT: u32 = 65_535;
 
-/// A port of 127.0.0.1 that is listened on.
-#[derive(Drop)]
-pub struct Listening {
-    /// The number of the port.
-    pub port: u16,
-    listener: TcpListener,
+/// Ports that can be listened on.
+pub trait Ports {
+    /// The clients that connect to a port.
+    type Opened: Clients + Drop;
+
+    // Listening on this port, 0 for any, gives these clients.
+    ghost opens: { Self → ℕ → Self.Opened → Type 0 };
+
+    /// Listens on this port; 0 means any free port.
+    fn listen(&self, port: u16) -> io::Result<Listening<Self::Opened>>
+        ensures port { IfOk result (λ listening. IsPortOf port listening.port) }
+        ensures opened { IfOk result (λ listening. opens self.now port listening.clients) };
 }
 
-impl Listening {
-    /// Returns the clients that connect.
-    pub fn clients(&self) -> Sockets<'_> {
-        Sockets {
-            listener: &self.listener,
-        }
-    }
+/// A port that is listened on.
+#[derive(Drop)]
+pub struct Listening<I: Drop> {
+    /// The number of the port.
+    pub port: u16,
+    /// The clients that connect to it.
+    pub clients: I,
 }
 
 /// Clients over sockets, as they are accepted: each is a reader and a writer of one socket. There
 /// is no further client if an accept fails.
 #[derive(Drop)]
-pub struct Sockets<'a> {
-    listener: &'a TcpListener,
+pub struct Sockets {
+    listener: TcpListener,
 }
 
-impl Iterator for Sockets<'_> {
-    type Item = (TcpStream, TcpStream);
+impl Clients for Sockets {
+    ghost use Rattle.std.specs.Prelude.{⊤};
 
-    fn next(&mut self) -> Option<(TcpStream, TcpStream)> {
+    type Reader = TcpStream;
+
+    type Writer = TcpStream;
+
+    ghost accepts = { λ old client new. ⊤ };
+
+    ghost takes_back = { λ old to new. ⊤ };
+
+    fn accept(&mut self) -> Option<(TcpStream, TcpStream)> {
         let (writer, _) = self.listener.accept().ok()?;
         // A reply doesn't wait for the acknowledgment of the one before; otherwise replies are
         // slower.
@@ -45,24 +60,30 @@ impl Iterator for Sockets<'_> {
         let reader = writer.try_clone().ok()?;
         Some((reader, writer))
     }
+
+    // The socket is closed.
+    fn hand_back(&mut self, _to: TcpStream) {}
 }
 
-/// Listens on this port of 127.0.0.1; 0 means any free port.
-pub fn listen<R: Net<Listener = TcpListener, Stream = TcpStream>>(
-    net: &R,
-    port: u16,
-) -> io::Result<Listening>
-    ensures port { IfOk result (λ listening. IsPortOf port listening.port) }
-{
-    let listener = TcpListener::bind(net, SocketAddr::from((Ipv4Addr::LOCALHOST, port)))?;
-    let found = match port {
-        0 => listener.local_addr()?.port(),
-        asked => asked,
-    };
-    Ok(Listening {
-        port: found,
-        listener,
-    })
+// The system's ports, of 127.0.0.1 only.
+impl Ports for HostRuntime {
+    ghost use Rattle.std.specs.Prelude.{⊤};
+
+    type Opened = Sockets;
+
+    ghost opens = { λ net port clients. ⊤ };
+
+    fn listen(&self, port: u16) -> io::Result<Listening<Sockets>> {
+        let listener = TcpListener::bind(self, SocketAddr::from((Ipv4Addr::LOCALHOST, port)))?;
+        let found = match port {
+            0 => listener.local_addr()?.port(),
+            asked => asked,
+        };
+        Ok(Listening {
+            port: found,
+            clients: Sockets { listener },
+        })
+    }
 }
 
 /// Prints `listening 127.0.0.1:PORT` and flushes.

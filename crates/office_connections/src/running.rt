@@ -5,6 +5,7 @@ ghost use Rattle.office_connections.specs.Lines.{listening_line};
 ghost use Rattle.office_connections.specs.Clients.{AreOfClients, ServesPlan, ServesWhileOpen};
 
 use crate::accepting::{Plan, Service, accept_all};
+use crate::clients::Clients;
 use crate::listening::announce;
 use crate::shutting::MayShut;
 use crate::timed::Timed;
@@ -32,7 +33,7 @@ pub fn announce_and_accept<
     M: Machine + MayShut,
     R: Read + Timed + Drop,
     W: Write + Timed + Drop,
-    I: Iterator<Item = (R, W)>,
+    I: Clients<Reader = R, Writer = W>,
     O: Write,
     E: Write,
 >(
@@ -45,10 +46,11 @@ pub fn announce_and_accept<
     out: &mut O,
     err: &mut E,
 ) -> Result<u32, RunFault>
-    requires { I.can_next clients.old }
-    ensures served { ServesPlan (AreOfClients I.next_gives R.remaining W.contents clients.old)
-        (ServesWhileOpen M.Answers M.is_shut) M.is_shut plan.connections result
-        machine.old machine.new (E.contents err.old) (E.contents err.new) }
+    // As for `accept_all`. If fewer clients were served than planned, the fault says why.
+    ensures served { ServesPlan
+        (AreOfClients I.accepts I.takes_back R.remaining W.contents clients.old clients.new)
+        (ServesWhileOpen M.Answers M.is_shut machine.old machine.new) (M.is_shut machine.new)
+        plan.connections result (E.contents err.old) (E.contents err.new) }
     ensures port { IfOk result (λ _. Appends (O.contents out.old) (O.contents out.new)
         (listening_line port)) }
     ensures unaccepted { IfErr result (λ fault. fault ≢ RunFault.Write

@@ -5,13 +5,12 @@ use Rattle.office_connections.proofs.accepting.accept_all.Given as goal
 -- each client so far was served
 abbrev pub invariant-loop-service : goal.invariant-loop-service
 invariant-loop-service g l = record {
-  callable : g.I.Iterator.can_next l.clients;
   most : l.service.accepted ≤ l.plan.connections;
   unwritten : l.service.unwritten ≤ l.service.accepted;
-  served : ServesClients (λ visits. CameBetween g.I.Iterator.next_gives g.R.Read.remaining
-      g.W.Write.contents l.fn.clients visits l.clients)
-      (ServesWhileOpen g.M.Machine.Answers g.M.MayShut.is_shut)
-      l.service l.fn.machine l.machine (g.E.Write.contents l.fn.err) (g.E.Write.contents l.err);
+  served : ServesClients (λ has_failed visits. CameBetween g.I.Clients.accepts
+      g.I.Clients.takes_back g.R.Read.remaining g.W.Write.contents l.fn.clients visits l.clients)
+      (ServesWhileOpen g.M.Machine.Answers g.M.MayShut.is_shut l.fn.machine l.machine)
+      l.service (g.E.Write.contents l.fn.err) (g.E.Write.contents l.err);
 }
 
 abbrev pub decreases-loop-service : goal.decreases-loop-service

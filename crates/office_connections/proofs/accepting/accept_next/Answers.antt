@@ -22,9 +22,13 @@ returns-in-Ok g c =
         record {
           from = client.from;
           to = client.to;
-          came = client.ensures.steps;
+          during = _;
+          accepted = client.ensures;
           input = refl;
           before = refl;
+          written = served.result.1;
+          back = c.hand_back.ensures;
+          after = refl;
         },
         (served.ensures.ok, served.ensures.err),
         λ trace. subst (λ ended. Appends (g.E.Write.contents c.args.err.now)
@@ -32,7 +36,6 @@ returns-in-Ok g c =
             (sym c.in-Ok.is) (Appends-nil _),
       );
       none = tt;
-      goes = client.ensures.goes.keeps;
     }
 
 -- the line of a connection that ended with a fault was printed
@@ -51,9 +54,13 @@ returns-in-Err g c =
         record {
           from = client.from;
           to = client.to;
-          came = client.ensures.steps;
+          during = _;
+          accepted = client.ensures;
           input = refl;
           before = refl;
+          written = served.result.1;
+          back = c.hand_back.ensures;
+          after = refl;
         },
         (served.ensures.ok, served.ensures.err),
         λ trace. subst (λ ended. Appends (g.E.Write.contents c.args.err.now)
@@ -62,5 +69,4 @@ returns-in-Err g c =
             (one_line _ _ _ _ c.print_fault.ensures _ c.is_ok.ensures.value trace),
       );
       none = tt;
-      goes = client.ensures.goes.keeps;
     }
