@@ -1,5 +1,5 @@
 // The port, and the clients that connect to it.
-ghost use Rattle.std.specs.Prelude.{ℕ, IfOk, OnOk};
+ghost use Rattle.std.specs.Prelude.{ℕ, IfErr, IfOk, None, OnOk, Option, Some};
 ghost use Rattle.std.specs.Io.KnownBytes.{Appends};
 ghost use Rattle.office_connections.specs.Lines.{IsPortOf, listening_line};
 
@@ -16,13 +16,15 @@ pub trait Ports {
     /// The clients that connect to a port.
     type Opened: Clients + Drop;
 
-    // Listening on this port, 0 for any, gives these clients.
-    ghost opens: { Self → ℕ → Self.Opened → Type 0 };
+    // Listening on this port, 0 for any, gives these clients; none if it failed.
+    ghost opens: { Self → ℕ → Option Self.Opened → Type 0 };
 
     /// Listens on this port; 0 means any free port.
     fn listen(&self, port: u16) -> io::Result<Listening<Self::Opened>>
         ensures port { IfOk result (λ listening. IsPortOf port listening.port) }
-        ensures opened { IfOk result (λ listening. opens self.now port listening.clients) };
+        ensures opened { IfOk result (λ listening.
+            opens self.now port (Some listening.clients)) }
+        ensures failed { IfErr result (λ _. opens self.now port None) };
 }
 
 /// A port that is listened on.

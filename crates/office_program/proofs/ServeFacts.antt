@@ -1,6 +1,6 @@
 -- Facts of an office, from the connections that it served.
-use Rattle.std.proofs.Common.{◌≡◌, ◌≢◌, ◌⊎◌, ◌∙◌, ℕ, Bool, true, false, List, [], Option, Result}
-use Rattle.std.proofs.Common.{Ok, Err, IfErr, IfOk, IsTrue, arith, inl, inr, refl, subst, sym}
+use Rattle.std.proofs.Common.{◌≡◌, ◌≢◌, ◌⊎◌, ◌∙◌, ℕ, ◌<◌, Bool, true, false, List, [], Option}
+use Rattle.std.proofs.Common.{Result, Ok, Err, IfErr, IfOk, IsTrue, arith, inl, inr, refl, subst, sym}
 use Rattle.std.proofs.lemmas.List.Elements.{All-nil}
 use Rattle.std.specs.Prelude.{MatchBool}
 use Rattle.std.specs.Io.KnownBytes.{Appends, Keeps}
@@ -19,16 +19,19 @@ use Rattle.office_http.proofs.ClientLemmas.{visits_by_view}
 use Rattle.office_messages.specs.Reply.{PlainReply}
 use Rattle.office_messages.specs.Stream.{PlainRequest}
 use Rattle.office_messages.specs.Visits.{Visit, ServesVisits}
+use Rattle.office_messages.specs.declared.statuses.Status.{Status}
+use Rattle.office_messages.specs.declared.statuses.Status.TheVariants as status
 use Rattle.office_messages.proofs.RunLemmas.{Lends}
 use Rattle.office_messages.proofs.VisitLemmas.{lent_visits, visits_along}
 use Rattle.office_model.specs.Office.{OfficeState}
+use Rattle.office_model.specs.declared.fault.StoreFault.{StoreFault}
 use Rattle.office_store.specs.Running.{IsCommitted, OfficeUnchanged}
 use Rattle.office_store.proofs.RunLemmas.{now_still}
-use Rattle.office_program.specs.Serve.{IsStoreShut, LeavesPort, OfficeServes}
-use Rattle.office_program.specs.Serve.{PrintsServed, ServesTerms}
+use Rattle.office_program.specs.Serve.{AsksWhetherShut, IsStoreShut, LeavesPort, OfficeServes}
+use Rattle.office_program.specs.Serve.{PrintsServed, SaysWhetherShut, ServesTerms, is_said_shut}
 use Rattle.office_program.specs.declared.ending.Ending.{Ending}
 use Rattle.office_program.specs.declared.faults.ProgramFault.{ProgramFault}
-use Rattle.office_program.specs.declared.faults.ProgramFault.TheVariants.{CannotWrite}
+use Rattle.office_program.specs.declared.faults.ProgramFault.TheVariants.{CannotListen, CannotWrite}
 use Rattle.office_program.specs.declared.words.Terms.{Terms}
 
 -- the case of a bool that is true
@@ -40,29 +43,79 @@ if_so false so P Q h = absurd cc
 pub nobody_served : (office : OfficeState) → ServesAllByView [] office office
 nobody_served office = (refl, All-nil RepliesOwnView)
 
-module _ {S : Type 0} (store : Ghosts S) where
-  pub serves_nobody : (AreTheirs : List Visit → Type 0) (terms : Terms) (shown : ProgramFault)
-      (old : Held S) (errors : Option (List ℕ)) → AreTheirs []
-      → ServesTerms store AreTheirs terms (Err shown) old old errors errors
-  serves_nobody AreTheirs terms shown old errors theirs = record {
+module _ (AreTheirs : Bool → List Visit → Type 0) (Serve : List Visit → Type 0)
+    (IsClosed : Type 0) (terms : Terms) (errors : Option (List ℕ)) where
+  -- no client was served, because of another fault than of listening
+  pub serves_nobody : AreTheirs false [] → Serve [] → (shown : ProgramFault)
+      → shown ≢ CannotListen
+      → ServesTerms AreTheirs Serve IsClosed terms (Err shown) errors errors
+  serves_nobody theirs served shown other = record {
     service = record { accepted = 0; unwritten = 0 };
     most = omega arith;
     serves = record {
       visits = [];
+      has_failed = false;
       theirs = theirs;
       count = refl;
-      served = record {
-        clean = λ clean. clean;
-        runs = λ clean office now. (office, nobody_served office, now);
-      };
+      served = served;
       printed = λ none. Appends-nil errors;
     };
     all = tt;
-    fewer = inl refl;
+    fewer = inl (other, refl, refl);
   }
 
+  -- no client was served, because listening failed
+  pub nobody_comes : AreTheirs true [] → Serve []
+      → ServesTerms AreTheirs Serve IsClosed terms (Err CannotListen) errors errors
+  nobody_comes theirs served = record {
+    service = record { accepted = 0; unwritten = 0 };
+    most = omega arith;
+    serves = record {
+      visits = [];
+      has_failed = true;
+      theirs = theirs;
+      count = refl;
+      served = served;
+      printed = λ none. Appends-nil errors;
+    };
+    all = tt;
+    fewer = inr (inl (refl, refl, inl refl));
+  }
+
+-- consequences for the connections, and for a closed store, hold for a run
+pub terms_follow : (AreTheirs Those : Bool → List Visit → Type 0)
+    (Serve Others : List Visit → Type 0) (IsClosed IsGone : Type 0)
+    → ((has_failed : Bool) (vs : List Visit) → AreTheirs has_failed vs → Those has_failed vs)
+    → ((vs : List Visit) → Serve vs → Others vs) → (IsClosed → IsGone)
+    → (terms : Terms) (outcome : Result Ending ProgramFault) (errors_old errors_new : Option (List ℕ))
+    → ServesTerms AreTheirs Serve IsClosed terms outcome errors_old errors_new
+    → ServesTerms Those Others IsGone terms outcome errors_old errors_new
+terms_follow AreTheirs Those Serve Others IsClosed IsGone those follows gone terms (Ok ending)
+    errors_old errors_new x = record {
+      service = x.service;
+      most = x.most;
+      serves = clients_follow AreTheirs Those Serve Others those follows x.service errors_old
+          errors_new x.serves;
+      all = x.all;
+      fewer = tt;
+    }
+terms_follow AreTheirs Those Serve Others IsClosed IsGone those follows gone terms (Err shown)
+    errors_old errors_new x = record {
+      service = x.service;
+      most = x.most;
+      serves = clients_follow AreTheirs Those Serve Others those follows x.service errors_old
+          errors_new x.serves;
+      all = tt;
+      fewer = elim x.fewer [
+        | inl nobody ↦ inl nobody
+        | inr (inl failed) ↦ inr (inl failed)
+        | inr (inr closed) ↦ inr (inr (closed.0, closed.1, gone closed.2))
+      ];
+    }
+
+module _ {S : Type 0} (store : Ghosts S) where
   -- a request that was answered is still answered after the check of the store
-  pub answered_on : (old mid new : Held S) (request : PlainRequest) (reply : PlainReply)
+  answered_on : (old mid new : Held S) (request : PlainRequest) (reply : PlainReply)
       → Answered store old request reply mid → (IsDone reply.status → new ≡ mid)
       → OfficeUnchanged store mid new
       → Answered store old request reply new
@@ -75,86 +128,117 @@ module _ {S : Type 0} (store : Ghosts S) where
         (x.all_committed (same.clean k) is);
   }
 
-  -- an answer of the machine is one of its desk, and it reports a closed store only if it is closed
+  -- a store that counts as closed is closed
+  said_right : (old new : Held S) (said : Result Bool StoreFault) (b : Bool)
+      → SaysWhetherShut store old said new → b ≡ is_said_shut said → IsTrue b
+      → IsStoreShut store new
+  said_right old new (Ok is_shut) b x is shut clean =
+      if_so is_shut (sym is ∙ shut) _ _ (x.right clean)
+  said_right old new (Err fault) b x is shut clean =
+      let never : true ≡ false = sym shut ∙ is in absurd cc
+
+  -- what holds after the desk was asked, or wasn't
+  record AfterAsking (status : Status) (mid new : Held S) (b : Bool) : Type 0 where
+    done : IsDone status → new ≡ mid
+    unchanged : OfficeUnchanged store mid new
+    shut : IsTrue b → IsStoreShut store new
+
+  unasked : (status : Status) (mid new : Held S) (b : Bool) → (b ≡ false) × (new ≡ mid)
+      → AfterAsking status mid new b
+  unasked status mid new b x = record {
+    done = λ is. x.1;
+    unchanged = subst (OfficeUnchanged store mid) (sym x.1)
+        (record { clean = λ k. k; unchanged = λ k opened. (opened, refl) });
+    shut = λ is. let never : true ≡ false = sym is ∙ x.0 in absurd cc;
+  }
+
+  asked : (status : Status) → (IsDone status → ⊥) → (mid new : Held S) (b : Bool)
+      → (said : Result Bool StoreFault) × SaysWhetherShut store mid said new
+      × (b ≡ is_said_shut said)
+      → AfterAsking status mid new b
+  asked status refused mid new b x = record {
+    done = λ is. absurd (refused is);
+    unchanged = x.1.unchanged;
+    shut = said_right mid new x.0 b x.1 x.2;
+  }
+
+  after_asking : (status : Status) (mid new : Held S) (b : Bool)
+      → AsksWhetherShut (SaysWhetherShut store) status mid b new → AfterAsking status mid new b
+  after_asking status.Done mid new b x = unasked status.Done mid new b x
+  after_asking status.Created mid new b x = unasked status.Created mid new b x
+  after_asking status.BadRequest mid new b x = asked status.BadRequest (λ n. n) mid new b x
+  after_asking status.Forbidden mid new b x = asked status.Forbidden (λ n. n) mid new b x
+  after_asking status.NotFound mid new b x = asked status.NotFound (λ n. n) mid new b x
+  after_asking status.MethodNotAllowed mid new b x =
+      asked status.MethodNotAllowed (λ n. n) mid new b x
+  after_asking status.Conflict mid new b x = asked status.Conflict (λ n. n) mid new b x
+  after_asking status.PayloadTooLarge mid new b x =
+      asked status.PayloadTooLarge (λ n. n) mid new b x
+  after_asking status.NotImplemented mid new b x =
+      asked status.NotImplemented (λ n. n) mid new b x
+  after_asking status.ServiceUnavailable mid new b x =
+      asked status.ServiceUnavailable (λ n. n) mid new b x
+
+  -- an answer of the machine is one of its desk, which is then asked whether its store is closed
   abbrev pub Answering : {F : Type 0} → (name : F → ℕ) → (now : F → Held S) → (is_shut : F → Bool)
       → F → PlainRequest → PlainReply → F → Type 0
   Answering name now is_shut old request reply new =
-      (name new ≡ name old) × Answered store (now old) request reply (now new)
-      × (IsTrue (is_shut new) → IsStoreShut store (now new))
+      (name new ≡ name old)
+      × ((mid : Held S) × Answered store (now old) request reply mid
+      × AsksWhetherShut (SaysWhetherShut store) reply.status mid (is_shut new) (now new))
 
   -- the clients that the machine serves are served by the office
   module _ {F : Type 0} (name : F → ℕ) (now : F → Held S) (is_shut : F → Bool) (old new : F)
-      (last : Held S) (given : name old ≡ name new → last ≡ now new)
-      (AreTheirs : List Visit → Type 0)
-      (service : Service) (errors_old errors_new : Option (List ℕ))
-      (x : ServesClients AreTheirs
-      (ServesWhileOpen (Answering name now is_shut) is_shut) service old new
-      errors_old errors_new) where
+      (last : Held S) (given : name old ≡ name new → last ≡ now new) where
     abbrev Answers : F → PlainRequest → PlainReply → F → Type 0
     Answers = Answering name now is_shut
 
-    desk_visits : (vs : List Visit) → ServesWhileOpen Answers is_shut vs old new
-        → ServesVisits (Answered store) vs (now old) last
-    desk_visits vs run =
-        lent_visits name now (Answered store) old new last given vs
-        (visits_along (λ m. m) Answers (Lends name now (Answered store))
-        (λ o r reply n y. (y.0, y.1)) vs old new (served_open Answers is_shut vs old new run))
+    answers_lent : (o : F) (r : PlainRequest) (reply : PlainReply) (n : F) → Answers o r reply n
+        → Lends name now (Answered store) o r reply n
+    answers_lent o r reply n y =
+        let after = after_asking reply.status y.1.0 (now n) (is_shut n) y.1.2 in
+        (y.0, answered_on (now o) y.1.0 (now n) r reply y.1.1 after.done after.unchanged)
 
-    pub desk_serves : ServesClients AreTheirs (OfficeServes store) service (now old) last errors_old
-        errors_new
-    desk_serves =
-        clients_follow AreTheirs (ServesWhileOpen Answers is_shut) (OfficeServes store) old new
-        (now old) last (λ vs run. visits_by_view store vs (now old) last (desk_visits vs run))
-        service errors_old errors_new x
+    pub desk_serves : (vs : List Visit) → ServesWhileOpen Answers is_shut old new vs
+        → OfficeServes store (now old) last vs
+    desk_serves vs run = visits_by_view store vs (now old) last
+        (lent_visits name now (Answered store) old new last given vs
+        (visits_along (λ m. m) Answers (Lends name now (Answered store)) answers_lent vs old new
+        (served_open Answers is_shut vs old new run)))
 
     -- a store that was found closed is closed
-    pub desk_shut : is_shut old ≡ false → IsTrue (is_shut new) → IsStoreShut store last
-    desk_shut opened shut =
+    pub desk_shut : (vs : List Visit) → ServesWhileOpen Answers is_shut old new vs
+        → is_shut old ≡ false → IsTrue (is_shut new) → IsStoreShut store last
+    desk_shut vs run opened shut =
         let kept = visits_keep Answers
         (λ m. (name old ≡ name m) × (IsTrue (is_shut m) → IsStoreShut store (now m)))
-        (λ o r reply n y h. (h.0 ∙ sym y.0, y.2)) x.visits old new
-        (served_open Answers is_shut x.visits old new x.served)
+        (λ o r reply n y h. (
+          h.0 ∙ sym y.0,
+          (after_asking reply.status y.1.0 (now n) (is_shut n) y.1.2).shut,
+        )) vs old new
+        (served_open Answers is_shut vs old new run)
         (refl, λ is. let never : true ≡ false = sym is ∙ opened in absurd cc) in
         subst (IsStoreShut store) (sym (given kept.0)) (kept.1 shut)
 
-  -- the same without a condition on the clients
-  pub whoever_came : (AreTheirs : List Visit → Type 0) (terms : Terms)
-      (outcome : Result Ending ProgramFault) (old new : Held S)
-      (errors_old errors_new : Option (List ℕ))
-      → ServesTerms store AreTheirs terms outcome old new errors_old errors_new
-      → ServesTerms store (λ visits. Unit {0}) terms outcome old new errors_old errors_new
-  whoever_came AreTheirs terms outcome old new errors_old errors_new x = record {
-    service = x.service;
-    most = x.most;
-    serves = record {
-      visits = x.serves.visits;
-      theirs = tt;
-      count = x.serves.count;
-      served = x.serves.served;
-      printed = x.serves.printed;
-    };
-    all = x.all;
-    fewer = x.fewer;
-  }
-
-  -- the port was printed, and the faults of connections were
-  pub prints_served : (AreTheirs : List Visit → Type 0) (terms : Terms) (port : ℕ)
-      → IsPortOf terms.port port → (outcome : Result Ending ProgramFault) (old new : Held S)
-      (before after errors_old errors_new : Option (List ℕ))
-      → ServesTerms store AreTheirs terms outcome old new errors_old errors_new
-      → IfOk outcome (λ ending. ending.status ≡ 0)
-      → IfOk outcome (λ _. Appends before after (listening_line port))
-      → IfOk outcome (PrintsServed terms before after errors_old errors_new)
-  prints_served AreTheirs terms port is (Err shown) old new before after errors_old errors_new x
-      status line = tt
-  prints_served AreTheirs terms port is (Ok ending) old new before after errors_old errors_new x
-      status line = record {
-        status = status;
-        port = (port, is, line);
-        err_line = λ err_line. subst (λ n. PrintsFaults n errors_old errors_new) x.all.0
-            (prints_faults AreTheirs (OfficeServes store) x.service old new errors_old errors_new
-            x.serves (x.all.1 err_line));
-      }
+-- the port was printed, and the faults of connections were
+pub prints_served : (AreTheirs : Bool → List Visit → Type 0) (Serve : List Visit → Type 0)
+    (IsClosed : Type 0) (terms : Terms) (port : ℕ)
+    → IsPortOf terms.port port → (outcome : Result Ending ProgramFault)
+    (before after errors_old errors_new : Option (List ℕ))
+    → ServesTerms AreTheirs Serve IsClosed terms outcome errors_old errors_new
+    → IfOk outcome (λ ending. ending.status ≡ 0)
+    → IfOk outcome (λ _. Appends before after (listening_line port))
+    → IfOk outcome (PrintsServed terms before after errors_old errors_new)
+prints_served AreTheirs Serve IsClosed terms port is (Err shown) before after errors_old errors_new x
+    status line = tt
+prints_served AreTheirs Serve IsClosed terms port is (Ok ending) before after errors_old errors_new x
+    status line = record {
+      status = status;
+      port = (port, is, line);
+      err_line = λ err_line. subst (λ n. PrintsFaults n errors_old errors_new) x.all.0
+          (prints_faults AreTheirs Serve x.service errors_old errors_new x.serves
+          (x.all.2 err_line));
+    }
 
 -- after a fault other than of writing, `out` is unchanged, or the port was printed
 pub leaves_port : (terms : Terms) (port : ℕ) → IsPortOf terms.port port

@@ -1,55 +1,113 @@
 -- The office that a database represents after clients were served, and the lines that were printed.
-use Rattle.std.specs.Prelude.{◌≡◌, ◌≢◌, ◌<◌, ◌≤◌, ◌⊎◌, ℕ, IfErr, IfOk, IsTrue, List, Option}
-use Rattle.std.specs.Prelude.{Result, length}
+use Rattle.std.specs.Prelude.{◌≡◌, ◌≢◌, ◌<◌, ◌≤◌, ◌⊎◌, ℕ, Bool, false, true, IfErr, IfOk, IsTrue}
+use Rattle.std.specs.Prelude.{List, [], MatchBool, None, Option, Result, Ok, Err, Some}
 use Rattle.std.specs.Io.KnownBytes.{Keeps}
 use Rattle.sqlite.specs.Held.{Held, state}
-use Rattle.sqlite.specs.State.{State, HasCleanDisk}
+use Rattle.sqlite.specs.State.{HasCleanDisk}
 use Rattle.sqlite.specs.Store.{Ghosts}
-use Rattle.office_connections.specs.Clients.{ServesClients}
+use Rattle.office_connections.specs.Clients.{AreOfClients, ServesClients}
 use Rattle.office_connections.specs.Lines.{PrintsPort, PrintsFaults}
 use Rattle.office_connections.specs.declared.accepting.Service.{Service}
 use Rattle.office_http.specs.Clients.{ServesAllByView}
 use Rattle.office_http.specs.Serving.{LeadsOffice}
 use Rattle.office_messages.specs.Visits.{Visit}
+use Rattle.office_messages.specs.declared.statuses.Status.{Status}
+use Rattle.office_messages.specs.declared.statuses.Status.TheVariants.{Created, Done}
 use Rattle.office_model.specs.Office.{OfficeState}
+use Rattle.office_model.specs.declared.fault.StoreFault.{StoreFault}
 use Rattle.office_model.specs.declared.fault.StoreFault.TheVariants.{Store}
 use Rattle.office_program.specs.declared.faults.ProgramFault.{ProgramFault}
 use Rattle.office_program.specs.declared.faults.ProgramFault.TheVariants as fault
 use Rattle.office_program.specs.declared.ending.Ending.{Ending}
 use Rattle.office_program.specs.declared.words.Terms.{Terms}
 use Rattle.office_store.specs.Opening.{IsOfficeOf}
+use Rattle.office_store.specs.Running.{IsCommitted, OfficeUnchanged}
 use Rattle.office_store.specs.Shut.{IsShut}
 
--- assuming the disk returns what was written, the office served these connections, and each
--- candidate got the text of their view
-abbrev pub OfficeServes : {S : Type 0} → Ghosts S → List Visit → Held S → Held S → Type 0
-OfficeServes store visits old new = LeadsOffice store (ServesAllByView visits) old new
+-- ---- whether a store is closed
 
 -- assuming the disk returns what was written, a failed disk call has closed the store
 abbrev pub IsStoreShut : {S : Type 0} → Ghosts S → Held S → Type 0
 IsStoreShut store held = HasCleanDisk (state store held) → IsShut (state store held)
 
--- the office served as many clients as the terms say; or the store is closed after the last one; or
--- fewer were served, because an accept failed; or no client was
-pub record ServesTerms {S : Type 0} (store : Ghosts S) (AreTheirs : List Visit → Type 0)
-    (terms : Terms) (outcome : Result Ending ProgramFault) (old new : Held S)
+-- the same, for some store
+abbrev pub IsSomeStoreShut : {S : Type 0} → Ghosts S → Type 0
+IsSomeStoreShut {S} store = (held : Held S) × IsStoreShut store held
+
+-- asked whether its store is closed, a desk says so, and changes nothing; assuming the disk returns
+-- what was written, what it says is true
+pub record SaysWhetherShut {S : Type 0} (store : Ghosts S) (old : Held S)
+    (said : Result Bool StoreFault) (new : Held S) : Type 0 where
+  pub right : HasCleanDisk (state store new) → IfOk said (λ is_shut.
+      MatchBool is_shut (IsShut (state store new)) (IsCommitted (state store new)))
+  pub unchanged : OfficeUnchanged store old new
+
+-- a store counts as closed if that was said, and not if it couldn't be found out
+abbrev pub is_said_shut : Result Bool StoreFault → Bool
+is_said_shut (Ok is_shut) = is_shut
+is_said_shut (Err fault) = false
+
+-- after a request that was done the store is open; after any other the desk is asked
+abbrev pub AsksWhetherShut : {D : Type 0} → (D → Result Bool StoreFault → D → Type 0)
+    → Status → D → Bool → D → Type 0
+AsksWhetherShut says Done old is_shut new = (is_shut ≡ false) × (new ≡ old)
+AsksWhetherShut says Created old is_shut new = (is_shut ≡ false) × (new ≡ old)
+AsksWhetherShut says other old is_shut new =
+    (said : Result Bool StoreFault) × says old said new × (is_shut ≡ is_said_shut said)
+
+-- ---- the clients
+
+-- assuming the disk returns what was written, the office served these connections, and each
+-- candidate got the text of their view
+abbrev pub OfficeServes : {S : Type 0} → Ghosts S → Held S → Held S → List Visit → Type 0
+OfficeServes store old new visits = LeadsOffice store (ServesAllByView visits) old new
+
+-- assuming the disk returns what was written, and the database had nothing uncommitted: the office
+-- found in it served these connections, each candidate got the text of their view, and the database
+-- represents the office that they led to, while it is open
+abbrev pub FileServes : {S : Type 0} → Ghosts S → Held S → Held S → List Visit → Type 0
+FileServes store old new visits = HasCleanDisk (state store new)
+    → ((state store old).now ≡ (state store old).committed)
+    → (there : OfficeState) → IsOfficeOf (state store old).now there
+    → (next : OfficeState) × ServesAllByView visits there next
+    × (IsTrue (state store new).is_open → IsOfficeOf (state store new).now next)
+
+-- no connection was served, or the office found in some database served them
+abbrev pub SomeFileServes : {S : Type 0} → Ghosts S → List Visit → Type 0
+SomeFileServes {S} store visits = (visits ≡ [])
+    ⊎ ((old : Held S) × (new : Held S) × FileServes store old new visits)
+
+module _ {I R W : Type 0} (opens : Option I → Type 0) (accepts : I → Option (R × W) → I → Type 0)
+    (takes_back : I → W → I → Type 0)
+    (remaining : R → Option (List ℕ)) (contents : W → Option (List ℕ)) where
+  -- the connections are those of the clients of the port; there is none if no port was listened on,
+  -- or if that failed
+  abbrev pub AreOfPort : Bool → List Visit → Type 0
+  AreOfPort false visits = (visits ≡ [])
+      ⊎ ((start : I) × opens (Some start) × (new : I)
+      × AreOfClients accepts takes_back remaining contents start new false visits)
+  AreOfPort true visits = (opens None × (visits ≡ []))
+      ⊎ ((start : I) × opens (Some start) × (new : I)
+      × AreOfClients accepts takes_back remaining contents start new true visits)
+
+-- as many clients were served as the terms say; or no client was, because of another fault than of
+-- listening; or fewer were, because listening or an accept failed; or the store is closed after the
+-- last
+pub record ServesTerms (AreTheirs : Bool → List Visit → Type 0) (Serve : List Visit → Type 0)
+    (IsClosed : Type 0) (terms : Terms) (outcome : Result Ending ProgramFault)
     (errors_old errors_new : Option (List ℕ)) : Type 0 where
   pub service : Service
   pub most : service.accepted ≤ terms.connections
-  pub serves :
-      ServesClients AreTheirs (OfficeServes store) service old new errors_old errors_new
+  pub serves : ServesClients AreTheirs Serve service errors_old errors_new
   pub all : IfOk outcome (λ ending. (service.accepted ≡ terms.connections)
-      × (IsTrue ending.is_err_written → service.unwritten ≡ 0))
-  pub fewer : IfErr outcome (λ shown. (service.accepted ≡ 0)
-      ⊎ (((shown ≡ fault.CannotListen) × (service.accepted < terms.connections))
-      ⊎ ((shown ≡ fault.Store Store) × IsStoreShut store new)))
+      × (serves.has_failed ≡ false) × (IsTrue ending.is_err_written → service.unwritten ≡ 0))
+  pub fewer : IfErr outcome (λ shown.
+      ((shown ≢ fault.CannotListen) × (service.accepted ≡ 0) × (serves.has_failed ≡ false))
+      ⊎ (((shown ≡ fault.CannotListen) × IsTrue serves.has_failed
+      × ((service.accepted ≡ 0) ⊎ (service.accepted < terms.connections)))
+      ⊎ ((shown ≡ fault.Store Store) × (serves.has_failed ≡ false) × IsClosed)))
 
--- while it is open, the database represents an office that serving at most this many connections
--- leads to from the first office
-abbrev pub ReachesByServing : ℕ → OfficeState → State → Type 0
-ReachesByServing connections there s =
-    (visits : List Visit) × (length visits ≤ connections) × (next : OfficeState)
-    × ServesAllByView visits there next × (IsTrue s.is_open → IsOfficeOf s.now next)
+-- ---- the lines
 
 -- the port of the terms is printed on `out`; `err` has the line of each connection's fault, unless
 -- a write of it failed

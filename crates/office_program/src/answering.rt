@@ -1,48 +1,83 @@
 // The desk that answers the requests of `serve`.
-ghost use Rattle.std.specs.Prelude.{◌≡◌, IsTrue};
-ghost use Rattle.office_http.specs.Replying.{IsDone};
-ghost use Rattle.office_program.specs.Serve.{IsStoreShut};
-ghost use Rattle.office_store.specs.Running.{OfficeUnchanged};
+ghost use Rattle.std.specs.Prelude.{◌≡◌, Bool, Result};
+ghost use Rattle.office_messages.specs.Heads.{plain_request};
+ghost use Rattle.office_messages.specs.Reply.{PlainReply, plain_reply};
+ghost use Rattle.office_messages.specs.Stream.{PlainRequest};
+ghost use Rattle.office_model.specs.declared.fault.StoreFault.{StoreFault};
+ghost use Rattle.office_program.specs.Serve.{AsksWhetherShut, is_said_shut};
 
 use crate::notices::{LongWork, announce};
 use office_connections::MayShut;
-use office_http::{Alter, Desk, Routes, reply};
+use office_http::{Alter, Desk, Routes, StoreFault, reply};
 use office_messages::{Machine, Reply, Request, Status};
 use std::alloc::Global;
 
+// What replies to requests, and can be asked whether its store is closed.
+pub(crate) trait RequestDesk {
+    // In the first state it may reply so, and change to the second state.
+    ghost replies: { Self → PlainRequest → PlainReply → Self → Type 0 };
+
+    // In the first state it may say so, and change to the second state.
+    ghost says: { Self → Result Bool StoreFault → Self → Type 0 };
+
+    // Replies to a request.
+    fn reply_to(&mut self, alloc: Global, routes: &Routes, request: &Request<'_>) -> Reply
+        ensures { replies self.old (plain_request request.now) (plain_reply result) self.new };
+
+    // Says whether its store is closed. `Err`: that can't be found out.
+    fn ask(&mut self) -> Result<bool, StoreFault>
+        ensures { says self.old result self.new };
+}
+
+impl<S: Alter> RequestDesk for Desk<S> {
+    ghost use Rattle.office_http.specs.Replying.{Answered};
+    ghost use Rattle.office_program.specs.Serve.{SaysWhetherShut};
+
+    ghost replies = { λ old request reply new. Answered S.Store old request reply new };
+
+    ghost says = { λ old said new. SaysWhetherShut S.Store old said new };
+
+    fn reply_to(&mut self, alloc: Global, routes: &Routes, request: &Request<'_>) -> Reply {
+        reply(alloc, routes, self, request)
+    }
+
+    fn ask(&mut self) -> Result<bool, StoreFault> {
+        self.is_shut()
+    }
+}
+
 /// The desk of an office in a database. It checks after each reply whether its store is closed.
 #[derive(Drop)]
-pub(crate) struct ServingDesk<'a, 'b, S: Alter> {
+pub(crate) struct ServingDesk<'a, 'b, D> {
     pub(crate) rt: &'b HostRuntime,
     pub(crate) database: &'b str,
-    pub(crate) desk: &'a mut Desk<S>,
+    pub(crate) desk: &'a mut D,
     pub(crate) routes: &'b Routes,
     /// Whether the store was closed after the last reply.
     pub(crate) is_shut: bool,
 }
 
-impl<S: Alter> Machine for ServingDesk<'_, '_, S> {
-    ghost use Rattle.std.specs.Prelude.{◌≡◌, IsTrue};
-    ghost use Rattle.office_http.specs.Replying.{Answered};
-    ghost use Rattle.office_program.specs.Serve.{IsStoreShut};
+impl<D: RequestDesk> Machine for ServingDesk<'_, '_, D> {
+    ghost use Rattle.std.specs.Prelude.{◌≡◌};
+    ghost use Rattle.office_program.specs.Serve.{AsksWhetherShut};
 
-    // It reports a closed store only if the store is closed.
+    // The reply is the desk's, and after it the desk is asked whether its store is closed.
     ghost Answers = { λ old request reply new.
         (new.desk.ghost_name ≡ old.desk.ghost_name)
-        × Answered S.Store old.desk.now request reply new.desk.now
-        × (IsTrue new.is_shut → IsStoreShut S.Store new.desk.now) };
+        × ((mid : _) × D.replies old.desk.now request reply mid
+        × AsksWhetherShut D.says reply.status mid new.is_shut new.desk.now) };
 
     fn answer(&mut self, alloc: Global, request: &Request<'_>) -> Reply {
         if asks_to_publish(request) {
             announce(self.rt, LongWork::Publishing(self.database));
         }
-        let answered = reply(alloc, self.routes, self.desk, request);
+        let answered = self.desk.reply_to(alloc, self.routes, request);
         self.is_shut = is_shut_after(answered.status, self.desk);
         answered
     }
 }
 
-impl<S: Alter> MayShut for ServingDesk<'_, '_, S> {
+impl<D> MayShut for ServingDesk<'_, '_, D> {
     ghost is_shut = { λ m. m.is_shut };
 
     fn is_shut(&self) -> bool {
@@ -62,10 +97,8 @@ fn asks_to_publish(request: &Request<'_>) -> bool {
 
 // Returns whether the store is closed after a reply with this status. After a request that was done
 // it is open.
-fn is_shut_after<S: Alter>(status: Status, desk: &mut Desk<S>) -> bool
-    ensures shut { IsTrue result → IsStoreShut S.Store desk.new }
-    ensures done { IsDone status → desk.new ≡ desk.old }
-    ensures unchanged { OfficeUnchanged S.Store desk.old desk.new }
+fn is_shut_after<D: RequestDesk>(status: Status, desk: &mut D) -> bool
+    ensures { AsksWhetherShut D.says status desk.old result desk.new }
 {
     match status {
         Status::Done | Status::Created => false,
@@ -73,12 +106,12 @@ fn is_shut_after<S: Alter>(status: Status, desk: &mut Desk<S>) -> bool
     }
 }
 
-// Returns whether the store is closed; false if that can't be found out.
-fn is_shut<S: Alter>(desk: &mut Desk<S>) -> bool
-    ensures shut { IsTrue result → IsStoreShut S.Store desk.new }
-    ensures unchanged { OfficeUnchanged S.Store desk.old desk.new }
+// Returns whether the desk says that its store is closed; false if that can't be found out.
+fn is_shut<D: RequestDesk>(desk: &mut D) -> bool
+    ensures { (said : Result Bool StoreFault) × D.says desk.old said desk.new
+        × (result ≡ is_said_shut said) }
 {
-    match desk.is_shut() {
+    match desk.ask() {
         Ok(is_shut) => is_shut,
         Err(_) => false,
     }

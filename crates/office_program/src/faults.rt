@@ -1,5 +1,5 @@
 // The faults that end the program with status 1, and their lines.
-ghost use Rattle.std.specs.Prelude.{◌≡◌};
+ghost use Rattle.std.specs.Prelude.{◌≡◌, ◌≢◌};
 ghost use Rattle.office_program.specs.FaultLines.{fault_line, input_line, open_line, solution_line};
 ghost use Rattle.office_program.specs.TaskFaults.{check_line, export_line, load_line, run_line};
 
@@ -141,7 +141,8 @@ pub(crate) fn fault_of_run<'a>(fault: RunFault) -> ProgramFault<'a>
 
 // Returns the program's fault for a database that can't be opened.
 pub(crate) fn fault_of_open<'a>(error: Error) -> ProgramFault<'a>
-    ensures { fault_line result ≡ open_line error }
+    ensures line { fault_line result ≡ open_line error }
+    ensures other { result ≢ ProgramFault.CannotListen }
 {
     match error {
         Error::SqliteFailure(ErrorCode::OutOfMemory) => ProgramFault::NoMemory,

@@ -126,7 +126,7 @@ fn run_task<'a, W: Write, E: Write>(
             check_all(rt, session, solutions, *form, out, err)
         }
         Task::Load(database, instance) => load(rt, database, instance, out),
-        Task::Serve(database, terms) => open_and_serve(rt, database, *terms, out, err),
+        Task::Serve(database, terms) => open_and_serve(rt, rt, database, *terms, out, err),
         Task::Export(database) => export(rt, database, out),
         Task::Explain(words) => explain(words, out),
     }

@@ -2,13 +2,11 @@
 ghost use Rattle.std.specs.Prelude.{◌≡◌, ◌≢◌, ◌*◌, ◌^◌, ◌⊎◌, IfErr, IfOk};
 ghost use Rattle.std.specs.Duration.{as_nanos};
 ghost use Rattle.std.specs.Io.KnownBytes.{Appends, Keeps};
-ghost use Rattle.sqlite.specs.Held.{state};
-ghost use Rattle.sqlite.specs.State.{HasCleanDisk};
 ghost use Rattle.office_connections.specs.Clients.{AreOfClients};
 ghost use Rattle.office_connections.specs.Lines.{listening_line};
-ghost use Rattle.office_model.specs.Office.{OfficeState};
-ghost use Rattle.office_store.specs.Opening.{IsOfficeOf};
-ghost use Rattle.office_program.specs.Serve.{ReachesByServing, LeavesPort, PrintsServed, ServesTerms};
+ghost use Rattle.office_program.specs.Serve.{AreOfPort, FileServes, IsSomeStoreShut, IsStoreShut};
+ghost use Rattle.office_program.specs.Serve.{LeavesPort, OfficeServes, PrintsServed, ServesTerms};
+ghost use Rattle.office_program.specs.Serve.{SomeFileServes};
 ghost use Rattle.office_program.specs.TaskFaults.{IsOfServe};
 
 use crate::answering::ServingDesk;
@@ -16,20 +14,36 @@ use crate::ending::Ending;
 use crate::faults::{ProgramFault, fault_of_open, fault_of_run};
 use crate::notices::{LongWork, announce, announce_new, announce_upgrade};
 use crate::words::Terms;
-use office_connections::{Plan, Timed, announce_and_accept, listen};
+use office_connections::{Clients, Plan, Ports, Timed, announce_and_accept};
 use office_http::{Alter, Connection, Desk, Office, Routes};
+use sqlite::{File, FileStore};
 use std::fs;
 use std::io::{Read, Write};
 use std::time::Duration;
 
 // Runs `serve`. It opens the database, and finds or creates its office, before it opens the port.
-pub(crate) fn open_and_serve<'a, O: Write, E: Write>(
+pub(crate) fn open_and_serve<
+    'a,
+    R: Read + Timed + Drop,
+    W: Write + Timed + Drop,
+    I: Clients<Reader = R, Writer = W> + Drop,
+    N: Ports<Opened = I>,
+    O: Write,
+    E: Write,
+>(
     rt: &HostRuntime,
+    net: &N,
     database: &str,
     terms: Terms,
     out: &mut O,
     err: &mut E,
 ) -> Result<Ending, ProgramFault<'a>>
+    // As for `serve_office`, with the connection to some database.
+    ensures reached { ServesTerms
+        (AreOfPort (N.opens net.now terms.port) I.accepts I.takes_back R.remaining W.contents)
+        (SomeFileServes ⟦<FileStore<File> as Alter>⟧.Store)
+        (IsSomeStoreShut ⟦<FileStore<File> as Alter>⟧.Store) terms result
+        (E.contents err.old) (E.contents err.new) }
     ensures served { IfOk result (PrintsServed terms (O.contents out.old) (O.contents out.new)
         (E.contents err.old) (E.contents err.new)) }
     ensures fault { IfErr result IsOfServe }
@@ -46,7 +60,7 @@ pub(crate) fn open_and_serve<'a, O: Write, E: Write>(
         announce_new(rt, database);
     }
     announce_upgrade(rt, database, &conn);
-    let (conn, done) = serve_office(rt, database, conn, terms, out, err);
+    let (conn, done) = serve_office(rt, net, database, conn, terms, out, err);
     // A log that can't be copied into the file stays next to it, and is read there.
     let _ = conn.close();
     done
@@ -54,8 +68,18 @@ pub(crate) fn open_and_serve<'a, O: Write, E: Write>(
 
 /// Serves the office of a database, and returns its connection. The office is created if the
 /// database has no table, index or view.
-pub fn serve_office<'a, S: Alter, O: Write, E: Write>(
+pub fn serve_office<
+    'a,
+    S: Alter,
+    R: Read + Timed + Drop,
+    W: Write + Timed + Drop,
+    I: Clients<Reader = R, Writer = W> + Drop,
+    N: Ports<Opened = I>,
+    O: Write,
+    E: Write,
+>(
     rt: &HostRuntime,
+    net: &N,
     database: &str,
     conn: Connection<S>,
     terms: Terms,
@@ -63,12 +87,13 @@ pub fn serve_office<'a, S: Alter, O: Write, E: Write>(
     err: &mut E,
 ) -> (Connection<S>, Result<Ending, ProgramFault<'a>>)
     // Assuming the disk returns what was written, and the database had nothing uncommitted: however
-    // the call ends, the database represents an office that serving its connections leads to from
-    // the one found.
-    ensures reached { HasCleanDisk (state S.Store result.0)
-        → ((state S.Store conn).now ≡ (state S.Store conn).committed)
-        → (there : OfficeState) → IsOfficeOf (state S.Store conn).now there
-        → ReachesByServing terms.connections there (state S.Store result.0) }
+    // the call ends, the database represents an office that serving the clients of the port leads
+    // to from the one found. As for `serve_clients`, each of them is sent the office's replies to
+    // its own messages, and as many are served as the terms say, or the fault says why not.
+    ensures reached { ServesTerms
+        (AreOfPort (N.opens net.now terms.port) I.accepts I.takes_back R.remaining W.contents)
+        (FileServes S.Store conn result.0) (IsStoreShut S.Store result.0) terms result.1
+        (E.contents err.old) (E.contents err.new) }
     // The same as for `listen_and_serve`.
     ensures served { IfOk result.1 (PrintsServed terms (O.contents out.old) (O.contents out.new)
         (E.contents err.old) (E.contents err.new)) }
@@ -81,21 +106,34 @@ pub fn serve_office<'a, S: Alter, O: Write, E: Write>(
         Err((fault, conn)) => return (conn, Err(ProgramFault::Store(fault))),
     };
     let mut desk = Desk::new(office);
-    let done = listen_and_serve(rt, database, terms, &mut desk, out, err);
+    let done = listen_and_serve(rt, net, database, terms, &mut desk, out, err);
     (desk.into_office().release(), done)
 }
 
 /// Serves the office at a desk to the clients of a port, one after another, as the terms say.
-pub fn listen_and_serve<'a, S: Alter, O: Write, E: Write>(
+pub fn listen_and_serve<
+    'a,
+    S: Alter,
+    R: Read + Timed + Drop,
+    W: Write + Timed + Drop,
+    I: Clients<Reader = R, Writer = W> + Drop,
+    N: Ports<Opened = I>,
+    O: Write,
+    E: Write,
+>(
     rt: &HostRuntime,
+    net: &N,
     database: &str,
     terms: Terms,
     desk: &mut Desk<S>,
     out: &mut O,
     err: &mut E,
 ) -> Result<Ending, ProgramFault<'a>>
-    // This holds however the call ends; the contracts of sockets say nothing about their bytes.
-    ensures reached { ServesTerms S.Store (λ visits. Unit {0}) terms result desk.old desk.new
+    // As for `serve_clients`, with the clients of the port of the terms. This holds however the
+    // call ends; the contracts of the system's sockets say nothing about their bytes.
+    ensures reached { ServesTerms
+        (AreOfPort (N.opens net.now terms.port) I.accepts I.takes_back R.remaining W.contents)
+        (OfficeServes S.Store desk.old desk.new) (IsStoreShut S.Store desk.new) terms result
         (E.contents err.old) (E.contents err.new) }
     // The line of the port was printed: the requested port, or any if that was 0. If no write
     // failed, `err` has a line for each connection that ended with a fault.
@@ -107,16 +145,15 @@ pub fn listen_and_serve<'a, S: Alter, O: Write, E: Write>(
     ensures port { IfErr result
         (LeavesPort terms (O.contents out.old) (O.contents out.new)) }
 {
-    let Ok(listening) = listen(rt, terms.port) else {
+    let Ok(mut listening) = net.listen(terms.port) else {
         return Err(ProgramFault::CannotListen);
     };
-    let mut clients = listening.clients();
     serve_clients(
         rt,
         database,
         terms,
         listening.port,
-        &mut clients,
+        &mut listening.clients,
         desk,
         out,
         err,
@@ -130,7 +167,7 @@ pub fn serve_clients<
     S: Alter,
     R: Read + Timed + Drop,
     W: Write + Timed + Drop,
-    I: Iterator<Item = (R, W)>,
+    I: Clients<Reader = R, Writer = W>,
     O: Write,
     E: Write,
 >(
@@ -143,19 +180,19 @@ pub fn serve_clients<
     out: &mut O,
     err: &mut E,
 ) -> Result<Ending, ProgramFault<'a>>
-    requires { I.can_next clients.old }
-
     // However the call ends, assuming the disk returns what was written, and for any office that
-    // was found: each client is sent the office's replies to the messages of its whole stream, in
-    // whatever pieces and at whatever speed it comes, or, after a fault, to the first of them. The
-    // office that one client leaves is the next one's, and the file represents it after the last.
-    // Each candidate gets the text of their view. As many clients were served as the terms say; or
-    // fewer, because an accept failed, or because a failed disk call has closed the store and the
-    // fault is `Store`; or no client was. The lines on `err` are those of the faults that
-    // connections ended with, unless a line could not be written.
-    ensures served { ServesTerms S.Store
-        (AreOfClients I.next_gives R.remaining W.contents clients.old) terms result
-        desk.old desk.new (E.contents err.old) (E.contents err.new) }
+    // was found: what is added to each client's writer, until it is handed back, are the office's
+    // replies to the messages of that client's whole stream, in whatever pieces and at whatever
+    // speed it comes, or, after a fault, to the first of them. The office that one client leaves is
+    // the next one's, and the file represents it after the last. Each candidate gets the text of
+    // their view. As many clients were served as the terms say; or fewer, because an accept failed,
+    // or because a failed disk call has closed the store and the fault is `Store`; or no client
+    // was. The lines on `err` are those of the faults that connections ended with, unless a line
+    // could not be written.
+    ensures served { ServesTerms
+        (AreOfClients I.accepts I.takes_back R.remaining W.contents clients.old clients.new)
+        (OfficeServes S.Store desk.old desk.new) (IsStoreShut S.Store desk.new) terms result
+        (E.contents err.old) (E.contents err.new) }
     ensures status { IfOk result (λ ending. ending.status ≡ 0) }
     ensures fault { IfErr result IsOfServe }
     ensures port { IfOk result (λ _. Appends (O.contents out.old) (O.contents out.new)

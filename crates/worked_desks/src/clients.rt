@@ -1,6 +1,6 @@
 // Clients of an office, one after another: the replies to each, and the state after a fault.
 use crate::connections::{carry_out, new_desk};
-use crate::sides::{Calls, HandClock, Side};
+use crate::sides::{Calls, HandClock, Side, Waiting};
 use office_connections::{MayShut, Plan, accept_all};
 use office_http::{AnsweringDesk, Reply, Request, Routes};
 use office_messages::Machine;
@@ -73,38 +73,43 @@ impl<'a> Case<'a> {
     }
 }
 
-// The bytes that three clients got, and the lines of their faults.
+// The bytes that three clients got, the lines of their faults, and the counts: clients served,
+// lines not written, writers handed back, and clients who still wait.
 #[derive(Drop)]
 struct Outcome {
     first: Vec<u8>,
     second: Vec<u8>,
     third: Vec<u8>,
     lines: Vec<u8>,
+    counts: (u32, u32, u32, usize),
 }
 
-// A desk whose store is never closed.
+// A desk that shuts after some replies.
 #[derive(Drop)]
-struct OpenDesk<'a> {
-    answering: AnsweringDesk<'a, MemStore>,
+pub(crate) struct ShuttingDesk<'a> {
+    pub(crate) answering: AnsweringDesk<'a, MemStore>,
+    // How many replies it still makes.
+    pub(crate) left: u32,
 }
 
-impl Machine for OpenDesk<'_> {
+impl Machine for ShuttingDesk<'_> {
     ghost use Rattle.std.specs.Prelude.{⊤};
 
     ghost Answers = { λ old request reply new. ⊤ };
 
     fn answer(&mut self, alloc: Global, request: &Request<'_>) -> Reply {
+        self.left = self.left.saturating_sub(1);
         self.answering.answer(alloc, request)
     }
 }
 
-impl MayShut for OpenDesk<'_> {
-    ghost use Rattle.std.specs.Prelude.{false};
+impl MayShut for ShuttingDesk<'_> {
+    ghost use Rattle.std.specs.Prelude.{nat_eq};
 
-    ghost is_shut = { λ m. false };
+    ghost is_shut = { λ m. nat_eq m.left 0 };
 
     fn is_shut(&self) -> bool {
-        false
+        self.left == 0
     }
 }
 
@@ -235,9 +240,73 @@ fn each_write_of_seven_bytes_fails(rt: HostRuntime) -> Result<(), Fail> {
     Ok(())
 }
 
+// No client is accepted after a desk has shut, though the client that it served then gets all
+// replies.
+#[test]
+fn a_desk_shuts_between_clients(rt: HostRuntime) -> Result<(), Fail> {
+    let alloc = rt.alloc();
+    let asked = joined_bytes(alloc, DROP, PAGE)?;
+    let replied = joined_bytes(alloc, DROPPED, SHOWN)?;
+    let case = case_at_once(asked.as_slice(), replied.as_slice());
+    // the replies until it shuts, what the clients get, and the counts
+    let cases = [
+        (
+            0u32,
+            b"".as_slice(),
+            b"".as_slice(),
+            b"".as_slice(),
+            (0u32, 0u32, 0u32, 3usize),
+        ),
+        (1, SHOWN, b"", b"", (1, 0, 1, 2)),
+        (2, SHOWN, case.replied, b"", (2, 0, 2, 1)),
+        (3, SHOWN, case.replied, b"", (2, 0, 2, 1)),
+        (4, SHOWN, case.replied, NOT_THERE, (3, 0, 3, 0)),
+    ];
+    for (left, first, second, third, counts) in cases {
+        let found = serve_three(alloc, &case, left, AT_ONCE)?;
+        assert_eq!(rt; found.counts, counts, "{left}");
+        assert_eq!(rt; found.first.as_slice(), first, "{left}");
+        assert_eq!(rt; found.second.as_slice(), second, "{left}");
+        assert_eq!(rt; found.third.as_slice(), third, "{left}");
+        assert_eq!(rt; found.lines.as_slice(), b"".as_slice(), "{left}");
+    }
+    Ok(())
+}
+
+// A line that can't be written is counted, and the next client is served.
+#[test]
+fn a_line_is_not_written(rt: HostRuntime) -> Result<(), Fail> {
+    let alloc = rt.alloc();
+    let case = Case {
+        reads: failing_calls(1, 1),
+        line: READ_FAULT,
+        is_there: true,
+        ..case_at_once(DROP, b"")
+    };
+    let found = serve_three(alloc, &case, u32::MAX, failing_calls(4_096, 1))?;
+    assert_eq!(rt; found.counts, (3u32, 1u32, 3u32, 0usize));
+    assert_eq!(rt; found.lines.as_slice(), b"".as_slice());
+    assert_eq!(rt; found.second.as_slice(), case.replied);
+    assert_eq!(rt; found.third.as_slice(), THERE);
+    Ok(())
+}
+
+// A client without faults and pauses, who gets these replies.
+fn case_at_once<'a>(asked: &'a [u8], replied: &'a [u8]) -> Case<'a> {
+    Case {
+        asked,
+        reads: AT_ONCE,
+        writes: AT_ONCE,
+        patience: 30,
+        replied,
+        line: b"",
+        is_there: false,
+    }
+}
+
 // Serves a client between two others, and ends the test if one of them gets other bytes.
 fn assert_case<R: Abort>(rt: &R, alloc: Global, case: &Case<'_>) -> Result<(), Fail> {
-    let found = serve_three(alloc, case)?;
+    let found = serve_three(alloc, case, u32::MAX, AT_ONCE)?;
     let third = if case.is_there { THERE } else { NOT_THERE };
     let (reads, writes) = (case.reads, case.writes);
     assert_eq!(rt;
@@ -248,6 +317,11 @@ fn assert_case<R: Abort>(rt: &R, alloc: Global, case: &Case<'_>) -> Result<(), F
     assert_eq!(rt; found.lines.as_slice(), case.line, "{reads:?}, {writes:?}");
     assert_eq!(rt; found.first.as_slice(), SHOWN, "{reads:?}, {writes:?}");
     assert_eq!(rt; found.third.as_slice(), third, "{reads:?}, {writes:?}");
+    assert_eq!(rt;
+        found.counts,
+        (3u32, 0u32, 3u32, 0usize),
+        "{reads:?}, {writes:?}"
+    );
     Ok(())
 }
 
@@ -257,16 +331,23 @@ fn joined_bytes(alloc: Global, first: &[u8], second: &[u8]) -> Result<Vec<u8>, A
     Ok(both)
 }
 
-// Serves a candidate, the client of a case, and the office, which asks for the draft.
-fn serve_three(alloc: Global, case: &Case<'_>) -> Result<Outcome, Fail> {
+// Serves a candidate, the client of a case, and the office, which asks for the draft, at a desk
+// that shuts after some replies, with these calls for the lines of faults.
+fn serve_three(
+    alloc: Global,
+    case: &Case<'_>,
+    left: u32,
+    printing: Calls,
+) -> Result<Outcome, Fail> {
     let mut desk = new_desk(alloc)?;
     carry_out(alloc, &mut desk, DRAFTED, 2)?;
     let routes = Routes::new(alloc)?;
-    let mut machine = OpenDesk {
+    let mut machine = ShuttingDesk {
         answering: AnsweringDesk {
             desk: &mut desk,
             routes: &routes,
         },
+        left,
     };
     let clock = HandClock::new();
     let (mut first, mut second) = (Vec::new(alloc), Vec::new(alloc));
@@ -282,19 +363,23 @@ fn serve_three(alloc: Global, case: &Case<'_>) -> Result<Outcome, Fail> {
         connections: 3,
         patience: Duration::from_secs(case.patience),
     };
-    let _ = accept_all(
-        alloc,
-        &clock,
-        &mut clients.into_iter(),
-        plan,
-        &mut machine,
-        &mut lines,
+    let mut waiting = Waiting::new(clients);
+    let mut err = Side::new(&mut lines, printing, &clock);
+    let service = accept_all(alloc, &clock, &mut waiting, plan, &mut machine, &mut err);
+    let counts = (
+        service.accepted,
+        service.unwritten,
+        waiting.handed_back,
+        waiting.left(),
     );
+    drop(waiting);
+    drop(err);
     Ok(Outcome {
         first,
         second,
         third,
         lines,
+        counts,
     })
 }
 

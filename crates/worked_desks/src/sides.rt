@@ -1,9 +1,10 @@
-// The two sides of a connection in memory, and their clock.
-use office_connections::Timed;
+// Clients in memory: the two sides of a connection, their clock, and those who wait.
+use office_connections::{Clients, Timed};
 use std::cell::Cell;
 use std::io;
 use std::io::{ErrorKind, Read, Write};
 use std::time::{Clock, Duration};
+use std::vec::IntoIter;
 
 // A clock that only `move_on` advances.
 #[derive(Drop)]
@@ -115,5 +116,47 @@ impl<T: Drop> Timed for Side<'_, T> {
 
     fn end_sending(&self) -> io::Result<()> {
         Ok(())
+    }
+}
+
+// Clients who wait in a row.
+#[derive(Drop)]
+pub(crate) struct Waiting<R: Drop, W: Drop> {
+    clients: IntoIter<(R, W)>,
+    // How many writers were handed back.
+    pub(crate) handed_back: u32,
+}
+
+impl<R: Drop, W: Drop> Waiting<R, W> {
+    pub(crate) fn new(clients: Vec<(R, W)>) -> Waiting<R, W> {
+        Waiting {
+            clients: clients.into_iter(),
+            handed_back: 0,
+        }
+    }
+
+    // Returns how many still wait.
+    pub(crate) fn left(&self) -> usize {
+        self.clients.len()
+    }
+}
+
+impl<R: Read + Timed + Drop, W: Write + Timed + Drop> Clients for Waiting<R, W> {
+    ghost use Rattle.std.specs.Prelude.{⊤};
+
+    type Reader = R;
+
+    type Writer = W;
+
+    ghost accepts = { λ old client new. ⊤ };
+
+    ghost takes_back = { λ old to new. ⊤ };
+
+    fn accept(&mut self) -> Option<(R, W)> {
+        self.clients.next()
+    }
+
+    fn hand_back(&mut self, _to: W) {
+        self.handed_back = self.handed_back.saturating_add(1);
     }
 }

@@ -1,9 +1,12 @@
 // A published office, and a candidate who requests it over a socket of this machine.
+use crate::clients::ShuttingDesk;
 use crate::connections::{carry_out, new_desk};
-use office_http::{End, Served, serve};
+use office_connections::{Plan, Ports, accept_all};
+use office_http::{AnsweringDesk, Routes};
 use std::io::{Read, Write};
-use std::net::{Ipv4Addr, SocketAddr, TcpListener, TcpStream};
+use std::net::{Ipv4Addr, SocketAddr, TcpStream};
 use std::test::Fail;
+use std::time::Duration;
 
 // The small session is loaded, drafted and published.
 const PUBLISHED: &[u8] = b"PUT /instance HTTP/1.1\r\nHost: office\r\nX-Caller: office\r\n\
@@ -34,18 +37,33 @@ fn a_candidate_asks_over_a_socket(rt: HostRuntime) -> Result<(), Fail> {
     let alloc = rt.alloc();
     let mut desk = new_desk(alloc)?;
     carry_out(alloc, &mut desk, PUBLISHED, 3)?;
-    let listener = TcpListener::bind(&rt, SocketAddr::from((Ipv4Addr::LOCALHOST, 0)))?;
-    let mut asking = TcpStream::connect(&rt, listener.local_addr()?)?;
-    asking.write_all(REQUEST)?;
-    let (stream, _) = listener.accept()?;
-    let mut turns = 100;
-    let served = serve(alloc, &mut &stream, &mut &stream, &mut desk, &mut turns);
-    let asked = Served {
-        answered: 1,
-        end: End::Asked,
+    let routes = Routes::new(alloc)?;
+    let mut machine = ShuttingDesk {
+        answering: AnsweringDesk {
+            desk: &mut desk,
+            routes: &routes,
+        },
+        left: u32::MAX,
     };
-    assert_eq!(rt; served, Ok(asked));
-    drop(stream);
+    let mut listening = rt.listen(0)?;
+    let to = SocketAddr::from((Ipv4Addr::LOCALHOST, listening.port));
+    let mut asking = TcpStream::connect(&rt, to)?;
+    asking.write_all(REQUEST)?;
+    let plan = Plan {
+        connections: 1,
+        patience: Duration::from_secs(30),
+    };
+    let mut lines = Vec::new(alloc);
+    let service = accept_all(
+        alloc,
+        &rt,
+        &mut listening.clients,
+        plan,
+        &mut machine,
+        &mut lines,
+    );
+    assert_eq!(rt; (service.accepted, service.unwritten), (1u32, 0u32));
+    assert_eq!(rt; lines.as_slice(), b"".as_slice());
     let mut reply = Vec::new(alloc);
     asking.read_to_end(&mut reply)?;
     assert_eq!(rt; reply.as_slice(), REPLY);

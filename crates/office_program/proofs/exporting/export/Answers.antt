@@ -10,4 +10,4 @@ returns-in-Err-export_run-clause-unwritten g c = λ other.
 
 -- a missing file shows as a database that can't be opened
 pub returns-then-is_err-clause-fault : goal.returns-then-is_err-clause-fault
-returns-then-is_err-clause-fault g c = inl (SqliteFailure CannotOpen, c.fault_of_open.ensures)
+returns-then-is_err-clause-fault g c = inl (SqliteFailure CannotOpen, c.fault_of_open.ensures.line)

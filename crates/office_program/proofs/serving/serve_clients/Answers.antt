@@ -2,13 +2,17 @@ use Rattle.std.proofs.Common.{◌∙◌, arith, inl, inr, refl}
 use Rattle.std.proofs.lemmas.Bool.{eqb-true}
 use Rattle.sqlite.specs.declared.error.Error.TheVariants.{SqliteFailure}
 use Rattle.sqlite.specs.declared.error.ErrorCode.TheVariants.{OutOfMemory}
-use Rattle.office_connections.proofs.ClientLemmas.{no_client}
-use Rattle.office_program.proofs.ServeFacts.{desk_serves, desk_shut, serves_nobody}
+use Rattle.office_connections.proofs.ClientLemmas.{clients_follow}
+use Rattle.office_program.proofs.ServeFacts.{desk_serves, desk_shut, nobody_served, serves_nobody}
 use Rattle.office_program.proofs.serving.serve_clients.Goals as goal
 
 pub returns-in_default-clause-served : goal.returns-in_default-clause-served
 returns-in_default-clause-served g c =
-    serves_nobody g.S.Store _ _ _ _ _ (_, no_client _ _ _ _)
+    serves_nobody _ _ _ _ _ refl
+    (record {
+      clean = λ clean. clean;
+      runs = λ clean office now. (office, nobody_served office, now);
+    }) _ (λ is. cc)
 
 -- out of memory for the desk gets the same line as out of memory for a database
 pub returns-in_default-clause-fault : goal.returns-in_default-clause-fault
@@ -23,9 +27,10 @@ returns-in-Ok-announce_and_accept-clause-served g c =
     record {
       service = x.service;
       most = omega (arith, x.most, plan);
-      serves = desk_serves g.S.Store (λ m. m.desk.ghost_name) (λ m. m.desk.now) (λ m. m.is_shut)
-          _ _ _ c.desk-1.given.1 _ _ _ _ x.serves;
-      all = (x.all.0 ∙ plan, λ err_line. x.all.1 ∙ eqb-true _ 0 err_line);
+      serves = clients_follow _ _ _ _ (λ has_failed vs theirs. theirs)
+          (desk_serves g.S.Store (λ m. m.desk.ghost_name) (λ m. m.desk.now) (λ m. m.is_shut)
+          _ _ _ c.desk-1.given.1) _ _ _ x.serves;
+      all = (x.all.0 ∙ plan, x.all.2, λ err_line. x.all.1 ∙ eqb-true _ 0 err_line);
       fewer = tt;
     }
 
@@ -37,19 +42,26 @@ returns-clause-served g c =
     record {
       service = x.service;
       most = omega (arith, x.most, plan);
-      serves = desk_serves g.S.Store (λ m. m.desk.ghost_name) (λ m. m.desk.now) (λ m. m.is_shut)
-          _ _ _ c.desk-1.given.1 _ _ _ _ x.serves;
+      serves = clients_follow _ _ _ _ (λ has_failed vs theirs. theirs)
+          (desk_serves g.S.Store (λ m. m.desk.ghost_name) (λ m. m.desk.now) (λ m. m.is_shut)
+          _ _ _ c.desk-1.given.1) _ _ _ x.serves;
       all = tt;
       fewer = elim x.fewer [
-        | inl nobody ↦ inl nobody.1
+        | inl nobody ↦ inl (
+          λ is. let never = sym (c.fault_of_run.ensures.write nobody.0) ∙ is in cc,
+          nobody.1,
+          nobody.2,
+        )
         | inr (inl some) ↦ inr (inl (
           c.fault_of_run.ensures.listen some.0,
-          omega (arith, some.1, plan),
+          some.2,
+          inr (omega (arith, some.1, plan)),
         ))
         | inr (inr shut) ↦ inr (inr (
           c.fault_of_run.ensures.shut shut.0,
+          shut.1,
           desk_shut g.S.Store (λ m. m.desk.ghost_name) (λ m. m.desk.now) (λ m. m.is_shut)
-              _ _ _ c.desk-1.given.1 _ _ _ _ x.serves refl shut.1,
+              _ _ _ c.desk-1.given.1 x.serves.visits x.serves.served refl shut.2,
         ))
       ];
     }
