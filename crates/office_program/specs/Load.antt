@@ -1,10 +1,21 @@
 -- The effect of `load` on the office that a database represents, and what it prints.
-use Rattle.std.specs.Prelude.{◌≡◌, ℕ, ◌++◌, ◌∷◌, [], List, Option, Result, Ok, IfErr, OnOk, codes, decimal}
+use Rattle.std.specs.Prelude.{◌≡◌, ◌⊎◌, ℕ, ◌++◌, ◌∷◌, [], List, Option, Some, None, Result, Ok, Err, IfErr, OnOk, codes, decimal}
 use Rattle.std.specs.Io.KnownBytes.{Appends}
+use Rattle.sqlite.specs.Held.{Held}
 use Rattle.sqlite.specs.State.{State}
+use Rattle.sqlite_trees.specs.Tree.{Trees}
+use Rattle.exam_model.specs.Enrolments.{Enrolled}
+use Rattle.exam_model.specs.Instance.{Session}
+use Rattle.office_files.specs.InstanceText.{instance_in}
+use Rattle.office_schema.specs.Schema.{schema_before}
+use Rattle.office_tables.specs.Alterations.{found_in}
+use Rattle.office_tables.specs.Schema.{no_schema}
 use Rattle.office_model.specs.Office.{OfficeState}
-use Rattle.office_model.specs.Loading.{NamesFirstFault, SpellsSession, load_session}
-use Rattle.office_store.specs.Running.{IsFault, Represents}
+use Rattle.office_model.specs.Loading.{NamesFirstFault, SpellsSession, load_session, new_records}
+use Rattle.office_model.specs.declared.fault.StoreFault.TheVariants as store
+use Rattle.office_records.specs.Representation.{RepresentsOffice}
+use Rattle.office_store.specs.Opening.{DatabaseUpgraded}
+use Rattle.office_store.specs.Running.{IsCommitted, IsFault, Represents}
 use Rattle.office_model.specs.declared.counts.Loaded.{Loaded}
 use Rattle.office_program.specs.declared.loading.LoadFault.{LoadFault}
 use Rattle.office_program.specs.declared.loading.LoadFault.TheVariants.{Store, Write}
@@ -19,12 +30,14 @@ loaded_line l =
 abbrev pub loaded_text : Loaded → List ℕ
 loaded_text l = loaded_line l ++ 10 ∷ []
 
--- the text is loaded into the office, with these counts; the database represents the new office
+-- the text is loaded into the office, with these counts; the database represents the new office, it
+-- is open, and all writes are committed
 pub record IsLoaded (text : List ℕ) (office : OfficeState) (after : State) (counts : Loaded)
     : Type 0 where
   pub next : OfficeState
   pub gives : load_session text office ≡ Ok (counts, next)
   pub represents : Represents after next
+  pub committed : IsCommitted after
 
 -- the text is loaded into the office, and the line with its counts is printed
 pub record Loads (text : List ℕ) (office : OfficeState) (after : State)
@@ -50,6 +63,42 @@ pub record LoadRan (text : List ℕ) (office : OfficeState) (after : State)
   pub done : OnOk result (Loads text office after old new)
   pub refused : IfErr result (RefusesLoad text office after)
   pub stays : IfErr result (IfRefused (Represents after office))
+
+-- ---- what a later opening may find
+
+-- the trees hold the office with the session in the text, and nothing else
+pub record HoldsLoaded (text : List ℕ) (found : Trees) : Type 0 where
+  pub session : Session × Enrolled
+  pub spelled : instance_in text ≡ Ok session
+  pub holds : RepresentsOffice (found_in found) (Some (new_records session))
+
+-- no refusal that the office names
+abbrev pub IsUnnamed : LoadFault → Type 0
+IsUnnamed (Store fault) = fault ≡ store.Store
+IsUnnamed Write = Unit {0}
+
+-- what a load may commit that isn't refused with a named fault: the session in the text
+abbrev pub MayLoad : {A : Type 0} → List ℕ → Result A LoadFault → Trees → Type 0
+MayLoad text result found = IfErr result IsUnnamed × HoldsLoaded text found
+
+-- what opening may commit if the tables are of version 1: the same office in version 2
+abbrev pub MayUpgrade : State → Trees → Type 0
+MayUpgrade old found = (old.now.schema ≡ schema_before) × DatabaseUpgraded old.now (found_in found)
+
+-- what opening may commit: the tables without a session if there was no table, or that
+abbrev pub MayBringUp : State → Trees → Type 0
+MayBringUp old found =
+    ((old.now.schema ≡ no_schema) × RepresentsOffice (found_in found) None) ⊎ MayUpgrade old found
+
+-- the connection that a run returns
+abbrev pub connection_after : {S E : Type 0} → Result (Held S) (E × Held S) → Held S
+connection_after (Ok after) = after
+connection_after (Err refused) = refused.1
+
+-- the fault with which a run was refused
+abbrev pub fault_of : {S E : Type 0} → Result (Held S) (E × Held S) → Result (Unit {0}) E
+fault_of (Ok after) = Ok tt
+fault_of (Err refused) = Err refused.0
 
 -- the fault is the first one of a text that the office refuses
 abbrev pub NamesTextFault : List ℕ → LoadFault → Type 0

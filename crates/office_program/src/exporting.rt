@@ -2,7 +2,7 @@
 ghost use Rattle.std.specs.Prelude.{◌≡◌, ◌≢◌, IfErr, IfOk, IsTrue, Some};
 ghost use Rattle.std.specs.Io.KnownBytes.{Keeps};
 ghost use Rattle.sqlite.specs.Held.{state};
-ghost use Rattle.sqlite.specs.State.{HasCleanDisk};
+ghost use Rattle.sqlite.specs.State.{HasCleanDisk, Survives};
 ghost use Rattle.exam_model.specs.Timetable.{Placing};
 ghost use Rattle.office_files.specs.CanonicalSolution.{canonical_solution};
 ghost use Rattle.office_model.specs.Office.{OfficeState};
@@ -10,6 +10,7 @@ ghost use Rattle.office_store.specs.Opening.{HoldsOffice};
 ghost use Rattle.office_store.specs.Running.{CallRan};
 ghost use Rattle.office_program.specs.Export.{ExportRan, Exports, IsWhole, PrintsSolution, RefusesExport};
 ghost use Rattle.office_program.specs.Export.{published_solution};
+ghost use Rattle.office_program.specs.Load.{MayUpgrade, connection_after};
 ghost use Rattle.office_program.specs.TaskFaults.{IsOfExport};
 
 use crate::ending::Ending;
@@ -95,6 +96,10 @@ pub fn export_run<S: Alter, W: Write>(
         PrintsSolution (W.contents writer.old) (W.contents writer.new)) }
     ensures unwritten { IfErr result (λ e. e.0 ≢ ExportFault.Write
         → Keeps (W.contents writer.old) (W.contents writer.new)) }
+
+    // A later opening may find what it might have found before, or the same office in version 2.
+    ensures survives { Survives (state S.Store conn) (state S.Store (connection_after result))
+        (MayUpgrade (state S.Store conn)) }
 {
     let mut office = match Office::adopt(alloc, conn) {
         Ok(office) => office,
@@ -120,6 +125,7 @@ fn export_from<S: Alter, W: Write>(
         PrintsSolution (W.contents writer.old) (W.contents writer.new)) }
     ensures unwritten { IfErr result (λ fault. fault ≢ ExportFault.Write
         → Keeps (W.contents writer.old) (W.contents writer.new)) }
+    ensures survives { Survives (state S.Store office.old) (state S.Store office.new) (λ _. ⊥) }
 {
     let text = published_text(alloc, office)?;
     match writer.write_all(&text) {
@@ -136,6 +142,7 @@ fn published_text<S: Alter>(alloc: Global, office: &mut Office<S>) -> Result<Vec
     ensures solution { IfOk result (λ text. (T : Placing) × IsWhole T
         × (text.items ≡ canonical_solution T)) }
     ensures read { IfErr result (λ fault. fault ≢ ExportFault.Write) }
+    ensures survives { Survives (state S.Store office.old) (state S.Store office.new) (λ _. ⊥) }
 {
     let found = match office.publication(alloc) {
         Ok(found) => found,

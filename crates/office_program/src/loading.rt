@@ -1,12 +1,13 @@
 // Loads a session into the office of a database.
-ghost use Rattle.std.specs.Prelude.{◌≡◌, ◌≢◌, IfErr, IfOk, IsTrue, OnOk};
+ghost use Rattle.std.specs.Prelude.{◌≡◌, ◌≢◌, ◌⊎◌, IfErr, IfOk, IsTrue, OnOk};
 ghost use Rattle.std.specs.Io.KnownBytes.{Appends, Keeps};
 ghost use Rattle.sqlite.specs.Held.{state};
-ghost use Rattle.sqlite.specs.State.{HasCleanDisk};
+ghost use Rattle.sqlite.specs.State.{HasCleanDisk, Survives};
 ghost use Rattle.office_model.specs.Office.{OfficeState};
 ghost use Rattle.office_store.specs.Running.{CallRan};
 ghost use Rattle.office_store.specs.Opening.{IsOfficeOf};
-ghost use Rattle.office_program.specs.Load.{IfRefused, LoadRan, Loads, NamesTextFault, PrintsCounts, RefusesLoad, loaded_text};
+ghost use Rattle.office_program.specs.Load.{IfRefused, LoadRan, Loads, MayBringUp, MayLoad, NamesTextFault};
+ghost use Rattle.office_program.specs.Load.{PrintsCounts, RefusesLoad, connection_after, fault_of, loaded_text};
 
 use office_http::{Alter, Connection, Loaded, Office, StoreFault};
 use std::alloc::Global;
@@ -79,6 +80,12 @@ pub fn load_run<S: Alter, W: Write>(
         → Keeps (W.contents writer.old) (W.contents writer.new)) }
     // The fault of a refused text is the first one in it.
     ensures first { IfErr result (λ e. NamesTextFault text.now e.0) }
+
+    // A later opening may find what it might have found before, what opening makes of the tables, or,
+    // unless the office refuses the text, its session.
+    ensures survives { Survives (state S.Store conn) (state S.Store (connection_after result))
+        (λ found. MayBringUp (state S.Store conn) found
+        ⊎ MayLoad text.now (fault_of result) found) }
 {
     let mut office = match Office::open(alloc, conn) {
         Ok(office) => office,
@@ -104,6 +111,8 @@ fn load_into<S: Alter, W: Write>(
     ensures unwritten { IfErr result (λ fault. fault ≢ LoadFault.Write
         → Keeps (W.contents writer.old) (W.contents writer.new)) }
     ensures first { IfErr result (NamesTextFault text.now) }
+    ensures survives { Survives (state S.Store office.old) (state S.Store office.new)
+        (MayLoad text.now result) }
 {
     let loaded = match office.load(alloc, text) {
         Ok(loaded) => loaded,

@@ -1,10 +1,12 @@
 use Rattle.std.proofs.Common.{◌∙◌, inl, inr, subst, sym}
 use Rattle.sqlite.specs.Held.{state}
 use Rattle.sqlite.specs.State.{HasCleanDisk}
+use Rattle.sqlite.proofs.StateLemmas.{survives_weaker}
 use Rattle.office_program.specs.Export.{Exports}
 use Rattle.office_store.specs.Opening.{HoldsOffice}
 use Rattle.office_store.specs.Running.{Represents}
 use Rattle.office_store.proofs.OpenLemmas.{kept_holds}
+use Rattle.office_program.proofs.LoadFacts.{export_survives}
 use Rattle.office_program.proofs.exporting.export_run.Goals as goal
 
 -- no office was found
@@ -51,3 +53,20 @@ returns-in-Err-export_from-clause-stays g c = λ clean kept there is opened.
     (c.export_from.ensures.ran.runs now there
     (λ opened. found.represents there is)).stays in
     kept_holds _ there (after opened)
+
+-- what adopting makes of the tables
+pub returns-in-Err-clause-survives : goal.returns-in-Err-clause-survives
+returns-in-Err-clause-survives g c =
+    survives_weaker (state g.S.Store c.args.conn) (state g.S.Store c.in-Err.conn) _ _
+    (λ _ found may. (may.0, may.2)) c.in-Err.ensures.leaves.survives
+
+pub returns-in-Ok-export_from-clause-survives : goal.returns-in-Ok-export_from-clause-survives
+returns-in-Ok-export_from-clause-survives g c =
+    export_survives g.S.Store c.args.conn c.in-Ok.office c.export_from.new.office c.release.result
+    c.in-Ok.ensures.leaves.survives c.in-Ok-export_from.ensures.survives c.release.ensures
+
+pub returns-in-Err-export_from-clause-survives : goal.returns-in-Err-export_from-clause-survives
+returns-in-Err-export_from-clause-survives g c =
+    export_survives g.S.Store c.args.conn c.in-Ok.office c.export_from.new.office
+    c.release-in-Err-export_from.result c.in-Ok.ensures.leaves.survives
+    c.in-Err-export_from.ensures.survives c.release-in-Err-export_from.ensures
