@@ -1,5 +1,5 @@
 -- Two offices in memory, each after a list of requests.
-use Rattle.std.specs.Prelude.{◌≡◌, ℕ, List, fold, Option, None, Result, Ok, Err}
+use Rattle.std.specs.Prelude.{◌≡◌, ℕ, Bool, true, false, List, [], ◌∷◌, Option, None, Result, Ok, Err}
 use Rattle.exam_publish.specs.Shares.{Sharing}
 use Rattle.office_messages.specs.Heads.{plain_request}
 use Rattle.office_messages.specs.Reply.{PlainReply}
@@ -24,10 +24,21 @@ office_after office request =
     office_after_command office
     (command_or_refusal request.method request.target request.caller request.body)
 
--- the office that these requests lead to, one after another, from the office without a session
-abbrev pub office_of : List Request → OfficeState
-office_of requests =
-    fold (λ office request. office_after office (plain_request request)) None requests
+-- the office after a request, unless it was missed: then nothing was done
+abbrev pub office_unless : Bool → OfficeState → Request → OfficeState
+office_unless true office request = office
+office_unless false office request = office_after office (plain_request request)
+
+-- the office that these requests lead to, one after another; those that were missed did nothing
+abbrev pub office_from : OfficeState → List Bool → List Request → OfficeState
+office_from office [] requests = office
+office_from office (was_missed ∷ missed) [] = office
+office_from office (was_missed ∷ missed) (request ∷ requests) =
+    office_from (office_unless was_missed office request) missed requests
+
+-- the same from the office without a session
+abbrev pub office_of : List Bool → List Request → OfficeState
+office_of missed requests = office_from None missed requests
 
 -- the reply to a candidate's request is the text of the candidate's view
 abbrev pub RepliesText : OfficeState → PlainRequest → PlainReply → Type 0

@@ -28,8 +28,10 @@ fn by_office(method: &'static str, target: &'static str, body: &'static [u8]) ->
     }
 }
 
-// Fails unless the reply is the page of candidate 2, and the shares add up to this penalty.
-fn assert_said<R: Abort>(rt: &R, said: &ReplyAndShares, penalty: u64) {
+// Fails unless no request was missed, the reply is the page of candidate 2, and the shares add up to
+// this penalty.
+fn assert_said<R: Abort>(rt: &R, said: &ReplyAndShares, missed: &[bool], penalty: u64) {
+    assert_eq!(rt; said.missed.as_slice(), missed);
     assert_eq!(rt; said.reply.body.bytes(), PAGE);
     let total = match &said.shares {
         Some(shares) => shares.parts().map(|parts| parts.total()),
@@ -60,7 +62,7 @@ fn publish_twice(rt: HostRuntime) -> Result<(), Fail> {
     let Ok((one, other)) = ask_two_offices(rt.alloc(), &once, &twice, &asked) else {
         return Err("not asked")?;
     };
-    assert_said(&rt, &one, 37);
-    assert_said(&rt, &other, 44);
+    assert_said(&rt, &one, &[false; 3], 37);
+    assert_said(&rt, &other, &[false; 6], 44);
     Ok(())
 }

@@ -9,7 +9,7 @@ use Rattle.office_http.proofs.two_offices.ask.Goals as goal
 pub returns-clause-text : goal.returns-clause-text
 returns-clause-text c = λ o now.
     let read = c.in-Ok.ensures.reads (memory_is_clean c.shares.new.self) o now in
-    c.in_ok-reply.ensures.text o
+    c.in_ok-reply.ensures o
     (subst (λ (held : Held MemStore). Represents (state over_memory held) o) (sym c.new-desk.ensures) read.1)
 
 pub returns-clause-add_up : goal.returns-clause-add_up
