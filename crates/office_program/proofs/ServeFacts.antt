@@ -10,7 +10,7 @@ use Rattle.sqlite.specs.Store.{Ghosts}
 use Rattle.office_connections.specs.Clients.{ServesClients, ServesWhileOpen}
 use Rattle.office_connections.specs.Lines.{IsPortOf, PrintsFaults, listening_line}
 use Rattle.office_connections.specs.declared.accepting.Service.{Service}
-use Rattle.office_connections.proofs.ClientLemmas.{clients_follow, served_open, prints_faults}
+use Rattle.office_connections.proofs.ClientLemmas.{prints_faults, served_open}
 use Rattle.office_connections.proofs.ClientLemmas.{visits_keep}
 use Rattle.office_http.specs.Clients.{ServesAllByView}
 use Rattle.office_http.specs.Replying.{Answered, IsDone}
@@ -94,8 +94,14 @@ terms_follow AreTheirs Those Serve Others IsClosed IsGone those follows gone ter
     errors_old errors_new x = record {
       service = x.service;
       most = x.most;
-      serves = clients_follow AreTheirs Those Serve Others those follows x.service errors_old
-          errors_new x.serves;
+      serves = record {
+        visits = x.serves.visits;
+        has_failed = x.serves.has_failed;
+        theirs = those x.serves.has_failed x.serves.visits x.serves.theirs;
+        count = x.serves.count;
+        served = follows x.serves.visits x.serves.served;
+        printed = x.serves.printed;
+      };
       all = x.all;
       fewer = tt;
     }
@@ -103,8 +109,14 @@ terms_follow AreTheirs Those Serve Others IsClosed IsGone those follows gone ter
     errors_old errors_new x = record {
       service = x.service;
       most = x.most;
-      serves = clients_follow AreTheirs Those Serve Others those follows x.service errors_old
-          errors_new x.serves;
+      serves = record {
+        visits = x.serves.visits;
+        has_failed = x.serves.has_failed;
+        theirs = those x.serves.has_failed x.serves.visits x.serves.theirs;
+        count = x.serves.count;
+        served = follows x.serves.visits x.serves.served;
+        printed = x.serves.printed;
+      };
       all = tt;
       fewer = elim x.fewer [
         | inl nobody ↦ inl nobody
@@ -112,6 +124,11 @@ terms_follow AreTheirs Those Serve Others IsClosed IsGone those follows gone ter
         | inr (inr closed) ↦ inr (inr (closed.0, closed.1, gone closed.2))
       ];
     }
+
+-- a fault of writing is none of listening
+pub write_is_no_listen : (shown : ProgramFault) → shown ≡ CannotWrite → shown ≢ CannotListen
+write_is_no_listen shown write listen =
+    let never : CannotWrite ≡ CannotListen = sym write ∙ listen in cc
 
 module _ {S : Type 0} (store : Ghosts S) where
   -- a request that was answered is still answered after the check of the store

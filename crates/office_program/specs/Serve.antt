@@ -30,10 +30,6 @@ use Rattle.office_store.specs.Shut.{IsShut}
 abbrev pub IsStoreShut : {S : Type 0} → Ghosts S → Held S → Type 0
 IsStoreShut store held = HasCleanDisk (state store held) → IsShut (state store held)
 
--- the same, for some store
-abbrev pub IsSomeStoreShut : {S : Type 0} → Ghosts S → Type 0
-IsSomeStoreShut {S} store = (held : Held S) × IsStoreShut store held
-
 -- asked whether its store is closed, a desk says so, and changes nothing; assuming the disk returns
 -- what was written, what it says is true
 pub record SaysWhetherShut {S : Type 0} (store : Ghosts S) (old : Held S)
@@ -71,11 +67,6 @@ FileServes store old new visits = HasCleanDisk (state store new)
     → (there : OfficeState) → IsOfficeOf (state store old).now there
     → (next : OfficeState) × ServesAllByView visits there next
     × (IsTrue (state store new).is_open → IsOfficeOf (state store new).now next)
-
--- no connection was served, or the office found in some database served them
-abbrev pub SomeFileServes : {S : Type 0} → Ghosts S → List Visit → Type 0
-SomeFileServes {S} store visits = (visits ≡ [])
-    ⊎ ((old : Held S) × (new : Held S) × FileServes store old new visits)
 
 module _ {I R W : Type 0} (opens : Option I → Type 0) (accepts : I → Option (R × W) → I → Type 0)
     (takes_back : I → W → I → Type 0)

@@ -4,9 +4,8 @@ ghost use Rattle.std.specs.Duration.{as_nanos};
 ghost use Rattle.std.specs.Io.KnownBytes.{Appends, Keeps};
 ghost use Rattle.office_connections.specs.Clients.{AreOfClients};
 ghost use Rattle.office_connections.specs.Lines.{listening_line};
-ghost use Rattle.office_program.specs.Serve.{AreOfPort, FileServes, IsSomeStoreShut, IsStoreShut};
-ghost use Rattle.office_program.specs.Serve.{LeavesPort, OfficeServes, PrintsServed, ServesTerms};
-ghost use Rattle.office_program.specs.Serve.{SomeFileServes};
+ghost use Rattle.office_program.specs.Serve.{AreOfPort, FileServes, IsStoreShut, LeavesPort};
+ghost use Rattle.office_program.specs.Serve.{OfficeServes, PrintsServed, ServesTerms};
 ghost use Rattle.office_program.specs.TaskFaults.{IsOfServe};
 
 use crate::answering::ServingDesk;
@@ -16,7 +15,6 @@ use crate::notices::{LongWork, announce, announce_new, announce_upgrade};
 use crate::words::Terms;
 use office_connections::{Clients, Plan, Ports, Timed, announce_and_accept};
 use office_http::{Alter, Connection, Desk, Office, Routes};
-use sqlite::{File, FileStore};
 use std::fs;
 use std::io::{Read, Write};
 use std::time::Duration;
@@ -38,11 +36,11 @@ pub(crate) fn open_and_serve<
     out: &mut O,
     err: &mut E,
 ) -> Result<Ending, ProgramFault<'a>>
-    // As for `serve_office`, with the connection to some database.
+    // As for `serve_office`, but for the office: as many clients of the port are served as the terms
+    // say, or the fault says why not.
     ensures reached { ServesTerms
         (AreOfPort (N.opens net.now terms.port) I.accepts I.takes_back R.remaining W.contents)
-        (SomeFileServes ⟦<FileStore<File> as Alter>⟧.Store)
-        (IsSomeStoreShut ⟦<FileStore<File> as Alter>⟧.Store) terms result
+        (λ visits. Unit {0}) (Unit {0}) terms result
         (E.contents err.old) (E.contents err.new) }
     ensures served { IfOk result (PrintsServed terms (O.contents out.old) (O.contents out.new)
         (E.contents err.old) (E.contents err.new)) }

@@ -5,7 +5,7 @@ use Rattle.office_program.proofs.serving.listen_and_serve.Goals as goal
 
 -- listening failed
 pub returns-in_default-clause-reached : goal.returns-in_default-clause-reached
-returns-in_default-clause-reached g c = nobody_comes _ _ _ _ _ (inl (?, refl))
+returns-in_default-clause-reached g c = nobody_comes _ _ _ _ _ (inl (c.in_default.ensures.failed, refl))
     (record {
       clean = λ clean. clean;
       runs = λ clean office now. (office, nobody_served office, now);

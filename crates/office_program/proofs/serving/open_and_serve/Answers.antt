@@ -1,12 +1,12 @@
-use Rattle.std.proofs.Common.{inl, inr, refl}
+use Rattle.std.proofs.Common.{inl, refl}
 use Rattle.office_program.proofs.ServeFacts.{serves_nobody, terms_follow}
 use Rattle.office_program.proofs.serving.open_and_serve.Goals as goal
 
 -- no database was opened
 pub returns-in-Err-clause-reached : goal.returns-in-Err-clause-reached
-returns-in-Err-clause-reached g c = serves_nobody _ _ _ _ _ (inl refl) (inl refl) _ c.fault_of_open.ensures.other
+returns-in-Err-clause-reached g c =
+    serves_nobody _ _ _ _ _ (inl refl) tt _ c.fault_of_open.ensures.other
 
 pub returns-clause-reached : goal.returns-clause-reached
 returns-clause-reached g c = terms_follow _ _ _ _ _ _ (λ has_failed vs theirs. theirs)
-    (λ vs served. inr (_, _, served)) (λ closed. (_, closed)) _ _ _ _
-    c.serve_office.ensures.reached
+    (λ vs served. tt) (λ closed. tt) _ _ _ _ c.serve_office-conn.ensures.reached

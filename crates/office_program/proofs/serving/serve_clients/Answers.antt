@@ -2,8 +2,8 @@ use Rattle.std.proofs.Common.{◌∙◌, arith, inl, inr, refl}
 use Rattle.std.proofs.lemmas.Bool.{eqb-true}
 use Rattle.sqlite.specs.declared.error.Error.TheVariants.{SqliteFailure}
 use Rattle.sqlite.specs.declared.error.ErrorCode.TheVariants.{OutOfMemory}
-use Rattle.office_connections.proofs.ClientLemmas.{clients_follow}
 use Rattle.office_program.proofs.ServeFacts.{desk_serves, desk_shut, nobody_served, serves_nobody}
+use Rattle.office_program.proofs.ServeFacts.{terms_follow, write_is_no_listen}
 use Rattle.office_program.proofs.serving.serve_clients.Goals as goal
 
 pub returns-in_default-clause-served : goal.returns-in_default-clause-served
@@ -24,31 +24,33 @@ pub returns-in-Ok-announce_and_accept-clause-served :
 returns-in-Ok-announce_and_accept-clause-served g c =
     let x = c.in-Ok-announce_and_accept.ensures.served in
     let plan = c.plan_of-plan.ensures.connections in
-    record {
+    terms_follow _ _ _ _ ⊥ _ (λ has_failed vs theirs. theirs)
+    (desk_serves g.S.Store (λ m. m.desk.ghost_name) (λ m. m.desk.now) (λ m. m.is_shut)
+    _ _ _ c.desk-1.given.1) (λ never. absurd never) _ _ _ _
+    (record {
       service = x.service;
       most = omega (arith, x.most, plan);
-      serves = clients_follow _ _ _ _ (λ has_failed vs theirs. theirs)
-          (desk_serves g.S.Store (λ m. m.desk.ghost_name) (λ m. m.desk.now) (λ m. m.is_shut)
-          _ _ _ c.desk-1.given.1) _ _ _ x.serves;
+      serves = x.serves;
       all = (x.all.0 ∙ plan, x.all.2, λ err_line. x.all.1 ∙ eqb-true _ 0 err_line);
       fewer = tt;
-    }
+    })
 
 -- the store is closed; or fewer clients were served, or none
 pub returns-clause-served : goal.returns-clause-served
 returns-clause-served g c =
     let x = c.in-Err.ensures.served in
     let plan = c.plan_of-plan.ensures.connections in
-    record {
+    terms_follow _ _ _ _ _ _ (λ has_failed vs theirs. theirs)
+    (desk_serves g.S.Store (λ m. m.desk.ghost_name) (λ m. m.desk.now) (λ m. m.is_shut)
+    _ _ _ c.desk-1.given.1) (λ closed. closed) _ _ _ _
+    (record {
       service = x.service;
       most = omega (arith, x.most, plan);
-      serves = clients_follow _ _ _ _ (λ has_failed vs theirs. theirs)
-          (desk_serves g.S.Store (λ m. m.desk.ghost_name) (λ m. m.desk.now) (λ m. m.is_shut)
-          _ _ _ c.desk-1.given.1) _ _ _ x.serves;
+      serves = x.serves;
       all = tt;
       fewer = elim x.fewer [
         | inl nobody ↦ inl (
-          λ is. let never = sym (c.fault_of_run.ensures.write nobody.0) ∙ is in cc,
+          λ is. absurd (write_is_no_listen _ (c.fault_of_run.ensures.write nobody.0) is),
           nobody.1,
           nobody.2,
         )
@@ -64,7 +66,7 @@ returns-clause-served g c =
               _ _ _ c.desk-1.given.1 x.serves.visits x.serves.served refl shut.2,
         ))
       ];
-    }
+    })
 
 -- the port was printed, unless that failed
 pub returns-clause-unprinted : goal.returns-clause-unprinted
