@@ -1,5 +1,5 @@
 -- Facts of an office, from the connections that it served.
-use Rattle.std.proofs.Common.{◌≡◌, ◌≢◌, ◌⊎◌, ◌∙◌, ℕ, ◌<◌, Bool, true, false, List, [], Option}
+use Rattle.std.proofs.Common.{◌≡◌, ◌≢◌, ◌⊎◌, ◌∙◌, ℕ, Bool, true, false, List, [], Option}
 use Rattle.std.proofs.Common.{Result, Ok, Err, IfErr, IfOk, IsTrue, arith, inl, inr, refl, subst, sym}
 use Rattle.std.proofs.lemmas.List.Elements.{All-nil}
 use Rattle.std.specs.Prelude.{MatchBool}
@@ -7,9 +7,8 @@ use Rattle.std.specs.Io.KnownBytes.{Appends, Keeps}
 use Rattle.std.proofs.KnownBytes.{Appends-nil}
 use Rattle.sqlite.specs.Held.{Held, state}
 use Rattle.sqlite.specs.Store.{Ghosts}
-use Rattle.office_connections.specs.Clients.{ServesClients, ServesWhileOpen}
+use Rattle.office_connections.specs.Clients.{ServesWhileOpen}
 use Rattle.office_connections.specs.Lines.{IsPortOf, PrintsFaults, listening_line}
-use Rattle.office_connections.specs.declared.accepting.Service.{Service}
 use Rattle.office_connections.proofs.ClientLemmas.{prints_faults, served_open}
 use Rattle.office_connections.proofs.ClientLemmas.{visits_keep}
 use Rattle.office_http.specs.Clients.{ServesAllByView}
@@ -18,7 +17,7 @@ use Rattle.office_http.specs.Transcripts.{RepliesOwnView}
 use Rattle.office_http.proofs.ClientLemmas.{visits_by_view}
 use Rattle.office_messages.specs.Reply.{PlainReply}
 use Rattle.office_messages.specs.Stream.{PlainRequest}
-use Rattle.office_messages.specs.Visits.{Visit, ServesVisits}
+use Rattle.office_messages.specs.Visits.{Visit}
 use Rattle.office_messages.specs.declared.statuses.Status.{Status}
 use Rattle.office_messages.specs.declared.statuses.Status.TheVariants as status
 use Rattle.office_messages.proofs.RunLemmas.{Lends}

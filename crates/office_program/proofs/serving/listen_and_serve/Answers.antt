@@ -1,4 +1,4 @@
-use Rattle.std.proofs.Common.{◌≡◌, false, inl, inr, refl, true}
+use Rattle.std.proofs.Common.{false, inl, inr, refl, true}
 use Rattle.office_program.proofs.ServeFacts.{leaves_port, nobody_comes, nobody_served}
 use Rattle.office_program.proofs.ServeFacts.{prints_served, terms_follow}
 use Rattle.office_program.proofs.serving.listen_and_serve.Goals as goal

@@ -1,4 +1,4 @@
-use Rattle.std.proofs.Common.{◌∙◌, [], arith, inl, inr, refl, subst, sym}
+use Rattle.std.proofs.Common.{◌∙◌, inl, inr, refl, subst, sym}
 use Rattle.sqlite.specs.Held.{state}
 use Rattle.sqlite.specs.State.{HasCleanDisk}
 use Rattle.office_store.specs.Opening.{IsOfficeOf}
