@@ -7,6 +7,7 @@ use Rattle.std.specs.Io.KnownBytes.{Appends, Keeps}
 use Rattle.std.proofs.KnownBytes.{Appends-nil}
 use Rattle.sqlite.specs.Held.{Held, state}
 use Rattle.sqlite.specs.Store.{Ghosts}
+use Rattle.sqlite.proofs.StateLemmas.{survives_then}
 use Rattle.office_connections.specs.Clients.{ServesWhileOpen}
 use Rattle.office_connections.specs.Lines.{IsPortOf, PrintsFaults, listening_line}
 use Rattle.office_connections.proofs.ClientLemmas.{prints_faults, served_open}
@@ -24,7 +25,9 @@ use Rattle.office_messages.proofs.RunLemmas.{Lends}
 use Rattle.office_messages.proofs.VisitLemmas.{lent_visits, visits_along}
 use Rattle.office_model.specs.Office.{OfficeState}
 use Rattle.office_model.specs.declared.fault.StoreFault.{StoreFault}
-use Rattle.office_store.specs.Running.{IsCommitted, OfficeUnchanged}
+use Rattle.office_store.specs.Leaving.{LeavesAsItWas}
+use Rattle.office_store.specs.Running.{IsCommitted}
+use Rattle.office_store.proofs.LeavingLemmas.{survives_same}
 use Rattle.office_store.proofs.RunLemmas.{now_still}
 use Rattle.office_program.specs.Serve.{AsksWhetherShut, IsStoreShut, LeavesPort, OfficeServes}
 use Rattle.office_program.specs.Serve.{PrintsServed, SaysWhetherShut, ServesTerms, is_said_shut}
@@ -133,15 +136,24 @@ module _ {S : Type 0} (store : Ghosts S) where
   -- a request that was answered is still answered after the check of the store
   answered_on : (old mid new : Held S) (request : PlainRequest) (reply : PlainReply)
       → Answered store old request reply mid → (IsDone reply.status → new ≡ mid)
-      → OfficeUnchanged store mid new
+      → LeavesAsItWas store mid new
       → Answered store old request reply new
   answered_on old mid new request reply x done same = record {
-    clean = λ k. x.clean (same.clean k);
+    clean = λ k. x.clean (same.unchanged.clean k);
     step = λ k office now.
-        let led = x.step (same.clean k) office now in
-        (led.0, led.1, now_still (state store mid) (state store new) led.0 (same.unchanged k) led.2);
+        let led = x.step (same.unchanged.clean k) office now in (
+          led.0,
+          led.1,
+          now_still (state store mid) (state store new) led.0 (same.unchanged.unchanged k) led.2,
+        );
     all_committed = λ k is. subst (λ h. IsCommitted (state store h)) (sym (done is))
-        (x.all_committed (same.clean k) is);
+        (x.all_committed (same.unchanged.clean k) is);
+    unchanged = λ question k opened.
+        let now = same.unchanged.unchanged k opened in
+        let was = x.unchanged question (same.unchanged.clean k) now.0 in
+        (was.0, now.1 ∙ was.1);
+    survives = survives_then (state store old) (state store mid) (state store new) _ (λ _. ⊥) _
+        (λ _ db may. may) (λ _ db none. absurd none) x.survives same.survives;
   }
 
   -- a store that counts as closed is closed
@@ -156,15 +168,17 @@ module _ {S : Type 0} (store : Ghosts S) where
   -- what holds after the desk was asked, or wasn't
   record AfterAsking (status : Status) (mid new : Held S) (b : Bool) : Type 0 where
     done : IsDone status → new ≡ mid
-    unchanged : OfficeUnchanged store mid new
+    leaves : LeavesAsItWas store mid new
     shut : IsTrue b → IsStoreShut store new
 
   unasked : (status : Status) (mid new : Held S) (b : Bool) → (b ≡ false) × (new ≡ mid)
       → AfterAsking status mid new b
   unasked status mid new b x = record {
     done = λ is. x.1;
-    unchanged = subst (OfficeUnchanged store mid) (sym x.1)
-        (record { clean = λ k. k; unchanged = λ k opened. (opened, refl) });
+    leaves = subst (LeavesAsItWas store mid) (sym x.1) (record {
+      unchanged = record { clean = λ k. k; unchanged = λ k opened. (opened, refl) };
+      survives = survives_same (state store mid);
+    });
     shut = λ is. let never : true ≡ false = sym is ∙ x.0 in absurd cc;
   }
 
@@ -174,7 +188,7 @@ module _ {S : Type 0} (store : Ghosts S) where
       → AfterAsking status mid new b
   asked status refused mid new b x = record {
     done = λ is. absurd (refused is);
-    unchanged = x.1.unchanged;
+    leaves = x.1.leaves;
     shut = said_right mid new x.0 b x.1 x.2;
   }
 
@@ -213,7 +227,7 @@ module _ {S : Type 0} (store : Ghosts S) where
         → Lends name now (Answered store) o r reply n
     answers_lent o r reply n y =
         let after = after_asking reply.status y.1.0 (now n) (is_shut n) y.1.2 in
-        (y.0, answered_on (now o) y.1.0 (now n) r reply y.1.1 after.done after.unchanged)
+        (y.0, answered_on (now o) y.1.0 (now n) r reply y.1.1 after.done after.leaves)
 
     pub desk_serves : (vs : List Visit) → ServesWhileOpen Answers is_shut old new vs
         → OfficeServes store (now old) last vs

@@ -21,7 +21,8 @@ use Rattle.office_program.specs.declared.faults.ProgramFault.TheVariants as faul
 use Rattle.office_program.specs.declared.ending.Ending.{Ending}
 use Rattle.office_program.specs.declared.words.Terms.{Terms}
 use Rattle.office_store.specs.Opening.{IsOfficeOf}
-use Rattle.office_store.specs.Running.{IsCommitted, OfficeUnchanged}
+use Rattle.office_store.specs.Leaving.{LeavesAsItWas}
+use Rattle.office_store.specs.Running.{IsCommitted}
 use Rattle.office_store.specs.Shut.{IsShut}
 
 -- ---- whether a store is closed
@@ -30,13 +31,13 @@ use Rattle.office_store.specs.Shut.{IsShut}
 abbrev pub IsStoreShut : {S : Type 0} → Ghosts S → Held S → Type 0
 IsStoreShut store held = HasCleanDisk (state store held) → IsShut (state store held)
 
--- asked whether its store is closed, a desk says so, and changes nothing; assuming the disk returns
--- what was written, what it says is true
+-- asked whether its store is closed, a desk says so, and changes and commits nothing; assuming the
+-- disk returns what was written, what it says is true
 pub record SaysWhetherShut {S : Type 0} (store : Ghosts S) (old : Held S)
     (said : Result Bool StoreFault) (new : Held S) : Type 0 where
   pub right : HasCleanDisk (state store new) → IfOk said (λ is_shut.
       MatchBool is_shut (IsShut (state store new)) (IsCommitted (state store new)))
-  pub unchanged : OfficeUnchanged store old new
+  pub leaves : LeavesAsItWas store old new
 
 -- a store counts as closed if that was said, and not if it couldn't be found out
 abbrev pub is_said_shut : Result Bool StoreFault → Bool
