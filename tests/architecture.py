@@ -31,8 +31,10 @@ STATEMENT = re.compile(
 )
 DEVICES = re.compile(r"\bstd::(fs|io|net|env|process)\b|\bRattle\.std\.specs\.Io\b")
 GHOST_USE = re.compile(r"\buse\s+(?:path\s+)?Rattle\.([a-z][a-z0-9_]*)")
-# Arithmetic that wraps, and a shift that may drop bits: the prover asks of neither that nothing is lost.
-WRAPS = re.compile(r"\b(?:wrapping|overflowing|unchecked)_[a-z]+\b|\b(?!1(?:u32|u64|usize)?\b)[\w)\]]+ <<=? [\w(]")
+# Arithmetic that wraps, and a shift that may drop bits: the prover asks of neither that nothing is
+# lost.
+WRAPS = re.compile(r"\b(?:wrapping|overflowing|unchecked)_[a-z]+\b"
+                   r"|\b(?!1(?:u32|u64|usize)?\b)[\w)\]]+ <<=? [\w(]")
 # The one shift whose contract says which bits are dropped.
 SAID_SHIFT = ("office_files", "    word << (56 - 8 * count) << 8 ")
 CODE_USE = re.compile(r"^\s*(?:pub(?:\([a-z]+\))?\s+)?use\s+([a-z][a-z0-9_]*)", re.M)
@@ -138,7 +140,8 @@ def main_knows_the_program_alone(crates, knows):
 
 
 def no_arithmetic_wraps(crates, knows):
-    """Code has no arithmetic that wraps or drops bits, but for one shift that its contract describes."""
+    """Code has no arithmetic that wraps or drops bits, but for one shift that its contract
+    describes."""
     for crate in crates:
         for path, text in sources(crate):
             if path.suffix != ".rt":

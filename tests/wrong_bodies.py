@@ -1,10 +1,11 @@
 #!/usr/bin/env python3
 """The wrong bodies that the gate does not try each time: crates/*/wrong-bodies/*.edit.
 
-    python3 tests/wrong_bodies.py try [CRATE..]   tries those of these crates, or of all, that were not
-                                                  refused with these sources before, or are due
-    python3 tests/wrong_bodies.py current         lists those that have to be tried, and counts those
-                                                  that are due
+    python3 tests/wrong_bodies.py try [CRATE..]
+        tries those of these crates, or of all, that were not refused with these sources before, or
+        are due
+    python3 tests/wrong_bodies.py current
+        lists those that have to be tried, and counts those that are due
 
 A crate is proved first, without an edit. Then its edits are tried in a copy, over what that proof
 kept, so that a check proves what an edit touches; each must be refused by the prover. A function is
@@ -14,13 +15,14 @@ this function calls another that is not proved doesn't count. What is not refuse
 alone, and is refused if a goal of any function stays open, that of a caller, say; the rest is left
 to `rt must-fail`. All checks of a crate, and crates, run side by side.
 
-wrong-bodies/TRIED is one line: a hash of the crate's sources, a hash of what its proofs read of others
-(the public contracts and the definitions of the crates below, and the kit), and a hash of each edit
-that was refused with them, its two head lines left out. So an edit that is added or changed is tried by
-itself. A change of the crate's sources makes all its edits to be tried again, and `current` fails until
-they are. A change below makes them due: `current` counts them, because its crate is proved anew anyway,
-and a release has none. Those in wrong-bodies/waiting/ are new, or were refused with earlier sources, and
-wait for a longer run: `current` counts them, and `try` takes them back."""
+wrong-bodies/TRIED is one line: a hash of the crate's sources, a hash of what its proofs read of
+others (the public contracts and the definitions of the crates below, and the kit), and a hash of
+each edit that was refused with them, its two head lines left out. So an edit that is added or
+changed is tried by itself. A change of the crate's sources makes all its edits to be tried again,
+and `current` fails until they are. A change below makes them due: `current` counts them, because
+its crate is proved anew anyway, and a release has none. Those in wrong-bodies/waiting/ are new, or
+were refused with earlier sources, and wait for a longer run: `current` counts them, and `try` takes
+them back."""
 import hashlib
 import os
 import re
@@ -85,14 +87,17 @@ def say_current(crates):
     for name in crates:
         judged.add(len(edits_of(name)),
                    [f"{name}: {at.stem} has to be tried" for at in untried(name)]
-                   + [f"{name}: {at.stem}: {file} has no such text: {old}" for at, file, old in misplaced(name)]
+                   + [f"{name}: {at.stem}: {file} has no such text: {old}"
+                      for at, file, old in misplaced(name)]
                    + [f"{name}: {at.stem} is refused by {word}, which is no word of its crate"
                       for at, word in unknown_words(name)])
     if late:
         print(f"wrong bodies: run ./test wrong {' '.join(late)}", file=sys.stderr)
     for name in filter(waiting, crates):
-        print(f"wrong bodies: {len(waiting(name))} wait: ./test wrong {name} tries them", file=sys.stderr)
-    return judged.end(f"edits, {sum(len(due(name)) for name in crates)} due because of a crate below")
+        print(f"wrong bodies: {len(waiting(name))} wait: ./test wrong {name} tries them",
+              file=sys.stderr)
+    late = sum(len(due(name)) for name in crates)
+    return judged.end(f"edits, {late} due because of a crate below")
 
 
 def try_all(names):
@@ -104,7 +109,8 @@ def try_all(names):
     if not are_proved(names):
         print(f"wrong bodies: 0 refused, {wanted} not refused")
         return 1
-    print(f"wrong bodies: their crates proved, {(time.monotonic() - begun) / 60:.1f} minutes", flush=True)
+    print(f"wrong bodies: their crates proved, {(time.monotonic() - begun) / 60:.1f} minutes",
+          flush=True)
     names = sorted(names, key=lambda name: -len(wanted_of(name)) * size_of(name))
     # the crates' threads only wait for their checks
     with ThreadPoolExecutor(lanes()) as checks, ThreadPoolExecutor(len(names) or 1) as crates:
@@ -155,7 +161,8 @@ def keep(name, before, refused):
     own, below, edits = hashes(name)
     noted = tried(name)[2] if tried(name)[:2] == (own, below) else set()
     noted |= {before[2][at] for at in refused if before[:2] == (own, below) and at in before[2]}
-    mark(name).write_text(" ".join([own, below, *(edits[at] for at in edits if edits[at] in noted)]) + "\n")
+    kept = [value for value in edits.values() if value in noted]
+    mark(name).write_text(" ".join([own, below, *kept]) + "\n")
 
 
 class Copies:
@@ -344,8 +351,8 @@ def misplaced(name):
 
 
 def unknown_words(name):
-    """The edits of a crate, and those that the gate tries, that are said to be refused by what is no
-    word of the crate."""
+    """The edits of a crate, and those that the gate tries, that are said to be refused by what is
+    no word of the crate."""
     words = set(re.findall(r"[\w-]+", "\n".join(file.read_text() for file in files_of(name))))
     crate = ROOT / "crates" / name
     for at in sorted([*crate.glob("wrong-bodies/*.edit"), *crate.glob("must-fail/*.edit")]):
@@ -372,8 +379,8 @@ def files_of(name):
 
 
 def hashes(name):
-    """A hash of a crate's sources, one of what its proofs read of others, and that of each edit by its
-    file's name."""
+    """A hash of a crate's sources, one of what its proofs read of others, and that of each edit by
+    its file's name."""
     edits = {at.name: hash_of([at])[:12] for at in edits_of(name)}
     return hash_of(files_of(name))[:16], below_of(name), edits
 
@@ -382,12 +389,14 @@ def hashes(name):
 def below_of(name):
     """A hash of the public contracts and the definitions of the crates below, and of the kit."""
     kit = (ROOT / "release" / "KIT").read_text()
-    return hash_of([], kit + "".join(contracts_of(crate) for crate in sorted(crates_below(name))))[:16]
+    contracts = "".join(contracts_of(crate) for crate in sorted(crates_below(name)))
+    return hash_of([], kit + contracts)[:16]
 
 
 @cache
 def contracts_of(name):
-    """A crate's public types and calls with their clauses, without comments, and its definitions."""
+    """A crate's public types and calls with their clauses, without comments, and its
+    definitions."""
     pages = SourceFileLoader("pages", str(ROOT / "pages")).load_module()
     types, found = pages.public_types(name), []
     for module in pages.modules_of(name):
@@ -396,14 +405,16 @@ def contracts_of(name):
             code = line == "```text" or code and line != "```"
             if (code or line.startswith("####")) and not line.lstrip().startswith("//"):
                 found.append(line)
-    specs = [file for file in files_of(name) if file.is_relative_to(ROOT / "crates" / name / "specs")]
+    folder = ROOT / "crates" / name / "specs"
+    specs = [file for file in files_of(name) if file.is_relative_to(folder)]
     return hash_of(specs, "\n".join(found))
 
 
 def crates_below(name):
     """The crates of the repository on which a crate stands."""
-    lines = (line.split("#")[0].split(":") for line in (ROOT / "crates.txt").read_text().splitlines())
-    stands_on = {line[0].split()[0]: line[1].split() for line in lines if len(line) == 2}
+    lines = (ROOT / "crates.txt").read_text().splitlines()
+    parts = (line.split("#")[0].split(":") for line in lines)
+    stands_on = {part[0].split()[0]: part[1].split() for part in parts if len(part) == 2}
     found, left = set(), [name]
     while left:
         new = set(stands_on.get(left.pop(), [])) & set(stands_on) - found
@@ -433,8 +444,8 @@ def mark(name):
 
 
 def tried(name):
-    """The hashes of the crate's sources and of what is below, and those of the edits that were refused
-    with them."""
+    """The hashes of the crate's sources and of what is below, and those of the edits that were
+    refused with them."""
     words = mark(name).read_text().split() if mark(name).is_file() else []
     return (words[0], words[1], set(words[2:])) if len(words) > 1 else ("", "", set())
 

@@ -26,6 +26,14 @@ lanes k (x ∷ xs) (m ∷ ms) e h g =
     ∙ ap (λ n. n * 2 ^ k + bit_and x m) (lanes k xs ms (omega arith) h.1 g.1)
     ∙ sym (turned (2 ^ k) (bit_and x m) (number_l (2 ^ k) (zip2 bit_and xs ms)))
 
+-- four or eight digits below a base
+four : (n a b c d : ℕ) → a < n → b < n → c < n → d < n → AllBelowBase n (a ∷ b ∷ c ∷ d ∷ [])
+four n a b c d A B C D = (A, (B, (C, (D, tt))))
+
+eight : (n a b c d f g i j : ℕ) → a < n → b < n → c < n → d < n → f < n → g < n → i < n → j < n
+    → AllBelowBase n (a ∷ b ∷ c ∷ d ∷ f ∷ g ∷ i ∷ j ∷ [])
+eight n a b c d f g i j A B C D F G I J = (A, (B, (C, (D, (F, (G, (I, (J, tt))))))))
+
 low : (x : ℕ) (k : ℕ) → x < 2 ^ k → bit_and x (2 ^ k - 1) ≡ x
 low x k h = and_mask x k ∙ mod-eq_of_lt h
 
@@ -44,8 +52,10 @@ pairs_kept : (p x q y r z s w : ℕ) → p < 100 → x < 100 → q < 100 → y <
     ≡ number_l 65536 (p ∷ q ∷ r ∷ s ∷ [])
 pairs_kept p x q y r z s w P X Q Y R Z S W =
     lanes 8 (p ∷ x ∷ q ∷ y ∷ r ∷ z ∷ s ∷ w ∷ []) (255 ∷ 0 ∷ 255 ∷ 0 ∷ 255 ∷ 0 ∷ 255 ∷ 0 ∷ []) refl
-    (omega arith, (omega arith, (omega arith, (omega arith, (omega arith, (omega arith, (omega arith, (omega arith, tt))))))))
-    (omega arith, (omega arith, (omega arith, (omega arith, (omega arith, (omega arith, (omega arith, (omega arith, tt))))))))
+    (eight 256 p x q y r z s w (omega arith) (omega arith) (omega arith) (omega arith)
+    (omega arith) (omega arith) (omega arith) (omega arith))
+    (eight 256 255 0 255 0 255 0 255 0 (omega arith) (omega arith) (omega arith) (omega arith)
+    (omega arith) (omega arith) (omega arith) (omega arith))
     ∙ (λ n. number_l 256 (low p 8 (omega arith) n ∷ and_zero_r x n ∷ low q 8 (omega arith) n ∷ and_zero_r y n
     ∷ low r 8 (omega arith) n ∷ and_zero_r z n ∷ low s 8 (omega arith) n ∷ and_zero_r w n ∷ []))
     ∙ omega arith
@@ -54,8 +64,8 @@ fours_kept : (p x q y : ℕ) → p < 10000 → x < 10000 → q < 10000 → y < 1
     → bit_and (number_l 65536 (p ∷ x ∷ q ∷ y ∷ [])) 0x0000_ffff_0000_ffff ≡ q * 2 ^ 32 + p
 fours_kept p x q y P X Q Y =
     lanes 16 (p ∷ x ∷ q ∷ y ∷ []) (65535 ∷ 0 ∷ 65535 ∷ 0 ∷ []) refl
-    (omega arith, (omega arith, (omega arith, (omega arith, tt))))
-    (omega arith, (omega arith, (omega arith, (omega arith, tt))))
+    (four 65536 p x q y (omega arith) (omega arith) (omega arith) (omega arith))
+    (four 65536 65535 0 65535 0 (omega arith) (omega arith) (omega arith) (omega arith))
     ∙ (λ n. number_l 65536 (low p 16 (omega arith) n ∷ and_zero_r x n ∷ low q 16 (omega arith) n
     ∷ and_zero_r y n ∷ []))
     ∙ omega arith
@@ -65,8 +75,10 @@ digits_kept : (a b c d f g i j : ℕ) → a < 10 → b < 10 → c < 10 → d < 1
     ≡ number_l 256 (a ∷ b ∷ c ∷ d ∷ f ∷ g ∷ i ∷ j ∷ [])
 digits_kept a b c d f g i j A B C D F G I J =
     lanes 8 (a ∷ b ∷ c ∷ d ∷ f ∷ g ∷ i ∷ j ∷ []) (15 ∷ 15 ∷ 15 ∷ 15 ∷ 15 ∷ 15 ∷ 15 ∷ 15 ∷ []) refl
-    (omega arith, (omega arith, (omega arith, (omega arith, (omega arith, (omega arith, (omega arith, (omega arith, tt))))))))
-    (omega arith, (omega arith, (omega arith, (omega arith, (omega arith, (omega arith, (omega arith, (omega arith, tt))))))))
+    (eight 256 a b c d f g i j (omega arith) (omega arith) (omega arith) (omega arith)
+    (omega arith) (omega arith) (omega arith) (omega arith))
+    (eight 256 15 15 15 15 15 15 15 15 (omega arith) (omega arith) (omega arith) (omega arith)
+    (omega arith) (omega arith) (omega arith) (omega arith))
     ∙ (λ n. number_l 256 (low a 4 (omega arith) n ∷ low b 4 (omega arith) n ∷ low c 4 (omega arith) n
     ∷ low d 4 (omega arith) n ∷ low f 4 (omega arith) n ∷ low g 4 (omega arith) n
     ∷ low i 4 (omega arith) n ∷ low j 4 (omega arith) n ∷ []))
