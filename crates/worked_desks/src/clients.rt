@@ -1,11 +1,12 @@
 // Clients of an office, one after another: the replies to each, and the state after a fault.
 use crate::connections::{carry_out, new_desk};
 use crate::sides::{Calls, HandClock, Side, Waiting};
-use office_connections::{MayShut, Plan, accept_all};
+use office_connections::{MayShut, Plan, Timed, accept_all};
 use office_http::{AnsweringDesk, Reply, Request, Routes};
 use office_messages::Machine;
 use sqlite::MemStore;
 use std::alloc::{AllocError, Global};
+use std::io::{Read, Write};
 use std::process::Abort;
 use std::test::Fail;
 use std::time::Duration;
@@ -363,17 +364,8 @@ fn serve_three(
         connections: 3,
         patience: Duration::from_secs(case.patience),
     };
-    let mut waiting = Waiting::new(clients);
-    let mut err = Side::new(&mut lines, printing, &clock);
-    let service = accept_all(alloc, &clock, &mut waiting, plan, &mut machine, &mut err);
-    let counts = (
-        service.accepted,
-        service.unwritten,
-        waiting.handed_back,
-        waiting.left(),
-    );
-    drop(waiting);
-    drop(err);
+    let err = Side::new(&mut lines, printing, &clock);
+    let counts = serve_waiting(alloc, &clock, clients, plan, &mut machine, err);
     Ok(Outcome {
         first,
         second,
@@ -381,6 +373,27 @@ fn serve_three(
         lines,
         counts,
     })
+}
+
+// Serves those who wait, and returns the counts.
+fn serve_waiting<R: Read + Timed + Drop, W: Write + Timed + Drop, E: Write + Drop>(
+    alloc: Global,
+    clock: &HandClock,
+    clients: Vec<(R, W)>,
+    plan: Plan,
+    machine: &mut ShuttingDesk<'_>,
+    err: E,
+) -> (u32, u32, u32, usize) {
+    let mut err = err;
+    let mut waiting = Waiting::new(clients);
+    let service = accept_all(alloc, clock, &mut waiting, plan, machine, &mut err);
+    let handed_back = waiting.handed_back;
+    (
+        service.accepted,
+        service.unwritten,
+        handed_back,
+        waiting.left(),
+    )
 }
 
 // A side of a connection whose calls move all bytes and take no time.

@@ -1,12 +1,32 @@
 // A published office, and a candidate who requests it over a socket of this machine.
 use crate::clients::ShuttingDesk;
 use crate::connections::{carry_out, new_desk};
-use office_connections::{Plan, Ports, accept_all};
+use office_connections::{Plan, Ports, accept_all, announce};
 use office_http::{AnsweringDesk, Routes};
+use std::io;
 use std::io::{Read, Write};
 use std::net::{Ipv4Addr, SocketAddr, TcpStream};
 use std::test::Fail;
 use std::time::Duration;
+
+// A writer whose bytes are seen once they are flushed.
+#[derive(Drop)]
+struct Screen {
+    written: Vec<u8>,
+    // How many of them are seen.
+    seen: usize,
+}
+
+impl Write for Screen {
+    fn write(&mut self, buf: &[u8]) -> io::Result<usize> {
+        self.written.write(buf)
+    }
+
+    fn flush(&mut self) -> io::Result<()> {
+        self.seen = self.written.len();
+        Ok(())
+    }
+}
 
 // The small session is loaded, drafted and published.
 const PUBLISHED: &[u8] = b"PUT /instance HTTP/1.1\r\nHost: office\r\nX-Caller: office\r\n\
@@ -67,5 +87,21 @@ fn a_candidate_asks_over_a_socket(rt: HostRuntime) -> Result<(), Fail> {
     let mut reply = Vec::new(alloc);
     asking.read_to_end(&mut reply)?;
     assert_eq!(rt; reply.as_slice(), REPLY);
+    Ok(())
+}
+
+// Whoever waits for the line of the port sees it before the first client comes.
+#[test]
+fn the_port_is_seen(rt: HostRuntime) -> Result<(), Fail> {
+    let mut screen = Screen {
+        written: Vec::new(rt.alloc()),
+        seen: 0,
+    };
+    announce(8080, &mut screen)?;
+    assert_eq!(rt;
+        screen.written.as_slice(),
+        b"listening 127.0.0.1:8080\n".as_slice()
+    );
+    assert_eq!(rt; screen.seen, screen.written.len());
     Ok(())
 }
