@@ -3,6 +3,7 @@ import collections
 import contextlib
 import os
 import pathlib
+import resource
 import selectors
 import shutil
 import socket
@@ -18,7 +19,8 @@ from serve_cases import SMALL, SOLUTION, reply
 TOP = pathlib.Path(__file__).resolve().parent.parent
 HAPROXY = shutil.which("haproxy") or shutil.which("haproxy", path="/usr/sbin")
 SECONDS = 25
-CROWD = 1_000
+# A thousand, if so many files may be open.
+CROWD = min(1_000, resource.getrlimit(resource.RLIMIT_NOFILE)[1] // 3)
 
 
 class Queue:
