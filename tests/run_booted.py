@@ -3,7 +3,7 @@
 
 ROOT is a folder that mmdebstrap made (docs/WORKING.md has the command), which is copied; OLD a
 package of an earlier version. It is installed and set up; then the package of this repository
-is installed over the running office, removed and purged, and installed anew.
+is installed over the running office, removed and purged, and installed again.
 """
 import os
 import pathlib

@@ -503,8 +503,7 @@ def connection_to(address, port):
 
 
 def other_addresses(run):
-    """Only 127.0.0.1 is listened on: whoever reaches the port is believed to be the caller that
-    they name."""
+    """Only 127.0.0.1 is listened on, because the office believes each client's word on who asks."""
     office = run.office(connections=1)
     for address in "127.0.0.2", "::1", *own_addresses():
         came = connection_to(address, office.port)
