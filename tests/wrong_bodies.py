@@ -20,9 +20,9 @@ others (the public contracts and the definitions of the crates below, and the ki
 each edit that was refused with them, its two head lines left out. So an edit that is added or
 changed is tried by itself. A change of the crate's sources makes all its edits to be tried again,
 and `current` fails until they are. A change below makes them due: `current` counts them, because
-its crate is proved again anyway, and a release has none. Those in wrong-bodies/waiting/ are new, or
-were refused with earlier sources, and wait for a longer run: `current` counts them, and `try` takes
-them back."""
+its crate is proved again anyway; there are none when a version is cut. Those in
+wrong-bodies/waiting/ are new, or were refused with earlier sources, and wait for a longer run:
+`current` counts them, and `try` takes them back."""
 import hashlib
 import os
 import re
