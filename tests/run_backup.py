@@ -18,7 +18,7 @@ from run_serve import Office, one_reply
 from serve_cases import EXAMPLES, PENALTY, SOLUTION, message
 
 TOP = pathlib.Path(__file__).resolve().parent.parent
-SECONDS = 60
+SECONDS = 180
 SIGNALS = signal.SIGTERM, signal.SIGINT, signal.SIGHUP
 
 

@@ -25,7 +25,7 @@ from registry.changes import HEADER, MOST_BATCH, Change, in_batches
 from run_serve import Office, Run
 
 SMALL = (TOP / "examples" / "small" / "enrolments.csv").read_text()
-SECONDS = 60
+SECONDS = 180
 TODAY = f"{datetime.date.today().day} {datetime.date.today():%B}"
 WHO = "somebody on the registry's page"
 

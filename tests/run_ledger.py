@@ -168,7 +168,7 @@ def counted(_):
 
 def tool(*words):
     """The status, the output and the faults of the tool."""
-    ended = subprocess.run([TOOL, *words], capture_output=True, text=True, timeout=120)
+    ended = subprocess.run([TOOL, *words], capture_output=True, text=True, timeout=240)
     return ended.returncode, ended.stdout, ended.stderr
 
 
@@ -387,7 +387,7 @@ def users(run, folder):
         people.write_text(text)
         ended = subprocess.run(
             [TOP / "tools" / "users_from_csv", people, front, "--ledger", made, *more],
-            capture_output=True, text=True, timeout=60)
+            capture_output=True, text=True, timeout=180)
         return ended.returncode, ended.stderr
 
     def lines(name):

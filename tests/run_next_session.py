@@ -19,7 +19,7 @@ from run_serve import Office, Run
 from tools_path import TOP
 
 SOLUTION = (TOP / "examples" / "small.sol").read_bytes()
-SECONDS = 60
+SECONDS = 180
 NONE = "exams that move: 0\nseats that change where the exam stays: 0\n"
 ROOM = ("rooms", "Room 2.14,Physics building,2,7\n",
         "Room 2.14,Physics building,2,7\nRoom 3.01,Main building,4,1\n")

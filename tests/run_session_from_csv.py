@@ -128,7 +128,7 @@ class Run(Cases):
         """The status, the faults, the summary and the files that the tool makes."""
         out = self.folder / "out"
         shutil.rmtree(out, ignore_errors=True)
-        ended = subprocess.run([TOOL, source, out, *more], capture_output=True, timeout=60)
+        ended = subprocess.run([TOOL, source, out, *more], capture_output=True, timeout=180)
         files = {path.name: path.read_bytes() for path in out.glob("now/*.*")}
         if ended.returncode:
             files = {path.name: path.read_bytes() for path in out.rglob("*") if path.is_file()}
@@ -196,7 +196,7 @@ def examples(run, program):
               (UNIVERSITY / "session.exam").read_bytes() == files["session.exam"])
     ended = subprocess.run(
         [program, "check", UNIVERSITY / "session.exam", UNIVERSITY / "timetable.sol"],
-        capture_output=True, timeout=60)
+        capture_output=True, timeout=180)
     run.judge("its timetable", (0, b"breaches 0"), (ended.returncode, ended.stdout.splitlines()[0]))
 
 
