@@ -203,6 +203,8 @@ def differences(described):
                   if verb in page}
     permitted = callers()
     yield "methods with callers", set(permitted), set(operations)
+    yield ("tags", {tag["name"] for tag in described.whole["tags"]},
+           {tag for operation in operations.values() for tag in operation["tags"]})
     for (path, verb), operation in operations.items():
         yield f"callers of {verb} {path}", permitted.get((path, verb)), set(operation["x-callers"])
     listed = [*(operation["responses"] for operation in operations.values()),

@@ -105,7 +105,7 @@ def upgrade(judged, machine):
     judged.judge("its units", ["active"] * 3, machine.types(
         f"systemctl is-active {' '.join(UNITS)}").split())
     status = "the office of term answers\npublished, total penalty 37"
-    judged.judge("status", status, machine.types("examoffice-status 2>&1 | grep -v space"))
+    judged.judge("status", status, machine.types("examoffice-status 2>&1 | grep -v 'space\\|copy'"))
     said = machine.types("systemctl set-property --runtime examoffice@term MemoryMax=8M"
                          "; examoffice-status"
                          "; systemctl set-property --runtime examoffice@term MemoryMax=2G")

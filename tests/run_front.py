@@ -346,7 +346,13 @@ def log_of_changes(run, front):
              for line in lines]
     for line in LOGGED:
         run.judge(f"the log of changes has {line}", True, line in found)
-    fields = ["at", "method", "path", "status", "caller", "user", "body"]
+    asked = front.fetch("/drafts/9/publish", "registry", method="POST")[1]["X-Request-Id"]
+    browser.until("a request's number is in its reply and in its line",
+                  lambda: front.changes()[-1]["id"] == asked)
+    lines = front.changes()
+    run.judge("each request has a number of its own", len(lines),
+              len({line["id"] for line in lines}))
+    fields = ["at", "method", "path", "status", "caller", "user", "id", "body"]
     run.judge("its fields, and which requests", ([], []), (
         [line for line in lines if list(line) != fields or not re.match(TIME, line["at"])],
         [line for line in lines if line["method"] in ("GET", "HEAD", "")]))

@@ -15,6 +15,7 @@ import subprocess
 import sys
 import tempfile
 import threading
+import time
 
 import links
 from cases import Cases
@@ -67,8 +68,35 @@ def says_status(judged, folder, program):
             judged.judge(f"{free} % free", (status, free < 10, True),
                          (came, "warning: only 9 % of" in said, "nothing is published" in said))
         office.shutdown()
+    says_age_of_copies(judged, folder, program)
     judged.judge("no office on a port", 1, ran(program, port)[0])
     judged.judge("no port", 2, ran(program, "--port")[0])
+
+
+def says_age_of_copies(judged, folder, program):
+    """What examoffice-status says, some minutes after a change and after the newest copy."""
+    data, copies = folder / "data", folder / "copies"
+    environment = {**os.environ, "EXAMOFFICE_DATA": str(data), "EXAMOFFICE_COPIES": str(copies)}
+    now = time.time()
+    for case, changed, copied, age, warns in (
+            ("a copy of all", 40, 30, "30 minutes old", False),
+            ("a change that will be copied", 10, 30, "30 minutes old", False),
+            ("a change that wasn't copied", 20, 30, "30 minutes old", True),
+            ("no copy", 20, None, None, True)):
+        for made in (data, copies):
+            shutil.rmtree(made, ignore_errors=True)
+            made.mkdir()
+        files = [(data / "term.db", 50), (data / "term.db-wal", changed)]
+        if copied:
+            files += [(copies / "term-20270514T120000Z.db", 60),
+                      (copies / "term-20270514T133000Z.db", copied)]
+        for file, minutes in files:
+            file.write_text("")
+            os.utime(file, (now - 60 * minutes - 1,) * 2)
+        said = ran(program, "term", env=environment)[1]
+        judged.judge(case, (age is not None, warns),
+                     (f"newest copy: term-20270514T133000Z.db, {age}\n" in said,
+                      "changed 20 minutes ago, and there is no copy since" in said))
 
 
 def of_the_package(judged, folder):
