@@ -1,10 +1,16 @@
 #!/usr/bin/env python3
 """known.py [--program PATH]: the program and the baselines on small files with known answers.
+known.py --folder DIR [--best FILE]: judges your timetables of the competition's sessions.
 
-The cases are in tests/check_cases.py. The oracle is asked where there is a report.
+Without a folder the cases are those of tests/check_cases.py; the oracle is asked where there is a
+report. In a folder each NAME.exam is a session, and each .sol or .sln whose name begins with NAME is
+a timetable of it; a line for each has its breaches, its total, and how far that is above the best
+total known. FILE has these: a line `NAME TOTAL` for each session; # begins a comment.
 """
 import argparse
+import json
 import pathlib
+import subprocess
 import sys
 import tempfile
 
@@ -29,11 +35,74 @@ def cases():
         yield name, instance, solution, Answer(1, b"", f"examoffice: {text}\n".encode())
 
 
+# ---- A folder of sessions and timetables
+
+HEADING = f"{'timetable':<40} {'breaches':>8} {'total':>9} {'best':>9} {'above':>8}"
+
+
+def best_totals(file):
+    """The best total of each session that a file names."""
+    rows = (line.partition("#")[0].split() for line in file.read_text().splitlines())
+    return {row[0]: int(row[1]) for row in rows if row}
+
+
+def timetables(session):
+    """The timetables of a session: those of the longest name of a session that theirs begin with."""
+    names = [path.stem for path in session.parent.glob("*.exam")]
+    for path in sorted(session.parent.iterdir()):
+        fitting = [name for name in names if path.name.startswith(name)]
+        if path.suffix in (".sol", ".sln") and fitting and max(fitting, key=len) == session.stem:
+            yield path
+
+
+def folder_lines(path, folder, best):
+    """Yields the line of each timetable of a folder, and those of its faults."""
+    for session in sorted(folder.glob("*.exam")):
+        solutions = [*timetables(session)]
+        if not solutions:
+            yield f"{session.name}: no timetable"
+            continue
+        done = subprocess.run([path, "check-all", "--json", session, *solutions], check=False,
+                              capture_output=True, text=True, stdin=subprocess.DEVNULL)
+        for found in map(json.loads, done.stdout.splitlines()):
+            known = best.get(session.stem)
+            above = "" if not known else f"{100 * (found['total'] / known - 1):+.2f} %"
+            yield (f"{pathlib.Path(found['path']).name:<40} {found['breaches']:>8} "
+                   f"{found['total']:>9} {known or '':>9} {above:>8}").rstrip()
+        yield from done.stderr.splitlines()
+
+
+def try_a_folder(judged, path):
+    """A folder with two sessions, of which one name begins with the other, and a faulty timetable."""
+    small, solution, _, parts = REPORTS["placed well"]
+    with tempfile.TemporaryDirectory() as name:
+        folder = pathlib.Path(name)
+        for session in ("set_1", "set_10"):
+            (folder / f"{session}.exam").write_text(small)
+        (folder / "set_1_first.sln").write_text(solution)
+        (folder / "set_1_worse.sol").write_text("0, 0\n")
+        (folder / "best").write_text("# known to us\nset_1 20\n")
+        lines = [*folder_lines(path, folder, best_totals(folder / "best"))]
+        judged.judge("a folder", [
+            f"{'set_1_first.sln':<40} {0:>8} {sum(parts):>9} {20:>9} +85.00 %",
+            f"{folder}/set_1_worse.sol: examoffice: solution line 2: fault 3",
+            "set_10.exam: no timetable"], lines)
+
+
 def main():
-    parser = argparse.ArgumentParser(description=__doc__)
+    parser = argparse.ArgumentParser(description=__doc__,
+                                     formatter_class=argparse.RawDescriptionHelpFormatter)
     parser.add_argument("--program", help="a program other than the release")
-    path = parser.parse_args().program
-    commands = {"examoffice": program(path), **baselines()}
+    parser.add_argument("--folder", type=pathlib.Path, help="of sessions and timetables")
+    parser.add_argument("--best", type=pathlib.Path, help="a file with the best totals known")
+    given = parser.parse_args()
+    if given.folder:
+        print(HEADING)
+        for line in folder_lines(program(given.program)[0], given.folder,
+                                 best_totals(given.best) if given.best else {}):
+            print(line)
+        return 0
+    commands = {"examoffice": program(given.program), **baselines()}
     judged = Cases("known")
     with tempfile.TemporaryDirectory() as folder:
         files = [str(pathlib.Path(folder, name)) for name in ("known.exam", "known.sol")]
@@ -44,8 +113,9 @@ def main():
             if known.status != 1:
                 answers["oracle"] = ask(ORACLE, *files)
             judged.judge(name, None, difference({"by hand": known, **answers}))
-    sys.exit(judged.end(f"cases of {', '.join(commands)}"))
+    try_a_folder(judged, commands["examoffice"][0])
+    return judged.end(f"cases of {', '.join(commands)}")
 
 
 if __name__ == "__main__":
-    main()
+    sys.exit(main())
