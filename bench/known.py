@@ -73,7 +73,7 @@ def folder_lines(path, folder, best):
 
 
 def try_a_folder(judged, path):
-    """A folder with two sessions, of which one name begins with the other, and a faulty timetable."""
+    """Two sessions, of which one name begins with the other, and a faulty timetable."""
     small, solution, _, parts = REPORTS["placed well"]
     with tempfile.TemporaryDirectory() as name:
         folder = pathlib.Path(name)
