@@ -3,9 +3,9 @@
 known.py --folder DIR [--best FILE]: judges your timetables of the competition's sessions.
 
 Without a folder the cases are those of tests/check_cases.py; the oracle is asked where there is a
-report. In a folder each NAME.exam is a session, and each .sol or .sln whose name begins with NAME is
-a timetable of it; a line for each has its breaches, its total, and how far that is above the best
-total known. FILE has these: a line `NAME TOTAL` for each session; # begins a comment.
+report. In a folder each NAME.exam is a session, and each .sol or .sln whose name begins with NAME
+is a timetable of it; a line for each has its breaches, its total, and how far that is above the
+best total known. FILE has these: a line `NAME TOTAL` for each session; # begins a comment.
 """
 import argparse
 import json
@@ -47,7 +47,7 @@ def best_totals(file):
 
 
 def timetables(session):
-    """The timetables of a session: those of the longest name of a session that theirs begin with."""
+    """The timetables of a session: it has the longest name that theirs begin with."""
     names = [path.stem for path in session.parent.glob("*.exam")]
     for path in sorted(session.parent.iterdir()):
         fitting = [name for name in names if path.name.startswith(name)]
