@@ -3,7 +3,7 @@
 define it.
 
 Each word that another crate cites has to be defined by the page that is named, and each word of
-specs/ needs a comment: docs/generated/WORDS.md shows it. Types and constants of the code
+specs/ needs a comment: build/WORDS.md shows it. Types and constants of the code
 (`declared`) are left out. A citation is a path of a `use`, or one in an attribute of a tactic
 (`using`, `unfolding`).
 Prints a line for each failure; status 1 if there is one.
