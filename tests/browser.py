@@ -55,6 +55,16 @@ def until(what, is_so):
     raise TimeoutError(f"not within {SECONDS} s: {what}")
 
 
+def until_or_ended(process, what, is_so):
+    """Waits until something is so; ends the process if it never is."""
+    try:
+        until(what, is_so)
+    except Exception:
+        process.kill()
+        process.wait()
+        raise
+
+
 @contextlib.contextmanager
 def starting(folder):
     """A browser that starts while other tests run: what waits for it; None if something is

@@ -43,7 +43,7 @@ class Queue:
                 [HAPROXY, "-db", "-q", *(word for file in files for word in ("-f", file))],
                 env=self.environment, stdin=subprocess.DEVNULL, stdout=errors, stderr=errors,
                 group="www-data" if os.geteuid() == 0 else None)
-        browser.until("the queue listens", self.listens)
+        browser.until_or_ended(self.process, "the queue listens", self.listens)
 
     def listens(self):
         if self.process.poll() is not None:

@@ -55,8 +55,8 @@ class Agent:
              "--chdir", TOP / "front", "--graceful-timeout", "2", "agent:app"],
             env=self.environment, stdin=subprocess.DEVNULL, stdout=subprocess.DEVNULL,
             stderr=subprocess.DEVNULL)
-        browser.until("the agent runs", lambda: self.socket.exists()
-                      and (self.folder / "sessions.map").exists())
+        browser.until_or_ended(self.process, "the agent runs", lambda: self.socket.exists()
+                               and (self.folder / "sessions.map").exists())
 
     def stop(self):
         self.process.terminate()
@@ -110,23 +110,27 @@ class Client:
 
 
 class Stack:
-    """Front, queue, agent and office."""
+    """Front, queue, agent and office. If one of them doesn't start, the others are stopped."""
 
     def __init__(self, run, make_front, name, edits=()):
         self.run = Run.apart(run.program, run.folder, "front", name)
-        self.office = self.run.office()
         self.key = secrets.token_hex(32)
-        shutil.copytree(TOP / "front", self.run.folder / "front")
-        self.agent = Agent(self.run.folder, self.run.folder / "front", self.key)
-        self.queue = SignInQueue(self.run.folder / "queue", self.office.port, self.agent)
-        self.front = make_front(self.run.folder, self.queue.address, (
-            ("include password.conf", "include sign_in.conf"), *edits))
+        with contextlib.ExitStack() as begun:
+            self.office = self.run.office()
+            begun.callback(self.office.killed)
+            folder = self.run.folder / "front"
+            shutil.copytree(TOP / "front", folder)
+            self.agent = Agent(self.run.folder, folder, self.key)
+            begun.callback(self.agent.stop)
+            self.queue = SignInQueue(self.run.folder / "queue", self.office.port, self.agent)
+            begun.callback(self.queue.stop)
+            self.front = make_front(self.run.folder, self.queue.address, (
+                ("include password.conf", "include sign_in.conf"), *edits))
+            begun.callback(self.front.stop)
+            self.begun = begun.pop_all()
 
     def stop(self):
-        self.front.stop()
-        self.queue.stop()
-        self.agent.stop()
-        self.office.killed()
+        self.begun.close()
 
 
 def sessions(run, stack):

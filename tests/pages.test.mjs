@@ -50,6 +50,10 @@ const batchOf = (text, names = KNOWN) => {
   const { isList, changes, faults } = linesIn(text, names, SESSION);
   return faults.length ? faults : [isList, ...batchTexts(changes)];
 };
+const withNew = (text) => {
+  const { changes, fresh, faults } = linesIn(text, KNOWN, SESSION, true);
+  return faults.length ? faults : [batchTexts(changes)[0], fresh];
+};
 const HEADER = 'student,exam,action\n';
 
 cases('CSV texts of spreadsheets become batches', [
@@ -81,6 +85,13 @@ cases('CSV texts of spreadsheets become batches', [
       + 's3,Chloe DAngelo,MATH101,add\n')],
   ['a new student', ['Line 2: a new student is added by tools/changes_from_csv, not on this page'],
     () => batchOf(`${HEADER}r9,MATH101,new\n`)],
+  ['new students, whom the service adds', [`${HEADER}-1,0,add\n-1,1,add\n`, [
+    { number: -1, id: 'r9', name: 'Zoë Zander' }, { number: -2, id: 'q1', name: '' }]],
+  () => withNew('student,name,exam,action\nr9,Zoë Zander,MATH101,new\nr9,,PHYS102,add\nq1,,,new\n')],
+  ['a new student who is known, or nobody', ['Line 2: s3 is Bo Łukasz already', 'Line 3: there is no ID'],
+    () => withNew(`${HEADER}s3,MATH101,new\n,MATH101,new\n`)],
+  ['a list with a new student', [`${HEADER}12,0,add\n-1,1,add\n`, [{ number: -1, id: 'r9', name: 'Zoë' }]],
+    () => withNew('student,exam,name\ns12,MATH101,\nr9,PHYS102,Zoë\n')],
   ['a list', [true, `${HEADER}12,0,add\n3,1,add\n`],
     () => batchOf('Student ID;Course code\ns12;MATH101\ns3;PHYS102\n')],
   ['a list without names', ['Line 1: there is no column for action. A full list of enrolments has '

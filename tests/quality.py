@@ -208,10 +208,12 @@ def long_proofs(kinds):
 # What a file of Python or JavaScript defines at its top.
 DEFINED = re.compile(r"^(?:export )?(?:async )?(?:def|class|function|const|let) (\w+)|^(\w+) = ",
                      re.M)
+DECORATED = re.compile(r"^(?:@.*\n)+def \w+", re.M)
 
 
 def unused(kinds):
-    """Names that no line uses: neither in their own file nor in one that names it."""
+    """Names that no line uses: neither in their own file nor in one that names it. A function with
+    a decorator is used by that."""
     texts = {name: (TOP / name).read_text() for kind in ("python", "tool", "page script", "script")
              for name in kinds[kind]}
     words = {name: collections.Counter(re.findall(r"\w+", text)) for name, text in texts.items()}
@@ -219,7 +221,7 @@ def unused(kinds):
     for name, text in texts.items():
         stem = pathlib.Path(name).stem
         users = [other for other in texts if other != name and stem in words[other]]
-        for one in (mark[1] or mark[2] for mark in DEFINED.finditer(text)):
+        for one in (mark[1] or mark[2] for mark in DEFINED.finditer(DECORATED.sub("", text))):
             if words[name][one] < 2 and not any(one in words[other] for other in users):
                 said.append(f"{name}: nothing uses {one}")
     return said

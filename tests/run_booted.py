@@ -122,23 +122,47 @@ def who_reaches_it(judged, machine):
     ask = "curl -s -o /dev/null -w %{http_code} -m 5 -H 'X-Caller: office'"
     port = f"{ask} http://127.0.0.1:8080/publication"
     for unit, code in (("examoffice-front", "000"), ("examoffice-agent", "000"),
-                       ("examoffice-queue", "200")):
+                       ("examoffice-registry", "000"), ("examoffice-queue", "200")):
         judged.judge(f"the office's port, from {unit}", code, machine.types(
             f"nsenter --net --target $(systemctl show --property=MainPID --value {unit}) {port}"))
     judged.judge("the office's port, from elsewhere", "000", machine.types(port))
     queue = f"{ask} --unix-socket /run/examoffice-queue/term.sock http://office/publication"
     agent = f"{ask} --unix-socket /run/examoffice-agent/agent.sock http://office/-/sign-in"
-    for user, queued, signed in (("www-data", "200", "000"), ("nobody", "000", "000"),
-                                 ("examoffice-agent", "000", "200")):
+    registry = (f"{ask} --unix-socket /run/examoffice-registry/registry.sock"
+                " http://office/-/registry/about")
+    for user, codes in (("www-data", "200\n000\n200"), ("nobody", "000\n000\n000"),
+                        ("examoffice-agent", "000\n200\n000"),
+                        ("examoffice-registry", "000\n000\n200")):
         become = f"setpriv --reuid={user} --regid=$(id -g {user}) --init-groups"
-        judged.judge(f"the queue and the agent, as {user}", f"{queued}\n{signed}",
-                     machine.types(f"{become} {queue}; echo; {become} {agent}"))
+        judged.judge(f"the queue, the agent and the registry's service, as {user}", codes,
+                     machine.types(f"{become} {queue}; echo; {become} {agent}; echo; "
+                                   f"{become} {registry}"))
     for user, file in (("www-data", "front/users"), ("www-data", "front.key"),
                        ("examoffice-queue", "front/users"), ("examoffice-queue", "front.key"),
+                       ("examoffice-registry", "front/users"), ("examoffice-registry", "front.key"),
                        ("examoffice-agent", "front/labels/students.json")):
         judged.judge(f"{file}, as {user}", "", machine.types(
             f"setpriv --reuid={user} --regid=$(id -g {user}) --init-groups"
             f" cat /etc/examoffice/{file} 2> /dev/null"))
+
+
+def registry(judged, machine):
+    """A batch that goes by way of the registry's service is in the ledger."""
+    front, batch = "http://127.0.0.1:8123", "student,exam,action\\n3,0,add\\n"
+    ask = "curl -s -m 20 -u registry:own-word"
+    machine.types("runuser -u examoffice-registry -- examoffice-session-from-csv"
+                  " /usr/share/doc/examoffice/examples/small /var/lib/examoffice-registry/term"
+                  f"; rm -rf {FRONT}/labels"
+                  f"; ln -s /var/lib/examoffice-registry/term/now {FRONT}/labels")
+    judged.judge("the registry's service", '{"ledger":true}',
+                 wait(machine, f"{ask} {front}/-/registry/about", '{"ledger":true}'))
+    judged.judge("a batch", '{"added":1,"batch":5,"dropped":0,"unchanged":0}', machine.types(
+        f"printf '{batch}' | {ask} -X PUT --data-binary @- {front}/-/registry/batches/5"))
+    judged.judge("it is in the ledger", "5|page|registry", machine.types(
+        "sqlite3 /var/lib/examoffice-registry/term/ledger.db"
+        " 'SELECT number, source, prepared_by FROM batches'"))
+    judged.judge("names, by the front", "Room 2.14", machine.types(
+        f"{ask} {front}/labels/labels.json | grep -o 'Room 2.14'"))
 
 
 def backups(judged, machine):
@@ -153,7 +177,7 @@ def backups(judged, machine):
         "cp /var/backups/examoffice/term-*.db /copy.db; examoffice export --db /copy.db | wc -l"))
     for unit, most in (
             ("examoffice@term", 1.5), ("examoffice-backup@term", 1.5), ("examoffice-front", 3.0),
-            ("examoffice-queue", 1.5), ("examoffice-agent", 1.5)):
+            ("examoffice-queue", 1.5), ("examoffice-agent", 1.5), ("examoffice-registry", 1.5)):
         said = machine.types(f"systemd-analyze security --no-pager {unit} | tail -1")
         found = re.search(r": ([\d.]+) ", said)
         judged.judge(f"the sandbox of {unit}", True,
@@ -161,7 +185,7 @@ def backups(judged, machine):
 
 
 def logs(judged, machine):
-    judged.judge("the log, rotated", "640 root www-data\n1", machine.types("""
+    judged.judge("the log, rotated", "640 root examoffice-registry\n1", machine.types("""
         publish() { curl -s -u registry:own-word -X POST http://127.0.0.1:8123/drafts/1/publish; }
         publish > /dev/null; logrotate --force /etc/logrotate.d/examoffice; sleep 1
         publish > /dev/null; sleep 0.5
@@ -209,7 +233,7 @@ def main():
         os.chmod(folder, 0o755)
         machine = Machine(made)
         try:
-            for part in (set_up_old, upgrade, backups, logs, removal, anew):
+            for part in (set_up_old, upgrade, registry, backups, logs, removal, anew):
                 part(judged, machine)
         finally:
             machine.stop()

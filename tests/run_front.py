@@ -31,6 +31,7 @@ import time
 import browser
 import front_pages
 import front_queue
+import front_registry
 import front_sign_in
 import openapi
 from front_cases import (
@@ -76,7 +77,7 @@ class Front:
         with (self.folder / "run" / "errors").open("wb") as errors:
             self.process = subprocess.Popen([NGINX, "-p", str(self.folder), "-c", "nginx.conf"],
                                             stdin=subprocess.DEVNULL, stderr=errors)
-        browser.until("nginx listens", self.listens)
+        browser.until_or_ended(self.process, "nginx listens", self.listens)
 
     def listens(self):
         if self.process.poll() is not None:
@@ -592,7 +593,8 @@ def words_of_pages(run):
     run.judge("rules in words", set(re.findall(r"`(\w+)`", rules)), keys("RULES"))
     run.judge("faults in words", set(), keys("FAULTS") - set(
         re.findall(r"^\| (\d+) [A-Z]\w+ \|", numbered, re.M)))
-    run.judge("errors in words", {error for _, error in openapi.formats()[0]} | {"often"},
+    of_the_front = {"often", "ledger", "names"}
+    run.judge("errors in words", {error for _, error in openapi.formats()[0]} | of_the_front,
               keys("REFUSALS") | {"forbidden", "broken", "unplaced", "file"})
 
 
@@ -676,7 +678,7 @@ def main():
             front = Front(folder, office.port)
             replies = []
             queued = [threading.Thread(target=module.judge, args=(run, Front))
-                      for module in (front_queue, front_sign_in)]
+                      for module in (front_queue, front_sign_in, front_registry)]
             for thread in queued:
                 thread.start()
             busy = threading.Thread(target=busy_office, args=(run.folder / "busy", replies))
@@ -695,6 +697,7 @@ def main():
                                           lambda: new_office(run), given.pictures)
                         if started:
                             front_sign_in.in_browser(run, started(), Front)
+                            front_registry.in_browser(run, started(), Front)
                     described_exchanges(run, wide, 1 if given.no_browser else 5)
                 described_exchanges(run, front, 100)
             finally:

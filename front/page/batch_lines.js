@@ -25,7 +25,10 @@ const MOST_SEARCHED = 20;
 
 /** Reads who and what a line names. */
 class Reader {
-  constructor(names, exams, columns) {
+  constructor(names, exams, columns, takesNew) {
+    this.takesNew = takesNew;
+    // New students by their IDs, with numbers below zero until the ledger gives them theirs.
+    this.fresh = new Map();
     this.exams = exams;
     this.columns = columns;
     this.students = studentIdentities(names.students);
@@ -46,6 +49,8 @@ class Reader {
   }
 
   student(record) {
+    const id = record.fields[this.columns.student] ?? '';
+    if (this.fresh.has(id)) return this.fresh.get(id).number;
     const number = this.numberOf('student', this.students, record);
     const said = record.fields[this.columns.name] ?? '';
     const known = this.people.get(number);
@@ -53,6 +58,21 @@ class Reader {
       this.fault(record.line, `${known.id} is ${known.name}, not ${said}`);
     }
     return number;
+  }
+
+  isNew(record) {
+    const id = record.fields[this.columns.student] ?? '';
+    return id !== '' && this.students.number(id) === null;
+  }
+
+  /** The number of a student whom the names don't know. */
+  newStudent(record) {
+    const id = record.fields[this.columns.student];
+    if (!this.fresh.has(id)) {
+      const name = record.fields[this.columns.name] ?? '';
+      this.fresh.set(id, { number: -1 - this.fresh.size, id, name });
+    }
+    return this.fresh.get(id).number;
   }
 
   exam(record) {
@@ -65,12 +85,31 @@ class Reader {
   change(record) {
     const action = record.fields[this.columns.action] ?? '';
     const kind = Object.keys(ACTIONS).find((name) => ACTIONS[name].includes(action.toLowerCase()));
-    if (kind === 'new') {
-      this.fault(record.line, 'a new student is added by tools/changes_from_csv, not on this page');
-      return { student: null, exam: null, action: kind };
-    }
+    if (kind === 'new') return this.newChange(record);
     if (!kind) this.fault(record.line, `unknown action ${action}; it must be add, drop or new`);
     return { student: this.student(record), exam: this.exam(record), action: kind };
+  }
+
+  /** A new student, who may have no exam yet. */
+  newChange(record) {
+    const known = this.people.get(this.students.number(record.fields[this.columns.student] ?? '') ?? NaN);
+    if (!this.takesNew) {
+      this.fault(record.line, 'a new student is added by tools/changes_from_csv, not on this page');
+    } else if (known) {
+      this.fault(record.line, `${known.id} is ${known.name || 'a student'} already`);
+    } else if (!this.isNew(record)) {
+      this.fault(record.line, 'there is no ID');
+    } else {
+      const hasExam = record.fields[this.columns.exam] || record.fields[this.columns['office exam']];
+      return { student: this.newStudent(record), exam: hasExam ? this.exam(record) : null, action: 'add' };
+    }
+    return { student: null, exam: null, action: 'add' };
+  }
+
+  /** A line of a full list. */
+  listed(record) {
+    const student = this.takesNew && this.isNew(record) ? this.newStudent(record) : this.student(record);
+    return { student, exam: this.exam(record), action: 'add' };
   }
 }
 
@@ -83,9 +122,9 @@ function haveOneWord(one, other) {
 
 /**
  * Returns what a CSV text says, and what is wrong with its lines: changes, or without a column of
- * actions a full list of all enrolments.
+ * actions a full list of all enrolments. New students are taken if the registry's service can add them.
  */
-export function linesIn(text, names, session) {
+export function linesIn(text, names, session, takesNew = false) {
   const [header, ...records] = recordsOf(text);
   const columns = columnsOf(header?.fields ?? [], COLUMNS);
   for (const [kind, words] of Object.entries(NUMBERED)) {
@@ -96,19 +135,20 @@ export function linesIn(text, names, session) {
   const isList = columns.action < 0;
   if (missing.length) {
     const there = (header?.fields ?? []).filter(Boolean).join(', ');
-    return { isList, changes: [], faults: [`Line 1: there is no column for ${missing.join(', ')}${
-      there && ` (there are: ${there})`}`] };
+    return { isList, changes: [], fresh: [], faults: [`Line 1: there is no column for ${
+      missing.join(', ')}${there && ` (there are: ${there})`}`] };
   }
-  const reader = new Reader(names, session.candidates.length, columns);
-  if (!records.length) return { isList, changes: [], faults: ['There is no line after the first'] };
+  const reader = new Reader(names, session.candidates.length, columns,
+    takesNew && names.students.length > 0);
+  const refused = (fault) => ({ isList, changes: [], fresh: [], faults: [fault] });
+  if (!records.length) return refused('There is no line after the first');
   if (isList && !names.students.length) {
-    return { isList, changes: [], faults: ['Line 1: there is no column for action. A full list of '
-      + 'enrolments has none, but needs the names of this session'] };
+    return refused('Line 1: there is no column for action. A full list of enrolments has none, but '
+      + 'needs the names of this session');
   }
-  const changes = records.map((record) => (isList
-    ? { student: reader.student(record), exam: reader.exam(record), action: 'add' }
-    : reader.change(record)));
-  return { isList, changes, faults: reader.faults };
+  const changes = records.map((record) => (isList ? reader.listed(record) : reader.change(record)));
+  return { isList, changes: changes.filter(({ exam }) => exam !== null), fresh: [...reader.fresh.values()],
+    faults: reader.faults };
 }
 
 const keyOf = (student, exam) => `${student} ${exam}`;

@@ -5,15 +5,23 @@ import {
   byId, change, count, element, faultList, numeral, Refusal, showProgress,
 } from './office.js';
 import { showPreview } from './preview.js';
+import { batchPath, numbersOf } from './service.js';
 
-// A list that drops more than one in so many enrolments is asked about.
-const MOST_DROPPED = 10;
+// A list that drops more than one in so many enrolments, or has so many new students, is asked about.
+const MOST_CHANGED = 10;
 
-function effectText({ effect: { add, drop, there, absent }, kept }) {
+function effectText({ effect: { add, drop, there, absent }, kept, fresh }) {
   return [`${numeral(add)} to add`, `${numeral(drop)} to drop`, there && `${numeral(there)} already there`,
     absent && `${numeral(absent)} not enrolled`, kept.length && `${numeral(kept.length)} kept`,
+    fresh.length && count(fresh.length, 'new student'),
   ].filter(Boolean).join(', ');
 }
+
+/** Changes with the numbers that the ledger gave to new students. */
+const renumbered = (changes, fresh, numbers) => {
+  const given = new Map(fresh.map(({ number, id }) => [number, numbers[id]]));
+  return changes.map((one) => ({ ...one, student: given.get(one.student) ?? one.student }));
+};
 
 /** Proposes a number of nine digits: year, month, day, hour and minute; always above the last one. */
 function proposedNumber(last) {
@@ -50,7 +58,7 @@ export function setUpBatches(office, load) {
     showPreview(checked, office);
     byId('batch-effect').textContent = `${effectText(checked)}.`;
     byId('batch-preview').hidden = false;
-    byId('batch-send').hidden = checked.isList && !effect.acting.length;
+    byId('batch-send').hidden = checked.isList && !effect.acting.length && !checked.fresh.length;
     byId('batch-send').textContent = bodies.length > 1
       ? `Send ${bodies.length} batches from ${byId('batch-number').value} on`
       : `Send batch ${byId('batch-number').value}`;
@@ -60,7 +68,8 @@ export function setUpBatches(office, load) {
 
   /** What lines would do, if they have no fault, and the bodies of their batches. */
   function checkedLines(text, file) {
-    const { isList, changes: listed, faults } = linesIn(text, office.names, office.session);
+    const { isList, changes: listed, fresh, faults } = linesIn(text, office.names, office.session,
+      Boolean(office.service));
     if (faults.length) {
       throw new Refusal(400, {}, `Nothing was sent: ${count(faults.length, 'fault')}.`,
         { field: lines(), details: faultList(faults) });
@@ -73,27 +82,39 @@ export function setUpBatches(office, load) {
     const plain = text.replace(/^\ufeff/, '').replaceAll('\r\n', '\n').trimEnd();
     const bodies = batchTexts(changes);
     const isPlain = bodies.length === 1 && plain === bodies[0].trimEnd();
-    return { isList, kept, effect: effectOf(changes, candidates),
+    return { isList, kept, fresh, changes, effect: effectOf(changes, candidates),
       bodies: isPlain ? [file ?? text] : bodies };
   }
 
-  /** Asks first if a list would drop so many enrolments that it may be another one. */
+  /** Asks first if a list would change so much that it may be another one. */
   function askAndSend() {
-    const { isList, effect } = checked;
-    const all = office.session.candidates.flat().length;
+    const { isList, effect, fresh } = checked;
     const sending = () => showProgress(`Sending batch ${byId('batch-number').value} …`, send);
-    if (!isList || MOST_DROPPED * effect.drop <= all) {
+    const enrolments = `${numeral(effect.drop)} enrolments`;
+    const [words, all] = [
+      [`Drop ${enrolments}`, office.session.candidates.flat().length, effect.drop],
+      [`Add ${count(fresh.length, 'student')}`, office.names.students.length, fresh.length],
+    ].find(([, most, number]) => isList && MOST_CHANGED * Number(number) > Number(most)) ?? [];
+    if (!words) {
       sending();
       return;
     }
-    confirmFirst(`Drop ${numeral(effect.drop)} enrolments?`, [element('p', {}, `These are more than a `
-      + `tenth of all ${numeral(all)}. Is this the whole list of this session?`)],
-    `Drop ${numeral(effect.drop)} enrolments`, sending);
+    confirmFirst(`${words}?`, [element('p', {}, `These are more than a tenth of all ${
+      numeral(all)}. Is this the whole list of this session?`)], `${words}`, sending);
+  }
+
+  /** The bodies of the batches and the changes, after new students have their numbers. */
+  async function withNumbers({ bodies, changes, effect, fresh }) {
+    if (!fresh.length) return { bodies, acting: effect.acting };
+    const numbers = await numbersOf(fresh);
+    return { bodies: changes.length ? batchTexts(renumbered(changes, fresh, numbers)) : [],
+      acting: renumbered(effect.acting, fresh, numbers) };
   }
 
   async function send() {
     const first = Number(byId('batch-number').value);
-    const { bodies, effect } = checked;
+    const added = checked.fresh.length;
+    const { bodies, acting } = await withNumbers(checked);
     const done = { added: 0, dropped: 0, unchanged: 0 };
     for (const [place, body] of bodies.entries()) {
       const answer = await sendOne(first + place, body, place && `Batch ${first} to ${
@@ -102,18 +123,20 @@ export function setUpBatches(office, load) {
     }
     last = Math.max(last, first + bodies.length - 1);
     reset();
-    offerInverse(first, effect.acting);
+    offerInverse(first, acting);
     await load();
     byId('status').focus();
     const counts = Object.entries(done).map(([what, number]) => `${numeral(number)} ${what}`);
-    return `${bodies.length > 1 ? `${bodies.length} batches from ${first} on are` : `Batch ${first} is`
-    } accepted: ${counts.join(', ')}.`;
+    const newOnes = added ? `${count(added, 'new student')}. ` : '';
+    if (!bodies.length) return newOnes.trim();
+    const which = bodies.length > 1 ? `${bodies.length} batches from ${first} on are` : `Batch ${first} is`;
+    return `${newOnes}${which} accepted: ${counts.join(', ')}.`;
   }
 
   async function sendOne(number, body, before) {
     try {
       return await change([before, `Batch ${number} was refused.`].filter(Boolean).join(' '),
-        `/batches/${number}`, 'PUT', body);
+        batchPath(office.service, number), 'PUT', body);
     } catch (refusal) {
       refusal.field = refusal.error === 'batch-differs' ? 'batch-number' : lines();
       throw refusal;

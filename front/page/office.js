@@ -60,6 +60,8 @@ const REFUSALS = {
   'too-many': 'There would be too many enrolments, or too many batches.',
   length: 'This is too long for the office.',
   often: 'There were too many requests in a short time. Please wait a moment, then try again.',
+  ledger: 'This session has no ledger on the server.',
+  names: 'An ID or a name can\'t be used: it is empty, or has a mark that nobody sees.',
   unavailable: 'The office cannot answer at the moment. Please try again in a minute.'
     + ' If you changed something, first look whether the change is there.',
 };

@@ -66,8 +66,8 @@ export function fullRoomsOf(acting, { candidates, capacities }, timetable) {
 const below = (words) => words && element('span', { class: 'below' }, words);
 
 /** Names of students, by their numbers. */
-function peopleOf({ names }) {
-  const people = new Map(names.students.map((student) => [student.number, student]));
+function peopleOf({ names }, fresh) {
+  const people = new Map([...names.students, ...fresh].map((student) => [student.number, student]));
   return (number) => {
     const student = people.get(number);
     return student?.name ? rowHead(student.name, below(student.id))
@@ -90,9 +90,9 @@ function madeText({ at, by }) {
 }
 
 /** Shows whom changes add and drop, and what else they would do. */
-export function showPreview({ effect, kept }, office) {
+export function showPreview({ effect, kept, fresh }, office) {
   const { names, session, timetables } = office;
-  const head = peopleOf(office);
+  const head = peopleOf(office, fresh);
   const exam = (number) => cell(names.exam(number), below(names.examTitle(number)));
   const lines = (changes) => changes.map((change) => [head(change.student), exam(change.exam)]);
   const [timetable] = timetables;
@@ -102,6 +102,7 @@ export function showPreview({ effect, kept }, office) {
     return [cell(dayInShort(date), ', ', time(start)), cell(names.roomInBuilding(room))];
   };
   byId('batch-lists').replaceChildren(
+    ...table('New students', ['Candidate'], fresh.map(({ number }) => [head(number)])),
     ...table('Added', ['Candidate', 'Exam'], lines(of('add'))),
     ...table('Dropped', ['Candidate', 'Exam'], lines(of('drop'))),
     ...table(`Two exams at one time, in ${timetable?.name}`, ['Candidate', 'Exam', 'Exam'],

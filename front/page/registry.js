@@ -5,6 +5,7 @@ import { confirmFirst } from './confirm.js';
 import { changesBetween, penaltyIn, readAgain, readDrafts, verdict } from './drafts.js';
 import { applyOfficeNames, Names, readLabels } from './labels.js';
 import { concerns, offerChanges, readSeats, setUpSeats, showSeats } from './seats.js';
+import { readService } from './service.js';
 import { askToDrop, setUpForms, showForms } from './setup.js';
 import { showComparison, showDownloads, showFinder } from './tables.js';
 import {
@@ -31,6 +32,8 @@ const office = {
   names: new Names(),
   // The published seats, or null.
   seats: null,
+  // The registry's service, or null.
+  service: null,
   /** @type {string | null} */
   open: null,
 };
@@ -94,6 +97,7 @@ async function load() {
   await readUser();
   const text = await askOrNull('not-loaded', '/instance');
   office.session = text ? sessionIn(text) : null;
+  office.service = text && await readService();
   office.names = await applyOfficeNames(text && await readLabels(), office.session);
   const published = text && await readPublished();
   office.seats = published && await readSeats();

@@ -51,6 +51,16 @@ class Made:
 
 
 @dataclasses.dataclass
+class Effect:
+    """What a batch did, and the points of each timetable before and after it."""
+
+    added: int
+    dropped: int
+    unchanged: int
+    points: dict[str, list[int]]
+
+
+@dataclasses.dataclass
 class Plan:
     """What a file changes, and what of it is left as it was changed here."""
 
@@ -106,6 +116,8 @@ def note_changes_of_others(ledger: Ledger, found: set[Pair], log: pathlib.Path |
         number = min(0, ledger.db.execute("SELECT min(number) FROM batches").fetchone()[0] or 0) - 1
         add_batch(ledger, number, b"", PAGE, made.by, changes)
         mark_sent(ledger, number, made.at)
+        adds = sum(change.action == "add" for change in changes)
+        note_effect(ledger, number, Effect(adds, len(changes) - adds, 0, {}), range(len(changes)))
     return len(changes)
 
 
@@ -122,6 +134,31 @@ def add_batch(ledger: Ledger, number: int, content: bytes, source: str, by: str,
 
 def mark_sent(ledger: Ledger, number: int, at: str) -> None:
     ledger.db.execute("UPDATE batches SET sent_at = ? WHERE number = ?", (at, number))
+
+
+def note_effect(ledger: Ledger, number: int, effect: Effect, acted: Iterable[int]) -> None:
+    """Notes what a batch did, and which of its lines changed something."""
+    ledger.db.execute("INSERT OR REPLACE INTO effects VALUES (?, ?, ?, ?, ?)", (
+        number, effect.added, effect.dropped, effect.unchanged, json.dumps(effect.points)))
+    ledger.db.executemany("INSERT OR REPLACE INTO acted VALUES (?, ?)", (
+        (number, place) for place in acted))
+
+
+def changes_of(ledger: Ledger, number: int) -> list[Change]:
+    """The lines of a batch, in order."""
+    return [Change(*row) for row in ledger.db.execute(
+        "SELECT student, exam, action FROM changes WHERE batch = ? ORDER BY place", (number,))]
+
+
+def acting(changes: Iterable[Change], pairs: set[Pair]) -> list[int]:
+    """Which of some lines change something in these pairs, which then are those after them."""
+    places = []
+    for place, change in enumerate(changes):
+        pair = change.student, change.exam
+        if (pair in pairs) != (change.action == "add"):
+            (pairs.add if change.action == "add" else pairs.discard)(pair)
+            places.append(place)
+    return places
 
 
 def unsent(ledger: Ledger) -> list[tuple[int, bytes]]:

@@ -8,11 +8,11 @@ import shutil
 from collections.abc import Iterable
 
 from .ledger import NAME, Ledger
-from .made_files import files_of, is_sealed, state_in
+from .made_files import files_of, is_sealed, state_in, students_text
 from .office import are_of_another_session
 
-NOW, STATES = "now", "states"
-SEALED = ("labels.json", "students.json", "callers")
+NOW, STATES, STUDENTS = "now", "states", "students.json"
+SEALED = ("labels.json", STUDENTS, "callers")
 OLD = ("session.exam", "labels.json", "students.json")
 
 
@@ -67,6 +67,21 @@ class Folder:
         sync(self.path)
         self.remove_but(number, number - 1)
 
+    def refresh(self, ledger: Ledger, by: str) -> None:
+        """Brings the files up to date after a batch. If nobody is new, only students.json differs,
+        and it is exchanged in one step."""
+        last, digest = ledger.last_state(), ledger.digest()
+        if not last or last != (self.current(), digest):
+            state = ledger.add_state(by)
+            ledger.keep()
+            self.make_files(ledger, *state)
+            return
+        part = self.path / NOW / f".{STUDENTS}.part"
+        part.unlink(missing_ok=True)
+        write_file(part, students_text(ledger, digest))
+        sync(part)
+        part.replace(self.path / NOW / STUDENTS)
+
     def switch(self, number: int) -> None:
         """Lets `now` lead to a state."""
         link = self.path / f".{NOW}.part"
@@ -104,7 +119,7 @@ def faults_of(ledger: Ledger, folder: pathlib.Path) -> list[str]:
             text = path.read_text(encoding="utf-8")
             found[name] = state_in(text) or ""
             faults += faults_of_text(ledger, path, text)
-            if name == "students.json" and not faults:
+            if name == STUDENTS and not faults:
                 faults += faults_of_pairs(ledger, path, text)
     if not faults and len(set(found.values())) > 1:
         faults.append(f"{folder}: {' and '.join(found)} are of different states of the ledger")

@@ -40,6 +40,14 @@ CREATE TABLE changes (batch INTEGER NOT NULL REFERENCES batches, place INTEGER N
 CREATE TABLE states (number INTEGER PRIMARY KEY, digest TEXT NOT NULL, made_at TEXT NOT NULL,
     made_by TEXT NOT NULL);
 """
+# What batches did. A ledger of an older version gets these tables when it is opened.
+OF_EFFECTS = """
+CREATE TABLE IF NOT EXISTS effects (batch INTEGER PRIMARY KEY REFERENCES batches,
+    added INTEGER NOT NULL, dropped INTEGER NOT NULL, unchanged INTEGER NOT NULL,
+    points TEXT NOT NULL);
+CREATE TABLE IF NOT EXISTS acted (batch INTEGER NOT NULL REFERENCES batches,
+    place INTEGER NOT NULL, PRIMARY KEY (batch, place)) WITHOUT ROWID;
+"""
 # What a state is the digest of: who and what each number is, but not who takes which exam.
 OF_A_STATE = {"about": "key, value", "departments": "number, name",
               "exams": "number, code, title, minutes, department",
@@ -100,7 +108,7 @@ class Ledger:
     def begin(self) -> None:
         """Makes the tables, in a transaction that stays open."""
         self.db.execute("BEGIN IMMEDIATE")
-        for statement in TABLES.split(";\n"):
+        for statement in (TABLES + OF_EFFECTS).split(";\n"):
             self.db.execute(statement)
         self.db.execute("INSERT INTO about VALUES ('version', ?)", (VERSION,))
 
@@ -118,6 +126,8 @@ class Ledger:
             raise NotALedger(f"{path} is not a ledger: {fault}") from fault
         if version != (VERSION,):
             raise NotALedger(f"{path} is a ledger of another version than {VERSION}")
+        for statement in OF_EFFECTS.split(";\n"):
+            ledger.db.execute(statement)
         return ledger
 
     def keep(self) -> None:

@@ -138,12 +138,16 @@ def session_file(ledger: Ledger, session: Session) -> str:
     return session_text(session, candidates_of(ledger.loaded_pairs()), session.weights)
 
 
+def students_text(ledger: Ledger, state: str) -> str:
+    return sealed_json(students_of(ledger, ledger.session()), state)
+
+
 def files_of(ledger: Ledger, state: str) -> Iterator[tuple[str, str]]:
     """All files that are made of a ledger, by their names."""
     session = ledger.session()
     yield "session.exam", session_file(ledger, session)
     yield "labels.json", sealed_json(labels_of(session), state)
-    yield "students.json", sealed_json(students_of(ledger, session), state)
+    yield "students.json", students_text(ledger, state)
     for student in ledger.students():
         yield f"names/{student.number}.json", sealed_json(
             {"number": student.number, "id": student.id, "name": student.name}, state)

@@ -2,8 +2,10 @@
 from __future__ import annotations
 
 import base64
+import http.client
 import os
 import re
+import socket
 import urllib.error
 import urllib.parse
 import urllib.request
@@ -25,7 +27,8 @@ class Refused(Exception):
 
     def __init__(self, words: str, status: int = 0, answer: str = "") -> None:
         super().__init__(words)
-        self.status, found = status, re.search(r'"error":"([a-z-]+)"', answer)
+        self.status, self.answer = status, answer
+        found = re.search(r'"error":"([a-z-]+)"', answer)
         self.error = found[1] if found else ""
 
 
@@ -59,6 +62,31 @@ class Office:
 
     def instance(self) -> Instance:
         return Instance(self.ask("GET", "/instance"))
+
+
+class OfficeBySocket(Office):
+    """An office by the Unix socket of its front, for a program that has no network."""
+
+    def __init__(self, path: str, host: str, token: str) -> None:
+        super().__init__(f"http://{host}")
+        self.path, self.host, self.token = path, host, token
+
+    def ask(self, method: str, path: str, body: bytes | None = None) -> str:
+        client = http.client.HTTPConnection(self.host, timeout=120)
+        client.sock = socket.socket(socket.AF_UNIX)
+        try:
+            client.sock.connect(self.path)
+            client.request(method, path, body, {"Authorization": f"Bearer {self.token}"})
+            reply = client.getresponse()
+            answer = reply.read().decode("utf-8", "replace")
+        except (OSError, http.client.HTTPException) as fault:
+            raise Refused(f"{self.path} can't be asked: {fault}") from fault
+        finally:
+            client.close()
+        if reply.status >= 300:
+            raise Refused(f"{method} {path} is refused with {reply.status}: {answer[:200]}",
+                          reply.status, answer)
+        return answer
 
 
 class Instance:

@@ -1,0 +1,291 @@
+"""The registry's service behind the front: who reaches it, and what it writes into the ledger."""
+import concurrent.futures
+import contextlib
+import hashlib
+import json
+import os
+import re
+import shutil
+import sqlite3
+import subprocess
+
+import browser
+import front_sign_in
+from front_cases import told_error
+from front_page import Page, is_read
+from front_sign_in import GUNICORN, TOP, Client
+from run_serve import Run
+from serve_cases import SOLUTION, batch_text
+
+SECONDS = 100
+NOT_THE_OFFICE, NOBODY = told_error(403, "forbidden", rule="P2"), told_error(401, "signed-out")
+NONE = told_error(503, "unavailable")
+
+
+class Service:
+    """The registry's service, with the folder of a session made of the small example."""
+
+    def __init__(self, folder, more):
+        self.folder, self.socket = folder, folder / "registry.sock"
+        self.made = folder / "term"
+        if not self.made.exists():
+            self.made.mkdir(parents=True)
+            if os.geteuid() == 0:
+                # nginx reads the names.
+                shutil.chown(self.made, group="www-data")
+                self.made.chmod(0o2750)
+            subprocess.run([TOP / "tools" / "session_from_csv", TOP / "examples" / "small",
+                            self.made], check=True, stdout=subprocess.DEVNULL, timeout=SECONDS)
+        self.environment = {**os.environ, "REGISTRY_FOLDER": str(folder), **more,
+                            "PYTHONDONTWRITEBYTECODE": "1"}
+        self.start()
+
+    def start(self):
+        with (self.folder / "errors").open("ab") as errors:
+            self.process = subprocess.Popen(
+                [GUNICORN, "--workers", "1", "--threads", "8", "--bind", f"unix:{self.socket}",
+                 "--chdir", TOP / "tools", "--graceful-timeout", "2", "registry.service:app"],
+                env=self.environment, stdin=subprocess.DEVNULL, stdout=errors, stderr=errors)
+        browser.until_or_ended(self.process, "the service runs", self.socket.exists)
+
+    def stop(self):
+        self.process.terminate()
+        self.process.wait(SECONDS)
+
+    def rows(self, statement):
+        with contextlib.closing(sqlite3.connect(self.made / "ledger.db")) as ledger:
+            return ledger.execute(statement).fetchall()
+
+
+class Stack(front_sign_in.Stack):
+    """Front, queue, agent and office, and the registry's service with a token of its own."""
+
+    def __init__(self, run, make_front, name):
+        folder = run.folder / name
+        super().__init__(run, make_front, name, (
+            ("/run/examoffice-registry", f"{folder}/registry"),
+            ("/run/examoffice-front", f"{folder}/front/run")))
+        with contextlib.ExitStack() as begun:
+            begun.callback(self.begun.close)
+            front = self.front.folder
+            (front / "more").mkdir()
+            (front / "more" / "service.conf").symlink_to("../service.conf")
+            self.token = self.added_program()
+            self.service = Service(folder / "registry", {
+                "REGISTRY_FRONT": f"{front}/run/front.sock", "REGISTRY_TOKEN": self.token,
+                "REGISTRY_LOG": f"{front}/run/changes.log"})
+            begun.callback(self.service.stop)
+            (front / "labels").rename(front / "labels.small")
+            (front / "labels").symlink_to(self.service.made / "now")
+            self.front.reload()
+            browser.until("the token counts", lambda: Client(self.front).ask(
+                "GET", "/instance", Authorization=f"Bearer {self.token}")[0] == 200)
+            self.begun = begun.pop_all()
+
+    def added_program(self):
+        """A token for the service, as the package makes it."""
+        key = self.run.folder / "front.key"
+        key.write_text(f"FRONT_KEY={self.key}\n")
+        return subprocess.run(
+            ["/usr/bin/python3", TOP / "tools" / "token", "--front", self.front.folder, "--key",
+             key, "add", "registry", "office"], check=True, capture_output=True, text=True
+        ).stdout.strip()
+
+
+def signed_in(stack, user):
+    client = Client(stack.front)
+    client.sign_in(user)
+    return client
+
+
+def asked(client, method, path, body=None):
+    """Status and body of a reply of the service; JSON is read."""
+    status, header, text = client.ask(method, f"/-/registry/{path}", body)
+    return status, json.loads(text) if "json" in header["Content-Type"] else text
+
+
+def strangers(run, stack):
+    """Only the office reaches the service, and only the front's own pages."""
+    before = stack.service.socket.stat().st_ino
+    people = {"somebody who isn't signed in": Client(stack.front),
+              **{user: signed_in(stack, user) for user in ("ada", "physics", "nobody")}}
+    questions = (("GET", "about"), ("GET", "batches"), ("PUT", "batches/1"), ("POST", "students"),
+                 ("GET", "anything"))
+    for running in (True, False):
+        for name, client in people.items():
+            for method, path in questions:
+                run.judge(f"{method} {path} of {name}, while it runs: {running}",
+                          NOT_THE_OFFICE if client.cookies else NOBODY,
+                          client.ask(method, f"/-/registry/{path}", X_User="registry")[::2])
+        if running:
+            stack.service.stop()
+    office = signed_in(stack, "registry")
+    run.judge("no service", ((200, b"null"), NONE), tuple(
+        office.ask("GET", f"/-/registry/{path}")[::2] for path in ("about", "batches")))
+    stack.service.start()
+    run.judge("the service", (True, (200, {"ledger": True})), (
+        before != stack.service.socket.stat().st_ino, asked(office, "GET", "about")))
+    run.judge("another site's page", told_error(403, "forbidden", rule="origin"), office.ask(
+        "PUT", "/-/registry/batches/1", b"", Origin="https://elsewhere.example")[::2])
+    run.judge("the names of its sessions, for others", (200, 401), tuple(
+        Client(stack.front, host="other.session").ask("GET", "/instance", **fields)[0]
+        for fields in ({"Authorization": f"Bearer {stack.token}"}, {})))
+
+
+def batches(run, stack):
+    """A batch of the page is in the ledger with who sent it, and what it did."""
+    ada, service = signed_in(stack, "registry"), stack.service
+    body = batch_text("3,0,add", "2,0,add", "2,1,drop")
+    reply = {"added": 1, "batch": 5, "dropped": 1, "unchanged": 1}
+    run.judge("a batch", (200, reply), asked(ada, "PUT", "batches/5", body))
+    run.judge("its lines in the ledger", [(5, 0, 3, 0, "add", 1), (5, 1, 2, 0, "add", 0),
+                                          (5, 2, 2, 1, "drop", 1)], service.rows(
+        "SELECT batch, place, student, exam, action, EXISTS (SELECT 1 FROM acted WHERE acted.batch"
+        " = changes.batch AND acted.place = changes.place) FROM changes ORDER BY place"))
+    status, found = asked(ada, "GET", "batches")
+    one, = found["batches"]
+    run.judge("what is known of it", (200, True, {
+        "number": 5, "source": "page", "by": "registry", "added": 1, "dropped": 1, "unchanged": 1,
+        "digest": hashlib.sha256(body).hexdigest(), "has_opposite": True}), (
+        status, bool(re.match(r"\d{4}-\d\d-\d\dT", one.pop("at"))),
+        {name: one[name] for name in sorted(one) if name != "points"}))
+    run.judge("points before and after", {"published": [37, 37], "1": [37, 38]}, one["points"])
+    run.judge("its lines", (200, [["add", True], ["add", False], ["drop", True]]), (
+        lambda status, it: (status, [[one["action"], one["acted"]] for one in it["changes"]]))(
+        *asked(ada, "GET", "batches/5")))
+    students = json.loads((service.made / "now" / "students.json").read_text())
+    run.judge("the file of students", ([[0, 3], [0], [0, 1, 2]], [(2, "drop", "registry"),
+                                                                  (3, "add", "registry")]), (
+        [one["exams"] for one in students["students"]],
+        sorted((one["student"], one["action"], one["by"]) for one in students["here"])))
+    run.judge("the same again", (200, reply), asked(ada, "PUT", "batches/5", body))
+    run.judge("other bytes under its number", (409, {"error": "batch-differs"}),
+              asked(ada, "PUT", "batches/5", batch_text("3,0,drop")))
+    run.judge("an exam that isn't there", (404, {"error": "number"}),
+              asked(ada, "PUT", "batches/6", batch_text("3,9,add")))
+    run.judge("lines that are no lines", (400, {"error": "file", "fault": 11, "line": 1}),
+              asked(ada, "PUT", "batches/6", b"junk"))
+    run.judge("nothing is left of those", [(5,)], service.rows("SELECT number FROM batches"))
+    direct = ada.ask("PUT", "/batches/7", batch_text("2,1,add"))
+    run.judge("a batch to the office itself", 200, direct[0])
+    run.judge("the next one", 200, asked(ada, "PUT", "batches/8", batch_text("3,0,drop"))[0])
+    run.judge("who sent both", [(-1, "registry"), (5, "registry"), (8, "registry")], service.rows(
+        "SELECT number, prepared_by FROM batches ORDER BY number"))
+    office = [line for line in stack.front.changes() if line["path"] == "/batches/8"]
+    run.judge("as whom the service asks", [("program:registry", "office", 200)],
+              [(one["user"], one["caller"], one["status"]) for one in office])
+
+
+def new_students(run, stack):
+    """A new student gets the next free number, and a name; faults change nothing."""
+    ada = signed_in(stack, "registry")
+    zoe = [{"student": "r9", "name": "Zoë Zander"}, {"student": "s1", "name": "Ada Archer"}]
+    run.judge("a new student", (200, {"numbers": {"r9": 4, "s1": 1}}),
+              asked(ada, "POST", "students", json.dumps(zoe)))
+    run.judge("their name", {"number": 4, "id": "r9", "name": "Zoë Zander"}, (
+        lambda it: {name: it[name] for name in ("number", "id", "name")})(json.loads(
+            (stack.service.made / "now" / "names" / "4.json").read_text())))
+    for name, body in (("no JSON", b"{"), ("no list", b"{}"), ("no text", b'[{"student":1}]'),
+                       ("too long", json.dumps([{"student": "x" * 255}]).encode())):
+        run.judge(f"students: {name}", (400, {"error": "body"}),
+                  asked(ada, "POST", "students", body))
+    status, said = asked(ada, "POST", "students", json.dumps([
+        {"student": "q1", "name": "Q"}, {"student": "", "name": "a\u202eb"}]))
+    run.judge("faulty names", (400, "names", 2), (status, said["error"], len(said["faults"])))
+    run.judge("nobody else is new", [(4, "r9")], stack.service.rows(
+        "SELECT number, id FROM students WHERE number > 3"))
+    ended = subprocess.run(
+        [TOP / "tools" / "session_from_csv", "--check", stack.service.made],
+        capture_output=True, text=True, timeout=SECONDS, check=False)
+    run.judge("all belongs together", (0, ""), (ended.returncode, ended.stderr))
+
+
+def at_once(run, stack):
+    """Many batches at once are all in the ledger, once each, and none beside the tools' lock."""
+    ada = signed_in(stack, "registry")
+    with concurrent.futures.ThreadPoolExecutor(8) as pool:
+        came = list(pool.map(lambda number: asked(ada, "PUT", f"batches/{number}", batch_text(
+            f"{number % 3 + 1},{number % 4},{'add' if number % 2 else 'drop'}"))[0],
+            range(100, 116)))
+    run.judge("many at once", [200] * 16, came)
+    run.judge("each is in the ledger, with what it did", [(16, 16)], stack.service.rows(
+        "SELECT count(*), sum(effects.added + effects.dropped + unchanged) FROM batches"
+        " JOIN effects ON batch = number WHERE number >= 100"))
+
+
+NEW = "student,name,exam,action\nr9,Zoë Zander,MATH101,new\nr9,,PHYS102,add\nq1,Quo,,new"
+WHOLE = ("student,exam,name\ns1,MATH101,\ns1,PHYS102,\ns2,MATH101,\ns2,MATH102,\ns3,MATH102,\n"
+         "s3,PHYS101,\nr9,MATH101,\nr9,PHYS102,\nx1,PHYS101,Xi\n")
+SEND, LISTS = "click #batch-send", "rows #batch-lists tr"
+
+
+def on_the_page(page):
+    """New students of lines and of a whole list; what the page sends is in the ledger."""
+    def pasted(lines, number=20):
+        return ["reset #batch", ("set", "#batch-number", number), ("type", "#batch-lines", lines),
+                "click #batch button"]
+
+    page.steps(
+        ("new students", pasted(NEW), {
+            "#batch-effect": "2 to add, 0 to drop, 2 new students.", LISTS: [
+                ["Candidate"], ["Zoë Zander\nr9"], ["Quo\nq1"],
+                ["Candidate", "Exam"], ["Zoë Zander\nr9", "MATH101\nCalculus"],
+                ["Zoë Zander\nr9", "PHYS102\nOptics"]]}),
+        ("they are sent", SEND, {
+            "said": "2 new students. Batch 20 is accepted: 2 added, 0 dropped, 0 unchanged."}),
+        ("a student who isn't new", pasted(NEW), {
+            "said": "Nothing was sent: 2 faults.\nLine 2: r9 is Zoë Zander already\n"
+                    "Line 4: q1 is Quo already"}),
+        ("a whole list", pasted(WHOLE, 21), {
+            "#batch-effect": "1 to add, 0 to drop, 1 new student."}),
+        ("so many new students are asked about", SEND,
+         {"#confirm-title": "Add 1 student?"}),
+        ("a whole list is sent", "click #confirm-yes", {
+            "said": "1 new student. Batch 21 is accepted: 1 added, 0 dropped, 0 unchanged."}),
+        ("the opposite names them", "click #batch-inverse", {
+            "value #batch-lines": "student,exam,action\nx1,PHYS101,drop\n"}))
+
+
+def in_browser(run, chromium, make_front):
+    """The registry's page beside the service."""
+    if front_sign_in.missing():
+        return
+    stack = Stack(run, make_front, "registry_page")
+    try:
+        chromium.go(f"http://{chromium.new_host()}:{stack.front.port}/-/sign-in?to=/registry.html")
+        chromium.types("[name=user]", "registry")
+        chromium.types("[name=password]", "try-registry")
+        chromium.click("form button")
+        chromium.waits("return location.pathname === '/registry.html'")
+        is_read(chromium)
+        on_the_page(Page(run, chromium))
+        run.judge("what the page sent, in the ledger", [
+            (20, "page", "registry", 2), (21, "page", "registry", 1)], stack.service.rows(
+            "SELECT number, source, prepared_by, added FROM batches JOIN effects ON batch = number"
+            " ORDER BY number"))
+        run.judge("complaints about the page with a service", [], chromium.complaints())
+    finally:
+        stack.stop()
+
+
+def judge_stack(run, make_front):
+    stack = Stack(run, make_front, "registry")
+    try:
+        office = signed_in(stack, "registry")
+        for method, path, body, status in (("PUT", "/drafts/1", SOLUTION, 201),
+                                           ("POST", "/drafts/1/publish", b"", 200)):
+            run.judge("the start", status, office.ask(method, path, body)[0])
+        for part in (strangers, batches, new_students, at_once):
+            part(run, stack)
+    finally:
+        stack.stop()
+
+
+def judge(of_front, make_front):
+    """All of it; `make_front` makes a front in a folder before an office at an address."""
+    if front_sign_in.missing():
+        print("front: the registry's service is left out, as signing in is")
+        return
+    run = Run.apart(of_front.program, of_front.folder, "front", "of_registry")
+    judge_stack(run, make_front)
+    of_front.count, of_front.failed = of_front.count + run.count, of_front.failed + run.failed

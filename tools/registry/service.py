@@ -1,0 +1,239 @@
+"""The registry's service: what the registry's page asks for beside the office.
+
+It keeps a session's ledger, so that batches of the page are in it when they are sent, and new
+students get their numbers. Only nginx asks it, and only for those who are the office (front/):
+
+    gunicorn --workers 1 --threads 8 --bind unix:registry.sock registry.service:app
+
+REGISTRY_FOLDER has a folder with a ledger for each session, by its name. The office is asked
+through the front, as a program with a token of its own: by the Unix socket REGISTRY_FRONT with
+REGISTRY_TOKEN, or at the URL REGISTRY_FRONT. REGISTRY_LOG is the front's log of changes.
+"""
+from __future__ import annotations
+
+import contextlib
+import hashlib
+import json
+import os
+import pathlib
+import re
+import sqlite3
+from collections.abc import Iterator
+from typing import Any
+
+import flask
+
+from .changes import PAGE, Change, add_batch, forget_unsent, note_changes_of_others
+from .csv_tables import Faults, Known, Row
+from .folder import Folder
+from .ledger import Ledger, NotALedger, locked
+from .office import Office, OfficeBySocket, Refused
+from .sending import send_all, send_one
+
+FOLDER = pathlib.Path(os.environ["REGISTRY_FOLDER"])
+FRONT, TOKEN = os.environ["REGISTRY_FRONT"], os.environ.get("REGISTRY_TOKEN", "")
+LOG = pathlib.Path(os.environ["REGISTRY_LOG"]) if os.environ.get("REGISTRY_LOG") else None
+# A session whose office has an address in place of a name is this one.
+ONLY = "term"
+NAME = re.compile(r"[a-z0-9][a-z0-9_-]*")
+LINE = re.compile(r"0*([0-9]{1,9}),0*([0-9]{1,9}),(add|drop)")
+MOST_NEW, LONGEST = 100_000, 254
+
+app = flask.Flask(__name__, static_folder=None)
+
+
+# ---- Who asks, and which session it is
+
+def session() -> str:
+    """The name of the session, as nginx says it."""
+    name = flask.request.headers.get("X-Session", "")
+    return name if NAME.fullmatch(name) else ONLY
+
+
+def user() -> str:
+    return flask.request.headers.get("X-User", "")[:LONGEST]
+
+
+def folder() -> Folder:
+    return Folder(FOLDER / session())
+
+
+def office_of(name: str) -> Office:
+    """A session's office, which the front finds by this host."""
+    return Office(FRONT) if "://" in FRONT else OfficeBySocket(FRONT, f"{name}.session", TOKEN)
+
+
+@contextlib.contextmanager
+def opened() -> Iterator[tuple[Folder, Ledger]]:
+    """The session's ledger, on which nobody else works."""
+    found = folder()
+    if not found.ledger.exists():
+        raise NotALedger(f"{found.path} has no ledger")
+    with locked(found.path):
+        ledger = Ledger.opened_at(found.ledger)
+        try:
+            yield found, ledger
+        finally:
+            ledger.close()
+
+
+@contextlib.contextmanager
+def reading() -> Iterator[sqlite3.Connection]:
+    """The session's ledger, to be read beside others."""
+    path = folder().ledger
+    if not path.exists():
+        raise NotALedger(f"{path} isn't there")
+    with contextlib.closing(sqlite3.connect(f"{path.absolute().as_uri()}?mode=ro", uri=True)) as db:
+        yield db
+
+
+@app.errorhandler(NotALedger)
+def no_ledger(_: NotALedger) -> tuple[dict[str, Any], int]:
+    return {"error": "ledger"}, 404
+
+
+@app.errorhandler(Refused)
+def refused(refusal: Refused) -> flask.Response | tuple[dict[str, Any], int]:
+    """What the office refused, in its words."""
+    if refusal.status in (400, 403, 404, 409, 413):
+        return flask.Response(refusal.answer, refusal.status, mimetype="application/json")
+    return {"error": "unavailable"}, 503
+
+
+@app.errorhandler(OSError)
+@app.errorhandler(sqlite3.Error)
+def broken(_: Exception) -> tuple[dict[str, Any], int]:
+    """A disk that is full, or a ledger that may not be read."""
+    app.logger.exception("the registry's folder")
+    return {"error": "unavailable"}, 503
+
+
+@app.get("/-/registry/about")
+def about() -> dict[str, Any]:
+    return {"ledger": folder().ledger.exists()}
+
+
+# ---- Batches
+
+def lines_in(body: bytes) -> list[Change] | None:
+    """The lines of a batch that are put as the page and the tools put them, or None."""
+    head, *lines = body.decode("utf-8-sig", "replace").replace(" ", "").splitlines()
+    if head != "student,exam,action":
+        return None
+    found = [LINE.fullmatch(line) for line in lines if line]
+    return None if None in found else [
+        Change(int(line[1]), int(line[2]), line[3]) for line in found if line]
+
+
+@app.put("/-/registry/batches/<int:number>")
+def put_batch(number: int) -> flask.Response:
+    """Sends a batch of the page as the tools do: it is in the ledger before it is sent."""
+    body, changes = flask.request.get_data(), lines_in(flask.request.get_data())
+    with opened() as (found, ledger):
+        office = office_of(session())
+        finish_earlier(ledger, office)
+        note_changes_of_others(ledger, office.instance().pairs, LOG)
+        is_known = ledger.db.execute("SELECT 1 FROM batches WHERE number = ?", (number,)).fetchone()
+        if is_known or changes is None:
+            # The office knows it, or refuses it.
+            reply = office.ask("PUT", f"/batches/{number}", body)
+        else:
+            add_batch(ledger, number, body, PAGE, user(), changes)
+            ledger.keep()
+            reply = sent(ledger, office, number, body)
+        found.refresh(ledger, user())
+    return flask.Response(reply, mimetype="application/json")
+
+
+def finish_earlier(ledger: Ledger, office: Office) -> None:
+    """Sends what a run that was cut off left. What the office refuses of it is forgotten."""
+    try:
+        for _ in send_all(ledger, office):
+            pass
+    except Refused as refusal:
+        if refusal.status not in (400, 403, 404, 409, 413):
+            raise
+
+
+def sent(ledger: Ledger, office: Office, number: int, body: bytes) -> str:
+    """Sends a batch; one that the office refuses is forgotten."""
+    try:
+        return send_one(ledger, office, number, body)
+    except Refused as refusal:
+        if refusal.status in (400, 403, 404, 409, 413):
+            forget_unsent(ledger)
+            ledger.keep()
+        raise
+
+
+@app.get("/-/registry/batches")
+def batches() -> dict[str, Any]:
+    """All batches, the last one first."""
+    with reading() as db:
+        rows = db.execute(
+            "SELECT number, source, sent_at, prepared_by, bytes, added, dropped, unchanged, points,"
+            " (SELECT count(*) FROM acted WHERE acted.batch = number)"
+            " FROM batches LEFT JOIN effects ON effects.batch = number"
+            " WHERE sent_at IS NOT NULL ORDER BY sent_at DESC, number DESC").fetchall()
+    return {"batches": [batch_of(*row) for row in rows]}
+
+
+def batch_of(number: int, source: str, at: str, by: str, content: bytes, added: int | None,
+             dropped: int | None, unchanged: int | None, points: str | None, acted: int
+             ) -> dict[str, Any]:
+    is_known = added is not None and dropped is not None and acted == added + dropped
+    return {"number": number, "source": source, "at": at, "by": by,
+            "digest": hashlib.sha256(content).hexdigest() if content else None,
+            "added": added, "dropped": dropped, "unchanged": unchanged,
+            "points": json.loads(points or "{}"), "has_opposite": is_known and acted > 0}
+
+
+@app.get("/-/registry/batches/<number>")
+def batch(number: str) -> tuple[dict[str, Any], int]:
+    """The lines of a batch, and which of them changed something."""
+    if not re.fullmatch("-?[0-9]{1,9}", number):
+        return {"error": "path"}, 404
+    with reading() as db:
+        rows = db.execute(
+            "SELECT student, exam, action, EXISTS (SELECT 1 FROM acted WHERE"
+            " acted.batch = changes.batch AND acted.place = changes.place)"
+            " FROM changes WHERE batch = ? ORDER BY place", (int(number),)).fetchall()
+    return {"number": int(number), "changes": [
+        {"student": student, "exam": exam, "action": action, "acted": bool(acted)}
+        for student, exam, action, acted in rows]}, 200
+
+
+# ---- New students
+
+@app.post("/-/registry/students")
+def students() -> tuple[dict[str, Any], int]:
+    """Gives new students their numbers; one who is known already has one."""
+    faults, given = Faults(), people_in(flask.request.get_json(force=True, silent=True))
+    if given is None:
+        return {"error": "body"}, 400
+    rows = [Row("students", place, person, faults) for place, person in enumerate(given, 1)]
+    people = {row.text("student"): row.one_line("name") for row in rows}
+    if faults.lines:
+        return {"error": "names", "faults": faults.lines}, 400
+    with opened() as (found, ledger):
+        known = Known(ledger.numbers())
+        new = {student: name for student, name in people.items() if known.text(student) is None}
+        added = {one.id: one.number for one in ledger.add_new_students(new)}
+        ledger.keep()
+        if added:
+            found.refresh(ledger, user())
+        numbers = {student: added.get(student, known.number(student)) for student in people}
+    return {"numbers": numbers}, 200
+
+
+def people_in(body: Any) -> list[dict[str, str]] | None:
+    """The students of a body: a list of objects with `student` and `name`."""
+    if not isinstance(body, list) or len(body) > MOST_NEW:
+        return None
+    people = []
+    for one in body:
+        texts = [one.get("student"), one.get("name", "")] if isinstance(one, dict) else [None]
+        if not all(isinstance(text, str) and len(text) <= LONGEST for text in texts):
+            return None
+        people.append({"student": texts[0].strip(), "name": texts[1].strip()})
+    return people
