@@ -64,7 +64,7 @@ class Stack(front_sign_in.Stack):
         folder = run.folder / name
         super().__init__(run, make_front, name, (
             ("/run/examoffice-registry", f"{folder}/registry"),
-            ("/run/examoffice-front", f"{folder}/front/run")))
+            ("/var/lib/examoffice-front", f"{folder}/front/run")))
         with contextlib.ExitStack() as begun:
             begun.callback(self.begun.close)
             front = self.front.folder

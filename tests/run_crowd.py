@@ -32,7 +32,7 @@ TOP = pathlib.Path(__file__).resolve().parent.parent
 UNIVERSITY = TOP / "examples" / "university"
 # Requests a second of 25,000 people who come within ten minutes, two each.
 RATE = 84
-CANDIDATES, ATTACKERS, SLOW = 300, 100, 17_500
+CANDIDATES, ATTACKERS, SLOW, SIGN_INS = 300, 100, 17_500, 2_000
 KILL_SECONDS = 8
 SECONDS = 60
 
@@ -176,6 +176,25 @@ async def at_once(university):
               f" {count / (time.monotonic() - began):.0f} a second", flush=True)
 
 
+async def sign_ins(university):
+    """First sign-ins of one address, as many a second as 25,000 in an hour."""
+    waits, turn, tasks = Waits(), time.monotonic(), []
+
+    async def one(user):
+        body = f"user={user}&password=a+word".encode()
+        waits.add(*await university.ask("\r\n".join([
+            "POST /-/sign-in HTTP/1.1", f"Host: {university.host}", "Connection: close",
+            "Content-Type: application/x-www-form-urlencoded", f"Content-Length: {len(body)}",
+            "", ""]).encode() + body))
+
+    for number in university.students[:SIGN_INS]:
+        tasks.append(asyncio.create_task(one(f"s{number}")))
+        turn += 3600 / 25_000
+        await asyncio.sleep(max(0, turn - time.monotonic()))
+    await asyncio.gather(*tasks)
+    print(f"{SIGN_INS} first sign-ins, 7 a second: {waits}", flush=True)
+
+
 async def restarts(university):
     """The office is killed twelve times under 700 clients."""
     waits, end = Waits(), time.monotonic() + 12 * KILL_SECONDS + 5
@@ -275,7 +294,7 @@ async def attack(university, minutes):
 def main():
     words = argparse.ArgumentParser(description=__doc__.partition("\n")[0])
     words.add_argument("program")
-    words.add_argument("part", nargs="*", default=["day", "at_once", "restarts", "attack"])
+    words.add_argument("part", nargs="*", default=[*PARTS])
     words.add_argument("--minutes", type=float, default=10)
     given = words.parse_args()
     if front_sign_in.missing():
@@ -293,7 +312,8 @@ def main():
     return 0
 
 
-PARTS = {"day": day, "at_once": at_once, "restarts": restarts, "attack": attack}
+PARTS = {"day": day, "at_once": at_once, "sign_ins": sign_ins, "restarts": restarts,
+         "attack": attack}
 
 if __name__ == "__main__":
     sys.exit(main())
