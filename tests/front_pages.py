@@ -13,15 +13,14 @@ from pages_candidate import (
     states_of_exams)
 from pages_department import departments_page, pages_of_others
 from pages_late import late_changes
-from pages_registry import new_session, publishing, registrys_page, registrys_work
+from pages_registry import (
+    new_session, publishing, registrys_page, registrys_work, sections)
 from pages_seats import printed, seats_after_changes, seats_of_candidates
 
 # Of the small office, in this order: each begins with what those before it left.
-PARTS = (candidates_page, next_exam_first, registrys_page, seats_of_candidates, departments_page,
-         pages_of_others, publishing, moved_exam, seats_after_changes, states_of_exams,
-         overlapping_exams,
-         late_changes,
-         registrys_work, style_is_read)
+PARTS = (candidates_page, next_exam_first, registrys_page, sections, seats_of_candidates,
+         departments_page, pages_of_others, publishing, moved_exam, seats_after_changes,
+         states_of_exams, overlapping_exams, late_changes, registrys_work, style_is_read)
 
 
 def judge(run, started, front, wide, sso, many, office, program, folder):

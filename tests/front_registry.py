@@ -226,7 +226,7 @@ def on_the_page(page):
                 "click #batch button"]
 
     page.steps(
-        ("new students", pasted(NEW), {
+        ("new students", ["click #menu [data-to=late-changes] a", *pasted(NEW)], {
             "#batch-effect": "2 to add, 0 to drop, 2 new students.", LISTS: [
                 ["Candidate"], ["Zoë Zander\nr9"], ["Quo\nq1"],
                 ["Candidate", "Exam"], ["Zoë Zander\nr9", "MATH101\nCalculus"],

@@ -9,7 +9,7 @@ globalThis.navigator ??= { languages: ['en-GB'] };
 globalThis.crypto ??= webcrypto;
 const {
   batchTexts, changesOfList, effectOf, inverseText, linesIn,
-} = await import('../front/page/batch_lines.js');
+} = await import('../front/page/changes.js');
 const { calendarText } = await import('../front/page/calendar.js');
 const { columnsOf, csvText, recordsOf } = await import('../front/page/csv.js');
 const { overlapsOf, pointsInWords, studentsAtOnce } = await import('../front/page/conflicts.js');

@@ -161,9 +161,9 @@ def list_of_sessions(run, chromium, many):
 
 # ---- Names of another session
 
-NOT_MATCHING = ("The names of %s don't match this session, so this page shows numbers. Please tell "
-                "the "
-                "registry.")
+NOT_MATCHING = ("The names of %s don't match this session, so this page shows numbers. "
+                "%s")
+ASK, TELL = "Ask the person who installed labels.json.", "Please tell the registry."
 
 
 def changed(labels, table, number, field, value):
@@ -179,9 +179,11 @@ def other_labels(run, chromium, wide):
     path = wide.folder / "labels" / "labels.json"
     right = json.loads(path.read_text())
     for user, labels, note, shown in (
-            ("registry", changed(right, "rooms", 7, "capacity", 1), NOT_MATCHING % "rooms",
+            ("registry", changed(right, "rooms", 7, "capacity", 1),
+             NOT_MATCHING % ("rooms", ASK),
              {"#grid thead th:nth-child(2)": "Room 0\n20 seats"}),
-            ("ada", changed(right, "periods", 0, "date", "2005-06-07"), NOT_MATCHING % "periods",
+            ("ada", changed(right, "periods", 0, "date", "2005-06-07"),
+             NOT_MATCHING % ("periods", TELL),
              {".exams [data-label=Room]": "0"}),
             ("registry", None, "", {"#grid tbody td": "Exam 0\n1 of 20"}),
             ("ada", None, "", {".exams tbody th": "Exam 0"}),
@@ -230,7 +232,7 @@ def pictures(chromium, front, folder):
                              ("registry-desktop", "registry", {"width": 1_200, "height": 800})):
         with reading(chromium, front, user, **more) as reader:
             if user == "registry":
-                reader.click("#cards article:nth-child(3) button")
+                reader.click("#cards li:nth-child(3) a")
                 is_read(reader)
                 reader.run("document.activeElement.blur()")
             reader.picture(folder / f"{name}.png")

@@ -109,7 +109,7 @@ def pages_of_others(run, chromium, front):
     with opened(run, chromium, front, "physics", "registry.html") as page:
         page.judge("the registry's page, for a department", {
             "said": "Only the examination office may do this.\nGo to your own page",
-            "hidden #late": True})
+            "hidden #menu": True})
     with opened(run, chromium, front, "registry", "department.html") as page:
         run.judge("the department's page, for the office", True,
                   page.look("#error").startswith("This page is for departments."))

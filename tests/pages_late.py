@@ -44,7 +44,7 @@ def by_keyboard(page, front):
         page.act(("write", line), "press enter")
     page.steps(
         ("the button that a key reaches after the lines",
-         [("write", "s2;MATH101;withdrawn"), "press tab"],
+         [("write", "s2;MATH101;withdrawn"), "press tab tab"],
          {"focused": "Check"}),
         ("what a batch would do", "press enter", {
             PREVIEW: False, "#batch-effect": "1 to add, 1 to drop, 1 already there.",
@@ -136,7 +136,7 @@ def full_lists(page):
 
 def late_changes(run, chromium, front):
     """Lines with codes become a batch, which is shown before it is sent; and its opposite."""
-    with opened(run, chromium, front, "registry") as page:
+    with opened(run, chromium, front, "registry", "registry.html#late-changes") as page:
         by_keyboard(page, front)
         faulty_lines(page)
         files_of_lines(page, front)

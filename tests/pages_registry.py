@@ -4,39 +4,41 @@ import time
 
 from front_cases import ask
 from front_page import csv_file, opened
-from pages_seats import SEATS_NAMED, WHERE, WHOSE
+from pages_seats import NOBODY, SEATS_NAMED, WHERE, WHOSE
 from serve_cases import SMALL, SOLUTION
 
 FRIDAY, MONDAY = "2005-04-15", "2005-04-18"
 HALL, ROOM = "Great Hall, Main building", "Room 2.14, Physics building"
-CARD = "#cards article:nth-child(%d)"
-DETAILS, PUBLISH = f"{CARD} button", f"{CARD} button.main"
+CARD = "#cards li:nth-child(%d)"
+OPEN, POINTS, VERDICT = f"{CARD} a", f"{CARD} .points", f"{CARD} .verdict"
+TITLE = "#timetable-title"
 
 # ---- Overview
 
-# The points of two drafts, by part, and the place of their cards.
-PARTS = [(2, [7, 5, 3, 0, 0, 0, 15, 7]), (3, [0, 0, 3, 0, 0, 4, 20, 7])]
+# The points of the publication and of two drafts, by part, and how the second differs from it.
+PARTS = [("Two in a row", 7, 7, "0\n7 fewer than published"),
+         ("Two in a day", 5, 5, "0\n5 fewer than published"), ("Period spread", 3, 3, "3"),
+         ("Over night", 0, 0, "0"), ("Mixed durations", 0, 0, "0"),
+         ("Front load", 0, 0, "4\n4 more than published"),
+         ("Period penalty", 15, 15, "20\n5 more than published"), ("Room penalty", 7, 7, "7")]
 
 
 def registrys_page(run, chromium, front):
-    """Penalties by part are shown as bars, violations in words, and rooms by period."""
+    """Penalties are shown by part, with bars, violations in words, and rooms by period."""
     with opened(run, chromium, front, "registry") as page:
         run.judge("errors in the console", [], page.reader.complaints("network", "javascript"))
         page.judge("the timetables", {
-            "titles #cards h3": ["Published 37 points", "Draft 1 37 points", "Draft 2 34 points"],
-            "texts #cards .verdict": ["What candidates see", "Breaks no rule",
-                                      "Breaks rules: 1 violation"]})
-        for place, points in PARTS:
-            rows = f"{CARD % place} .bars tr"
-            page.judge(f"the parts of card {place}", {
-                f"texts {rows} td:last-child": [str(number) for number in points]})
-            run.judge(f"the bars of card {place}", [True] * 8, [
-                abs(width - number / 20) < 0.02
-                for width, number in zip(page.look(f"widths {rows} .bar"), points)])
-        page.steps(("the details of a draft", f"click {DETAILS % 3}", {
-            "texts #violations li": ["After Exam MATH102 must come after exam MATH101, and does "
-                                     "not."],
-            "focus": "detail-title", "rows #grid tr": [
+            "titles #cards a": [
+                "Published 37 points Candidates see this timetable",
+                "Draft 1 37 points as many as published Breaks no rule",
+                "Draft 2 34 points 3 fewer than published Breaks rules: 1 violation"],
+            "rows #parts tr": [["Part", "Published", "Draft 1", "Draft 2"], *(
+                [part, *map(str, points)] for part, *points in PARTS)]})
+        run.judge("the bars of the publication", [True] * 8, [
+            abs(width - part[1] / 20) < 0.02
+            for width, part in zip(page.look("widths #parts td:nth-child(2) .bar"), PARTS)])
+        page.steps(("a draft", f"click {OPEN % 3}", {
+            "focus": "timetable-title", TITLE: "Draft 2", "rows #grid tr": [
                 ["Period", "Great Hall\nMain building\n3 seats",
                  "Room 2.14\nPhysics building\n2 seats"],
                 *([f"Period {number}\n{page.moment(date, start)}", *rooms]
@@ -45,12 +47,57 @@ def registrys_page(run, chromium, front):
                       (FRIDAY, "14:00:00", "MATH102 Linear algebra\n2 of 3", ""),
                       (FRIDAY, "17:00:00", "PHYS102 Optics\n1 of 3", ""),
                       (MONDAY, "09:30:00", "MATH101 Calculus\n2 of 3",
-                       "PHYS101 Mechanics\n1 of 2"))))]}))
+                       "PHYS101 Mechanics\n1 of 2"))))]}),
+                   ("what it breaks", f"click {MENU % 'conflicts'}", {
+                       "focus": "conflicts-title", "hash": "#conflicts/draft-2",
+                       "texts #violations li": ["After Exam MATH102 must come after exam MATH101, "
+                                                "and does not."]}))
+
+
+# ---- Sections
+
+MENU = "#menu [data-to=%s] a"
+MENU_LINES = ["Timetable", "Conflicts", "Seats and lists", "Late changes", "Set-up"]
+# Addresses, also of older versions, and the heading that they show; the last one names nothing.
+ADDRESSES = [("#timetable/draft-2", "Draft 2"), ("#conflicts/draft-1", "Conflicts"),
+             ("#seats", "Seats and lists"), ("#late-changes", "Late changes"),
+             ("#set-up", "Set-up"), ("#draft-2", "Draft 2"), ("#published", "Published"),
+             ("#nothing", "Published")]
+SHOWN = "section[data-section]:not([hidden]) h2"
+# What is used daily, by section: it has to be seen without scrolling at 1440 by 900.
+DAILY = {"timetable": ["#publish", "#find", "#compare", "#grid thead"],
+         "conflicts": ["#violations"], "seats": ["#seat-words", "#seatless", "#seat-print button"],
+         "late-changes": ["#batch-lines", "#batch-check"], "set-up": ["#draft button"]}
+BOTTOM = "return document.querySelector(arguments[0]).getBoundingClientRect().bottom"
+# How far a message is from the button that caused it, in pixels.
+BESIDE = ("const [one, other] = [...arguments].map(s => document.querySelector(s))"
+          ".map(e => e.getBoundingClientRect()); return Math.round(one.top - other.bottom)")
+
+
+def sections(run, chromium, front):
+    """Each section has an address and a line in the menu; a message is beside its control, and
+    what is used daily is seen without scrolling."""
+    with opened(run, chromium, front, "registry", width=1_440, height=900) as page:
+        page.judge("the menu", {"texts #menu li:not([hidden])": MENU_LINES,
+                                "texts #menu [aria-current]": ["Timetable"]})
+        for address, heading in ADDRESSES:
+            page.reader.run("location.hash = arguments[0]", address)
+            page.judge(f"what {address} shows", {f"texts {SHOWN}": [heading]})
+        for section, selectors in DAILY.items():
+            page.reader.run("location.hash = arguments[0]", f"#{section}/draft-1")
+            page.judge(f"the section {section}", {"hash": f"#{section}/draft-1"})
+            run.judge(f"what is used daily in {section}", [True] * len(selectors), [
+                page.reader.run(BOTTOM, selector) < 900 for selector in selectors])
+        page.steps(
+            ("an answer", [f"click {MENU % 'seats'}", ("set", "#seat-words", "nobody"),
+                           "click #seat-find button"], {"said": NOBODY}))
+        run.judge("it is below its button", True,
+                  0 <= page.reader.run(BESIDE, "#status", "#seat-find button") < 40)
 
 
 # ---- Publishing
 
-ASKS = [f"focus {PUBLISH % 2}", "press enter"]
+ASKS = ["focus #publish", "press enter"]
 
 
 def publications(front):
@@ -66,10 +113,13 @@ def moved(run, front, period, room, penalty):
 
 def publishing_asks(page, front):
     """Publish asks first, and publishes nothing if it is left in any way."""
-    page.judge("what can be published", {
-        f"disabled {PUBLISH % 2}": False, f"disabled {PUBLISH % 3}": True,
-        f"disabled {PUBLISH % 4}": True,
-        f"{CARD % 4} .verdict": "Breaks no rule; 4 exams not placed"})
+    page.judge("what is published isn't published again", {"hidden #publish": True})
+    page.steps(*(
+        (f"what can be published of card {place}", f"click {OPEN % place}",
+         {"hidden #publish": False, "disabled #publish": is_refused, VERDICT % place: verdict})
+        for place, is_refused, verdict in (
+            (3, True, "Breaks rules: 1 violation"),
+            (4, True, "Breaks no rule; 4 exams not placed"), (2, False, "Breaks no rule"))))
     before = publications(front)
     for leave in ("click #confirm button", "press escape", "press enter"):
         page.steps(("publish asks", ASKS,
@@ -95,7 +145,7 @@ def publishing_shows_changes(page, front):
         page.run.judge("what changed since the page was read", (part, True), (part, part in words))
     page.steps(
         ("its card", "press escape",
-         {"open #confirm": False, f"words {CARD % 2} h3": "Draft 1 44 points"}),
+         {"open #confirm": False, POINTS % 2: "44 points"}),
         ("publish asks again", ASKS, {"open #confirm": True}))
     page.run.judge("it has been seen", False, "changed" in page.look("words #confirm-text"))
     moved(page.run, front, 2, 0, 37)
@@ -120,7 +170,7 @@ def published(page, front):
         ("what was published", "press tab enter", {
             "#status": "Draft 1 is published; the seats of 1 candidate have changed.",
             "#changed-seats": "Seats changed by publishing Draft 1, as CSV",
-            f"words {CARD % 1} h3": "Published 44 points"}))
+            POINTS % 1: "44 points"}))
     page.run.judge("it was published once", before + 1, publications(front))
     page.judge_file("changed-seats.csv", "#changed-seats", csv_file(
         ",".join([*WHOSE, *(f"{name} {when}" for when in ("before", "now") for name in WHERE)]),
@@ -131,14 +181,14 @@ def not_publishable(page, front):
     """A draft that can't be published any more, and one that is gone."""
     before = publications(front)
     front.told(ask("registry", "DELETE", "/drafts/1/exams/3"))
-    page.steps(("a draft that can't be published any more", f"click {PUBLISH % 2}", {
+    page.steps(("a draft that can't be published any more", "click #publish", {
         "#error": "Draft 1 has changed since you looked. It can't be published now: breaks no "
                   "rule; "
                   "1 exam not placed.", "open #confirm": False}))
     page.run.judge("it wasn't published", before, publications(front))
     front.told(ask("registry", "POST", "/drafts/1/exams/3/place", b'{"period":3,"room":1}'))
     front.told(ask("registry", "DELETE", "/drafts/3"))
-    page.steps(("a draft that is gone", f"click {DETAILS % 4}",
+    page.steps(("a draft that is gone", f"click {OPEN % 4}",
                 {"#error": "This draft no longer exists."}))
 
 
@@ -152,7 +202,6 @@ def publishing(run, chromium, front):
 
 # ---- Drafts and owners
 
-TITLE = "#detail-title"
 DRAFT = "click #draft button.main"
 OWNERS = "click #owners button.main"
 BY_EXAM = [
@@ -187,16 +236,17 @@ def making_drafts(page):
     """Drafts are made, from a file and empty, and dropped."""
     faulty = written(page.run, "faulty.sol", SOLUTION.replace(b"1, 0", b"1, x"))
     page.steps(
-        ("a faulty file", [("type", "#draft-file", faulty), DRAFT], {
+        ("a faulty file", [f"click {MENU % 'set-up'}", ("type", "#draft-file", faulty), DRAFT], {
             "said": "Draft 3 was not made. Line 2: a whole number is expected.",
             "fault": ["draft-file", "true",
                       "Draft 3 was not made. Line 2: a whole number is expected."]}),
         ("a draft from a file",
          [("type", "#draft-file", written(page.run, "new.sol", SOLUTION)), DRAFT],
          {"said": "Draft 3 is made."}),
-        ("an empty draft", DRAFT, {"said": "Draft 4 is made.",
-                                   f"{CARD % 5} .verdict": "Breaks no rule; 4 exams not placed"}),
-        ("dropping asks", f"click {CARD % 5} .buttons button:last-child",
+        ("an empty draft", DRAFT, {"said": "Draft 4 is made."}),
+        ("it is there", f"click {MENU % 'timetable'}",
+         {VERDICT % 5: "Breaks no rule; 4 exams not placed"}),
+        ("dropping asks", [f"click {OPEN % 5}", "click #drop"],
          {"#confirm-title": "Drop draft 4?"}),
         ("a draft is dropped", "click #confirm-yes", {"#status": "Draft 4 is dropped."}))
 
@@ -205,11 +255,11 @@ def looking_at_drafts(page):
     """The address has the draft that is shown, and the browser's back and forward go between
     drafts."""
     page.steps(
-        *(("the address of a draft", f"click {DETAILS % 3}", {"hash": "#draft-2", TITLE: "Draft 2"})
-          for _ in range(2)),
-        ("another draft", f"click {DETAILS % 4}", {TITLE: "Draft 3"}),
-        ("back", "go back", {TITLE: "Draft 2"}), ("back again", "go back", {TITLE: "Published"}),
-        ("forward", "go forward", {TITLE: "Draft 2"}),
+        *(("the address of a draft", f"click {OPEN % 3}",
+           {"hash": "#timetable/draft-2", TITLE: "Draft 2"}) for _ in range(2)),
+        ("another draft", f"click {OPEN % 4}", {TITLE: "Draft 3"}),
+        ("back", "go back", {TITLE: "Draft 2"}), ("forward", "go forward", {TITLE: "Draft 3"}),
+        ("back again", "go back", {TITLE: "Draft 2"}),
         ("the link that skips", ["focus .skip", "press enter"], {
             "focus": "main", "hash": "#main", TITLE: "Draft 2"}))
 
@@ -240,6 +290,7 @@ def comparing_and_finding(page):
 
 def setting_owners(page, front):
     """Owners come from a CSV file, or for all exams from the departments of the names."""
+    page.act(f"click {MENU % 'set-up'}")
     for number, (text, words) in enumerate(OWNER_FILES):
         path = written(page.run, f"owners-{number}.csv", text.encode())
         page.steps((f"owners: {words}", [("type", "#owners-file", path), OWNERS], {"said": words}))
@@ -262,7 +313,8 @@ def registrys_work(run, chromium, front):
 # ---- A new session
 
 FAULTY_SESSION = SMALL.replace(b"15:04:2005, 14", b"31:04:2005, 14")
-SECTIONS = ("hidden #session-new", "hidden #setup", "hidden #late", "hidden #detail")
+FORMS = ("hidden #session", "hidden #draft", "hidden #owners")
+LINES = "texts #menu li:not([hidden])"
 
 
 def new_session(run, chromium, program):
@@ -270,12 +322,12 @@ def new_session(run, chromium, program):
     send = "click #session button"
     with program() as front, opened(run, chromium, front, "registry") as page:
         page.steps(
-            ("no session", [], {"#status": "No session is loaded yet.",
-                                **dict(zip(SECTIONS, (False, True, True, True)))}),
+            ("no session", [], {"#status": "No session is loaded yet.", LINES: ["Set-up"],
+                                **dict(zip(FORMS, (False, True, True)))}),
             ("a faulty session",
              [("type", "#session-file", written(run, "faulty.exam", FAULTY_SESSION)), send],
              {"said": "The session was not loaded. Line 8: a date such as 15:04:2005 is "
                       "expected."}),
             ("a session", [("type", "#session-file", written(run, "whole.exam", SMALL)), send],
              {"said": "The session is loaded: 4 exams, 6 enrolments, 4 periods, 2 rooms.",
-              **dict(zip(SECTIONS, (True, False, False, True)))}))
+              LINES: ["Late changes", "Set-up"], **dict(zip(FORMS, (True, False, False)))}))

@@ -34,11 +34,10 @@ def where_candidates_sit(page):
     head = ["Candidate", "Exam", "Period", "Room", "Seat"]
     page.steps(
         *((f"where {words} sits", finds(words), {
-            "#status": "1 candidate with 2 exams found.", FOUND: [head, *bens],
-            "#seat-found p": "1 candidate with 2 exams found."})
+            "#status": "1 candidate with 2 exams found.", FOUND: [head, *bens]})
           for words in ("2", "S2", "baker", " Ben  Baker ", "Bèn b'äker")),
         *((f"where {words} sits", finds(words), {
-            "#status": NOBODY, "#seat-found p": NOBODY, FOUND: []})
+            "#status": NOBODY, FOUND: []})
           for words in ("99", "nobody", "s", "  ")),
         ("who has no seat", "click #seatless", {
             "#status": "Everybody who is enrolled has a seat.", FOUND: []}))
@@ -74,7 +73,7 @@ def sheets_of_rooms(page):
 
 def seats_of_candidates(run, chromium, front):
     """The registry finds who sits where, on the page, in a file and on paper."""
-    with opened(run, chromium, front, "registry") as page:
+    with opened(run, chromium, front, "registry", "registry.html#seats") as page:
         where_candidates_sit(page)
         page.judge_file("seats.csv", "#seats-csv",
                         csv_file(",".join([*WHOSE, *WHERE]), *SEATS_NAMED))
@@ -89,11 +88,11 @@ def seats_after_changes(run, chromium, front):
         page.judge("seats of the publication", {
             "#grid tbody td": "MATH101 Calculus\n2 of 3",
             "texts .concern": ["1 candidate without a seat: Cleo Carter (s3)."]})
-        page.steps(("candidates of the draft", "click #cards article:nth-child(2) button",
+        page.steps(("candidates of the draft", "click #cards li:nth-child(2) a",
                     {"#grid tbody td": "MATH101 Calculus\n3 of 3"}))
     run.judge("another batch", (200, b'{"added":0,"batch":6,"dropped":1,"unchanged":1}'),
               front.told(ask("registry", "PUT", "/batches/6", batch_text("3,0,add", "2,0,drop"))))
-    with opened(run, chromium, front, "registry") as page:
+    with opened(run, chromium, front, "registry", "registry.html#seats") as page:
         page.steps(("who has no seat", "click #seatless", {
             "#status": "1 enrolment has no seat.",
             FOUND: [["Candidate", "Exam"], ["Cleo Carter\ns3", "MATH101\nCalculus"]]}))
@@ -130,7 +129,7 @@ def room_on_paper(room, period):
 def printed(run, chromium, wide):
     """Paper has a sheet for each room in use, each room in each period, and five exams on one
     page."""
-    with opened(run, chromium, wide, "registry") as page:
+    with opened(run, chromium, wide, "registry", "registry.html#seats") as page:
         pages, lines = sheets_printed(run, page.reader, "attendance")
         run.judge("a page for each room", WIDE_ROOMS, pages)
         if lines is not None:

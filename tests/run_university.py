@@ -78,7 +78,9 @@ def registrys_week(run, times, chromium, front, labels):
         run.judge("the session's title", "University of Example · Summer examinations 2027",
                   reader.text("#session-title"))
         with times.of("publish, and show it"):
-            reader.click("#cards article button.main")
+            reader.click("#cards li:nth-child(1) a")
+            reader.waits("return !document.querySelector('#publish').hidden")
+            reader.click("#publish")
             reader.waits("return document.querySelector('#confirm').open")
             reader.click("#confirm-yes")
             reader.waits("return document.querySelector('#status').innerText.includes('is "

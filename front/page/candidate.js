@@ -4,9 +4,10 @@ import { overlapsOf, pointsInWords } from './conflicts.js';
 import {
   applyLabels, differencesForCandidate, linkTo, readLabels, readOwnName,
 } from './labels.js';
+import { showProgress } from './messages.js';
 import {
   ask, byId, cell, columnHead, count, day, download, element, endTime, numeral, readUser, row,
-  rowHead, showProgress, time,
+  rowHead, time,
 } from './office.js';
 
 const STATES = { seated: 'Seat assigned', pending: 'No seat yet', withdrawn: 'Withdrawn' };

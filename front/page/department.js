@@ -1,8 +1,9 @@
 // A department's page: its exams in a draft, and changes of their places.
 import { changesBetween, movesBetween, readAgain, readDrafts, verdict } from './drafts.js';
 import { applyLabels, differencesForDepartment, Names, readLabels } from './labels.js';
+import { showProgress } from './messages.js';
 import {
-  byId, cell, change, count, element, numeral, readUser, Refusal, row, ruleText, showProgress,
+  byId, cell, change, count, element, numeral, readUser, Refusal, row, ruleText,
 } from './office.js';
 
 // What was last read and shown: the department's number, the names, all drafts, and the open one.
@@ -221,9 +222,10 @@ async function make(wanted) {
 
 byId('edit').addEventListener('submit', (event) => {
   event.preventDefault();
-  showProgress('Changing the draft …', () => make(formChange()));
+  showProgress('Changing the draft …', () => make(formChange()), byId('edit-submit'));
 });
-byId('undo').addEventListener('click', () => showProgress('Changing the draft …', () => make(undo)));
+byId('undo').addEventListener('click', () => showProgress('Changing the draft …', () => make(undo),
+  byId('undo')));
 for (const field of ['edit-exam', 'edit-kind']) byId(field).addEventListener('change', chooseExam);
 byId('draft-number').addEventListener('change', () => showProgress('Opening the draft …', async () => {
   setUndo(null);
@@ -232,7 +234,7 @@ byId('draft-number').addEventListener('change', () => showProgress('Opening the 
   showDraft();
   chooseExam();
   return `${chosen.name} is shown.`;
-}));
+}, byId('draft-number')));
 
 const refresh = () => showProgress('Loading your exams …', load);
 byId('refresh').addEventListener('click', refresh);

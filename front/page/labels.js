@@ -127,7 +127,8 @@ export async function applyOfficeNames(labels, session) {
     showNote(`This page shows numbers, because ${fault}. Ask the person who installed these files.`);
     return applyNames(new Names());
   }
-  const names = applyLabels(labels, labels ? differences(labels, session) : []);
+  const names = applyLabels(labels, labels ? differences(labels, session) : [],
+    'Ask the person who installed labels.json.');
   if (!names.labels) return names;
   showNote(cautionOf(labels, file));
   names.students = file?.students ?? [];
@@ -241,12 +242,17 @@ function applyNames(names) {
   return names;
 }
 
-/** Shows the labels' texts, or what speaks against them; returns the names for the page. */
-export function applyLabels(labels, different) {
+/**
+ * Shows the labels' texts, or what speaks against them and what to do; returns the names for the page.
+ * @param {any} labels
+ * @param {string[]} different
+ * @param {string} advice
+ */
+export function applyLabels(labels, different, advice = 'Please tell the registry.') {
   const isChanged = labels?.isSealed === false;
   const fault = isChanged ? 'The file of names was changed by hand'
     : different.length && `The names of ${different.join(' and ')} don't match this session`;
-  showNote(fault ? `${fault}, so this page shows numbers. Please tell the registry.` : '');
+  showNote(fault ? `${fault}, so this page shows numbers. ${advice}` : '');
   showContact(labels?.contact);
   return applyNames(new Names(fault ? null : labels));
 }

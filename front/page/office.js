@@ -1,4 +1,5 @@
 // Shared by all pages: asking the office, refusals in words, dates in the reader's language, elements.
+// What a page says of its work is in messages.js.
 
 const MOST_FAULTS_SHOWN = 20;
 const NO_CONNECTION = 'There is no connection to the office. Please try again in a minute.';
@@ -62,8 +63,7 @@ const REFUSALS = {
   often: 'There were too many requests in a short time. Please wait a moment, then try again.',
   ledger: 'This session has no ledger on the server.',
   names: 'An ID or a name can\'t be used: it is empty, or has a mark that nobody sees.',
-  unavailable: 'The office cannot answer at the moment. Please try again in a minute.'
-    + ' If you changed something, first look whether the change is there.',
+  unavailable: 'The office cannot answer at the moment. Please try again in a minute.',
 };
 
 // What exams are called in these words: numbers, until the page has names.
@@ -92,19 +92,18 @@ function refusalText(status, answer) {
 
 /**
  * A refusal, or no answer at all (status 0). Its message and its details, which are elements, are for
- * the reader; if a field is at fault, it has the field's id.
+ * the reader.
  */
 export class Refusal extends Error {
   /**
    * @param {number} status
    * @param {{error?: string, rule?: string}} answer
    * @param {string} message
-   * @param {{details?: Node[], field?: string}} more
+   * @param {{details?: Node[]}} more
    */
-  constructor(status, answer, message = refusalText(status, answer), { details, field } = {}) {
+  constructor(status, answer, message = refusalText(status, answer), { details } = {}) {
     super(message);
     this.details = details ?? [];
-    this.field = field;
     this.status = status;
     this.error = answer.error;
     this.rule = answer.rule;
@@ -141,7 +140,8 @@ export async function change(words, ...question) {
   try {
     return await ask(...question);
   } catch (refusal) {
-    if (refusal.status) refusal.message = `${words} ${refusal.message}`;
+    if (refusal.error === 'unavailable') refusal.message += ' First look whether your change is there.';
+    else if (refusal.status) refusal.message = `${words} ${refusal.message}`;
     throw refusal;
   }
 }
@@ -183,7 +183,7 @@ const isPresent = (it) => it !== null && it !== undefined && it !== false;
 const ROLES = { table: 'table', thead: 'rowgroup', tbody: 'rowgroup', tr: 'row', td: 'cell' };
 /** @type {(name: string, attributes: {scope?: string}) => string|undefined} */
 const roleOf = (name, { scope }) => (
-  name === 'th' ? `${scope === 'col' ? 'column' : 'row'}header` : ROLES[name]);
+  name === 'th' ? `${scope?.startsWith('col') ? 'column' : 'row'}header` : ROLES[name]);
 
 /** Returns a new element, without the attributes and children that are null or false. */
 export function element(name, attributes = {}, ...children) {
@@ -216,6 +216,26 @@ export function count(number, one, many = `${one}s`) {
   return `${numeral(number)} ${number === 1 ? one : many}`;
 }
 
+const MOST_ROWS = 200;
+
+/**
+ * A table with a caption for screen readers, and how many rows more there would be. On a phone each cell
+ * is a line with its column's head.
+ * @param {string} caption
+ * @param {string[]} heads
+ * @param {HTMLElement[][]} rows
+ */
+export function listTable(caption, heads, rows) {
+  const more = rows.length - MOST_ROWS;
+  const lines = rows.slice(0, MOST_ROWS).map((cells) => {
+    for (const [place, made] of cells.entries()) made.dataset.label = heads[place];
+    return row(cells);
+  });
+  const table = element('table', { class: 'places' }, unseen('caption', caption),
+    element('thead', {}, row(heads.map((head) => columnHead(head)))), element('tbody', {}, lines));
+  return [table, ...(more > 0 ? [element('p', { class: 'quiet' }, `and ${numeral(more)} more.`)] : [])];
+}
+
 /** Returns a list of the first faults, and how many more there are. */
 export function faultList(faults) {
   const more = faults.length - MOST_FAULTS_SHOWN;
@@ -243,53 +263,4 @@ export async function readUser() {
   byId('sign-out').hidden = !user.sign_out;
   byId('sign-out').onclick = () => signOut(user.sign_out);
   return user.caller;
-}
-
-/** Marks a field as wrong, with words below it, and puts the focus there. */
-function showFieldError(id, message) {
-  const field = byId(id);
-  const words = element('p', { id: `${id}-error`, class: 'field-error' }, message);
-  field.after(words);
-  field.setAttribute('aria-invalid', 'true');
-  field.dataset.describedby = field.getAttribute('aria-describedby') ?? '';
-  field.setAttribute('aria-describedby', `${field.dataset.describedby} ${words.id}`.trim());
-  field.focus();
-}
-
-function clearFieldErrors() {
-  for (const words of document.querySelectorAll('.field-error')) {
-    const field = byId(words.id.replace(/-error$/, ''));
-    field.removeAttribute('aria-invalid');
-    if (field.dataset.describedby) field.setAttribute('aria-describedby', field.dataset.describedby);
-    else field.removeAttribute('aria-describedby');
-    words.remove();
-  }
-}
-
-/** Does the work, and shows what it returns, or why it failed. */
-export async function showProgress(words, work) {
-  byId('status').textContent = words;
-  byId('error').replaceChildren();
-  clearFieldErrors();
-  document.body.setAttribute('aria-busy', 'true');
-  try {
-    byId('status').textContent = await work();
-    byId('as-of').replaceChildren('As of ', moment(new Date()));
-  } catch (refusal) {
-    if (!(refusal instanceof Refusal)) console.error(refusal);
-    byId('status').textContent = '';
-    const message = refusal instanceof Refusal ? refusal.message
-      : 'Something went wrong on this page. Please reload it.';
-    byId('error').replaceChildren(element('p', {}, message), ...(refusal.details ?? []),
-      ...linkToOwnPage(refusal));
-    if (refusal.field) showFieldError(refusal.field, message);
-    else byId('error').scrollIntoView({ block: 'nearest' });
-  }
-  document.body.removeAttribute('aria-busy');
-}
-
-// Whoever opens a page that isn't for them gets a link to their own.
-function linkToOwnPage({ rule }) {
-  return ['P1', 'P2', 'P4', 'department'].includes(rule)
-    ? [element('p', {}, element('a', { href: '/' }, 'Go to your own page'))] : [];
 }

@@ -1,9 +1,5 @@
 // What late changes would do, with names: shown before they are sent.
-import {
-  byId, cell, columnHead, count, dayInShort, element, row, rowHead, time, unseen,
-} from './office.js';
-
-const MOST_SHOWN = 200;
+import { byId, cell, count, dayInShort, element, listTable, rowHead, time } from './office.js';
 
 /** Where each exam of a timetable is: its period and its room. */
 export function placesIn(timetable) {
@@ -76,13 +72,8 @@ function peopleOf({ names }, fresh) {
 }
 
 function table(caption, heads, rows) {
-  if (!rows.length) return [];
-  const more = rows.length - MOST_SHOWN;
-  return [element('h3', {}, `${caption} (${rows.length})`),
-    element('table', { class: 'places' }, unseen('caption', caption),
-      element('thead', {}, row(heads.map((head) => columnHead(head)))),
-      element('tbody', {}, rows.slice(0, MOST_SHOWN).map((cells) => row(cells)))),
-    ...(more > 0 ? [element('p', { class: 'quiet' }, `and ${more} more.`)] : [])];
+  return rows.length ? [element('h3', {}, `${caption} (${rows.length})`), ...listTable(caption, heads, rows)]
+    : [];
 }
 
 function madeText({ at, by }) {

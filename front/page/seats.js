@@ -3,13 +3,12 @@ import { csvText } from './csv.js';
 import { studentsAtOnce } from './conflicts.js';
 import { fold, studentIdentities } from './identities.js';
 import { placesIn } from './preview.js';
+import { FormFault, showProgress } from './messages.js';
 import {
-  ask, byId, cell, columnHead, count, dayInShort, download, element, numeral, Refusal, row, rowHead,
-  showProgress, time, unseen,
+  ask, byId, cell, count, dayInShort, download, element, listTable, numeral, rowHead, time,
 } from './office.js';
 import { printSheets, sheetsOf } from './sheets.js';
 
-const MOST_SHOWN = 200;
 const MOST_PRINTED = 10_000;
 
 // ---- Reading
@@ -143,13 +142,9 @@ function placeCells({ period, room, seat, isEnrolled }, { names, session }) {
 
 /** Shows a table of these, if there are any; `made` makes the cells of a row after the candidate's. */
 function showFound(caption, heads, found, people, made) {
-  const rows = found.slice(0, MOST_SHOWN).map((one) => row(candidateHead(one.student, people), made(one)));
-  const more = found.length - MOST_SHOWN;
-  const table = element('table', { class: 'places' }, unseen('caption', caption),
-    element('thead', {}, row(['Candidate', ...heads].map((head) => columnHead(head)))),
-    element('tbody', {}, rows));
-  byId('seat-found').replaceChildren(...(found.length ? [table] : []),
-    ...(more > 0 ? [element('p', { class: 'quiet' }, `and ${more} more.`)] : []));
+  const rows = found.map((one) => [candidateHead(one.student, people), ...made(one)]);
+  byId('seat-found').replaceChildren(...(found.length
+    ? listTable(caption, ['Candidate', ...heads], rows) : []));
 }
 
 function showCandidates(seats, office, people) {
@@ -160,26 +155,20 @@ function showCandidates(seats, office, people) {
   showFound('Seats that were found', ['Exam', 'Period', 'Room', 'Seat'], found, people,
     (one) => [examCell(one.exam, office.names), ...placeCells(one, office)].flat());
   const students = new Set(found.map(({ student }) => student)).size;
-  return answered(students ? `${count(students, 'candidate')} with ${count(found.length, 'exam')} found.`
-    : 'No candidate of this session has this number, ID or name.');
-}
-
-/** Shows an answer beside its question, too. */
-function answered(words) {
-  byId('seat-found').prepend(element('p', {}, words));
-  return words;
+  return students ? `${count(students, 'candidate')} with ${count(found.length, 'exam')} found.`
+    : 'No candidate of this session has this number, ID or name.';
 }
 
 function showSeatless(seats, office, people) {
   const pairs = withoutSeat(seats, office.session);
   showFound('Enrolments without a seat', ['Exam'], pairs, people, ({ exam }) => [
     examCell(exam, office.names)]);
-  if (!pairs.length) return answered('Everybody who is enrolled has a seat.');
+  if (!pairs.length) return 'Everybody who is enrolled has a seat.';
   const button = element('button', { type: 'button', id: 'seatless-csv' }, 'Download as CSV');
   button.addEventListener('click', () => downloadRows('without-seat.csv',
     seatlessRows(pairs, office, people)));
   byId('seat-found').append(element('p', { class: 'buttons' }, button));
-  return answered(`${count(pairs.length, 'enrolment has', 'enrolments have')} no seat.`);
+  return `${count(pairs.length, 'enrolment has', 'enrolments have')} no seat.`;
 }
 
 // ---- What the registry should do something about
@@ -214,11 +203,10 @@ function showOptions(id, all, names) {
   byId(id).value = chosen < names.length ? chosen : '';
 }
 
-/** Shows the section, if a timetable is published. */
-export function showSeats({ names, session }, isPublished) {
-  byId('seats').hidden = !isPublished;
+/** Fills the section's lists, if a timetable is published. */
+export function showSeats({ names, seats, session }) {
   byId('seat-found').replaceChildren();
-  if (!isPublished) return;
+  if (!seats) return;
   showOptions('print-period', 'All periods', session.periods.map((when, period) => (
     `Period ${period}: ${dayInShort(when.date).textContent}, ${time(when.start).textContent}`)));
   showOptions('print-room', 'All rooms', session.capacities.map((_, room) => names.roomInBuilding(room)));
@@ -242,7 +230,7 @@ export function setUpSeats(office, readSession) {
       await readSession();
       const seats = await readSeats();
       return seats ? work(seats, office, peopleOf(office)) : 'Nothing is published yet.';
-    });
+    }, event.submitter ?? event.currentTarget);
   };
 
   byId('seat-find').addEventListener('submit', asking('Looking for the candidate …', showCandidates));
@@ -258,8 +246,8 @@ export function setUpSeats(office, readSession) {
     const printed = sheets.flatMap((sheet) => sheet.seats).length;
     if (!printed) return 'Nobody has a seat there.';
     if (printed > MOST_PRINTED) {
-      throw new Refusal(400, {}, `These are ${numeral(printed)} seats, and a browser can print ${
-        numeral(MOST_PRINTED)} at once. Choose a period or a room.`, { field: 'print-period' });
+      throw new FormFault(`These are ${numeral(printed)} seats, and a browser can print ${
+        numeral(MOST_PRINTED)} at once. Choose a period or a room.`, 'print-period');
     }
     printSheets(byId('print-kind').value, sheets, office, people);
     return `${count(sheets.length, 'sheet')} with ${count(printed, 'seat')}.`;

@@ -1,5 +1,6 @@
 // The page that lists the sessions of this front.
-import { ask, byId, count, element, readUser, showProgress } from './office.js';
+import { showProgress } from './messages.js';
+import { ask, byId, count, element, readUser } from './office.js';
 
 showProgress('Loading the sessions …', async () => {
   await readUser();

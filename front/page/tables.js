@@ -2,10 +2,8 @@
 import { csvText } from './csv.js';
 import { fold } from './identities.js';
 import {
-  byId, cell, columnHead, count, dayInShort, download, element, endTime, row, rowHead, time, unseen,
+  byId, cell, count, dayInShort, download, element, endTime, listTable, rowHead, time,
 } from './office.js';
-
-const MOST_SHOWN = 200;
 
 /** Where each exam of a timetable is, by number; null in both if it isn't placed. */
 export function placesOf({ places, uses }, session) {
@@ -54,14 +52,6 @@ export function showDownloads(timetable, office) {
 
 // ---- Differences
 
-function table(caption, heads, rows) {
-  return element('table', { class: 'places' }, unseen('caption', caption),
-    element('thead', {}, row(heads.map((head) => columnHead(head)))), element('tbody', {}, rows));
-}
-
-const limited = (made, all) => (all > MOST_SHOWN
-  ? [made, element('p', { class: 'quiet' }, `and ${all - MOST_SHOWN} more.`)] : [made]);
-
 const placeCell = ({ period, room }, names) => cell(names.place({ period, room }));
 
 /** Shows which exams have another place in the chosen timetable. */
@@ -75,13 +65,13 @@ function compare(timetable, office) {
   const there = placesOf(other, session);
   const moved = placesOf(timetable, session).filter(({ exam, period, room }) => (
     there[exam].period !== period || there[exam].room !== room));
-  const rows = moved.slice(0, MOST_SHOWN).map((place) => row(rowHead(names.exam(place.exam)),
-    placeCell(place, names), placeCell(there[place.exam], names)));
+  const rows = moved.map((place) => [rowHead(names.exam(place.exam)), placeCell(place, names),
+    placeCell(there[place.exam], names)]);
   byId('differences').replaceChildren(
     element('p', {}, moved.length ? `${count(moved.length, 'exam has', 'exams have')} another place.`
       : 'All exams have the same places.'),
-    ...(moved.length ? limited(table(`Exams of ${timetable.name} that have another place in ${other.name}`,
-      ['Exam', timetable.name, other.name], rows), moved.length) : []));
+    ...(moved.length ? listTable(`Exams of ${timetable.name} that have another place in ${other.name}`,
+      ['Exam', timetable.name, other.name], rows) : []));
 }
 
 export function showComparison(timetable, office) {
@@ -120,16 +110,16 @@ function find(timetable, { names, session }) {
     return;
   }
   const found = examsWith(words, placesOf(timetable, session), names);
-  const rows = found.slice(0, MOST_SHOWN).map(({ exam, period, room }) => row(
+  const rows = found.map(({ exam, period, room }) => [
     rowHead(names.exam(exam), names.examTitle(exam)
       && element('span', { class: 'below' }, names.examTitle(exam))),
     cell(names.department(exam) ?? ''), cell(count(session.candidates[exam].length, 'candidate')),
     period === null ? cell('not placed') : cell(dayInShort(session.periods[period].date), ', ',
       time(session.periods[period].start)),
-    cell(room === null ? '' : names.roomInBuilding(room))));
+    cell(room === null ? '' : names.roomInBuilding(room))]);
   byId('found').replaceChildren(element('p', { role: 'status' }, `${count(found.length, 'exam')}.`),
-    ...(found.length ? limited(table('Exams that were found',
-      ['Exam', 'Department', 'Candidates', 'Period', 'Room'], rows), found.length) : []));
+    ...(found.length ? listTable('Exams that were found',
+      ['Exam', 'Department', 'Candidates', 'Period', 'Room'], rows) : []));
 }
 
 export function showFinder(timetable, office) {

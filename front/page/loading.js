@@ -1,0 +1,18 @@
+// The form that loads a session.
+import { atField, showProgress } from './messages.js';
+import { byId, change, count } from './office.js';
+
+/** Sets up the form; `load` reads everything again. */
+export function setUpSessionForm(load) {
+  byId('session').addEventListener('submit', (event) => {
+    event.preventDefault();
+    showProgress('Loading the session …', () => atField('session-file', async () => {
+      const made = await change('The session was not loaded.', '/instance', 'PUT',
+        byId('session-file').files[0]);
+      byId('session').reset();
+      await load();
+      return `The session is loaded: ${count(made.exams, 'exam')}, ${count(made.pairs, 'enrolment')}, ${
+        count(made.periods, 'period')}, ${count(made.rooms, 'room')}.`;
+    }), byId('session'));
+  });
+}

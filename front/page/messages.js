@@ -1,0 +1,90 @@
+// What a page says of its work: while it does it, when it is done, and what went wrong.
+import { byId, element, moment, Refusal } from './office.js';
+
+/** A fault in a form: what is wrong, with which of its fields, and details as elements. */
+export class FormFault extends Error {
+  /**
+   * @param {string} message
+   * @param {string} field the field's id
+   * @param {Node[]} details
+   */
+  constructor(message, field, details = []) {
+    super(message);
+    this.field = field;
+    this.details = details;
+  }
+}
+
+/** Does the work; a refusal of the office becomes a fault of this field. */
+export async function atField(field, work) {
+  try {
+    return await work();
+  } catch (fault) {
+    throw fault instanceof Refusal ? new FormFault(fault.message, field, fault.details) : fault;
+  }
+}
+
+/** Puts the page's messages after the control that causes them; without one, at the top of the page. */
+function placeMessages(at) {
+  const messages = byId('messages');
+  if (!at) byId('main').prepend(messages);
+  else (at.closest('.buttons') ?? at.closest('.fields > p') ?? at).after(messages);
+}
+
+/** Marks a field as wrong, with words below it, and puts the focus there. */
+function showFieldError(id, message) {
+  const field = byId(id);
+  const words = element('p', { id: `${id}-error`, class: 'field-error' }, message);
+  field.after(words);
+  field.setAttribute('aria-invalid', 'true');
+  field.dataset.describedby = field.getAttribute('aria-describedby') ?? '';
+  field.setAttribute('aria-describedby', `${field.dataset.describedby} ${words.id}`.trim());
+  field.focus();
+}
+
+function clearFieldErrors() {
+  for (const words of document.querySelectorAll('.field-error')) {
+    const field = byId(words.id.replace(/-error$/, ''));
+    field.removeAttribute('aria-invalid');
+    if (field.dataset.describedby) field.setAttribute('aria-describedby', field.dataset.describedby);
+    else field.removeAttribute('aria-describedby');
+    words.remove();
+  }
+}
+
+// Whoever opens a page that isn't for them gets a link to their own.
+function linkToOwnPage({ rule }) {
+  return ['P1', 'P2', 'P4', 'department'].includes(rule)
+    ? [element('p', {}, element('a', { href: '/' }, 'Go to your own page'))] : [];
+}
+
+function showFault(fault) {
+  const isKnown = fault instanceof Refusal || fault instanceof FormFault;
+  if (!isKnown) console.error(fault);
+  const message = isKnown ? fault.message : 'Something went wrong on this page. Please reload it.';
+  byId('error').replaceChildren(element('p', {}, message), ...(fault.details ?? []), ...linkToOwnPage(fault));
+  if (fault.field) showFieldError(fault.field, message);
+  else byId('error').scrollIntoView({ block: 'nearest' });
+}
+
+/**
+ * Does the work, and shows what it returns, or why it failed, after the control that caused it.
+ * @param {string} words what is said meanwhile
+ * @param {() => Promise<string> | string} work
+ * @param {Element | null} at
+ */
+export async function showProgress(words, work, at = null) {
+  placeMessages(at);
+  byId('status').textContent = words;
+  byId('error').replaceChildren();
+  clearFieldErrors();
+  document.body.setAttribute('aria-busy', 'true');
+  try {
+    byId('status').textContent = await work();
+    byId('as-of').replaceChildren('As of ', moment(new Date()));
+  } catch (fault) {
+    byId('status').textContent = '';
+    showFault(fault);
+  }
+  document.body.removeAttribute('aria-busy');
+}

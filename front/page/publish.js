@@ -1,0 +1,73 @@
+// Publishing and dropping the draft that is open; both ask first.
+import { confirmFirst } from './confirm.js';
+import { changesBetween, verdict } from './drafts.js';
+import { showProgress } from './messages.js';
+import { ask, byId, change, count, element, Refusal } from './office.js';
+import { offerChanges, readSeats } from './seats.js';
+import { office, openTimetable } from './state.js';
+
+const FIRST = 'All candidates get seats, and see the timetable at once.';
+const REPLACES = 'It replaces the published timetable, and all candidates see it at once. '
+  + 'Candidates whose room and period stay the same keep their seats.';
+
+/** Whether the office would publish a draft. */
+export const isPublishable = ({ breaches, unplaced }) => !breaches.length && !unplaced.length;
+
+/**
+ * Sets up the buttons; `reread` reads one draft again, and `load` everything.
+ * @param {(number: number) => Promise<import('./drafts.js').Draft>} reread
+ * @param {() => Promise<string>} load
+ */
+export function setUpPublishing(reread, load) {
+  /** Reads the draft again before it asks, so that nothing is published unseen. */
+  async function askToPublish(seen) {
+    const found = await reread(seen.number);
+    const changes = changesBetween(seen, found, office.names);
+    const { number, name } = found;
+    if (!isPublishable(found)) {
+      throw new Refusal(409, {}, `${name} has changed since you looked. It can't be published now: ${
+        verdict(found).toLowerCase()}.`);
+    }
+    const isFirst = (await ask('/-/publication/penalty')).publication === null;
+    confirmFirst(`Publish draft ${number}?`, [changes,
+      element('p', {}, `${isFirst ? FIRST : REPLACES} This can't be undone.`),
+      isFirst ? [] : element('p', {}, element('a', { href: '/publication', download: 'publication.sol' },
+        'Download the published timetable'), ' first, to keep a copy.'),
+    ].flat(), `Publish draft ${number}`, () => showProgress(`Publishing ${name} …`, () => publish(found),
+      byId('publish')));
+    return `${name} has ${count(found.penalty.total, 'point')}.`;
+  }
+
+  async function publish(confirmed) {
+    const { number } = confirmed;
+    if (changesBetween(confirmed, await reread(number), office.names).length) {
+      return askToPublish(confirmed);
+    }
+    const before = await readSeats();
+    const answer = await change(`Draft ${number} was not published.`,
+      `/drafts/${number}/publish`, 'POST');
+    await load();
+    await offerChanges(confirmed.name, before, office);
+    byId('status').focus();
+    const candidates = count(answer.changed, 'candidate');
+    return `Draft ${answer.draft} is published; the seats of ${candidates} have changed.`;
+  }
+
+  function askToDrop() {
+    const { name, number } = openTimetable() ?? {};
+    confirmFirst(`Drop draft ${number}?`, [element('p', {}, 'Its places are lost. This can\'t be undone: '
+      + 'download its solution first, to keep a copy.')], `Drop draft ${number}`, () => showProgress(
+      `Dropping ${name} …`, async () => {
+        await ask(`/drafts/${number}`, 'DELETE');
+        await load();
+        byId('status').focus();
+        return `${name} is dropped.`;
+      }, byId('drop')));
+  }
+
+  byId('publish').addEventListener('click', () => {
+    const seen = openTimetable();
+    showProgress(`Reading ${seen?.name} again …`, () => askToPublish(seen), byId('publish'));
+  });
+  byId('drop').addEventListener('click', askToDrop);
+}

@@ -1,0 +1,46 @@
+// What the registry's page has read last, and what it shows.
+import { Names } from './labels.js';
+
+/**
+ * @typedef {{ minutes: number[], candidates: number[][], capacities: number[], spread: number,
+ *   periods: { date: string, start: string, minutes: number }[], frame: string[] }} Session
+ * @typedef {{ period: number, room: number, used: number, capacity: number, exams: number[] }} Use
+ * @typedef {import('./drafts.js').Judged & { number?: undefined, places?: undefined, uses: Use[] }} Published
+ * @typedef {import('./drafts.js').Draft | Published} Timetable
+ * @typedef {{ student: number, exam: number, period: number, room: number, seat: number }} Seat
+ */
+
+export const office = {
+  /** @type {Timetable[]} */
+  timetables: [],
+  /** @type {Session | null} */
+  session: null,
+  names: new Names(),
+  /**
+   * The published seats.
+   * @type {Seat[] | null}
+   */
+  seats: null,
+  /**
+   * The registry's service, if there is one with a ledger of this session.
+   * @type {{ ledger: boolean } | null}
+   */
+  service: null,
+  /**
+   * The name of the timetable that is open.
+   * @type {string | null}
+   */
+  open: null,
+  /** The section that is shown. */
+  section: '',
+  /** How many timetables there are, in words. */
+  summary: '',
+  /**
+   * Late changes: the last number that was used, and what was checked and not sent yet.
+   * @type {{ last: number, checked: any }}
+   */
+  batch: { last: 0, checked: null },
+};
+
+/** The timetable that is open, or null. */
+export const openTimetable = () => office.timetables.find(({ name }) => name === office.open) ?? null;
