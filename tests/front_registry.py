@@ -8,6 +8,7 @@ import re
 import shutil
 import sqlite3
 import subprocess
+import time
 
 import browser
 import front_sign_in
@@ -73,7 +74,7 @@ class Stack(front_sign_in.Stack):
             self.token = self.added_program()
             self.service = Service(folder / "registry", {
                 "REGISTRY_FRONT": f"{front}/run/front.sock", "REGISTRY_TOKEN": self.token,
-                "REGISTRY_LOG": f"{front}/run/changes.log"})
+                "REGISTRY_LOG": f"{front}/run/changes.log", "REGISTRY_PUBLICATIONS": "4"})
             begun.callback(self.service.stop)
             (front / "labels").rename(front / "labels.small")
             (front / "labels").symlink_to(self.service.made / "now")
@@ -90,6 +91,13 @@ class Stack(front_sign_in.Stack):
             ["/usr/bin/python3", TOP / "tools" / "token", "--front", self.front.folder, "--key",
              key, "add", "registry", "office"], check=True, capture_output=True, text=True
         ).stdout.strip()
+
+
+    def reload(self):
+        """Begins a new log of changes, as logrotate does."""
+        log = self.front.folder / "run" / "changes.log"
+        log.rename(log.with_name("changes.log.1"))
+        self.front.reload()
 
 
 def signed_in(stack, user):
@@ -110,7 +118,7 @@ def strangers(run, stack):
     people = {"somebody who isn't signed in": Client(stack.front),
               **{user: signed_in(stack, user) for user in ("ada", "physics", "nobody")}}
     questions = (("GET", "about"), ("GET", "batches"), ("PUT", "batches/1"), ("POST", "students"),
-                 ("GET", "anything"))
+                 ("GET", "history"), ("GET", "publications/1"), ("GET", "anything"))
     for running in (True, False):
         for name, client in people.items():
             for method, path in questions:
@@ -213,6 +221,98 @@ def at_once(run, stack):
         " JOIN effects ON batch = number WHERE number >= 100"))
 
 
+def published(stack, client, path="history"):
+    """What the history has, as soon as it has looked."""
+    status, found = asked(client, "GET", path)
+    return found["publications"] if status == 200 else status
+
+
+def kept(run, stack, client, name, *expected):
+    """Judges number, who, draft and points of the publications that are kept, after a while."""
+    def found():
+        shown = published(stack, client)
+        return shown if isinstance(shown, int) else [
+            (one["number"], one["by"], one["draft"], one["points"]) for one in shown]
+
+    end = time.monotonic() + 20
+    while found() != [*expected] and time.monotonic() < end:
+        time.sleep(0.2)
+    run.judge(name, [*expected], found())
+
+
+FIRST, SECOND = (1, "registry", 1, 37), (2, "registry", 1, 44)
+
+
+def history(run, stack):
+    """Each publication is kept, with who made it; what changed, and why, is found."""
+    ada = signed_in(stack, "registry")
+    kept(run, stack, ada, "the first publication", FIRST)
+    run.judge("its seats", (6, 6), tuple(
+        published(stack, ada)[0][name] for name in ("seats", "changed")))
+    for method, path, body in (("POST", "/drafts/1/exams/3/move", b'{"period":3,"room":1}'),
+                               ("POST", "/drafts/1/publish", b"")):
+        run.judge("an exam moves", 200, ada.ask(method, path, body)[0])
+    kept(run, stack, ada, "the second one", SECOND, FIRST)
+    run.judge("what differs", (200, {"exams": [{"exam": 3, "from": [2, 0], "to": [3, 1]}], "seats": [
+        {"student": 1, "exam": 3, "from": [2, 0, 1], "to": [3, 1, 2]}]}),
+        asked(ada, "GET", "differences?from=1&to=2"))
+    run.judge("the other way round", (200, [[3, 1, 2], [2, 0, 1]]), (
+        lambda status, it: (status, [it["seats"][0][name] for name in ("from", "to")]))(
+        *asked(ada, "GET", "differences?from=2&to=1")))
+    _, found = asked(ada, "GET", "history?student=1")
+    run.judge("why a seat changed", ([[0, 0, 0, 1, 1, None], [3, 2, 0, 1, 1, 1],
+                                      [3, 3, 1, 2, 2, None]],
+                                     [["moved", 3, "registry", "office", '{"period":3,"room":1}']]),
+              ([[one[name] for name in ("exam", "period", "room", "seat", "first", "last")]
+                for one in found["seats"]],
+               [[one[name] for name in ("what", "exam", "by", "caller", "body")]
+                for one in found["edits"]]))
+    run.judge("where an exam was", [[1, 2, 0], [2, 3, 1]], [
+        [one[name] for name in ("publication", "period", "room")]
+        for one in asked(ada, "GET", "history?exam=3")[1]["places"]])
+    run.judge("what was done", ["published", "moved", "published", "made"], [
+        one["what"] for one in asked(ada, "GET", "history")[1]["edits"]])
+    run.judge("a kept timetable", (200, b"0, 0\r\n1, 0\r\n3, 1\r\n2, 0\r\n"),
+              asked(ada, "GET", "publications/1"))
+    for path in ("publications/9", "differences?from=1&to=9", "differences?from=1",
+                 "differences?from=x&to=2"):
+        run.judge(path, (404, {"error": "publication"}), asked(ada, "GET", path))
+    kept_in_spite(run, stack, ada)
+
+
+def kept_in_spite(run, stack, ada):
+    """A publication succeeds and is kept although the folder is full, the service is stopped, or
+    the log is another one; the oldest go."""
+    def publish(period, room):
+        body = json.dumps({"period": period, "room": room}, separators=(",", ":"))
+        return [ada.ask("POST", path, text)[0] for path, text in (
+            ("/drafts/1/exams/3/move", body), ("/drafts/1/publish", b""))]
+
+    file = stack.service.made / "history.db"
+    run.judge("who may read it", 0o640, file.stat().st_mode & 0o777)
+    file.rename(file.with_name("aside"))
+    file.mkdir()
+    run.judge("a publication beside a broken disk", [200, 200], publish(2, 0))
+    browser.until("it was looked", lambda: asked(ada, "GET", "history")[0] == 503)
+    time.sleep(1.5)
+    file.rmdir()
+    file.with_name("aside").rename(file)
+    third, fourth, fifth = ((number, "registry", 1, points) for number, points in (
+        (3, 37), (4, 44), (5, 37)))
+    kept(run, stack, ada, "it is kept later", third, SECOND, FIRST)
+    stack.service.stop()
+    run.judge("a publication without the service", [200, 200], publish(3, 1))
+    stack.service.start()
+    kept(run, stack, ada, "it is kept, too", fourth, third, SECOND, FIRST)
+    stack.reload()
+    run.judge("a publication into a new log", [200, 200], publish(2, 0))
+    kept(run, stack, ada, "four are kept", fifth, fourth, third, SECOND)
+    run.judge("what is left of the first", (404, [[2, 2], [3, 3], [4, 4], [5, None]]), (
+        asked(ada, "GET", "publications/1")[0],
+        [[one["first"], one["last"]] for one in asked(ada, "GET", "history?student=1")[1]["seats"]
+         if one["exam"] == 3]))
+
+
 NEW = "student,name,exam,action\nr9,Zoë Zander,MATH101,new\nr9,,PHYS102,add\nq1,Quo,,new"
 WHOLE = ("student,exam,name\ns1,MATH101,\ns1,PHYS102,\ns2,MATH101,\ns2,MATH102,\ns3,MATH102,\n"
          "s3,PHYS101,\nr9,MATH101,\nr9,PHYS102,\nx1,PHYS101,Xi\n")
@@ -272,10 +372,12 @@ def judge_stack(run, make_front):
     stack = Stack(run, make_front, "registry")
     try:
         office = signed_in(stack, "registry")
+        browser.until("the history begins", lambda: published(stack, office) == [])
+        time.sleep(1)
         for method, path, body, status in (("PUT", "/drafts/1", SOLUTION, 201),
                                            ("POST", "/drafts/1/publish", b"", 200)):
             run.judge("the start", status, office.ask(method, path, body)[0])
-        for part in (strangers, batches, new_students, at_once):
+        for part in (strangers, history, batches, new_students, at_once):
             part(run, stack)
     finally:
         stack.stop()

@@ -353,7 +353,7 @@ def log_of_changes(run, front):
     lines = front.changes()
     run.judge("each request has a number of its own", len(lines),
               len({line["id"] for line in lines}))
-    fields = ["at", "method", "path", "status", "caller", "user", "id", "body"]
+    fields = ["at", "method", "path", "status", "caller", "user", "session", "id", "body"]
     run.judge("its fields, and which requests", ([], []), (
         [line for line in lines if list(line) != fields or not re.match(TIME, line["at"])],
         [line for line in lines if line["method"] in ("GET", "HEAD", "")]))

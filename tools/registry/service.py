@@ -7,7 +7,8 @@ students get their numbers. Only nginx asks it, and only for those who are the o
 
 REGISTRY_FOLDER has a folder with a ledger for each session, by its name. The office is asked
 through the front, as a program with a token of its own: by the Unix socket REGISTRY_FRONT with
-REGISTRY_TOKEN, or at the URL REGISTRY_FRONT. REGISTRY_LOG is the front's log of changes.
+REGISTRY_TOKEN, or at the URL REGISTRY_FRONT. REGISTRY_LOG is the front's log of changes, by which
+it knows who changed what, and when a publication is to be kept: REGISTRY_PUBLICATIONS of them.
 """
 from __future__ import annotations
 
@@ -18,6 +19,8 @@ import os
 import pathlib
 import re
 import sqlite3
+import threading
+import time
 from collections.abc import Iterator
 from typing import Any
 
@@ -26,6 +29,7 @@ import flask
 from .changes import PAGE, Change, add_batch, forget_unsent, note_changes_of_others
 from .csv_tables import Faults, Known, Row
 from .folder import Folder
+from .history import History, Unsteady, difference, look, places_of
 from .ledger import Ledger, NotALedger, locked
 from .office import Office, OfficeBySocket, Refused
 from .sending import send_all, send_one
@@ -33,8 +37,10 @@ from .sending import send_all, send_one
 FOLDER = pathlib.Path(os.environ["REGISTRY_FOLDER"])
 FRONT, TOKEN = os.environ["REGISTRY_FRONT"], os.environ.get("REGISTRY_TOKEN", "")
 LOG = pathlib.Path(os.environ["REGISTRY_LOG"]) if os.environ.get("REGISTRY_LOG") else None
-# A session whose office has an address in place of a name is this one.
-ONLY = "term"
+MOST_PUBLICATIONS = int(os.environ.get("REGISTRY_PUBLICATIONS", "200"))
+MOST_SHOWN = 500
+# After a look that failed the next one waits so long, in seconds.
+PATIENCE = 10
 NAME = re.compile(r"[a-z0-9][a-z0-9_-]*")
 LINE = re.compile(r"0*([0-9]{1,9}),0*([0-9]{1,9}),(add|drop)")
 MOST_NEW, LONGEST = 100_000, 254
@@ -47,7 +53,9 @@ app = flask.Flask(__name__, static_folder=None)
 def session() -> str:
     """The name of the session, as nginx says it."""
     name = flask.request.headers.get("X-Session", "")
-    return name if NAME.fullmatch(name) else ONLY
+    if not NAME.fullmatch(name):
+        raise NotALedger("this is no session's name")
+    return name
 
 
 def user() -> str:
@@ -201,6 +209,116 @@ def batch(number: str) -> tuple[dict[str, Any], int]:
     return {"number": int(number), "changes": [
         {"student": student, "exam": exam, "action": action, "acted": bool(acted)}
         for student, exam, action, acted in rows]}, 200
+
+
+# ---- History
+
+def number_asked(name: str) -> int | None:
+    """A number of the query, if it is there."""
+    text = flask.request.args.get(name, "")
+    return int(text) if re.fullmatch("[0-9]{1,9}", text) else None
+
+
+def rows_of(db: sqlite3.Connection, statement: str, *values: int) -> list[dict[str, Any]]:
+    cursor = db.execute(statement, values)
+    names = [column[0] for column in cursor.description]
+    return [dict(zip(names, row)) for row in cursor]
+
+
+@app.get("/-/registry/history")
+def history() -> dict[str, Any]:
+    """Publications, edits and batches, the last one first: all, or those that an exam or a student
+    has to do with."""
+    student, exam = number_asked("student"), number_asked("exam")
+    with History(folder().path).reading() as db:
+        found: dict[str, Any] = {"publications": rows_of(
+            db, "SELECT number, at, by, draft, points, seats, changed FROM publications"
+            " ORDER BY number DESC")}
+        found["trouble"] = troubles.get(session(), "")
+        exams = [] if exam is None else [exam]
+        if student is not None:
+            found["seats"] = rows_of(
+                db, "SELECT exam, period, room, seat, first, last FROM seats WHERE student = ?"
+                " ORDER BY first, exam", student)
+            exams = sorted({one["exam"] for one in found["seats"]})
+        if exam is not None:
+            found["places"] = places_of(db, exam)
+        of_exams = f"IN ({','.join('?' * len(exams))})"
+        found["edits"] = rows_of(
+            db, "SELECT at, by, caller, what, draft, exam, other, body FROM edits"
+            + (f" WHERE exam {of_exams} OR other {of_exams}"
+               if student is not None or exam is not None else "")
+            + f" ORDER BY number DESC LIMIT {MOST_SHOWN}", *exams, *exams)
+    return {**found, "batches": batches_of(student, exam)}
+
+
+def batches_of(student: int | None, exam: int | None) -> list[dict[str, Any]]:
+    """Batches, the last one first; with their lines about a student or an exam."""
+    column, number = ("student", student) if student is not None else ("exam", exam)
+    if number is None:
+        found: list[dict[str, Any]] = batches()["batches"]
+        return found[:MOST_SHOWN]
+    with reading() as db:
+        lines = rows_of(
+            db, "SELECT batch, student, exam, action FROM changes JOIN batches ON batch = number"
+            f" WHERE {column} = ? AND sent_at IS NOT NULL ORDER BY place LIMIT {20 * MOST_SHOWN}",
+            number)
+    of_batch: dict[int, list[dict[str, Any]]] = {}
+    for line in lines:
+        of_batch.setdefault(line["batch"], []).append(line)
+    return [{**one, "lines": of_batch[one["number"]]} for one in batches()["batches"]
+            if one["number"] in of_batch][:MOST_SHOWN]
+
+
+@app.get("/-/registry/publications/<int:number>")
+def publication(number: int) -> flask.Response | tuple[dict[str, Any], int]:
+    """The timetable of a publication, as a solution."""
+    with History(folder().path).reading() as db:
+        row = db.execute("SELECT solution FROM publications WHERE number = ?",
+                         (number,)).fetchone()
+    return flask.Response(row[0], mimetype="text/plain") if row else (
+        {"error": "publication"}, 404)
+
+
+@app.get("/-/registry/differences")
+def differences() -> tuple[dict[str, Any], int]:
+    """What differs between the publications `from` and `to`."""
+    first, second = number_asked("from"), number_asked("to")
+    with History(folder().path).reading() as db:
+        found = None if first is None or second is None else difference(db, first, second)
+    return (found, 200) if found else ({"error": "publication"}, 404)
+
+
+# What kept the last look of a session from being whole, in words.
+troubles: dict[str, str] = {}
+
+
+def look_at(name: str, is_only: bool) -> None:
+    """Looks what happened to a session; what fails is tried again, and stops nothing else."""
+    try:
+        look(History(FOLDER / name), office_of(name), LOG, name, is_only, MOST_PUBLICATIONS)
+        troubles.pop(name, None)
+    except (Refused, Unsteady, OSError, sqlite3.Error, ValueError, KeyError, IndexError) as fault:
+        if f"{fault}" != troubles.get(name):
+            app.logger.exception("the history of %s", name)
+        troubles[name] = f"{fault}" or "the publication changed while it was read"
+
+
+def watch() -> None:
+    """Looks at all sessions each second."""
+    after: dict[str, float] = {}
+    while True:
+        with contextlib.suppress(OSError):
+            names = [it.parent.name for it in FOLDER.glob("*/ledger.db")
+                     if NAME.fullmatch(it.parent.name)]
+            for name in names:
+                if after.get(name, 0) < time.monotonic():
+                    look_at(name, len(names) == 1)
+                    after[name] = time.monotonic() + (PATIENCE if name in troubles else 0)
+        time.sleep(1)
+
+
+threading.Thread(target=watch, daemon=True).start()
 
 
 # ---- New students
