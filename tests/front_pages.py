@@ -1,7 +1,7 @@
 """The pages of the front in a browser, as their users read them: what is judged, in which order.
 
-The cases are tables in pages_candidate, pages_registry, pages_seats, pages_late, pages_department
-and pages_all; front_page has what a user does on a page and what a page shows.
+The cases are tables in pages_candidate, pages_registry, pages_conflicts, pages_seats, pages_late,
+pages_department and pages_all; front_page has what a user does on a page and what a page shows.
 """
 import shutil
 
@@ -11,6 +11,7 @@ from pages_all import (
 from pages_candidate import (
     calendar_file, candidates_page, moved_exam, next_exam_first, overlapping_exams, signing_on,
     states_of_exams)
+from pages_conflicts import conflicts
 from pages_department import departments_page, pages_of_others
 from pages_late import late_changes
 from pages_registry import (
@@ -20,7 +21,7 @@ from pages_seats import printed, seats_after_changes, seats_of_candidates
 # Of the small office, in this order: each begins with what those before it left.
 PARTS = (candidates_page, next_exam_first, registrys_page, sections, seats_of_candidates,
          departments_page, pages_of_others, publishing, moved_exam, seats_after_changes,
-         states_of_exams, overlapping_exams, late_changes, registrys_work, style_is_read)
+         states_of_exams, overlapping_exams, conflicts, late_changes, registrys_work, style_is_read)
 
 
 def judge(run, started, front, wide, sso, many, office, program, folder):

@@ -12,7 +12,12 @@ const {
 } = await import('../front/page/changes.js');
 const { calendarText } = await import('../front/page/calendar.js');
 const { columnsOf, csvText, recordsOf } = await import('../front/page/csv.js');
-const { overlapsOf, pointsInWords, studentsAtOnce } = await import('../front/page/conflicts.js');
+const { overlapsOf, pointsInWords } = await import('../front/page/conflicts.js');
+const {
+  countsOf, findingsOfDraft, findingsOfPublication,
+} = await import('../front/page/findings.js');
+const { addressed } = await import('../front/page/sections.js');
+const { sessionIn } = await import('../front/page/session.js');
 const { distance, fold, studentIdentities } = await import('../front/page/identities.js');
 const {
   differences, differencesForCandidate, differencesForDepartment, faultsOfNames, isSealed, Names,
@@ -214,12 +219,65 @@ cases('exams at one time', [
   ['no points, and two exams on one day', POINTLESS, () => pointsInWords(0, [MORNING, LATER])],
   ['no points at all', 'No points: no two of your exams are on one day.',
     () => pointsInWords(0, [MORNING, timed('09:00', 120, '2027-05-19')])],
-  // Periods 0 and 1 overlap, 2 is later. Exams 0 and 1 are in period 0, exam 2 in 1, exam 3 in 2.
-  ['who takes two', [{ student: 1, exams: [0, 1, 2] }, { student: 2, exams: [0, 2] }],
-    () => studentsAtOnce(new Map([[3, { period: 2 }], [0, { period: 0 }], [1, { period: 0 }],
-      [2, { period: 1 }]]), { candidates: [[1, 2], [1, 5], [1, 2, 4], [1, 2, 3]],
-      periods: [MORNING, timed('10:00', 120), LATER] })],
 ]);
+
+// Periods 0 and 1 overlap, 2 is later on that day, 3 on another one. Exams 0 and 1 are in period 0, exam 2
+// in period 1, exam 3 in 2, all in a room of 3 seats but for exam 2; exam 4 has no place.
+const WHERE = new Map([[0, 0], [1, 0], [2, 1], [3, 2]].map(([exam, period]) => (
+  [exam, { period, room: exam === 2 ? 1 : 0 }])));
+const BUSY = { candidates: [[1, 2], [1, 5], [1, 2, 4], [1, 3], [1]], capacities: [3, 9],
+  periods: [MORNING, timed('10:00', 120), LATER, timed('09:00', 120, '2027-05-19')] };
+const WITHOUT = [{ student: 5, exam: 1 }];
+const DAY_OF_1 = [['three', [0, 1, 2, 3], 1]];
+const inShort = (findings) => findings.map(({ kind, exams, student, needed }) => (
+  [kind, exams, ...(student === undefined ? [] : [student]), ...(needed === undefined ? [] : [needed])]));
+const breachOf = (rule, exam, other) => ({ rule, exam, other });
+const draftOf = (...breaches) => ({ breaches, unplaced: [4] });
+const ACROSS = [['overlap', [0, 2], 1], ['overlap', [1, 2], 1], ['overlap', [0, 2], 2]];
+
+cases('conflicts', [
+  ['of the publication, with today\'s enrolments', [
+    ['overlap', [0, 1], 1], ...ACROSS, ['seatless', [1], 5], ['small', [0, 1], 4], ...DAY_OF_1],
+  () => inShort(findingsOfPublication(WHERE, BUSY, WITHOUT))],
+  ['of a draft: what the office finds', [['overlap', [0, 1], 1], ...ACROSS, ['small', [0, 1], 4],
+    ['unplaced', [4]], ['rule', [3, 0]], ['rule', [2]], ...DAY_OF_1],
+  () => inShort(findingsOfDraft(draftOf(breachOf('Clash', 0, 1), breachOf('Capacity', 0, 0),
+    breachOf('After', 3, 0), breachOf('Duration', 2, 2)), WHERE, BUSY, () => ''))],
+  ['of a draft of which the office finds nothing', [...ACROSS, ['unplaced', [4]], ...DAY_OF_1],
+    () => inShort(findingsOfDraft(draftOf(), WHERE, BUSY, () => ''))],
+  ['a clash of which nobody is left', [['overlap', [1, 4]]], () => inShort(findingsOfDraft(
+    { breaches: [breachOf('Clash', 1, 4)], unplaced: [] }, new Map(),
+    { ...BUSY, candidates: [[], [5], [], [], [1]] }, () => ''))],
+  ['how many of a kind', { overlap: 4, seatless: 1, small: 1, unplaced: 0, rule: 0, three: 1 },
+    () => countsOf(findingsOfPublication(WHERE, BUSY, WITHOUT))],
+]);
+
+const SMALL = readFileSync(new URL('../examples/small.exam', import.meta.url), 'utf8')
+  .replace(/\r?\n/g, '\r\n');
+
+cases('a session of the office', [
+  ['its numbers', { minutes: [120, 90, 120, 60], candidates: [[1, 2], [2, 3], [3], [1]],
+    capacities: [3, 2], spread: 3, periods: [['2005-04-15', '09:30:00', 120],
+      ['2005-04-15', '14:00:00', 120], ['2005-04-15', '17:00:00', 90], ['2005-04-18', '09:30:00', 120]] },
+  () => {
+    const { minutes, candidates, capacities, spread, periods } = sessionIn(SMALL);
+    return { minutes, candidates, capacities, spread,
+      periods: periods.map(({ date, start, minutes: length }) => [date, start, length]) };
+  }],
+]);
+
+const SECTIONS = ['timetable', 'conflicts', 'seats'];
+const TIMETABLES = ['Published', 'Draft 2'];
+
+cases('addresses', [
+  ['#conflicts/draft-2/17', ['conflicts', 'Draft 2', 17]], ['#conflicts', ['conflicts', null, null]],
+  ['#timetable/published', ['timetable', 'Published', null]], ['#draft-2', ['timetable', 'Draft 2', null]],
+  ['#timetable/draft-3/x', ['timetable', null, null]], ['#late', [null, null, null]],
+  ['', [null, null, null]], ['#main', [null, null, null]],
+].map(([hash, expected]) => [hash, expected, () => {
+  const { section, timetable, exam } = addressed(hash, SECTIONS, TIMETABLES);
+  return [section, timetable, exam];
+}]));
 
 const EVENT = { uid: 'u', date: '2005-12-31', start: '23:30:00', location: '', minutes: 60,
   summary: `${'é'.repeat(40)},;\\\n` };

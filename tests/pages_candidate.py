@@ -104,10 +104,6 @@ def overlapping_exams(run, chromium, front):
                 "Please write to exams@university.example now."],
             "hrefs #overlaps a": ["mailto:exams@university.example"]})
         run.judge("none are close together", False, "close together." in page.look("text body"))
-    with opened(run, chromium, front, "registry") as page:
-        page.judge("what the registry reads", {"texts .concern": [
-            "2 candidates without a seat: Ada Archer (s1), Cleo Carter (s3).",
-            "1 candidate with two exams at one time: Ada Archer (s1)."]})
     sent(8, "drop")
     with opened(run, chromium, front, "ada") as page:
         page.judge("one of them is dropped", {"hidden #overlaps": True})

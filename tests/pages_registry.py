@@ -50,8 +50,10 @@ def registrys_page(run, chromium, front):
                        "PHYS101 Mechanics\n1 of 2"))))]}),
                    ("what it breaks", f"click {MENU % 'conflicts'}", {
                        "focus": "conflicts-title", "hash": "#conflicts/draft-2",
-                       "texts #violations li": ["After Exam MATH102 must come after exam MATH101, "
-                                                "and does not."]}))
+                       "#conflicts-title": "Conflicts of Draft 2",
+                       "#conflict-count": "1 conflict.",
+                       "texts #conflict-list td:last-child": [
+                           "Exam MATH102 must come after exam MATH101, and does not."]}))
 
 
 # ---- Sections
@@ -59,14 +61,15 @@ def registrys_page(run, chromium, front):
 MENU = "#menu [data-to=%s] a"
 MENU_LINES = ["Timetable", "Conflicts", "Seats and lists", "Late changes", "Set-up"]
 # Addresses, also of older versions, and the heading that they show; the last one names nothing.
-ADDRESSES = [("#timetable/draft-2", "Draft 2"), ("#conflicts/draft-1", "Conflicts"),
+ADDRESSES = [("#timetable/draft-2", "Draft 2"), ("#conflicts/draft-1", "Conflicts of Draft 1"),
              ("#seats", "Seats and lists"), ("#late-changes", "Late changes"),
              ("#set-up", "Set-up"), ("#draft-2", "Draft 2"), ("#published", "Published"),
              ("#nothing", "Published")]
 SHOWN = "section[data-section]:not([hidden]) h2"
 # What is used daily, by section: it has to be seen without scrolling at 1440 by 900.
 DAILY = {"timetable": ["#publish", "#find", "#compare", "#grid thead"],
-         "conflicts": ["#violations"], "seats": ["#seat-words", "#seatless", "#seat-print button"],
+         "conflicts": ["#conflict-words", "#conflicts-csv", "#conflict-count"],
+         "seats": ["#seat-words", "#seatless", "#seat-print button"],
          "late-changes": ["#batch-lines", "#batch-check"], "set-up": ["#draft button"]}
 BOTTOM = "return document.querySelector(arguments[0]).getBoundingClientRect().bottom"
 # How far a message is from the button that caused it, in pixels.

@@ -87,7 +87,8 @@ def seats_after_changes(run, chromium, front):
     with opened(run, chromium, front, "registry") as page:
         page.judge("seats of the publication", {
             "#grid tbody td": "MATH101 Calculus\n2 of 3",
-            "texts .concern": ["1 candidate without a seat: Cleo Carter (s3)."]})
+            "texts #cards .verdict.broken": ["1 enrolment without a seat",
+                                             "Breaks rules: 2 violations"]})
         page.steps(("candidates of the draft", "click #cards li:nth-child(2) a",
                     {"#grid tbody td": "MATH101 Calculus\n3 of 3"}))
     run.judge("another batch", (200, b'{"added":0,"batch":6,"dropped":1,"unchanged":1}'),

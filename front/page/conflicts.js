@@ -40,28 +40,3 @@ export function pointsInWords(penalty, exams) {
   return isOnOneDay ? 'No points for the exams in which you have a seat.'
     : 'No points: no two of your exams are on one day.';
 }
-
-/**
- * The students who have two exams at one time, each with these exams: by where exams are, and who
- * takes them.
- */
-export function studentsAtOnce(places, { candidates, periods }) {
-  const together = periods.map((one, place) => periods.map((other, at) => (
-    at === place || areAtOnce(one, other))));
-  const placed = periods.map(() => []);
-  for (const [exam, { period }] of places) placed[period].push(exam);
-  const found = new Map();
-  for (const [period, exams] of placed.entries()) {
-    const others = placed.filter((_, at) => at >= period && together[period][at]).flat();
-    for (const exam of exams) {
-      const taking = new Set(candidates[exam]);
-      for (const other of others.filter((one) => !exams.includes(one) || one > exam)) {
-        for (const student of candidates[other].filter((one) => taking.has(one))) {
-          found.set(student, new Set([...(found.get(student) ?? []), exam, other]));
-        }
-      }
-    }
-  }
-  return [...found].map(([student, both]) => ({ student, exams: [...both].sort((a, b) => a - b) }))
-    .sort((a, b) => a.student - b.student);
-}

@@ -1,7 +1,7 @@
 // All timetables at a glance: a card for each, which opens it, and their penalties by part.
+import { concernText } from './conflictlist.js';
 import { verdict } from './drafts.js';
 import { byId, cell, count, element, listTable, numeral, rowHead } from './office.js';
-import { concerns } from './seats.js';
 import { addressOf } from './sections.js';
 import { office } from './state.js';
 
@@ -18,13 +18,15 @@ export function differenceText(points, published) {
 function card(timetable) {
   const { name, number, penalty, breaches } = timetable;
   const published = publishedOf(office.timetables)?.penalty.total;
+  const concerns = number ? '' : concernText();
   const difference = number ? differenceText(penalty.total, published) : '';
   const link = element('a', { href: addressOf(office.section, name), 'data-of': name },
     element('b', {}, name), ' ', element('span', { class: 'points' }, count(penalty.total, 'point')),
     difference && element('span', { class: 'below' }, difference),
     element('span', { class: breaches.length ? 'verdict broken' : 'verdict' },
-      number ? verdict(timetable) : 'Candidates see this timetable'));
-  return element('li', { class: 'card' }, link, ...(number ? [] : concerns(office)));
+      number ? verdict(timetable) : 'Candidates see this timetable'),
+    concerns && element('span', { class: 'verdict broken' }, concerns));
+  return element('li', { class: 'card' }, link);
 }
 
 /** Shows the cards, and which timetable is open. */

@@ -1,34 +1,20 @@
 // The registry's page: reads what the office has, and shows the section that the address names. Each
 // section has modules of its own.
-import { penaltyIn, readDrafts } from './drafts.js';
+import { readDrafts } from './drafts.js';
 import { setUpDraftForm, showDraftForm } from './drafting.js';
 import { applyOfficeNames, readLabels } from './labels.js';
 import { setUpLateChanges } from './late.js';
 import { showProgress } from './messages.js';
-import { ask, askOrNull, byId, count, readUser } from './office.js';
+import { byId, count, readUser } from './office.js';
 import { setUpOwnersForm, showOwnersForm } from './owners.js';
 import { setUpPublishing } from './publish.js';
-import { readSeats, setUpSeats, showSeats } from './seats.js';
+import { readPublished, readSession, rereadDraft, rereadPublished } from './reading.js';
+import { setUpSeats, showSeats } from './seats.js';
 import { readService } from './service.js';
-import { sessionIn, usesIn } from './session.js';
 import { setUpSessionForm } from './loading.js';
 import { showSection, wanted } from './sections.js';
 import { office } from './state.js';
-import { reread, showTimetable } from './timetable.js';
-
-/** @returns {Promise<import('./state.js').Published | null>} */
-async function readPublished() {
-  const report = await ask('/-/publication/penalty');
-  if (report.publication === null) return null;
-  const uses = usesIn(await ask('/publication/rooms'));
-  return { name: 'Published', penalty: penaltyIn(report), breaches: [], uses, unplaced: [] };
-}
-
-async function readSession() {
-  const text = await askOrNull('not-loaded', '/instance');
-  office.session = text ? sessionIn(text) : null;
-  return text;
-}
+import { reread, showExam, showTimetable } from './timetable.js';
 
 /** Reads everything, and shows the section that was shown. Returns how much there is, in words. */
 async function load() {
@@ -36,15 +22,16 @@ async function load() {
   const text = await readSession();
   office.service = text ? await readService() : null;
   office.names = await applyOfficeNames(text && await readLabels(), office.session);
-  const published = text && await readPublished();
-  office.seats = published && await readSeats();
+  const published = text ? await readPublished() : null;
+  if (!text) office.seats = null;
   const drafts = text ? await readDrafts() : [];
   office.timetables = [...(published ? [published] : []), ...drafts];
-  const { section, timetable } = wanted();
-  office.section = section;
+  const { section, timetable, exam } = wanted();
+  Object.assign(office, { section, exam });
   const open = office.timetables.find(({ name }) => name === timetable);
   if (open) showTimetable(open);
   showSection(section);
+  if (section === 'timetable' && exam !== null) showExam(exam);
   showSeats(office);
   byId('session').hidden = office.session !== null;
   showDraftForm();
@@ -62,20 +49,24 @@ function summaryText() {
   return `${published}, and there ${drafts > 1 ? 'are' : 'is'} ${there}.`;
 }
 
-/** Shows what the page's address names; a draft is read again first. */
+/**
+ * Shows what the page's address names; a timetable that wasn't open, or whose conflicts weren't, is read
+ * again.
+ */
 function follow() {
-  const { section, timetable } = wanted();
-  if (section === office.section && timetable === office.open) return;
+  const { section, timetable, exam } = wanted();
+  if (section === office.section && timetable === office.open && exam === office.exam) return;
   const open = office.timetables.find(({ name }) => name === timetable);
-  const isOther = timetable !== office.open;
-  showProgress(`Opening ${timetable} …`, async () => {
-    const found = open?.number && isOther ? await reread(open.number) : open;
-    office.section = section;
+  const isRead = timetable !== office.open || (section === 'conflicts' && section !== office.section);
+  showProgress(`Opening ${timetable ?? section} …`, async () => {
+    const found = isRead && open ? await (open.number ? rereadDraft(open.number) : rereadPublished()) : open;
+    Object.assign(office, { section, exam });
     if (found) showTimetable(found);
     const heading = showSection(section);
+    if (section === 'timetable' && exam !== null) showExam(exam);
     window.scrollTo(0, 0);
     heading.focus();
-    return isOther ? `${timetable} is shown.` : office.summary;
+    return isRead ? `${timetable} is shown.` : office.summary;
   });
 }
 

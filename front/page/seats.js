@@ -1,8 +1,6 @@
 // Who sits where: the seat list of the published timetable, searched, compared, downloaded, printed.
 import { csvText } from './csv.js';
-import { studentsAtOnce } from './conflicts.js';
 import { fold, studentIdentities } from './identities.js';
-import { placesIn } from './preview.js';
 import { FormFault, showProgress } from './messages.js';
 import {
   ask, byId, cell, count, dayInShort, download, element, listTable, numeral, rowHead, time,
@@ -52,7 +50,7 @@ export class People {
   }
 }
 
-const peopleOf = ({ names }) => new People(names.students);
+export const peopleOf = ({ names }) => new People(names.students);
 
 // ---- Seats and enrolments
 
@@ -169,29 +167,6 @@ function showSeatless(seats, office, people) {
     seatlessRows(pairs, office, people)));
   byId('seat-found').append(element('p', { class: 'buttons' }, button));
   return `${count(pairs.length, 'enrolment has', 'enrolments have')} no seat.`;
-}
-
-// ---- What the registry should do something about
-
-const MOST_NAMED = 5;
-
-function concern(words, students, people) {
-  const named = students.slice(0, MOST_NAMED).map((student) => (
-    people.name(student) ? `${people.name(student)} (${people.id(student)})` : people.id(student)));
-  const more = students.length - named.length;
-  return students.length ? [element('p', { class: 'concern' }, `${count(students.length, 'candidate')} ${
-    words}: ${named.join(', ')}${more > 0 ? ` and ${more} more` : ''}.`)] : [];
-}
-
-/** Who has no seat in the published timetable, and who has two exams at one time, as elements. */
-export function concerns(office) {
-  const { seats, session, timetables } = office;
-  if (!seats) return [];
-  const people = peopleOf(office);
-  const seatless = [...new Set(withoutSeat(seats, session).map(({ student }) => student))];
-  const together = studentsAtOnce(placesIn(timetables[0]), session).map(({ student }) => student);
-  return [...concern('without a seat', seatless.sort((a, b) => a - b), people),
-    ...concern('with two exams at one time', together, people)];
 }
 
 // ---- The section of the page

@@ -12,22 +12,26 @@ const sections = () => [...document.querySelectorAll('section[data-section]')].m
 
 const wordOf = (name) => name.toLowerCase().replace(' ', '-');
 
-/** The address of a timetable in a section; of the section, if it isn't about timetables. */
-export const addressOf = (section, name) => (
-  name && OF_TIMETABLES.includes(section) ? `#${section}/${wordOf(name)}` : `#${section}`);
+/** The address of a timetable, or of an exam of it, in a section; of the section, if it isn't about them. */
+export const addressOf = (section, name, exam = null) => (
+  name && OF_TIMETABLES.includes(section)
+    ? `#${section}/${wordOf(name)}${exam === null ? '' : `/${exam}`}` : `#${section}`);
 
 /**
- * The section and the timetable that an address names, null if it names none that is there. Without a
- * section it is the first one's, as in addresses of older versions (#draft-2).
+ * The section, the timetable and the exam that an address names, null if it names none that is there.
+ * Without a section it is that of timetables, as in addresses of older versions (#draft-2).
  * @param {string} hash
  * @param {string[]} sectionNames
  * @param {string[]} timetables their names
  */
 export function addressed(hash, sectionNames, timetables) {
-  const [first, second] = hash.replace(/^#/, '').split('/');
+  const [first, second, third] = hash.replace(/^#/, '').split('/');
   const named = (word) => timetables.find((name) => wordOf(name) === word) ?? null;
-  if (!sectionNames.includes(first)) return { section: named(first) && 'timetable', timetable: named(first) };
-  return { section: first, timetable: named(second) };
+  const exam = /^\d{1,4}$/.test(third ?? '') ? Number(third) : null;
+  if (!sectionNames.includes(first)) {
+    return { section: named(first) && 'timetable', timetable: named(first), exam: null };
+  }
+  return { section: first, timetable: named(second), exam };
 }
 
 /** Which sections the office's state allows, the first of them when an address names none. */
@@ -38,14 +42,15 @@ function allowed() {
     'late-changes', ...(timetables.length ? ['set-up'] : [])];
 }
 
-/** The section and the timetable that are to be shown. */
+/** The section, the timetable and the exam that are to be shown. */
 export function wanted() {
   const names = office.timetables.map(({ name }) => name);
   const there = addressed(location.hash, allowed(), names);
   const open = names.find((name) => name === office.open) ?? names[0] ?? null;
   // An address that names nothing, such as the one of the link that skips the menu, changes nothing.
   const section = there.section ?? allowed().find((name) => name === office.section) ?? allowed()[0];
-  return { section, timetable: there.timetable ?? open };
+  const isExam = there.exam !== null && there.exam < (office.session?.candidates.length ?? 0);
+  return { section, timetable: there.timetable ?? open, exam: isExam ? there.exam : null };
 }
 
 /** Shows a section, and the menu of all that there are. */

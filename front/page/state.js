@@ -33,6 +33,11 @@ export const office = {
   open: null,
   /** The section that is shown. */
   section: '',
+  /**
+   * The exam that the address names.
+   * @type {number | null}
+   */
+  exam: null,
   /** How many timetables there are, in words. */
   summary: '',
   /**

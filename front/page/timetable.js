@@ -1,20 +1,18 @@
 // The timetable that is open: what it breaks, its rooms by period, its files.
-import { readAgain } from './drafts.js';
 import {
-  byId, columnHead, count, dayInShort, element, row, rowHead, ruleText, small, time, unseen,
+  byId, columnHead, count, dayInShort, element, row, rowHead, small, time, unseen,
 } from './office.js';
+import { showConflicts } from './conflictlist.js';
 import { showOverview } from './overview.js';
 import { isPublishable } from './publish.js';
+import { rereadDraft } from './reading.js';
 import { usesOf } from './session.js';
 import { office } from './state.js';
 import { showComparison, showDownloads, showFinder } from './tables.js';
 
-const MOST_SHOWN = 200;
-
 /** Reads a draft again, and shows it in its card, and below if it is open. */
 export async function reread(number) {
-  const found = await readAgain(number);
-  office.timetables = office.timetables.map((old) => (old.number === number ? found : old));
+  const found = await rereadDraft(number);
   if (office.open === found.name) showTimetable(found);
   else showOverview();
   return found;
@@ -29,30 +27,17 @@ export function showTimetable(timetable) {
   byId('publish').hidden = !number;
   byId('drop').hidden = !number;
   byId('publish').disabled = !isPublishable(timetable);
-  showViolations(timetable);
-  showUnplaced(timetable.unplaced);
   showGrid(uses ?? usesOf(places, office.session), name);
   showDownloads(timetable, office);
   showComparison(timetable, office);
   showFinder(timetable, office);
+  showConflicts(office.section === 'conflicts' ? office.exam : null);
 }
 
-function showViolations({ breaches, number }) {
-  const items = breaches.slice(0, MOST_SHOWN).map(({ rule, exam, other }) => element('li', {},
-    element('b', {}, rule), ' ', ruleText(rule, exam, other)));
-  const more = breaches.length - MOST_SHOWN;
-  const found = breaches.length ? count(breaches.length, 'violation') : 'No violation';
-  const title = element('h3', {}, found);
-  byId('violations').replaceChildren(...(number ? [title] : []),
-    ...(items.length ? [element('ul', { class: 'violations' }, items)] : []),
-    ...(more > 0 ? [element('p', { class: 'quiet' }, `and ${more} more.`)] : []));
-}
-
-function showUnplaced(exams) {
-  const named = exams.slice(0, MOST_SHOWN).map(shortName).join(', ');
-  const more = exams.length > MOST_SHOWN ? ' and others' : '';
-  const words = `Not placed: ${count(exams.length, 'exam')} (${named}${more}).`;
-  byId('unplaced').textContent = exams.length ? words : '';
+/** Finds an exam of the open timetable. */
+export function showExam(exam) {
+  byId('find').value = office.names.exam(exam);
+  byId('find').oninput();
 }
 
 // On paper each row is a table of its own, with a line for each room: style.css.
@@ -78,9 +63,6 @@ function roomHead(room, session) {
 function periodHead(period, when) {
   return rowHead(`Period ${period}`, small(dayInShort(when.date), ', ', time(when.start)));
 }
-
-// An exam among others: its code, or only its number.
-const shortName = (exam) => (office.names.labels ? office.names.exam(exam) : exam);
 
 function examNames(exams) {
   const { names } = office;

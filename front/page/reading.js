@@ -1,0 +1,44 @@
+// What the registry's page reads of the office, into its state.
+import { penaltyIn, readAgain } from './drafts.js';
+import { ask, askOrNull } from './office.js';
+import { readSeats } from './seats.js';
+import { sessionIn, usesIn } from './session.js';
+import { office } from './state.js';
+
+/** Reads the session with today's enrolments; returns its text, or null. */
+export async function readSession() {
+  const text = await askOrNull('not-loaded', '/instance');
+  office.session = text ? sessionIn(text) : null;
+  return text;
+}
+
+/**
+ * Reads the published timetable and its seats; returns the timetable, or null.
+ * @returns {Promise<import('./state.js').Published | null>}
+ */
+export async function readPublished() {
+  const report = await ask('/-/publication/penalty');
+  const isThere = report.publication !== null;
+  const uses = isThere ? usesIn(await ask('/publication/rooms')) : [];
+  office.seats = isThere ? await readSeats() : null;
+  return isThere ? { name: 'Published', penalty: penaltyIn(report), breaches: [], uses, unplaced: [] } : null;
+}
+
+/**
+ * Reads a draft and the enrolments again.
+ * @returns {Promise<import('./drafts.js').Draft>}
+ */
+export async function rereadDraft(number) {
+  const found = await readAgain(number);
+  await readSession();
+  office.timetables = office.timetables.map((old) => (old.number === number ? found : old));
+  return found;
+}
+
+/** Reads the publication and the enrolments again; returns the publication. */
+export async function rereadPublished() {
+  const found = await readPublished();
+  await readSession();
+  office.timetables = office.timetables.map((old) => (old.number || !found ? old : found));
+  return office.timetables.find(({ number }) => !number);
+}
