@@ -92,7 +92,6 @@ class Stack(front_sign_in.Stack):
              key, "add", "registry", "office"], check=True, capture_output=True, text=True
         ).stdout.strip()
 
-
     def reload(self):
         """Begins a new log of changes, as logrotate does."""
         log = self.front.folder / "run" / "changes.log"
@@ -253,8 +252,9 @@ def history(run, stack):
                                ("POST", "/drafts/1/publish", b"")):
         run.judge("an exam moves", 200, ada.ask(method, path, body)[0])
     kept(run, stack, ada, "the second one", SECOND, FIRST)
-    run.judge("what differs", (200, {"exams": [{"exam": 3, "from": [2, 0], "to": [3, 1]}], "seats": [
-        {"student": 1, "exam": 3, "from": [2, 0, 1], "to": [3, 1, 2]}]}),
+    run.judge("what differs", (200, {
+        "exams": [{"exam": 3, "from": [2, 0], "to": [3, 1]}],
+        "seats": [{"student": 1, "exam": 3, "from": [2, 0, 1], "to": [3, 1, 2]}]}),
         asked(ada, "GET", "differences?from=1&to=2"))
     run.judge("the other way round", (200, [[3, 1, 2], [2, 0, 1]]), (
         lambda status, it: (status, [it["seats"][0][name] for name in ("from", "to")]))(
@@ -346,12 +346,43 @@ def on_the_page(page):
             "value #batch-lines": "student,exam,action\nx1,PHYS101,drop\n"}))
 
 
+def history_on_the_page(page):
+    """What happened, with who and when; the difference of two publications; the way back."""
+    page.steps(
+        ("what happened", ["click #refresh", "click #menu [data-to=history] a"], {
+            "texts #history-found td:nth-child(2)": ["registry"] * 5,
+            "texts #history-found td:nth-child(3)": [
+                "Draft 1 published: publication 2, 43 points, 3 seats changed",
+                "Batch 21, from this page: 1 added, 0 dropped",
+                "Batch 20, from this page: 2 added, 0 dropped. draft 1: 37 to 43 points",
+                "Draft 1 published: publication 1, 37 points, 6 seats changed", "Draft 1 made"]}),
+        ("a candidate", [("type", "#history-words", "ada"), "click #history-find button"], {
+            "said": "2 entries about Ada Archer."}),
+        ("an exam", [("set", "#history-words", "math101"), "click #history-find button"], {
+            "said": "2 entries about MATH101."}),
+        ("two publications", "click #history-compare button", {
+            "said": "0 exams and 3 seats differ.",
+            "texts #history-differences td:nth-child(1)": ["Zoë Zander", "Zoë Zander", "Xi"]}),
+        ("all again", [("set", "#history-words", ""), "click #history-find button"], {
+            "said": "All that happened is shown."}),
+        ("a kept timetable", "click #history-found tbody tr:nth-child(4) button", {
+            "#confirm-title": "Make draft 2 of publication 1?"}),
+        ("it becomes a draft", "click #confirm-yes", {
+            "said": "Draft 2 is made of publication 1."}),
+        ("the opposite of an earlier batch", [
+            ("set", "#history-words", "math101"), "click #history-find button",
+            "click #history-found tbody tr:nth-child(1) button"], {
+            "hash": "#late-changes", "value #batch-lines":
+            "student,exam,action\nr9,PHYS102,drop\nr9,MATH101,drop\n"}))
+
+
 def in_browser(run, chromium, make_front):
     """The registry's page beside the service."""
     if front_sign_in.missing():
         return
     stack = Stack(run, make_front, "registry_page")
     try:
+        office = published_first(run, stack)
         chromium.go(f"http://{chromium.new_host()}:{stack.front.port}/-/sign-in?to=/registry.html")
         chromium.types("[name=user]", "registry")
         chromium.types("[name=password]", "try-registry")
@@ -359,6 +390,9 @@ def in_browser(run, chromium, make_front):
         chromium.waits("return location.pathname === '/registry.html'")
         is_read(chromium)
         on_the_page(Page(run, chromium))
+        run.judge("another publication", 200, office.ask("POST", "/drafts/1/publish")[0])
+        kept(run, stack, office, "both are kept", (2, "registry", 1, 43), FIRST)
+        history_on_the_page(Page(run, chromium))
         run.judge("what the page sent, in the ledger", [
             (20, "page", "registry", 2), (21, "page", "registry", 1)], stack.service.rows(
             "SELECT number, source, prepared_by, added FROM batches JOIN effects ON batch = number"
@@ -368,15 +402,21 @@ def in_browser(run, chromium, make_front):
         stack.stop()
 
 
+def published_first(run, stack):
+    """Publishes the small solution after the history has begun."""
+    office = signed_in(stack, "registry")
+    browser.until("the history begins", lambda: published(stack, office) == [])
+    time.sleep(1)
+    for method, path, body, status in (("PUT", "/drafts/1", SOLUTION, 201),
+                                       ("POST", "/drafts/1/publish", b"", 200)):
+        run.judge("the start", status, office.ask(method, path, body)[0])
+    return office
+
+
 def judge_stack(run, make_front):
     stack = Stack(run, make_front, "registry")
     try:
-        office = signed_in(stack, "registry")
-        browser.until("the history begins", lambda: published(stack, office) == [])
-        time.sleep(1)
-        for method, path, body, status in (("PUT", "/drafts/1", SOLUTION, 201),
-                                           ("POST", "/drafts/1/publish", b"", 200)):
-            run.judge("the start", status, office.ask(method, path, body)[0])
+        published_first(run, stack)
         for part in (strangers, history, batches, new_students, at_once):
             part(run, stack)
     finally:

@@ -22,6 +22,8 @@ const { distance, fold, studentIdentities } = await import('../front/page/identi
 const {
   differences, differencesForCandidate, differencesForDepartment, faultsOfNames, isSealed, Names,
 } = await import('../front/page/labels.js');
+const { changesIn, eventsOf } = await import('../front/page/history.js');
+const { People } = await import('../front/page/seats.js');
 const { examsWith } = await import('../front/page/tables.js');
 const { clashesOf, fullRoomsOf } = await import('../front/page/preview.js');
 
@@ -367,4 +369,36 @@ cases('names and numbers', [
     () => [numbered.exam(0), numbered.examTitle(0), numbered.minutes(0), numbered.room(1),
       numbered.period(1), numbered.place({ period: 1, room: 0 }),
       named.place({ period: null, room: null })]],
+]);
+
+// Publication 1 gave Chloë a seat, which publication 2 took away; in between the exam was moved.
+const AT = (hour) => `2027-05-14T${hour}:00:00Z`;
+const HAPPENED = {
+  publications: [{ number: 2, at: AT('12'), by: 'ben', draft: 1, points: 44, seats: 5, changed: 2 },
+    { number: 1, at: AT('08'), by: 'ada', draft: null, points: 1, seats: 6, changed: 6 }],
+  edits: [{ at: AT('10'), by: 'ada', what: 'moved', draft: 3, exam: 0, other: null,
+    body: '{"period":9,"room":1' }, { at: AT('11'), by: 'ada', what: 'published', draft: 1 }],
+  batches: [{ number: 5, at: AT('09'), by: 'cleo', source: 'page', added: 1, dropped: 0, unchanged: 2,
+    points: { published: [3, 3], 1: [37, 38] }, has_opposite: true,
+    lines: [{ student: 12, exam: 1, action: 'add' }] }],
+};
+const told = (more, names = new Names()) => eventsOf({ ...HAPPENED, ...more }, names, new People(STUDENTS))
+  .map(({ by, words }) => `${by}: ${words}`);
+const ONE_SEAT = { exam: 0, period: 0, room: 0, seat: 3 };
+
+cases('what happened', [
+  ['all, the last one first', ['ben: Draft 1 published: publication 2, 44 points, 2 seats changed',
+    'ada: MATH101 moved, in draft 3', 'cleo: Batch 5, from this page: 1 added, 0 dropped, 2 unchanged. '
+    + 'PHYS102 of D\'Angelo, Chloë added. draft 1: 37 to 38 points',
+    'ada: A timetable was published: publication 1, 1 point, 6 seats changed'], () => told({}, KNOWN)],
+  ['to a candidate', ['ben: Exam 0: no seat any more (publication 2)',
+    'ada: Exam 0: seat 3, period 0, room 0 (publication 1)'],
+  () => told({ edits: [], batches: [], seats: [{ ...ONE_SEAT, first: 1, last: 1 }] })],
+  ['a seat that became another', 2, () => told({ edits: [], batches: [], seats: [
+    { ...ONE_SEAT, first: 1, last: 1 }, { ...ONE_SEAT, seat: 4, first: 2, last: null }] }).length],
+  ['to an exam that stayed', ['ada: period 1, room 1 (publication 1)'],
+    () => told({ edits: [], batches: [], places: [1, 2].map((publication) => (
+      { publication, period: 1, room: 1 })) })],
+  ['changed seats', [{ student: 1, exam: 3, was: { period: 2, room: 0, seat: 1 }, is: null }],
+    () => changesIn({ seats: [{ student: 1, exam: 3, from: [2, 0, 1], to: null }] })],
 ]);

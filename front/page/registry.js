@@ -2,6 +2,7 @@
 // section has modules of its own.
 import { readDrafts } from './drafts.js';
 import { setUpDraftForm, showDraftForm } from './drafting.js';
+import { setUpHistory, showHistory } from './history.js';
 import { applyOfficeNames, readLabels } from './labels.js';
 import { setUpLateChanges } from './late.js';
 import { showProgress } from './messages.js';
@@ -36,6 +37,7 @@ async function load() {
   byId('session').hidden = office.session !== null;
   showDraftForm();
   showOwnersForm();
+  if (section === 'history') await showHistory();
   office.summary = summaryText();
   return office.summary;
 }
@@ -64,6 +66,7 @@ function follow() {
     if (found) showTimetable(found);
     const heading = showSection(section);
     if (section === 'timetable' && exam !== null) showExam(exam);
+    if (section === 'history') await showHistory();
     window.scrollTo(0, 0);
     heading.focus();
     return isRead ? `${timetable} is shown.` : office.summary;
@@ -75,6 +78,7 @@ setUpLateChanges(load);
 setUpSessionForm(load);
 setUpDraftForm(load);
 setUpOwnersForm();
+setUpHistory(load);
 setUpSeats(office, readSession);
 window.addEventListener('hashchange', follow);
 

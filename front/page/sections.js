@@ -36,10 +36,10 @@ export function addressed(hash, sectionNames, timetables) {
 
 /** Which sections the office's state allows, the first of them when an address names none. */
 function allowed() {
-  const { session, timetables, seats } = office;
+  const { session, timetables, seats, service } = office;
   if (!session) return ['set-up'];
   return [...(timetables.length ? ['timetable', 'conflicts'] : ['set-up']), ...(seats ? ['seats'] : []),
-    'late-changes', ...(timetables.length ? ['set-up'] : [])];
+    'late-changes', ...(service ? ['history'] : []), ...(timetables.length ? ['set-up'] : [])];
 }
 
 /** The section, the timetable and the exam that are to be shown. */

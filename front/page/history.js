@@ -1,0 +1,272 @@
+// What happened to the session: publications, edits and batches, with who made them and when; the
+// difference of two publications; and the way back. The registry's service keeps all of it.
+import { inverseText } from './changes.js';
+import { confirmFirst } from './confirm.js';
+import { examIdentities } from './identities.js';
+import { showProgress } from './messages.js';
+import {
+  ask, byId, cell, change, count, download, element, listTable, moment, numeral,
+} from './office.js';
+import { csvText } from './csv.js';
+import { changedRows, People } from './seats.js';
+import { office } from './state.js';
+
+const PATH = '/-/registry';
+const DRAFTS = [1, 2, 3, 4, 5, 6, 7, 8];
+
+/**
+ * @typedef {{ number: number, at: string, by: string, draft: number | null, points: number,
+ *   seats: number, changed: number }} Publication
+ * @typedef {{ at: string, by: string, what: string, draft: number | null, exam: number | null,
+ *   other: number | null, body: string }} Edit
+ * @typedef {{ number: number, at: string, by: string, source: string, added: number | null,
+ *   dropped: number | null, unchanged: number | null, points: Record<string, number[]>,
+ *   has_opposite: boolean, lines?: { student: number, exam: number, action: string }[] }} Batch
+ * @typedef {{ exam: number, period: number, room: number, seat: number, first: number,
+ *   last: number | null }} Kept
+ * @typedef {{ publications: Publication[], edits: Edit[], batches: Batch[], trouble: string,
+ *   seats?: Kept[], places?: { publication: number, period: number, room: number }[] }} Found
+ * @typedef {{ at: string, by: string, words: string, publication?: Publication, batch?: Batch }} Event
+ */
+
+// ---- Words
+
+const SOURCES = { file: 'the student system\'s list', hand: 'lines of a file', page: 'this page' };
+
+/** The points of a batch that changed, in words. */
+function pointsText(points) {
+  return Object.entries(points).filter(([, [before, after]]) => before !== after)
+    .map(([name, [before, after]]) => `${name === 'published' ? 'the publication' : `draft ${name}`}: ${
+      numeral(before)} to ${numeral(after)} points`).join('; ');
+}
+
+function batchText(batch, names, people) {
+  const { added, dropped, unchanged, lines, number, source, points } = batch;
+  const counts = added === null ? '' : [`${numeral(added)} added`, `${numeral(dropped)} dropped`,
+    ...(unchanged ? [`${numeral(unchanged)} unchanged`] : [])].join(', ');
+  const which = number < 0 ? 'Changes that came another way' : `Batch ${number}, from ${SOURCES[source]}`;
+  const named = (lines ?? []).slice(0, 5).map(({ student, exam, action }) => (
+    `${names.exam(exam)} of ${people.name(student) || people.id(student)} ${
+      action === 'add' ? 'added' : 'dropped'}`)).join(', ');
+  return [[which, counts].filter(Boolean).join(': '), named, pointsText(points)].filter(Boolean).join('. ');
+}
+
+/** A place of an edit's body, such as {"period":3,"room":1}. */
+function placeIn(body, names) {
+  try {
+    const { period, room } = JSON.parse(body);
+    return ` to ${names.place({ period, room })}`;
+  } catch {
+    return '';
+  }
+}
+
+function editText({ what, draft, exam, other, body }, names) {
+  const named = exam === null ? '' : names.exam(exam);
+  return {
+    placed: `${named} placed${placeIn(body, names)}, in draft ${draft}`,
+    moved: `${named} moved${placeIn(body, names)}, in draft ${draft}`,
+    cleared: `${named} taken out of draft ${draft}`,
+    swapped: `${named} and ${other === null ? '' : names.exam(other)} swapped in draft ${draft}`,
+    made: `Draft ${draft} made`, dropped: `Draft ${draft} dropped`,
+    owner: `${named} given to another owner`,
+  }[what] ?? what;
+}
+
+function publicationText({ number, draft, points, changed }) {
+  const from = draft === null ? 'A timetable was published' : `Draft ${draft} published`;
+  return `${from}: publication ${number}, ${count(points, 'point')}, ${count(changed, 'seat')} changed`;
+}
+
+/** What the publications did to the seats of a student. */
+function seatEvents(seats, publications, names) {
+  const byNumber = new Map(publications.map((one) => [one.number, one]));
+  const since = new Set(seats.map(({ exam, first }) => `${exam} ${first}`));
+  const given = seats.filter(({ first }) => byNumber.has(first))
+    .map(({ exam, period, room, seat, first }) => ({ ...byNumber.get(first),
+      words: `${names.exam(exam)}: seat ${seat}, ${names.place({ period, room })} (publication ${first})` }));
+  const taken = seats.filter(({ exam, last }) => (
+    last !== null && byNumber.has(last + 1) && !since.has(`${exam} ${last + 1}`)))
+    .map(({ exam, last }) => ({ ...byNumber.get((last ?? 0) + 1),
+      words: `${names.exam(exam)}: no seat any more (publication ${(last ?? 0) + 1})` }));
+  return [...given, ...taken];
+}
+
+/** Where the publications put an exam: only those that moved it. */
+function placeEvents(places, publications, names) {
+  const byNumber = new Map(publications.map((one) => [one.number, one]));
+  return places.filter(({ period, room }, i) => (
+    i === 0 || period !== places[i - 1].period || room !== places[i - 1].room))
+    .map(({ publication, period, room }) => ({ ...byNumber.get(publication),
+      words: `${names.place({ period, room })} (publication ${publication})` }));
+}
+
+/**
+ * All that was found, as lines, the last one first.
+ * @param {Found} found
+ * @returns {Event[]}
+ */
+export function eventsOf(found, names, people) {
+  const { publications, edits, batches, seats, places } = found;
+  let published = publications.map((one) => (
+    { at: one.at, by: one.by, words: publicationText(one), publication: one }));
+  if (seats) published = seatEvents(seats, publications, names);
+  else if (places) published = placeEvents(places, publications, names);
+  return [...published,
+    ...edits.filter(({ what }) => what !== 'published').map((one) => (
+      { at: one.at, by: one.by, words: editText(one, names) })),
+    ...batches.map((one) => ({ at: one.at, by: one.by, words: batchText(one, names, people), batch: one })),
+  ].sort((a, b) => Date.parse(b.at) - Date.parse(a.at));
+}
+
+/** The difference of two publications in the form of changed seats. */
+export function changesIn({ seats }) {
+  const seatOf = (place) => place && { period: place[0], room: place[1], seat: place[2] };
+  return seats.map(({ student, exam, from, to }) => ({ student, exam, was: seatOf(from), is: seatOf(to) }));
+}
+
+// ---- What is shown
+
+const peopleOf = () => new People(office.names.students);
+
+function button(words, act) {
+  const made = element('button', { type: 'button' }, words);
+  made.addEventListener('click', act);
+  return made;
+}
+
+/** The buttons of a line: the way back. */
+function waysBack({ publication, batch }) {
+  if (publication) return [button('Make a draft of it …', () => askForDraft(publication))];
+  return batch?.has_opposite ? [button('Reverse …', () => reverse(batch))] : [];
+}
+
+function showEvents(events) {
+  const rows = events.map((event) => [cell(moment(new Date(event.at))), cell(event.by || 'unknown'),
+    cell(event.words), cell(...waysBack(event))]);
+  byId('history-found').replaceChildren(...(rows.length
+    ? listTable('What happened, the last one first', ['When', 'By', 'What', 'Way back'], rows)
+    : [element('p', {}, 'Nothing is noted.')]));
+}
+
+function showPublications(publications) {
+  byId('history-compare').hidden = publications.length < 2;
+  for (const [place, id] of ['history-to', 'history-from'].entries()) {
+    const chosen = byId(id).value;
+    byId(id).replaceChildren(...publications.map(({ number, at }) => element('option', { value: number },
+      `Publication ${number}, ${moment(new Date(at)).textContent}`)));
+    const number = Number(chosen) || publications[place]?.number;
+    if (publications.some((one) => one.number === number)) byId(id).value = number;
+  }
+}
+
+/** Reads and shows all, or what an exam or a candidate has to do with. */
+async function find(query) {
+  const found = /** @type {Found} */ (await ask(`${PATH}/history${query}`));
+  byId('history-trouble').hidden = !found.trouble;
+  byId('history-trouble').textContent = found.trouble
+    && `The last publication isn't kept yet, or edits aren't noted: ${found.trouble}.`;
+  if (!query) showPublications(found.publications);
+  const events = eventsOf(found, office.names, peopleOf());
+  showEvents(events);
+  return events.length;
+}
+
+/** Shows the section, with all that happened. */
+export async function showHistory() {
+  byId('history-differences').replaceChildren();
+  await find('');
+}
+
+// ---- Looking for an exam or a candidate
+
+async function search() {
+  const words = byId('history-words').value.trim();
+  if (!words) {
+    await find('');
+    return 'All that happened is shown.';
+  }
+  const exam = examIdentities(office.names.labels).number(words);
+  if (exam !== null) {
+    return `${count(await find(`?exam=${exam}`), 'entry', 'entries')} about ${office.names.exam(exam)}.`;
+  }
+  const people = peopleOf();
+  const [student, ...others] = people.found(words);
+  if (student === undefined) return 'No exam and no candidate has this code, ID or name.';
+  if (others.length) {
+    const named = [student, ...others].slice(0, 5).map((one) => `${people.name(one)} (${people.id(one)})`);
+    return `${count(others.length + 1, 'candidate')} found: ${named.join(', ')}${
+      others.length > 4 ? ' and more' : ''}. Enter the ID of one.`;
+  }
+  return `${count(await find(`?student=${student}`), 'entry', 'entries')} about ${
+    people.name(student) || people.id(student)}.`;
+}
+
+// ---- Two publications
+
+async function compare() {
+  const [from, to] = ['history-from', 'history-to'].map((id) => byId(id).value);
+  const found = await ask(`${PATH}/differences?from=${from}&to=${to}`);
+  const { names } = office;
+  const people = peopleOf();
+  const placeText = (place) => (place ? names.place({ period: place[0], room: place[1] }) : 'none');
+  const seatText = (place) => (place ? `seat ${place[2]}, ${placeText(place)}` : 'no seat');
+  const csv = button('Changed seats as CSV', () => download(`publication-${from}-to-${to}.csv`, 'text/csv',
+    csvText(changedRows(changesIn(found), office, people))));
+  byId('history-differences').replaceChildren(
+    ...listTable('Exams that moved', ['Exam', 'Before', 'After'], found.exams.map((one) => [
+      cell(names.exam(one.exam)), cell(placeText(one.from)), cell(placeText(one.to))])),
+    ...listTable('Seats that changed', ['Candidate', 'Exam', 'Before', 'After'], found.seats.map((one) => [
+      cell(people.name(one.student) || people.id(one.student)), cell(names.exam(one.exam)),
+      cell(seatText(one.from)), cell(seatText(one.to))])),
+    ...(found.seats.length ? [element('p', { class: 'buttons' }, csv)] : []));
+  return `${count(found.exams.length, 'exam')} and ${count(found.seats.length, 'seat')} differ.`;
+}
+
+// ---- The way back
+
+/** Asks which draft is made of a kept publication. */
+function askForDraft({ number }) {
+  const taken = office.timetables.map((one) => one.number);
+  const free = DRAFTS.find((draft) => !taken.includes(draft));
+  const at = byId('history-found');
+  if (!free) {
+    showProgress('', () => 'There are eight drafts already. Drop one first.', at);
+    return;
+  }
+  confirmFirst(`Make draft ${free} of publication ${number}?`, [element('p', {}, 'Nobody else sees it until '
+    + 'it is published.')], `Make draft ${free}`, () => showProgress('Making the draft …', async () => {
+    const solution = await ask(`${PATH}/publications/${number}`);
+    await change(`Draft ${free} was not made.`, `/drafts/${free}`, 'PUT', solution);
+    await again();
+    return `Draft ${free} is made of publication ${number}.`;
+  }, at));
+}
+
+/** Puts the lines that take a batch back into the form for late changes. */
+function reverse({ number }) {
+  showProgress('Reading the batch …', async () => {
+    const { changes } = await ask(`${PATH}/batches/${number}`);
+    byId('batch').reset();
+    byId('batch-lines').value = inverseText(changes.filter(({ acted }) => acted), office.names);
+    byId('batch').dispatchEvent(new Event('input', { bubbles: true }));
+    location.hash = '#late-changes';
+    return `The lines that take batch ${number} back are in the form. Check them, then send them.`;
+  }, byId('history-found'));
+}
+
+/** Reads everything again. */
+let again = async () => {};
+
+/** Sets up the section; `load` reads everything again. */
+export function setUpHistory(load) {
+  again = load;
+  byId('history-find').addEventListener('submit', (event) => {
+    event.preventDefault();
+    showProgress('Searching …', search, byId('history-find'));
+  });
+  byId('history-compare').addEventListener('submit', (event) => {
+    event.preventDefault();
+    showProgress('Comparing …', compare, byId('history-compare'));
+  });
+}
