@@ -13,7 +13,8 @@ import time
 
 import browser
 
-KEYS = {"tab": "\ue004", "enter": "\ue007", "escape": "\ue00c", "down": "\ue015", "up": "\ue013"}
+KEYS = {"end": "\ue010", "right": "\ue014",
+        "tab": "\ue004", "enter": "\ue007", "escape": "\ue00c", "down": "\ue015", "up": "\ue013"}
 # How long a page may take to show what an act leads to, after it has read what it needs.
 SECONDS = 20
 # What a look finds, of `all` elements of its selector or of the first `one`.
@@ -24,6 +25,7 @@ LOOKS = {
     "titles": "all.map(e => e.innerText.trim().split(/\\s+/).join(' '))",
     "names": "all.map(e => e.innerText.split('\\n')[0])",
     "rows": "all.map(row => [...row.cells].map(cell => cell.innerText.trim()))",
+    "labels": "all.map(e => e.getAttribute('aria-label'))",
     "widths": "all.map(bar => bar.firstChild.offsetWidth / bar.offsetWidth)",
     "hrefs": "all.map(e => e.href)",
     "value": "one?.value",

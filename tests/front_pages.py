@@ -15,11 +15,12 @@ from pages_conflicts import conflicts
 from pages_department import departments_page, pages_of_others
 from pages_late import late_changes
 from pages_registry import (
-    new_session, publishing, registrys_page, registrys_work, sections)
+    new_session, pictures_of_timetables, publishing, registrys_page, registrys_work, sections)
 from pages_seats import printed, seats_after_changes, seats_of_candidates
 
 # Of the small office, in this order: each begins with what those before it left.
-PARTS = (candidates_page, next_exam_first, registrys_page, sections, seats_of_candidates,
+PARTS = (candidates_page, next_exam_first, registrys_page, pictures_of_timetables,
+         sections, seats_of_candidates,
          departments_page, pages_of_others, publishing, moved_exam, seats_after_changes,
          states_of_exams, overlapping_exams, conflicts, late_changes, registrys_work, style_is_read)
 

@@ -17,6 +17,9 @@ const {
   countsOf, findingsOfDraft, findingsOfPublication,
 } = await import('../front/page/findings.js');
 const { addressed } = await import('../front/page/sections.js');
+const {
+  daysOfCandidate, daysOfPeriods, differingPlaces, gapsOf, loadOf, roomsInOrder, seatedIn, shadeOf, stepIn,
+} = await import('../front/page/layout.js');
 const { sessionIn } = await import('../front/page/session.js');
 const { distance, fold, studentIdentities } = await import('../front/page/identities.js');
 const {
@@ -266,6 +269,31 @@ cases('a session of the office', [
     return { minutes, candidates, capacities, spread,
       periods: periods.map(({ date, start, minutes: length }) => [date, start, length]) };
   }],
+]);
+
+const use = (period, room, used, ...exams) => ({ period, room, used, capacity: 9, exams });
+const [ONE, OTHER] = [[use(0, 0, 2, 1, 0), use(1, 1, 3, 2)], [use(0, 0, 2, 0, 1), use(1, 0, 3, 2)]];
+
+cases('pictures', [
+  ['days of periods, as they are numbered', [['2027-05-18', 0, 3], ['2027-05-19', 3, 1]],
+    () => daysOfPeriods(BUSY.periods).map(({ date, first, count }) => [date, first, count])],
+  ['rooms', [[0, 1, 2, 3], [1, 2, 3, 0], [0, 1, 3, 2]], () => ['list', 'size', 'building'].map((by) => (
+    roomsInOrder(by, [1, 9, 5, 5], (room) => ['A', 'B', null, 'B'][room] ?? 'C')))],
+  ['shades', [0, 1, 1, 2, 4, 8, 8, 8], () => [[0, 8], [1, 80], [1, 8], [11, 80], [4, 8], [8, 8], [9, 8],
+    [1, 0]].map(([used, capacity]) => shadeOf(used, capacity))],
+  ['places with other exams', ['1 1', '1 0'], () => [...differingPlaces(ONE, OTHER)]],
+  ['candidates of a period', [2, 3, 0], () => loadOf(ONE, 3)],
+  ['who has a seat', [[], [7, 8]], () => seatedIn([{ student: 7, exam: 1 }, { student: 8, exam: 1 }], 2)],
+  // Student 1 has exams in periods 0, 0, 1 and 2; student 2 in 0 and 1.
+  ['gaps', [[0, 1], [1, 3]], () => [...gapsOf(WHERE, BUSY.candidates).entries()].filter(([, n]) => n)],
+  ['a long gap', [[16, 1]], () => [...gapsOf(new Map([[0, { period: 1, room: 0 }],
+    [1, { period: 99, room: 0 }]]), [[1], [1]]).entries()].filter(([, times]) => times)],
+  ['days of a candidate', [['2027-05-18', 2], ['2027-05-19', 0]],
+    () => daysOfCandidate([0, 2], BUSY.periods).map(({ date, exams }) => [date, exams])],
+  ['keys', [[0, 1], [2, 1], [1, 0], [1, 2], [1, 0], [1, 3], null], () => ['ArrowUp', 'ArrowDown',
+    'ArrowLeft', 'ArrowRight', 'Home', 'End', 'a'].map((key) => stepIn(key, [1, 1], 3, 4))],
+  ['keys at the edge', [[0, 0], [2, 3]], () => [stepIn('ArrowUp', [0, 0], 3, 4),
+    stepIn('ArrowRight', [2, 3], 3, 4)]],
 ]);
 
 const SECTIONS = ['timetable', 'conflicts', 'seats'];

@@ -30,8 +30,7 @@ return Object.keys(wrong).filter(name => !wrong[name]);
 """
 # The tables of a page, as its markup has them: the name, and for each row what its cells are.
 TABLES = """
-const kind = (cell) => cell.tagName === 'TD' ? 'cell'
-  : cell.scope === 'col' ? 'columnheader' : 'rowheader';
+const kind = (cell) => cell.getAttribute('role');
 return [...document.querySelectorAll('table')].filter(table => table.checkVisibility())
   .map(table => [table.caption.innerText, [...table.rows].map(row => [...row.cells].map(kind))]);
 """
@@ -68,6 +67,9 @@ return [[...document.querySelectorAll('*')].indexOf(e), getComputedStyle(e).outl
 """
 
 
+CELLS = "cell", "gridcell", "columnheader", "rowheader"
+
+
 def tables_told(reader):
     """The same tables as a screen reader gets them, from the accessibility tree."""
     tree = reader.devtools("Accessibility.getFullAXTree")["nodes"]
@@ -82,9 +84,9 @@ def tables_told(reader):
                 yield from within(child, *roles)
 
     return [[table["name"]["value"],
-             [[cell["role"]["value"] for cell in within(row, "cell", "columnheader", "rowheader")]
+             [[cell["role"]["value"] for cell in within(row, *CELLS)]
               for row in within(table, "row")]]
-            for table in within(tree[0], "table")]
+            for table in within(tree[0], "table", "grid")]
 
 
 PAGES = [("cleo", "candidate.html"), ("registry", "registry.html"), ("physics", "department.html")]
@@ -181,11 +183,12 @@ def other_labels(run, chromium, wide):
     for user, labels, note, shown in (
             ("registry", changed(right, "rooms", 7, "capacity", 1),
              NOT_MATCHING % ("rooms", ASK),
-             {"#grid thead th:nth-child(2)": "Room 0\n20 seats"}),
+             {"texts #pictures tbody tr:last-child th": ["Room 0 20"]}),
             ("ada", changed(right, "periods", 0, "date", "2005-06-07"),
              NOT_MATCHING % ("periods", TELL),
              {".exams [data-label=Room]": "0"}),
-            ("registry", None, "", {"#grid tbody td": "Exam 0\n1 of 20"}),
+            ("registry", None, "", {"labels #pictures tbody tr:last-child td:nth-child(2)": [
+                "Room 0, Mon 6 Jun, 09:00: Exam 0, 1 of 20 seats"]}),
             ("ada", None, "", {".exams tbody th": "Exam 0"}),
             ("physics", None, "",
              {"#places tr:last-child": "Exam 39\t\tPeriod 6\tRoom 39\tChange …"}),

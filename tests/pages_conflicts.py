@@ -60,6 +60,7 @@ def conflicts(run, chromium, front):
                 ["Breaks a rule", "", "MATH102 MATH101", page.moment("2005-04-15", "14:00:00"),
                  "Exam MATH102 must come after exam MATH101, and does not."]]}),
             ("an exam in the timetable", "click #conflict-list tr:nth-child(3) a", {
-                "hash": "#timetable/draft-2/1", "value #find": "MATH102"}),
+                "hash": "#timetable/draft-2/1",
+                "names #cell .chosen": ["MATH102 Linear algebra"]}),
             ("and back", "go back", {"hash": "#conflicts/draft-2"}))
     sent(12, "1,2,drop")

@@ -3,7 +3,7 @@ session."""
 import time
 
 from front_cases import ask
-from front_page import csv_file, opened
+from front_page import DAY, csv_file, opened
 from pages_seats import NOBODY, SEATS_NAMED, WHERE, WHOSE
 from serve_cases import SMALL, SOLUTION
 
@@ -38,22 +38,60 @@ def registrys_page(run, chromium, front):
             abs(width - part[1] / 20) < 0.02
             for width, part in zip(page.look("widths #parts td:nth-child(2) .bar"), PARTS)])
         page.steps(("a draft", f"click {OPEN % 3}", {
-            "focus": "timetable-title", TITLE: "Draft 2", "rows #grid tr": [
-                ["Period", "Great Hall\nMain building\n3 seats",
-                 "Room 2.14\nPhysics building\n2 seats"],
-                *([f"Period {number}\n{page.moment(date, start)}", *rooms]
-                  for number, (date, start, *rooms) in enumerate((
-                      (FRIDAY, "09:30:00", "", ""),
-                      (FRIDAY, "14:00:00", "MATH102 Linear algebra\n2 of 3", ""),
-                      (FRIDAY, "17:00:00", "PHYS102 Optics\n1 of 3", ""),
-                      (MONDAY, "09:30:00", "MATH101 Calculus\n2 of 3",
-                       "PHYS101 Mechanics\n1 of 2"))))]}),
+            "focus": "timetable-title", TITLE: "Draft 2"}),
                    ("what it breaks", f"click {MENU % 'conflicts'}", {
                        "focus": "conflicts-title", "hash": "#conflicts/draft-2",
                        "#conflicts-title": "Conflicts of Draft 2",
                        "#conflict-count": "1 conflict.",
                        "texts #conflict-list td:last-child": [
                            "Exam MATH102 must come after exam MATH101, and does not."]}))
+
+
+# ---- The picture
+
+PICTURE, CELLS = "#pictures table", "labels #pictures tbody tr"
+HALL_CELLS = [
+    "Great Hall, {0}: free, 3 seats", "Great Hall, {1}: MATH102, 2 of 3 seats",
+    "Great Hall, {2}: PHYS102, 1 of 3 seats", "Great Hall, {3}: MATH101, 2 of 3 seats"]
+ROOM_CELLS = [f"Room 2.14, {{{period}}}: free, 2 seats" for period in range(3)] + [
+    "Room 2.14, {3}: PHYS101, 1 of 2 seats"]
+STARTS = ((FRIDAY, "09:30:00"), (FRIDAY, "14:00:00"), (FRIDAY, "17:00:00"), (MONDAY, "09:30:00"))
+# How often a candidate's next exam is so many periods after one, in draft 2 as in draft 1.
+GAPS = {1: 1, 2: 2}
+
+
+def pictures_of_timetables(run, chromium, front):
+    """A timetable is a grid of named cells, which arrows go through; another one is beside it."""
+    with opened(run, chromium, front, "registry", "registry.html#timetable/draft-2") as page:
+        moments = [page.moment(*start) for start in STARTS]
+        cells = [text.format(*moments) for text in (*HALL_CELLS, *ROOM_CELLS)]
+        days = [page.reader.run(DAY, "en-GB", f"{date}T00:00:00Z") for date in (FRIDAY, MONDAY)]
+        page.judge("the picture", {
+            "labels #pictures tbody td": cells, "labels #pictures thead .day[colspan]": days,
+            "labels #pictures tfoot td": [
+                f"{moment}: {count}" for moment, count in zip(moments, (
+                    "0 candidates", "2 candidates", "1 candidate", "3 candidates"))],
+            "texts #gaps td:nth-child(2)": [str(GAPS.get(gap, 0)) for gap in range(17)],
+            "texts #gaps .limit th": ["3"]})
+        page.steps(
+            ("an exam of the picture", ["focus #pictures [tabindex='0']", "press right"],
+             {"#cell h3": HALL, "names #cell li": ["MATH102 Linear algebra"]}),
+            ("a cell below", "press down down", {"#cell h3": ROOM, "names #cell li": []}),
+            ("what is in a cell", ["press end enter"],
+             {"focus": "cell-title", "names #cell li": ["PHYS101 Mechanics"]}),
+            ("the smallest room first", ("set", "#room-order", "list"), {
+                "labels #pictures tbody tr:first-child td": cells[:4]}),
+            ("another timetable beside it", ("set", "#compare", "Draft 1"), {
+                "texts #pictures caption": [
+                    f"{name}: rooms by period, darker the more seats are taken"
+                    for name in ("Draft 2", "Draft 1")],
+                "labels #pictures > :first-child .differs": [
+                    f"{cells[place]}, differs" for place in (0, 3)],
+                "texts #gaps td:nth-child(3)": [str(GAPS.get(gap, 0)) for gap in range(17)]}),
+            ("an exam that the address names", [("set", "#compare", ""), ("set", "#find", "optics"),
+                                                "click #found tbody a"],
+             {"hash": "#timetable/draft-2/3", "names #cell .chosen": ["PHYS102 Optics"],
+              "labels :focus": [cells[2]]}))
 
 
 # ---- Sections
@@ -67,7 +105,7 @@ ADDRESSES = [("#timetable/draft-2", "Draft 2"), ("#conflicts/draft-1", "Conflict
              ("#nothing", "Published")]
 SHOWN = "section[data-section]:not([hidden]) h2"
 # What is used daily, by section: it has to be seen without scrolling at 1440 by 900.
-DAILY = {"timetable": ["#publish", "#find", "#compare", "#grid thead"],
+DAILY = {"timetable": ["#publish", "#find", "#compare", "#pictures tfoot", "#cell"],
          "conflicts": ["#conflict-words", "#conflicts-csv", "#conflict-count"],
          "seats": ["#seat-words", "#seatless", "#seat-print button"],
          "late-changes": ["#batch-lines", "#batch-check"], "set-up": ["#draft button"]}

@@ -18,6 +18,10 @@ WHOSE, WHERE = ["student", "id", "name", "exam", "title"], ["date", "start", "ro
                                                             "seat"]
 NOBODY = "No candidate of this session has this number, ID or name."
 FOUND = "rows #seat-found tr"
+# The strip of a candidate's days, below the name.
+STRIP = "\nFri 15 Apr: 2 exams\nMon 18 Apr: no exam"
+CELL = "#pictures tbody tr:first-child td:nth-child(2)"
+FIRST_CELL = "Great Hall, %s: MATH101, %d of 3 seats"
 # The line of a seat on each kind of sheet.
 LINES = {"door": "{name} {id} {exam} {seat}", "attendance": "{seat} {name} {id} {exam}"}
 
@@ -28,9 +32,10 @@ def finds(words):
 
 def where_candidates_sit(page):
     """A candidate is found by number, ID or name, in any case."""
-    bens = [["Ben Baker\ns2", exam, page.moment(FRIDAY, start), HALL, seat] for exam, start,
-            seat in (
-        ("MATH101\nCalculus", "09:30:00", "2"), ("MATH102\nLinear algebra", "14:00:00", "1"))]
+    bens = [[f"Ben Baker\ns2{days}", exam, page.moment(FRIDAY, start), HALL, seat]
+            for days, exam, start, seat in (
+                (STRIP, "MATH101\nCalculus", "09:30:00", "2"),
+                ("", "MATH102\nLinear algebra", "14:00:00", "1"))]
     head = ["Candidate", "Exam", "Period", "Room", "Seat"]
     page.steps(
         *((f"where {words} sits", finds(words), {
@@ -86,11 +91,11 @@ def seats_after_changes(run, chromium, front):
               front.told(ask("registry", "PUT", "/batches/5", batch_text("3,0,add"))))
     with opened(run, chromium, front, "registry") as page:
         page.judge("seats of the publication", {
-            "#grid tbody td": "MATH101 Calculus\n2 of 3",
+            f"labels {CELL}": [FIRST_CELL % (page.moment(FRIDAY, "09:30:00"), 2)],
             "texts #cards .verdict.broken": ["1 enrolment without a seat",
                                              "Breaks rules: 2 violations"]})
         page.steps(("candidates of the draft", "click #cards li:nth-child(2) a",
-                    {"#grid tbody td": "MATH101 Calculus\n3 of 3"}))
+                    {f"labels {CELL}": [FIRST_CELL % (page.moment(FRIDAY, "09:30:00"), 3)]}))
     run.judge("another batch", (200, b'{"added":0,"batch":6,"dropped":1,"unchanged":1}'),
               front.told(ask("registry", "PUT", "/batches/6", batch_text("3,0,add", "2,0,drop"))))
     with opened(run, chromium, front, "registry", "registry.html#seats") as page:
@@ -111,12 +116,13 @@ PAPERS = {"A4": (8.27, 11.69), "letter": (8.5, 11)}
 
 
 def tables_on_paper(lines):
-    """For each period its number and then its rooms, as a printed timetable has them."""
+    """For each period its number and then its rooms, as a printed timetable has them after its
+    picture."""
     tables = []
     for line in lines:
         if line.startswith("Period ") and line[7].isdigit():
             tables.append([line.split()[1]])
-        elif line.startswith("Hall ") and line[5].isdigit():
+        elif tables and line.startswith("Hall ") and line[5].isdigit():
             tables[-1].append(line)
     return tables
 

@@ -157,6 +157,7 @@ function dateFormat(options) {
 // The office's days and times have no time zone, so they are shown unchanged.
 const longDay = dateFormat({ dateStyle: 'full', timeZone: 'UTC' });
 const shortDay = dateFormat({ weekday: 'short', day: 'numeric', month: 'short', timeZone: 'UTC' });
+const weekday = dateFormat({ weekday: 'short', timeZone: 'UTC' });
 const shortTime = dateFormat({ timeStyle: 'short', timeZone: 'UTC' });
 const now = dateFormat({ dateStyle: 'long', timeStyle: 'short' });
 
@@ -166,6 +167,7 @@ function timeElement(format, value, moment) {
 
 export const day = (date) => timeElement(longDay, date, new Date(`${date}T00:00:00Z`));
 export const dayInShort = (date) => timeElement(shortDay, date, new Date(`${date}T00:00:00Z`));
+export const shortWeekday = (date) => weekday(new Date(`${date}T00:00:00Z`));
 export const time = (start) => timeElement(shortTime, start, new Date(`2000-01-01T${start}Z`));
 
 /** The time n minutes after a start. */

@@ -15,7 +15,8 @@ import { readService } from './service.js';
 import { setUpSessionForm } from './loading.js';
 import { showSection, wanted } from './sections.js';
 import { office } from './state.js';
-import { reread, showExam, showTimetable } from './timetable.js';
+import { setUpPaper } from './paper.js';
+import { reread, setUpPictures, showTimetable } from './timetable.js';
 
 /** Reads everything, and shows the section that was shown. Returns how much there is, in words. */
 async function load() {
@@ -32,7 +33,6 @@ async function load() {
   const open = office.timetables.find(({ name }) => name === timetable);
   if (open) showTimetable(open);
   showSection(section);
-  if (section === 'timetable' && exam !== null) showExam(exam);
   showSeats(office);
   byId('session').hidden = office.session !== null;
   showDraftForm();
@@ -62,13 +62,13 @@ function follow() {
   const isRead = timetable !== office.open || (section === 'conflicts' && section !== office.section);
   showProgress(`Opening ${timetable ?? section} …`, async () => {
     const found = isRead && open ? await (open.number ? rereadDraft(open.number) : rereadPublished()) : open;
-    Object.assign(office, { section, exam });
-    if (found) showTimetable(found);
+    Object.assign(office, { section, exam, open: found?.name ?? null });
     const heading = showSection(section);
-    if (section === 'timetable' && exam !== null) showExam(exam);
     if (section === 'history') await showHistory();
     window.scrollTo(0, 0);
     heading.focus();
+    // It puts the focus on the exam, if the address names one.
+    if (found) showTimetable(found);
     return isRead ? `${timetable} is shown.` : office.summary;
   });
 }
@@ -80,6 +80,8 @@ setUpDraftForm(load);
 setUpOwnersForm();
 setUpHistory(load);
 setUpSeats(office, readSession);
+setUpPictures();
+setUpPaper();
 window.addEventListener('hashchange', follow);
 
 const refresh = () => showProgress('Loading the timetables …', load);

@@ -1,6 +1,7 @@
 // Who sits where: the seat list of the published timetable, searched, compared, downloaded, printed.
 import { csvText } from './csv.js';
 import { fold, studentIdentities } from './identities.js';
+import { daysOfCandidate } from './layout.js';
 import { FormFault, showProgress } from './messages.js';
 import {
   ask, byId, cell, count, dayInShort, download, element, listTable, numeral, rowHead, time,
@@ -124,9 +125,18 @@ const downloadRows = (name, rows) => download(name, 'text/csv', csvText(rows));
 
 const below = (words) => words && element('span', { class: 'below' }, words);
 
-function candidateHead(student, people) {
+function candidateHead(student, people, ...more) {
   const name = people.name(student);
-  return name ? rowHead(name, below(people.id(student))) : rowHead(`Candidate ${student}`);
+  return rowHead(name || `Candidate ${student}`, name && below(people.id(student)), ...more);
+}
+
+/** A candidate's days as a strip: a square for each day of the session, darker the more exams it has. */
+function stripOf(taken, { periods }) {
+  return element('ol', { class: 'strip' }, daysOfCandidate(taken, periods).map(({ date, exams }) => {
+    const words = `${dayInShort(date).textContent}: ${exams ? count(exams, 'exam') : 'no exam'}`;
+    return element('li', { class: `s${Math.min(3, exams)}`, title: words },
+      element('span', { class: 'unseen' }, words));
+  }));
 }
 
 const examCell = (exam, names) => cell(names.exam(exam), below(names.examTitle(exam)));
@@ -138,9 +148,20 @@ function placeCells({ period, room, seat, isEnrolled }, { names, session }) {
     cell(isEnrolled ? `${seat}` : `${seat}, withdrawn`)];
 }
 
-/** Shows a table of these, if there are any; `made` makes the cells of a row after the candidate's. */
-function showFound(caption, heads, found, people, made) {
-  const rows = found.map((one) => [candidateHead(one.student, people), ...made(one)]);
+/**
+ * Shows a table of these, if there are any; `made` makes the cells of a row after the candidate's, and
+ * `more` what comes below a candidate's name.
+ * @param {string} caption
+ * @param {string[]} heads
+ * @param {any[]} found
+ * @param {People} people
+ * @param {(one: any) => HTMLElement[]} made
+ * @param {(student: number) => HTMLElement[]} more
+ */
+function showFound(caption, heads, found, people, made, more = () => []) {
+  const isFirst = (one, place) => found[place - 1]?.student !== one.student;
+  const rows = found.map((one, place) => [candidateHead(one.student, people,
+    ...(isFirst(one, place) ? more(one.student) : [])), ...made(one)]);
   byId('seat-found').replaceChildren(...(found.length
     ? listTable(caption, ['Candidate', ...heads], rows) : []));
 }
@@ -151,7 +172,9 @@ function showCandidates(seats, office, people) {
   const found = examsOf(new Set(order), seats, office.session)
     .sort((a, b) => places.get(a.student) - places.get(b.student));
   showFound('Seats that were found', ['Exam', 'Period', 'Room', 'Seat'], found, people,
-    (one) => [examCell(one.exam, office.names), ...placeCells(one, office)].flat());
+    (one) => [examCell(one.exam, office.names), ...placeCells(one, office)].flat(),
+    (student) => [stripOf(found.filter((one) => one.student === student && one.period !== null)
+      .map(({ period }) => period), office.session)]);
   const students = new Set(found.map(({ student }) => student)).size;
   return students ? `${count(students, 'candidate')} with ${count(found.length, 'exam')} found.`
     : 'No candidate of this session has this number, ID or name.';

@@ -4,6 +4,7 @@ import { fold } from './identities.js';
 import {
   byId, cell, count, dayInShort, download, element, endTime, listTable, rowHead, time,
 } from './office.js';
+import { addressOf } from './sections.js';
 
 /** Where each exam of a timetable is, by number; null in both if it isn't placed. */
 export function placesOf({ places, uses }, session) {
@@ -74,15 +75,20 @@ function compare(timetable, office) {
       ['Exam', timetable.name, other.name], rows) : []));
 }
 
-export function showComparison(timetable, office) {
+/** Offers the other timetables to compare with; `showPictures` draws the one that is chosen. */
+export function showComparison(timetable, office, showPictures) {
   const others = office.timetables.filter(({ name }) => name !== timetable.name);
   const chosen = byId('compare').value;
   byId('compare').replaceChildren(element('option', { value: '' }, 'none'),
     ...others.map(({ name }) => element('option', { value: name }, name)));
   byId('compare').value = others.some(({ name }) => name === chosen) ? chosen : '';
-  byId('compare').onchange = () => compare(timetable, office);
+  const show = () => {
+    compare(timetable, office);
+    showPictures();
+  };
+  byId('compare').onchange = show;
   byId('comparison').hidden = !others.length;
-  compare(timetable, office);
+  show();
 }
 
 // ---- What is looked for
@@ -111,8 +117,8 @@ function find(timetable, { names, session }) {
   }
   const found = examsWith(words, placesOf(timetable, session), names);
   const rows = found.map(({ exam, period, room }) => [
-    rowHead(names.exam(exam), names.examTitle(exam)
-      && element('span', { class: 'below' }, names.examTitle(exam))),
+    rowHead(element('a', { href: addressOf('timetable', timetable.name, exam) }, names.exam(exam)),
+      names.examTitle(exam) && element('span', { class: 'below' }, names.examTitle(exam))),
     cell(names.department(exam) ?? ''), cell(count(session.candidates[exam].length, 'candidate')),
     period === null ? cell('not placed') : cell(dayInShort(session.periods[period].date), ', ',
       time(session.periods[period].start)),

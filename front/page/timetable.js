@@ -1,13 +1,16 @@
-// The timetable that is open: what it breaks, its rooms by period, its files.
-import {
-  byId, columnHead, count, dayInShort, element, row, rowHead, small, time, unseen,
-} from './office.js';
-import { showConflicts } from './conflictlist.js';
+// The timetable that is open, as a picture: its cells, what is in them, and another one beside it.
+import { findingsOf, showConflicts } from './conflictlist.js';
+import { histogramOf } from './histogram.js';
+import { differingPlaces, loadOf, roomsInOrder, usesByPlace } from './layout.js';
+import { byId, count, dayInShort, element, numeral, time } from './office.js';
 import { showOverview } from './overview.js';
+import { focusPlace, pictureOf } from './picture.js';
+import { placesIn } from './preview.js';
 import { isPublishable } from './publish.js';
 import { rereadDraft } from './reading.js';
+import { addressOf } from './sections.js';
 import { usesOf } from './session.js';
-import { office } from './state.js';
+import { office, openTimetable } from './state.js';
 import { showComparison, showDownloads, showFinder } from './tables.js';
 
 /** Reads a draft again, and shows it in its card, and below if it is open. */
@@ -18,65 +21,100 @@ export async function reread(number) {
   return found;
 }
 
+/**
+ * The rooms in use in a timetable.
+ * @param {import('./state.js').Timetable} timetable
+ */
+const usesIn = (timetable) => (timetable.number ? usesOf(timetable.places, office.session)
+  : timetable.uses ?? []);
+
+/** The timetable that the open one is compared with, or null. */
+const compared = () => office.timetables.find(({ name }) => name === byId('compare').value) ?? null;
+
 /** Shows a timetable, which is open from then on. */
 export function showTimetable(timetable) {
-  const { name, places, uses, number } = timetable;
+  const { name, number } = timetable;
   office.open = name;
   showOverview();
   byId('timetable-title').textContent = name;
   byId('publish').hidden = !number;
   byId('drop').hidden = !number;
   byId('publish').disabled = !isPublishable(timetable);
-  showGrid(uses ?? usesOf(places, office.session), name);
   showDownloads(timetable, office);
-  showComparison(timetable, office);
+  showComparison(timetable, office, showPictures);
   showFinder(timetable, office);
   showConflicts(office.section === 'conflicts' ? office.exam : null);
 }
 
-/** Finds an exam of the open timetable. */
-export function showExam(exam) {
-  byId('find').value = office.names.exam(exam);
-  byId('find').oninput();
-}
+// ---- Pictures
 
-// On paper each row is a table of its own, with a line for each room: style.css.
-function showGrid(uses, name) {
+const order = () => {
+  const { session, names } = office;
+  return roomsInOrder(byId('room-order').value, session?.capacities ?? [], (room) => names.building(room));
+};
+
+/** Shows the pictures of the open timetable and of the one that it is compared with, in their section. */
+export function showPictures() {
+  const open = openTimetable();
   const { session } = office;
-  if (!session) return;
-  const at = new Map(uses.map((use) => [`${use.period} ${use.room}`, use]));
-  const rooms = [...session.capacities.keys()];
-  const body = session.periods.map((when, period) => row(periodHead(period, when),
-    rooms.map((room) => roomCell(room, at.get(`${period} ${room}`)))));
-  byId('grid').style.setProperty('--rooms', rooms.length);
-  byId('grid').replaceChildren(unseen('caption', `Exams of ${name} by period and room`),
-    element('thead', {}, row(columnHead('Period'), rooms.map((room) => roomHead(room, session)))),
-    element('tbody', {}, body));
+  if (!open || !session || office.section !== 'timetable') return;
+  const other = compared();
+  const shown = other ? [open, other] : [open];
+  const uses = shown.map(usesIn);
+  const most = Math.max(...uses.flatMap((those) => loadOf(those, session.periods.length)));
+  const differing = other ? differingPlaces(uses[0], uses[1]) : null;
+  const rooms = order();
+  byId('pictures').replaceChildren(...shown.map((timetable, place) => element('div', {}, pictureOf({
+    name: timetable.name, uses: uses[place], rooms, most, differing,
+    open: (period, room, isEntered) => showCell(timetable, { period, room }, isEntered) }))));
+  byId('gaps').replaceChildren(...histogramOf(shown));
+  showCell(open, { period: 0, room: rooms[0] }, false);
+  if (office.section === 'timetable' && office.exam !== null) showExam(office.exam);
 }
 
-function roomHead(room, session) {
-  const { names } = office;
-  return columnHead(names.room(room), names.building(room) && small(names.building(room)),
-    small(count(session.capacities[room], 'seat')));
+// ---- What is in a cell
+
+function examItem(exam, timetable, chosen) {
+  const { names, session } = office;
+  const conflicts = findingsOf(timetable).filter(({ exams }) => exams.includes(exam)).length;
+  return element('li', { class: exam === chosen ? 'chosen' : null }, element('b', {}, names.exam(exam)), ' ',
+    names.examTitle(exam), element('span', { class: 'below' },
+      `${count(session?.candidates[exam].length ?? 0, 'candidate')}, ${session?.minutes[exam]} minutes`),
+    conflicts > 0 && element('a', { href: addressOf('conflicts', timetable.name, exam) },
+      count(conflicts, 'conflict')));
 }
 
-function periodHead(period, when) {
-  return rowHead(`Period ${period}`, small(dayInShort(when.date), ', ', time(when.start)));
+/** Shows what is in a room and period, with the chosen exam marked. */
+function showCell(timetable, place, isEntered, chosen = null) {
+  const { names, session } = office;
+  const when = session?.periods[place.period];
+  const use = usesByPlace(usesIn(timetable)).get(`${place.period} ${place.room}`);
+  const capacity = session?.capacities[place.room] ?? 0;
+  byId('cell').replaceChildren(
+    element('h3', { id: 'cell-title', tabindex: -1 }, names.roomInBuilding(place.room)),
+    element('p', {}, ...(when ? [dayInShort(when.date), ', ', time(when.start), ', '] : []), timetable.name),
+    element('p', { class: use && use.used > capacity ? 'verdict broken' : 'quiet' },
+      `${numeral(use?.used ?? 0)} of ${count(capacity, 'seat')} taken`),
+    element('ul', { class: 'exams-there' }, (use?.exams ?? []).map(
+      (exam) => examItem(exam, timetable, chosen))),
+    element('p', { class: 'quiet' }, 'The mouse or the arrow keys choose a cell; Enter comes here.'));
+  if (isEntered) byId('cell-title').focus();
 }
 
-function examNames(exams) {
-  const { names } = office;
-  if (!names.labels) {
-    return [element('b', {}, `${exams.length > 1 ? 'Exams' : 'Exam'} ${exams.join(', ')}`)];
+/** Shows where an exam of the open timetable is, and puts the focus there. */
+export function showExam(exam) {
+  const timetable = openTimetable();
+  const place = timetable && placesIn(timetable).get(exam);
+  if (!place) {
+    byId('cell').replaceChildren(element('h3', { id: 'cell-title', tabindex: -1 }, office.names.exam(exam)),
+      element('p', {}, 'Not placed'));
+    return;
   }
-  return exams.map((exam) => element('div', {}, element('b', {}, names.exam(exam)), ' ',
-    names.examTitle(exam)));
+  focusPlace(byId('pictures').querySelector('table'), order(), place);
+  showCell(timetable, place, false, exam);
 }
 
-function roomCell(room, use) {
-  const attributes = { 'data-room': office.names.roomInBuilding(room) };
-  if (!use) return element('td', attributes);
-  const { exams, used, capacity } = use;
-  return element('td', { ...attributes, class: used > capacity ? 'over' : null },
-    element('div', {}, examNames(exams)), small(`${used} of ${capacity}`));
+/** Sets up the lists above the pictures. */
+export function setUpPictures() {
+  byId('room-order').addEventListener('change', showPictures);
 }
