@@ -60,8 +60,12 @@ const batchOf = (text, names = KNOWN) => {
   const { isList, changes, faults } = linesIn(text, names, SESSION);
   return faults.length ? faults : [isList, ...batchTexts(changes)];
 };
+const wholeOf = (text, names = KNOWN) => {
+  const { isList, changes, faults } = linesIn(text, names, SESSION, { isWhole: true });
+  return faults.length ? faults : [isList, ...batchTexts(changes)];
+};
 const withNew = (text) => {
-  const { changes, fresh, faults } = linesIn(text, KNOWN, SESSION, true);
+  const { changes, fresh, faults } = linesIn(text, KNOWN, SESSION, { takesNew: true });
   return faults.length ? faults : [batchTexts(changes)[0], fresh];
 };
 const HEADER = 'student,exam,action\n';
@@ -106,6 +110,12 @@ cases('CSV texts of spreadsheets become batches', [
     () => batchOf('Student ID;Course code\ns12;MATH101\ns3;PHYS102\n')],
   ['a list without names', ['Line 1: there is no column for action. A full list of enrolments has '
     + 'none, but needs the names of this session'], () => batchOf('student,exam\n1,0', new Names())],
+  ['a list with a column of states', [true, `${HEADER}12,0,add\n`],
+    () => wholeOf('student,exam,status\ns12,MATH101,Enrolled\ns3,PHYS102,withdrawn\n')],
+  ['a list with a state that is unknown', ['Line 2: unknown status active; enrolled or withdrawn is expected'],
+    () => wholeOf('student,exam,status\ns12,MATH101,active\n')],
+  ['a list with states, without names', ['A full list needs the names of this session'],
+    () => wholeOf(`${HEADER}1,0,add\n`, new Names())],
   ['no column', ['Line 1: there is no column for exam (there are: student, action)'],
     () => batchOf('student,action\n1,add')],
   ['no line', ['There is no line after the first'], () => batchOf(HEADER)],

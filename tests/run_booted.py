@@ -128,7 +128,7 @@ def who_reaches_it(judged, machine):
     judged.judge("the office's port, from elsewhere", "000", machine.types(port))
     queue = f"{ask} --unix-socket /run/examoffice-queue/term.sock http://office/publication"
     agent = f"{ask} --unix-socket /run/examoffice-agent/agent.sock http://office/-/sign-in"
-    registry = (f"{ask} --unix-socket /run/examoffice-registry/registry.sock"
+    registry = (f"{ask} -H 'X-Session: term' --unix-socket /run/examoffice-registry/registry.sock"
                 " http://office/-/registry/about")
     for user, codes in (("www-data", "200\n000\n200"), ("nobody", "000\n000\n000"),
                         ("examoffice-agent", "000\n200\n000"),

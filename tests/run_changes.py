@@ -131,6 +131,10 @@ LISTS = [
      (0, counts(1, 1, 1), "")),
     ("a new student, and one dropped", SMALL.replace(ADAS, ZOE), ("--many",),
      (0, counts(1, 1, 1) + did(1, 1), "")),
+    ("a list with states", "student,name,exam,status\n" + "".join(
+        f"{line},{'withdrawn' if line.startswith('s1,') and 'PHYS102' in line else 'enrolled'}\n"
+        for line in (SMALL + ZOE).splitlines()[1:] if line), ("--list", "--show"),
+     (0, counts(0, 0), "")),
     ("the same file again", SMALL.replace(ADAS, ZOE), (), (0, counts(0, 0), "")),
     ("faults", "student,exam\ns1,MATH1O1\ns2,\n", (), (1, "", (
         "changes.csv, line 2, exam: MATH1O1: no such exam. MATH101 is Calculus\n"

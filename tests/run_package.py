@@ -136,7 +136,7 @@ def of_the_package(judged, folder):
 
 def of_the_front(judged, root):
     front = root / "usr/share/examoffice/front"
-    names = "callers", "labels", "local.conf", "sessions.conf", "users"
+    names = "callers", "labels", "local.conf", "programs", "sessions.conf", "users"
     judged.judge("what an operator changes", {
         "run": "/var/lib/examoffice-front",
         **{name: f"/etc/examoffice/front/{name}" for name in names}},

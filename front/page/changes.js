@@ -106,6 +106,15 @@ class Reader {
     return { student: null, exam: null, action: 'add' };
   }
 
+  /** Whether a line of a full list is an enrolment: all are, but those whose status says that they ended. */
+  isEnrolled(record) {
+    if (this.columns.action < 0) return true;
+    const word = record.fields[this.columns.action] ?? '';
+    const kind = Object.keys(ACTIONS).find((name) => ACTIONS[name].includes(word.toLowerCase()));
+    if (!kind) this.fault(record.line, `unknown status ${word}; enrolled or withdrawn is expected`);
+    return kind === 'add' || kind === 'new';
+  }
+
   /** A line of a full list. */
   listed(record) {
     const student = this.takesNew && this.isNew(record) ? this.newStudent(record) : this.student(record);
@@ -122,9 +131,10 @@ function haveOneWord(one, other) {
 
 /**
  * Returns what a CSV text says, and what is wrong with its lines: changes, or without a column of
- * actions a full list of all enrolments. New students are taken if the registry's service can add them.
+ * actions a full list of all enrolments, and so if the reader says that it is one. New students are taken
+ * if the registry's service can add them.
  */
-export function linesIn(text, names, session, takesNew = false) {
+export function linesIn(text, names, session, { takesNew = false, isWhole = false } = {}) {
   const [header, ...records] = recordsOf(text);
   const columns = columnsOf(header?.fields ?? [], COLUMNS);
   for (const [kind, words] of Object.entries(NUMBERED)) {
@@ -132,7 +142,7 @@ export function linesIn(text, names, session, takesNew = false) {
   }
   const missing = ['student', 'exam'].filter((kind) => (
     columns[kind] < 0 && columns[`office ${kind}`] < 0));
-  const isList = columns.action < 0;
+  const isList = isWhole || columns.action < 0;
   if (missing.length) {
     const there = (header?.fields ?? []).filter(Boolean).join(', ');
     return { isList, changes: [], fresh: [], faults: [`Line 1: there is no column for ${
@@ -143,10 +153,11 @@ export function linesIn(text, names, session, takesNew = false) {
   const refused = (fault) => ({ isList, changes: [], fresh: [], faults: [fault] });
   if (!records.length) return refused('There is no line after the first');
   if (isList && !names.students.length) {
-    return refused('Line 1: there is no column for action. A full list of enrolments has none, but '
-      + 'needs the names of this session');
+    return refused(columns.action < 0 ? 'Line 1: there is no column for action. A full list of enrolments '
+      + 'has none, but needs the names of this session' : 'A full list needs the names of this session');
   }
-  const changes = records.map((record) => (isList ? reader.listed(record) : reader.change(record)));
+  const changes = records.filter((record) => !isList || reader.isEnrolled(record))
+    .map((record) => (isList ? reader.listed(record) : reader.change(record)));
   return { isList, changes: changes.filter(({ exam }) => exam !== null), fresh: [...reader.fresh.values()],
     faults: reader.faults };
 }

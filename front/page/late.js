@@ -62,7 +62,7 @@ async function givenLines() {
 /** What lines would do, if they have no fault, and the bodies of their batches. */
 function checkedLines({ file, text }) {
   const { isList, changes: listed, fresh, faults } = linesIn(text, office.names, office.session,
-    Boolean(office.service));
+    { takesNew: Boolean(office.service), isWhole: byId('batch-whole').checked });
   if (faults.length) {
     throw new FormFault(`Nothing was sent: ${count(faults.length, 'fault')}.`, fieldOfLines(),
       faultList(faults));

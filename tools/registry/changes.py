@@ -252,10 +252,23 @@ class Reader:
         return student
 
 
+def action_of(row: Row) -> str | None:
+    """What a line's action or status means; of a line without one, that the student is enrolled."""
+    word = row.one_line("action").casefold()
+    action = next((name for name, words in ACTIONS.items() if word in words),
+                  None if "action" in row.fields else "add")
+    if action is None:
+        row.fault("action", f"{word!r} is no action; add, drop or new is expected")
+    return action
+
+
 def listed_pairs(rows: list[Row], reader: Reader) -> tuple[set[Pair], set[tuple[str, int]]]:
-    """The enrolments of a full list: of students with numbers, and of new ones by their IDs."""
+    """The enrolments of a full list: of students with numbers, and of new ones by their IDs. Lines
+    whose status says that they ended are none."""
     known, new = set(), set()
     for row in rows:
+        if action_of(row) == "drop":
+            continue
         exam = reader.exam(row)
         if exam is None:
             continue
@@ -284,13 +297,12 @@ def changes_in(rows: list[Row], reader: Reader) -> list[tuple[str, int | None, s
     """The changes of lines, with students by ID; a new student may have no exam."""
     changes: list[tuple[str, int | None, str]] = []
     for row in rows:
-        word = row.one_line("action").casefold()
-        action = next((name for name, words in ACTIONS.items() if word in words), None)
+        action = action_of(row)
         student = reader.students.text(row.one_line("student"))
         exam = reader.exam(row) if row.get("exam") or action != "new" else None
         if action is None:
-            row.fault("action", f"{word!r} is no action; add, drop or new is expected")
-        elif action == "new":
+            continue
+        if action == "new":
             if student is not None:
                 row.fault("student", f"{student} is {reader.names[student]} already")
             changes.append((reader.add_new(row), exam, "add"))
