@@ -198,9 +198,10 @@ def removal(judged, machine):
     judged.judge("removed", ["inactive"] * 3, machine.types(
         f"systemctl is-active {' '.join(UNITS)}").split())
     machine.types("dpkg -P examoffice")
-    kept = "/etc/examoffice/ship\n/etc/examoffice/term.env\nterm.db\n0"
+    kept = "/etc/examoffice/ship\n/etc/examoffice/term.env\nterm.db\nnames\n0"
     judged.judge("purged", kept, machine.types(
         "find /etc/examoffice -type f | grep -v dpkg-old | sort; ls /var/lib/examoffice | grep db$"
+        "\nls /var/lib/examoffice-registry/term/now | grep names"
         "\nfind /etc/systemd/system -name 'examoffice*' | wc -l"))
 
 
@@ -209,8 +210,10 @@ def anew(judged, machine):
     judged.judge("where the password is", True, "/etc/examoffice/registry-password" in said)
     judged.judge("who may read it", "600 root\n640 examoffice-agent", machine.types(
         f"stat -c '%a %U' /etc/examoffice/registry-password; stat -c '%a %G' {FRONT}/users"))
-    judged.judge("a new installation", "total 37", wait(machine, ASK.format(
-        "registry", "$(cat /etc/examoffice/registry-password)", 8000), "total 37"))
+    # Candidate 3, who is new in exam 0, has exams in periods 0, 1 and 3 now: 7 for two in a row,
+    # and 2 for the spread.
+    judged.judge("a new installation", "total 46", wait(machine, ASK.format(
+        "registry", "$(cat /etc/examoffice/registry-password)", 8000), "total 46"))
     judged.judge("signing in on the page", "303\n200", machine.types(
         "curl -s -o /dev/null -w '%{http_code}\\n' -c /jar http://127.0.0.1:8000/-/sign-in"
         " -d user=registry --data-urlencode password=$(cat /etc/examoffice/registry-password)\n"
