@@ -67,6 +67,12 @@ def set_up(run, times):
     return office, folder, json.loads((made / "now" / "labels.json").read_text())
 
 
+def go_to(reader, section):
+    """Opens a section of the registry's page."""
+    reader.click(f"#menu [data-to={section}] a")
+    is_read(reader)
+
+
 def registrys_week(run, times, chromium, front, labels):
     """From a draft to a published timetable, on paper, to late changes."""
     with times.of("a draft of the timetable"):
@@ -99,6 +105,7 @@ def registrys_week(run, times, chromium, front, labels):
                       {sum(line.strip().startswith(word) for line in printed.splitlines())
                        for word in words})
         seat_lists(run, times, reader, front, labels)
+        go_to(reader, "late-changes")
         late = "\n".join(["Student ID;Exam code;Action",
                           *(f"{user};MATH101;enrol" for user in CANDIDATES)])
         reader.run("document.querySelector('#batch-lines').value = arguments[0]", late)
@@ -122,6 +129,14 @@ def seat_lists(run, times, reader, front, labels):
     seats = [line.split(",") for line in front.told(ask("registry", "GET", "/publication/seats"))[1]
              .decode().splitlines()[1:]]
     student = students[int(seats[0][0])]
+    with times.of("the conflicts of the publication"):
+        go_to(reader, "conflicts")
+    run.judge("a list of conflicts", True, bool(reader.text("#conflict-count")))
+    with times.of("its picture"):
+        go_to(reader, "timetable")
+    run.judge("cells of the picture", len(labels["rooms"]) * len(labels["periods"]),
+              len(reader.texts("#pictures tbody td")))
+    go_to(reader, "seats")
     reader.run("document.querySelector('#seat-words').value = arguments[0]", student["id"])
     with times.of("find a candidate's seats"):
         reader.click("#seat-find button")

@@ -118,5 +118,6 @@ export function pictureOf(picture) {
   return table;
 }
 
-/** Puts the focus on a room and period of a picture. */
-export const focusPlace = (table, rooms, { period, room }) => focusCell(table, [rooms.indexOf(room), period]);
+/** Makes a room and period the tab stop of a picture, and puts the focus there if it may. */
+export const focusPlace = (table, rooms, { period, room }, isFocused) => (
+  focusCell(table, [rooms.indexOf(room), period], isFocused));

@@ -29,10 +29,10 @@ async function load() {
   const drafts = text ? await readDrafts() : [];
   office.timetables = [...(published ? [published] : []), ...drafts];
   const { section, timetable, exam } = wanted();
-  Object.assign(office, { section, exam });
   const open = office.timetables.find(({ name }) => name === timetable);
-  if (open) showTimetable(open);
+  Object.assign(office, { section, exam, open: open?.name ?? null });
   showSection(section);
+  if (open) showTimetable(open);
   showSeats(office);
   byId('session').hidden = office.session !== null;
   showDraftForm();

@@ -101,8 +101,12 @@ function showCell(timetable, place, isEntered, chosen = null) {
   if (isEntered) byId('cell-title').focus();
 }
 
-/** Shows where an exam of the open timetable is, and puts the focus there. */
-export function showExam(exam) {
+/** Whether the focus may move: it is nowhere, or on a heading. */
+const isFree = () => document.activeElement === document.body
+  || Boolean(document.activeElement?.matches('h2, #cell h3, .picture td'));
+
+/** Shows where an exam of the open timetable is, and puts the focus there if nothing else has it. */
+function showExam(exam) {
   const timetable = openTimetable();
   const place = timetable && placesIn(timetable).get(exam);
   if (!place) {
@@ -110,7 +114,7 @@ export function showExam(exam) {
       element('p', {}, 'Not placed'));
     return;
   }
-  focusPlace(byId('pictures').querySelector('table'), order(), place);
+  focusPlace(byId('pictures').querySelector('table'), order(), place, isFree());
   showCell(timetable, place, false, exam);
 }
 
