@@ -113,7 +113,7 @@ def asked(client, method, path, body=None):
 
 def strangers(run, stack):
     """Only the office reaches the service, and only the front's own pages."""
-    before = stack.service.socket.stat().st_ino
+    before = stack.service.socket.stat().st_ctime_ns
     people = {"somebody who isn't signed in": Client(stack.front),
               **{user: signed_in(stack, user) for user in ("ada", "physics", "nobody")}}
     questions = (("GET", "about"), ("GET", "batches"), ("PUT", "batches/1"), ("POST", "students"),
@@ -131,7 +131,7 @@ def strangers(run, stack):
         office.ask("GET", f"/-/registry/{path}")[::2] for path in ("about", "batches")))
     stack.service.start()
     run.judge("the service", (True, (200, {"ledger": True})), (
-        before != stack.service.socket.stat().st_ino, asked(office, "GET", "about")))
+        before < stack.service.socket.stat().st_ctime_ns, asked(office, "GET", "about")))
     run.judge("another site's page", told_error(403, "forbidden", rule="origin"), office.ask(
         "PUT", "/-/registry/batches/1", b"", Origin="https://elsewhere.example")[::2])
     run.judge("the names of its sessions, for others", (200, 401), tuple(
