@@ -383,6 +383,8 @@ def in_browser(run, chromium, make_front):
     stack = Stack(run, make_front, "registry_page")
     try:
         office = published_first(run, stack)
+        # A look that fails is tried again after ten seconds.
+        kept(run, stack, office, "the first is kept before the next is made", FIRST)
         chromium.go(f"http://{chromium.new_host()}:{stack.front.port}/-/sign-in?to=/registry.html")
         chromium.types("[name=user]", "registry")
         chromium.types("[name=password]", "try-registry")
