@@ -2,8 +2,8 @@
 """The wrong bodies that the gate does not try each time: crates/*/wrong-bodies/*.edit.
 
     python3 tests/wrong_bodies.py try [CRATE..]
-        tries those of these crates, or of all, that were not refused with these sources before, or
-        are due
+        tries those of these crates, or of all, that were not refused before with what decides
+        them, or are due
     python3 tests/wrong_bodies.py current
         lists those that have to be tried, and counts those that are due
 
@@ -15,12 +15,12 @@ this function calls another that is not proved doesn't count. What is not refuse
 alone, and is refused if a goal of any function stays open, that of a caller, say; the rest is left
 to `rt must-fail`. All checks of a crate, and crates, run side by side.
 
-wrong-bodies/TRIED is one line: a hash of the crate's sources, a hash of what its proofs read of
-others (the public contracts and the definitions of the crates below, and the kit), and a hash of
-each edit that was refused with them, its two head lines left out. So an edit that is added or
-changed is tried by itself. A change of the crate's sources makes all its edits to be tried again,
-and `current` fails until they are. A change below makes them due: `current` counts them, because
-its crate is proved again anyway; there are none when a version is cut. Those in
+wrong-bodies/TRIED is one line, with two hashes for each edit that was refused: one of the edit, its
+two head lines left out, and of what decides it in its own crate (tests/meaning.py: its functions,
+the contracts and definitions that they name, and so on down; the whole crate for an edit outside of
+functions), and one of what decides it in the crates below, and of the kit. An edit whose first hash
+isn't there has to be tried, and `current` fails until it was refused. If only the second is
+another, it is due: `current` counts it; there are none when a version is cut. Those in
 wrong-bodies/waiting/ are new, or were refused with earlier sources, and wait for a longer run:
 `current` counts them, and `try` takes them back."""
 import hashlib
@@ -34,18 +34,16 @@ import time
 from concurrent.futures import ThreadPoolExecutor
 from contextlib import contextmanager
 from functools import cache
-from importlib.machinery import SourceFileLoader
 from pathlib import Path
 from queue import Empty, SimpleQueue
 
 from cases import Cases
+from meaning import deciding, index_of, items_of, seeds_of
 
 ROOT = Path(__file__).resolve().parent.parent
 SOURCES = ("src", "specs", "proofs")
 # the head lines of an edit: they say what it is about, and change nothing
 HEADS = ("# idea: ", "# refused by: ")
-# what a comment begins with
-COMMENT = {".rt": b"//", ".antt": b"--", ".edit": tuple(head.encode() for head in HEADS)}
 # what a check keeps for the next one
 KEPT = "out/incremental"
 # what one check may take, in bytes
@@ -104,6 +102,7 @@ def try_all(names):
     begun = time.monotonic()
     for name in names:
         take_back(name)
+    forget()
     names = [name for name in names if wanted_of(name)]
     wanted = sum(len(wanted_of(name)) for name in names)
     if not are_proved(names):
@@ -158,11 +157,11 @@ def try_crate(name, checks):
 
 def keep(name, before, refused):
     """Notes the edits that were refused, if nothing that they were tried with has changed since."""
-    own, below, edits = hashes(name)
-    noted = tried(name)[2] if tried(name)[:2] == (own, below) else set()
-    noted |= {before[2][at] for at in refused if before[:2] == (own, below) and at in before[2]}
-    kept = [value for value in edits.values() if value in noted]
-    mark(name).write_text(" ".join([own, below, *kept]) + "\n")
+    forget()
+    now, noted = hashes(name), tried(name)
+    noted.update(now[at] for at in refused if now.get(at) == before.get(at))
+    mark(name).write_text(" ".join(f"{own}-{noted[own]}" for own, _ in now.values()
+                                   if own in noted) + "\n")
 
 
 class Copies:
@@ -326,18 +325,17 @@ def edits_of(name):
 
 
 def untried(name):
-    """The edits of a crate that were not refused with the crate's sources as they are."""
-    own, _, edits = hashes(name)
-    noted = tried(name)
-    return [at for at in edits_of(name) if own != noted[0] or edits[at.name] not in noted[2]]
+    """The edits of a crate that were not refused with what decides them in the crate."""
+    noted, found = tried(name), hashes(name)
+    return [at for at in edits_of(name) if found[at.name][0] not in noted]
 
 
 def due(name):
-    """The edits of a crate that were refused with its sources, but before a crate below changed."""
-    if hashes(name)[1] == tried(name)[1]:
-        return []
-    late = untried(name)
-    return [at for at in edits_of(name) if at not in late]
+    """The edits of a crate that were refused, but before what decides them in a crate below
+    changed."""
+    noted, found = tried(name), hashes(name)
+    return [at for at in edits_of(name)
+            if noted.get(found[at.name][0], found[at.name][1]) != found[at.name][1]]
 
 
 def wanted_of(name):
@@ -378,36 +376,25 @@ def files_of(name):
     return sorted(at for part in SOURCES for at in (crate / part).rglob("*") if at.is_file())
 
 
+@cache
 def hashes(name):
-    """A hash of a crate's sources, one of what its proofs read of others, and that of each edit by
-    its file's name."""
-    edits = {at.name: hash_of([at])[:12] for at in edits_of(name)}
-    return hash_of(files_of(name))[:16], below_of(name), edits
+    """For each edit by its file's name a hash of it and of what decides it in its crate, and one of
+    what decides it below."""
+    return {at.name: hashes_of(name, at) for at in edits_of(name)}
 
 
-@cache
-def below_of(name):
-    """A hash of the public contracts and the definitions of the crates below, and of the kit."""
+def forget():
+    """What is read of the sources from now on is read anew."""
+    for read in (hashes, items_of, index_of):
+        read.cache_clear()
+
+
+def hashes_of(name, at):
+    edit = Edit(name, at)
+    seeds = seeds_of(name, edit.functions, [old for _, old, _ in edit.places])
+    own, below = deciding((name, *sorted(crates_below(name))), seeds or set(items_of(name)))
     kit = (ROOT / "release" / "KIT").read_text()
-    contracts = "".join(contracts_of(crate) for crate in sorted(crates_below(name)))
-    return hash_of([], kit + contracts)[:16]
-
-
-@cache
-def contracts_of(name):
-    """A crate's public types and calls with their clauses, without comments, and its
-    definitions."""
-    pages = SourceFileLoader("pages", str(ROOT / "pages")).load_module()
-    types, found = pages.public_types(name), []
-    for module in pages.modules_of(name):
-        code = False
-        for line in pages.module_section(name, module, types):
-            code = line == "```text" or code and line != "```"
-            if (code or line.startswith("####")) and not line.lstrip().startswith("//"):
-                found.append(line)
-    folder = ROOT / "crates" / name / "specs"
-    specs = [file for file in files_of(name) if file.is_relative_to(folder)]
-    return hash_of(specs, "\n".join(found))
+    return hash_of([plain_text(at), *own])[:16], hash_of([kit, *below])[:8]
 
 
 def crates_below(name):
@@ -423,20 +410,13 @@ def crates_below(name):
     return found
 
 
-def hash_of(files, begun_with=""):
-    sum_of_all = hashlib.sha256(begun_with.encode())
-    for file in files:
-        text = without_comments(file)
-        sum_of_all.update(f"{file.relative_to(ROOT)} {len(text)}\n".encode())
-        sum_of_all.update(text)
-    return sum_of_all.hexdigest()
+def hash_of(texts):
+    return hashlib.sha256("\0".join(texts).encode()).hexdigest()
 
 
-def without_comments(file):
-    """The file without the lines that are comments and nothing else: no proof reads those."""
-    sign = COMMENT.get(file.suffix)
-    lines = file.read_bytes().splitlines(keepends=True)
-    return b"".join(line for line in lines if sign is None or not line.lstrip().startswith(sign))
+def plain_text(at):
+    """An edit without its head lines."""
+    return "\n".join(line for line in at.read_text().splitlines() if not line.startswith(HEADS))
 
 
 def mark(name):
@@ -444,10 +424,9 @@ def mark(name):
 
 
 def tried(name):
-    """The hashes of the crate's sources and of what is below, and those of the edits that were
-    refused with them."""
+    """For each edit that was refused its first hash, and the second one."""
     words = mark(name).read_text().split() if mark(name).is_file() else []
-    return (words[0], words[1], set(words[2:])) if len(words) > 1 else ("", "", set())
+    return dict(word.split("-") for word in words)
 
 
 if __name__ == "__main__":
