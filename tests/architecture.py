@@ -6,13 +6,11 @@ sources, definitions and proofs. The list of the crates has to have the order of
 Prints a line for each failure; status 1 if there is one.
 """
 
-import pathlib
 import re
 import sys
 
 from cases import Cases
-
-TOP = pathlib.Path(__file__).resolve().parent.parent
+from sources import TOP, files_of, listed, without_comments
 
 # Who may know SQL: its grammar and its meaning, and the texts of statements.
 SQL_CRATES = {"office_schema", "office_tables"}
@@ -40,32 +38,15 @@ SAID_SHIFT = ("office_files", "    word << (56 - 8 * count) << 8 ")
 CODE_USE = re.compile(r"^\s*(?:pub(?:\([a-z]+\))?\s+)?use\s+([a-z][a-z0-9_]*)", re.M)
 
 
-def listed():
-    """The crates in their order, each with the libraries on its line."""
-    crates = {}
-    for line in (TOP / "crates.txt").read_text().splitlines():
-        line = line.split("#")[0].strip()
-        if line:
-            name, libraries = line.split(":")
-            crates[name.split()[0]] = set(libraries.split())
-    return crates
-
-
-def sources(crate):
-    """The text of each file of a crate, without comments of code."""
-    for folder in ("src", "specs", "proofs"):
-        for path in sorted((TOP / "crates" / crate / folder).rglob("*")):
-            if path.suffix == ".rt":
-                text = path.read_text()
-                yield path, "\n".join(x.split("//")[0] for x in text.splitlines())
-            elif path.suffix == ".antt":
-                yield path, "\n".join(x.split("--")[0] for x in path.read_text().splitlines())
+def texts_of(crate):
+    """The text of each file of a crate, without comments."""
+    return [(path, without_comments(path)) for path in files_of(crate)]
 
 
 def named(crate, libraries):
     """The libraries that the `use` lines of a crate name, each with a file that does."""
     found = {}
-    for path, text in sources(crate):
+    for path, text in texts_of(crate):
         names = set(GHOST_USE.findall(text))
         if path.suffix == ".rt":
             names |= set(CODE_USE.findall(text))
@@ -77,7 +58,7 @@ def named(crate, libraries):
 
 def lines_with(crate, pattern):
     """The places of a crate's code that hold the pattern."""
-    for path, text in sources(crate):
+    for path, text in texts_of(crate):
         for number, line in enumerate(text.splitlines(), 1):
             if pattern.search(line):
                 yield f"{path.relative_to(TOP)}:{number}"
@@ -143,7 +124,7 @@ def no_arithmetic_wraps(crates, knows):
     """Code has no arithmetic that wraps or drops bits, but for one shift that its contract
     describes."""
     for crate in crates:
-        for path, text in sources(crate):
+        for path, text in texts_of(crate):
             if path.suffix != ".rt":
                 continue
             for number, line in enumerate(text.splitlines(), 1):
@@ -185,7 +166,7 @@ def stands_above(crates):
     """A crate of the repository is listed before those that use it."""
     before = set()
     for crate, libraries in crates.items():
-        for name in sorted((libraries & set(crates)) - before):
+        for name in sorted(set(libraries) & set(crates) - before):
             yield f"crates.txt lists {crate} before {name}, which it uses"
         before.add(crate)
 

@@ -7,27 +7,24 @@ may stand for anything of that name. So this may find too much, but not too litt
 import re
 from collections import defaultdict
 from functools import cache, cached_property
-from pathlib import Path
 
-ROOT = Path(__file__).resolve().parent.parent
+from sources import TOP, code_lines, definitions, files_of, items
+
 NAME = re.compile(r"(\.|::)?([^\W\d]\w*)")
 WORD = re.compile(r"[^\W\d]\w*")
-FUNCTION = re.compile(r"(?:pub(?:\(\w+\))? )?(?:const )?fn (\w+)")
 IMPORT = re.compile(r"^ *(?:ghost )?(?:pub )?use ([\w.:]+?)(?:(?:\.|::)\{([^}]*)\})?;?$",
                     re.MULTILINE)
-# words before the name of what a definition or an item of the program introduces
-BEFORE = {"pub", "abbrev", "record", "data", "unfoldable", "mod", "crate", "ghost", "const",
-          "static", "struct", "enum", "type", "trait", "infixl", "infixr", "infix", "unsafe"}
 
 
-class Item:
+class Part:
     """A definition, or an item of the program: the names that it introduces; for a method the names
-    of its type and trait; its whole text, and what is seen of it from elsewhere."""
+    of its type and trait; its whole text, and what is seen of it from elsewhere; and whether it has
+    a promise, so that its body isn't seen."""
 
     def __init__(self, file, names, whole, said, imports, owners=(), is_promised=True):
         self.crate, _, _ = file.partition("/")
         self.file, self.names, self.owners = file, set(names), frozenset(owners)
-        self.whole, self.said, self.imports = whole.strip(), said.strip(), imports
+        self.whole, self.said, self.imports = whole, said, imports
         self.is_promised = is_promised
 
     @cached_property
@@ -35,7 +32,7 @@ class Item:
         return self.named_in(self.said)
 
     def named_in(self, text):
-        """What a text of this item names: a crate and a name for each name that is imported, or
+        """What a text of this part names: a crate and a name for each name that is imported, or
         stands in the same file, and a name alone after a dot or two colons."""
         found = set()
         for before, name in NAME.findall(text):
@@ -46,11 +43,57 @@ class Item:
 
 
 @cache
-def items_of(crate):
-    folder = ROOT / "crates" / crate
-    return [item for part, read in (("src", program_items), ("specs", definitions))
-            for file in sorted((folder / part).rglob("*.*")) if file.suffix in (".rt", ".antt")
-            for item in read(f"{crate}/{file.relative_to(folder)}", file.read_text())]
+def parts_of(crate):
+    return [part for path in files_of(crate, ("src", "specs"))
+            for part in parts_in(f"{crate}/{path.relative_to(TOP / 'crates' / crate)}", path)]
+
+
+def parts_in(file, path):
+    text = path.read_text()
+    imports = imports_of(text, file.partition("/")[0])
+    if path.suffix == ".antt":
+        for it in definitions(text):
+            yield Part(file, it.words, it.code, it.code, imports)
+        return
+    for item in items(text.splitlines()):
+        if item.function:
+            yield function_part(file, item, imports)
+        elif item.block[1] in ("impl", "trait"):
+            yield from block_parts(file, item, imports)
+        else:
+            text = plain(item.lines[item.above:item.end])
+            yield Part(file, [item.name], text, text, imports)
+
+
+def block_parts(file, block, imports):
+    """A trait or an impl without its functions, and each of these with it."""
+    functions = block.functions
+    inside = {number for it in functions for number in range(it.at, it.end)}
+    frame = plain(line for number, line in enumerate(block.own_lines, block.at)
+                  if number not in inside)
+    # a parameter of a type has one letter
+    owners = {name for name in WORD.findall(block.head) if len(name) > 1} - {"pub", "crate", "impl",
+                                                                             "trait", "for"}
+    yield Part(file, owners, frame, frame, imports)
+    for it in functions:
+        yield function_part(file, it, imports, frame, owners)
+
+
+def function_part(file, item, imports, frame="", owners=()):
+    contract = plain(item.contract)
+    whole = f"{frame}\n{plain(item.own_lines)}"
+    is_promised = bool(re.search(r"^ *ensures\b", contract, re.MULTILINE))
+    has_body = not item.own_lines[-1].endswith(";")
+    # what implements a trait has the trait's promise
+    return Part(file, [item.name], whole,
+                f"{frame}\n{contract}" if is_promised or not has_body else whole, imports, owners,
+                is_promised or " for " in frame.partition("\n")[0])
+
+
+def plain(lines):
+    """Code without comments and imports."""
+    text = "\n".join(code_lines("\n".join(lines), "//"))
+    return re.sub(r"^ *(?:ghost )?(?:pub )?use [^;]*?;\n", "", text, flags=re.MULTILINE)
 
 
 def imports_of(text, crate):
@@ -66,117 +109,47 @@ def imports_of(text, crate):
     return found
 
 
-def plain_lines(text, sign):
-    """The lines without comments and imports."""
-    text = re.sub(r"^ *(?:ghost )?(?:pub )?use [^;]*?;$", "", text, flags=re.MULTILINE)
-    return [line for line in text.splitlines() if not line.lstrip().startswith(sign)
-            and not re.match(r"use |(?:pub )?mod \w+;?$", line)]
-
-
-def blocks(lines, indent=""):
-    """The lines by what begins at this indentation; attributes belong to what follows them."""
-    found, is_attribute = [], False
-    for line in lines:
-        begins = re.match(indent + r"[^\W\d]|" + indent + "#", line)
-        if begins and not is_attribute:
-            found.append([])
-        if found:
-            found[-1].append(line)
-        is_attribute = bool(begins) and line.startswith(indent + "#")
-    return found
-
-
-def definitions(file, text):
-    imports, name = imports_of(text, file.partition("/")[0]), None
-    for block in blocks(plain_lines(text, "--")):
-        words = [word for word in WORD.findall(block[0]) if word not in BEFORE]
-        name = words[0] if words else name
-        text = "\n".join(block)
-        yield Item(file, {name}, text, text, imports)
-
-
-def program_items(file, text):
-    imports = imports_of(text, file.partition("/")[0])
-    for block in blocks(plain_lines(text, "//")):
-        head = next(line for line in block if not line.startswith("#"))
-        if function := FUNCTION.match(head):
-            yield function_item(file, function[1], block, imports)
-        elif re.match(r"(?:pub(?:\(\w+\))? )?(?:impl|trait)\b", head):
-            yield from members(file, block, imports)
-        else:
-            words = [word for word in WORD.findall(head) if word not in BEFORE]
-            text = "\n".join(block)
-            yield Item(file, set(words[:1]), text, text, imports)
-
-
-def members(file, block, imports):
-    """An impl or a trait without its functions, and each of these with it."""
-    inside = blocks(block[1:], "    ")
-    functions = [(FUNCTION.match(next(line for line in it if "#" not in line[:5]).strip()), it)
-                 for it in inside]
-    frame = block[:1] + [line for function, it in functions if not function for line in it]
-    # a parameter of a type has one letter
-    owners = {name for name in WORD.findall(block[0]) if len(name) > 1} - BEFORE - {"impl", "for"}
-    text = "\n".join(frame)
-    yield Item(file, owners, text, text, imports)
-    for function, it in functions:
-        if function:
-            yield function_item(file, function[1], it, imports, frame, owners)
-
-
-def function_item(file, name, block, imports, frame=(), owners=()):
-    indent = re.match(" *", block[0])[0]
-    end = next((number for number, line in enumerate(block)
-                if line in (indent + "{", indent + "{}")), None)
-    is_promised = end is not None and any("ensures" in line for line in block[:end])
-    whole = "\n".join([*frame, *block])
-    said = "\n".join([*frame, *block[:end]]) if is_promised else whole
-    # what implements a trait has the trait's promise
-    return Item(file, {name}, whole, said, imports, owners,
-                is_promised or bool(frame) and " for " in frame[0])
-
-
 @cache
 def index_of(crates):
-    """The items of crates: by their crate and their names, by their file and their names, and by
+    """The parts of crates: by their crate and their names, by their file and their names, and by
     their names alone. A method is only in the last."""
     found = defaultdict(set)
     for crate in crates:
-        for item in items_of(crate):
-            for name in item.names:
-                for at in (None,) if item.owners else (None, crate, item.file):
-                    found[at, name].add(item)
+        for part in parts_of(crate):
+            for name in part.names:
+                for at in (None,) if part.owners else (None, crate, part.file):
+                    found[at, name].add(part)
     return dict(found)
 
 
 def deciding(crates, seeds):
-    """What decides of functions of the first of these crates, given by their items: the texts of
+    """What decides of functions of the first of these crates, given by their parts: the texts of
     that crate, and those of the others."""
     index = index_of(crates)
     found, names, types, waiting = set(seeds), set(), set(), set()
-    new = set().union(*(item.named_in(item.whole) for item in seeds),
-                      *(path for item in seeds for path in item.imports.values()))
+    new = set().union(*(part.named_in(part.whole) for part in seeds),
+                      *(path for part in seeds for path in part.imports.values()))
     while new:
         names |= new
         types |= {name for _, name in new}
         waiting |= set().union(*(index[it] for it in new if it in index)) - found
-        met = {item for item in waiting if not item.owners or item.owners & types}
+        met = {part for part in waiting if not part.owners or part.owners & types}
         waiting -= met
         found |= met
-        new = set().union(*(item.seen for item in met)) - names
-    texts = {(item.crate == crates[0], item.whole if item in seeds else item.said)
-             for item in found}
+        new = set().union(*(part.seen for part in met)) - names
+    texts = {(part.crate == crates[0], part.whole if part in seeds else part.said)
+             for part in found}
     return (sorted(text for is_own, text in texts if is_own),
             sorted(text for is_own, text in texts if not is_own))
 
 
 def seeds_of(crate, functions, edited):
-    """The items of functions, each given by its file and by its type, if it has one, and its name;
+    """The parts of functions, each given by its file and by its type, if it has one, and its name;
     where nothing is promised of one, or an edited text stands in its contract, with those that may
     call it."""
-    found = {item for file, (owner, name) in functions for item in items_of(crate)
-             if name in item.names and item.file == f"{crate}/{file}"
-             and (owner in item.owners or owner is None)}
-    bare = {name for item in found for name in item.names
-            if not item.is_promised or any(text.strip() in item.said for text in edited)}
-    return found | {item for item in items_of(crate) if bare.intersection(WORD.findall(item.whole))}
+    found = {part for file, (owner, name) in functions for part in parts_of(crate)
+             if name in part.names and part.file == f"{crate}/{file}"
+             and (owner in part.owners or owner is None)}
+    bare = {name for part in found for name in part.names
+            if not part.is_promised or any(text.strip() in part.said for text in edited)}
+    return found | {part for part in parts_of(crate) if bare.intersection(WORD.findall(part.whole))}

@@ -4,17 +4,14 @@
 Each command that a page of docs/ or README.md names is run. Its page has to end with the word that
 was asked for, and may use no word of a page that it prints before that word is defined.
 """
-import pathlib
 import re
 import subprocess
 import sys
 
 from cases import Cases
+from sources import HEAD, TOP
 
-TOP = pathlib.Path(__file__).resolve().parent.parent
 NAMED = re.compile(r"\./words ([a-z_]+) ([^\s`]+)")
-HEAD = re.compile(
-    r"^ *(?:(?:pub|abbrev|unfoldable|opaque|data|record)\s+)+([^\s:(){}]+)(?=[\s:({])")
 
 
 def asked(*words):
@@ -25,7 +22,7 @@ def asked(*words):
 def defined(text):
     """The words that a page defines, in its order."""
     heads = (HEAD.match(line) for line in text.splitlines())
-    return [head[1] for head in heads if head]
+    return [head[2] for head in heads if head]
 
 
 def main():

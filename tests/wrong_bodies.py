@@ -38,10 +38,9 @@ from pathlib import Path
 from queue import Empty, SimpleQueue
 
 from cases import Cases
-from meaning import deciding, index_of, items_of, seeds_of
+from meaning import deciding, index_of, parts_of, seeds_of
+from sources import FOLDERS, TOP, below, files_of, items, listed
 
-ROOT = Path(__file__).resolve().parent.parent
-SOURCES = ("src", "specs", "proofs")
 # the head lines of an edit: they say what it is about, and change nothing
 HEADS = ("# idea: ", "# refused by: ")
 # what a check keeps for the next one
@@ -68,11 +67,11 @@ def main(words):
 
 def crates_with_edits():
     return sorted(at.parent.name
-                  for at in ROOT.glob("crates/*/wrong-bodies") if any(at.rglob("*.edit")))
+                  for at in TOP.glob("crates/*/wrong-bodies") if any(at.rglob("*.edit")))
 
 
 def waiting(name):
-    return sorted((ROOT / "crates" / name / "wrong-bodies" / "waiting").glob("*.edit"))
+    return sorted((TOP / "crates" / name / "wrong-bodies" / "waiting").glob("*.edit"))
 
 
 def take_back(name):
@@ -121,7 +120,7 @@ def try_all(names):
 
 def are_proved(names):
     """Whether the crates are proved as they are: else an edit's refusal would say nothing."""
-    ran = [run(["rt", "check"], ROOT / "crates" / name) for name in upwards(names)]
+    ran = [run(["rt", "check"], TOP / "crates" / name) for name in upwards(names)]
     failed = [it for it in ran if it.returncode]
     print("".join(it.stdout for it in failed), end="")
     return not failed
@@ -129,8 +128,7 @@ def are_proved(names):
 
 def upwards(names):
     """The crates as crates.txt has them, each below those that stand on it."""
-    stand = [line.split(":")[0].strip() for line in (ROOT / "crates.txt").read_text().splitlines()]
-    return sorted(names, key=stand.index)
+    return [name for name in listed() if name in names]
 
 
 def try_crate(name, checks):
@@ -186,7 +184,7 @@ class Copies:
             copy = Path(tempfile.mkdtemp(dir=self.folder.name))
             copy_to(copy)
             crate = copy / "crates" / self.name
-            shutil.copytree(ROOT / "crates" / self.name / KEPT, crate / KEPT)
+            shutil.copytree(TOP / "crates" / self.name / KEPT, crate / KEPT)
             (crate / "must-fail").mkdir()
         yield copy
         self.free.put(copy)
@@ -196,9 +194,9 @@ def copy_to(copy):
     """The repository, with links to the built libraries, whose files are replaced and never
     changed."""
     for name in ("crates.txt", "HANDLES"):
-        shutil.copy(ROOT / name, copy / name)
-    for crate in ROOT.glob("crates/*"):
-        for part in (*SOURCES, "out/rlib"):
+        shutil.copy(TOP / name, copy / name)
+    for crate in TOP.glob("crates/*"):
+        for part in (*FOLDERS, "out/rlib"):
             if (crate / part).is_dir():
                 shutil.copytree(crate / part, copy / "crates" / crate.name / part, symlinks=True,
                                 copy_function=link_or_copy if part == "out/rlib" else shutil.copy2)
@@ -225,14 +223,16 @@ class Edit:
                 self.places.append([file, text])
             elif word == "new":
                 self.places[-1].append(text)
-        inside = {(file, function_of(ROOT / "crates" / crate / file, old))
+        inside = {(file, function_of(TOP / "crates" / crate / file, old))
                   for file, old, _ in self.places}
         self.functions = inside if all(function for _, function in inside) else set()
 
     def put_into(self, crate):
         for file, old, new in self.places:
-            text = (crate / file).read_text()
-            (crate / file).write_text(text.replace(old, new, 1))
+            lines = (crate / file).read_text().splitlines(keepends=True)
+            at = lines_with(old, lines)[0]
+            lines[at] = lines[at].replace(old, new, 1)
+            (crate / file).write_text("".join(lines))
 
     def is_of(self, crate, path):
         """Whether a function's path, as the prover prints it, may be that of one it is in. A method
@@ -250,21 +250,19 @@ class Edit:
 def function_of(file, text):
     """The type, if there is one, and the name of the function in whose body a text stands once."""
     lines = file.read_text().splitlines()
-    found = [number for number, line in enumerate(lines) if text in line]
-    if len(found) != 1:
-        return None
-    owner = None
-    for number, line in enumerate(lines):
-        if opened := re.match(r"impl\b(?:<[^{]*?>)? (?:.* for )?&?(\w+)", line):
-            owner = opened[1]
-        begun = re.match(r"( *)(?:pub(?:\(crate\))? )?fn (\w+)", line)
-        if not begun:
-            continue
-        end = next((after for after in range(number, len(lines)) if lines[after] == begun[1] + "}"),
-                   0)
-        if number < found[0] < end:
-            return (owner if begun[1] else None), begun[2]
+    found = lines_with(text, lines)
+    for item in items(lines):
+        owner = None if item.function else item.of["type"] if item.of else item.name
+        for function in [item] if item.function else item.functions:
+            if len(found) == 1 and function.at < found[0] < function.end:
+                return owner, function.name
     return None
+
+
+def lines_with(text, lines):
+    """The numbers of the lines that are this text, or, if none is, that have it in them."""
+    same = [number for number, line in enumerate(lines) if line.rstrip("\n") == text]
+    return same or [number for number, line in enumerate(lines) if text in line]
 
 
 def batches(edits):
@@ -289,9 +287,9 @@ def try_together(copies, edits):
         for edit in edits:
             edit.put_into(crate)
         said = run(["rt", "check", "--jobs", "1"], crate).stdout
-        for part in SOURCES:
+        for part in FOLDERS:
             if (crate / part).is_dir():
-                shutil.copytree(ROOT / "crates" / name / part, crate / part, dirs_exist_ok=True)
+                shutil.copytree(TOP / "crates" / name / part, crate / part, dirs_exist_ok=True)
     failing = OPEN.findall(said) if "logic=not-proved" in said else []
     at = {edit: [path for path in failing if len(edits) == 1 or edit.is_of(name, path)]
           for edit in edits}
@@ -321,7 +319,7 @@ def lanes():
 
 
 def edits_of(name):
-    return sorted((ROOT / "crates" / name / "wrong-bodies").glob("*.edit"))
+    return sorted((TOP / "crates" / name / "wrong-bodies").glob("*.edit"))
 
 
 def untried(name):
@@ -345,14 +343,14 @@ def wanted_of(name):
 def misplaced(name):
     """The edits of a crate that replace what isn't in the file that they name."""
     return [(at, file, old) for at in edits_of(name) for file, old, _ in Edit(name, at).places
-            if old not in (ROOT / "crates" / name / file).read_text()]
+            if old not in (TOP / "crates" / name / file).read_text()]
 
 
 def unknown_words(name):
     """The edits of a crate, and those that the gate tries, that are said to be refused by what is
     no word of the crate."""
     words = set(re.findall(r"[\w-]+", "\n".join(file.read_text() for file in files_of(name))))
-    crate = ROOT / "crates" / name
+    crate = TOP / "crates" / name
     for at in sorted([*crate.glob("wrong-bodies/*.edit"), *crate.glob("must-fail/*.edit")]):
         for cited in re.findall(r"`([^`]+)`", heads_of(at)[1]):
             if not words.issuperset(re.findall(r"[A-Za-z_][\w-]*", cited)):
@@ -371,11 +369,6 @@ def size_of(name):
     return sum(file.stat().st_size for file in files_of(name))
 
 
-def files_of(name):
-    crate = ROOT / "crates" / name
-    return sorted(at for part in SOURCES for at in (crate / part).rglob("*") if at.is_file())
-
-
 @cache
 def hashes(name):
     """For each edit by its file's name a hash of it and of what decides it in its crate, and one of
@@ -385,29 +378,16 @@ def hashes(name):
 
 def forget():
     """What is read of the sources from now on is read anew."""
-    for read in (hashes, items_of, index_of):
+    for read in (hashes, parts_of, index_of):
         read.cache_clear()
 
 
 def hashes_of(name, at):
     edit = Edit(name, at)
     seeds = seeds_of(name, edit.functions, [old for _, old, _ in edit.places])
-    own, below = deciding((name, *sorted(crates_below(name))), seeds or set(items_of(name)))
-    kit = (ROOT / "release" / "KIT").read_text()
-    return hash_of([plain_text(at), *own])[:16], hash_of([kit, *below])[:8]
-
-
-def crates_below(name):
-    """The crates of the repository on which a crate stands."""
-    lines = (ROOT / "crates.txt").read_text().splitlines()
-    parts = (line.split("#")[0].split(":") for line in lines)
-    stands_on = {part[0].split()[0]: part[1].split() for part in parts if len(part) == 2}
-    found, left = set(), [name]
-    while left:
-        new = set(stands_on.get(left.pop(), [])) & set(stands_on) - found
-        found |= new
-        left += new
-    return found
+    own, others = deciding((name, *sorted(below(name))), seeds or set(parts_of(name)))
+    kit = (TOP / "release" / "KIT").read_text()
+    return hash_of([plain_text(at), *own])[:16], hash_of([kit, *others])[:8]
 
 
 def hash_of(texts):
@@ -420,7 +400,7 @@ def plain_text(at):
 
 
 def mark(name):
-    return ROOT / "crates" / name / "wrong-bodies" / "TRIED"
+    return TOP / "crates" / name / "wrong-bodies" / "TRIED"
 
 
 def tried(name):
