@@ -8,7 +8,7 @@ import re
 from collections import defaultdict
 from functools import cache, cached_property
 
-from sources import TOP, code_lines, definitions, files_of, items
+from sources import TOP, bare, code_lines, definitions, files_of, items
 
 NAME = re.compile(r"(\.|::)?([^\W\d]\w*)")
 WORD = re.compile(r"[^\W\d]\w*")
@@ -53,7 +53,7 @@ def parts_in(file, path):
     imports = imports_of(text, file.partition("/")[0])
     if path.suffix == ".antt":
         for it in definitions(text):
-            yield Part(file, it.words, it.code, it.code, imports)
+            yield Part(file, [bare(it.name)], it.code, it.code, imports)
         return
     for item in items(text.splitlines()):
         if item.function:
