@@ -159,6 +159,11 @@ class Browser:
         """Presses keys, one after another, wherever the focus is."""
         selenium.ActionChains(self.driver, duration=0).send_keys(*keys).perform()
 
+    def chord(self, held, key):
+        """Presses a key while another one is held."""
+        selenium.ActionChains(self.driver, duration=0).key_down(held).send_keys(key).key_up(
+            held).perform()
+
     def complaints(self, *sources):
         """Returns what the console got from these sources, else from all but the network, which
         reports each refusal."""

@@ -13,7 +13,7 @@ import time
 
 import browser
 
-KEYS = {"end": "\ue010", "right": "\ue014",
+KEYS = {"end": "\ue010", "right": "\ue014", "left": "\ue012",
         "tab": "\ue004", "enter": "\ue007", "escape": "\ue00c", "down": "\ue015", "up": "\ue013"}
 # How long a page may take to show what an act leads to, after it has read what it needs.
 SECONDS = 20
@@ -125,6 +125,10 @@ class Page:
     def act_write(self, text):
         """Presses the keys of a text."""
         self.reader.press(*text)
+
+    def act_undo(self):
+        """Presses Ctrl and Z at once."""
+        self.reader.chord("\ue009", "z")
 
     def act_focus(self, selector):
         self.reader.run("document.querySelector(arguments[0]).focus()", selector)

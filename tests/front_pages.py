@@ -1,7 +1,8 @@
 """The pages of the front in a browser, as their users read them: what is judged, in which order.
 
-The cases are tables in pages_candidate, pages_registry, pages_conflicts, pages_seats, pages_late,
-pages_department and pages_all; front_page has what a user does on a page and what a page shows.
+The cases are tables in pages_candidate, pages_registry, pages_editing, pages_conflicts,
+pages_seats, pages_late, pages_department and pages_all; front_page has what a user does on a page
+and what a page shows.
 """
 import shutil
 
@@ -12,7 +13,8 @@ from pages_candidate import (
     calendar_file, candidates_page, moved_exam, next_exam_first, overlapping_exams, signing_on,
     states_of_exams)
 from pages_conflicts import conflicts
-from pages_department import departments_page, pages_of_others
+from pages_department import departments_page, departments_places, pages_of_others
+from pages_editing import editing
 from pages_late import late_changes
 from pages_registry import (
     new_session, pictures_of_timetables, publishing, registrys_page, registrys_work, sections)
@@ -25,7 +27,7 @@ PARTS = (candidates_page, next_exam_first, registrys_page, pictures_of_timetable
          states_of_exams, overlapping_exams, conflicts, late_changes, registrys_work, style_is_read)
 
 
-def judge(run, started, front, wide, sso, many, office, program, folder):
+def judge(run, started, front, wide, sso, many, office, program, edited, folder):
     """Judges what Chromium shows; makes pictures, if there is a folder for them."""
     if not started:
         print(f"front: the pages are left out without {' and '.join(browser.missing())}")
@@ -36,6 +38,9 @@ def judge(run, started, front, wide, sso, many, office, program, folder):
     for part in PARTS:
         part(run, chromium, front)
     new_session(run, chromium, program)
+    with edited() as office_with_places:
+        editing(run, chromium, office_with_places)
+        departments_places(run, chromium, office_with_places.front)
     signing_on(run, chromium, front, sso)
     list_of_sessions(run, chromium, many)
     calendar_file(run, chromium, wide)

@@ -171,6 +171,16 @@ def sessions(run, stack):
         "PUT", "/exams/1/owner", "{}", Origin="https://elsewhere.example")[::2])
 
 
+def asked_too_often(run, stack):
+    """Where an exam can go is counted by the user, the office too."""
+    for user in ("registry", "physics"):
+        client = Client(stack.front)
+        client.sign_in(user)
+        asked = [client.ask("GET", "/drafts/1/exams/3/places")[0] for _ in range(20)]
+        run.judge(f"{user} asks too often where an exam can go", (False, True),
+                  (429 in asked[:3], 429 in asked))
+
+
 def ends(run, stack):
     """Whoever signed out, was removed, or has another password or caller is nobody, with a kept
     cookie too; and so after a restart of the queue and the agent."""
@@ -485,8 +495,8 @@ def judge_stack(run, make_front):
         for method, path, body, status in (("PUT", "/drafts/1", SOLUTION, 201),
                                            ("POST", "/drafts/1/publish", b"", 200)):
             run.judge("the start", status, office.ask(method, path, body)[0])
-        for part in (sessions, forged, old_hashes, programs, basic, networks, a_crowd,
-                     first_sign_ins, ends, guesses):
+        for part in (sessions, asked_too_often, forged, old_hashes, programs, basic, networks,
+                     a_crowd, first_sign_ins, ends, guesses):
             part(run, stack)
     finally:
         stack.stop()

@@ -29,6 +29,13 @@ const { changesIn, eventsOf } = await import('../front/page/history.js');
 const { People } = await import('../front/page/seats.js');
 const { examsWith } = await import('../front/page/tables.js');
 const { clashesOf, fullRoomsOf } = await import('../front/page/preview.js');
+const {
+  editOf, requestOf, reversed, stepOf, Steps, stepText, strayOf,
+} = await import('../front/page/edits.js');
+const {
+  differenceMark, differenceText, forbidText, optionsIn, periodsInOrder, periodsOf, periodTyped,
+  sharedByPeriod,
+} = await import('../front/page/places.js');
 
 const LABELS = {
   departments: { 1: 'Mathematics' },
@@ -440,4 +447,119 @@ cases('what happened', [
       { publication, period: 1, room: 1 })) })],
   ['changed seats', [{ student: 1, exam: 3, was: { period: 2, room: 0, seat: 1 }, is: null }],
     () => changesIn({ seats: [{ student: 1, exam: 3, from: [2, 0, 1], to: null }] })],
+]);
+
+// Where exam 3 of the small example can go; it is in period 2, room 0.
+const PLACES = ['period,room,penalty,rule,exam,other', '0,0,,Clash,0,3', '0,1,,Clash,0,3', '1,0,39,,,',
+  '1,1,36,,,', '2,0,37,,,', '2,1,44,,,', '3,0,27,,,', '3,1,44,,,', ''].join('\n');
+const AT_2_0 = { period: 2, room: 0 };
+const shownOf = (text, here) => periodsOf(optionsIn(text), here).map(
+  ({ period, best, free, isHere, fault, rooms }) => (
+    [period, best && [best.room, best.points], free, isHere, fault?.rule ?? '', rooms.length]));
+const full = (...lines) => ['', ...lines].join('\n');
+const THREE_DAYS = ['2027-05-09', '2027-05-09', '2027-05-18', '2027-05-18', '2027-05-18', '2027-06-01']
+  .map((date) => ({ date }));
+const EXAM = ['A', 'B', 'C', 'D', 'E', 'F'];
+const why = (rule, exams, exam, shared) => forbidText({ period: 0, room: 0, points: null, rule, exams }, exam,
+  (one) => EXAM[one], shared);
+
+cases('where an exam can go', [
+  ['a free place, and one that a rule forbids', [
+    { period: 0, room: 0, points: null, rule: 'Clash', exams: [0, 3] },
+    { period: 3, room: 0, points: 27, rule: '', exams: [] }],
+  () => [0, 6].map((at) => optionsIn(PLACES)[at])],
+  ['by period', [[0, null, 0, false, 'Clash', 0], [1, [1, 36], 2, false, '', 2],
+    [2, [1, 44], 1, true, '', 2], [3, [0, 27], 2, false, '', 2]], () => shownOf(PLACES, AT_2_0)],
+  ['by points, by time, and without points', [[3, 1, 2, 0], [0, 1, 2, 3], [0, 1]],
+    () => [[PLACES, 'points'], [PLACES, 'time'], [full('0,0,,Clash,0,1', '1,0,,Clash,0,1'), 'points']]
+      .map(([text, by]) => periodsInOrder(periodsOf(optionsIn(text), AT_2_0), by)
+        .map(({ period }) => period))],
+  ['what forbids a period: a rule that no room keeps, before one that another room keeps',
+    [[0, null, 0, false, 'After', 0], [1, null, 0, false, 'Capacity', 2]],
+    () => shownOf(full('0,0,,Capacity,1,1', '0,1,,After,1,0', '1,0,,Capacity,1,1', '1,1,,Capacity,1,1'),
+      { period: null, room: null })],
+  ['the only place is where it is', [[0, null, 0, true, '', 0]],
+    () => shownOf(full('0,0,0,,,'), { period: 0, room: 0 })],
+  ['typed days and periods', [0, 1, null, 2, 2, 4, null, 5, null, null],
+    () => ['9', '92', '93', '18', '181', '183', '184', '1', '7', '187'].map((typed) => (
+      periodTyped(typed, THREE_DAYS)))],
+  ['how points differ', ['no change', '10 fewer', '1,007 more'],
+    () => [37, 27, 1044].map((points) => differenceText(points, 37))],
+  ['in four letters', ['0', '−10', '+999', '+1k', '−99k'],
+    () => [37, 27, 1036, 1037, -200_000].map((points) => differenceMark(points, 37))],
+  ['what forbids a place', ['the period is too short', 'overlaps with B', 'overlaps with A', 'too few seats',
+    'must be after B', 'must be before A', 'must be in the period of B', 'must not be in the period of A',
+    'needs the room for itself, and B is there', 'A needs the room for itself', 'Newer'],
+  () => [['Duration', [0, 0], 0], ['Clash', [0, 1], 0], ['Clash', [0, 1], 1], ['Capacity', [0, 0], 0],
+    ['After', [0, 1], 0], ['After', [0, 1], 1], ['Coincidence', [0, 1], 0], ['Exclusion', [0, 1], 1],
+    ['RoomExclusive', [0, 1], 0], ['RoomExclusive', [0, 1], 1], ['Newer', [0, 1], 0]].map(
+    ([rule, exams, exam]) => why(rule, exams, exam))],
+  ['with whom it overlaps', ['overlaps with C (2 candidates), B (1 candidate)',
+    'overlaps with B (5 candidates), C (4 candidates), D (3 candidates) and 2 more exams'],
+  () => [why('Clash', [0, 1], 0, [[2, 2], [1, 1]]),
+    why('Clash', [0, 1], 0, [[1, 5], [2, 4], [3, 3], [4, 2], [5, 1]])]],
+  ['exams with the same candidates, by period', [[1, [[2, 2], [1, 1]]]],
+    () => [...sharedByPeriod(0, new Map([[0, { period: 0 }], [1, { period: 1 }], [2, { period: 1 }],
+      [3, { period: 2 }]]), [[1, 2], [2], [1, 2], [3], [1]])]],
+]);
+
+// A draft with exam 0 in period 0, room 1, exam 1 in period 2, room 0, and exam 2 nowhere.
+const DRAFTED = { number: 4, places: [{ exam: 0, period: 0, room: 1 }, { exam: 1, ...AT_2_0 },
+  { exam: 2, period: null, room: null }] };
+const withMoved = (exam, period, room) => ({ number: 4, places: DRAFTED.places.map((place) => (
+  place.exam === exam ? { exam, period, room } : place)) });
+const [AT_0_1, AT_3_1, OUT] = [[0, 1], [3, 1], [null, null]].map(([period, room]) => ({ period, room }));
+const MOVE = { kind: 'put', exam: 0, ...AT_3_1 };
+const SWAP = { kind: 'swap', exam: 0, other: 1 };
+const CLEAR = { kind: 'clear', exam: 0 };
+const PUT = { kind: 'put', exam: 2, ...AT_3_1 };
+const EDITS = [MOVE, SWAP, CLEAR, PUT];
+const backOf = (edit) => reversed(stepOf(edit, DRAFTED));
+
+/** What can be undone and redone after some acts: a step is made, undo, redo, or an undo that failed. */
+function stepsAfter(...acts) {
+  const steps = new Steps();
+  for (const act of acts) {
+    if (act === 'lost') steps.took(4, 'undo', false);
+    else if (typeof act === 'string') steps.took(4, act);
+    else steps.made(4, stepOf(act, DRAFTED));
+  }
+  return ['undo', 'redo'].map((way) => steps.next(4, way) && editOf(steps.next(4, way)));
+}
+
+cases('edits', [
+  ['their requests', [['/drafts/4/exams/0/move', 'POST', '{"period":3,"room":1}'],
+    ['/drafts/4/swap/0/1', 'POST'], ['/drafts/4/exams/0', 'DELETE'],
+    ['/drafts/4/exams/2/place', 'POST', '{"period":3,"room":1}']],
+  () => EDITS.map((edit) => requestOf(edit, DRAFTED))],
+  ['what they move', [[{ exam: 0, from: AT_0_1, to: AT_3_1 }],
+    [{ exam: 0, from: AT_0_1, to: AT_2_0 }, { exam: 1, from: AT_2_0, to: AT_0_1 }],
+    [{ exam: 0, from: AT_0_1, to: OUT }], [{ exam: 2, from: OUT, to: AT_3_1 }]],
+  () => EDITS.map((edit) => stepOf(edit, DRAFTED))],
+  ['what takes them back', [{ kind: 'put', exam: 0, ...AT_0_1 }, SWAP, { kind: 'put', exam: 0, ...AT_0_1 },
+    { kind: 'clear', exam: 2 }], () => EDITS.map((edit) => editOf(backOf(edit)))],
+  ['an exam that is where an edit left it, and others', [undefined, { exam: 0, period: 3, room: 0 },
+    { exam: 1, ...AT_2_0 }], () => [[backOf(MOVE), withMoved(0, 3, 1)], [backOf(MOVE), withMoved(0, 3, 0)],
+    [backOf(SWAP), withMoved(0, 2, 0)]].map(([step, draft]) => strayOf(step, draft))],
+  ['nothing was made', [null, null], () => stepsAfter()],
+  ['one was made', [{ kind: 'put', exam: 0, ...AT_0_1 }, null], () => stepsAfter(MOVE)],
+  ['one was undone', [{ kind: 'clear', exam: 2 }, MOVE], () => stepsAfter(PUT, MOVE, 'undo')],
+  ['and made again', [{ kind: 'put', exam: 0, ...AT_0_1 }, null],
+    () => stepsAfter(PUT, MOVE, 'undo', 'redo')],
+  ['another one was made instead', [SWAP, null], () => stepsAfter(MOVE, 'undo', SWAP)],
+  ['one that was lost', [{ kind: 'clear', exam: 2 }, null], () => stepsAfter(PUT, MOVE, 'lost')],
+  ['another draft', null, () => {
+    const steps = new Steps();
+    steps.made(4, stepOf(MOVE, DRAFTED));
+    return steps.next(5, 'undo');
+  }],
+  ['in words', ['MATH101 back to period 0, room 1', 'swap MATH101 and PHYS102 back',
+    'take PHYS102 out again', 'MATH101 to period 3, room 1', 'take MATH101 out', 'swap MATH101 and PHYS102'],
+  () => [['undo', MOVE], ['undo', SWAP], ['undo', { ...PUT, exam: 1 }], ['redo', MOVE], ['redo', CLEAR],
+    ['redo', SWAP]].map(([way, edit]) => {
+    const there = edit.exam === 1 ? { places: DRAFTED.places.map(() => OUT) } : DRAFTED;
+    const step = stepOf(edit, there);
+    return stepText(way === 'undo' ? reversed(step) : step, way, { exam: (one) => LABELS.exams[one].code,
+      place: (place) => numbered.place(place) });
+  })],
 ]);

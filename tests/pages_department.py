@@ -36,7 +36,8 @@ EDITS = [
       "#undo": "Undo: swap PHYS102 and PHYS101 back"}),
     ("a swap, undone", UNDO,
      {"said": "PHYS102: {monday}, {hall}. PHYS101: {monday}, {room}. 27 points now, 27 before.",
-      "hidden #undo": True}),
+      "#undo": "Undo: PHYS102 back to {friday}, {hall}",
+      "#redo": "Redo: swap PHYS102 and PHYS101"}),
     ("what the button says", ("set", "#edit-kind", "clear"), {"#edit-submit": "Take out PHYS102"}),
 ]
 
@@ -102,6 +103,46 @@ def departments_page(run, chromium, front):
         page.steps(*((name, acts, filled(looks, words)) for name, acts, looks in EDITS))
         taking_out(page, words)
         draft_changed_meanwhile(page, front, words)
+
+
+# What is looked for among a department's exams, and in which order they come.
+ROWS, LINES = "names #places th", "titles #edit-places > ul > li > .place"
+FOUND = [(("set", "#own-words", "OPTICS"), ["PHYS102"]),
+         (("set", "#own-words", "2.14"), ["PHYS101"]), (("set", "#own-words", "x"), []),
+         (("set", "#own-words", ""), ["PHYS101", "PHYS102"]),
+         (("set", "#own-order", "period"), ["PHYS102", "PHYS101"]),
+         (("set", "#own-order", "room"), ["PHYS102", "PHYS101"]),
+         (("set", "#own-order", "code"), ["PHYS101", "PHYS102"])]
+
+
+def departments_places(run, chromium, front):
+    """A department finds and sorts its exams; an office that knows lists where its own can go."""
+    owned(front, {2: 3})
+    with opened(run, chromium, front, "physics") as page:
+        at = [page.moment(*start) for start in (("2005-04-15", "09:30:00"), (
+            "2005-04-15", "14:00:00"), FRIDAY, MONDAY)]
+        for act, exams in FOUND:
+            page.steps((f"exams after {act}", act, {ROWS: exams}))
+        page.judge("how many are shown", {"#own-count": ""})
+        page.steps(("an exam that it doesn't own", "click #places tr:nth-child(2) button", {
+            "said": "Your department does not own this exam.", LINES: []}))
+        owned(front, {3: 3})
+        page.steps(
+            ("where its exam can go", "click #places tr:nth-child(2) button", {
+                "said": "6 places of 8 are free for PHYS102. Choosing one makes the change.",
+                LINES: [f"{at[3]} 27 points, 10 fewer, Great Hall",
+                        f"{at[1]} 36 points, 1 fewer, Room 2.14",
+                        f"{at[2]} (now) 44 points, 7 more, Room 2.14",
+                        f"{at[0]} overlaps with MATH101"]}),
+            ("it moves, by keys", ["write 152", "press enter"], {
+                "said": f"PHYS102: {at[1]}, {ROOM}. 36 points now, 37 before.", LINES: [],
+                "focus": "status", "#undo": f"Undo: PHYS102 back to {at[2]}, {HALL}"}),
+            ("undone", "click #undo", {
+                "said": f"PHYS102: {at[2]}, {HALL}. 37 points now, 36 before.",
+                "hidden #undo": True, "#redo": f"Redo: PHYS102 to {at[1]}, {ROOM}"}),
+            ("and made again", "click #redo", {
+                "said": f"PHYS102: {at[1]}, {ROOM}. 36 points now, 37 before.",
+                "hidden #redo": True}))
 
 
 def pages_of_others(run, chromium, front):

@@ -34,12 +34,13 @@ import front_queue
 import front_registry
 import front_sign_in
 import openapi
+import places_office
 from front_cases import (
     CALLER, CALLERS, CANDIDATE, FAULTY_PEOPLE, FAULTY_STUDENTS, FIRST_VIEW, LABELS, LOGGED,
     LOGGED_QUESTIONS, LOOKED_FOR, MADE, PAGES, SECOND_VIEW, STRANGERS, TARGETS, WIDE, WIDE_LABELS,
     WIDE_SOLUTION, ask, password, told_error)
 from run_serve import Office, Run, one_reply, rest
-from serve_cases import SOLUTION, message, reply
+from serve_cases import SMALL, SOLUTION, message, reply
 
 TOP = pathlib.Path(__file__).resolve().parent.parent
 NGINX = shutil.which("nginx") or shutil.which("nginx", path="/usr/sbin:/usr/local/sbin")
@@ -52,7 +53,7 @@ SECONDS = 20
 QUICK = (("rate=20r/s", "rate=9000r/s"), ("rate=300r/s", "rate=9000r/s"),
          ("auth_delay 1s", "auth_delay 0"),
          ("client_header_timeout 10s", "client_header_timeout 4s"),
-         ("client_body_timeout 10s", "client_body_timeout 4s"))
+         ("client_body_timeout 10s", "client_body_timeout 4s"), ("rate=2r/s", "rate=9000r/s"))
 
 
 class Front:
@@ -272,6 +273,10 @@ def limits(run, office):
               front.told(ask("ben", "GET", "/me")))
     run.judge("the office", {b"200"},
               set(statuses(front, ask("registry", "GET", "/drafts/1"), 200)))
+    places = {user: statuses(front, ask(user, "GET", "/drafts/1/exams/3/places"), 12)
+              for user in ("registry", "physics", "ben")}
+    run.judge("where an exam can go, asked too often", [(True, {b"429"})] * 3, [
+        (b"429" not in asked[:3], set(asked[9:])) for asked in places.values()])
     run.judge("a second later", True, browser.until(
         "they are served again", lambda: front.told(CANDIDATE) == FIRST_VIEW))
     began = time.monotonic()
@@ -507,6 +512,11 @@ def single_sign_on(run, front):
             ("who it is", "/-/user", [ada],
              (200, b'{"caller":"cand:1","sign_out":"/oauth2/sign_out"}'))):
         run.judge(f"single sign-on: {name}", answer, told(path, *fields))
+    for user in ("registry", "physics"):
+        asked = statuses(front, message("GET", "/drafts/1/exams/3/places", caller=None, fields=[
+            f"Cookie: signed_in={user}"]), 12)
+        run.judge(f"single sign-on: {user} asks too often where an exam can go", (True, {b"429"}),
+                  (b"429" not in asked[:3], set(asked[9:])))
     run.judge("single sign-on: what nginx asks the agent", 404, told("/-/who", ada)[0])
     with (front.folder / "callers").open("a") as callers:
         callers.write("Eva cand:1;\n~^s(?<number_of>[0-9]+)$ cand:$number_of;\n")
@@ -642,6 +652,42 @@ def wide_session(run):
         office.killed()
 
 
+class EditedOffice:
+    """A front before an office of its own that answers where an exam can go, and that can be
+    started again."""
+
+    def __init__(self, run):
+        self.run, self.begun = run, contextlib.ExitStack()
+        self.database = run.folder / "edited.db"
+
+    def __enter__(self):
+        source = self.run.folder / "edited.exam"
+        source.write_bytes(SMALL)
+        subprocess.run([self.run.program, "load", "--db", self.database, source], check=True,
+                       stdout=subprocess.DEVNULL, timeout=SECONDS)
+        self.office = Office(self.run.program, self.database)
+        self.begun.callback(lambda: self.office.killed())
+        with contextlib.ExitStack() as begun:
+            begun.callback(self.begun.close)
+            self.places = self.begun.enter_context(
+                places_office.with_places(self.run.program, self.office.port))
+            self.front = Front(self.run.folder / "edited", self.places.server_port)
+            self.begun.callback(self.front.stop)
+            for question, answer in MADE:
+                self.run.judge("the start of editing", answer, self.front.told(question))
+            begun.pop_all()
+        return self
+
+    def __exit__(self, *_):
+        self.begun.close()
+
+    def restart(self):
+        """Ends the office, and starts it again with its file."""
+        self.office.killed()
+        self.office = Office(self.run.program, self.database)
+        self.places.RequestHandlerClass.port = self.office.port
+
+
 @contextlib.contextmanager
 def new_office(run):
     """A front before an office without a session."""
@@ -694,7 +740,8 @@ def main():
                     caches(run, "by single sign-on", sso, Cookie="signed_in=ada")
                     if not given.no_browser:
                         front_pages.judge(run, started, front, wide, sso, many, office,
-                                          lambda: new_office(run), given.pictures)
+                                          lambda: new_office(run), lambda: EditedOffice(run),
+                                          given.pictures)
                         if started:
                             front_sign_in.in_browser(run, started(), Front)
                             front_registry.in_browser(run, started(), Front)

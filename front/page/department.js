@@ -1,12 +1,15 @@
 // A department's page: its exams in a draft, and changes of their places.
-import { changesBetween, movesBetween, readAgain, readDrafts, verdict } from './drafts.js';
+import { readAgain, readDrafts, verdict } from './drafts.js';
+import { makeAgain, makeEdit, Steps, stepText } from './edits.js';
+import { fold } from './identities.js';
 import { applyLabels, differencesForDepartment, Names, readLabels } from './labels.js';
 import { showProgress } from './messages.js';
-import {
-  byId, cell, change, count, element, numeral, readUser, Refusal, row, ruleText,
-} from './office.js';
+import { byId, cell, count, element, numeral, readUser, Refusal, row, ruleText } from './office.js';
+import { focusPlaceList, showPlaceList } from './placelist.js';
+import { forbidText, periodsOf, readOptions } from './places.js';
 
-// What was last read and shown: the department's number, the names, all drafts, and the open one.
+// What was last read and shown: the department's number, the names, all drafts, and the open one; and the
+// edits that can be taken back.
 const page = {
   department: 0,
   names: new Names(),
@@ -14,10 +17,8 @@ const page = {
   drafts: [],
   /** @type {import('./drafts.js').Draft | null} */
   draft: null,
+  steps: new Steps(),
 };
-
-// The change that takes the last one back, or null.
-let undo = null;
 
 /** The open draft; the page shows nothing that needs one while there is none. */
 function openDraft() {
@@ -37,7 +38,6 @@ async function load() {
   page.names = applyLabels(labels, labels && first ? differencesForDepartment(labels, first) : []);
   byId('department').textContent = page.names.labels?.departments[page.department]
     ?? `Department ${page.department}`;
-  setUndo(null);
   const open = page.drafts.find(({ number }) => number === page.draft?.number) ?? first;
   page.draft = open ?? null;
   byId('own').hidden = !open;
@@ -55,16 +55,29 @@ function ownExams() {
     !page.names.labels || page.names.labels.exams[exam].department === page.department));
 }
 
-async function reread() {
-  const found = await readAgain(openDraft().number);
-  page.draft = found;
-  showDraft();
-  return found;
-}
-
 // ---- One draft
 
 const below = (words) => element('span', { class: 'below' }, words);
+
+const { compare } = new Intl.Collator();
+/** @type {Record<string, (one: any, other: any) => number>} */
+const ORDERS = {
+  exam: (one, other) => one.exam - other.exam,
+  code: (one, other) => compare(page.names.exam(one.exam), page.names.exam(other.exam)),
+  period: (one, other) => (one.period ?? -1) - (other.period ?? -1) || one.room - other.room,
+  room: (one, other) => (one.room ?? -1) - (other.room ?? -1) || one.period - other.period,
+};
+
+/** The places of the department's exams that have the words looked for, in the order that is chosen. */
+function placesShown() {
+  const { names } = page;
+  const words = fold(byId('own-words').value).split(/\s+/).filter(Boolean);
+  const own = new Set(ownExams());
+  return openDraft().places.filter(({ exam }) => own.has(exam)).filter((place) => {
+    const text = fold([names.exam(place.exam), names.examTitle(place.exam), names.place(place)].join(' '));
+    return words.every((word) => text.includes(word));
+  }).sort(ORDERS[byId('own-order').value]);
+}
 
 function placeRow({ exam, period, room }) {
   const { names } = page;
@@ -73,8 +86,9 @@ function placeRow({ exam, period, room }) {
   const choose = element('button', { type: 'button', 'aria-describedby': title }, 'Change …');
   choose.addEventListener('click', () => {
     byId('edit-exam').value = exam;
+    byId('edit-kind').value = 'put';
     chooseExam();
-    byId('edit-kind').focus();
+    look();
   });
   return row(element('th', { scope: 'row', id: title }, names.exam(exam),
     names.examTitle(exam) && below(names.examTitle(exam))),
@@ -83,6 +97,14 @@ function placeRow({ exam, period, room }) {
   cell(room === null ? '' : names.roomInBuilding(room),
     room !== null && seats !== undefined && below(count(seats, 'seat'))),
   cell(choose));
+}
+
+function showPlaces() {
+  const places = placesShown();
+  const own = ownExams().length;
+  byId('own-count').textContent = places.length < own ? `${numeral(places.length)} of ${count(own, 'exam')}.`
+    : '';
+  byId('places').replaceChildren(...places.map(placeRow));
 }
 
 function showDraft() {
@@ -94,8 +116,18 @@ function showDraft() {
     .filter(({ exam, other }) => own.has(exam) || own.has(other))
     .map(({ rule, exam, other }) => element('li', {}, element('b', {}, rule), ' ',
       ruleText(rule, exam, other))));
-  byId('places').replaceChildren(
-    ...draft.places.filter(({ exam }) => own.has(exam)).map(placeRow));
+  showPlaces();
+  showSteps();
+}
+
+/** Shows which edits can be taken back or made again. */
+function showSteps() {
+  for (const way of /** @type {('undo' | 'redo')[]} */ (['undo', 'redo'])) {
+    const step = page.steps.next(openDraft().number, way);
+    const word = way === 'undo' ? 'Undo' : 'Redo';
+    byId(way).hidden = !step;
+    byId(way).textContent = step ? `${word}: ${stepText(step, way, page.names)}` : word;
+  }
 }
 
 // ---- The form
@@ -109,6 +141,13 @@ const MOST_NUMBERS = 200;
 const choices = (labelled, words) => Array.from(
   { length: labelled?.length ?? MOST_NUMBERS }, (_, number) => option(number, words(number)));
 
+/** A room in words, with its seats if the labels have them. */
+function roomText(room) {
+  const { names } = page;
+  return names.labels ? `${names.roomInBuilding(room)} (${count(names.labels.rooms[room].capacity, 'seat')})`
+    : names.room(room);
+}
+
 function fillForm() {
   const { names, drafts } = page;
   const { labels } = names;
@@ -121,13 +160,9 @@ function fillForm() {
   }
   byId('edit-period').replaceChildren(
     ...choices(labels?.periods, (number) => names.period(number)));
-  byId('edit-room').replaceChildren(...choices(labels?.rooms, (number) => (labels
-    ? `${names.roomInBuilding(number)} (${count(labels.rooms[number].capacity, 'seat')})`
-    : names.room(number))));
+  byId('edit-room').replaceChildren(...choices(labels?.rooms, roomText));
   chooseExam();
 }
-
-const placeOf = (exam, draft = openDraft()) => draft.places[exam];
 
 /** Shows the fields that a change needs, with the exam's place; another exam to swap with. */
 function chooseExam() {
@@ -137,8 +172,9 @@ function chooseExam() {
   for (const field of fields) {
     field.hidden = field.dataset.for !== kind;
   }
+  byId('edit-places').replaceChildren();
   const exam = Number(byId('edit-exam').value);
-  const place = placeOf(exam);
+  const place = openDraft().places[exam];
   if (place.period !== null) {
     byId('edit-period').value = place.period;
     byId('edit-room').value = place.room;
@@ -163,72 +199,67 @@ function formChange() {
   return { kind, exam, period: value('period'), room: value('room') };
 }
 
+// ---- Where an exam can go
+
+/** Asks where the exam of the form can go, and lists it; an office that doesn't know is left at that. */
+function look() {
+  const exam = Number(byId('edit-exam').value);
+  const draft = openDraft();
+  const name = page.names.exam(exam);
+  showProgress(`Looking where ${name} can go …`, async () => {
+    let options;
+    try {
+      options = await readOptions(draft.number, exam);
+    } catch (refusal) {
+      if (refusal.error !== 'path') throw refusal;
+      byId('edit-kind').focus();
+      return `Choose a period and a room for ${name}.`;
+    }
+    showOptions(exam, draft, options);
+    return `${count(options.filter(({ points }) => points !== null).length, 'place')} of ${
+      numeral(options.length)} are free for ${name}. Choosing one makes the change.`;
+  }, byId('edit-look'));
+}
+
+function showOptions(exam, draft, options) {
+  const { names } = page;
+  showPlaceList(byId('edit-places'), { label: `Where ${names.exam(exam)} can go`, order: 'points',
+    periods: periodsOf(options, draft.places[exam]), points: draft.penalty.total,
+    dates: names.labels?.periods ?? [], period: (period) => names.period(period),
+    room: (room) => names.room(room), roomInFull: roomText,
+    why: (one) => forbidText(one, exam, (other) => names.exam(other)), show: () => {},
+    act: ({ period, room }) => made(() => makeEdit({ kind: 'put', exam, period, room }, draft, pageOf()),
+      byId('edit-look')) });
+  focusPlaceList('edit-places');
+}
+
 // ---- Changes
 
-/** The request that makes a change in a draft. */
-function requestOf({ kind, exam, other, period, room }, draft) {
-  const path = `/drafts/${draft.number}`;
-  if (kind === 'swap') return [`${path}/swap/${exam}/${other}`, 'POST'];
-  if (kind === 'clear') return [`${path}/exams/${exam}`, 'DELETE'];
-  const word = placeOf(exam, draft).period === null ? 'place' : 'move';
-  return [`${path}/exams/${exam}/${word}`, 'POST', JSON.stringify({ period, room })];
-}
-
-/** The change that takes another one back, which was made in this draft. */
-function inverseOf({ kind, exam, other }, draft) {
-  const { period, room } = placeOf(exam, draft);
-  if (kind === 'swap') return { kind, exam, other };
-  return period === null ? { kind: 'clear', exam } : { kind: 'put', exam, period, room };
-}
-
-function setUndo(wanted) {
-  undo = wanted;
-  byId('undo').hidden = !undo;
-  byId('undo').textContent = undo ? `Undo: ${undo.words}` : 'Undo';
-}
-
-const placeText = (exam, draft) => page.names.place(placeOf(exam, draft));
-
-function resultText({ exam, other }, draft) {
-  return [exam, other].filter((one) => one !== undefined)
-    .map((one) => `${page.names.exam(one)}: ${placeText(one, draft)}.`).join(' ');
-}
-
-function undoText({ kind, exam, other }, draft) {
-  const { names } = page;
-  return kind === 'swap' ? `swap ${names.exam(exam)} and ${names.exam(other)} back`
-    : `${names.exam(exam)} back to ${placeText(exam, draft)}`;
-}
-
-/** Makes a change, unless the draft is no longer as the page showed it. */
-async function make(wanted) {
-  const seen = openDraft();
-  const found = await reread();
-  const changes = changesBetween(seen, found, page.names);
-  if (changes.length) {
-    const moved = movesBetween(seen, found).map(({ now }) => now.exam);
-    if (undo && [undo.exam, undo.other].some((exam) => moved.includes(exam))) setUndo(null);
-    throw new Refusal(409, {}, 'Your change was not made. Look at the draft, then try again.',
-      { details: changes });
-  }
-  const answer = await change('Your change was not made.', ...requestOf(wanted, found));
-  setUndo(wanted === undo ? null : { ...inverseOf(wanted, found), words: undoText(wanted, found) });
-  const now = await reread();
+const pageOf = () => ({ names: page.names, steps: page.steps, show: (draft) => {
+  page.draft = draft;
+  showDraft();
   chooseExam();
+} });
+
+/** Makes a change, and says what came of it. */
+const made = (work, at) => showProgress('Changing the draft …', async () => {
+  const words = await work().finally(showSteps);
   byId('status').focus();
-  return `${resultText(wanted, now)} ${count(answer.penalty, 'point')} now, ${
-    numeral(found.penalty.total)} before.`;
-}
+  return words;
+}, at);
 
 byId('edit').addEventListener('submit', (event) => {
   event.preventDefault();
-  showProgress('Changing the draft …', () => make(formChange()), byId('edit-submit'));
+  made(() => makeEdit(formChange(), openDraft(), pageOf()), byId('edit-submit'));
 });
-byId('undo').addEventListener('click', () => showProgress('Changing the draft …', () => make(undo),
-  byId('undo')));
+byId('edit-look').addEventListener('click', look);
+for (const way of /** @type {('undo' | 'redo')[]} */ (['undo', 'redo'])) {
+  byId(way).addEventListener('click', () => made(() => makeAgain(way, openDraft(), pageOf()), byId(way)));
+}
 for (const field of ['edit-exam', 'edit-kind']) byId(field).addEventListener('change', chooseExam);
+byId('own-words').addEventListener('input', showPlaces);
+byId('own-order').addEventListener('change', showPlaces);
 byId('draft-number').addEventListener('change', () => showProgress('Opening the draft …', async () => {
-  setUndo(null);
   const chosen = await readAgain(Number(byId('draft-number').value));
   page.draft = chosen;
   showDraft();

@@ -6,8 +6,16 @@ import { office } from './state.js';
 
 /**
  * @typedef {import('./state.js').Use} Use
+ *
+ * What a picture does with its cells: `open` one that has the focus, or that Enter chose; `point` at one
+ * under the mouse; `press` and `choose` one when a click begins and ends; `pick` the exam of one.
+ * @typedef {{ open: (period: number, room: number, isEntered: boolean) => void,
+ *   point: (period: number, room: number) => void,
+ *   press: (period: number, room: number, isMouse: boolean) => void,
+ *   choose: (period: number, room: number) => void,
+ *   pick: (period: number, room: number) => void }} Acts
  * @typedef {{ name: string, uses: Use[], rooms: number[], most: number, differing: Set<string> | null,
- *   open: (period: number, room: number, isEntered: boolean) => void }} Picture
+ *   acts: Acts }} Picture
  */
 
 // The classes of cells, the darker the more seats are taken.
@@ -72,20 +80,32 @@ function focusCell(table, at, isFocused = true) {
 /** Where a cell is: its row and its column among the cells of the grid. */
 const placeOf = (cell) => [cell.parentElement.sectionRowIndex, cell.cellIndex - 1];
 
-function listen(table, { rooms, open }, periods) {
-  const opened = (cell, isEntered) => {
-    const [at, period] = placeOf(cell);
-    focusCell(table, [at, period], false);
-    open(period, rooms[at], isEntered);
-  };
+function listen(table, { rooms, acts }, periods) {
   const cellAt = (event) => event.target.closest('tbody td');
-  table.addEventListener('focusin', (event) => cellAt(event) && opened(cellAt(event), false));
-  table.addEventListener('click', (event) => cellAt(event)?.focus());
-  table.addEventListener('keydown', (event) => {
+  /** Does something with the period and the room of a cell. */
+  const of = (cell, act, ...more) => {
+    const [at, period] = placeOf(cell);
+    act(period, rooms[at], ...more);
+  };
+  const on = (name, act) => table.addEventListener(name, (event) => {
     const cell = cellAt(event);
-    const to = cell && stepIn(event.key, placeOf(cell), rooms.length, periods);
+    if (cell) act(cell, event);
+  });
+  on('focusin', (cell) => {
+    focusCell(table, placeOf(cell), false);
+    of(cell, acts.open, false);
+  });
+  on('mouseover', (cell) => of(cell, acts.point));
+  on('pointerdown', (cell, event) => of(cell, acts.press, event.pointerType === 'mouse'));
+  on('click', (cell) => {
+    cell.focus();
+    of(cell, acts.choose);
+  });
+  on('keydown', (cell, event) => {
+    const to = stepIn(event.key, placeOf(cell), rooms.length, periods);
     if (to) focusCell(table, to);
-    else if (cell && (event.key === 'Enter' || event.key === ' ')) opened(cell, true);
+    else if (event.key === 'Enter' || event.key === ' ') of(cell, acts.open, true);
+    else if (event.key === 'm' && !event.ctrlKey && !event.metaKey) of(cell, acts.pick);
     else return;
     event.preventDefault();
   });
@@ -121,3 +141,42 @@ export function pictureOf(picture) {
 /** Makes a room and period the tab stop of a picture, and puts the focus there if it may. */
 export const focusPlace = (table, rooms, { period, room }, isFocused) => (
   focusCell(table, [rooms.indexOf(room), period], isFocused));
+
+// ---- Where an exam can go
+
+/**
+ * Marks the cells of a picture, and a line of its head.
+ * @param {HTMLTableElement} table
+ * @param {number[]} rooms
+ * @param {(period: number, room: number) => { kind: string, text: string }} markOf
+ * @param {{ mark: string, text: string }[]} heads one for each period
+ * @returns {() => void} takes the marks away
+ */
+export function markPlaces(table, rooms, markOf, heads) {
+  const marked = [...table.tBodies[0].rows].flatMap((line, at) => (
+    [...line.querySelectorAll('td')].map((cell, period) => {
+      const { kind, text } = markOf(period, rooms[at]);
+      const label = cell.getAttribute('aria-label') ?? '';
+      cell.setAttribute('aria-label', `${label}; ${text}`);
+      cell.classList.add(kind);
+      return { cell, kind, label };
+    })));
+  const head = row(element('th', { scope: 'row' }, 'Points'), heads.map(({ mark, text }) => (
+    labelled('td', { role: 'gridcell' }, text, element('span', {}, mark)))));
+  table.tHead?.append(head);
+  table.classList.add('choosing');
+  return () => {
+    for (const { cell, kind, label } of marked) {
+      cell.setAttribute('aria-label', label);
+      cell.classList.remove(kind);
+    }
+    head.remove();
+    table.classList.remove('choosing');
+  };
+}
+
+/** Shows which cell of a picture is meant. */
+export function markTarget(table, rooms, { period, room }) {
+  table.querySelector('.target')?.classList.remove('target');
+  table.tBodies[0].rows[rooms.indexOf(room)]?.querySelectorAll('td')[period]?.classList.add('target');
+}

@@ -59,6 +59,7 @@ export function setUpPublishing(reread, load) {
       + 'download its solution first, to keep a copy.')], `Drop draft ${number}`, () => showProgress(
       `Dropping ${name} …`, async () => {
         await ask(`/drafts/${number}`, 'DELETE');
+        office.steps.forget(Number(number));
         await load();
         byId('status').focus();
         return `${name} is dropped.`;

@@ -24,6 +24,11 @@ export async function readPublished() {
   return isThere ? { name: 'Published', penalty: penaltyIn(report), breaches: [], uses, unplaced: [] } : null;
 }
 
+/** Keeps a draft as it was read last. */
+export function keepDraft(found) {
+  office.timetables = office.timetables.map((old) => (old.number === found.number ? found : old));
+}
+
 /**
  * Reads a draft and the enrolments again.
  * @returns {Promise<import('./drafts.js').Draft>}
@@ -31,7 +36,7 @@ export async function readPublished() {
 export async function rereadDraft(number) {
   const found = await readAgain(number);
   await readSession();
-  office.timetables = office.timetables.map((old) => (old.number === number ? found : old));
+  keepDraft(found);
   return found;
 }
 

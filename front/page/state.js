@@ -1,4 +1,5 @@
 // What the registry's page has read last, and what it shows.
+import { Steps } from './edits.js';
 import { Names } from './labels.js';
 
 /**
@@ -38,6 +39,13 @@ export const office = {
    * @type {number | null}
    */
   exam: null,
+  /**
+   * The exam of the open draft that is being moved, and what the office says of its places.
+   * @type {import('./moving.js').Move | null}
+   */
+  move: null,
+  /** The edits that can be taken back. */
+  steps: new Steps(),
   /** How many timetables there are, in words. */
   summary: '',
   /**

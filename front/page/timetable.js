@@ -2,6 +2,9 @@
 import { findingsOf, showConflicts } from './conflictlist.js';
 import { histogramOf } from './histogram.js';
 import { differingPlaces, loadOf, roomsInOrder, usesByPlace } from './layout.js';
+import {
+  endMoving, openDraft, pressPlace, putInto, setUpMoving, showPlace, showSteps, startMoving,
+} from './moving.js';
 import { byId, count, dayInShort, element, numeral, time } from './office.js';
 import { showOverview } from './overview.js';
 import { focusPlace, pictureOf } from './picture.js';
@@ -43,6 +46,7 @@ export function showTimetable(timetable) {
   showDownloads(timetable, office);
   showComparison(timetable, office, showPictures);
   showFinder(timetable, office);
+  showSteps();
   showConflicts(office.section === 'conflicts' ? office.exam : null);
 }
 
@@ -55,6 +59,7 @@ const order = () => {
 
 /** Shows the pictures of the open timetable and of the one that it is compared with, in their section. */
 export function showPictures() {
+  endMoving();
   const open = openTimetable();
   const { session } = office;
   if (!open || !session || office.section !== 'timetable') return;
@@ -65,14 +70,45 @@ export function showPictures() {
   const differing = other ? differingPlaces(uses[0], uses[1]) : null;
   const rooms = order();
   byId('pictures').replaceChildren(...shown.map((timetable, place) => element('div', {}, pictureOf({
-    name: timetable.name, uses: uses[place], rooms, most, differing,
-    open: (period, room, isEntered) => showCell(timetable, { period, room }, isEntered) }))));
+    name: timetable.name, uses: uses[place], rooms, most, differing, acts: actsOf(timetable) }))));
   byId('gaps').replaceChildren(...histogramOf(shown));
   showCell(open, { period: 0, room: rooms[0] }, false);
   if (office.section === 'timetable' && office.exam !== null) showExam(office.exam);
 }
 
+/**
+ * What the cells of a picture do: they show what is in them, or, of the draft in which an exam is moved,
+ * what they would cost.
+ * @returns {import('./picture.js').Acts}
+ */
+function actsOf(timetable) {
+  const isMoving = () => office.move?.draft === timetable;
+  return {
+    open: (period, room, isEntered) => {
+      if (!isMoving()) showCell(timetable, { period, room }, isEntered);
+      else if (isEntered) putInto(period, room);
+      else showPlace(period, room);
+    },
+    point: (period, room) => isMoving() && showPlace(period, room),
+    press: (period, room, isMouse) => isMoving() && pressPlace(period, room, isMouse),
+    choose: (period, room) => isMoving() && putInto(period, room),
+    pick: (period, room) => {
+      const use = usesByPlace(usesIn(timetable)).get(`${period} ${room}`);
+      if (timetable === openDraft() && use?.exams.length === 1) startMoving(use.exams[0]);
+      else if (!isMoving()) showCell(timetable, { period, room }, true);
+    },
+  };
+}
+
 // ---- What is in a cell
+
+/** The button that looks for another place of an exam, if the timetable is the open draft. */
+function moveButton(exam, timetable, word) {
+  if (timetable !== openDraft()) return null;
+  const made = element('button', { type: 'button', class: 'move' }, `${word} ${office.names.exam(exam)} …`);
+  made.addEventListener('click', () => startMoving(exam));
+  return made;
+}
 
 function examItem(exam, timetable, chosen) {
   const { names, session } = office;
@@ -81,7 +117,7 @@ function examItem(exam, timetable, chosen) {
     names.examTitle(exam), element('span', { class: 'below' },
       `${count(session?.candidates[exam].length ?? 0, 'candidate')}, ${session?.minutes[exam]} minutes`),
     conflicts > 0 && element('a', { href: addressOf('conflicts', timetable.name, exam) },
-      count(conflicts, 'conflict')));
+      count(conflicts, 'conflict')), moveButton(exam, timetable, 'Move'));
 }
 
 /** Shows what is in a room and period, with the chosen exam marked. */
@@ -90,14 +126,15 @@ function showCell(timetable, place, isEntered, chosen = null) {
   const when = session?.periods[place.period];
   const use = usesByPlace(usesIn(timetable)).get(`${place.period} ${place.room}`);
   const capacity = session?.capacities[place.room] ?? 0;
-  byId('cell').replaceChildren(
+  byId('cell-body').replaceChildren(
     element('h3', { id: 'cell-title', tabindex: -1 }, names.roomInBuilding(place.room)),
     element('p', {}, ...(when ? [dayInShort(when.date), ', ', time(when.start), ', '] : []), timetable.name),
     element('p', { class: use && use.used > capacity ? 'verdict broken' : 'quiet' },
       `${numeral(use?.used ?? 0)} of ${count(capacity, 'seat')} taken`),
     element('ul', { class: 'exams-there' }, (use?.exams ?? []).map(
       (exam) => examItem(exam, timetable, chosen))),
-    element('p', { class: 'quiet' }, 'The mouse or the arrow keys choose a cell; Enter comes here.'));
+    element('p', { class: 'quiet' }, `The mouse or the arrow keys choose a cell; Enter comes here${
+      timetable.number ? ', M moves the exam of a cell' : ''}.`));
   if (isEntered) byId('cell-title').focus();
 }
 
@@ -110,8 +147,11 @@ function showExam(exam) {
   const timetable = openTimetable();
   const place = timetable && placesIn(timetable).get(exam);
   if (!place) {
-    byId('cell').replaceChildren(element('h3', { id: 'cell-title', tabindex: -1 }, office.names.exam(exam)),
-      element('p', {}, 'Not placed'));
+    byId('cell-body').replaceChildren(
+      element('h3', { id: 'cell-title', tabindex: -1 }, office.names.exam(exam)),
+      element('p', {}, office.names.examTitle(exam)), element('p', {}, 'Not placed'),
+      moveButton(exam, timetable, 'Place'));
+    if (isFree()) byId('cell-title').focus();
     return;
   }
   focusPlace(byId('pictures').querySelector('table'), order(), place, isFree());
@@ -121,4 +161,5 @@ function showExam(exam) {
 /** Sets up the lists above the pictures. */
 export function setUpPictures() {
   byId('room-order').addEventListener('change', showPictures);
+  setUpMoving({ show: showTimetable, showExam, rooms: order });
 }
