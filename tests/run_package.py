@@ -118,7 +118,7 @@ def of_the_package(judged, folder):
     judged.judge("its commands, and the status of their help", dict.fromkeys(
         ("examoffice", "examoffice-session-from-csv", "examoffice-status",
          "examoffice-token", "examoffice-users-from-csv", "examoffice-changes-from-csv",
-         "examoffice-next-session"), 0), commands)
+         "examoffice-next-session", "examoffice-lists"), 0), commands)
     says_status(judged, folder, root / "usr" / "bin" / "examoffice-status")
     if shutil.which("logrotate"):
         # The package's group isn't there.

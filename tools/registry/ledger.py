@@ -130,6 +130,20 @@ class Ledger:
             ledger.db.execute(statement)
         return ledger
 
+    @classmethod
+    def read_at(cls, path: pathlib.Path) -> Ledger:
+        """The ledger of a file, to be read beside others."""
+        try:
+            ledger = cls(sqlite3.connect(f"{path.absolute().as_uri()}?mode=ro", uri=True,
+                                         isolation_level=None))
+            ledger.db.execute("BEGIN")
+            version = ledger.db.execute("SELECT value FROM about WHERE key = 'version'").fetchone()
+        except sqlite3.Error as fault:
+            raise NotALedger(f"{path} is not a ledger: {fault}") from fault
+        if version != (VERSION,):
+            raise NotALedger(f"{path} is a ledger of another version than {VERSION}")
+        return ledger
+
     def keep(self) -> None:
         """Commits all that was done, and begins a transaction again."""
         self.db.execute("COMMIT")
