@@ -31,6 +31,10 @@ class Part:
     def seen(self):
         return self.named_in(self.said)
 
+    @cached_property
+    def words(self):
+        return set(WORD.findall(self.whole))
+
     def named_in(self, text):
         """What a text of this part names: a crate and a name for each name that is imported, or
         stands in the same file, and a name alone after a dot or two colons."""
@@ -152,4 +156,4 @@ def seeds_of(crate, functions, edited):
              and (owner in part.owners or owner is None)}
     bare = {name for part in found for name in part.names
             if not part.is_promised or any(text.strip() in part.said for text in edited)}
-    return found | {part for part in parts_of(crate) if bare.intersection(WORD.findall(part.whole))}
+    return found | {part for part in parts_of(crate) if part.words & bare}

@@ -249,14 +249,19 @@ class Edit:
 
 def function_of(file, text):
     """The type, if there is one, and the name of the function in whose body a text stands once."""
-    lines = file.read_text().splitlines()
-    found = lines_with(text, lines)
-    for item in items(lines):
-        owner = None if item.function else item.of["type"] if item.of else item.name
-        for function in [item] if item.function else item.functions:
-            if len(found) == 1 and function.at < found[0] < function.end:
-                return owner, function.name
-    return None
+    found = lines_with(text, file.read_text().splitlines())
+    return next((name for at, end, name in bodies_of(file) if len(found) == 1
+                 and at < found[0] < end), None)
+
+
+@cache
+def bodies_of(file):
+    """Each function of a file: its first line, the one after its last, its type, if it has one, and
+    its name."""
+    return [(function.at, function.end,
+             (None if item.function else item.of["type"] if item.of else item.name, function.name))
+            for item in items(file.read_text().splitlines())
+            for function in ([item] if item.function else item.functions)]
 
 
 def lines_with(text, lines):
@@ -378,7 +383,7 @@ def hashes(name):
 
 def forget():
     """What is read of the sources from now on is read anew."""
-    for read in (hashes, parts_of, index_of):
+    for read in (hashes, parts_of, index_of, bodies_of):
         read.cache_clear()
 
 
