@@ -20,6 +20,7 @@ const { addressed } = await import('../front/page/sections.js');
 const {
   daysOfCandidate, daysOfPeriods, differingPlaces, gapsOf, loadOf, roomsInOrder, seatedIn, shadeOf, stepIn,
 } = await import('../front/page/layout.js');
+const { penaltyOf, pointsAfter } = await import('../front/page/points.js');
 const { sessionIn } = await import('../front/page/session.js');
 const { distance, fold, studentIdentities } = await import('../front/page/identities.js');
 const {
@@ -562,4 +563,31 @@ cases('edits', [
     return stepText(way === 'undo' ? reversed(step) : step, way, { exam: (one) => LABELS.exams[one].code,
       place: (place) => numbered.place(place) });
   })],
+]);
+
+// The small session, and one with a night between periods 2 and 3; solutions as docs/WORKED.md has them.
+const [SMALL_SESSION, NIGHTLY_SESSION] = [SMALL, SMALL.replace('18:04:2005', '16:04:2005')
+  .replace('FRONTLOAD', 'OVERNIGHT,6\r\nFRONTLOAD')].map(sessionIn);
+const placed = (...places) => new Map(places.flatMap((place, exam) => (
+  place ? [[exam, { period: place[0], room: place[1] }]] : [])));
+const SOLVED = [[0, 0], [1, 0], [3, 1], [2, 0]];
+const LATE = [[3, 0], [1, 0], [3, 1], [2, 0]];
+const withOptics = (place) => penaltyOf(placed(...SOLVED.slice(0, 3), place), SMALL_SESSION);
+const scoredDraft = (total, places) => ({ penalty: { total },
+  places: places.map(([period, room], exam) => ({ exam, period, room })) });
+const after = (edit, total) => pointsAfter(stepOf(edit, scoredDraft(total, SOLVED)), scoredDraft(total, SOLVED),
+  placed(...SOLVED), SMALL_SESSION);
+
+cases('the points of a timetable', [
+  ['exam 3 in each place that is free, and in none', [39, 36, 37, 44, 27, 44, 21],
+    () => [[1, 0], [1, 1], [2, 0], [2, 1], [3, 0], [3, 1], null].map(withOptics)],
+  ['nothing is placed', 0, () => penaltyOf(new Map(), SMALL_SESSION)],
+  ['the largest exam is late', 34, () => penaltyOf(placed(...LATE), SMALL_SESSION)],
+  ['over night', 40, () => penaltyOf(placed(...LATE), NIGHTLY_SESSION)],
+  ['two durations in one place', 39,
+    () => penaltyOf(placed([0, 0], [0, 0], ...SOLVED.slice(2)), SMALL_SESSION)],
+  ['after an exam is moved, taken out, or swapped', [27, 21, 39],
+    () => [{ kind: 'put', exam: 3, period: 3, room: 0 }, { kind: 'clear', exam: 3 },
+      { kind: 'swap', exam: 2, other: 3 }].map((edit) => after(edit, 37))],
+  ['the office says other points', null, () => after({ kind: 'clear', exam: 3 }, 38)],
 ]);

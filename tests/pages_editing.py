@@ -67,6 +67,7 @@ def choosing(page, words):
                 f"{HALL}, {at[1]}: MATH102, 2 of 3 seats; 39 points, 2 more",
                 f"{HALL}, {at[2]}: PHYS102, 1 of 3 seats; here now",
                 f"{HALL}, {at[3]}: free, 3 seats; 27 points, 10 fewer"],
+            "#move-out": "Taken out: 21 points, 16 fewer.",
             "focused": f"{at[3]}\n27 points, 10 fewer, {HALL}"}),
         ("the rooms of a period", "press right", {
             "titles #move-places ul ul .place": [
@@ -167,6 +168,31 @@ def taken_out(page, words):
         ("nothing is looked for", ("set", "#find", ""), {"texts #found p": []}))
 
 
+SWAPS = "titles #swap-others .place"
+
+
+def swapped(page, words):
+    """An exam is swapped with another one, which is found by its name or by its cell."""
+    mechanics = f"Swap with PHYS101 {words.room[3]} 39 points, 2 more"
+    page.steps(
+        ("what could be swapped", [f"click {OPTICS}", MOVE,
+                                   "click #cell-body .buttons :nth-child(3)"], {
+            "focus": "swap-words", SWAPS: [], "texts #pictures thead tr:nth-child(3) td": []}),
+        ("an exam that is looked for", ("set", "#swap-words", "mechanics"), {SWAPS: [mechanics]}),
+        ("itself", ("set", "#swap-words", "optics"), {
+            SWAPS: [], "#swap-count": "No other exam with a place is there."}),
+        ("the exam of a cell", f"click {CELL % (1, 3)}", {SWAPS: [
+            f"Swap with MATH102 {words.hall[1]} 37 points, no change"], "#swap-count": ""}),
+        ("one that a rule forbids", [f"click {CELL % (2, 5)}", "click #swap-others button"], {
+            "said": f"{NOT_MADE}Exam PHYS101 is longer than its period."}),
+        ("a swap", [f"click {CELL % (1, 3)}", "click #swap-others button"], {
+            "said": f"PHYS102: {words.hall[1]}. MATH102: {words.hall[2]}. 37 points now, 37 "
+                    "before.", "#undo": "Undo: swap PHYS102 and MATH102 back"}),
+        ("a swap, undone", "click #undo", {
+            "said": f"PHYS102: {words.hall[2]}. MATH102: {words.hall[1]}. 37 points now, 37 "
+                    "before."}))
+
+
 def moved_elsewhere(edited, period, room):
     """The office moves PHYS102."""
     asked(edited.office.port, "POST", "/drafts/1/exams/3/move",
@@ -210,4 +236,5 @@ def editing(run, chromium, edited):
         by_clicks(page, words)
         by_keys(page, edited.front, words)
         taken_out(page, words)
+        swapped(page, words)
         changed_meanwhile(page, edited, words)

@@ -18,13 +18,18 @@ export const KINDS = {
   three: 'Three exams in a day',
 };
 
+// The exams of each student, by the candidates of exams that they were found in.
+const known = new WeakMap();
+
 /**
  * The exams of each student, ascending.
  * @param {number[][]} candidates
  * @returns {Map<number, number[]>}
  */
 export function examsByStudent(candidates) {
-  const found = new Map();
+  const found = known.get(candidates) ?? new Map();
+  if (known.has(candidates)) return found;
+  known.set(candidates, found);
   for (const [exam, students] of candidates.entries()) {
     for (const student of students) {
       const exams = found.get(student);

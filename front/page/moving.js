@@ -12,6 +12,7 @@ import { placesIn } from './preview.js';
 import { keepDraft } from './reading.js';
 import { addressOf } from './sections.js';
 import { office, openTimetable } from './state.js';
+import { costText, showSwap, showSwapsIn } from './swapping.js';
 
 /**
  * @typedef {import('./drafts.js').Draft} Draft
@@ -19,10 +20,11 @@ import { office, openTimetable } from './state.js';
  * @typedef {import('./places.js').Option} Option
  *
  * What is moved: the exam, the draft as it was seen, the office's places and periods, which exams of each
- * period have the same candidates, the place that is shown, and what takes the marks of the picture away.
+ * period have the same candidates, the place that is shown, whether a click makes the move, whether another
+ * exam is looked for to swap with, and what takes the marks of the picture away.
  * @typedef {{ exam: number, draft: Draft, options: Map<string, Option>,
  *   periods: import('./places.js').Period[], shared: Map<number, [number, number][]>, shown: string,
- *   isSure: boolean, rooms: number[], clear: () => void }} Move
+ *   isSure: boolean, isSwap: boolean, rooms: number[], clear: () => void }} Move
  */
 
 const keyOf = (period, room) => `${period} ${room}`;
@@ -84,7 +86,8 @@ export function startMoving(exam) {
 function show(exam, draft, options) {
   const places = placesIn(draft);
   const move = { exam, draft, options: new Map(options.map((one) => [keyOf(one.period, one.room), one])),
-    periods: periodsOf(options, draft.places[exam]), shown: '', isSure: false, rooms: page.rooms(),
+    periods: periodsOf(options, draft.places[exam]), shown: '', isSure: false, isSwap: false,
+    rooms: page.rooms(),
     shared: sharedByPeriod(exam, places, office.session?.candidates ?? []), clear: () => {} };
   const now = draft.penalty.total;
   const heads = move.periods.map(({ best, fault }) => (best
@@ -146,15 +149,36 @@ function showPanel(move) {
     element('p', { class: 'quiet' }, `${count(session?.candidates[exam].length ?? 0, 'candidate')}, ${
       session?.minutes[exam]} minutes. Now ${names.place(place)}, ${count(draft.penalty.total, 'point')}.`),
     element('div', { class: 'buttons' }, button('Cancel', cancel),
-      isPlaced && button('Take out', () => edit({ kind: 'clear', exam }))),
-    element('p', { id: 'move-shown' }, 'Choose a place here or in the picture.'),
-    element('div', { class: 'fields' }, orderField(list)), element('div', { id: 'move-places' }));
+      isPlaced && button('Take out', () => edit({ kind: 'clear', exam })),
+      isPlaced && button('Swap …', swap)),
+    element('p', { id: 'move-out', class: 'quiet' }),
+    element('div', { id: 'move-way' },
+      element('p', { id: 'move-shown' }, 'Choose a place here or in the picture.'),
+      element('div', { class: 'fields' }, orderField(list)), element('div', { id: 'move-places' })));
   list('points');
+  // After the places are shown, because it takes longer.
+  if (isPlaced) setTimeout(() => showOut(move));
+}
+
+/** Shows what the draft would cost without the exam. */
+function showOut(move) {
+  if (office.move !== move) return;
+  const words = costText({ kind: 'clear', exam: move.exam }, move);
+  byId('move-out').textContent = words && `Taken out: ${words}.`;
+}
+
+/** Looks for an exam to swap with, in place of a place. */
+function swap() {
+  const move = /** @type {Move} */ (office.move);
+  move.clear();
+  move.isSwap = true;
+  showSwap(byId('move-way'), move, edit);
 }
 
 /** Shows what a place of the picture would cost, or what forbids it. */
 export function showPlace(period, room) {
   const move = /** @type {Move} */ (office.move);
+  if (move.isSwap) return;
   const { text } = markOf(move.options.get(keyOf(period, room)), move);
   move.shown = keyOf(period, room);
   byId('move-shown').replaceChildren(element('b', {}, `${periodText(period)}, ${office.names.room(room)}`),
@@ -167,9 +191,13 @@ export function pressPlace(period, room, isMouse) {
   move.isSure = isMouse || move.shown === keyOf(period, room);
 }
 
-/** Puts the exam into a place of the picture, if that is free. */
+/** Puts the exam into a place of the picture, if that is free; or lists the exams there to swap with. */
 export function putInto(period, room) {
-  const { options, exam, isSure } = /** @type {Move} */ (office.move);
+  const { options, exam, isSure, isSwap } = /** @type {Move} */ (office.move);
+  if (isSwap) {
+    showSwapsIn(period, room, office.move, edit);
+    return;
+  }
   if (isSure && markOf(options.get(keyOf(period, room)), office.move).kind === 'free') {
     edit({ kind: 'put', exam, period, room });
   }

@@ -8,7 +8,8 @@
 const fieldsOf = (line) => line.split(',').map((field) => field.trim());
 
 /**
- * A session's exams (minutes and candidates), periods, rooms and spread, and its lines without candidates.
+ * A session's exams (minutes and candidates), periods, rooms, spread, penalties and weights, and its lines
+ * without candidates.
  * @returns {Session}
  */
 export function sessionIn(text) {
@@ -21,6 +22,9 @@ export function sessionIn(text) {
       { date: date.split(':').reverse().join('-'), start, minutes: Number(minutes) })),
     capacities: rooms.map(([capacity]) => Number(capacity)),
     spread: Number(weights.find(([word]) => word === 'PERIODSPREAD')?.[1] ?? 0),
+    penalties: { periods: periods.map((fields) => Number(fields[3])),
+      rooms: rooms.map((fields) => Number(fields[1])) },
+    weights: Object.fromEntries(weights.map(([word, ...numbers]) => [word, numbers.map(Number)])),
     frame: text.split('\r\n').slice(0, -1).map((line, number) => (
       number > 0 && number <= exams.length ? line.split(',', 1)[0] : line)),
   };

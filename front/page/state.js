@@ -4,6 +4,7 @@ import { Names } from './labels.js';
 
 /**
  * @typedef {{ minutes: number[], candidates: number[][], capacities: number[], spread: number,
+ *   penalties: { periods: number[], rooms: number[] }, weights: Record<string, number[]>,
  *   periods: { date: string, start: string, minutes: number }[], frame: string[] }} Session
  * @typedef {{ period: number, room: number, used: number, capacity: number, exams: number[] }} Use
  * @typedef {import('./drafts.js').Judged & { number?: undefined, places?: undefined, uses: Use[] }} Published
