@@ -1,6 +1,7 @@
 """The registry's service behind the front: who reaches it, and what it writes into the ledger."""
 import concurrent.futures
 import contextlib
+import datetime
 import hashlib
 import json
 import os
@@ -117,7 +118,8 @@ def strangers(run, stack):
     people = {"somebody who isn't signed in": Client(stack.front),
               **{user: signed_in(stack, user) for user in ("ada", "physics", "nobody")}}
     questions = (("GET", "about"), ("GET", "batches"), ("PUT", "batches/1"), ("POST", "students"),
-                 ("GET", "history"), ("GET", "publications/1"), ("GET", "anything"))
+                 ("GET", "history"), ("GET", "publications/1"), ("GET", "lists"),
+                 ("POST", "lists"), ("GET", "lists/1/door-lists.pdf"), ("GET", "anything"))
     for running in (True, False):
         for name, client in people.items():
             for method, path in questions:
@@ -313,6 +315,106 @@ def kept_in_spite(run, stack, ada):
          if one["exam"] == 3]))
 
 
+# ---- Lists to print
+
+def ended(stack, client, number):
+    """A job of lists, as soon as it has ended."""
+    def found():
+        return next(one for one in asked(client, "GET", "lists")[1]["lists"]
+                    if one["number"] == number)
+
+    browser.until("the lists are made", lambda: found()["state"] not in ("waiting", "working"))
+    return found()
+
+
+def lists(run, stack):
+    """The office asks for lists, and gets them as files; nobody else does."""
+    ada = signed_in(stack, "registry")
+    for body in ("{", "[]", "{}", '{"kinds":[]}', '{"kinds":["doors"]}',
+                 '{"kinds":["door","door"]}', '{"kinds":["door"],"day":"monday"}',
+                 '{"kinds":["door"],"building":1}'):
+        run.judge(f"lists: {body}", (400, {"error": "body"}), asked(ada, "POST", "lists", body))
+    run.judge("no lists yet", [], asked(ada, "GET", "lists")[1]["lists"])
+    wanted = {"kinds": ["door", "exams"], "day": None, "building": "Main building"}
+    status, begun = asked(ada, "POST", "lists", json.dumps(wanted))
+    run.judge("lists are begun", (202, 1, "registry"), (status, begun["number"], begun["by"]))
+    job = ended(stack, ada, 1)
+    run.judge("they are made", (
+        "done", wanted, [["door-lists.pdf", 3], ["timetable-by-exam.pdf", 1]], []), (
+        job["state"], {name: job[name] for name in wanted},
+        [[one["name"], one["pages"]] for one in job["files"]], job["warnings"]))
+    last = asked(ada, "GET", "history")[1]["publications"][0]
+    words = f"Publication {last['number']}, " + datetime.datetime.fromisoformat(
+        last["at"]).strftime("%-d %B %Y, %H:%M")
+    run.judge("of which publication", [words] * 2,
+              [job["publication"], asked(ada, "GET", "lists")[1]["publication"]])
+    folder = stack.service.made / "lists" / "1"
+    run.judge("who may read them", {"1": 0o750, "about.json": 0o640, "door-lists.pdf": 0o640,
+                                    "timetable-by-exam.pdf": 0o640}, {
+        it.name: it.stat().st_mode & 0o777 for it in (folder, *folder.iterdir())})
+    path = "/-/registry/lists/1/door-lists.pdf"
+    status, header, body = ada.ask("GET", path)
+    run.judge("a file", (200, "application/pdf", "no-store", "attachment; filename=door-lists.pdf",
+                         job["files"][0]["bytes"], b"%PDF-"),
+              (status, *(header[name] for name in ("Content-Type", "Cache-Control",
+                                                   "Content-Disposition")), len(body), body[:5]))
+    for user in ("ada", "physics", "nobody"):
+        run.judge(f"the file for {user}", NOT_THE_OFFICE,
+                  signed_in(stack, user).ask("GET", path)[::2])
+    run.judge("the file for strangers", NOBODY, Client(stack.front).ask("GET", path)[::2])
+    for name in ("1/about.json", "1/seat-labels-3x7.pdf", "2/door-lists.pdf",
+                 "1/..%2f..%2fledger.db"):
+        run.judge(f"no file {name}", 404, ada.ask("GET", f"/-/registry/lists/{name}")[0])
+    old_lists(run, stack, ada)
+
+
+def old_lists(run, stack, ada):
+    """Lists that can't be made say why; the last six are kept, for a day."""
+    for number in range(2, 8):
+        asked(ada, "POST", "lists", json.dumps({"kinds": ["door"], "building": f"B{number}"}))
+        job = ended(stack, ada, number)
+        run.judge("nobody is there", ("failed", "nobody has a seat there"),
+                  (job["state"], job["words"]))
+
+    def numbers():
+        return [one["number"] for one in asked(ada, "GET", "lists")[1]["lists"]]
+
+    browser.until("the first is removed", lambda: numbers() == [7, 6, 5, 4, 3, 2])
+    run.judge("its files too", False, (stack.service.made / "lists" / "1").exists())
+    for number, days in ((2, 0.9), (3, 1.1)):
+        then = time.time() - 86_400 * days
+        os.utime(stack.service.made / "lists" / f"{number}", (then, then))
+    browser.until("one of yesterday is removed", lambda: numbers() == [7, 6, 5, 4, 2])
+    about = stack.service.made / "lists" / "2" / "about.json"
+    about.write_text(about.read_text().replace('"failed"', '"working"'))
+    run.judge("one that was cut off", (
+        "failed", "The service was stopped meanwhile. Please ask for the lists again."),
+        tuple(ended(stack, ada, 2)[name] for name in ("state", "words")))
+
+
+def lists_on_the_page(run, page, stack, office):
+    """The page makes lists, offers them, and says when they are of an earlier publication."""
+    made = "texts #lists-made tbody td:nth-child(%d)"
+    page.steps(
+        ("door lists", ["click #refresh", "click #menu [data-to=seats] a", "click #lists button"], {
+            "said": "1 file is made, with 4 pages.", made % 1: ["Door lists"],
+            made % 2: ["The whole session"]}),
+        ("labels of a building", [
+            ("set", "#list-kind", "labels-3x7"), ("set", "#list-of", "building Physics building"),
+            "click #lists button"], {
+            "said": "1 file is made, with 1 page.",
+            made % 1: ["Seat labels, 3 x 7", "Door lists"],
+            made % 2: ["Physics building", "The whole session"]}))
+    run.judge("the file of the page", b"%PDF-", page.downloaded(
+        "door-lists.pdf", "#lists-made tr:nth-child(2) a")[:5])
+    later = "Another timetable was published since."
+    page.judge("they are of the publication", {"texts #lists-made td:nth-child(3) .below": []})
+    run.judge("one more publication", 200, office.ask("POST", "/drafts/1/publish")[0])
+    browser.until("it is kept", lambda: published(stack, office)[0]["number"] == 3)
+    page.steps(("they are of an earlier one", "click #refresh", {
+        "texts #lists-made td:nth-child(3) .below": [later, later]}))
+
+
 NEW = "student,name,exam,action\nr9,Zoë Zander,MATH101,new\nr9,,PHYS102,add\nq1,Quo,,new"
 WHOLE = ("student,exam,name\ns1,MATH101,\ns1,PHYS102,\ns2,MATH101,\ns2,MATH102,\ns3,MATH102,\n"
          "s3,PHYS101,\nr9,MATH101,\nr9,PHYS102,\nx1,PHYS101,Xi\n")
@@ -395,6 +497,7 @@ def in_browser(run, chromium, make_front):
         run.judge("another publication", 200, office.ask("POST", "/drafts/1/publish")[0])
         kept(run, stack, office, "both are kept", (2, "registry", 1, 43), FIRST)
         history_on_the_page(Page(run, chromium))
+        lists_on_the_page(run, Page(run, chromium), stack, office)
         run.judge("what the page sent, in the ledger", [
             (20, "page", "registry", 2), (21, "page", "registry", 1)], stack.service.rows(
             "SELECT number, source, prepared_by, added FROM batches JOIN effects ON batch = number"
@@ -419,7 +522,7 @@ def judge_stack(run, make_front):
     stack = Stack(run, make_front, "registry")
     try:
         published_first(run, stack)
-        for part in (strangers, history, batches, new_students, at_once):
+        for part in (strangers, history, lists, batches, new_students, at_once):
             part(run, stack)
     finally:
         stack.stop()

@@ -27,6 +27,7 @@ const {
   differences, differencesForCandidate, differencesForDepartment, faultsOfNames, isSealed, Names,
 } = await import('../front/page/labels.js');
 const { changesIn, eventsOf } = await import('../front/page/history.js');
+const { kindsText, sizeText, wantedIn } = await import('../front/page/lists.js');
 const { People } = await import('../front/page/seats.js');
 const { examsWith } = await import('../front/page/tables.js');
 const { clashesOf, fullRoomsOf } = await import('../front/page/preview.js');
@@ -448,6 +449,19 @@ cases('what happened', [
       { publication, period: 1, room: 1 })) })],
   ['changed seats', [{ student: 1, exam: 3, was: { period: 2, room: 0, seat: 1 }, is: null }],
     () => changesIn({ seats: [{ student: 1, exam: 3, from: [2, 0, 1], to: null }] })],
+]);
+
+const ALL_KINDS = ['door', 'attendance', 'labels-3x7', 'labels-3x8', 'exams', 'days'];
+
+cases('lists to print', [
+  ['what the form asks for', [{ kinds: ['door'], day: null, building: null },
+    { kinds: ALL_KINDS, day: '2027-05-14', building: null },
+    { kinds: ['days'], day: null, building: 'Main building' }],
+  () => [['door', ''], ['all', 'day 2027-05-14'], ['days', 'building Main building']].map(
+    ([kind, of]) => wantedIn(kind, of))],
+  ['what is made', ['All lists', 'Door lists, Timetable by exam'],
+    () => [ALL_KINDS, ['door', 'exams']].map(kindsText)],
+  ['sizes', ['1 kB', '1,000 kB', '1 MB', '14.3 MB'], () => [1, 999_001, 1e6, 14_260_000].map(sizeText)],
 ]);
 
 // Where exam 3 of the small example can go; it is in period 2, room 0.

@@ -245,7 +245,8 @@ export function setUpSeats(office, readSession) {
     if (!printed) return 'Nobody has a seat there.';
     if (printed > MOST_PRINTED) {
       throw new FormFault(`These are ${numeral(printed)} seats, and a browser can print ${
-        numeral(MOST_PRINTED)} at once. Choose a period or a room.`, 'print-period');
+        numeral(MOST_PRINTED)} at once. Choose a period or a room${
+        office.service ? ', or make PDF files' : ''}.`, 'print-period');
     }
     printSheets(byId('print-kind').value, sheets, office, people);
     return `${count(sheets.length, 'sheet')} with ${count(printed, 'seat')}.`;

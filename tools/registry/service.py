@@ -1,7 +1,8 @@
 """The registry's service: what the registry's page asks for beside the office.
 
 It keeps a session's ledger, so that batches of the page are in it when they are sent, and new
-students get their numbers. Only nginx asks it, and only for those who are the office (front/):
+students get their numbers; and it makes lists to print. Only nginx asks it, and only for those who
+are the office (front/):
 
     gunicorn --workers 1 --threads 8 --bind unix:registry.sock registry.service:app
 
@@ -31,7 +32,10 @@ from .csv_tables import Faults, Known, Row
 from .folder import Folder
 from .history import History, Unsteady, difference, look, places_of
 from .ledger import Ledger, NotALedger, locked
+from .list_jobs import Busy, Jobs, wanted_in
+from .office import TOKEN as TOKEN_NAME
 from .office import Office, OfficeBySocket, Refused
+from .published import words_of_last
 from .sending import send_all, send_one
 
 FOLDER = pathlib.Path(os.environ["REGISTRY_FOLDER"])
@@ -289,6 +293,46 @@ def differences() -> tuple[dict[str, Any], int]:
     return (found, 200) if found else ({"error": "publication"}, 404)
 
 
+# ---- Lists to print
+
+jobs = Jobs()
+
+
+@app.post("/-/registry/lists")
+def make_lists() -> tuple[dict[str, Any], int]:
+    """Begins to make lists."""
+    wanted = wanted_in(flask.request.get_json(force=True, silent=True))
+    if wanted is None:
+        return {"error": "body"}, 400
+    with reading():
+        pass
+    office = ["--office", FRONT] if "://" in FRONT else [
+        "--office", f"{session()}.session", "--socket", FRONT]
+    try:
+        return jobs.begin(folder().path, wanted, user(), office,
+                          {**os.environ, TOKEN_NAME: TOKEN}), 202
+    except Busy:
+        return {"error": "often"}, 429
+
+
+@app.get("/-/registry/lists")
+def lists() -> dict[str, Any]:
+    """All lists that are made or asked for, and what the last publication is called."""
+    with History(folder().path).reading() as db:
+        return {"lists": jobs.all(folder().path), "publication": words_of_last(db)}
+
+
+@app.get("/-/registry/lists/<int:number>/<name>")
+def list_file(number: int, name: str) -> flask.Response | tuple[dict[str, Any], int]:
+    path = jobs.file(folder().path, number, name)
+    if not path:
+        return {"error": "lists"}, 404
+    reply = flask.send_file(path, "application/pdf", as_attachment=True)
+    # nginx says that nobody may store it.
+    del reply.headers["Cache-Control"]
+    return reply
+
+
 # What kept the last look of a session from being whole, in words.
 troubles: dict[str, str] = {}
 
@@ -312,6 +356,7 @@ def watch() -> None:
             names = [it.parent.name for it in FOLDER.glob("*/ledger.db")
                      if NAME.fullmatch(it.parent.name)]
             for name in names:
+                jobs.remove_old(FOLDER / name)
                 if after.get(name, 0) < time.monotonic():
                     look_at(name, len(names) == 1)
                     after[name] = time.monotonic() + (PATIENCE if name in troubles else 0)
