@@ -589,8 +589,8 @@ const LATE = [[3, 0], [1, 0], [3, 1], [2, 0]];
 const withOptics = (place) => penaltyOf(placed(...SOLVED.slice(0, 3), place), SMALL_SESSION);
 const scoredDraft = (total, places) => ({ penalty: { total },
   places: places.map(([period, room], exam) => ({ exam, period, room })) });
-const after = (edit, total) => pointsAfter(stepOf(edit, scoredDraft(total, SOLVED)), scoredDraft(total, SOLVED),
-  placed(...SOLVED), SMALL_SESSION);
+const after = (edit, total) => pointsAfter(stepOf(edit, scoredDraft(total, SOLVED)),
+  scoredDraft(total, SOLVED), placed(...SOLVED), SMALL_SESSION);
 
 cases('the points of a timetable', [
   ['exam 3 in each place that is free, and in none', [39, 36, 37, 44, 27, 44, 21],

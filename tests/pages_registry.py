@@ -139,6 +139,20 @@ def sections(run, chromium, front):
 # ---- Publishing
 
 ASKS = ["focus #publish", "press enter"]
+# What the page says of work that takes a second and a half, at its end and after it.
+LONG_WORK = """return (async () => {
+    const scripts = document.querySelector('script[type=module]').src;
+    const { showProgress } = await import(new URL('messages.js', scripts));
+    const said = () => document.querySelector('#status').innerText;
+    let meanwhile;
+    await showProgress('Publishing …', async (say) => {
+        say('Publishing, 3 of 4 …');
+        await new Promise((done) => setTimeout(done, 1500));
+        meanwhile = said();
+        return 'Published.';
+    });
+    return [meanwhile, said()];
+})()"""
 
 
 def publications(front):
@@ -171,6 +185,8 @@ def publishing_asks(page, front):
         "return fetch(document.querySelector('#confirm-text a[download]').href)"
         ".then(reply => reply.text())").split())
     page.run.judge("nothing was published", before, publications(front))
+    page.run.judge("long work says its step and its seconds",
+                   ["Publishing, 3 of 4 … 1 s", "Published."], page.reader.run(LONG_WORK))
 
 
 def publishing_shows_changes(page, front):

@@ -68,23 +68,40 @@ function showFault(fault) {
 }
 
 /**
+ * Says what is done, and after a second for how long; who hears the page isn't told the seconds.
+ * @param {string} words
+ */
+function telling(words) {
+  const began = Date.now();
+  const seconds = element('span', { 'aria-hidden': 'true' });
+  /** @param {string} next */
+  const say = (next) => byId('status').replaceChildren(`${next} `, seconds);
+  say(words);
+  const timer = setInterval(() => {
+    seconds.textContent = `${Math.floor((Date.now() - began) / 1000)} s`;
+  }, 1000);
+  return { say, stop: () => clearInterval(timer) };
+}
+
+/**
  * Does the work, and shows what it returns, or why it failed, after the control that caused it.
  * @param {string} words what is said meanwhile
- * @param {() => Promise<string> | string} work
+ * @param {(say: (words: string) => void) => Promise<string> | string} work it may say which step it is at
  * @param {Element | null} at
  */
 export async function showProgress(words, work, at = null) {
   placeMessages(at);
-  byId('status').textContent = words;
+  const told = telling(words);
   byId('error').replaceChildren();
   clearFieldErrors();
   document.body.setAttribute('aria-busy', 'true');
   try {
-    byId('status').textContent = await work();
+    byId('status').textContent = await work(told.say);
     byId('as-of').replaceChildren('As of ', moment(new Date()));
   } catch (fault) {
     byId('status').textContent = '';
     showFault(fault);
   }
+  told.stop();
   document.body.removeAttribute('aria-busy');
 }

@@ -33,19 +33,23 @@ export function setUpPublishing(reread, load) {
       element('p', {}, `${isFirst ? FIRST : REPLACES} This can't be undone.`),
       isFirst ? [] : element('p', {}, element('a', { href: '/publication', download: 'publication.sol' },
         'Download the published timetable'), ' first, to keep a copy.'),
-    ].flat(), `Publish draft ${number}`, () => showProgress(`Publishing ${name} …`, () => publish(found),
-      byId('publish')));
+    ].flat(), `Publish draft ${number}`, () => showProgress(`Publishing ${name} …`,
+      (say) => publish(found, (step) => say(`Publishing ${name}, ${step} …`)), byId('publish')));
     return `${name} has ${count(found.penalty.total, 'point')}.`;
   }
 
-  async function publish(confirmed) {
+  async function publish(confirmed, say) {
     const { number } = confirmed;
+    say('1 of 4: reading it again');
     if (changesBetween(confirmed, await reread(number), office.names).length) {
       return askToPublish(confirmed);
     }
+    say('2 of 4: reading the seats before');
     const before = await readSeats();
+    say('3 of 4: giving seats');
     const answer = await change(`Draft ${number} was not published.`,
       `/drafts/${number}/publish`, 'POST');
+    say('4 of 4: reading what changed');
     await load();
     await offerChanges(confirmed.name, before, office);
     byId('status').focus();
