@@ -2,6 +2,7 @@
 import concurrent.futures
 import contextlib
 import datetime
+import gzip
 import hashlib
 import json
 import os
@@ -25,22 +26,26 @@ NONE = told_error(503, "unavailable")
 
 
 class Service:
-    """The registry's service, with the folder of a session made of the small example."""
+    """The registry's service, with the folder of a session made of the small example, or none."""
 
-    def __init__(self, folder, more):
+    def __init__(self, folder, is_new, more):
         self.folder, self.socket = folder, folder / "registry.sock"
         self.made = folder / "term"
-        if not self.made.exists():
-            self.made.mkdir(parents=True)
-            if os.geteuid() == 0:
-                # nginx reads the names.
-                shutil.chown(self.made, group="www-data")
-                self.made.chmod(0o2750)
-            subprocess.run([TOP / "tools" / "session_from_csv", TOP / "examples" / "small",
-                            self.made], check=True, stdout=subprocess.DEVNULL, timeout=SECONDS)
+        folder.mkdir()
+        if os.geteuid() == 0:
+            # nginx reads the names.
+            shutil.chown(folder, group="www-data")
+            folder.chmod(0o2750)
+        if not is_new:
+            self.make()
         self.environment = {**os.environ, "REGISTRY_FOLDER": str(folder), **more,
                             "PYTHONDONTWRITEBYTECODE": "1"}
         self.start()
+
+    def make(self):
+        """Makes the ledger of the session, as a tool does."""
+        subprocess.run([TOP / "tools" / "session_from_csv", TOP / "examples" / "small", self.made],
+                       check=True, stdout=subprocess.DEVNULL, timeout=SECONDS)
 
     def start(self):
         with (self.folder / "errors").open("ab") as errors:
@@ -60,28 +65,34 @@ class Service:
 
 
 class Stack(front_sign_in.Stack):
-    """Front, queue, agent and office, and the registry's service with a token of its own."""
+    """Front, queue, agent and office, and the registry's service with a token of its own; with the
+    session of the small example, or new."""
 
-    def __init__(self, run, make_front, name):
+    def __init__(self, run, make_front, name, is_new=False):
         folder = run.folder / name
         super().__init__(run, make_front, name, (
             ("/run/examoffice-registry", f"{folder}/registry"),
-            ("/var/lib/examoffice-front", f"{folder}/front/run")))
+            ("/var/lib/examoffice-front", f"{folder}/front/run")),
+            **({"start": None} if is_new else {}))
         with contextlib.ExitStack() as begun:
             begun.callback(self.begun.close)
             front = self.front.folder
             (front / "more").mkdir()
             (front / "more" / "service.conf").symlink_to("../service.conf")
             self.token = self.added_program()
-            self.service = Service(folder / "registry", {
+            self.service = Service(folder / "registry", is_new, {
                 "REGISTRY_FRONT": f"{front}/run/front.sock", "REGISTRY_TOKEN": self.token,
                 "REGISTRY_LOG": f"{front}/run/changes.log", "REGISTRY_PUBLICATIONS": "4"})
             begun.callback(self.service.stop)
             (front / "labels").rename(front / "labels.small")
-            (front / "labels").symlink_to(self.service.made / "now")
+            if is_new:
+                (front / "sessions").symlink_to(self.service.folder)
+            else:
+                (front / "labels").symlink_to(self.service.made / "now")
             self.front.reload()
             browser.until("the token counts", lambda: Client(self.front).ask(
-                "GET", "/instance", Authorization=f"Bearer {self.token}")[0] == 200)
+                "GET", "/instance", Authorization=f"Bearer {self.token}")[0]
+                == (409 if is_new else 200))
             self.begun = begun.pop_all()
 
     def added_program(self):
@@ -119,7 +130,8 @@ def strangers(run, stack):
               **{user: signed_in(stack, user) for user in ("ada", "physics", "nobody")}}
     questions = (("GET", "about"), ("GET", "batches"), ("PUT", "batches/1"), ("POST", "students"),
                  ("GET", "history"), ("GET", "publications/1"), ("GET", "lists"),
-                 ("POST", "lists"), ("GET", "lists/1/door-lists.pdf"), ("GET", "anything"))
+                 ("POST", "lists"), ("GET", "lists/1/door-lists.pdf"), ("POST", "session"),
+                 ("GET", "anything"))
     for running in (True, False):
         for name, client in people.items():
             for method, path in questions:
@@ -315,6 +327,86 @@ def kept_in_spite(run, stack, ada):
          if one["exam"] == 3]))
 
 
+# ---- A new session
+
+CSV = {path.stem: path.read_bytes() for path in (TOP / "examples" / "small").glob("*.csv")}
+SIZES = "4 exams, 3 students, 6 enrolments, 4 periods, 2 rooms"
+
+
+def sent_files(client, files, **more):
+    """Status and reply for these files of a new session, as a form sends them."""
+    parts = [*((f'name="{name}"; filename="{name}.csv"', content)
+               for name, content in files.items()),
+             *((f'name="{name}"', text.encode()) for name, text in more.items())]
+    body = b"".join(b"--=b=\r\nContent-Disposition: form-data; " + head.encode() + b"\r\n\r\n"
+                    + content + b"\r\n" for head, content in parts) + b"--=b=--\r\n"
+    status, _, text = client.ask("POST", "/-/registry/session", body, **{
+        "Content-Type": "multipart/form-data; boundary==b="})
+    return status, json.loads(text)
+
+
+def new_session(run, stack):
+    """CSV files are checked, and nothing is made; then the session is loaded, and its names are
+    there."""
+    office, folder = signed_in(stack, "registry"), stack.service.made
+    run.judge("no names yet", b"null", office.ask("GET", "/labels/labels.json")[2])
+    status, found = sent_files(office, CSV)
+    run.judge("files are checked", (200, [SIZES], [], []), (
+        status, *(found[name] for name in ("summary", "warnings", "faults"))))
+    packed = {**CSV, "enrolments": gzip.compress(CSV["enrolments"])}
+    run.judge("the same, compressed", (200, found), sent_files(office, packed))
+    faulty = {**CSV, "enrolments": CSV["enrolments"].replace(b"PHYS102", b"PHYS999")}
+    for name, files, fault in (
+            ("a fault", faulty, "enrolments.csv, line 3, exam: there is no exam 'PHYS999'"),
+            ("no rules", {name: CSV[name] for name in CSV if name != "rules"},
+             "rules.csv: cannot be read: No such file or directory"),
+            ("no packed file", {**CSV, "rooms": b"\x1f\x8bno"},
+             "rooms.csv: cannot be read: Compressed file ended before the end-of-stream marker was "
+             "reached")):
+        run.judge(name, (200, [], [fault]), (lambda status, it: (
+            status, it["summary"], it["faults"][:1]))(*sent_files(office, files)))
+    run.judge("others than those that were checked", (409, {"error": "files-differ"}),
+              sent_files(office, faulty, checked=found["digest"]))
+    run.judge("nothing is made", (False, 409), (folder.exists(), office.ask("GET", "/instance")[0]))
+    # What a run that was cut off leaves.
+    stack.service.make()
+    status, loaded = sent_files(office, CSV, checked=found["digest"])
+    run.judge("the session is loaded", (201, SIZES, {"exams": 4, "pairs": 6, "periods": 4,
+                                                     "rooms": 2}),
+              (status, loaded["summary"][0], loaded["loaded"]))
+    run.judge("no other one", (409, {"error": "loaded"}), sent_files(office, CSV))
+    ada = signed_in(stack, "ada")
+    run.judge("its names, without a link of labels", (
+        "MATH101", 3, "Ada Archer", None, told_error(403, "forbidden", rule="P2")), (
+        json.loads(ada.ask("GET", "/labels/labels.json")[2])["exams"][0]["code"],
+        len(json.loads(office.ask("GET", "/labels/students.json")[2])["students"]),
+        *(it and it["name"] for it in (json.loads(one.ask("GET", "/labels/name.json")[2])
+                                       for one in (ada, office))),
+        ada.ask("GET", "/labels/students.json")[::2]))
+
+
+def new_session_on_the_page(run, page, folder):
+    """A registrar without an account on the server goes from CSV files to a session."""
+    csv = folder / "csv"
+    shutil.copytree(TOP / "examples" / "small", csv)
+
+    def chosen(*names):
+        return ("type", "#csv-files", "\n".join(f"{csv / name}.csv" for name in names))
+
+    page.steps(
+        ("three files", [chosen("exams", "rooms", "rules"), "click #csv-session button"], {
+            "said": "These files are missing: periods.csv, enrolments.csv."}),
+        ("all five", [chosen("periods", "enrolments"), "click #csv-session button"], {
+            "said": "Nothing is loaded yet. Read what is in the files, then load them.",
+            "#csv-summary": SIZES}),
+        ("they are loaded", "click #csv-load", {"#confirm-title": "Load this session?"}),
+        ("with names and owners", "click #confirm-yes", {
+            "said": "The session is loaded: 4 exams, 6 enrolments, 4 periods, 2 rooms. 4 exams "
+                    "have their owners.", "#session-title":
+            "University of Example · Examinations in April 2005"}))
+    run.judge("complaints about a new session", [], page.reader.complaints())
+
+
 # ---- Lists to print
 
 def ended(stack, client, number):
@@ -478,21 +570,36 @@ def history_on_the_page(page):
             "student,exam,action\nr9,PHYS102,drop\nr9,MATH101,drop\n"}))
 
 
+def sign_in_on_the_page(chromium, stack):
+    chromium.go(f"http://{chromium.new_host()}:{stack.front.port}/-/sign-in?to=/registry.html")
+    chromium.types("[name=user]", "registry")
+    chromium.types("[name=password]", "try-registry")
+    chromium.click("form button")
+    chromium.waits("return location.pathname === '/registry.html'")
+    is_read(chromium)
+
+
+def new_in_browser(run, chromium, make_front):
+    """The registry's page beside the service and an office without a session."""
+    stack = Stack(run, make_front, "registry_new_page", is_new=True)
+    try:
+        sign_in_on_the_page(chromium, stack)
+        new_session_on_the_page(run, Page(run, chromium), stack.run.folder)
+    finally:
+        stack.stop()
+
+
 def in_browser(run, chromium, make_front):
     """The registry's page beside the service."""
     if front_sign_in.missing():
         return
+    new_in_browser(run, chromium, make_front)
     stack = Stack(run, make_front, "registry_page")
     try:
         office = published_first(run, stack)
         # A look that fails is tried again after ten seconds.
         kept(run, stack, office, "the first is kept before the next is made", FIRST)
-        chromium.go(f"http://{chromium.new_host()}:{stack.front.port}/-/sign-in?to=/registry.html")
-        chromium.types("[name=user]", "registry")
-        chromium.types("[name=password]", "try-registry")
-        chromium.click("form button")
-        chromium.waits("return location.pathname === '/registry.html'")
-        is_read(chromium)
+        sign_in_on_the_page(chromium, stack)
         on_the_page(Page(run, chromium))
         run.judge("another publication", 200, office.ask("POST", "/drafts/1/publish")[0])
         kept(run, stack, office, "both are kept", (2, "registry", 1, 43), FIRST)
@@ -518,6 +625,14 @@ def published_first(run, stack):
     return office
 
 
+def judge_new(run, make_front):
+    stack = Stack(run, make_front, "registry_new", is_new=True)
+    try:
+        new_session(run, stack)
+    finally:
+        stack.stop()
+
+
 def judge_stack(run, make_front):
     stack = Stack(run, make_front, "registry")
     try:
@@ -534,5 +649,6 @@ def judge(of_front, make_front):
         print("front: the registry's service is left out, as signing in is")
         return
     run = Run.apart(of_front.program, of_front.folder, "front", "of_registry")
+    judge_new(run, make_front)
     judge_stack(run, make_front)
     of_front.count, of_front.failed = of_front.count + run.count, of_front.failed + run.failed

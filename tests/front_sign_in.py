@@ -112,11 +112,11 @@ class Client:
 class Stack:
     """Front, queue, agent and office. If one of them doesn't start, the others are stopped."""
 
-    def __init__(self, run, make_front, name, edits=()):
+    def __init__(self, run, make_front, name, edits=(), **office):
         self.run = Run.apart(run.program, run.folder, "front", name)
         self.key = secrets.token_hex(32)
         with contextlib.ExitStack() as begun:
-            self.office = self.run.office()
+            self.office = self.run.office(**office)
             begun.callback(self.office.killed)
             folder = self.run.folder / "front"
             shutil.copytree(TOP / "front", folder)

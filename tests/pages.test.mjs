@@ -29,6 +29,7 @@ const {
 const { changesIn, eventsOf } = await import('../front/page/history.js');
 const { kindsText, sizeText, wantedIn } = await import('../front/page/lists.js');
 const { People } = await import('../front/page/seats.js');
+const { faultOfChoice, filesByKind } = await import('../front/page/setup.js');
 const { examsWith } = await import('../front/page/tables.js');
 const { clashesOf, fullRoomsOf } = await import('../front/page/preview.js');
 const {
@@ -462,6 +463,18 @@ cases('lists to print', [
   ['what is made', ['All lists', 'Door lists, Timetable by exam'],
     () => [ALL_KINDS, ['door', 'exams']].map(kindsText)],
   ['sizes', ['1 kB', '1,000 kB', '1 MB', '14.3 MB'], () => [1, 999_001, 1e6, 14_260_000].map(sizeText)],
+]);
+
+const FIVE = ['exams.csv', 'Rooms 2027.csv', 'periods.csv', 'Enrolments-spring.CSV', 'rules.csv.gz'];
+const choiceOf = (...names) => faultOfChoice(filesByKind(names.map((name) => ({ name }))));
+
+cases('the files of a new session', [
+  ['by what their names begin with', FIVE,
+    () => Object.values(filesByKind(FIVE.map((name) => ({ name }))).found).map(({ name }) => name)],
+  ['what is wrong with a choice', ['', 'These files are missing: rooms.csv, rules.csv.',
+    'There is more than one file for exams.csv. These are none of the five: notes.csv.'],
+  () => [choiceOf(...FIVE), choiceOf('exams.csv', 'periods.csv', 'enrolments.csv'),
+    choiceOf(...FIVE, 'exams-old.csv', 'notes.csv')]],
 ]);
 
 // Where exam 3 of the small example can go; it is in period 2, room 0.

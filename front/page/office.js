@@ -62,6 +62,7 @@ const REFUSALS = {
   length: 'This is too long for the office.',
   often: 'There were too many requests in a short time. Please wait a moment, then try again.',
   ledger: 'This session has no ledger on the server.',
+  'files-differ': 'These files aren\'t those that were checked. Check them again.',
   names: 'An ID or a name can\'t be used: it is empty, or has a mark that nobody sees.',
   unavailable: 'The office cannot answer at the moment. Please try again in a minute.',
 };

@@ -61,7 +61,7 @@ async function setOwnersOfFile() {
     faultList(faults));
 }
 
-const setOwnersOfNames = () => setOwners((office.names.labels?.exams ?? []).map(
+export const setOwnersOfNames = () => setOwners((office.names.labels?.exams ?? []).map(
   ({ department }, exam) => ({ exam, dept: department ?? 0 })));
 
 export function setUpOwnersForm() {

@@ -14,6 +14,7 @@ import { readPublished, readSession, rereadDraft, rereadPublished } from './read
 import { setUpSeats, showSeats } from './seats.js';
 import { readService } from './service.js';
 import { setUpSessionForm } from './loading.js';
+import { setUpSetUp, showSetUp } from './setup.js';
 import { showSection, wanted } from './sections.js';
 import { office } from './state.js';
 import { setUpPaper } from './paper.js';
@@ -37,6 +38,7 @@ async function load() {
   showSeats(office);
   showLists();
   byId('session').hidden = office.session !== null;
+  await showSetUp();
   showDraftForm();
   showOwnersForm();
   if (section === 'history') await showHistory();
@@ -78,6 +80,7 @@ function follow() {
 setUpPublishing(reread, load);
 setUpLateChanges(load);
 setUpSessionForm(load);
+setUpSetUp(load);
 setUpDraftForm(load);
 setUpOwnersForm();
 setUpHistory(load);

@@ -8,6 +8,7 @@ import io
 import pathlib
 import re
 import unicodedata
+import zlib
 from collections.abc import Iterable, Mapping, Sequence
 
 MOST_BYTES = 64 * 1024 * 1024
@@ -180,7 +181,7 @@ def text_of(path: pathlib.Path, file: str, faults: Faults) -> tuple[str, str] | 
     """The text of a CSV file and its encoding, or None."""
     try:
         found = folded(bytes_of(path))
-    except (OSError, EOFError) as fault:
+    except (OSError, EOFError, zlib.error) as fault:
         words = getattr(fault, "strerror", None) or fault
         faults.add(file, None, None, f"cannot be read: {words}")
         return None

@@ -23,7 +23,8 @@ KINDS: dict[str, tuple[str, str, Draw]] = {
                            functools.partial(draw_labels, stock=stock)) for stock in STOCKS},
     "exams": ("timetable-by-exam.pdf", "Timetable by exam", draw_by_exam),
     "days": ("timetable-by-day.pdf", "Timetable by day", draw_by_day)}
-MOST_AT_ONCE = 4
+# Each takes some 200 MB at the size of a university.
+MOST_AT_ONCE = 2
 
 
 @dataclasses.dataclass

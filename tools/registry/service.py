@@ -1,8 +1,8 @@
 """The registry's service: what the registry's page asks for beside the office.
 
 It keeps a session's ledger, so that batches of the page are in it when they are sent, and new
-students get their numbers; and it makes lists to print. Only nginx asks it, and only for those who
-are the office (front/):
+students get their numbers; it makes a session of CSV files, and lists to print. Only nginx asks it,
+and only for those who are the office (front/):
 
     gunicorn --workers 1 --threads 8 --bind unix:registry.sock registry.service:app
 
@@ -37,6 +37,7 @@ from .office import TOKEN as TOKEN_NAME
 from .office import Office, OfficeBySocket, Refused
 from .published import words_of_last
 from .sending import send_all, send_one
+from .setting_up import FILES, Changed, Loaded, set_up
 
 FOLDER = pathlib.Path(os.environ["REGISTRY_FOLDER"])
 FRONT, TOKEN = os.environ["REGISTRY_FRONT"], os.environ.get("REGISTRY_TOKEN", "")
@@ -123,6 +124,23 @@ def broken(_: Exception) -> tuple[dict[str, Any], int]:
 @app.get("/-/registry/about")
 def about() -> dict[str, Any]:
     return {"ledger": folder().ledger.exists()}
+
+
+# ---- A new session
+
+@app.post("/-/registry/session")
+def new_session() -> tuple[dict[str, Any], int]:
+    """Checks the CSV files of a new session; with the digest of what was checked, loads it."""
+    files = {name: flask.request.files[name].read() for name in FILES
+             if name in flask.request.files}
+    try:
+        found = set_up(folder().path, office_of(session()), files, user(),
+                       flask.request.form.get("checked"))
+    except Changed:
+        return {"error": "files-differ"}, 409
+    except Loaded:
+        return {"error": "loaded"}, 409
+    return found, 201 if "loaded" in found else 200
 
 
 # ---- Batches

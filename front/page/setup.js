@@ -1,0 +1,118 @@
+// A new session from five CSV files: the registry's service checks them as the tools do and says what is
+// in them; then they are loaded, and each exam is given to its department.
+import { confirmFirst } from './confirm.js';
+import { atField, FormFault, showProgress } from './messages.js';
+import { ask, byId, change, count, element, faultList } from './office.js';
+import { setOwnersOfNames } from './owners.js';
+import { office } from './state.js';
+
+const PATH = '/-/registry/session';
+const FILES = ['exams', 'rooms', 'periods', 'enrolments', 'rules'];
+const MOST_BYTES = 4_000_000;
+
+/**
+ * The file of each kind by its name, such as exams.csv or Exams-2027.csv.gz, the kinds that are missing or
+ * there twice, and the names of other files.
+ * @template {{ name: string }} F
+ * @param {F[]} files
+ */
+export function filesByKind(files) {
+  const kindOf = ({ name }) => FILES.find((kind) => name.toLowerCase().startsWith(kind));
+  const ofKind = FILES.map((kind) => files.filter((file) => kindOf(file) === kind));
+  return {
+    found: Object.fromEntries(FILES.map((kind, place) => [kind, ofKind[place][0]])),
+    missing: FILES.filter((_, place) => !ofKind[place].length),
+    twice: FILES.filter((_, place) => ofKind[place].length > 1),
+    others: files.filter((file) => !kindOf(file)).map(({ name }) => name),
+  };
+}
+
+/** What is wrong with the choice of files, in words; nothing if all five are there once. */
+export function faultOfChoice({ missing, twice, others }) {
+  const csv = (kinds) => kinds.map((kind) => `${kind}.csv`).join(', ');
+  return [missing.length && `These files are missing: ${csv(missing)}.`,
+    twice.length && `There is more than one file for ${csv(twice)}.`,
+    others.length && `These are none of the five: ${others.join(', ')}.`].filter(Boolean).join(' ');
+}
+
+// Browsers have it since 2023.
+const Packing = /** @type {any} */ (globalThis).CompressionStream;
+
+/** A file, compressed, as the front takes only so many bytes. */
+function packed(file) {
+  if (!Packing || file.name.endsWith('.gz')) return file;
+  return new Response(file.stream().pipeThrough(new Packing('gzip'))).blob();
+}
+
+/** The five files as the body of a request; with the digest of what was checked. */
+async function bodyOf(found, checked = null) {
+  const body = new FormData();
+  let bytes = 0;
+  for (const kind of FILES) {
+    const blob = await packed(found[kind]);
+    bytes += blob.size;
+    body.append(kind, blob, `${kind}.csv.gz`);
+  }
+  if (bytes > MOST_BYTES) throw new FormFault('These files are too large.', 'csv-files');
+  if (checked) body.append('checked', checked);
+  return body;
+}
+
+// The files that were checked, and their digest.
+let last = null;
+
+function showFound({ summary, warnings, digest }, found) {
+  last = { digest, found };
+  byId('csv-summary').replaceChildren(...summary.map((line) => element('p', {}, line)),
+    ...(warnings.length ? [element('h4', {}, 'Warnings'), ...faultList(warnings)] : []));
+  byId('csv-preview').hidden = false;
+  return 'Nothing is loaded yet. Read what is in the files, then load them.';
+}
+
+async function check() {
+  const { found, ...choice } = filesByKind([...byId('csv-files').files]);
+  const fault = faultOfChoice(choice);
+  if (fault) throw new FormFault(fault, 'csv-files');
+  const said = await change('Nothing was checked.', PATH, 'POST', await bodyOf(found));
+  if (!said.faults.length) return showFound(said, found);
+  throw new FormFault(`Nothing can be loaded: ${count(said.faults.length, 'fault')}.`, 'csv-files',
+    faultList(said.faults));
+}
+
+function hidePreview() {
+  byId('csv-preview').hidden = true;
+  last = null;
+}
+
+/** Loads what was checked, shows it, and gives each exam to its department. */
+async function loadChecked(load) {
+  const { loaded } = await change('The session was not loaded.', PATH, 'POST',
+    await bodyOf(last.found, last.digest));
+  hidePreview();
+  byId('csv-session').reset();
+  await load();
+  const owners = office.names.labels?.exams.some(({ department }) => department)
+    ? ` ${await setOwnersOfNames()}` : '';
+  return `The session is loaded: ${count(loaded.exams, 'exam')}, ${count(loaded.pairs, 'enrolment')}, ${
+    count(loaded.periods, 'period')}, ${count(loaded.rooms, 'room')}.${owners}`;
+}
+
+/** Shows the form while there is no session, if the registry's service is there. */
+export async function showSetUp() {
+  byId('csv-session').hidden = true;
+  hidePreview();
+  if (!office.session) byId('csv-session').hidden = !(await ask('/-/registry/about'));
+}
+
+/** Sets up the form; `load` reads everything again. */
+export function setUpSetUp(load) {
+  byId('csv-session').addEventListener('submit', (event) => {
+    event.preventDefault();
+    hidePreview();
+    showProgress('Checking the files …', () => atField('csv-files', check), event.submitter);
+  });
+  byId('csv-files').addEventListener('change', hidePreview);
+  byId('csv-load').addEventListener('click', () => confirmFirst('Load this session?', [
+    element('p', {}, 'It can be loaded only once: exams, rooms and periods stay as they are.')], 'Load',
+  () => showProgress('Loading the session …', () => loadChecked(load), byId('csv-session'))));
+}

@@ -1,0 +1,78 @@
+"""A session made of CSV files: its ledger and the files that are made of it; or what is wrong."""
+from __future__ import annotations
+
+import dataclasses
+import pathlib
+
+from .csv_tables import Faults, Wanted
+from .folder import Folder
+from .ledger import Ledger
+from .made_files import MOST_BYTES, session_file, student_numbers
+from .session import read_session, summary_of, warnings_of
+from .update import bring_up_to_date
+
+
+@dataclasses.dataclass
+class Said:
+    """What to say of a session: its sizes, and what can't be held as it is."""
+
+    lines: list[str] = dataclasses.field(default_factory=list)
+    warnings: list[str] = dataclasses.field(default_factory=list)
+
+
+def make(folder: Folder, csv: pathlib.Path, wanted: Wanted, by: str, faults: Faults,
+         is_kept: bool = True) -> Said:
+    """Makes a session, or brings it up to date; only looks if it isn't to be kept."""
+    if folder.is_old():
+        faults.lines.append(f"{folder.path} has a session without a ledger: first make one with "
+                            f"session_from_csv --take-over {folder.path}")
+        return Said()
+    return (add_further if folder.ledger.exists() else add_first)(
+        folder, csv, wanted, by, faults, is_kept)
+
+
+def add_first(folder: Folder, csv: pathlib.Path, wanted: Wanted, by: str, faults: Faults,
+              is_kept: bool) -> Said:
+    """Makes a ledger of the CSV files."""
+    session = read_session(csv, wanted, faults)
+    if faults.lines:
+        return Said()
+    folder.new_ledger().unlink(missing_ok=True)
+    ledger = Ledger.made_at(folder.new_ledger())
+    ledger.add_session(session, student_numbers(session.enrolments))
+    if len(session_file(ledger, ledger.session())) > MOST_BYTES:
+        faults.add("enrolments.csv", None, None, f"the session has more than {MOST_BYTES} bytes")
+    if faults.lines or not is_kept:
+        ledger.close()
+        folder.new_ledger().unlink()
+    else:
+        finish_new(folder, ledger, by)
+    return Said() if faults.lines else Said(summary_of(session), warnings_of(session))
+
+
+def finish_new(folder: Folder, ledger: Ledger, by: str) -> None:
+    """Keeps a new ledger, and makes its files."""
+    state = ledger.add_state(by)
+    ledger.keep()
+    folder.take(ledger)
+    ledger = Ledger.opened_at(folder.ledger)
+    folder.make_files(ledger, *state)
+    ledger.close()
+
+
+def add_further(folder: Folder, csv: pathlib.Path, wanted: Wanted, by: str, faults: Faults,
+                is_kept: bool) -> Said:
+    """Brings a ledger up to date."""
+    ledger = Ledger.opened_at(folder.ledger)
+    faults.lines += folder.faults(ledger)
+    session = read_session(csv, wanted, faults, ledger.numbers())
+    update = bring_up_to_date(ledger, session, faults) if not faults.lines else None
+    said = Said()
+    if update and not faults.lines:
+        said = Said([*summary_of(session), *update.lines()], warnings_of(session))
+        if is_kept:
+            state = ledger.add_state(by)
+            ledger.keep()
+            folder.make_files(ledger, *state)
+    ledger.close()
+    return said
