@@ -480,7 +480,7 @@ def old_lists(run, stack, ada):
     about = stack.service.made / "lists" / "2" / "about.json"
     about.write_text(about.read_text().replace('"failed"', '"working"'))
     run.judge("one that was cut off", (
-        "failed", "The service was stopped meanwhile. Please ask for the lists again."),
+        "failed", "the service was stopped meanwhile; please ask for the lists again"),
         tuple(ended(stack, ada, 2)[name] for name in ("state", "words")))
 
 

@@ -67,7 +67,7 @@ function warningLines(warnings) {
 function filesCell(job) {
   if (job.state === 'waiting') return cell('Waiting for other lists');
   if (job.state === 'working') return cell('Being made …');
-  if (job.state === 'failed') return cell(`Not made. ${job.words}`);
+  if (job.state === 'failed') return cell(`Not made: ${job.words}.`);
   return cell(element('ul', { class: 'files' }, job.files.map((file) => fileLine(job, file))),
     ...warningLines(job.warnings));
 }
@@ -109,7 +109,7 @@ async function ended(number) {
   for (;;) {
     const job = (await follow()).find((one) => one.number === number);
     if (!job) return 'The lists were removed meanwhile.';
-    if (job.state === 'failed') return `The lists are not made. ${job.words}`;
+    if (job.state === 'failed') return `The lists are not made: ${job.words}.`;
     if (job.state === 'done') {
       const pages = job.files.reduce((sum, file) => sum + file.pages, 0);
       return `${count(job.files.length, 'file is', 'files are')} made, with ${count(pages, 'page')}.`;

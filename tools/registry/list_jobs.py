@@ -23,7 +23,7 @@ ABOUT = "about.json"
 MOST_KEPT, MOST_WAITING, LONGEST = 6, 4, datetime.timedelta(days=1)
 # A job that takes so many seconds hangs.
 SECONDS = 1800
-CUT_OFF = "The service was stopped meanwhile. Please ask for the lists again."
+CUT_OFF = "the service was stopped meanwhile; please ask for the lists again"
 UNFINISHED = ("waiting", "working")
 Job = dict[str, Any]
 
@@ -147,4 +147,4 @@ def outcome(path: pathlib.Path, words: Sequence[Any], environment: Mapping[str, 
         said = ended.stderr.strip().splitlines()
     except (OSError, ValueError, subprocess.TimeoutExpired) as fault:
         said = [f"{fault}"]
-    return {"state": "failed", "words": (said or ["The lists could not be made."])[-1]}
+    return {"state": "failed", "words": (said or ["the tool ended without a word"])[-1]}
