@@ -146,6 +146,11 @@ def by_keys(page, front, words):
             page.judge("a shut place by keys", {"said": FREE})
             page.run.judge("it moved nothing", before, changes(front))
             page.act("press escape")
+    page.steps(
+        ("a place of the picture by keys", [
+            f"focus {OPTICS}", "write m", f"focus {CELL % (2, 3)}", "press enter"],
+         {"said": f"PHYS102: {words.room[1]}. 36 points now, 37 before."}),
+        ("and back", "undo", {"said": f"PHYS102: {words.hall[2]}. 37 points now, 36 before."}))
 
 
 def taken_out(page, words):
@@ -158,6 +163,10 @@ def taken_out(page, words):
                                ("set", "#find", "optics"), "click #found tbody a"],
          {TITLE: "PHYS102", "focus": "cell-title"}),
         ("where it can go", MOVE, {"said": FREE, TITLE: "Place PHYS102 Optics"}),
+        ("another cell", ["press escape", f"click {CELL % (1, 2)}"], {
+            "texts #cell .waiting :is(a, button)": ["1 exam not placed", "Place PHYS102 …"]}),
+        ("where it can go, from there", "click #cell .waiting button", {
+            TITLE: "Place PHYS102 Optics"}),
         ("placed", f"click {CELL % (1, 4)}", {
             "said": f"PHYS102: {words.hall[2]}. 37 points now, 21 before.",
             "#undo": "Undo: take PHYS102 out again"}),

@@ -59,6 +59,9 @@ function ownExams() {
 
 const below = (words) => element('span', { class: 'below' }, words);
 
+/** A cell with its column's head, which a phone shows before it. */
+const headedCell = (label, ...words) => element('td', { 'data-label': label }, ...words);
+
 const { compare } = new Intl.Collator();
 /** @type {Record<string, (one: any, other: any) => number>} */
 const ORDERS = {
@@ -92,9 +95,9 @@ function placeRow({ exam, period, room }) {
   });
   return row(element('th', { scope: 'row', id: title }, names.exam(exam),
     names.examTitle(exam) && below(names.examTitle(exam))),
-  cell(names.minutes(exam) ?? ''),
-  cell(period === null ? 'not placed' : names.period(period)),
-  cell(room === null ? '' : names.roomInBuilding(room),
+  headedCell('Minutes', names.minutes(exam) ?? ''),
+  headedCell('Period', period === null ? 'not placed' : names.period(period)),
+  headedCell('Room', room === null ? '' : names.roomInBuilding(room),
     room !== null && seats !== undefined && below(count(seats, 'seat'))),
   cell(choose));
 }

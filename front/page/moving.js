@@ -192,13 +192,13 @@ export function pressPlace(period, room, isMouse) {
 }
 
 /** Puts the exam into a place of the picture, if that is free; or lists the exams there to swap with. */
-export function putInto(period, room) {
+export function putInto(period, room, isByKey = false) {
   const { options, exam, isSure, isSwap } = /** @type {Move} */ (office.move);
   if (isSwap) {
     showSwapsIn(period, room, office.move, edit);
     return;
   }
-  if (isSure && markOf(options.get(keyOf(period, room)), office.move).kind === 'free') {
+  if ((isSure || isByKey) && markOf(options.get(keyOf(period, room)), office.move).kind === 'free') {
     edit({ kind: 'put', exam, period, room });
   }
 }

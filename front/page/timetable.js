@@ -86,7 +86,7 @@ function actsOf(timetable) {
   return {
     open: (period, room, isEntered) => {
       if (!isMoving()) showCell(timetable, { period, room }, isEntered);
-      else if (isEntered) putInto(period, room);
+      else if (isEntered) putInto(period, room, true);
       else showPlace(period, room);
     },
     point: (period, room) => isMoving() && showPlace(period, room),
@@ -120,6 +120,19 @@ function examItem(exam, timetable, chosen) {
       count(conflicts, 'conflict')), moveButton(exam, timetable, 'Move'));
 }
 
+const MOST_WAITING = 5;
+
+/** The exams of the open draft that have no place, the largest first, with buttons that look for one. */
+function waitingExams(timetable) {
+  const { candidates } = office.session ?? { candidates: [] };
+  const waiting = timetable === openDraft() ? [...timetable.unplaced] : [];
+  waiting.sort((one, other) => candidates[other].length - candidates[one].length || one - other);
+  return waiting.length > 0 && element('div', { class: 'waiting' },
+    element('p', {}, element('a', { href: addressOf('conflicts', timetable.name) },
+      `${count(waiting.length, 'exam')} not placed`)),
+    waiting.slice(0, MOST_WAITING).map((exam) => moveButton(exam, timetable, 'Place')));
+}
+
 /** Shows what is in a room and period, with the chosen exam marked. */
 function showCell(timetable, place, isEntered, chosen = null) {
   const { names, session } = office;
@@ -133,6 +146,7 @@ function showCell(timetable, place, isEntered, chosen = null) {
       `${numeral(use?.used ?? 0)} of ${count(capacity, 'seat')} taken`),
     element('ul', { class: 'exams-there' }, (use?.exams ?? []).map(
       (exam) => examItem(exam, timetable, chosen))),
+    waitingExams(timetable),
     element('p', { class: 'quiet' }, `The mouse or the arrow keys choose a cell; Enter comes here${
       timetable.number ? ', M moves the exam of a cell' : ''}.`));
   if (isEntered) byId('cell-title').focus();
