@@ -19,7 +19,8 @@ import tempfile
 import time
 
 import browser
-from front_page import is_read, reading, sheets_printed
+import places_office
+from front_page import KEYS, is_read, reading, sheets_printed
 from front_cases import ask, password
 from run_front import NGINX, TOP, Front
 from run_serve import Office, Run
@@ -65,6 +66,47 @@ def set_up(run, times):
     with (folder / "front" / "callers").open("a") as callers:
         callers.write('"~^s(?<number>[0-9]{1,9})$" cand:$number;\n')
     return office, folder, json.loads((made / "now" / "labels.json").read_text())
+
+
+# Chooses an exam, and returns after how many milliseconds each place of it is shown.
+CHOOSE = """
+const began = performance.now();
+document.querySelector('#cell .move').click();
+return new Promise(done => {
+  const look = () => requestAnimationFrame(document.querySelector('#move-places .place')
+    ? () => done(performance.now() - began) : look);
+  look();
+});
+"""
+MOST_MILLISECONDS = 300
+
+
+def moved(run, times, reader):
+    """Every place of an exam is shown, and the exam is moved to the best one and back."""
+    reader.run("location.hash = '#timetable/draft-1/0'")
+    reader.waits("return document.querySelector('#cell .move')")
+    is_read(reader)
+    took = []
+    for _ in range(5):
+        took.append(reader.run(CHOOSE))
+        is_read(reader)
+        reader.press(KEYS["escape"])
+        reader.waits("return document.querySelector('#cell .move')")
+    reader.run(CHOOSE)
+    is_read(reader)
+    times.lines.append(f"{'every place of an exam, the best of five':45} {min(took) / 1000:6.2f} s")
+    run.judge("every place of an exam within 300 ms", True, min(took) < MOST_MILLISECONDS)
+    run.judge("places that are marked", len(reader.texts("#pictures tbody td")), reader.run(
+        "return document.querySelectorAll('#pictures :is(.free, .shut, .here)').length"))
+    with times.of("a move, until it is shown"):
+        reader.click("#move-places .place")
+        reader.waits("return !document.querySelector('#undo').hidden")
+        is_read(reader)
+    run.judge("it moved", True, " points now, " in reader.text("#status"))
+    with times.of("undo, until it is shown"):
+        reader.click("#undo")
+        reader.waits("return document.querySelector('#undo').hidden")
+        is_read(reader)
 
 
 def go_to(reader, section):
@@ -136,6 +178,7 @@ def seat_lists(run, times, reader, front, labels):
         go_to(reader, "timetable")
     run.judge("cells of the picture", len(labels["rooms"]) * len(labels["periods"]),
               len(reader.texts("#pictures tbody td")))
+    moved(run, times, reader)
     go_to(reader, "seats")
     reader.run("document.querySelector('#seat-words').value = arguments[0]", student["id"])
     with times.of("find a candidate's seats"):
@@ -181,11 +224,13 @@ def main():
     if lacking:
         print(f"university: left out without {' and '.join(lacking)}")
         return 0
-    with tempfile.TemporaryDirectory() as folder:
+    with tempfile.TemporaryDirectory() as folder, contextlib.ExitStack() as stack:
         run, times = Run(pathlib.Path(sys.argv[1]).resolve(), folder, "university"), Times()
         office, front_folder, labels = set_up(run, times)
         try:
-            front = Front(front_folder, office.port, edits=())
+            places = stack.enter_context(places_office.with_places(run.program, office.port))
+            # The exam is chosen five times at once.
+            front = Front(front_folder, places.server_port, edits=(("rate=2r/s", "rate=9r/s"),))
             try:
                 with browser.Browser(run.folder) as chromium:
                     registrys_week(run, times, chromium, front, labels)
