@@ -1,8 +1,9 @@
-"""Answers where an exam can go, for pages, until the office does so itself.
+"""Answers where an exam can go, for pages and their service, until the office does so itself.
 
 It stands between the front and an office, and passes everything on. What the office doesn't know of
 `GET /drafts/{d}/exams/{e}/places` it answers by trying each place in an office of its own that has
-the same session and draft, or by the program's command `places`, if it has one.
+the same session and draft, or by the program's command `places`, if it has one. As a program,
+`places_office.py PROGRAM places SESSION SOLUTION EXAM` prints what that command would.
 """
 import contextlib
 import http.client
@@ -10,7 +11,9 @@ import http.server
 import json
 import pathlib
 import re
+import shlex
 import subprocess
+import sys
 import tempfile
 import threading
 
@@ -92,6 +95,41 @@ class Trial:
                     self.begin()
 
 
+def has_command(program):
+    return subprocess.run([program, "places", "--help"], capture_output=True, check=False,
+                          timeout=SECONDS).returncode == 0
+
+
+def tried(program, instance, exams, exam):
+    """Where an exam can go, by trying."""
+    with tempfile.TemporaryDirectory() as name:
+        trial = Trial(program, pathlib.Path(name), instance, exams)
+        try:
+            return HEAD + "".join(trial.lines(exam, *sizes(instance)))
+        finally:
+            trial.office.killed()
+
+
+def command(program, folder):
+    """A program with the command `places`: this one, if it has it, else one that tries."""
+    if has_command(program):
+        return program
+    made = folder / "examoffice"
+    made.write_text("#!/bin/sh\nexec " + shlex.join(
+        [sys.executable, str(pathlib.Path(__file__).resolve()), str(program)]) + ' "$@"\n')
+    made.chmod(0o755)
+    return made
+
+
+def main(program, _, session, solution, exam):
+    """Prints what the command would."""
+    places = [[int(field) for field in line.split(",")]
+              for line in pathlib.Path(solution).read_text().splitlines()]
+    print(tried(program, pathlib.Path(session).read_text(), [
+        {"exam": number, "period": period, "room": room}
+        for number, (period, room) in enumerate(places)], int(exam)), end="")
+
+
 class Places(http.server.BaseHTTPRequestHandler):
     """Passes on what it is asked, and answers where an exam can go."""
 
@@ -116,23 +154,14 @@ class Places(http.server.BaseHTTPRequestHandler):
     def listed(self, draft, exam):
         instance = asked(self.port, "GET", "/instance")[2].decode()
         exams = json.loads(asked(self.port, "GET", f"/drafts/{draft}")[2])["exams"]
+        if not has_command(self.program) or not solution_of(exams):
+            return tried(self.program, instance, exams, exam)
         with tempfile.TemporaryDirectory() as name:
-            folder = pathlib.Path(name)
-            if self.has_command() and solution_of(exams):
-                (folder / "session.exam").write_text(instance, newline="")
-                (folder / "draft.sol").write_text(solution_of(exams), newline="")
-                return subprocess.run([self.program, "places", folder / "session.exam",
-                                       folder / "draft.sol", str(exam)], check=True,
-                                      capture_output=True, text=True, timeout=SECONDS).stdout
-            trial = Trial(self.program, folder, instance, exams)
-            try:
-                return HEAD + "".join(trial.lines(exam, *sizes(instance)))
-            finally:
-                trial.office.killed()
-
-    def has_command(self):
-        return subprocess.run([self.program, "places", "--help"], capture_output=True,
-                              check=False, timeout=SECONDS).returncode == 0
+            session, draft = (pathlib.Path(name) / file for file in ("session.exam", "draft.sol"))
+            session.write_text(instance, newline="")
+            draft.write_text(solution_of(exams), newline="")
+            return subprocess.run([self.program, "places", session, draft, str(exam)], check=True,
+                                  capture_output=True, text=True, timeout=SECONDS).stdout
 
     def reply(self, status, fields, body):
         self.send_response(status)
@@ -157,3 +186,7 @@ def with_places(program, port):
             yield server
         finally:
             server.shutdown()
+
+
+if __name__ == "__main__":
+    main(*sys.argv[1:])
