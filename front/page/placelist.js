@@ -77,7 +77,7 @@ function stopAt(made, button) {
 }
 
 // Digits that come later than this begin anew, in milliseconds.
-const TYPING = 1_500;
+const TYPING = 3_000;
 
 function listen(made, { dates }) {
   let [typed, last] = ['', 0];
