@@ -65,7 +65,6 @@ fn judge_place(
     put(alloc, instance, enrolments, timetable, exam, place)
 }
 
-// Moves a placed exam.
 fn judge_move(
     alloc: Global,
     instance: &Instance,

@@ -104,7 +104,6 @@ fn count_if_own(counts: &mut [u32], sitter: Sitter, student: StudentNo)
     }
 }
 
-// Returns the slot of a student.
 fn slot_of(last: &[u32], student: StudentNo) -> usize
     requires some { 0 < length last.now }
     ensures slot { result ≡ slot_of (length last.now) student }

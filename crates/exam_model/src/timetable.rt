@@ -36,7 +36,6 @@ impl Timetable {
         Ok(Timetable { places })
     }
 
-    /// Returns a copy of the timetable.
     pub fn copy(&self, alloc: Global) -> Result<Timetable, AllocError>
         ensures same { IfOk result (λ made. made ≡ self.now) }
         ensures kept { IfOk result HasExams }

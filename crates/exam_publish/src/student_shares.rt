@@ -52,7 +52,6 @@ pub(crate) fn rows_among(
     Ok(own)
 }
 
-// Returns whether a student is one of these.
 fn is_among(students: &[StudentNo], student: StudentNo) -> bool
     requires { IsAscending students.now }
     ensures { result ≡ has_number students.now student }
@@ -81,7 +80,6 @@ fn count_own(rows: &[SeatRow], student: StudentNo) -> usize
     rows.len()
 }
 
-// Returns the periods of rows.
 fn periods_of(alloc: Global, rows: &[SeatRow]) -> Result<Vec<PeriodNo>, AllocError>
     ensures { IfOk result (λ periods. periods.items ≡ map (λ row. row.period) rows.now) }
 {

@@ -5,7 +5,6 @@ use crate::share_lists::RoomShare;
 use exam_model::StudentNo;
 use exam_score::PersonalParts;
 
-/// Returns the sum of the numbers.
 pub(crate) fn sum_of(numbers: &[u64]) -> Option<u64>
     ensures some { IfSome result (λ n. n ≡ sum numbers.now) }
     ensures none { IfNone result (2 ^ 64 ≤ sum numbers.now) }
@@ -26,7 +25,6 @@ pub(crate) struct StudentSums {
     pub night: u64,
 }
 
-/// Returns the sums of the shares of all students.
 pub(crate) fn student_sums(shares: &[(StudentNo, PersonalParts)]) -> Option<StudentSums>
     ensures row { IfSome result (λ s. s.row ≡ sum_by (λ share. share.1.row) shares.now) }
     ensures day { IfSome result (λ s. s.day ≡ sum_by (λ share. share.1.day) shares.now) }
@@ -54,7 +52,6 @@ pub(crate) fn student_sums(shares: &[(StudentNo, PersonalParts)]) -> Option<Stud
     })
 }
 
-/// Returns the sums of the shares of all rooms.
 pub(crate) fn room_sums(shares: &[RoomShare]) -> Option<RoomShare>
     ensures penalty { IfSome result (λ s. s.penalty ≡ sum_by (λ share. share.penalty) shares.now) }
     ensures mixed { IfSome result (λ s. s.mixed ≡ sum_by (λ share. share.mixed) shares.now) }

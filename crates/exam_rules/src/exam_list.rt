@@ -28,7 +28,6 @@ impl ExamList {
         }
     }
 
-    /// Returns the exams.
     pub fn as_slice(&self) -> &[ExamNo]
         ensures { result.now ≡ self.now }
     {

@@ -139,7 +139,6 @@ pub(crate) fn push_afters(
     Ok(())
 }
 
-// Returns whether the line names the exam.
 fn names(line: &PeriodRule, exam: ExamNo) -> bool
     ensures { result ≡ line_names line.now exam }
 {

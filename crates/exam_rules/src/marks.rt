@@ -34,7 +34,6 @@ impl Marks {
         Ok(Marks { slots })
     }
 
-    /// Marks an exam for these students.
     pub(crate) fn add(&mut self, students: &[StudentNo], exam: ExamNo)
         ensures marked { (s : ℕ) → has_number students.now s ≡ true
             → Has (marks_of self.new s) exam }

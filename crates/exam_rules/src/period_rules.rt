@@ -241,7 +241,6 @@ fn one_sits(marks: &Marks, enrolments: &Enrolments, exam: ExamNo, other: ExamNo)
     false
 }
 
-// Returns whether the student sits a marked exam.
 #[inline(always)]
 fn sits(marks: &Marks, enrolments: &Enrolments, student: StudentNo, exam: ExamNo) -> bool
     requires exists { exam < length enrolments.now }

@@ -45,7 +45,6 @@ fn sitters_by_exam(
     Ok(sitters)
 }
 
-// Adds the sitters of one exam.
 fn add_sitters(
     sitters: &mut Vec<Sitter>,
     enrolments: &Enrolments,

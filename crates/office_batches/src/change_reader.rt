@@ -21,7 +21,6 @@ pub(crate) fn is_header(row: &ByteRecord) -> bool
         && has_three(row)
 }
 
-/// Returns the change of a record.
 pub(crate) fn change_in(row: &ByteRecord) -> Result<Change, FaultKind>
     ensures { result ≡ change_in (fields_of row.now) }
 {

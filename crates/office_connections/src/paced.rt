@@ -80,7 +80,6 @@ impl<'a, C: Clock, W: Write + Timed + Drop> PacedWriter<'a, C, W> {
         }
     }
 
-    // Returns the inner writer.
     pub(crate) fn into_inner(self) -> W
         ensures { result ≡ self.entry.inner }
     {

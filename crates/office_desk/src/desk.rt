@@ -40,14 +40,12 @@ impl<S: Alter> Model for Desk<S> {
 }
 
 impl<S: Alter> Desk<S> {
-    /// Returns the desk of this office.
     pub fn new(office: Office<S>) -> Desk<S>
         ensures { result ≡ office }
     {
         Desk { office }
     }
 
-    /// Returns the office.
     pub fn into_office(self) -> Office<S>
         ensures { result ≡ self }
     {

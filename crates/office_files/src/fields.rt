@@ -22,7 +22,6 @@ impl<'a> Model for Fields<'a> {
 }
 
 impl<'a> Fields<'a> {
-    /// Returns all fields of this line.
     #[inline]
     pub(crate) fn new(line: &'a [u8]) -> Fields<'a>
         ensures { result ≡ fields_of line.now }

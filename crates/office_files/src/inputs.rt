@@ -169,7 +169,6 @@ fn text_in<R: Read>(
     Err(Unread::Spent)
 }
 
-// Appends a piece to the text.
 fn append(text: &mut Vec<u8>, piece: &[u8]) -> Result<(), AllocError>
     ensures { OnOk result (text.new.items ≡ text.old.items ++ piece.now) }
 {

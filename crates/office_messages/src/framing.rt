@@ -83,7 +83,6 @@ fn length_of(value: &[u8]) -> Result<usize, Fault>
     Ok(n)
 }
 
-// Returns whether each byte is a digit.
 fn are_digits(bytes: &[u8]) -> bool
     ensures { result ≡ list_all is_ascii_digit bytes.now }
 {

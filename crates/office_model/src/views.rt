@@ -59,7 +59,6 @@ impl Model for CandidateView {
 }
 
 impl CandidateView {
-    /// Returns the view with these parts.
     pub fn new(student: StudentNo, rows: Vec<ViewRow>, personal: PersonalParts) -> CandidateView
         ensures { result ≡ record {
           student = student;

@@ -48,7 +48,6 @@ fn candidate(name: &[u8]) -> Option<Caller>
     Some(Caller::Cand(StudentNo::new(number)?))
 }
 
-// Returns the number after a word.
 fn number_after_word(word: &[u8], name: &[u8]) -> Option<u32>
     ensures number { result ≡ number_after_word word.now name.now }
     ensures within { IfSome result (λ n. n ≤ MAX_NUMBER) }

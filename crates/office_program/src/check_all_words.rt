@@ -9,7 +9,6 @@ use clap::{ArgMatches, Error};
 use office_check::LineForm;
 use std::alloc::{AllocError, Global};
 
-// Returns the task of `check-all` with these values.
 pub(crate) fn check_all_task(alloc: Global, values: &ArgMatches<'_>) -> Result<Task, Error>
     ensures ok { IfOk result (HasCheckAllValues (rows_of (found_of values.now))) }
     ensures err { IfErr result (λ e. kind_of e ≡ OutOfMemory) }

@@ -17,7 +17,6 @@ use clap::{Arg, ArgAction, Command, value_parser};
 use office_connections::MAX_PORT;
 use std::alloc::{AllocError, Global};
 
-// Returns the command `check`.
 pub(crate) fn check_command<'a>(alloc: Global) -> Result<Command<'a>, AllocError>
     ensures { IfOk result (λ c. AddsShape c check_app.top) }
 {
@@ -43,7 +42,6 @@ fn required<'a>(alloc: Global, id: &'a str, name: &'a str, help: &'a str) -> Arg
         .required(true)
 }
 
-// Returns the command `check-all`.
 pub(crate) fn check_all_command<'a>(alloc: Global) -> Result<Command<'a>, AllocError>
     ensures { IfOk result (λ c. AddsShape c check_all_app.top) }
 {
@@ -75,7 +73,6 @@ fn solutions_argument<'a>(alloc: Global) -> Arg<'a>
     required(alloc, "solutions", "SOLUTION", "The files of the solutions").num_args(1..)
 }
 
-// Returns the command `load`.
 pub(crate) fn load_command<'a>(alloc: Global) -> Result<Command<'a>, AllocError>
     ensures { IfOk result (λ c. AddsShape c load_app.top) }
 {
@@ -98,7 +95,6 @@ fn required_option<'a>(alloc: Global, id: &'a str, name: &'a str, help: &'a str)
     required(alloc, id, name, help).long(id)
 }
 
-// Returns the command `serve`.
 pub(crate) fn serve_command<'a>(alloc: Global) -> Result<Command<'a>, AllocError>
     ensures { IfOk result (λ c. AddsShape c serve_app.top) }
 {
@@ -151,7 +147,6 @@ fn patience_option<'a>(alloc: Global) -> Arg<'a>
         .value_parser(value_parser!(u32).range(1..=i64::from(MAX_PATIENCE)))
 }
 
-// Returns the command `export`.
 pub(crate) fn export_command<'a>(alloc: Global) -> Result<Command<'a>, AllocError>
     ensures { IfOk result (λ c. AddsShape c export_app.top) }
 {
@@ -162,7 +157,6 @@ pub(crate) fn export_command<'a>(alloc: Global) -> Result<Command<'a>, AllocErro
         .arg(database)
 }
 
-// Returns the command `explain`.
 pub(crate) fn explain_command<'a>(alloc: Global) -> Result<Command<'a>, AllocError>
     ensures { IfOk result (λ c. AddsShape c explain_app.top) }
 {

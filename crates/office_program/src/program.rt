@@ -94,7 +94,6 @@ pub fn run_program<O: Write, E: Write>(
     }
 }
 
-// Runs a task.
 fn run_task<'a, W: Write, E: Write>(
     rt: &HostRuntime,
     task: &'a Task,

@@ -141,7 +141,6 @@ fn matches(alloc: Global, words: &[String]) -> Result<ArgMatches<'_>, Error>
     whole.try_get_matches_from(words)
 }
 
-// Returns the task of `check` with these values.
 fn check_task(alloc: Global, values: &ArgMatches<'_>) -> Result<Task, Error>
     ensures ok { IfOk result (HasCheckValues (rows_of (found_of values.now))) }
     ensures err { IfErr result (λ e. kind_of e ≡ OutOfMemory) }
@@ -164,7 +163,6 @@ pub(crate) fn value_of(alloc: Global, values: &ArgMatches<'_>, id: &str) -> Resu
     }
 }
 
-// Returns the task of `load` with these values.
 fn load_task(alloc: Global, values: &ArgMatches<'_>) -> Result<Task, Error>
     ensures ok { IfOk result (HasLoadValues (rows_of (found_of values.now))) }
     ensures err { IfErr result (λ e. kind_of e ≡ OutOfMemory) }
@@ -174,7 +172,6 @@ fn load_task(alloc: Global, values: &ArgMatches<'_>) -> Result<Task, Error>
     Ok(Task::Load(database, instance))
 }
 
-// Returns the task of `serve` with these values.
 fn serve_task(alloc: Global, values: &ArgMatches<'_>) -> Result<Task, Error>
     ensures ok { IfOk result (HasServeValues (rows_of (found_of values.now))) }
     ensures err { IfErr result (λ e. kind_of e ≡ OutOfMemory) }
@@ -212,7 +209,6 @@ fn number_of(values: &ArgMatches<'_>, id: &str, least: u32, most: u32) -> Result
     }
 }
 
-// Returns the task of `export` with these values.
 fn export_task(alloc: Global, values: &ArgMatches<'_>) -> Result<Task, Error>
     ensures ok { IfOk result (HasExportValues (rows_of (found_of values.now))) }
     ensures err { IfErr result (λ e. kind_of e ≡ OutOfMemory) }

@@ -62,7 +62,6 @@ fn are_of_drafts(slots: &[SlotRow], rows: &[DraftRow]) -> bool
     slots.iter().all(|slot| has_row(slot.draft, rows))
 }
 
-// Returns whether a draft has a row.
 fn has_row(draft: u32, rows: &[DraftRow]) -> bool
     ensures { result ≡ list_any (λ row. row.no == draft) rows.now }
 {

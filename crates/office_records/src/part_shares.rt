@@ -158,7 +158,6 @@ fn is_plain(row: PartShareRow, kind: PartKind, no: usize) -> bool
     row.kind == kind.number() && row.no as usize == no && row.mixed == 0
 }
 
-// Returns whether a row is the share of this room.
 fn is_of_room(row: PartShareRow, no: usize) -> bool
     ensures { IsTrue result ↔ ((row.kind ≡ 2) × (row.no ≡ no)) }
 {

@@ -135,7 +135,6 @@ fn enrol_rows(alloc: Global, rows: &[publish::SeatRow]) -> Result<Vec<EnrolRow>,
     rows.iter().map(|row| seat_pair(*row)).collect(alloc)
 }
 
-// Returns the pair of a seat.
 fn seat_pair(row: publish::SeatRow) -> EnrolRow
     ensures { result ≡ seat_pair row }
 {

@@ -32,7 +32,6 @@ pub fn changed_seat_rows(
     Ok(stored)
 }
 
-// Returns whether a student is one of these.
 fn is_among(students: &[StudentNo], student: StudentNo) -> bool
     requires { IsAscending students.now }
     ensures { result ≡ has_number students.now student }

@@ -67,7 +67,6 @@ pub(crate) fn seats_by_slot(
     Ok(counts)
 }
 
-// Returns the place of a seat.
 fn place_of(seat: &SeatRow) -> Place
     ensures { result ≡ row_place seat.now }
 {

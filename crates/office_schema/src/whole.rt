@@ -137,7 +137,6 @@ fn has_indexes(indexes: &[Index]) -> bool
         && has_publication_indexes(rest)
 }
 
-// Returns whether these are the indexes of the publication.
 fn has_publication_indexes(indexes: &[Index]) -> bool
     ensures { IsTrue result ↔ (indexes.now ≡ drop 2 office_schema.indexes) }
 {

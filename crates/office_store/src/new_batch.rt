@@ -104,7 +104,6 @@ fn drafts_after(
     rescored_drafts(alloc, instance, before, after, &students, drafts)
 }
 
-// Returns the student of each line.
 fn students_of(alloc: Global, lines: &[Change]) -> Result<Vec<StudentNo>, AllocError>
     ensures { IfOk result (λ students. students.items ≡ students_of lines.now) }
 {

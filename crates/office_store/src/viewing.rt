@@ -151,7 +151,6 @@ fn row_of(rows: &[ViewRow], exam: ExamNo) -> Option<ViewRow>
     None
 }
 
-// Returns the exams of these rows.
 pub(crate) fn exams_of(alloc: Global, rows: &[EnrolRow]) -> Result<Vec<ExamNo>, AllocError>
     ensures { IfOk result (λ exams. exams.items ≡ map (λ row. row.exam) rows.now) }
 {
