@@ -1,0 +1,98 @@
+-- The answer of an edit, by the rules and by the shares.
+use Rattle.std.specs.Prelude.{nat_lt}
+use Rattle.std.proofs.Common.{◌≡◌, ℕ, zero, suc, ◌+◌, ◌<◌, Bool, true, false, cond, [], ◌∷◌, length, map, set, Option, Some, None, refl, sym, ◌∙◌, ap, arith}
+use Rattle.std.specs.List.{range_with_len}
+use Rattle.std.proofs.lemmas.Bool.{lt-ltb}
+use Rattle.exam_terms.specs.declared.place.Place.{Place}
+use Rattle.exam_model.specs.Enrolments.{Enrolled}
+use Rattle.exam_model.specs.Instance.{Session, IsInstance}
+use Rattle.exam_model.specs.Timetable.{Placing}
+use Rattle.exam_rules.specs.declared.breach.Breach.{Breach}
+use Rattle.exam_rules.specs.Breaches.{least_breach_of}
+use Rattle.exam_score.specs.Penalty.{total_of}
+use Rattle.exam_score.specs.Track.{track}
+use Rattle.exam_draft.specs.declared.edit.Edit.TheVariants as edit
+use Rattle.exam_draft.specs.Edits.{edit_result, is_placed, unless_broken}
+use Rattle.exam_places.specs.declared.place_row.PlaceRow.{PlaceRow}
+use Rattle.exam_places.specs.Answers.{Answered, answer_at, answer_to, answers_of, period_answers, place}
+use Rattle.exam_places.specs.Places.{PlaceAnswer, breach_or, edit_answer, period_places, place_answer, place_row, places_of}
+use Rattle.exam_places.specs.Shares.{period_share, place_share}
+use Rattle.exam_places.proofs.CountingLemmas.{lists_same, mapped_lists, mapped_twice, values_same}
+use Rattle.exam_places.proofs.TotalLemmas.{total_added}
+
+-- the later of two places counts
+pub set_twice : (T : Placing) (e : ℕ) (a b : Option Place) → set (set T e a) e b ≡ set T e b
+set_twice [] e a b = refl
+set_twice (x ∷ T) zero a b = refl
+set_twice (x ∷ T) (suc e) a b = ap (λ U. x ∷ U) (set_twice T e a b)
+
+answered : (I : Session) (E : Enrolled) (o : Option Breach) (U : Placing)
+    → answer_to I E (unless_broken o U) ≡ edit_answer (breach_or o (total_of (track I E U)))
+answered I E None U = refl
+answered I E (Some b) U = refl
+
+-- the edit that puts the exam there answers by the rules and the penalty
+pub answer_is_edit : (I : Session) (E : Enrolled) (T : Placing) (e : ℕ) (a : Place)
+    → nat_lt e (length I.exams) ≡ true → nat_lt a.period (length I.periods) ≡ true
+    → nat_lt a.room (length I.rooms) ≡ true
+    → answer_at I E T e a ≡ edit_answer (place_answer I E T e a)
+answer_is_edit I E T e a exam period room = go (is_placed T e) refl
+  where
+    U : Placing
+    U = set T e (Some a)
+
+    go : (b : Bool) → is_placed T e ≡ b
+        → answer_to I E (edit_result I E T (cond b (edit.Move e a) (edit.Place e a)))
+        ≡ edit_answer (place_answer I E T e a)
+    go true is = rw (exam, period, room, is) (answered I E (least_breach_of I E U (e ∷ [])) U)
+    go false is = rw (exam, period, room, is) (answered I E (least_breach_of I E U (e ∷ [])) U)
+
+-- it doesn't matter whether the exam is placed before
+pub place_cleared : (I : Session) (E : Enrolled) (T : Placing) (e : ℕ) (a : Place)
+    → place_answer I E (set T e None) e a ≡ place_answer I E T e a
+place_cleared I E T e a =
+    ap (λ (U : Placing). breach_or (least_breach_of I E U (e ∷ [])) (total_of (track I E U)))
+    (set_twice T e None (Some a))
+
+-- the penalty with an exam that was not placed
+pub total_unplaced : (I : Session) → IsInstance I → (E : Enrolled) (W : Placing) (x : ℕ) (a : Place)
+    → set W x None ≡ W
+    → length E ≡ length I.exams → length W ≡ length I.exams → x < length I.exams
+    → a.period < length I.periods → a.room < length I.rooms
+    → total_of (track I E (set W x (Some a)))
+    ≡ total_of (track I E W) + period_share I E W x a + place_share I W x a
+total_unplaced I known E W x a unplaced enrolled fits within period room =
+    total_added I known E W x a enrolled fits within period room
+    ∙ ap (λ (U : Placing). total_of (track I E U) + period_share I E U x a + place_share I U x a)
+    unplaced
+
+-- ---- every place
+
+-- every place, by the timetable without the exam
+pub all_places : (I : Session) (E : Enrolled) (T W : Placing) (e : ℕ) → W ≡ set T e None
+    → places_of I E W e ≡ places_of I E T e
+all_places I E T W e is =
+    lists_same (period_places I E W e) (period_places I E T e) 0 (length I.periods)
+    (λ p lp. values_same (place_row I E W e p) (place_row I E T e p) 0 (length I.rooms)
+    (λ r lr. ap (λ (U : Placing). place_row I E U e p r) is
+    ∙ ap (answered_row p r) (place_cleared I E T e (place p r))))
+  where
+    answered_row : ℕ → ℕ → PlaceAnswer → PlaceRow
+    answered_row p r answer = record { period = p; room = r; answer = answer }
+
+-- the edits answer what the rows say
+pub places_answer : (I : Session) (E : Enrolled) (T : Placing) (e : ℕ) → e < length I.exams
+    → map (λ (row : PlaceRow). edit_answer row.answer) (places_of I E T e) ≡ answers_of I E T e
+places_answer I E T e exam =
+    mapped_lists of_row (period_places I E T e) (range_with_len 0 (length I.periods))
+    ∙ lists_same (λ p. map of_row (period_places I E T e p)) (period_answers I E T e)
+    0 (length I.periods)
+    (λ p lp. mapped_twice of_row (place_row I E T e p) (range_with_len 0 (length I.rooms))
+    ∙ values_same (λ r. of_row (place_row I E T e p r)) (λ r. answer_at I E T e (place p r))
+    0 (length I.rooms)
+    (λ r lr. sym (answer_is_edit I E T e (place p r) (lt-ltb e (length I.exams) exam)
+    (lt-ltb p (length I.periods) (omega (arith, lp)))
+    (lt-ltb r (length I.rooms) (omega (arith, lr))))))
+  where
+    of_row : PlaceRow → Answered
+    of_row row = edit_answer row.answer

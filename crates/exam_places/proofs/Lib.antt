@@ -1,0 +1,13 @@
+pub mod CountingLemmas
+pub mod PeriodLemmas
+pub mod BreachSplit
+pub mod SumSteps
+pub mod PlacedLemmas
+pub mod PairShares
+pub mod PlaceShares
+pub mod MixedShares
+pub mod TotalLemmas
+pub mod RowLemmas
+pub mod ShareLemmas
+pub mod AnswerLemmas
+pub mod OrderedLemmas
