@@ -2,3 +2,4 @@ pub mod Reports
 pub mod Rooms
 pub mod SeatList
 pub mod Slots
+pub mod PlaceList
