@@ -1,5 +1,5 @@
 -- Facts about a run from its parts.
-use Rattle.std.proofs.Common.{◌≡◌, ◌∙◌, ℕ, ◌⊎◌, List, [], ◌∷◌, Option, Some, None, IfSome}
+use Rattle.std.proofs.Common.{◌≡◌, ◌≤◌, ◌∙◌, ℕ, ◌⊎◌, List, length, [], ◌∷◌, Option, Some, None, IfSome}
 use Rattle.std.proofs.Common.{inl, inr, sym, subst}
 use Rattle.std.specs.Io.KnownBytes.{Appends}
 use Rattle.exam_model.specs.Enrolments.{Enrolled}
@@ -10,7 +10,8 @@ use Rattle.office_files.specs.FirstFault.{first_solution_fault}
 use Rattle.office_files.specs.InstanceText.{InstanceText}
 use Rattle.office_files.specs.SolutionText.{SolutionText}
 use Rattle.office_files.specs.Inputs.{RefusesFile}
-use Rattle.office_check.specs.Check.{IsRead, IsJudgement, Reports, report}
+use Rattle.office_check.specs.Check.{AreRead, AreReadAs, IsRead, IsJudgement, Reports, report}
+use Rattle.office_check.specs.Listing.{IsPlaceList, LacksExam, ListsPlaces, WritesPlaces}
 use Rattle.office_check.specs.Refusing.{Refuses, of_solution}
 use Rattle.office_check.specs.Check.{IsSomeJudgement, WritesReport, exit_status, status_of}
 use Rattle.office_check.specs.Verdicts.{IsVerdict, IsVerdictOn}
@@ -23,26 +24,36 @@ use Rattle.office_files.specs.declared.inputs.InputFault.TheVariants.{Read, File
 abbrev pub Both : Option (List ℕ) → Option (List ℕ) → (List ℕ → List ℕ → Type 0) → Type 0
 Both a b P = IfSome a (λ instance. IfSome b (λ solution. P instance solution))
 
+-- readings of both inputs
+pub read_as : (a b : Option (List ℕ)) (I : Session) (enrolled : Enrolled) (placing : Placing)
+    → IfSome a (λ instance. InstanceText instance I enrolled)
+    → IfSome b (λ solution. SolutionText solution I placing)
+    → Both a b (λ instance solution. AreReadAs instance solution I enrolled placing)
+read_as None b I enrolled placing one two = tt
+read_as (Some instance) None I enrolled placing one two = tt
+read_as (Some instance) (Some solution) I enrolled placing one two =
+    record { session = one; timetable = two }
+
+-- texts that have this reading have a reading
+abbrev pub are_read : {a b : List ℕ} {I : Session} {enrolled : Enrolled} {placing : Placing}
+    → AreReadAs a b I enrolled placing → AreRead a b
+are_read {I = I} {enrolled = enrolled} {placing = placing} known = record {
+  first = record { session = I; enrolled = enrolled; spells = known.session };
+  placing = placing;
+  spells = known.timetable;
+}
+
 -- readings of both inputs have a judgement
 pub judged : (a b : Option (List ℕ)) (I : Session) (enrolled : Enrolled)
     (placing : Placing) (text : List ℕ) (answer : ℕ)
-    → IfSome a (λ instance. InstanceText instance I enrolled)
-    → IfSome b (λ solution. SolutionText solution I placing)
+    → Both a b (λ instance solution. AreReadAs instance solution I enrolled placing)
     → text ≡ report I enrolled placing
     → answer ≡ exit_status I enrolled placing
     → Both a b (λ instance solution. IsJudgement instance solution text answer)
-judged None b I enrolled placing text answer one two same status = tt
-judged (Some instance) None I enrolled placing text answer one two same status = tt
-judged (Some instance) (Some solution) I enrolled placing text answer one two same status =
-    record {
-      read = record {
-        first = record { session = I; enrolled = enrolled; spells = one };
-        placing = placing;
-        spells = two;
-      };
-      spells = same;
-      status = status;
-    }
+judged None b I enrolled placing text answer known same status = tt
+judged (Some instance) None I enrolled placing text answer known same status = tt
+judged (Some instance) (Some solution) I enrolled placing text answer known same status =
+    record { read = are_read known; spells = same; status = status }
 
 -- the text of a judgement is written
 pub written : (a b old new : Option (List ℕ)) (text : List ℕ) (answer : ℕ)
@@ -65,21 +76,13 @@ one_of_two (breach ∷ breaches) answer is = inr is
 
 -- readings of some two texts have a judgement
 pub some_judged : (a b : List ℕ) (I : Session) (enrolled : Enrolled) (placing : Placing)
-    (text : List ℕ) (answer : ℕ) → InstanceText a I enrolled
-    → SolutionText b I placing → text ≡ report I enrolled placing
-    → answer ≡ exit_status I enrolled placing → IsSomeJudgement text answer
-some_judged a b I enrolled placing text answer one two same status = record {
+    (text : List ℕ) (answer : ℕ) → AreReadAs a b I enrolled placing
+    → text ≡ report I enrolled placing → answer ≡ exit_status I enrolled placing
+    → IsSomeJudgement text answer
+some_judged a b I enrolled placing text answer known same status = record {
   instance = a;
   solution = b;
-  judged = record {
-    read = record {
-      first = record { session = I; enrolled = enrolled; spells = one };
-      placing = placing;
-      spells = two;
-    };
-    spells = same;
-    status = status;
-  };
+  judged = record { read = are_read known; spells = same; status = status };
 }
 
 -- a judgement of some two texts that is written
@@ -129,3 +132,35 @@ pub verdict_on : (a : Option (List ℕ)) (I : Session) (E : Enrolled) (placing :
 verdict_on None I E placing verdict spells judged = tt
 verdict_on (Some solution) I E placing verdict spells judged =
     record { placing = placing; spells = spells; judged = judged }
+
+-- the list of an exam's places in readings of both inputs
+pub listed : (a b : Option (List ℕ)) (I : Session) (enrolled : Enrolled) (placing : Placing)
+    (exam : ℕ) (text : List ℕ)
+    → Both a b (λ instance solution. AreReadAs instance solution I enrolled placing)
+    → IsPlaceList I enrolled placing exam text
+    → Both a b (λ instance solution. ListsPlaces instance solution exam text)
+listed None b I enrolled placing exam text known lists = tt
+listed (Some instance) None I enrolled placing exam text known lists = tt
+listed (Some instance) (Some solution) I enrolled placing exam text known lists =
+    record { read = are_read known; lists = lists }
+
+-- readings of both inputs whose session lacks the exam
+pub lacking : (a b : Option (List ℕ)) (I : Session) (enrolled : Enrolled) (placing : Placing)
+    (exam : ℕ)
+    → Both a b (λ instance solution. AreReadAs instance solution I enrolled placing)
+    → length I.exams ≤ exam
+    → Both a b (λ instance solution. LacksExam instance solution exam)
+lacking None b I enrolled placing exam known missing = tt
+lacking (Some instance) None I enrolled placing exam known missing = tt
+lacking (Some instance) (Some solution) I enrolled placing exam known missing =
+    record { read = are_read known; missing = missing }
+
+-- a list that is written
+pub list_written : (a b old new : Option (List ℕ)) (exam : ℕ) (text : List ℕ)
+    → Both a b (λ instance solution. ListsPlaces instance solution exam text)
+    → Appends old new text
+    → Both a b (λ instance solution. WritesPlaces instance solution exam old new)
+list_written None b old new exam text lists appended = tt
+list_written (Some instance) None old new exam text lists appended = tt
+list_written (Some instance) (Some solution) old new exam text lists appended =
+    record { text = text; lists = lists; written = appended }

@@ -36,6 +36,12 @@ pub record AreRead (instance solution : List ℕ) : Type 0 where
   pub placing : Placing
   pub spells : SolutionText solution first.session placing
 
+-- both texts have this reading
+pub record AreReadAs (instance solution : List ℕ) (I : Session) (E : Enrolled) (T : Placing)
+    : Type 0 where
+  pub session : InstanceText instance I E
+  pub timetable : SolutionText solution I T
+
 -- both texts have a reading, and these are its report and its status
 pub record IsJudgement (instance solution text : List ℕ) (answer : ℕ) : Type 0 where
   pub read : AreRead instance solution

@@ -1,3 +1,4 @@
 pub mod Check
 pub mod Refusing
 pub mod Verdicts
+pub mod Listing

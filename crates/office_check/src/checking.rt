@@ -8,7 +8,7 @@ ghost use Rattle.office_files.specs.FirstFault.{first_fault, first_solution_faul
 ghost use Rattle.office_files.specs.InstanceText.{InstanceText};
 ghost use Rattle.office_files.specs.SolutionText.{SolutionText};
 ghost use Rattle.office_files.specs.Inputs.{RefusesFile, ReadsAtMost};
-ghost use Rattle.office_check.specs.Check.{IsJudgement, Reports};
+ghost use Rattle.office_check.specs.Check.{AreReadAs, IsJudgement, Reports};
 ghost use Rattle.office_check.specs.Refusing.{Refuses, of_instance, of_solution};
 ghost use Rattle.office_check.specs.Check.{IsSomeJudgement, WritesReport, exit_status, report};
 
@@ -102,17 +102,39 @@ fn judgement_of<R: Read, Q: Read>(
     ensures solution_taken { ReadsAtMost (TEXT_BYTES + 1)
         (Q.remaining solution_reader.old) (Q.remaining solution_reader.new) }
 {
+    let (instance, enrolments, timetable) = files_of(alloc, instance_reader, solution_reader)?;
+    match judge(alloc, &instance, &enrolments, &timetable) {
+        Ok(judged) => Ok(judged),
+        Err(_) => Err(CheckFault::NoMemory),
+    }
+}
+
+// Returns the session and the timetable that the two readers' texts describe.
+pub(crate) fn files_of<R: Read, Q: Read>(
+    alloc: Global,
+    instance_reader: &mut R,
+    solution_reader: &mut Q,
+) -> Result<(Instance, Enrolments, Timetable), CheckFault>
+    ensures reading { IfOk result (λ read. IfSome (R.remaining instance_reader.old) (λ instance.
+        IfSome (Q.remaining solution_reader.old) (λ solution.
+        AreReadAs instance solution read.0 read.1 read.2))) }
+    ensures spelled { IfOk result (λ read. (instance : List ℕ) × (solution : List ℕ)
+        × AreReadAs instance solution read.0 read.1 read.2) }
+    ensures fits { IfOk result (λ read. Fits read.0 read.1 read.2) }
+    ensures refused { IfErr result (λ fault. IfSome (R.remaining instance_reader.old) (λ instance.
+        IfSome (Q.remaining solution_reader.old) (λ solution. Refuses instance solution fault))) }
+    ensures instance_taken { ReadsAtMost (INSTANCE_BYTES + 1)
+        (R.remaining instance_reader.old) (R.remaining instance_reader.new) }
+    ensures solution_taken { ReadsAtMost (TEXT_BYTES + 1)
+        (Q.remaining solution_reader.old) (Q.remaining solution_reader.new) }
+{
     let (instance, enrolments) = match instance_of(alloc, instance_reader) {
         Ok(read) => read,
         Err(fault) => return Err(of_instance(fault)),
     };
-    let timetable = match solution_of(alloc, solution_reader, &instance) {
-        Ok(timetable) => timetable,
-        Err(fault) => return Err(of_solution(fault)),
-    };
-    match judge(alloc, &instance, &enrolments, &timetable) {
-        Ok(judged) => Ok(judged),
-        Err(_) => Err(CheckFault::NoMemory),
+    match solution_of(alloc, solution_reader, &instance) {
+        Ok(timetable) => Ok((instance, enrolments, timetable)),
+        Err(fault) => Err(of_solution(fault)),
     }
 }
 

@@ -1,9 +1,11 @@
-//! The checker without the rest: judges a solution from two readers, with no database and no
-//! command line.
+//! The checker without the rest: judges a solution from two readers, or lists the places of an exam,
+//! with no database and no command line.
 #![tactic(auto)]
 
 mod checking;
 mod judging;
+mod listing;
 
 pub use checking::{CheckFault, check_run};
 pub use judging::{Judge, LineForm, Verdict};
+pub use listing::{PlacesFault, places_run};
