@@ -111,6 +111,7 @@ def files():
         "together.sol": with_line(solution, 4, b"3, 1"),
         "early.sol": with_line(solution, 1, b"3, 0"),
         "crowded.sol": with_line(solution, 2, b"0, 0"),
+        "no_seats.exam": with_line(with_line(exam, 5, b"60"), 13, b"0, 7"),
         "nights.exam": with_line(exam, 10, b"16:04:2005, 09:30:00, 120, 5") + night,
         "weekend.exam": exam + night,
         "twice.exam": exam + night * 2,
@@ -164,6 +165,21 @@ def check_all(name, solutions, status, faults=b""):
     return [Case(f"{name}{form}", ("check-all", *flag, "small.exam", *solutions), status,
                  "".join(f"{line}\n" for line in shown).encode(), faults)
             for form, flag, shown in (("", (), lines), (", as JSON", ("--json",), objects))]
+
+
+def places(name, instance, solution, exam, *ends):
+    """The lines of an exam's places: the end of each, the penalty or the breach."""
+    rooms = 1 if instance == "smallest.exam" else 2
+    lines = ["period,room,penalty,rule,exam,other"]
+    lines += [f"{place // rooms},{place % rooms},{end if ',' in str(end) else f'{end},,,'}"
+              for place, end in enumerate(ends)]
+    return Case(name, ("places", instance, solution, str(exam)), 0,
+                "".join(f"{line}\n" for line in lines).encode())
+
+
+def unlisted(name, instance, solution, exam, text):
+    return Case(name, ("places", instance, solution, str(exam)), 1, b"",
+                b"examoffice: %s\n" % text)
 
 
 def fault(name, instance, solution, text):
@@ -291,6 +307,33 @@ CASES = [
          ("check-all", "small.exam", "three.sol", "small.sol", "none.sol"), 1, b"",
          b"three.sol: examoffice: solution line 4: fault 3\nexamoffice: cannot write\n",
          "/dev/full"),
+    places("the places of exam 0", "small.exam", "small.sol", 0,
+           37, 44, ",Clash,0,1", ",Clash,0,1", ",Duration,0,0", ",Duration,0,0",
+           ",After,1,0", ",Capacity,0,0"),
+    places("the places of exam 1", "small.exam", "small.sol", 1,
+           ",Clash,0,1", ",Clash,0,1", 37, 44, 55, 52, ",Clash,1,2", ",Clash,1,2"),
+    places("the places of exam 2", "small.exam", "small.sol", 2,
+           32, 39, ",Clash,1,2", ",Clash,1,2", ",Duration,2,2", ",Duration,2,2", 30, 37),
+    places("the places of exam 3", "small.exam", "small.sol", 3,
+           ",Clash,0,3", ",Clash,0,3", 39, 36, 37, 44, 27, 44),
+    places("the places of an exam where others break rules", "small.exam", "crowded.sol", 3,
+           ",Clash,0,3", ",Clash,0,3", 31, 38, 39, 46, 29, 46),
+    places("the places of an exam that breaks rules", "small.exam", "crowded.sol", 1,
+           ",Clash,0,1", ",Clash,0,1", 37, 44, 55, 52, ",Clash,1,2", ",Clash,1,2"),
+    places("the places of an exam without students", "blank.exam", "small.sol", 3,
+           31, 28, 31, 28, 31, 38, 26, 43),
+    places("a room without seats", "no_seats.exam", "small.sol", 3,
+           31, 28, 31, 28, 31, 38, 26, ",Capacity,3,3"),
+    places("one place", "smallest.exam", "smallest.sol", 0, 0),
+    unlisted("the exam after the last", "small.exam", "small.sol", 4, b"no exam 4"),
+    unlisted("the greatest number of an exam", "small.exam", "small.sol", 1999, b"no exam 1999"),
+    unlisted("the places by a faulty instance", "five.exam", "three.sol", 4,
+             b"instance line 1: fault 3"),
+    unlisted("the places by a faulty solution", "small.exam", "three.sol", 4,
+             b"solution line 4: fault 3"),
+    unlisted("the places by no solution", "small.exam", "none.sol", 0, b"cannot read none.sol"),
+    Case("places printed to a full device", ("places", "small.exam", "small.sol", "0"), 1, b"",
+         b"examoffice: cannot write\n", "/dev/full"),
     load("a new database", "term.db", "small.exam", 4, 6, 4, 2),
     unloaded("a second load", "term.db", "small.exam", b"store fault 1"),
     unloaded("a second load, of a faulty instance", "term.db", "april.exam",
@@ -358,18 +401,18 @@ CASES = [
       for number, _, line, _ in FAULTS if line),
     *(Case(f"help with an example and statuses: {name}", (name, "--help"), 0,
            Holding(f"\nExample:\n  examoffice {name} ".encode()), b"")
-      for name in ("check", "check-all", "load", "serve", "export", "explain")),
+      for name in ("check", "check-all", "places", "load", "serve", "export", "explain")),
     *(Case(f"help with statuses: {name}", (name, "--help"), 0,
            Holding(b"\nExit status:\n  0  "), b"")
-      for name in ("check", "check-all", "load", "serve", "export", "explain")),
+      for name in ("check", "check-all", "places", "load", "serve", "export", "explain")),
     *(Case(f"help for {kind} fault {number}: {name}", (name, "--help"), 0,
            Holding(f"\n  {number}  {words}\n".encode()), b"")
       for name, kind, numbers in (("load", "store", "189"), ("export", "store", "89"),
                                   ("serve", "store", "89"), ("serve", "connection", "1234"))
       for number, words in KINDS[kind] if number in numbers),
     *(Case(f"help within 80 columns: {name}", (*name, "--help"), 0, Within(80), b"")
-      for name in ((), ("check",), ("check-all",), ("load",), ("serve",), ("export",),
-                   ("explain",))),
+      for name in ((), ("check",), ("check-all",), ("places",), ("load",), ("serve",),
+                   ("export",), ("explain",))),
     on_terminal(load("a small instance", "small.db", "small.exam", 4, 6, 4, 2)),
     on_terminal(load("a large instance", "padded.db", "at_limit.exam", 4, 6, 4, 2),
                 b"loading at_limit.exam"),
@@ -435,6 +478,11 @@ CASES = [
     usage("an unknown command", "frobnicate"),
     usage("an unknown option", "--frobnicate"),
     usage("no solution of a session", "check-all", "small.exam"),
+    usage("no exam to place", "places", "small.exam", "small.sol"),
+    usage("an exam that is no number", "places", "small.exam", "small.sol", "MATH101"),
+    usage("an exam beyond every session", "places", "small.exam", "small.sol", "2000"),
+    usage("an exam below 0", "places", "small.exam", "small.sol", "-1"),
+    usage("two exams to place", "places", "small.exam", "small.sol", "0", "1"),
     usage("no kind of a fault", "explain"),
     usage("no number of a fault", "explain", "file"),
     usage("a fault without its kind", "explain", "5"),
