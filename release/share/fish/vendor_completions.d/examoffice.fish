@@ -1,10 +1,11 @@
 # Completion of examoffice for fish.
-set -l commands check check-all load serve export explain
+set -l commands check check-all places load serve export explain
 complete -c examoffice -n "not __fish_seen_subcommand_from $commands help" -f
 complete -c examoffice -s h -l help -d 'Print help'
 complete -c examoffice -n __fish_use_subcommand -s V -l version -d 'Print version'
 complete -c examoffice -n __fish_use_subcommand -a check -d 'Judge a solution by the rules of ITC 2007'
 complete -c examoffice -n __fish_use_subcommand -a check-all -d 'Judge many solutions of one session'
+complete -c examoffice -n __fish_use_subcommand -a places -d 'List every place for an exam'
 complete -c examoffice -n __fish_use_subcommand -a load -d 'Load an instance into an office, once'
 complete -c examoffice -n __fish_use_subcommand -a serve -d 'Serve an office over HTTP'
 complete -c examoffice -n __fish_use_subcommand -a export -d 'Print the published solution'
