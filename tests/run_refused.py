@@ -109,7 +109,8 @@ def sweeps(states, folder):
     yield Sweep("a session, every 20th read of a byte interrupted", devices.interrupted_reads,
                 (1, 20))
     yield from sliced("a session, writes of seven bytes", devices.writes)
-    for words in (("check", small, solution), ("check", faulty, solution), ("--help",),
+    for words in (("check", small, solution), ("check", faulty, solution),
+                  ("places", small, solution, "3"), ("places", small, solution, "4"), ("--help",),
                   ("check", "--frobnicate")):
         yield Sweep("words without a database, allocations", memory.without_database, (words,))
 
