@@ -7,7 +7,7 @@ use Rattle.clap.specs.declared.error.Error.{Error}
 use Rattle.office_program.specs.Explaining.{unexplained_in}
 use Rattle.office_program.specs.Program.{IsTaskOf}
 use Rattle.office_program.specs.declared.words.Task.{Task}
-use Rattle.office_program.specs.declared.words.Task.TheVariants.{Check, CheckAll, Explain, Export, Load, Serve}
+use Rattle.office_program.specs.declared.words.Task.TheVariants.{Check, CheckAll, Explain, Export, Load, Places, Serve}
 
 -- an error with a kind of `first` has one of `or_else first next`
 pub comes_first : (first next : Kinds) (e : Error) → HasKind first e
@@ -21,6 +21,7 @@ pub task_explained : (found : Option (Text × List Row)) (task : Task) → IsTas
     → unexplained_in found ≡ []
 task_explained found (Check instance solution) (rows, is, values) = rw is refl
 task_explained found (CheckAll session solutions form) (rows, is, values) = rw is refl
+task_explained found (Places instance solution exam) (rows, is, values) = rw is refl
 task_explained found (Load database instance) (rows, is, values) = rw is refl
 task_explained found (Serve database terms) (rows, is, values) = rw is refl
 task_explained found (Export database) (rows, is, values) = rw is refl

@@ -8,7 +8,7 @@ use Rattle.office_check.specs.declared.judging.LineForm.{LineForm}
 use Rattle.office_check.specs.declared.judging.LineForm.TheVariants.{Json, Plain}
 use Rattle.office_program.specs.CommandLine.{required_rule}
 use Rattle.office_program.specs.declared.words.Task.{Task}
-use Rattle.office_program.specs.declared.words.Task.TheVariants.{Check, CheckAll, Explain, Export, Load, Serve}
+use Rattle.office_program.specs.declared.words.Task.TheVariants.{Check, CheckAll, Explain, Export, Load, Places, Serve}
 
 -- the flag that requests lines of JSON
 abbrev pub json_rule : Rule
@@ -38,6 +38,7 @@ HasCheckAllValues rows (CheckAll session solutions form) =
     (first_of (codes "session") rows ≡ Some (string_bytes session))
     × (all_of (codes "solutions") rows ≡ Some (map string_bytes solutions.items))
     × RequestsForm (one_of (codes "json") rows) form
+HasCheckAllValues rows (Places instance solution exam) = ⊥
 HasCheckAllValues rows (Load database instance) = ⊥
 HasCheckAllValues rows (Serve database terms) = ⊥
 HasCheckAllValues rows (Export database) = ⊥

@@ -3,7 +3,7 @@
 use Rattle.std.specs.Prelude.{◌≡◌, List, Some, codes, string_bytes, true}
 use Rattle.clap.specs.Words.{App, Row, Rule, Text, first_of, new_app, new_rule, with_rule}
 use Rattle.office_program.specs.declared.words.Task.{Task}
-use Rattle.office_program.specs.declared.words.Task.TheVariants.{Check, CheckAll, Explain, Export, Load, Serve}
+use Rattle.office_program.specs.declared.words.Task.TheVariants.{Check, CheckAll, Explain, Export, Load, Places, Serve}
 
 -- a required argument with one value
 abbrev pub required_rule : Text → Rule
@@ -20,6 +20,7 @@ HasCheckValues rows (Check instance solution) =
     (first_of (codes "instance") rows ≡ Some (string_bytes instance))
     × (first_of (codes "solution") rows ≡ Some (string_bytes solution))
 HasCheckValues rows (CheckAll session solutions form) = ⊥
+HasCheckValues rows (Places instance solution exam) = ⊥
 HasCheckValues rows (Load database instance) = ⊥
 HasCheckValues rows (Serve database terms) = ⊥
 HasCheckValues rows (Export database) = ⊥
@@ -38,6 +39,7 @@ load_app = with_rule (with_rule (new_app (codes "load")) (named_rule (codes "db"
 abbrev pub HasLoadValues : List Row → Task → Type 0
 HasLoadValues rows (Check instance solution) = ⊥
 HasLoadValues rows (CheckAll session solutions form) = ⊥
+HasLoadValues rows (Places instance solution exam) = ⊥
 HasLoadValues rows (Load database instance) =
     (first_of (codes "db") rows ≡ Some (string_bytes database))
     × (first_of (codes "instance") rows ≡ Some (string_bytes instance))
@@ -53,6 +55,7 @@ export_app = with_rule (new_app (codes "export")) (named_rule (codes "db"))
 abbrev pub HasExportValues : List Row → Task → Type 0
 HasExportValues rows (Check instance solution) = ⊥
 HasExportValues rows (CheckAll session solutions form) = ⊥
+HasExportValues rows (Places instance solution exam) = ⊥
 HasExportValues rows (Load database instance) = ⊥
 HasExportValues rows (Serve database terms) = ⊥
 HasExportValues rows (Export database) =

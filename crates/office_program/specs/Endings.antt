@@ -11,13 +11,14 @@ use Rattle.office_program.specs.Tasks.{IsOfTask}
 use Rattle.office_program.specs.declared.faults.ProgramFault.{ProgramFault}
 use Rattle.office_program.specs.declared.faults.ProgramFault.TheVariants.{CannotWrite, NoMemory}
 use Rattle.office_program.specs.declared.words.Task.{Task}
-use Rattle.office_program.specs.declared.words.Task.TheVariants.{Check, CheckAll, Explain, Export, Load, Serve}
+use Rattle.office_program.specs.declared.words.Task.TheVariants.{Check, CheckAll, Explain, Export, Load, Places, Serve}
 
 -- until its own fault a task leaves `err` unchanged, except `serve`, which writes the faults of
 -- connections there, and `check-all`, which writes those of solutions
 abbrev pub IsSilent : {W : Type 0} → Task → W → W → Type 0
 IsSilent (Check instance solution) old new = new ≡ old
 IsSilent (CheckAll session solutions form) old new = Unit {0}
+IsSilent (Places instance solution exam) old new = new ≡ old
 IsSilent (Load database instance) old new = new ≡ old
 IsSilent (Serve database terms) old new = Unit {0}
 IsSilent (Export database) old new = new ≡ old
@@ -28,6 +29,7 @@ IsSilent (Explain words) old new = new ≡ old
 abbrev pub WritesConnectionFaults : {W : Type 0} → (W → Option (List ℕ)) → Task → W → W → Type 0
 WritesConnectionFaults contents (Check instance solution) old new = new ≡ old
 WritesConnectionFaults contents (CheckAll session solutions form) old new = new ≡ old
+WritesConnectionFaults contents (Places instance solution exam) old new = new ≡ old
 WritesConnectionFaults contents (Load database instance) old new = new ≡ old
 WritesConnectionFaults contents (Serve database terms) old new =
     PrintsFaults terms.connections (contents old) (contents new)
@@ -44,6 +46,7 @@ IsQuiet contents words old new =
 abbrev pub LeavesPrinted : Task → Option (List ℕ) → Option (List ℕ) → Type 0
 LeavesPrinted (Check instance solution) old new = Keeps old new
 LeavesPrinted (CheckAll session solutions form) old new = Keeps old new
+LeavesPrinted (Places instance solution exam) old new = Keeps old new
 LeavesPrinted (Load database instance) old new = Keeps old new
 LeavesPrinted (Serve database terms) old new = Keeps old new ⊎ PrintsPort terms.port old new
 LeavesPrinted (Export database) old new = Keeps old new
@@ -76,6 +79,8 @@ WritesSolutionFaults contents (CheckAll session solutions form) old new printed_
     is_err_written =
     JudgesAll form (map string_bytes solutions.items) printed_old printed_new
     (contents old) (contents new) is_err_written 1
+WritesSolutionFaults contents (Places instance solution exam) old new printed_old printed_new
+    is_err_written = ⊥
 WritesSolutionFaults contents (Load database instance) old new printed_old printed_new
     is_err_written = ⊥
 WritesSolutionFaults contents (Serve database terms) old new printed_old printed_new

@@ -21,6 +21,7 @@ fault_line (fault.Solution f) = codes "examoffice: solution line " ++ decimal f.
     ++ codes ": fault " ++ decimal (kind_number f.what)
 fault_line (fault.CannotOpen why) = codes "examoffice: cannot open database"
 fault_line (fault.Store f) = codes "examoffice: store fault " ++ decimal (store_number f)
+fault_line (fault.NoExam exam) = codes "examoffice: no exam " ++ decimal exam
 fault_line fault.NoPublication = codes "examoffice: no publication"
 fault_line fault.CannotListen = codes "examoffice: cannot listen"
 fault_line fault.CannotWrite = codes "examoffice: cannot write"

@@ -12,3 +12,4 @@ pub mod Tasks
 pub mod Endings
 pub mod CheckAllLine
 pub mod CheckAll
+pub mod PlacesLine

@@ -8,9 +8,10 @@ use Rattle.clap.specs.declared.builder.command.Command.{Command}
 use Rattle.clap.specs.declared.error.kind.ErrorKind.{ErrorKind}
 use Rattle.clap.specs.declared.error.kind.ErrorKind.TheVariants as kind
 use Rattle.office_program.specs.declared.words.Task.{Task}
-use Rattle.office_program.specs.declared.words.Task.TheVariants.{Check, CheckAll, Explain, Export, Load, Serve}
+use Rattle.office_program.specs.declared.words.Task.TheVariants.{Check, CheckAll, Explain, Export, Load, Places, Serve}
 use Rattle.office_program.specs.CheckAllLine.{check_all_app, HasCheckAllValues}
 use Rattle.office_program.specs.CommandLine.{check_app, HasCheckValues, load_app, HasLoadValues, export_app, HasExportValues}
+use Rattle.office_program.specs.PlacesLine.{places_app, HasPlacesValues}
 use Rattle.office_program.specs.ServeLine.{serve_app, HasServeValues}
 use Rattle.office_program.specs.Explaining.{HasExplainValues, explain_app, unexplained_in}
 
@@ -30,8 +31,9 @@ with_version a = record a { top = record a.top { has_version = true } }
 -- the program, with its commands
 abbrev pub program : App
 program = with_subcommand (with_subcommand (with_subcommand (with_subcommand (with_subcommand
-    (with_subcommand (wants_subcommand (with_version (new_app (codes "examoffice"))))
-    check_app.top) check_all_app.top) load_app.top) serve_app.top) export_app.top) explain_app.top
+    (with_subcommand (with_subcommand (wants_subcommand (with_version
+    (new_app (codes "examoffice")))) check_app.top) check_all_app.top) places_app.top)
+    load_app.top) serve_app.top) export_app.top) explain_app.top
 
 -- the task is the command that clap found, with its values
 abbrev pub IsTaskOf : Option (Text × List Row) → Task → Type 0
@@ -41,6 +43,9 @@ IsTaskOf found (Check instance solution) =
 IsTaskOf found (CheckAll session solutions form) =
     (rows : List Row) × (found ≡ Some (codes "check-all", rows))
     × HasCheckAllValues rows (CheckAll session solutions form)
+IsTaskOf found (Places instance solution exam) =
+    (rows : List Row) × (found ≡ Some (codes "places", rows))
+    × HasPlacesValues rows (Places instance solution exam)
 IsTaskOf found (Load database instance) =
     (rows : List Row) × (found ≡ Some (codes "load", rows))
     × HasLoadValues rows (Load database instance)

@@ -6,7 +6,7 @@ use Rattle.clap.specs.Words.{new_app, new_rule, one_of, with_rule}
 use Rattle.clap.specs.declared.builder.value_parser.ValueParser.TheVariants.{Signed}
 use Rattle.office_connections.specs.declared.listening.TheConstants.{MAX_PORT}
 use Rattle.office_program.specs.declared.words.Task.{Task}
-use Rattle.office_program.specs.declared.words.Task.TheVariants.{Check, CheckAll, Explain, Export, Load, Serve}
+use Rattle.office_program.specs.declared.words.Task.TheVariants.{Check, CheckAll, Explain, Export, Load, Places, Serve}
 use Rattle.office_program.specs.declared.words.Terms.{Terms}
 use Rattle.office_program.specs.declared.words.TheConstants.{MAX_CONNECTIONS, MAX_PATIENCE}
 use Rattle.office_program.specs.CommandLine.{named_rule}
@@ -55,6 +55,7 @@ HasTerms rows terms =
 abbrev pub HasServeValues : List Row → Task → Type 0
 HasServeValues rows (Check instance solution) = ⊥
 HasServeValues rows (CheckAll session solutions form) = ⊥
+HasServeValues rows (Places instance solution exam) = ⊥
 HasServeValues rows (Load database instance) = ⊥
 HasServeValues rows (Serve database terms) =
     (first_of (codes "db") rows ≡ Some (string_bytes database)) × HasTerms rows terms

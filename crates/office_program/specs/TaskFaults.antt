@@ -5,6 +5,8 @@ use Rattle.office_model.specs.declared.fault.StoreFault.TheVariants.{Store}
 use Rattle.sqlite.specs.declared.error.Error.{Error}
 use Rattle.office_check.specs.declared.checking.CheckFault.{CheckFault}
 use Rattle.office_check.specs.declared.checking.CheckFault.TheVariants as check
+use Rattle.office_check.specs.declared.listing.PlacesFault.{PlacesFault}
+use Rattle.office_check.specs.declared.listing.PlacesFault.TheVariants as places
 use Rattle.office_program.specs.declared.exporting.ExportFault.{ExportFault}
 use Rattle.office_program.specs.declared.exporting.ExportFault.TheVariants as export
 use Rattle.office_program.specs.declared.loading.LoadFault.{LoadFault}
@@ -30,6 +32,16 @@ check_line instance solution check.NoMemory = fault_line fault.NoMemory
 pub record IsOfCheck (instance solution : List ℕ) (shown : ProgramFault) : Type 0 where
   pub of : CheckFault
   pub line : fault_line shown ≡ check_line instance solution of
+
+-- the line of a fault of `places` on the files of two paths and an exam, without its end
+abbrev pub places_line : List ℕ → List ℕ → ℕ → PlacesFault → List ℕ
+places_line instance solution exam (places.Check f) = check_line instance solution f
+places_line instance solution exam places.NoExam = fault_line (fault.NoExam exam)
+
+-- the fault is shown as one of `places` on the files of two paths and an exam
+pub record IsOfPlaces (instance solution : List ℕ) (exam : ℕ) (shown : ProgramFault) : Type 0 where
+  pub of : PlacesFault
+  pub line : fault_line shown ≡ places_line instance solution exam of
 
 -- the fault is shown as one of the session of this path, or of writing
 abbrev pub IsOfCheckAll : List ℕ → ProgramFault → Type 0

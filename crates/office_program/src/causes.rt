@@ -32,7 +32,10 @@ fn print_cause<W: Write>(
         ProgramFault::CannotOpen(error) => print_unopened(rt, database_of(task), *error, out),
         ProgramFault::Store(fault) => print_refused(database_of(task), *fault, out),
         ProgramFault::CannotWrite => writeln!(out, "standard output: closed, or its disk is full"),
-        ProgramFault::NoPublication | ProgramFault::CannotListen | ProgramFault::NoMemory => Ok(()),
+        ProgramFault::NoExam(_)
+        | ProgramFault::NoPublication
+        | ProgramFault::CannotListen
+        | ProgramFault::NoMemory => Ok(()),
     }
 }
 
@@ -57,9 +60,10 @@ fn try_reading(rt: &HostRuntime, path: &str) -> io::Result<()> {
 // Returns the path of the instance's file.
 fn instance_of(task: &Task) -> &str {
     match task {
-        Task::Check(instance, _) | Task::CheckAll(instance, _, _) | Task::Load(_, instance) => {
-            instance
-        }
+        Task::Check(instance, _)
+        | Task::CheckAll(instance, _, _)
+        | Task::Places(instance, _, _)
+        | Task::Load(_, instance) => instance,
         _ => "",
     }
 }
@@ -67,7 +71,7 @@ fn instance_of(task: &Task) -> &str {
 // Returns the path of the solution's file.
 fn solution_of(task: &Task) -> &str {
     match task {
-        Task::Check(_, solution) => solution,
+        Task::Check(_, solution) | Task::Places(_, solution, _) => solution,
         _ => "",
     }
 }

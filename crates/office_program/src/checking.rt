@@ -39,7 +39,7 @@ pub(crate) fn check<'a, R: Files + AllocGlobal, W: Write>(
 }
 
 // Returns both files, or the fault of the first that could not be opened.
-fn both_open<F: Drop>(
+pub(crate) fn both_open<F: Drop>(
     instance: io::Result<F>,
     solution: io::Result<F>,
 ) -> Result<(F, F), CheckFault>

@@ -6,12 +6,14 @@ ghost use Rattle.office_program.specs.CheckAllLine.{check_all_app, json_rule, so
 ghost use Rattle.office_program.specs.CommandLine.{check_app, export_app, load_app, named_rule};
 ghost use Rattle.office_program.specs.CommandLine.{required_rule};
 ghost use Rattle.office_program.specs.Explaining.{explain_app, fault_rule};
+ghost use Rattle.office_program.specs.PlacesLine.{exam_rule, places_app};
 ghost use Rattle.office_program.specs.Program.{AddsShape};
 ghost use Rattle.office_program.specs.ServeLine.{connections_rule, patience_rule, port_rule};
 ghost use Rattle.office_program.specs.ServeLine.{serve_app};
 
 use crate::explaining::MAX_FAULT;
 use crate::helps;
+use crate::places_words::MAX_EXAM;
 use crate::words::{MAX_CONNECTIONS, MAX_PATIENCE};
 use clap::{Arg, ArgAction, Command, value_parser};
 use office_connections::MAX_PORT;
@@ -71,6 +73,31 @@ fn solutions_argument<'a>(alloc: Global) -> Arg<'a>
     ensures local { result.global ≡ false }
 {
     required(alloc, "solutions", "SOLUTION", "The files of the solutions").num_args(1..)
+}
+
+pub(crate) fn places_command<'a>(alloc: Global) -> Result<Command<'a>, AllocError>
+    ensures { IfOk result (λ c. AddsShape c places_app.top) }
+{
+    let session = required(alloc, "session", "SESSION", "The file of the session");
+    let solution = required(alloc, "solution", "SOLUTION", "The file of the solution");
+    Command::new(alloc, "places")
+        .about("List every place for an exam, with the penalty or what forbids it")
+        .after_help(helps::PLACES)
+        .arg(session)?
+        .arg(solution)?
+        .arg(exam_argument(alloc))
+}
+
+// Returns the argument for the number of an exam.
+fn exam_argument<'a>(alloc: Global) -> Arg<'a>
+    ensures rule { rule_of result ≡ exam_rule }
+    ensures local { result.global ≡ false }
+{
+    Arg::new(alloc, "exam")
+        .value_name("EXAM")
+        .help("The number of the exam, from 0")
+        .required(true)
+        .value_parser(value_parser!(u32).range(0..=i64::from(MAX_EXAM)))
 }
 
 pub(crate) fn load_command<'a>(alloc: Global) -> Result<Command<'a>, AllocError>

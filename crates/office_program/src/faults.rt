@@ -1,11 +1,12 @@
 // The faults that end the program with status 1, and their lines.
 ghost use Rattle.std.specs.Prelude.{◌≡◌, ◌≢◌};
 ghost use Rattle.office_program.specs.FaultLines.{fault_line, input_line, open_line, solution_line};
-ghost use Rattle.office_program.specs.TaskFaults.{check_line, export_line, load_line, run_line};
+ghost use Rattle.office_program.specs.TaskFaults.{check_line, export_line, load_line, places_line, run_line};
 
 use crate::exporting::ExportFault;
 use crate::loading::LoadFault;
-use office_check::CheckFault;
+use exam_model::ExamNo;
+use office_check::{CheckFault, PlacesFault};
 use office_connections::RunFault;
 use office_files::{FileFault, InputFault};
 use office_http::{Refusal, StoreFault};
@@ -21,6 +22,7 @@ pub enum ProgramFault<'a> {
     Solution(FileFault),
     CannotOpen(Error),
     Store(StoreFault),
+    NoExam(ExamNo),
     NoPublication,
     CannotListen,
     CannotWrite,
@@ -49,6 +51,10 @@ impl fmt::Display for ProgramFault<'_> {
                 let number = fault.number();
                 write!(f, "examoffice: store fault {number}")
             }
+            ProgramFault::NoExam(exam) => {
+                let number = exam.get();
+                write!(f, "examoffice: no exam {number}")
+            }
             ProgramFault::NoPublication => write!(f, "examoffice: no publication"),
             ProgramFault::CannotListen => write!(f, "examoffice: cannot listen"),
             ProgramFault::CannotWrite => write!(f, "examoffice: cannot write"),
@@ -73,6 +79,23 @@ pub(crate) fn fault_on<'a>(
         CheckFault::Solution(fault) => ProgramFault::Solution(fault),
         CheckFault::Write => ProgramFault::CannotWrite,
         CheckFault::NoMemory => ProgramFault::NoMemory,
+    }
+}
+
+// Returns the program's fault for a fault of `places` on two files and an exam.
+pub(crate) fn fault_of_places<'a>(
+    fault: PlacesFault,
+    instance: &'a str,
+    solution: &'a str,
+    exam: ExamNo,
+) -> ProgramFault<'a>
+    ensures line { fault_line result ≡ places_line instance.now solution.now exam fault }
+    ensures write { fault ≡ PlacesFault.Check CheckFault.Write
+        → result ≡ ProgramFault.CannotWrite }
+{
+    match fault {
+        PlacesFault::Check(fault) => fault_on(fault, instance, solution),
+        PlacesFault::NoExam => ProgramFault::NoExam(exam),
     }
 }
 

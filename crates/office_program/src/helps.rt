@@ -43,6 +43,24 @@ Exit status:
   2  the command line is wrong
   3  all judged: a solution breaks hard rules";
 
+// The end of the help of `places`.
+pub(crate) const PLACES: &str = "\
+Example:
+  examoffice places term.exam term.sol 12
+
+A line for each place, by period and then by room. 3,0,27,,, says that the
+solution's penalty is 27 with the exam in period 3 and room 0. In the line
+3,1,,Clash,0,1 the rule and the two exams say why the exam can't be there.
+What the solution breaks without the exam doesn't matter.
+
+Exit status:
+  0  listed
+  1  not listed: a line on standard error says why
+  2  the command line is wrong
+
+The line 'examoffice: instance line 8: fault 5' names the first fault of a
+file; examoffice check --help has the numbers.";
+
 // The end of the help of `load`.
 pub(crate) const LOAD: &str = "\
 Example:

@@ -1,5 +1,5 @@
-//! The program's commands: it judges solutions, loads or serves an office, or exports what it has
-//! published, as its command line says.
+//! The program's commands: it judges solutions, lists the places of an exam, loads or serves an
+//! office, or exports what it has published, as its command line says.
 #![tactic(auto)]
 
 mod answering;
@@ -13,8 +13,10 @@ mod exporting;
 mod faults;
 mod helps;
 mod judging;
+mod listing;
 mod loading;
 mod notices;
+mod places_words;
 mod program;
 mod serving;
 mod words;

@@ -24,6 +24,7 @@ use crate::explaining::explain;
 use crate::exporting::export;
 use crate::faults::{ProgramFault, fault_of_input, fault_of_load, fault_of_open};
 use crate::judging::check_all;
+use crate::listing::list_places;
 use crate::loading::load_run;
 use crate::notices::{LongWork, announce, announce_upgrade};
 use crate::serving::open_and_serve;
@@ -66,16 +67,16 @@ pub fn run_program<O: Write, E: Write>(
     ensures unprinted { result.status ≡ 2 → out.new ≡ out.old }
 
     // The task of the words is done, and its output is written whole. The output of `serve` is the
-    // line of the port, of `export` the solution of a whole timetable, of `explain` the words of
-    // the fault.
+    // line of the port, of `places` the list of the exam's places, of `export` the solution of a
+    // whole timetable, of `explain` the words of the fault.
     ensures done { result.status ≡ 0 → fault_of_words (map string_bytes words.now) ≡ []
         → (task : Task) × IsTask (map string_bytes words.now) task
         × Prints task (O.contents out.old) (O.contents out.new) }
 
     // Status 1 comes with the whole line of a fault of the words on `err`, unless `err` failed.
     // Unless the fault is one of writing, `out` is unchanged, or has the line of the port. `check`,
-    // `load`, `export` and `explain` write nothing else to `err`; for `serve` this is the last line
-    // there; `check-all` writes a line for each solution with a fault, with its path.
+    // `places`, `load`, `export` and `explain` write nothing else to `err`; for `serve` this is the
+    // last line there; `check-all` writes a line for each solution with a fault, with its path.
     ensures err_line { result.status ≡ 1 → IsTrue result.is_err_written
         → WritesFault E.contents (map string_bytes words.now) err.old err.new
         (O.contents out.old) (O.contents out.new) }
@@ -124,6 +125,7 @@ fn run_task<'a, W: Write, E: Write>(
         Task::CheckAll(session, solutions, form) => {
             check_all(rt, session, solutions, *form, out, err)
         }
+        Task::Places(instance, solution, exam) => list_places(rt, instance, solution, *exam, out),
         Task::Load(database, instance) => load(rt, database, instance, out),
         Task::Serve(database, terms) => open_and_serve(rt, rt, database, *terms, out, err),
         Task::Export(database) => export(rt, database, out),

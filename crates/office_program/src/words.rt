@@ -16,12 +16,15 @@ ghost use Rattle.office_program.specs.ServeLine.{HasNumber, HasServeValues, HasT
 
 use crate::check_all_words::check_all_task;
 use crate::commands::{
-    check_all_command, check_command, explain_command, export_command, load_command, serve_command,
+    check_all_command, check_command, explain_command, export_command, load_command,
+    places_command, serve_command,
 };
 use crate::explaining::{MAX_FAULT, fault_words};
 use crate::helps;
+use crate::places_words::places_task;
 use clap::error::ErrorKind;
 use clap::{ArgMatches, Command, Error};
+use exam_model::ExamNo;
 use office_check::LineForm;
 use office_connections::MAX_PORT;
 use std::alloc::{AllocError, Global};
@@ -36,6 +39,8 @@ pub enum Task {
     /// Judges solutions of one session: the session's file, the solutions', and the form of the
     /// lines.
     CheckAll(String, Vec<String>, LineForm),
+    /// Lists the places of an exam: the instance's file, the solution's, and the exam.
+    Places(String, String, ExamNo),
     /// Loads an office: its database's file, then the instance's.
     Load(String, String),
     /// Serves an office: its database's file, and the terms.
@@ -78,8 +83,8 @@ pub fn words_of(alloc: Global, args: Args) -> io::Result<Vec<String>>
 /// the text for the user: a mistake in the words, a call for help or the version, or out of memory.
 pub fn read_words(alloc: Global, words: &[String]) -> Result<Task, Error>
     // The values are those that clap finds. A number is the one in its text: a port up to 65,535, 1
-    // to 1,000,000 connections, a timeout of 1 to 86,400 seconds, or 30 if there is none. The words
-    // of `explain` are those of the fault of this kind and number.
+    // to 1,000,000 connections, a timeout of 1 to 86,400 seconds, or 30 if there is none, an exam of
+    // 0 to 1999. The words of `explain` are those of the fault of this kind and number.
     ensures task { IfOk result (IsTask (map string_bytes words.now)) }
     // An error is a mistake that clap finds, a fault to explain that doesn't exist, or out of
     // memory. An `Ok` comes only without such a mistake.
@@ -99,6 +104,9 @@ fn task_of(alloc: Global, found: &ArgMatches<'_>) -> Result<Task, Error>
     }
     if let Some(values) = found.subcommand_matches("check-all") {
         return check_all_task(alloc, values);
+    }
+    if let Some(values) = found.subcommand_matches("places") {
+        return places_task(alloc, values);
     }
     if let Some(values) = found.subcommand_matches("load") {
         return load_task(alloc, values);
@@ -123,6 +131,7 @@ fn matches(alloc: Global, words: &[String]) -> Result<ArgMatches<'_>, Error>
 {
     let check = check_command(alloc)?;
     let check_all = check_all_command(alloc)?;
+    let places = places_command(alloc)?;
     let load = load_command(alloc)?;
     let serve = serve_command(alloc)?;
     let export = export_command(alloc)?;
@@ -134,6 +143,7 @@ fn matches(alloc: Global, words: &[String]) -> Result<ArgMatches<'_>, Error>
         .subcommand_required(true)
         .subcommand(check)?
         .subcommand(check_all)?
+        .subcommand(places)?
         .subcommand(load)?
         .subcommand(serve)?
         .subcommand(export)?
@@ -198,7 +208,12 @@ fn terms_of(values: &ArgMatches<'_>) -> Result<Terms, Error>
 // Returns the number that was found, within these bounds. Clap makes sure of them too, but its
 // contract doesn't say so for subcommands: a number out of bounds would be answered as out of
 // memory.
-fn number_of(values: &ArgMatches<'_>, id: &str, least: u32, most: u32) -> Result<u32, Error>
+pub(crate) fn number_of(
+    values: &ArgMatches<'_>,
+    id: &str,
+    least: u32,
+    most: u32,
+) -> Result<u32, Error>
     ensures ok { IfOk result (λ n. HasNumber id.now (rows_of (found_of values.now)) n
         × (least ≤ n) × (n ≤ most)) }
     ensures err { IfErr result (λ e. kind_of e ≡ OutOfMemory) }

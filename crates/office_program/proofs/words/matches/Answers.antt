@@ -6,6 +6,7 @@ use Rattle.clap.specs.Simple.{app_of_fields}
 use Rattle.office_program.specs.CheckAllLine.{check_all_app}
 use Rattle.office_program.specs.CommandLine.{check_app, export_app, load_app}
 use Rattle.office_program.specs.Explaining.{explain_app}
+use Rattle.office_program.specs.PlacesLine.{places_app}
 use Rattle.office_program.specs.Program.{program, with_version, wants_subcommand}
 use Rattle.office_program.specs.ServeLine.{serve_app}
 use Rattle.office_program.proofs.words.matches.Goals as goal
@@ -28,22 +29,28 @@ whole_is c =
     check_all_app.top =
     c.in_ok-check_all.ensures _ _ c.in_ok-subcommand-2.ensures
     ∙ ap (λ a. with_subcommand a check_all_app.top) judges in
-    let loads : app_of c.in_ok-subcommand-3.field-0 ≡ with_subcommand (with_subcommand
+    let listed : app_of c.in_ok-subcommand-3.field-0 ≡ with_subcommand (with_subcommand
     (with_subcommand (wants_subcommand (with_version (new_app (codes "examoffice"))))
-    check_app.top) check_all_app.top) load_app.top =
-    c.in_ok-load.ensures _ _ c.in_ok-subcommand-3.ensures
-    ∙ ap (λ a. with_subcommand a load_app.top) all in
-    let serves : app_of c.in_ok-subcommand-4.field-0 ≡ with_subcommand (with_subcommand
+    check_app.top) check_all_app.top) places_app.top =
+    c.in_ok-places.ensures _ _ c.in_ok-subcommand-3.ensures
+    ∙ ap (λ a. with_subcommand a places_app.top) all in
+    let loads : app_of c.in_ok-subcommand-4.field-0 ≡ with_subcommand (with_subcommand
     (with_subcommand (with_subcommand (wants_subcommand (with_version
-    (new_app (codes "examoffice")))) check_app.top) check_all_app.top) load_app.top)
-    serve_app.top =
-    c.in_ok-serve.ensures _ _ c.in_ok-subcommand-4.ensures
-    ∙ ap (λ a. with_subcommand a serve_app.top) loads in
-    let exports : app_of c.in_ok-subcommand-5.field-0 ≡ with_subcommand (with_subcommand
+    (new_app (codes "examoffice")))) check_app.top) check_all_app.top) places_app.top)
+    load_app.top =
+    c.in_ok-load.ensures _ _ c.in_ok-subcommand-4.ensures
+    ∙ ap (λ a. with_subcommand a load_app.top) listed in
+    let serves : app_of c.in_ok-subcommand-5.field-0 ≡ with_subcommand (with_subcommand
     (with_subcommand (with_subcommand (with_subcommand (wants_subcommand (with_version
-    (new_app (codes "examoffice")))) check_app.top) check_all_app.top) load_app.top)
-    serve_app.top) export_app.top =
-    c.in_ok-export.ensures _ _ c.in_ok-subcommand-5.ensures
+    (new_app (codes "examoffice")))) check_app.top) check_all_app.top) places_app.top)
+    load_app.top) serve_app.top =
+    c.in_ok-serve.ensures _ _ c.in_ok-subcommand-5.ensures
+    ∙ ap (λ a. with_subcommand a serve_app.top) loads in
+    let exports : app_of c.in_ok-subcommand-6.field-0 ≡ with_subcommand (with_subcommand
+    (with_subcommand (with_subcommand (with_subcommand (with_subcommand (wants_subcommand
+    (with_version (new_app (codes "examoffice")))) check_app.top) check_all_app.top)
+    places_app.top) load_app.top) serve_app.top) export_app.top =
+    c.in_ok-export.ensures _ _ c.in_ok-subcommand-6.ensures
     ∙ ap (λ a. with_subcommand a export_app.top) serves in
     c.in_ok-explain.ensures _ _ c.in_ok-whole.ensures
     ∙ ap (λ a. with_subcommand a explain_app.top) exports
