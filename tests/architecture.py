@@ -19,7 +19,8 @@ SQL_LIBRARIES = {
 }
 # Who may name a connection, a store, a database and its values besides.
 SQLITE_NAMERS = SQL_CRATES | {
-    "office_records", "office_store", "office_desk", "office_http", "office_program",
+    "office_records", "office_store", "office_desk", "office_http", "office_database",
+    "office_program",
     "worked_offices",
     "worked_desks",
 }

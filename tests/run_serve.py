@@ -10,6 +10,7 @@ import argparse
 import concurrent.futures
 import contextlib
 import functools
+import importlib
 import json
 import os
 import pathlib
@@ -33,6 +34,10 @@ from serve_cases import (
     MOVED_TEXT, NIGHTLY, NIGHTS, PENALTY, PENDING, PUBLISHED, SECOND_PAGE, SHOWN, SMALL, SOLUTION,
     STORED, THIRD, UNPLACED, asked_by, at, batch, batch_text, clear, cost, drafted, enrolled, error,
     forbidden, me, message, move, pending, place, publish, published, reply, report, swap, text)
+
+# A session at the limits, of bench/.
+sys.path.append(str(pathlib.Path(__file__).resolve().parent.parent / "bench"))
+sessions = importlib.import_module("sessions")
 
 # Beyond this nothing is waited for. Long, because other tests run beside.
 SECONDS = 180
@@ -332,6 +337,24 @@ PAIRED = "".join(f"{line}\n" for line in [
 PAIRED_DRAFT = ("INSERT INTO draft VALUES (1, 700000, 0, 0, 0, 0, 0, 0);"
                 "INSERT INTO night_draft VALUES (1, 0);"
                 "INSERT INTO slot VALUES (1, 0, 0, 0), (1, 1, 1, 0)")
+
+
+def short_log(run):
+    """A publication of 200,000 seats, and one that moves a tenth of the exams, leave a log of at
+    most twice the file and 16 MB."""
+    database = run.database(sessions.instance_of(200_000, 10).encode())
+    office = Office(run.program, database)
+    for number, further in ((1, 0), (2, 5)):
+        places = [sessions.place_of(exam) for exam in range(sessions.EXAMS)]
+        rows = [f"{period}, {room + (further if exam % 10 == 0 else 0)}\n"
+                for exam, (period, room) in enumerate(places)]
+        said = [told(office.connect(), message(*question)) for question in (
+            ("PUT", f"/drafts/{number}", "".join(rows).encode()),
+            ("POST", f"/drafts/{number}/publish"))]
+        sizes = [database.with_name(f"term.db{end}").stat().st_size for end in ("", "-wal")]
+        run.judge(f"publication {number} of 200,000 seats", ([b"201", b"200"], True),
+                  ([reply.split()[1] for reply in said], sizes[1] <= 2 * sizes[0] + 2**24))
+    office.killed()
 
 
 def most_pairs(run):
@@ -819,7 +842,7 @@ def tests_of(is_plain):
     own = [stored_by_hand, adopt_after_republication, nights_are_kept, draft_survives_adopt,
            last_message, long_message, longest_body, cut_messages, hostile_messages,
            batches_are_kept,
-           publication_is_told]
+           publication_is_told, short_log]
     others = [worked_examples, stock_curl, many_connections, failing_reader_and_writer,
               port_is_taken, other_addresses, locked_database, closed_streams, longest_batch,
               most_batches,

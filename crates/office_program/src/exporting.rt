@@ -52,7 +52,7 @@ pub(crate) fn export<'a, W: Write>(
         return Err(fault_of_open(Error::SqliteFailure(ErrorCode::CannotOpen)));
     }
     announce(rt, LongWork::Opening(database));
-    let conn = match Connection::open(rt, database) {
+    let conn = match office_database::open(rt, database) {
         Ok(conn) => conn,
         Err(error) => return Err(fault_of_open(error)),
     };

@@ -32,7 +32,6 @@ use crate::words::{Task, read_words};
 use clap::Error;
 use clap::error::ErrorKind;
 use office_files::{InputFault, instance_text};
-use office_http::Connection;
 use std::io::Write;
 use std::rt::Files;
 use std::{fs, io};
@@ -181,7 +180,7 @@ fn load_text<'a, W: Write>(
         → Keeps (W.contents out.old) (W.contents out.new)) }
 {
     announce(rt, LongWork::Opening(database));
-    let conn = match Connection::open(rt, database) {
+    let conn = match office_database::open(rt, database) {
         Ok(conn) => conn,
         Err(error) => return Err(fault_of_open(error)),
     };

@@ -50,7 +50,7 @@ pub(crate) fn open_and_serve<
 {
     let is_new = fs::metadata(rt, database).is_err();
     announce(rt, LongWork::Opening(database));
-    let conn = match Connection::open(rt, database) {
+    let conn = match office_database::open(rt, database) {
         Ok(conn) => conn,
         Err(error) => return Err(fault_of_open(error)),
     };
