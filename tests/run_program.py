@@ -375,11 +375,8 @@ CASES = [
            f"{words}\n".encode())
       for kind, rows in KINDS.items() for number, words in rows),
     *(Case(f"{kind} fault {number}, which isn't one", ("explain", kind, str(number)), 2, b"",
-           Holding(message))
-      for kind, rows in KINDS.items()
-      for number, message in ((len(rows) + 1, b""), (0, b"1..=13"), (14, b"1..=13"))),
-    Case("a fault of the store that isn't one", ("explain", "store", "10"), 2, b"",
-         Holding(b"there is no such fault")),
+           Holding(b"there is no such fault: file has 1 to 13, store 1 to 9, connection 1 to 4"))
+      for kind, rows in KINDS.items() for number in (0, len(rows) + 1, 14, 999999999)),
     Case("a fault of no kind", ("explain", "door", "1"), 2, b"",
          Holding(b"there is no such fault")),
     Case("a fault printed to a full device", ("explain", "file", "5"), 1, b"",

@@ -8,7 +8,7 @@ use Rattle.clap.specs.Words.{App, Kinds, Row, Rule, Text, first_of, new_app, one
 use Rattle.clap.specs.declared.error.kind.ErrorKind.TheVariants.{InvalidValue}
 use Rattle.office_program.specs.CommandLine.{required_rule}
 use Rattle.office_program.specs.ServeLine.{number_option}
-use Rattle.office_program.specs.declared.explaining.TheConstants.{CONNECTION, FILE, MAX_FAULT, STORE}
+use Rattle.office_program.specs.declared.explaining.TheConstants.{CONNECTION, FILE, MAX_NUMBER, STORE}
 use Rattle.office_program.specs.declared.words.Task.{Task}
 use Rattle.office_program.specs.declared.words.Task.TheVariants.{Check, CheckAll, Explain, Export, Load, Places, Serve}
 
@@ -26,7 +26,7 @@ fault_words kind n =
 
 -- the argument with the number of a fault
 abbrev pub fault_rule : Rule
-fault_rule = number_option (required_rule (codes "number")) 1 MAX_FAULT
+fault_rule = number_option (required_rule (codes "number")) 0 MAX_NUMBER
 
 -- the command `explain KIND NUMBER`
 abbrev pub explain_app : App

@@ -11,7 +11,7 @@ ghost use Rattle.office_program.specs.Program.{AddsShape};
 ghost use Rattle.office_program.specs.ServeLine.{connections_rule, patience_rule, port_rule};
 ghost use Rattle.office_program.specs.ServeLine.{serve_app};
 
-use crate::explaining::MAX_FAULT;
+use crate::explaining::MAX_NUMBER;
 use crate::helps;
 use crate::places_words::MAX_EXAM;
 use crate::words::{MAX_CONNECTIONS, MAX_PATIENCE};
@@ -209,5 +209,5 @@ fn fault_argument<'a>(alloc: Global) -> Arg<'a>
         .value_name("NUMBER")
         .help("The number of the fault")
         .required(true)
-        .value_parser(value_parser!(u32).range(1..=i64::from(MAX_FAULT)))
+        .value_parser(value_parser!(u32).range(0..=i64::from(MAX_NUMBER)))
 }

@@ -30,7 +30,7 @@ const STORE: [&str; 9] = [
     "not loaded: the office has no session yet",
     "no draft: there is no draft of this number",
     "draft taken: there is a draft of this number already",
-    "batch differs: a batch of this number was taken with other bytes",
+    "batch differs: this number was used before, for a batch of other content",
     "too many: there would be more enrolments or batches than are kept",
     "refused: a file is faulty, or a rule forbids an edit or a publication",
     "failed: a statement failed, or memory was refused",
@@ -45,8 +45,8 @@ const CONNECTION: [&str; 4] = [
     "no memory: memory was refused",
 ];
 
-// The greatest number of a fault.
-pub(crate) const MAX_FAULT: u32 = 13;
+// The greatest number that is looked up. One that no fault has is refused with those that there are.
+pub(crate) const MAX_NUMBER: u32 = 999_999_999;
 
 // Returns the words of the fault of this kind and number, if there is one.
 pub(crate) fn fault_words(kind: &str, number: u32) -> Option<&'static str>

@@ -68,7 +68,7 @@ Example:
 
 Exit status:
   0  loaded: the line on standard output says how much
-  1  not loaded, or not said to be: a line on standard error says why
+  1  not loaded, or its line could not be printed: standard error says why
   2  the command line is wrong
 
 The line 'examoffice: instance line 8: fault 5' names the first fault of the

@@ -54,8 +54,8 @@ impl fmt::Display for LongWork<'_> {
     }
 }
 
-// In bytes. Work on such a file takes some tenths of a second at least, and seconds at the limits.
-const LARGE: u64 = 2_000_000;
+// In bytes. Work on such a file takes a tenth of a second at least, and seconds at the limits.
+const LARGE: u64 = 500_000;
 
 // Prints which work begins, if the file is large.
 pub(crate) fn announce(rt: &HostRuntime, work: LongWork<'_>) {

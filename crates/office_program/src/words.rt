@@ -19,7 +19,7 @@ use crate::commands::{
     check_all_command, check_command, explain_command, export_command, load_command,
     places_command, serve_command,
 };
-use crate::explaining::{MAX_FAULT, fault_words};
+use crate::explaining::{MAX_NUMBER, fault_words};
 use crate::helps;
 use crate::places_words::places_task;
 use clap::error::ErrorKind;
@@ -238,7 +238,7 @@ fn explain_task(alloc: Global, values: &ArgMatches<'_>) -> Result<Task, Error>
     ensures err { IfErr result (HasKind (explain_errors (rows_of (found_of values.now)))) }
 {
     let kind = value_of(alloc, values, "kind")?;
-    let number = number_of(values, "number", 1, MAX_FAULT)?;
+    let number = number_of(values, "number", 0, MAX_NUMBER)?;
     match fault_words(&kind, number) {
         Some(words) => Ok(Task::Explain(words)),
         None => Err(no_such_fault(alloc)?),
