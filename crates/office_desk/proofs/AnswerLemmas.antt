@@ -96,10 +96,13 @@ held_outcome : {A : Type 0} (to_answer : A → PlainAnswer)
     → HoldsOutcome (λ office. outcome to_answer office (command office)) old found
 held_outcome to_answer command old found next = record {
   was_open = next.was_open;
+  sound = next.sound;
   office = next.office;
   stood = next.stood;
-  holds = subst (λ gives. RepresentsOffice (found_in found) (outcome to_answer next.office gives).0)
-      (sym next.does) next.holds;
+  holds = λ there kept.
+      let after = next.holds there kept in
+      subst (λ gives. RepresentsOffice (found_in found) (outcome to_answer there gives).0)
+      (sym after.2) after.3;
 }
 
 -- a command that changes the office commits the office after its outcome
@@ -199,10 +202,12 @@ same_answered g Changes f h old new result answered same = record {
         may.1,
         record {
           was_open = may.2.was_open;
+          sound = may.2.sound;
           office = may.2.office;
           stood = may.2.stood;
-          holds = subst (λ (outcome : Outcome). RepresentsOffice (found_in found) outcome.0)
-              (same may.2.office) may.2.holds;
+          holds = λ there kept.
+              subst (λ (outcome : Outcome). RepresentsOffice (found_in found) outcome.0)
+              (same there) (may.2.holds there kept);
         },
       )) answered.survives;
 }

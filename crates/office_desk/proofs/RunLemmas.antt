@@ -92,15 +92,16 @@ module _ {S : Type 0} (store : Ghosts S) (caller : Caller) (command : PlainComma
         → HoldsOutcome (λ office. step office caller command) (state store old) found
     held_step said is asked clean found outcome =
         let was = left.unchanged.unchanged clean outcome.was_open in
-        let office = outcome.office in
-        let stood = subst (λ db. RepresentsOffice db office) was.1 outcome.stood in
-        let allowed = sym is ∙ (asked.runs clean office (λ _. stood)).0 in
         record {
           was_open = was.0;
-          office = office;
-          stood = stood;
-          holds = subst (λ a. RepresentsOffice (found_in found)
-              (if_allowed a office caller command).0) allowed outcome.holds;
+          sound = outcome.sound;
+          office = outcome.office;
+          stood = subst (λ db. RepresentsOffice db outcome.office) was.1 outcome.stood;
+          holds = λ there kept.
+              let allowed = sym is ∙ (asked.runs clean there (λ _. kept)).0 in
+              subst (λ a. RepresentsOffice (found_in found) (if_allowed a there caller command).0)
+              allowed
+              (outcome.holds there (subst (λ db. RepresentsOffice db there) (sym was.1) kept));
         }
 
     -- a permitted command is performed

@@ -1,5 +1,6 @@
 -- The effect of a command on the office that the desk's file represents, and its answer.
 use Rattle.std.specs.Prelude.{◌≡◌, ◌⊎◌, IsTrue, Result, Ok, Err}
+use Rattle.sqlite.specs.Effect.{IsDatabase}
 use Rattle.sqlite.specs.Held.{Held, state}
 use Rattle.sqlite.specs.State.{HasCleanDisk, State, Survives}
 use Rattle.sqlite.specs.Store.{Ghosts}
@@ -45,13 +46,16 @@ MayChange (publish d) = Unit {0}
 MayChange (batch number body) = Unit {0}
 MayChange command = ⊥
 
--- the trees hold the office after the outcome of the one in the open file
+-- the trees hold the office after the outcome of each one in the open file; they list the office's
+-- schema and obey it, so they can be opened
 pub record HoldsOutcome (outcome_in : OfficeState → Outcome) (old : State) (found : Trees)
     : Type 0 where
   pub was_open : IsTrue old.is_open
+  pub sound : IsDatabase (found_in found)
   pub office : OfficeState
   pub stood : RepresentsOffice old.now office
-  pub holds : RepresentsOffice (found_in found) (outcome_in office).0
+  pub holds : (there : OfficeState) → RepresentsOffice old.now there
+      → RepresentsOffice (found_in found) (outcome_in there).0
 
 -- what a command may commit that may change the office and isn't refused, unless the office became
 -- unavailable: the office after its outcome

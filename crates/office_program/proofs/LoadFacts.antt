@@ -72,11 +72,13 @@ loaded_from (Ok s) None next counts is =
 held_loaded : (text : List ℕ) (old : State) (found : Trees) → HoldsNext (load_session text) old found
     → HoldsLoaded text found
 held_loaded text old found next =
-    let from = loaded_from (instance_in text) next.office next.next next.answer next.does in
+    let after = next.holds next.office next.stood in
+    let from = loaded_from (instance_in text) next.office after.1 after.0 after.2 in
     record {
       session = from.0;
       spelled = from.1;
-      holds = subst (RepresentsOffice (found_in found)) from.2 next.holds;
+      holds = subst (RepresentsOffice (found_in found)) from.2 after.3;
+      sound = next.sound;
     }
 
 -- a load that succeeded or was refused, and then its line
@@ -92,8 +94,8 @@ load_survives g text old new loaded result next unnamed =
 -- what an opening may commit that succeeded
 pub may_bring_up : {S : Type 0} (old : State) (office : Held S) (found : Trees)
     → MayOpen old (Ok office) found → MayBringUp old found
-may_bring_up old office found (inl made) = inl (made.0, made.2)
-may_bring_up old office found (inr migrated) = inr (migrated.0, migrated.2)
+may_bring_up old office found (inl made) = inl (made.0, made.2, made.3)
+may_bring_up old office found (inr migrated) = inr (migrated.0, migrated.2, migrated.3)
 
 -- a load after an opening that succeeded
 pub run_survives : {S : Type 0} (g : Ghosts S) (text : List ℕ) (conn office after released : Held S)
@@ -120,4 +122,4 @@ export_survives g conn office after released adopted read is =
     subst (λ held. Survives (state g conn) (state g held) (MayUpgrade (state g conn))) (sym is)
     (survives_then (state g conn) (state g office) (state g after)
     (MayMigrate (state g conn) (Ok office)) (λ _. ⊥) (MayUpgrade (state g conn))
-    (λ _ found may. (may.0, may.2)) (λ _ found none. absurd none) adopted read)
+    (λ _ found may. (may.0, may.2, may.3)) (λ _ found none. absurd none) adopted read)

@@ -1,6 +1,7 @@
 -- The effect of `load` on the office that a database represents, and what it prints.
-use Rattle.std.specs.Prelude.{◌≡◌, ◌⊎◌, ℕ, ◌++◌, ◌∷◌, [], List, Option, Some, None, Result, Ok, Err, IfErr, OnOk, codes, decimal}
+use Rattle.std.specs.Prelude.{◌≡◌, ◌⊎◌, ℕ, ◌++◌, ◌∷◌, [], List, Option, Some, None, Result, Ok, Err, IfErr, IsTrue, OnOk, codes, decimal}
 use Rattle.std.specs.Io.KnownBytes.{Appends}
+use Rattle.sqlite.specs.Effect.{IsDatabase}
 use Rattle.sqlite.specs.Held.{Held}
 use Rattle.sqlite.specs.State.{State}
 use Rattle.sqlite_trees.specs.Tree.{Trees}
@@ -66,11 +67,13 @@ pub record LoadRan (text : List ℕ) (office : OfficeState) (after : State)
 
 -- ---- what a later opening may find
 
--- the trees hold the office with the session in the text, and nothing else
+-- the trees hold the office with the session in the text, and nothing else; they list the office's
+-- schema and obey it, so they can be opened
 pub record HoldsLoaded (text : List ℕ) (found : Trees) : Type 0 where
   pub session : Session × Enrolled
   pub spelled : instance_in text ≡ Ok session
   pub holds : RepresentsOffice (found_in found) (Some (new_records session))
+  pub sound : IsDatabase (found_in found)
 
 -- no refusal that the office names
 abbrev pub IsUnnamed : LoadFault → Type 0
@@ -81,14 +84,20 @@ IsUnnamed Write = Unit {0}
 abbrev pub MayLoad : {A : Type 0} → List ℕ → Result A LoadFault → Trees → Type 0
 MayLoad text result found = IfErr result IsUnnamed × HoldsLoaded text found
 
--- what opening may commit if the tables are of version 1: the same office in version 2
+-- what opening may commit if the tables are of version 1: the same office in version 2, in trees
+-- that can be opened
 abbrev pub MayUpgrade : State → Trees → Type 0
-MayUpgrade old found = (old.now.schema ≡ schema_before) × DatabaseUpgraded old.now (found_in found)
+MayUpgrade old found =
+    (old.now.schema ≡ schema_before) × DatabaseUpgraded old.now (found_in found)
+    × IsDatabase (found_in found)
 
--- what opening may commit: the tables without a session if there was no table, or that
+-- what opening may commit: the tables without a session if there was no table, or that; if the
+-- database was open, the tables can be opened
 abbrev pub MayBringUp : State → Trees → Type 0
 MayBringUp old found =
-    ((old.now.schema ≡ no_schema) × RepresentsOffice (found_in found) None) ⊎ MayUpgrade old found
+    ((old.now.schema ≡ no_schema) × RepresentsOffice (found_in found) None
+    × (IsTrue old.is_open → IsDatabase (found_in found)))
+    ⊎ MayUpgrade old found
 
 -- the connection that a run returns
 abbrev pub connection_after : {S E : Type 0} → Result (Held S) (E × Held S) → Held S

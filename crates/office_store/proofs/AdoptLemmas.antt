@@ -7,7 +7,7 @@ use Rattle.std.proofs.lemmas.List.Elements.{All-from_recursion}
 use Rattle.std.proofs.lemmas.List.Kept.{AllPairs-cons}
 use Rattle.sqlite.proofs.StateLemmas.{survives_then, survives_weaker}
 use Rattle.sqlite_trees.specs.Tree.{IsAscending, Trees}
-use Rattle.sqlite.specs.Effect.{Database}
+use Rattle.sqlite.specs.Effect.{Database, IsDatabase}
 use Rattle.sqlite.specs.Held.{Held, state}
 use Rattle.sqlite.specs.State.{HasCleanDisk, IsUnchanged, State, Survives}
 use Rattle.sqlite.specs.Store.{Ghosts}
@@ -177,7 +177,7 @@ module _ {S A E : Type 0} (g : Ghosts S) (found : Found) (old new : Held S) (r :
       → (batches : List Batch) → HoldsTablesIn v (state g old).now (tables_of found batches)
       → OnOk r (HoldsTables (state g new).now (tables_of found batches))
   brought_tables One ran clean batches held =
-      on_ok_weaker r (λ done. done.related batches held) (ran.done clean)
+      on_ok_weaker r (λ done. (done.related batches held).0) (ran.done clean)
   brought_tables Two left clean batches held =
       on_ok_both r (subst (λ h. HoldsTables (state g h).now (tables_of found batches)) (sym left.1)
       held)
@@ -199,11 +199,17 @@ module _ {S A E : Type 0} (g : Ghosts S) (found : Found) (old new : Held S) (r :
   brought_undone Two left clean = on_err_weaker r (λ never. absurd never) left.0
 
   pub brought_survives : (v : Version) → BroughtUp v g found old new r
-      → Survives (state g old) (state g new) (λ trees. (v ≡ One) × ((batches : List Batch)
+      → Survives (state g old) (state g new) (λ trees. (v ≡ One)
+      × (IsTrue (state g old).is_open → (batches : List Batch)
       → HoldsTablesIn v (state g old).now (tables_of found batches)
-      → HoldsTables (found_in trees) (tables_of found batches)))
+      → HoldsTables (found_in trees) (tables_of found batches) × IsDatabase (found_in trees)))
   brought_survives One ran =
-      survives_weaker (state g old) (state g new) _ _ (λ _ trees made. (refl, made)) ran.survives
+      survives_weaker (state g old) (state g new) _ _ (λ k trees made. (
+        refl,
+        λ opened batches held.
+            let it = made batches held in
+            (it.0, it.1 (ran.sound k opened)),
+      )) ran.survives
   brought_survives Two left =
       survives_weaker (state g old) (state g new) _ _ (λ _ trees none. absurd none)
       (subst (λ h. Survives (state g old) (state g h) (λ _. ⊥)) (sym left.1)
@@ -329,27 +335,31 @@ module _ {S : Type 0} (g : Ghosts S) (old mid new : Held S) (found : Found) (mem
     (unrefused : IfErr result (λ refused. refused.0 ≡ Store))
     (clean : HasCleanDisk (state g new) → HasCleanDisk (state g mid))
     (same : HasCleanDisk (state g mid) → (mid ≡ old) ⊎ IsUnchanged (state g old) (state g mid))
+    (is_open : HasCleanDisk (state g mid) → IsTrue (state g mid).is_open)
     (is : HasCleanDisk (state g mid) → IsFoundOffice (state g old).now found memory) where
   migrated : HasCleanDisk (state g new) → (trees : Trees) → found.version ≡ One
-      → ((batches : List Batch) → HoldsTablesIn found.version (state g mid).now (tables_of found batches)
-      → HoldsTables (found_in trees) (tables_of found batches))
+      → (IsTrue (state g mid).is_open → (batches : List Batch)
+      → HoldsTablesIn found.version (state g mid).now (tables_of found batches)
+      → HoldsTables (found_in trees) (tables_of found batches) × IsDatabase (found_in trees))
       → MayMigrate (state g old) result trees
   migrated clean_new trees before represents =
       let clean_mid = clean clean_new in
       let found_so = is clean_mid in
       let held = held_still g old mid found.version (tables_of found found_so.batches)
-      (same clean_mid) found_so.tables in (
+      (same clean_mid) found_so.tables in
+      let made = represents (is_open clean_mid) found_so.batches held in (
         subst (λ version. (state g old).now.schema ≡ schema_of version) before
             found_so.tables.schema,
         unrefused,
-        taken_over (state g old).now (found_in trees) found memory found_so
-            (represents found_so.batches held),
+        taken_over (state g old).now (found_in trees) found memory found_so made.0,
+        made.1,
       )
 
   pub may_migrate : Survives (state g old) (state g mid) (λ _. ⊥)
       → Survives (state g mid) (state g new) (λ trees. (found.version ≡ One)
-      × ((batches : List Batch) → HoldsTablesIn found.version (state g mid).now (tables_of found batches)
-      → HoldsTables (found_in trees) (tables_of found batches)))
+      × (IsTrue (state g mid).is_open → (batches : List Batch)
+      → HoldsTablesIn found.version (state g mid).now (tables_of found batches)
+      → HoldsTables (found_in trees) (tables_of found batches) × IsDatabase (found_in trees)))
       → Survives (state g old) (state g new) (MayMigrate (state g old) result)
   may_migrate read brought =
       survives_then (state g old) (state g mid) (state g new) (λ _. ⊥) _

@@ -3,13 +3,13 @@ use Rattle.std.proofs.Common.{◌≡◌, ◌∙◌, Ok, Err, Result, IsTrue, ari
 use Rattle.std.proofs.lemmas.Result.{on_err_weaker, on_ok_weaker}
 use Rattle.std.specs.Prelude.{IfErr, OnOk}
 use Rattle.std.specs.Result.{IsErrAnd}
-use Rattle.sqlite.specs.Effect.{Database}
+use Rattle.sqlite.specs.Effect.{Database, IsDatabase}
 use Rattle.sqlite.specs.Held.{Held, state}
 use Rattle.sqlite.specs.State.{State, HasCleanDisk, Survives}
 use Rattle.sqlite.specs.Store.{Ghosts}
 use Rattle.sqlite.proofs.StateLemmas.{survives_then, survives_weaker}
 use Rattle.sqlite_trees.specs.Tree.{Trees}
-use Rattle.office_tables.specs.Alterations.{TablesChanged, TransactionRan, found_in}
+use Rattle.office_tables.specs.Alterations.{IsWritten, TablesChanged, TransactionRan, found_in}
 use Rattle.office_tables.specs.Schema.{IsBlank, no_schema}
 use Rattle.office_tables.specs.TablesHeld.{HoldsTables}
 use Rattle.office_tables.specs.Tables.{Tables, empty_tables}
@@ -24,7 +24,7 @@ use Rattle.office_store.specs.Running.{CommandRan, MatchesMemory, IsCommitted, S
 use Rattle.office_store.specs.declared.memory.OfficeMemory.{OfficeMemory}
 use Rattle.office_tables.proofs.TurnLemmas.{ran_weaker}
 use Rattle.office_store.proofs.CommandLemmas.{Moves, runs, runs_undone, stays_then, stays_undone}
-use Rattle.office_store.proofs.RunLemmas.{made_on}
+use Rattle.office_store.proofs.RunLemmas.{at_hand}
 
 -- ---- nothing is committed
 
@@ -76,12 +76,11 @@ next_before command before mid still found next =
     let was = still next.was_open in
     record {
       was_open = was.0;
+      sound = next.sound;
       office = next.office;
       stood = subst (λ db. RepresentsOffice db next.office) was.1 next.stood;
-      answer = next.answer;
-      next = next.next;
-      does = next.does;
-      holds = next.holds;
+      holds = λ there kept.
+          next.holds there (subst (λ db. RepresentsOffice db there) (sym was.1) kept);
     }
 
 -- a command after a reader
@@ -109,15 +108,21 @@ is_failed : {A : Type 0} (result : Result A StoreFault) → IsErrAnd result (λ 
 is_failed (Ok x) is = tt
 is_failed (Err e) is = is
 
+-- the tables have this change, whether their schema is listed or not
+abbrev pub RowsChanged : (Tables → Tables) → Database → Database → Type 0
+RowsChanged f old new = (t : Tables) → HoldsTables old t → HoldsTables new (f t)
+
 -- readers, and then a transaction that leads to the office after the command
 module _ {S A B F : Type 0} {y : B} (g : Ghosts S) (command : OfficeState → CommandResult A)
     (before mid inside after : Held S) (m : OfficeMemory) (view : inside ≡ mid)
     (rest : MatchesMemory (state g inside) m)
     (read : LeavesUnchanged {A = B} {E = F} g before mid (Ok y)) (f : Tables → Tables) (x : A)
+    (live : HasCleanDisk (state g after) → IsTrue (state g inside).is_open
+    → IsDatabase (state g inside).now)
     (put : Survives (state g inside) (state g after)
     (λ found. TablesChanged f (state g inside).now (found_in found)))
     (moves : HasCleanDisk (state g after) → (found : Trees)
-    → TablesChanged f (state g inside).now (found_in found)
+    → RowsChanged f (state g inside).now (found_in found)
     → Moves command x (state g inside).now (found_in found) m) where
   next_held : HasCleanDisk (state g after) → (found : Trees)
       → TablesChanged f (state g inside).now (found_in found) → HoldsNext command (state g before) found
@@ -125,18 +130,24 @@ module _ {S A B F : Type 0} {y : B} (g : Ghosts S) (command : OfficeState → Co
       let clean : HasCleanDisk (state g inside) = omega (arith, put.clean, after_clean) in
       let there = subst (λ h. HasCleanDisk (state g h)) view clean in
       let was = read.unchanged there (read.all_committed there).0 in
-      let stood = rest clean (subst (λ h. IsCommitted (state g h)) (sym view)
+      let opened = (subst (λ h. IsCommitted (state g h)) (sym view)
       (read.all_committed there)).0 in
-      let moved = moves after_clean found changed stood.0 stood.1 stood.2 in
+      let stood = rest clean opened in
+      let at_start : (o : OfficeState) → RepresentsOffice (state g before).now o
+      → RepresentsOffice (state g inside).now o
+      = λ o kept. subst (λ h. RepresentsOffice (state g h).now o) (sym view)
+      (subst (λ db. RepresentsOffice db o) (sym was.1) kept) in
       record {
         was_open = was.0;
+        sound = (changed stood.1.held stood.1.tables).1 (live after_clean opened);
         office = stood.0;
         stood = subst (λ db. RepresentsOffice db stood.0) was.1
             (subst (λ h. RepresentsOffice (state g h).now stood.0) view stood.1);
-        answer = x;
-        next = moved.0;
-        does = moved.1;
-        holds = moved.2;
+        holds = λ o kept.
+            let here = at_start o kept in
+            let moved = moves after_clean found (λ t held. (changed t held).0) o here
+            (at_hand (state g inside) m o rest clean opened here) in
+            (x, moved.0, moved.1, moved.2);
       }
 
   survives_by : (result : Result A StoreFault) → IfErr result (λ e. e ≡ Store)
@@ -154,18 +165,18 @@ pub done_next : {S A B F U E : Type 0} {y : B} {u : U} (g : Ghosts S)
     → LeavesUnchanged {A = B} {E = F} g before mid (Ok y) → (f : Tables → Tables) (x : A)
     → TransactionRan {A = U} {E = E} g (TablesChanged f) inside after (Ok u)
     → (HasCleanDisk (state g after) → (db : Database)
-    → TablesChanged f (state g inside).now db
+    → RowsChanged f (state g inside).now db
     → Moves command x (state g inside).now db m)
     → CommandRan g command before after (Ok x) × LeavesNext g command before after (Ok x)
 done_next g command before mid inside after m view rest read f x altered moves = (
   runs g command before mid inside m view rest read after x altered.clean
-      (λ k. moves k (state g after).now (altered.done k).related),
+      (λ k. moves k (state g after).now (λ t held. ((altered.done k).related t held).0)),
   record {
     clean = λ k. read.clean (subst (λ h. HasCleanDisk (state g h)) view (altered.clean k));
     unchanged_on_err = λ k. tt;
     all_committed = λ k. ((altered.done k).is_open, (altered.done k).committed);
-    survives = survives_by g command before mid inside after m view rest read f x altered.survives
-        (λ k found. moves k (found_in found)) (Ok x) tt;
+    survives = survives_by g command before mid inside after m view rest read f x altered.sound
+        altered.survives (λ k found. moves k (found_in found)) (Ok x) tt;
   },
 )
 
@@ -181,7 +192,7 @@ pub undone_next : {S A B F U E : Type 0} {y : B} {e : E} (g : Ghosts S)
     → LeavesUnchanged {A = B} {E = F} g before mid (Ok y) → (f : Tables → Tables) (x : A)
     → TransactionRan {A = U} {E = E} g (TablesChanged f) inside after (Err e)
     → (HasCleanDisk (state g after) → (db : Database)
-    → TablesChanged f (state g inside).now db
+    → RowsChanged f (state g inside).now db
     → Moves command x (state g inside).now db m)
     → (result : Result A StoreFault) → IsErrAnd result (λ e. e ≡ Store)
     → CommandRan g command before after result × LeavesNext g command before after result
@@ -192,10 +203,19 @@ undone_next g command before mid inside after m view rest read f x altered moves
     unchanged_on_err = stays_undone g before mid inside after view read altered.clean
         altered.undone result;
     all_committed = λ k. nothing_done result (IsCommitted (state g after)) is;
-    survives = survives_by g command before mid inside after m view rest read f x altered.survives
-        (λ k found. moves k (found_in found)) result (is_failed result is);
+    survives = survives_by g command before mid inside after m view rest read f x altered.sound
+        altered.survives (λ k found. moves k (found_in found)) result (is_failed result is);
   },
 )
+
+-- a transaction that changes the tables after the readers changes those before them
+changed_on : {S : Type 0} (g : Ghosts S) (a b : Held S) (c : Database) → RowsUnchanged g a b
+    → HasCleanDisk (state g b) → IsTrue (state g a).is_open → (make : Tables → Tables)
+    → TablesChanged make (state g b).now c → TablesChanged make (state g a).now c
+changed_on g a b c same clean opened make makes t held =
+    let still = (same clean t held opened).0.now_is in
+    let made = makes t (subst (λ db. HoldsTables db t) (sym still) held) in
+    (made.0, λ was. made.1 (subst IsDatabase (sym still) was))
 
 -- a transaction on what was read is one on what the tables held before
 pub altered_on : {S A E : Type 0} (g : Ghosts S) (a b c : Held S) (m : OfficeMemory)
@@ -208,7 +228,7 @@ altered_on g a b c m rest read same opened alter result altered = record {
     was_open = read.was_open (altered.clean k) done.was_open;
     is_open = done.is_open;
     committed = done.committed;
-    related = made_on g a b (state g c).now same (altered.clean k)
+    related = changed_on g a b (state g c).now same (altered.clean k)
         (read.was_open (altered.clean k) done.was_open) alter done.related;
   }) (altered.done k);
   undone = λ k. on_err_weaker result (λ back. record {
@@ -218,13 +238,18 @@ altered_on g a b c m rest read same opened alter result altered = record {
   }) (altered.undone k);
   rests = altered.rests;
   clean = λ k. read.clean (altered.clean k);
+  sound = λ k opened_before.
+      let mid = altered.clean k in
+      let here = rest (read.clean mid) opened_before in
+      let still = (same mid here.1.held here.1.tables opened_before).0 in
+      subst IsDatabase still.now_is (altered.sound k still.is_open);
   survives = survives_then (state g a) (state g b) (state g c) (λ _. ⊥)
       (λ found. TablesChanged alter (state g b).now (found_in found))
       (λ found. TablesChanged alter (state g a).now (found_in found))
       (λ _ db none. absurd none)
       (λ k found changed.
       let mid = altered.clean k in
-      made_on g a b (found_in found) same mid (opened (read.clean mid)) alter changed)
+      changed_on g a b (found_in found) same mid (opened (read.clean mid)) alter changed)
       read.survives altered.survives;
 }
   where
@@ -242,7 +267,7 @@ pub same_altered : {S A E : Type 0} (g : Ghosts S) (old new : Held S) (f h : Tab
     → ((t : Tables) → f t ≡ h t) → TransactionRan g (TablesChanged h) old new result
 same_altered g old new f h result altered same =
     ran_weaker g old new result (TablesChanged f) (TablesChanged h)
-    (λ a b changed t held. subst (HoldsTables b) (same t) (changed t held)) altered
+    (λ a b changed t held. subst (λ all. IsWritten all a b) (same t) (changed t held)) altered
 
 -- ---- a new office
 
@@ -254,17 +279,21 @@ pub may_make : {S : Type 0} (g : Ghosts S) (old new : Held S)
     (result : Result (Held S) (StoreFault × Held S)) → (state g old).now.schema ≡ no_schema
     → IfErr result (λ e. e.0 ≡ Store)
     → Survives (state g old) (state g new)
-    (λ found. IsBlank no_schema (state g old).now → HoldsTables (found_in found) empty_tables)
+    (λ found. IsBlank no_schema (state g old).now
+    → IsWritten empty_tables (state g old).now (found_in found))
+    → (HasCleanDisk (state g new) → IsTrue (state g old).is_open → IsDatabase (state g old).now)
     → Survives (state g old) (state g new) (MayMake (state g old) result)
-may_make g old new result bare unrefused =
-    survives_weaker (state g old) (state g new) _ (MayMake (state g old) result) (λ _ found makes. (
+may_make g old new result bare unrefused survives live =
+    survives_weaker (state g old) (state g new) _ (MayMake (state g old) result) (λ k found makes.
+    let made = makes (bare_blank (state g old).now bare) in (
       bare,
       unrefused,
       record {
         held = empty_tables;
-        tables = makes (bare_blank (state g old).now bare);
+        tables = made.0;
         represents = refl;
         sound = tt;
         office = tt;
       },
-    ))
+      λ opened. made.1 (live k opened),
+    )) survives

@@ -25,6 +25,7 @@ pub mod NewPublicationLemmas
 pub mod PublishLemmas
 pub mod ViewLemmas
 pub mod ConcernedLemmas
+pub mod CrashLemmas
 pub mod FoldingLemmas
 pub mod AllDraftLemmas
 pub mod KeptBatchLemmas

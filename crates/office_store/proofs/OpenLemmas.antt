@@ -17,7 +17,7 @@ use Rattle.office_model.specs.declared.fault.StoreFault.{StoreFault}
 use Rattle.office_model.specs.declared.fault.StoreFault.TheVariants.{BadSchema, Store}
 
 -- an office's schema has a table
-has_some : (version : Version) → schema_of version ≡ no_schema → ⊥
+pub has_some : (version : Version) → schema_of version ≡ no_schema → ⊥
 has_some One bare =
     let none : length schema_before.tables ≡ length no_schema.tables
     = ap (λ (s : Schema). length s.tables) bare in

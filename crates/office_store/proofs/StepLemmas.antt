@@ -25,5 +25,8 @@ pub changes_as : {S : Type 0} (g : Ghosts S) (f k : Tables → Tables) (a c : He
     → ((t : Tables) → HoldsTables (state g c).now (f t) → HoldsTables (state g c).now (k t))
     → Changes g f a c r → Changes g k a c r
 changes_as g f k a c r same makes clean inside =
-    on_ok_weaker r (λ last. (last.0, λ t represents. same t (last.1 t represents)))
+    on_ok_weaker r (λ last. (
+      last.0,
+      λ t represents. let made = last.1 t represents in (same t made.0, made.1),
+    ))
     (makes clean inside)

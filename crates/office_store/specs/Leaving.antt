@@ -1,5 +1,6 @@
 -- What a later opening of the file may find after a call.
 use Rattle.std.specs.Prelude.{◌≡◌, ◌⊎◌, IfErr, IsTrue, None, OnErr, OnOk, Result, Ok, Err}
+use Rattle.sqlite.specs.Effect.{IsDatabase}
 use Rattle.sqlite.specs.Held.{Held, state}
 use Rattle.sqlite.specs.State.{HasCleanDisk, State, Survives}
 use Rattle.sqlite.specs.Store.{Ghosts}
@@ -15,17 +16,23 @@ use Rattle.office_records.specs.Representation.{RepresentsOffice}
 use Rattle.office_store.specs.Opening.{DatabaseUpgraded}
 use Rattle.office_store.specs.Running.{IsCommitted, OfficeUnchanged, StateUnchanged, StaysOnErr}
 
--- the trees hold the office that the command makes of the one in the open file
+-- the trees hold the office after this result of a command
+abbrev pub HoldsAfter : {A : Type 0} → CommandResult A → Trees → Type 0
+HoldsAfter {A} gives found =
+    (answer : A) × (next : OfficeState) × (gives ≡ Ok (answer, next))
+    × RepresentsOffice (found_in found) next
+
+-- the trees hold the office that the command makes of each one in the open file; they list the
+-- office's schema and obey it, so they can be opened
 pub record HoldsNext {A : Type 0} (command : OfficeState → CommandResult A) (old : State)
     (found : Trees)
     : Type 0 where
   pub was_open : IsTrue old.is_open
+  pub sound : IsDatabase (found_in found)
   pub office : OfficeState
   pub stood : RepresentsOffice old.now office
-  pub answer : A
-  pub next : OfficeState
-  pub does : command office ≡ Ok (answer, next)
-  pub holds : RepresentsOffice (found_in found) next
+  pub holds : (there : OfficeState) → RepresentsOffice old.now there
+      → HoldsAfter (command there) found
 
 -- what a command may commit unless it is refused with a named fault: the next office
 abbrev pub MayCommit : {A : Type 0} → (OfficeState → CommandResult A) → State → Result A StoreFault
@@ -81,19 +88,20 @@ pub record LeavesOpened {S : Type 0} (store : Ghosts S)
       (may (state store old) result)
 
 -- what making an office may commit if there was no table, unless it is refused with a named fault:
--- the tables without a session
+-- the tables without a session; if the database was open, they can be opened
 abbrev pub MayMake : {S : Type 0} → State → Result (Held S) (StoreFault × Held S) → Trees → Type 0
 MayMake old result found =
     (old.now.schema ≡ no_schema) × IfErr result (λ refused. refused.0 ≡ Store)
     × RepresentsOffice (found_in found) None
+    × (IsTrue old.is_open → IsDatabase (found_in found))
 
 -- what opening an existing office may commit if its tables are of version 1, unless it is refused
--- with a named fault: the same office in version 2
+-- with a named fault: the same office in version 2, in trees that can be opened
 abbrev pub MayMigrate : {S : Type 0} → State → Result (Held S) (StoreFault × Held S) → Trees
     → Type 0
 MayMigrate old result found =
     (old.now.schema ≡ schema_before) × IfErr result (λ refused. refused.0 ≡ Store)
-    × DatabaseUpgraded old.now (found_in found)
+    × DatabaseUpgraded old.now (found_in found) × IsDatabase (found_in found)
 
 -- what opening may commit: the tables without a session, or those of version 2
 abbrev pub MayOpen : {S : Type 0} → State → Result (Held S) (StoreFault × Held S) → Trees → Type 0

@@ -1,6 +1,7 @@
 pub mod PublicationChanges
 pub mod ChangedPlacements
 pub mod Changes
+pub mod Crashes
 pub mod Faults
 pub mod Transactions
 pub mod Memory

@@ -4,9 +4,9 @@ use Rattle.sqlite.specs.Effect.{Database}
 use Rattle.sqlite.specs.Held.{Held}
 use Rattle.sqlite.specs.Store.{Ghosts}
 use Rattle.office_tables.specs.Adopting.{tables_of}
-use Rattle.office_tables.specs.Alterations.{TransactionRan}
+use Rattle.office_tables.specs.Alterations.{IsWritten, TransactionRan}
 use Rattle.office_tables.specs.Tables.{Batch}
-use Rattle.office_tables.specs.TablesHeld.{HoldsTables, HoldsOldTables}
+use Rattle.office_tables.specs.TablesHeld.{HoldsOldTables}
 use Rattle.office_tables.specs.declared.found.Found.{Found}
 use Rattle.office_tables.specs.declared.version.Version.{Version}
 use Rattle.office_tables.specs.declared.version.Version.TheVariants.{One, Two}
@@ -15,7 +15,7 @@ use Rattle.office_tables.specs.declared.version.Version.TheVariants.{One, Two}
 abbrev pub RowsMigrated : Found → Database → Database → Type 0
 RowsMigrated found old new =
     (batches : List Batch) → HoldsOldTables old (tables_of found batches)
-    → HoldsTables new (tables_of found batches)
+    → IsWritten (tables_of found batches) old new
 
 -- tables of version 1 are migrated in a transaction; those of version 2 are left as they are
 abbrev pub BroughtUp : {S A E : Type 0} → Version → Ghosts S → Found → Held S → Held S

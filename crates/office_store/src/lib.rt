@@ -31,7 +31,7 @@ mod transactions;
 mod viewing;
 
 pub use exam_draft::Edit;
-pub use laws::{awake_store_leaves_its_tables, stored_shares_add_up};
+pub use laws::{awake_store_leaves_its_tables, crash_leaves_an_office, stored_shares_add_up};
 pub use office::Office;
 pub use office_model::{CandidateView, Counts, Loaded, Published, Refusal, StoreFault};
 pub use opening::is_of_version_1;

@@ -1,8 +1,8 @@
 // Whole transactions: all of it is done, or nothing.
 ghost use Rattle.std.specs.Prelude.{◌≡◌, [], ◌∷◌, false};
-ghost use Rattle.office_tables.specs.Alterations.{TablesChanged, TransactionRan};
+ghost use Rattle.office_tables.specs.Alterations.{IsWritten, TablesChanged, TransactionRan};
 ghost use Rattle.office_tables.specs.Schema.{no_schema, IsBlank};
-ghost use Rattle.office_tables.specs.TablesHeld.{HoldsTables, HoldsOldTables};
+ghost use Rattle.office_tables.specs.TablesHeld.{HoldsOldTables};
 ghost use Rattle.office_tables.specs.Tables.{Tables, empty_tables};
 
 use crate::fault::Failed;
@@ -13,9 +13,10 @@ use sqlite::{Alter, Connection};
 pub(crate) fn make_tables<S: Alter>(conn: &mut Connection<S>) -> Result<(), Failed>
     requires rests { conn.old.in_transaction ≡ false }
     ensures { TransactionRan S.Store
-        (λ old new. IsBlank no_schema old → HoldsTables new empty_tables)
+        (λ old new. IsBlank no_schema old → IsWritten empty_tables old new)
         conn.old conn.new result }
 {
+    let _ = conn.schema();
     let mut tx = conn.transaction();
     create_tables(&mut tx)?;
     tx.commit()?;
@@ -31,8 +32,9 @@ pub(crate) fn migrate_tables<S: Alter>(
     requires rests { conn.old.in_transaction ≡ false }
     ensures { TransactionRan S.Store (λ old new. (t : Tables)
         → t.meta ≡ record { published = published; instance = instance.now } ∷ []
-        → HoldsOldTables old t → HoldsTables new t) conn.old conn.new result }
+        → HoldsOldTables old t → IsWritten t old new) conn.old conn.new result }
 {
+    let _ = conn.schema();
     let mut tx = conn.transaction();
     migrate(&mut tx, published, instance)?;
     tx.commit()?;

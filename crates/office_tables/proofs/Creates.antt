@@ -3,6 +3,8 @@ use Rattle.std.proofs.Common.{◌≡◌, ℕ, List, [], ◌∷◌, refl, subst, 
 use Rattle.std.specs.Borrow.{Bor}
 use Rattle.std.specs.Fmt.{digits}
 use Rattle.sqlite.specs.Change.{created}
+use Rattle.sqlite.specs.Command.TheVariants.{CreateTable}
+use Rattle.sqlite.specs.Effect.{IsDatabase}
 use Rattle.sqlite.specs.State.{State}
 use Rattle.sqlite_schema.specs.declared.schema.Schema.{Schema}
 use Rattle.sqlite_schema.specs.declared.schema.Table.{Table}
@@ -10,7 +12,7 @@ use Rattle.sqlite_trees.specs.Tree.{Trees}
 use Rattle.office_schema.specs.Schema.{office_schema, schema_before, night_draft_table, night_share_table}
 use Rattle.office_tables.specs.Schema.{CreateAll, HasRows, created_all, no_schema}
 use Rattle.office_tables.specs.Steps.{HasRun, Leads}
-use Rattle.office_tables.proofs.Statements.{creates}
+use Rattle.office_tables.proofs.Statements.{creates, sound_after}
 
 -- the transaction continues; the texts that are left create the tables that are left
 abbrev pub Creating : (all left : List (Bor (List ℕ))) → State → State → Type 0
@@ -18,7 +20,8 @@ Creating all left old now =
     IsTrue now.in_transaction × ((schema : Schema) (tables : List Table) (trees : Trees)
     → CreateAll trees schema tables all → HasRows schema trees old.now
     → (mid : Schema) × (rest : List Table) × CreateAll trees mid rest left
-    × (created_all mid rest ≡ created_all schema tables) × HasRows mid trees now.now)
+    × (created_all mid rest ≡ created_all schema tables) × HasRows mid trees now.now
+    × (IsDatabase old.now → IsDatabase now.now))
 
 pub created_next : (all left : List (Bor (List ℕ))) (text : Bor (List ℕ)) (old mid new : State)
     → Creating all (text ∷ left) old mid → HasRun text.now [] mid new → Creating all left old new
@@ -34,6 +37,7 @@ created_next all left text old mid new before ran = (
         → created_all at rest ≡ created_all schema tables → HasRows at trees mid.now
         → (mid : Schema) × (rest : List Table) × CreateAll trees mid rest left
         × (created_all mid rest ≡ created_all schema tables) × HasRows mid trees new.now
+        × (IsDatabase old.now → IsDatabase new.now)
     next schema tables trees at [] means same has = absurd means
     next schema tables trees at (table ∷ rest) means same has =
         let it = means.0 in (
@@ -43,6 +47,8 @@ created_next all left text old mid new before ran = (
           same,
           creates text.now mid new ran.count at (record table { tree = 0 }) trees means.1 it.plain
               it.command it.whole it.defined it.uncounted ran.executed has,
+          λ _. sound_after at text.now [] mid new ran.count it.plain CreateTable it.command tt
+              has.schema_is ran.executed,
         )
 
 pub created_last : (all : List (Bor (List ℕ))) (old now : State) → Creating all [] old now
@@ -50,7 +56,9 @@ pub created_last : (all : List (Bor (List ℕ))) (old now : State) → Creating 
     → Leads (HasRows schema trees) (HasRows (created_all schema tables) trees) old now
 created_last all old now made schema tables trees means = (
   made.0,
-  λ has. let on = made.1 schema tables trees means has in last on.0 on.1 on.2 on.3 on.4,
+  λ has.
+      let on = made.1 schema tables trees means has in
+      (last on.0 on.1 on.2 on.3 on.4, on.5),
 )
   where
     last : (mid : Schema) (rest : List Table) → CreateAll trees mid rest []

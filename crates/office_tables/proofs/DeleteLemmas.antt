@@ -12,6 +12,7 @@ use Rattle.sqlite_value.specs.Order.{Row, column}
 use Rattle.sqlite.specs.declared.error.Error.{Error}
 use Rattle.sqlite.specs.Command.TheVariants.{Delete}
 use Rattle.sqlite.specs.Listing.{understood}
+use Rattle.sqlite.specs.Effect.{IsDatabase}
 use Rattle.sqlite.specs.State.{State, Executes}
 use Rattle.sqlite.specs.Term.{Term}
 use Rattle.sqlite.proofs.Callers.{IsPlain, command_of}
@@ -24,7 +25,7 @@ use Rattle.office_tables.specs.TablesHeld.{all_columns}
 use Rattle.office_tables.proofs.Frames.{AllShown, all_shown, own_shown, shown_next, tables_held}
 use Rattle.office_tables.proofs.Inside.{changes_by}
 use Rattle.office_tables.proofs.Queries.{answered, column_later, column_less, equal_numbers, equals, id_map, left_of, none_left, one_table, passes, rowids, shown_filter}
-use Rattle.office_tables.proofs.Statements.{deletes}
+use Rattle.office_tables.proofs.Statements.{deletes, sound_after}
 use Rattle.office_tables.proofs.TableLemmas.{rowids_filter}
 
 -- ---- rows by the first of their numbers
@@ -102,6 +103,13 @@ pub record IsDelete (at : ℕ) (table : Table) (n : ℕ) (sql : List ℕ) : Type
   })
   pub plain : IsPlain (understood office_schema sql)
 
+-- what it leaves lists its schema and obeys it
+pub delete_sound : {at : ℕ} {table : Table} {n : ℕ} {sql : List ℕ} → IsDelete at table n sql
+    → (params : Row) (old new : State) (count : ℕ) → old.now.schema ≡ office_schema
+    → Executes sql params old new (Ok count) → IsDatabase new.now
+delete_sound {sql} means params old new count has h =
+    sound_after office_schema sql params old new count means.plain _ means.is tt has h
+
 -- the table has a key whose numbers are the first columns
 abbrev pub IsKey : {X : Type 0} → (X → Row) → (X → List ℕ) → Type 0
 IsKey {X} columns_of key = (x : X) → (rest : Row) × (columns_of x ≡ map number (key x) ++ rest)
@@ -164,7 +172,9 @@ pub rows_deleted : {X : Type 0} {at : ℕ} {table : Table} {columns_of : X → R
     → OnOk r (HasRun sql (map number first) old new) → OnOk r (Makes f old new)
 rows_deleted {columns_of} about key keyed first short sql means rows f listed changed old new r =
     changes_by f sql (map number first) old new r
-    (λ count t represents h. tables_held new.now (f t)
-    (subst (λ all. AllShown all new.now) (sym (changed t))
-    (deleted about.is columns_of key keyed first short sql means old new (rows t) count
-    (all_columns t) (listed t) (all_shown old.now t represents) h)))
+    (λ count t represents h. (
+      tables_held new.now (f t) (subst (λ all. AllShown all new.now) (sym (changed t))
+          (deleted about.is columns_of key keyed first short sql means old new (rows t) count
+          (all_columns t) (listed t) (all_shown old.now t represents) h)),
+      λ _. delete_sound means _ old new count represents.schema h,
+    ))

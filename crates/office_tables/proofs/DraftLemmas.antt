@@ -8,11 +8,12 @@ use Rattle.office_schema.specs.Schema.{draft_table, night_draft_table}
 use Rattle.office_tables.specs.declared.draft.DraftRow.{DraftRow}
 use Rattle.office_tables.specs.Draft.{draft_columns, night_draft_columns}
 use Rattle.office_tables.specs.Inserting.{IsInsert}
+use Rattle.office_tables.specs.Alterations.{IsWritten}
 use Rattle.office_tables.specs.Tables.{Tables}
 use Rattle.office_tables.specs.TablesHeld.{HoldsTables, all_columns}
-use Rattle.office_tables.proofs.DeleteLemmas.{IsDelete, cleared, deleted}
+use Rattle.office_tables.proofs.DeleteLemmas.{IsDelete, cleared, delete_sound, deleted}
 use Rattle.office_tables.proofs.Frames.{all_shown, tables_held}
-use Rattle.office_tables.proofs.InsertLemmas.{row_added}
+use Rattle.office_tables.proofs.InsertLemmas.{insert_sound, row_added}
 use Rattle.office_tables.proofs.Rows.{drafts, draft_nights}
 
 -- ---- INSERT
@@ -34,12 +35,14 @@ insert_night_means = record { is = refl; plain = (refl, refl); many = refl }
 pub added : (old mid new : State) (row : DraftRow) (first second : ℕ) (t : Tables)
     → HoldsTables old.now t → Executes insert_text (draft_columns row) old mid (Ok first)
     → Executes insert_night_text (night_draft_columns row) mid new (Ok second)
-    → HoldsTables new.now (record t { draft = row ∷ t.draft })
+    → IsWritten (record t { draft = row ∷ t.draft }) old.now new.now
 added old mid new row first second t represents h k =
     let one = row_added drafts _ insert_means old mid row t.draft first (all_columns t) refl
-    (all_shown old.now t represents) h in
-    tables_held new.now (record t { draft = row ∷ t.draft })
-    (row_added draft_nights _ insert_night_means mid new row t.draft second _ refl one k)
+    (all_shown old.now t represents) h in (
+      tables_held new.now (record t { draft = row ∷ t.draft })
+          (row_added draft_nights _ insert_night_means mid new row t.draft second _ refl one k),
+      λ _. insert_sound insert_night_means _ mid new second one.schema k,
+    )
 
 -- ---- DELETE WHERE no = ?1
 
@@ -60,14 +63,16 @@ delete_night_means = record { is = refl; plain = (refl, refl) }
 pub gone : (old mid new : State) (number first second : ℕ) (t : Tables) → HoldsTables old.now t
     → Executes delete_text (Int (pos number) ∷ []) old mid (Ok first)
     → Executes delete_night_text (Int (pos number) ∷ []) mid new (Ok second)
-    → HoldsTables new.now (record t { draft = filter (λ r. not (r.no == number)) t.draft })
+    → IsWritten (record t { draft = filter (λ r. not (r.no == number)) t.draft }) old.now new.now
 gone old mid new number first second t represents h k =
     let key = λ (x : DraftRow). x.no ∷ [] in
     let one = deleted drafts.is draft_columns key (λ _. (_, refl)) (number ∷ []) (λ _. omega arith) _
-    delete_means old mid t.draft first (all_columns t) refl (all_shown old.now t represents) h in
-    tables_held new.now (record t { draft = filter (λ r. not (r.no == number)) t.draft })
-    (deleted draft_nights.is night_draft_columns key (λ _. (_, refl)) (number ∷ []) (λ _. omega arith) _ delete_night_means
-    mid new t.draft second _ refl one k)
+    delete_means old mid t.draft first (all_columns t) refl (all_shown old.now t represents) h in (
+      tables_held new.now (record t { draft = filter (λ r. not (r.no == number)) t.draft })
+          (deleted draft_nights.is night_draft_columns key (λ _. (_, refl)) (number ∷ []) (λ _. omega arith) _ delete_night_means
+          mid new t.draft second _ refl one k),
+      λ _. delete_sound delete_night_means _ mid new second one.schema k,
+    )
 
 -- ---- DELETE
 
@@ -87,9 +92,11 @@ clear_night_means = record { is = refl; plain = (refl, refl) }
 
 pub all_gone : (old mid new : State) (first second : ℕ) (t : Tables) → HoldsTables old.now t
     → Executes clear_text [] old mid (Ok first) → Executes clear_night_text [] mid new (Ok second)
-    → HoldsTables new.now (record t { draft = [] })
+    → IsWritten (record t { draft = [] }) old.now new.now
 all_gone old mid new first second t represents h k =
     let one = cleared drafts.is _ clear_means old mid _ first (all_columns t) refl
-    (all_shown old.now t represents) h in
-    tables_held new.now (record t { draft = [] })
-    (cleared draft_nights.is _ clear_night_means mid new _ second _ refl one k)
+    (all_shown old.now t represents) h in (
+      tables_held new.now (record t { draft = [] })
+          (cleared draft_nights.is _ clear_night_means mid new _ second _ refl one k),
+      λ _. delete_sound clear_night_means _ mid new second one.schema k,
+    )

@@ -9,9 +9,11 @@ use Rattle.std.proofs.lemmas.List.Elements.{All-drop, All-take}
 use Rattle.sqlite_value.specs.declared.value.Value.TheVariants.{Int, Null}
 use Rattle.sqlite_schema.specs.declared.schema.Table.{Table}
 use Rattle.sqlite_value.specs.Order.{Row, column}
+use Rattle.sqlite.specs.Effect.{IsDatabase}
 use Rattle.sqlite.specs.State.{State, Executes}
 use Rattle.sqlite.specs.Term.{eval_all}
-use Rattle.office_tables.specs.Alterations.{after_all}
+use Rattle.office_schema.specs.Schema.{office_schema}
+use Rattle.office_tables.specs.Alterations.{IsWritten, after_all}
 use Rattle.office_tables.specs.Inserting.{Inserts, IsInsert, Shape, Stores, given_row, next_params, row_terms, with_row, row_fits, rows_fit}
 use Rattle.office_tables.specs.Stored.{shown_by}
 use Rattle.office_tables.specs.Steps.{Makes}
@@ -20,6 +22,7 @@ use Rattle.office_tables.specs.TablesHeld.{HoldsTables, all_columns}
 use Rattle.office_tables.proofs.AlterationLemmas.{first_last}
 use Rattle.office_tables.proofs.Frames.{AllShown, all_shown, own_shown, shown_next, tables_held}
 use Rattle.office_tables.proofs.ManyRows.{added_rows, after_append, values_there}
+use Rattle.office_tables.proofs.Statements.{sound_after}
 
 -- ---- the terms of a row
 
@@ -42,6 +45,13 @@ terms_give (Some key) rest pre row post wide =
     ((pre ++ (row ++ post)) ∷ []) ≡ row) wide (values_there pre row post))
 
 -- ---- rows of a table
+
+-- what an insert leaves lists its schema and obeys it
+pub insert_sound : {at : ℕ} {key : Option ℕ} {w n : ℕ} {sql : List ℕ} → IsInsert at key w n sql
+    → (params : Row) (old new : State) (count : ℕ) → old.now.schema ≡ office_schema
+    → Executes sql params old new (Ok count) → IsDatabase new.now
+insert_sound {sql} means params old new count has h =
+    sound_after office_schema sql params old new count means.plain _ means.is tt has h
 
 module _ {X : Type 0} {at : ℕ} {table : Table} {columns_of : X → Row} {w : ℕ}
     (about : Stores at table columns_of w) where
@@ -80,16 +90,18 @@ module _ {R : Type 0} (it : Shape R) (w n : ℕ) (one several : List ℕ)
   pub added : (k : ℕ) (sql : List ℕ) → IsInsert it.at it.table.key w k sql → (old new : State)
       (rows : List R) → length rows ≡ k → (count : ℕ) (t : Tables) → HoldsTables old.now t
       → Executes sql (flat_map it.columns_of rows) old new (Ok count)
-      → HoldsTables new.now (it.with_rows (reverse rows ++ it.rows t) t)
-  added k sql means old new rows long count t represents h =
-      tables_held new.now _ (subst (λ all. AllShown all new.now)
-      (sym (about.changed (reverse rows ++ it.rows t) t))
-      (rows_added about.stores k sql means old new rows (it.rows t) long count (all_columns t)
-      (about.listed t) (all_shown old.now t represents) h))
+      → IsWritten (it.with_rows (reverse rows ++ it.rows t) t) old.now new.now
+  added k sql means old new rows long count t represents h = (
+    tables_held new.now _ (subst (λ all. AllShown all new.now)
+        (sym (about.changed (reverse rows ++ it.rows t) t))
+        (rows_added about.stores k sql means old new rows (it.rows t) long count (all_columns t)
+        (about.listed t) (all_shown old.now t represents) h)),
+    λ _. insert_sound means _ old new count represents.schema h,
+  )
 
   pub added_one : (old new : State) (row : R) (count : ℕ) (t : Tables) → HoldsTables old.now t
       → Executes one (it.columns_of row) old new (Ok count)
-      → HoldsTables new.now (with_row it row t)
+      → IsWritten (with_row it row t) old.now new.now
   added_one old new row count t represents h =
       added 1 one about.one old new (row ∷ []) refl count t represents
       (subst (λ ps. Executes one ps old new (Ok count)) (sym (append-nil (it.columns_of row))) h)
@@ -162,7 +174,8 @@ abbrev pub Continues : {A : Type 0} → (List A → Tables → Tables) → List 
     → State → State → Type 0
 Continues f all left old now =
     IsTrue now.in_transaction × ((t : Tables) → HoldsTables old.now t
-    → (reached : Tables) × HoldsTables now.now reached × (f left reached ≡ f all t))
+    → (reached : Tables) × HoldsTables now.now reached × (f left reached ≡ f all t)
+    × (IsDatabase old.now → IsDatabase now.now))
 
 pub continued : {A : Type 0} (f : A → Tables → Tables) (n : ℕ) (all left chunk rest : List A)
     (old mid new : State) → Continues (after_all f) all left old mid
@@ -170,13 +183,14 @@ pub continued : {A : Type 0} (f : A → Tables → Tables) (n : ℕ) (all left c
     → Continues (after_all f) all rest old new
 continued f n all left chunk rest old mid new before makes split = (
   makes.0,
-  λ t h. let reached = before.1 t h in (
+  λ t h. let reached = before.1 t h in let more = makes.1 reached.0 reached.1 in (
     after_all f chunk reached.0,
-    makes.1 reached.0 reached.1,
+    more.0,
     after_append f chunk rest reached.0
         ∙ ap (λ l. after_all f l reached.0) (ap₂ (λ a b. a ++ b) split.1 split.2
         ∙ take-append-drop n left)
         ∙ reached.2,
+    λ was. more.1 (reached.3 was),
   ),
 )
 
@@ -185,8 +199,10 @@ pub finished : {A : Type 0} (f : A → Tables → Tables) (all left : List A) (o
     → Makes (after_all f all) old new
 finished f all left old mid new before makes = (
   makes.0,
-  λ t h. let reached = before.1 t h in
-      subst (HoldsTables new.now) reached.2 (makes.1 reached.0 reached.1),
+  λ t h.
+      let reached = before.1 t h in
+      let more = makes.1 reached.0 reached.1 in
+      (subst (HoldsTables new.now) reached.2 more.0, λ was. more.1 (reached.3 was)),
 )
 
 -- ---- rows that fit

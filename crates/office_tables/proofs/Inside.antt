@@ -6,7 +6,7 @@ use Rattle.sqlite.specs.declared.error.Error.{Error}
 use Rattle.sqlite.specs.State.{State, HasCleanDisk, Executes}
 use Rattle.std.proofs.lemmas.Result.{on_ok_weaker}
 use Rattle.sqlite.proofs.StateLemmas.{survives_then}
-use Rattle.office_tables.specs.Alterations.{after_all}
+use Rattle.office_tables.specs.Alterations.{IsWritten, after_all}
 use Rattle.office_tables.specs.Tables.{Tables}
 use Rattle.office_tables.specs.TablesHeld.{HoldsTables}
 use Rattle.office_tables.specs.Steps.{Within, HasRun, Makes}
@@ -43,13 +43,19 @@ within_same a = record {
 
 pub makes_then : (f g : Tables → Tables) (a b c : State) → Makes f a b → Makes g b c
     → Makes (λ t. g (f t)) a c
-makes_then f g a b c p q = (q.0, λ t h. q.1 (f t) (p.1 t h))
+makes_then f g a b c p q = (
+  q.0,
+  λ t h.
+      let one = p.1 t h in
+      let two = q.1 (f t) one.0 in
+      (two.0, λ was. two.1 (one.1 was)),
+)
 
 -- if a statement has run, the tables have the change that it makes
 pub changes_by : (f : Tables → Tables) (sql : List ℕ) (params : Row) (old new : State)
     (r : Result (Unit {0}) Error)
     → ((count : ℕ) (t : Tables) → HoldsTables old.now t → Executes sql params old new (Ok count)
-    → HoldsTables new.now (f t))
+    → IsWritten (f t) old.now new.now)
     → OnOk r (HasRun sql params old new) → OnOk r (Makes f old new)
 changes_by f sql params old new r step =
     on_ok_weaker r (λ ran. (ran.inside, λ t represents. step ran.count t represents ran.executed))
@@ -58,7 +64,7 @@ changes_by f sql params old new r step =
 pub changes_by_two : (f : Tables → Tables) (sql : List ℕ) (params : Row) (more : List ℕ)
     (others : Row) (old mid new : State) (r : Result (Unit {0}) Error)
     → ((first second : ℕ) (t : Tables) → HoldsTables old.now t → Executes sql params old mid (Ok first)
-    → Executes more others mid new (Ok second) → HoldsTables new.now (f t))
+    → Executes more others mid new (Ok second) → IsWritten (f t) old.now new.now)
     → HasRun sql params old mid → OnOk r (HasRun more others mid new) → OnOk r (Makes f old new)
 changes_by_two f sql params more others old mid new r step ran =
     on_ok_weaker r (λ last. (

@@ -23,6 +23,7 @@ pub mod MetaLemmas
 pub mod MigrateLemmas
 pub mod NightLemmas
 pub mod NightTexts
+pub mod OneSchema
 pub mod OrderLemmas
 pub mod OwnerTexts
 pub mod Queries

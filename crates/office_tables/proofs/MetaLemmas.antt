@@ -15,6 +15,7 @@ use Rattle.sqlite_tied.specs.Compute.{everything}
 use Rattle.office_schema.specs.Schema.{office_schema, meta_table}
 use Rattle.office_tables.specs.declared.version.Version.TheVariants.{Two}
 use Rattle.office_tables.specs.Schema.{IsBlank}
+use Rattle.office_tables.specs.Alterations.{IsWritten}
 use Rattle.office_tables.specs.Tables.{Tables, Meta, empty_tables}
 use Rattle.office_tables.specs.TablesHeld.{HoldsTables, all_columns}
 use Rattle.office_tables.specs.Meta.{flag, meta_columns}
@@ -23,7 +24,7 @@ use Rattle.office_tables.proofs.Casts.{cast_int, cast_null}
 use Rattle.office_tables.proofs.Frames.{all_shown, held_at, none_shown, shown_next, tables_held}
 use Rattle.office_tables.proofs.DeleteLemmas.{IsDelete}
 use Rattle.office_tables.proofs.Rows.{meta_is}
-use Rattle.office_tables.proofs.Statements.{inserts}
+use Rattle.office_tables.proofs.Statements.{inserts, sound_after}
 use Rattle.office_tables.proofs.TableLemmas.{holds_more}
 
 -- ---- INSERT
@@ -45,7 +46,7 @@ insert_plain = (refl, refl)
 pub added : (old new : State) (row : Meta) (count : ℕ) (t : Tables) → HoldsTables old.now t
     → Executes insert_text (Int (pos (flag row.published)) ∷ Blob row.instance ∷ [])
     old new (Ok count)
-    → HoldsTables new.now (record t { meta = row ∷ t.meta })
+    → IsWritten (record t { meta = row ∷ t.meta }) old.now new.now
 added old new row count t represents h =
     let done = inserts insert_text _ old new count office_schema represents.schema insert_plain
     0 meta_table refl insert_terms 5 insert_is (λ taken news. refl) h in
@@ -56,15 +57,18 @@ added old new row count t represents h =
     ∷ Blob row.instance ∷ [] in
     let rows : new.now.trees 0 ≡ put_row new_row stored =
     is.rows ∙ rw (cast_int 0, cast_int 2, cast_null, cast_int (flag row.published)) refl in
-    let fresh : are_fresh stored (new_row ∷ []) ≡ true = rw (cast_int 0) at is.fresh in
-    tables_held new.now (record t { meta = row ∷ t.meta })
-    (shown_next meta_is (all_columns t) (map (meta_columns Two) (row ∷ t.meta)) old.now new.now
-    (all_shown old.now t represents) (record {
-      schema = done.0;
-      others = is.tables;
-      holds = rw rows (holds_more keyed_columns (map (meta_columns Two) t.meta) stored new_row
-          (meta_columns Two row) refl refl fresh (held_at 0 represents));
-    }))
+    let fresh : are_fresh stored (new_row ∷ []) ≡ true = rw (cast_int 0) at is.fresh in (
+      tables_held new.now (record t { meta = row ∷ t.meta })
+          (shown_next meta_is (all_columns t) (map (meta_columns Two) (row ∷ t.meta)) old.now new.now
+          (all_shown old.now t represents) (record {
+            schema = done.0;
+            others = is.tables;
+            holds = rw rows (holds_more keyed_columns (map (meta_columns Two) t.meta) stored new_row
+                (meta_columns Two row) refl refl fresh (held_at 0 represents));
+          })),
+      λ _. sound_after office_schema insert_text _ old new count insert_plain _ insert_is tt
+          represents.schema h,
+    )
 
 -- ---- DELETE
 

@@ -14,7 +14,7 @@ use Rattle.sqlite_value.specs.declared.keys.Collation.TheVariants.{Binary}
 use Rattle.sqlite_value.specs.declared.value.Value.TheVariants.{Int, Null}
 use Rattle.sqlite_value.specs.Order.{Row, column}
 use Rattle.sqlite.specs.Command.TheVariants.{Insert}
-use Rattle.sqlite.specs.Effect.{Database}
+use Rattle.sqlite.specs.Effect.{Database, IsDatabase}
 use Rattle.sqlite.specs.Listing.{understood}
 use Rattle.sqlite.specs.Query.{Query}
 use Rattle.sqlite.specs.Source.TheVariants as source
@@ -43,7 +43,7 @@ use Rattle.office_tables.proofs.DeleteLemmas.{cleared}
 use Rattle.office_tables.proofs.MetaLemmas.{delete_means}
 use Rattle.office_tables.proofs.Queries.{answered_by, every, map_agree, one_table, passes, shown_of}
 use Rattle.office_tables.proofs.Rows.{draft_nights, meta_is, share_nights}
-use Rattle.office_tables.proofs.Statements.{inserts_from, simple_table}
+use Rattle.office_tables.proofs.Statements.{inserts_from, simple_table, sound_after}
 use Rattle.office_tables.proofs.TableLemmas.{holds_more}
 use Rattle.office_tables.proofs.WholeRows.{all_first}
 
@@ -223,7 +223,7 @@ begun t db wide = let b = wide.represents in let same = wide.widened.rows in
 pub nights_filled : (t : Tables) (a b c d : State) (first second third : ℕ) → IsWidened t a.now
     → Executes (codes "DELETE FROM meta") [] a b (Ok first)
     → Executes fill_drafts_text [] b c (Ok second) → Executes fill_shares_text [] c d (Ok third)
-    → HoldsTables d.now (record t { meta = [] })
+    → HoldsTables d.now (record t { meta = [] }) × IsDatabase d.now
 nights_filled t a b c d first second third wide h k l =
     let before = wide.represents in
     let r = wide.widened.rows in
@@ -237,12 +237,15 @@ nights_filled t a b c d first second third wide h k l =
     (filled fill_shares_text fill_shares_plain 11 16 11 (codes "night_share") (codes "student")
     (codes "night") share_nights.is fill_shares_is share_student_columns
     (λ (r : StudentShareRow). r.student) (λ _. refl) t.share_student third c d two.schema
-    two.hold.1.1.1.1.1.1.1.0 (still_none _ two.hold.1.1.1.1.1.1.1.1.1.1.1.0) l) in
-    tables_held d.now (record t { meta = [] })
-    (subst₂ (λ drafts shares. AllShown (slice_set (slice_set
-    (all_columns (record t { meta = [] })) 10 drafts) 11 shares) d.now)
-    (drafts_filled t.draft before.night_draft) (shares_filled t.share_student before.night_share)
-    three)
+    two.hold.1.1.1.1.1.1.1.0 (still_none _ two.hold.1.1.1.1.1.1.1.1.1.1.1.0) l) in (
+      tables_held d.now (record t { meta = [] })
+          (subst₂ (λ drafts shares. AllShown (slice_set (slice_set
+          (all_columns (record t { meta = [] })) 10 drafts) 11 shares) d.now)
+          (drafts_filled t.draft before.night_draft) (shares_filled t.share_student before.night_share)
+          three),
+      sound_after office_schema fill_shares_text [] c d third fill_shares_plain _
+          fill_shares_is tt two.schema l,
+    )
 
 -- the state before the two CREATEs
 pub begins : (db : Database) (t : Tables) → HoldsOldTables db t

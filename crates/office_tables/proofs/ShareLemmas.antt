@@ -8,11 +8,12 @@ use Rattle.office_schema.specs.Schema.{share_student_table, night_share_table}
 use Rattle.office_tables.specs.declared.share_student.StudentShareRow.{StudentShareRow}
 use Rattle.office_tables.specs.ShareStudent.{share_student_columns, night_share_columns}
 use Rattle.office_tables.specs.Inserting.{IsInsert}
+use Rattle.office_tables.specs.Alterations.{IsWritten}
 use Rattle.office_tables.specs.Tables.{Tables}
 use Rattle.office_tables.specs.TablesHeld.{HoldsTables, all_columns}
-use Rattle.office_tables.proofs.DeleteLemmas.{IsDelete, deleted}
+use Rattle.office_tables.proofs.DeleteLemmas.{IsDelete, delete_sound, deleted}
 use Rattle.office_tables.proofs.Frames.{all_shown, tables_held}
-use Rattle.office_tables.proofs.InsertLemmas.{row_added}
+use Rattle.office_tables.proofs.InsertLemmas.{insert_sound, row_added}
 use Rattle.office_tables.proofs.Rows.{student_shares, share_nights}
 
 -- ---- INSERT
@@ -34,12 +35,14 @@ insert_night_means = record { is = refl; plain = (refl, refl); many = refl }
 pub added : (old mid new : State) (row : StudentShareRow) (first second : ℕ) (t : Tables)
     → HoldsTables old.now t → Executes insert_text (share_student_columns row) old mid (Ok first)
     → Executes insert_night_text (night_share_columns row) mid new (Ok second)
-    → HoldsTables new.now (record t { share_student = row ∷ t.share_student })
+    → IsWritten (record t { share_student = row ∷ t.share_student }) old.now new.now
 added old mid new row first second t represents h k =
     let one = row_added student_shares _ insert_means old mid row t.share_student first (all_columns t) refl
-    (all_shown old.now t represents) h in
-    tables_held new.now (record t { share_student = row ∷ t.share_student })
-    (row_added share_nights _ insert_night_means mid new row t.share_student second _ refl one k)
+    (all_shown old.now t represents) h in (
+      tables_held new.now (record t { share_student = row ∷ t.share_student })
+          (row_added share_nights _ insert_night_means mid new row t.share_student second _ refl one k),
+      λ _. insert_sound insert_night_means _ mid new second one.schema k,
+    )
 
 -- ---- DELETE WHERE student = ?1
 
@@ -60,11 +63,13 @@ delete_night_means = record { is = refl; plain = (refl, refl) }
 pub gone : (old mid new : State) (number first second : ℕ) (t : Tables) → HoldsTables old.now t
     → Executes delete_text (Int (pos number) ∷ []) old mid (Ok first)
     → Executes delete_night_text (Int (pos number) ∷ []) mid new (Ok second)
-    → HoldsTables new.now (record t { share_student = filter (λ r. not (r.student == number)) t.share_student })
+    → IsWritten (record t { share_student = filter (λ r. not (r.student == number)) t.share_student }) old.now new.now
 gone old mid new number first second t represents h k =
     let key = λ (x : StudentShareRow). x.student ∷ [] in
     let one = deleted student_shares.is share_student_columns key (λ _. (_, refl)) (number ∷ []) (λ _. omega arith) _
-    delete_means old mid t.share_student first (all_columns t) refl (all_shown old.now t represents) h in
-    tables_held new.now (record t { share_student = filter (λ r. not (r.student == number)) t.share_student })
-    (deleted share_nights.is night_share_columns key (λ _. (_, refl)) (number ∷ []) (λ _. omega arith) _ delete_night_means
-    mid new t.share_student second _ refl one k)
+    delete_means old mid t.share_student first (all_columns t) refl (all_shown old.now t represents) h in (
+      tables_held new.now (record t { share_student = filter (λ r. not (r.student == number)) t.share_student })
+          (deleted share_nights.is night_share_columns key (λ _. (_, refl)) (number ∷ []) (λ _. omega arith) _ delete_night_means
+          mid new t.share_student second _ refl one k),
+      λ _. delete_sound delete_night_means _ mid new second one.schema k,
+    )

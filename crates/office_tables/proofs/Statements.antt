@@ -10,14 +10,16 @@ use Rattle.sqlite_rules.specs.Edit.{edit_of, taken_by, Applies}
 use Rattle.sqlite_rules.specs.Action.{works}
 use Rattle.sqlite.specs.Source.TheVariants as source
 use Rattle.sqlite.specs.Source.TheVariants.{Values}
-use Rattle.sqlite.specs.Command.TheVariants.{Insert, Delete, Select, CreateTable}
+use Rattle.sqlite.specs.Calls.{IsWrite}
+use Rattle.sqlite.specs.Command.{Command}
+use Rattle.sqlite.specs.Command.TheVariants.{Insert, Delete, Select, CreateTable, Rows, Begin, Commit, Rollback, Savepoint, Release, RollbackTo, Nothing}
 use Rattle.sqlite.specs.Term.{Term}
 use Rattle.sqlite.specs.Query.{Query, IsAnswer}
 use Rattle.sqlite.specs.Program.{overlay}
 use Rattle.sqlite_value.specs.declared.value.Value.TheVariants.{Null}
 use Rattle.sqlite_rules.specs.Calls.{ids_of}
 use Rattle.sqlite.specs.Listing.{understood, reads_listing}
-use Rattle.sqlite.specs.Effect.{Database, value_rows}
+use Rattle.sqlite.specs.Effect.{Database, IsDatabase, value_rows}
 use Rattle.sqlite.specs.Does.{Tally, Does, lacks_sequence}
 use Rattle.sqlite.specs.Change.{created, next_tree, KeepsRows}
 use Rattle.sqlite.specs.Compile.{table_defined_by}
@@ -25,7 +27,7 @@ use Rattle.std.specs.List.{AllByRecursion}
 pub use Rattle.office_tables.specs.Inserting.{simple_table}
 use Rattle.office_tables.specs.Schema.{HasRows}
 use Rattle.sqlite.specs.Rows.{Written}
-use Rattle.sqlite.specs.State.{State, mode_of, Writes, Executes, Shown}
+use Rattle.sqlite.specs.State.{State, mode_of, Writes, Executes, Runs, Shown}
 use Rattle.sqlite.proofs.Callers.{IsPlain, command_of, statement_of, runs_as, reads_as, one_step}
 
 -- a step that returned a value did not stop
@@ -36,6 +38,28 @@ went (inr on) = on
 
 pub same_value : {B E : Type 0} {a b : B} → ◌≡◌ {A = Result B E} (Ok a) (Ok b) → a ≡ b
 same_value e = cc
+
+-- what a write leaves lists its schema and obeys it
+writes_sound : (command : Command) (old new : State) (text : List ℕ) (params : Row) (count : ℕ)
+    → IsWrite command → Runs old new None command text params count → IsDatabase new.now
+writes_sound (Select q names) old new text params count writes ran = absurd writes
+writes_sound (Rows values width names) old new text params count writes ran = absurd writes
+writes_sound Begin old new text params count writes ran = absurd writes
+writes_sound Commit old new text params count writes ran = absurd writes
+writes_sound Rollback old new text params count writes ran = absurd writes
+writes_sound (Savepoint name) old new text params count writes ran = absurd writes
+writes_sound (Release name) old new text params count writes ran = absurd writes
+writes_sound (RollbackTo name) old new text params count writes ran = absurd writes
+writes_sound Nothing old new text params count writes ran = absurd writes
+writes_sound _ old new text params count writes ran = ran.sound
+
+pub sound_after : (schema : Schema) (sql : List ℕ) (params : Row) (old new : State) (count : ℕ)
+    → IsPlain (understood schema sql) → (command : Command)
+    → command_of (understood schema sql) ≡ command → IsWrite command
+    → old.now.schema ≡ schema → Executes sql params old new (Ok count) → IsDatabase new.now
+sound_after schema sql params old new count plain command is writes has h =
+    writes_sound command old new (statement_of sql (understood schema sql)) params count writes
+    (runs_as sql params old new schema has command is plain count h)
 
 module _ (sql : List ℕ) (params : Row) (old new : State) (count : ℕ) (schema : Schema)
     (has : old.now.schema ≡ schema) (plain : IsPlain (understood schema sql))

@@ -2,14 +2,14 @@
 use Rattle.std.proofs.Common.{◌≡◌, ◌∙◌, inl, inr, refl, sym, subst, IsTrue, Result, OnOk, arith, true, false, []}
 use Rattle.std.proofs.lemmas.Result.{on_ok_weaker}
 use Rattle.sqlite.specs.declared.error.Error.{Error}
-use Rattle.sqlite.specs.Effect.{Database}
+use Rattle.sqlite.specs.Effect.{Database, IsDatabase}
 use Rattle.sqlite.specs.Held.{Held, state}
 use Rattle.sqlite.specs.State.{HasCleanDisk, KeepsCommit, KeepsCounts, Shows, Survives}
 use Rattle.sqlite.specs.Steps.{FailsToCommit}
 use Rattle.sqlite.specs.Store.{Ghosts}
 use Rattle.sqlite.proofs.StateLemmas.{survives_then, survives_weaker}
 use Rattle.sqlite_trees.specs.Tree.{Trees}
-use Rattle.office_tables.specs.Alterations.{Committed, TablesChanged, TransactionRan, Undone, found_in}
+use Rattle.office_tables.specs.Alterations.{Committed, IsWritten, TablesChanged, TransactionRan, Undone, found_in}
 use Rattle.office_tables.specs.TablesHeld.{HoldsTables}
 use Rattle.office_tables.specs.Steps.{Within}
 use Rattle.office_tables.specs.Tables.{Tables}
@@ -27,8 +27,18 @@ trees_hold db found t is held =
     subst (λ s. HoldsTables (record { schema = s; trees = found }) t) held.schema
     (subst (λ trees. HoldsTables (record { schema = db.schema; trees = trees }) t) (sym is) held)
 
+-- and they list that schema and obey it
+pub written_in : (old new : Database) (found : Trees) (t : Tables) → found ≡ new.trees
+    → IsWritten t old new → IsWritten t old (found_in found)
+written_in old new found t is made = (
+  trees_hold new found t is made.0,
+  λ was. subst (λ s. IsDatabase (record { schema = s; trees = found })) made.0.schema
+      (subst (λ trees. IsDatabase (record { schema = new.schema; trees = trees })) (sym is)
+      (made.1 was)),
+)
+
 pub changed_rows : (f : Tables → Tables) → IsOfRows (TablesChanged f)
-changed_rows f old new found is made t held = trees_hold new found (f t) is (made t held)
+changed_rows f old new found is made t held = written_in old new found (f t) is (made t held)
 
 module _ {S : Type 0} (g : Ghosts S) (old begun last end : Held S)
     (begins : begun ≡ record old { in_transaction = true })
@@ -116,6 +126,7 @@ ran_weaker g old new result P Q weaker ran = record {
   undone = ran.undone;
   rests = ran.rests;
   clean = ran.clean;
+  sound = ran.sound;
   survives = survives_weaker (state g old) (state g new) _ _ (λ _ found. weaker _ (found_in found))
       ran.survives;
 }

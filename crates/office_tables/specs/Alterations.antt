@@ -1,6 +1,6 @@
 -- The effect of a transaction on the tables.
 use Rattle.std.specs.Prelude.{◌≡◌, false, IsTrue, List, [], ◌∷◌, OnErr, OnOk, Option, None, Result, Some}
-use Rattle.sqlite.specs.Effect.{Database}
+use Rattle.sqlite.specs.Effect.{Database, IsDatabase}
 use Rattle.sqlite.specs.Held.{Held, state}
 use Rattle.sqlite.specs.State.{HasCleanDisk, State, Survives}
 use Rattle.sqlite.specs.Store.{Ghosts}
@@ -9,9 +9,14 @@ use Rattle.office_schema.specs.Schema.{office_schema}
 use Rattle.office_tables.specs.Tables.{Tables}
 use Rattle.office_tables.specs.TablesHeld.{HoldsTables}
 
+-- the new database has these tables; if the old trees listed their schema and obeyed it, so do the
+-- new ones
+abbrev pub IsWritten : Tables → Database → Database → Type 0
+IsWritten t old new = HoldsTables new t × (IsDatabase old → IsDatabase new)
+
 -- the tables have this change
 abbrev pub TablesChanged : (Tables → Tables) → Database → Database → Type 0
-TablesChanged f old new = (t : Tables) → HoldsTables old t → HoldsTables new (f t)
+TablesChanged f old new = (t : Tables) → HoldsTables old t → IsWritten (f t) old new
 
 -- the database of a file with these trees and the office's schema
 abbrev pub found_in : Trees → Database
@@ -43,6 +48,9 @@ pub record TransactionRan {S A E : Type 0} (store : Ghosts S)
       → OnErr result (Undone (state store old) (state store new))
   pub rests : new.in_transaction ≡ false
   pub clean : HasCleanDisk (state store new) → HasCleanDisk (state store old)
+  -- if it was open, the old trees listed their schema and obeyed it
+  pub sound : HasCleanDisk (state store new) → IsTrue (state store old).is_open
+      → IsDatabase (state store old).now
   pub survives : Survives (state store old) (state store new)
       (λ found. Related (state store old).now (found_in found))
 

@@ -3,7 +3,7 @@
 use Rattle.std.specs.Prelude.{ℕ, List, IsTrue, OnOk, Ok, Result}
 use Rattle.sqlite_value.specs.Order.{Row}
 use Rattle.sqlite.specs.declared.error.Error.{Error}
-use Rattle.sqlite.specs.Effect.{Database}
+use Rattle.sqlite.specs.Effect.{Database, IsDatabase}
 use Rattle.sqlite.specs.Held.{Held, state}
 use Rattle.sqlite.specs.State.{State, Executes, HasCleanDisk, Survives, KeepsCommit}
 use Rattle.sqlite.specs.Store.{Ghosts}
@@ -15,11 +15,15 @@ pub record Within (old new : State) : Type 0 where
   pub survives : Survives old new (λ _. ⊥)
   pub kept : HasCleanDisk new → KeepsCommit old new
 
--- the transaction continues; if the first property held before, the second holds now
+-- the transaction continues; if the first property held before, the second holds now, and trees that
+-- listed their schema and obeyed it still do
 abbrev pub Leads : (Database → Type 0) → (Database → Type 0) → State → State → Type 0
-Leads P Q old new = IsTrue new.in_transaction × (P old.now → Q new.now)
+Leads P Q old new =
+    IsTrue new.in_transaction
+    × (P old.now → Q new.now × (IsDatabase old.now → IsDatabase new.now))
 
--- the transaction continues, and the tables have this change
+-- the transaction continues, the tables have this change, and trees that listed their schema and
+-- obeyed it still do
 abbrev pub Makes : (Tables → Tables) → State → State → Type 0
 Makes f old new =
     IsTrue new.in_transaction × TablesChanged f old.now new.now

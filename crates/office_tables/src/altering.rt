@@ -33,6 +33,7 @@ pub fn transact<S: Alter, A: Alteration>(
     ensures { TransactionRan S.Store (TablesChanged (A.alteration alteration.now))
         conn.old conn.new result }
 {
+    let _ = conn.schema();
     let mut tx = conn.transaction();
     alteration.apply(&mut tx)?;
     tx.commit()

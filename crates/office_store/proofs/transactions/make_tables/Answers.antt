@@ -1,18 +1,17 @@
 use Rattle.std.proofs.Common.{rules, Ok, subst, ◌≡◌}
 use Rattle.sqlite.specs.Effect.{Database}
-use Rattle.office_tables.specs.Alterations.{TransactionRan}
+use Rattle.office_tables.specs.Alterations.{IsWritten, TransactionRan}
 use Rattle.office_tables.specs.Schema.{IsBlank, no_schema}
-use Rattle.office_tables.specs.TablesHeld.{HoldsTables}
 use Rattle.office_tables.specs.Tables.{empty_tables}
-use Rattle.office_tables.proofs.TurnLemmas.{IsOfRows, done_by, survives_by, trees_hold, undone_by}
+use Rattle.office_tables.proofs.TurnLemmas.{IsOfRows, done_by, survives_by, undone_by, written_in}
 use Rattle.office_tables.proofs.LookLemmas.{on_err}
 use Rattle.office_store.proofs.transactions.make_tables.Goals as goal
 
 abbrev IsMade : Database → Database → Type 0
-IsMade old new = IsBlank no_schema old → HoldsTables new empty_tables
+IsMade old new = IsBlank no_schema old → IsWritten empty_tables old new
 
 made_rows : IsOfRows IsMade
-made_rows old new found is made blank = trees_hold new found empty_tables is (made blank)
+made_rows old new found is made blank = written_in old new found empty_tables is (made blank)
 
 pub returns : goal.returns
 returns g c =
@@ -28,6 +27,7 @@ returns g c =
       undone = search rules;
       rests = search rules;
       clean = search rules;
+      sound = λ _ opened. (c.schema.ensures.live opened).0;
       survives = survives_by g.S.Store old begun last end c.transaction-tx.ensures.begun
           c.create_tables.ensures.within c.commit.ensures.survives IsMade
           c.in_ok-create_tables.ensures.makes made_rows;
@@ -48,6 +48,7 @@ returns-in_err-commit g c =
           c.in_ok-create_tables.ensures.makes c.in_err-commit.field-0.0 (c.in_err-commit.ensures.err clean) clean);
       rests = search rules;
       clean = search rules;
+      sound = λ _ opened. (c.schema.ensures.live opened).0;
       survives = survives_by g.S.Store old begun last end c.transaction-tx.ensures.begun
           c.create_tables.ensures.within c.commit.ensures.survives IsMade
           c.in_ok-create_tables.ensures.makes made_rows;

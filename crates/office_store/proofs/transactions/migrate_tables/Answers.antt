@@ -2,20 +2,21 @@ use Rattle.std.proofs.Common.{rules, Ok, refl, subst, ◌≡◌, IsTrue, [], ◌
 use Rattle.sqlite.specs.Effect.{Database}
 use Rattle.sqlite.specs.Held.{state}
 use Rattle.sqlite.specs.State.{State}
-use Rattle.office_tables.specs.Alterations.{TransactionRan}
+use Rattle.office_tables.specs.Alterations.{IsWritten, TransactionRan}
 use Rattle.office_tables.specs.Steps.{Leads}
 use Rattle.office_tables.specs.TablesHeld.{HoldsTables, HoldsOldTables}
 use Rattle.office_tables.specs.Tables.{Meta, Tables, empty_tables}
 use Rattle.office_tables.proofs.LookLemmas.{on_err}
-use Rattle.office_tables.proofs.TurnLemmas.{IsOfRows, done_by, survives_by, trees_hold, undone_by}
+use Rattle.office_tables.proofs.TurnLemmas.{IsOfRows, done_by, survives_by, undone_by, written_in}
 use Rattle.office_store.proofs.transactions.migrate_tables.Goals as goal
 
 abbrev AreMigrated : Meta → Database → Database → Type 0
 AreMigrated row old new =
-    (t : Tables) → t.meta ≡ row ∷ [] → HoldsOldTables old t → HoldsTables new t
+    (t : Tables) → t.meta ≡ row ∷ [] → HoldsOldTables old t → IsWritten t old new
 
 migrated_rows : (row : Meta) → IsOfRows (AreMigrated row)
-migrated_rows row old new found is made t has before = trees_hold new found t is (made t has before)
+migrated_rows row old new found is made t has before =
+    written_in old new found t is (made t has before)
 
 -- one statement about all tables with this row
 all_migrated : (row : Meta) (clean inside : Type 0) (old new : State) → ((t : Tables)
@@ -42,6 +43,7 @@ returns g c =
       undone = search rules;
       rests = search rules;
       clean = search rules;
+      sound = λ _ opened. (c.schema.ensures.live opened).0;
       survives = survives_by g.S.Store old begun last end c.transaction-tx.ensures.begun
           c.migrate.ensures.within c.commit.ensures.survives (AreMigrated row)
           (all_migrated row _ _ (state g.S.Store begun) (state g.S.Store last) c.in_ok-migrate.ensures.makes) (migrated_rows row);
@@ -63,6 +65,7 @@ returns-in_err-commit g c =
           (all_migrated row _ _ (state g.S.Store begun) (state g.S.Store last) c.in_ok-migrate.ensures.makes) c.in_err-commit.field-0.0 (c.in_err-commit.ensures.err clean) clean);
       rests = search rules;
       clean = search rules;
+      sound = λ _ opened. (c.schema.ensures.live opened).0;
       survives = survives_by g.S.Store old begun last end c.transaction-tx.ensures.begun
           c.migrate.ensures.within c.commit.ensures.survives (AreMigrated row)
           (all_migrated row _ _ (state g.S.Store begun) (state g.S.Store last) c.in_ok-migrate.ensures.makes) (migrated_rows row);

@@ -18,6 +18,7 @@ returns g c =
       undone = search rules;
       rests = search rules;
       clean = search rules;
+      sound = λ _ opened. (c.schema.ensures.live opened).0;
       survives = survives_by g.S.Store old begun last end c.transaction-tx.ensures.begun
           c.apply.ensures.within c.commit.ensures.survives changes c.in_ok-apply.ensures.makes
           (changed_rows (g.A.Alteration.alteration c.args.alteration.now));

@@ -9,7 +9,7 @@ pub loop-text-init : goal.loop-text-init
 loop-text-init g c = record {
   same = refl;
   makes = λ clean inside.
-      (inside, λ schema tables trees means has. (schema, tables, means, refl, has));
+      (inside, λ schema tables trees means has. (schema, tables, means, refl, has, λ was. was));
   within = within_same _;
 }
 

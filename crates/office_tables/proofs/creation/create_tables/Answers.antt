@@ -15,5 +15,12 @@ returns-clause-makes g c clean inside =
     let step_1 = c.in_ok-create_old_tables.ensures.makes clean_1 inside in
     let step_2 = c.in_ok-create_night_tables.ensures.makes (λ _. []) refl refl clean_2 step_1.0 in
     on_ok_weaker c.apply.result
-    (λ last. (last.0, λ blank. last.1 _ (blank_represents _ (step_2.1 (step_1.1 blank)))))
+    (λ last. (
+      last.0,
+      λ blank.
+          let one = step_1.1 blank in
+          let two = step_2.1 one.0 in
+          let three = last.1 _ (blank_represents _ two.0) in
+          (three.0, λ was. three.1 (two.1 (one.1 was))),
+    ))
     (c.apply.ensures.makes clean step_2.0)

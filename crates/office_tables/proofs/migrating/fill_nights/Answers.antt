@@ -17,7 +17,9 @@ returns-clause-makes g c t clean inside =
     on_ok_weaker c.run-3.result
     (λ third. (
       third.inside,
-      λ wide. nights_filled t at_0 at_1 at_2 at_3 first.count second.count
-          third.count wide first.executed second.executed third.executed,
+      λ wide.
+          let done = nights_filled t at_0 at_1 at_2 at_3 first.count second.count third.count wide
+          first.executed second.executed third.executed in
+          (done.0, λ _. done.1),
     ))
     (c.run-3.ensures.ran clean second.inside)

@@ -21,11 +21,13 @@ returns-clause-makes g c t is clean inside =
     on_ok_weaker c.apply.result
     (λ last. (
       last.0,
-      λ before. subst (λ l. HoldsTables at_3.now (record t { meta = l })) (sym is)
-          (last.1 _ (step_2.1 (record {
-            before = at_0.now;
-            represents = before;
-            widened = step_1.1 (begins at_0.now t before);
-          }))),
+      λ before.
+          let one = step_1.1 (begins at_0.now t before) in
+          let two = step_2.1
+          (record { before = at_0.now; represents = before; widened = one.0 }) in
+          let three = last.1 _ two.0 in (
+            subst (λ l. HoldsTables at_3.now (record t { meta = l })) (sym is) three.0,
+            λ was. three.1 (two.1 (one.1 was)),
+          ),
     ))
     (c.apply.ensures.makes clean step_2.0)

@@ -2,7 +2,7 @@ use Rattle.std.proofs.Common.{◌≡◌, ◌∙◌, ap, flat_map, map, rules, su
 use Rattle.std.proofs.lemmas.List.{length-map}
 use Rattle.sqlite_value.specs.declared.value.Value.TheVariants.{Int}
 use Rattle.sqlite.specs.Held.{state}
-use Rattle.office_tables.specs.TablesHeld.{HoldsTables}
+use Rattle.office_tables.specs.Alterations.{IsWritten}
 use Rattle.office_tables.proofs.InsertLemmas.{added, flat_rows, rows_put, rows_valued}
 use Rattle.office_tables.proofs.Inside.{changes_by}
 use Rattle.office_tables.proofs.table.insert_many.Goals as goal
@@ -20,7 +20,7 @@ returns-clause-makes g c clean inside =
     (λ i y q call. search rules) c.requires.count c.from_fn-values.ensures.items
     ∙ flat_rows (λ x. x.row) it.columns_of its in
     changes_by _ _ _ old new c.run_with.result
-    (λ count t represents h. subst (HoldsTables new.now)
+    (λ count t represents h. subst (λ all. IsWritten all old.now new.now)
     (sym (rows_put it g.row.W g.row.N _ _ about (λ x. x.row) its t))
     (added it g.row.W g.row.N _ _ about g.row.N _ about.several old new (map (λ x. x.row) its)
     (length-map its (λ x. x.row) ∙ c.requires.count) count t represents h))

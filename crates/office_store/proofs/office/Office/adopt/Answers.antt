@@ -70,7 +70,7 @@ returns-in-Ok-bring_up-clause-leaves g c = record {
   survives = may_migrate g.S.Store c.args.conn c.found_office.new.conn c.bring_up.new.conn _ _
       (Ok c.bring_up.new.conn) tt
       (brought_clean g.S.Store _ _ _ c.bring_up.result _ c.bring_up.ensures)
-      (λ k. c.in-Ok.ensures.leaves.same k tt) c.in-Ok.ensures.kept
+      (λ k. c.in-Ok.ensures.leaves.same k tt) c.in-Ok.ensures.open c.in-Ok.ensures.kept
       c.found_office.ensures.leaves.survives
       (brought_survives g.S.Store _ _ _ c.bring_up.result _ c.bring_up.ensures);
 }
@@ -86,7 +86,7 @@ returns-clause-leaves g c = record {
   survives = may_migrate g.S.Store c.args.conn c.found_office.new.conn c.bring_up.new.conn _ _
       (Err (Store, c.bring_up.new.conn)) refl
       (brought_clean g.S.Store _ _ _ c.bring_up.result _ c.bring_up.ensures)
-      (λ k. c.in-Ok.ensures.leaves.same k tt) c.in-Ok.ensures.kept
+      (λ k. c.in-Ok.ensures.leaves.same k tt) c.in-Ok.ensures.open c.in-Ok.ensures.kept
       c.found_office.ensures.leaves.survives
       (brought_survives g.S.Store _ _ _ c.bring_up.result _ c.bring_up.ensures);
 }

@@ -15,7 +15,8 @@ invariant_of-result g c = (
     None,
     record {
       held = empty_tables;
-      tables = (c.in-Ok.ensures.done clean).related (record { schema_is = search rules; rows = tt });
+      tables =
+          ((c.in-Ok.ensures.done clean).related (record { schema_is = search rules; rows = tt })).0;
       represents = refl;
       sound = tt;
       office = tt;
@@ -34,7 +35,8 @@ invariant_of-result g c = (
 pub returns-in-Ok-clause-made : goal.returns-in-Ok-clause-made
 returns-in-Ok-clause-made g c clean = record {
   held = empty_tables;
-  tables = (c.in-Ok.ensures.done clean).related (record { schema_is = search rules; rows = tt });
+  tables =
+      ((c.in-Ok.ensures.done clean).related (record { schema_is = search rules; rows = tt })).0;
   represents = refl;
   sound = tt;
   office = tt;
@@ -46,7 +48,7 @@ returns-in-Ok-clause-leaves g c = record {
   undone = tt;
   survives = let bare : (state g.S.Store c.args.conn).now.schema ≡ no_schema = search rules in
       may_make g.S.Store c.args.conn c.make_tables.new.conn (Ok c.make_tables.new.conn) bare tt
-      c.make_tables.ensures.survives;
+      c.make_tables.ensures.survives c.make_tables.ensures.sound;
 }
 
 pub returns-in-Err-clause-leaves : goal.returns-in-Err-clause-leaves
@@ -56,5 +58,5 @@ returns-in-Err-clause-leaves g c = record {
   survives = let bare : (state g.S.Store c.args.conn).now.schema ≡ no_schema = search rules in
       may_make g.S.Store c.args.conn c.make_tables.new.conn (Err (Store, c.make_tables.new.conn))
       bare refl
-      c.make_tables.ensures.survives;
+      c.make_tables.ensures.survives c.make_tables.ensures.sound;
 }

@@ -33,7 +33,7 @@ invariant_of-self-2 g c = (
       (λ k. (c.in_ok-put.ensures.done k).was_open)
       (λ k. drop_moves c.args.number _ c.self.inside.memory _ c.if-is_none.ensures
       c.if-not-has_draft.ensures
-      (c.in_ok-put.ensures.done k).related)
+      (λ t held. ((c.in_ok-put.ensures.done k).related t held).0))
       (λ k. drop_remembers c.args.number _ c.self.inside.memory c.put-2.new.self
       c.if-is_none.ensures c.if-not-has_draft.ensures
       c.put-2.ensures.put),

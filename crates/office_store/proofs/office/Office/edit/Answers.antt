@@ -95,7 +95,7 @@ invariant_of-self-2 g c =
           c.draft_row.ensures.number c.draft_row.ensures.parts c.total.ensures.total
           (c.deref.ensures.value ∙ c.in_ok-new.ensures.places)
           (made_on g.S.Store inside mid (state g.S.Store after).now c.in_ok-new.ensures.leaves.same
-          (c.put.ensures.clean k) all_committed.0 make (c.in_ok-put.ensures.done k).related))
+          (c.put.ensures.clean k) all_committed.0 make (λ t held. ((c.in_ok-put.ensures.done k).related t held).0)))
           (λ k. let all_committed = awake_inside g.S.Store start inside c.self.view_is
           c.in_ok-look.ensures.leaves.all_committed (read.clean (c.put.ensures.clean k)) in
           edit_remembers (state g.S.Store inside).now c.self.inside.memory c.put-2.new.self d

@@ -67,7 +67,7 @@ invariant_of-self-2 g c =
           c.batch_leaves_an_office.ensures number text old after counts c.requires.number is gives)
           (state g.S.Store after).now new
           (λ r here is memory. c.in_ok-new.ensures.enrols _ r here is memory)
-          (c.in_ok-put_batch.ensures.done k).related)
+          (λ t held. ((c.in_ok-put_batch.ensures.done k).related t held).0))
           (λ k. enrol_remembers number text changes c.requires.spelled I E
           (state g.S.Store inside).now c.self.inside.memory c.in-Some.is
           (seen g.S.Store start inside c.self.view_is (λ o. batch_of_number o number ≡ None)

@@ -35,7 +35,7 @@ invariant_of-self-2 g c =
           c.deref-2.result.now _ _ c.self.inside.memory c.in-Ok.ensures.exact
           c.counts_of-loaded.ensures.counts (c.deref.ensures.value ∙ c.in_ok-stored.ensures.text)
           (same_pairs _ _ E c.deref-2.ensures.value c.in_ok-rows.ensures)
-          c.counts_of-loaded.ensures.instance are no (c.in_ok-put.ensures.done k).related)
+          c.counts_of-loaded.ensures.instance are no (λ t held. ((c.in_ok-put.ensures.done k).related t held).0))
           (λ k. load_remembers c.args.text.now I E c.counts_of-loaded.result _
           c.self.inside.memory c.of_session.result c.in-Ok.ensures.exact
           c.counts_of-loaded.ensures.counts no c.of_session.ensures.kept

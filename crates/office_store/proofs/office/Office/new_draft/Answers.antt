@@ -60,7 +60,7 @@ invariant_of-self-2 g c = (
       c.if-not-is_draft_number.ensures c.if-has_draft.ensures c.in_ok-begun.begun
       c.in_ok-begun.slots.items c.deref.result.now c.deref.ensures.value c.in_ok-begun.ensures.ok
       c.total.result c.total.ensures.total _ c.draft_row.result c.draft_row.ensures.number
-      c.draft_row.ensures.parts (c.in_ok-put.ensures.done k).related)
+      c.draft_row.ensures.parts (λ t held. ((c.in_ok-put.ensures.done k).related t held).0))
       (λ k. made_remembers c.args.number _ c.self.inside.memory c.args.text.now c.in-Some.instance
       c.in-Some.enrolments c.in-Some.is
       c.if-not-is_draft_number.ensures c.if-has_draft.ensures c.in_ok-begun.begun

@@ -32,7 +32,7 @@ invariant_of-self-2 g c = (
       (λ k. (c.in_ok-put.ensures.done k).was_open)
       (λ k. publication_moves c.args.number _ _ c.self.inside.memory c.in_ok-writes.writes
       c.in_ok-writes.published c.in_ok-writes.ensures.publishes
-      (c.in_ok-put.ensures.done k).related)
+      (λ t held. ((c.in_ok-put.ensures.done k).related t held).0))
       (λ k. publication_remembers c.args.number _ c.self.inside.memory c.publish.new.self
       c.in_ok-writes.writes c.in_ok-writes.published c.in_ok-writes.ensures.publishes
       c.publish.ensures),

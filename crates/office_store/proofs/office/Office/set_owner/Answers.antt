@@ -40,7 +40,7 @@ invariant_of-self-2 g c =
           (λ k. owner_moves _ _ c.in-Some.instance c.in-Some.field-0-1 c.in-Some.is c.args.exam
           c.args.dept _ exists c.requires.dept c.get-exam.result c.get-exam.ensures
           c.new_owner.result c.new_owner.ensures
-          (c.in_ok-put.ensures.done k).related)
+          (λ t held. ((c.in_ok-put.ensures.done k).related t held).0))
           (λ k. owner_remembers _ _ c.in-Some.instance c.in-Some.field-0-1 c.in-Some.is
           c.args.exam c.args.dept exists),
       c.self.invariant.2,

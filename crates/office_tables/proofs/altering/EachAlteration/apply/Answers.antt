@@ -8,7 +8,7 @@ use Rattle.office_tables.proofs.altering.EachAlteration.apply.Goals as goal
 
 pub loop-alteration-init : goal.loop-alteration-init
 loop-alteration-init g c =
-    record { same = refl; makes = λ clean inside. (inside, λ t h. h); within = within_same _ }
+    record { same = refl; makes = λ clean inside. (inside, λ t h. (h, λ was. was)); within = within_same _ }
 
 pub loop-alteration-preserved : goal.loop-alteration-preserved
 loop-alteration-preserved g c =
@@ -22,11 +22,16 @@ loop-alteration-preserved g c =
           let first = c.loop-alteration.invariant.makes clean_mid inside in
           let then = c.in_ok-apply.ensures.makes clean first.0 in (
             then.0,
-            λ t h. subst (HoldsTables new.now)
-                (sym (after_more g.A.Alteration.alteration c.args.self.now.alterations.now
-                c.loop-alteration.alteration-index c.alteration-item.result t
-                c.loop-alteration-test.true c.alteration-item.is))
-                (then.1 _ (first.1 t h)),
+            λ t h.
+                let one = first.1 t h in
+                let two = then.1 _ one.0 in (
+                  subst (HoldsTables new.now)
+                      (sym (after_more g.A.Alteration.alteration c.args.self.now.alterations.now
+                      c.loop-alteration.alteration-index c.alteration-item.result t
+                      c.loop-alteration-test.true c.alteration-item.is))
+                      two.0,
+                  λ was. two.1 (one.1 was),
+                ),
           );
       within = within_then old mid new c.loop-alteration.invariant.within c.apply.ensures.within;
     }
@@ -46,11 +51,14 @@ pub returns-clause-makes : goal.returns-clause-makes
 returns-clause-makes g c clean inside =
     let made = c.loop-alteration.invariant.makes clean inside in (
       made.0,
-      λ t h. subst (HoldsTables (state g.S.Store c.loop-alteration.tx.conn.now).now)
-          (ap (λ l. after_all g.A.Alteration.alteration l t)
-          (take_all c.loop-alteration.alteration-index c.args.self.now.alterations.now
-          c.loop-alteration-test.false))
-          (made.1 t h),
+      λ t h. let one = made.1 t h in (
+        subst (HoldsTables (state g.S.Store c.loop-alteration.tx.conn.now).now)
+            (ap (λ l. after_all g.A.Alteration.alteration l t)
+            (take_all c.loop-alteration.alteration-index c.args.self.now.alterations.now
+            c.loop-alteration-test.false))
+            one.0,
+        one.1,
+      ),
     )
 
 pub returns-clause-within : goal.returns-clause-within

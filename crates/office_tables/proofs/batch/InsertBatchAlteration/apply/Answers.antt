@@ -7,7 +7,7 @@ use Rattle.office_tables.specs.Inserting.{IsInsert}
 use Rattle.office_tables.specs.Tables.{Batch}
 use Rattle.office_tables.specs.TablesHeld.{all_columns}
 use Rattle.office_tables.proofs.Frames.{all_shown, tables_held}
-use Rattle.office_tables.proofs.InsertLemmas.{row_added}
+use Rattle.office_tables.proofs.InsertLemmas.{insert_sound, row_added}
 use Rattle.office_tables.proofs.Inside.{changes_by}
 use Rattle.office_tables.proofs.Rows.{batches}
 use Rattle.office_tables.proofs.batch.InsertBatchAlteration.apply.Goals as goal
@@ -30,8 +30,11 @@ returns-clause-makes g c clean inside =
       unchanged = it.unchanged;
     } in
     changes_by _ _ _ old new c.run.result
-    (λ count t represents h. tables_held new.now _ (row_added batches _ means old new row t.batch
-    count (all_columns t) refl (all_shown old.now t represents) h))
+    (λ count t represents h. (
+      tables_held new.now _ (row_added batches _ means old new row t.batch count (all_columns t)
+          refl (all_shown old.now t represents) h),
+      λ _. insert_sound means _ old new count represents.schema h,
+    ))
     (rw (
       c.params-to_sql.ensures,
       c.params-to_sql-2.ensures,

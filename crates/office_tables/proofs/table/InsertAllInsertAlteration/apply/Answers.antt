@@ -9,7 +9,7 @@ use Rattle.office_tables.proofs.table.InsertAllInsertAlteration.apply.Goals as g
 pub chunks-init : goal.chunks-init
 chunks-init g c = record {
   same = refl;
-  makes = λ clean inside. (inside, λ t h. (t, h, refl));
+  makes = λ clean inside. (inside, λ t h. (t, h, refl, λ was. was));
   within = within_same _;
   fits = c.requires.fits;
 }
