@@ -6,3 +6,4 @@ mod ServingLemmas
 mod IsolationLemmas
 mod TwoOfficesLemmas
 pub mod ClientLemmas
+pub mod CrashLemmas

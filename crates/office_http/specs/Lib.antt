@@ -4,4 +4,5 @@ pub mod Transcripts
 pub mod CandidateMessages
 pub mod Isolation
 pub mod Clients
+pub mod Crashes
 pub mod TwoOffices

@@ -1,19 +1,28 @@
 //! Laws of the office's connections: functions without code; their contracts are the laws.
 ghost use Rattle.std.specs.Prelude.{◌≡◌, ℕ, List, All, Option};
+ghost use Rattle.sqlite.specs.Effect.{IsDatabase};
+ghost use Rattle.sqlite.specs.Held.{Held, state};
+ghost use Rattle.sqlite.specs.State.{HasCleanDisk};
 ghost use Rattle.office_messages.specs.Reply.{PlainReply};
 ghost use Rattle.office_messages.specs.Messages.{Item};
 ghost use Rattle.office_messages.specs.Serve.{Serves, AnswersItems};
 ghost use Rattle.office_messages.specs.Statuses.{code_of};
 ghost use Rattle.office_messages.specs.Stream.{PlainRequest};
-ghost use Rattle.office_messages.specs.Visits.{Visit};
+ghost use Rattle.office_messages.specs.Visits.{ServesVisits, Visit};
 ghost use Rattle.office_messages.specs.declared.connection.Served.{Served};
 ghost use Rattle.office_model.specs.Office.{OfficeState};
 ghost use Rattle.office_model.specs.Views.{view_of};
+ghost use Rattle.office_records.specs.Representation.{RepresentsOffice};
+ghost use Rattle.office_store.specs.Crashes.{OpenedAfter};
+ghost use Rattle.office_store.specs.Running.{IsCommitted};
 ghost use Rattle.office_http.specs.Clients.{ServesAll, all_entries};
+ghost use Rattle.office_http.specs.Crashes.{IsAfterFront, all_exchanges};
 ghost use Rattle.office_http.specs.CandidateMessages.{HaveSameBytes, AreFrom, IsFrom, output_from_view};
 ghost use Rattle.office_http.specs.Isolation.{AreAvailable, GetSameBytes, GetBytesByView, IsOwnOrQuiet, IsQuietFor, LeavesPublication, RepliesView, changes_to_candidate};
 ghost use Rattle.office_http.specs.Transcripts.{RepliesOwnView, entries, entry, request_and_reply, transcript};
-ghost use Rattle.office_http.specs.Replying.{Replies, RepliesCandidateView};
+ghost use Rattle.office_http.specs.Replying.{Answered, Replies, RepliesCandidateView};
+
+use sqlite::Alter;
 
 /// A message whose reply is a 503 leaves the office unchanged, whatever its caller and its request.
 pub fn unavailable_changes_nothing()
@@ -194,4 +203,18 @@ pub fn same_view_same_clients()
         → All (IsOwnOrQuiet s) (all_entries others other last second)
         → GetSameBytes s (all_entries visits one next first)
         (all_entries others other last second) }
+{}
+
+/// After a crash a later opening, by any store, finds the office after a front of the messages that a
+/// desk answered on connections one after another. The front has each message whose reply is 200 or
+/// 201, so each whose 200 or 201 a client was sent. The first message behind it may have been carried
+/// out too, though its reply says otherwise.
+pub fn done_messages_stay<S: Alter, T: Alter>()
+    ensures { (visits : List Visit) (old new : Held S) (opened : Held T) (office : OfficeState)
+        → (run : ServesVisits (Answered S.Store) visits old new)
+        → IsCommitted (state S.Store old) → IsDatabase (state S.Store old).now
+        → RepresentsOffice (state S.Store old).now office → HasCleanDisk (state S.Store new)
+        → OpenedAfter (state S.Store new) (state T.Store opened)
+        → IsAfterFront (all_exchanges (Answered S.Store) visits old new run) office
+        (state T.Store opened).now }
 {}

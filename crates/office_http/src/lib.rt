@@ -8,9 +8,10 @@ mod serving;
 mod two_offices;
 
 pub use laws::{
-    each_client_by_view, each_reply_by_view, quiet_clients, quiet_message, quiet_messages,
-    reply_by_view, same_changes_same_view, same_view_same_bytes, same_view_same_clients,
-    same_view_same_output, same_view_same_replies, unavailable_changes_nothing,
+    done_messages_stay, each_client_by_view, each_reply_by_view, quiet_clients, quiet_message,
+    quiet_messages, reply_by_view, same_changes_same_view, same_view_same_bytes,
+    same_view_same_clients, same_view_same_output, same_view_same_replies,
+    unavailable_changes_nothing,
 };
 pub use office_desk::{
     Desk, Loaded, Office, Refusal, StoreFault, penalty_report, rooms_report, violation_report,

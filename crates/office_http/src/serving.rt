@@ -1,8 +1,9 @@
 // Serving one connection.
 ghost use Rattle.std.specs.Prelude.{◌≡◌, ◌≤◌, IfErr, IfOk};
 ghost use Rattle.office_messages.specs.Serve.{Serves};
+ghost use Rattle.office_messages.specs.Visits.{ServesVisit};
 ghost use Rattle.office_http.specs.Transcripts.{ServesByView};
-ghost use Rattle.office_http.specs.Replying.{Replies};
+ghost use Rattle.office_http.specs.Replying.{Answered, Replies};
 ghost use Rattle.office_http.specs.Serving.{AnswersFront, LeadsOffice};
 
 use crate::replying::reply;
@@ -57,6 +58,13 @@ pub fn serve<R: Read, W: Write, S: Alter>(
     ensures err { IfErr result (λ fault. LeadsOffice S.Store
         (AnswersFront (R.remaining reader.old) (W.contents writer.old) (W.contents writer.new)
         fault) desk.old desk.new) }
+    // However the connection ended, each of these messages was answered as `reply` says.
+    ensures answered { ServesVisit (Answered S.Store) (record {
+      input = R.remaining reader.old;
+      before = W.contents writer.old;
+      after = W.contents writer.new;
+      ended = result;
+    }) desk.old desk.new }
     ensures spent { IfErr result (λ fault. fault ≡ ServeFault.TooMany → turns.new ≡ 0) }
     ensures turns { turns.new ≤ turns.old }
 {

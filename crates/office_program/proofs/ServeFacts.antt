@@ -45,6 +45,16 @@ if_so false so P Q h = absurd cc
 pub nobody_served : (office : OfficeState) → ServesAllByView [] office office
 nobody_served office = (refl, All-nil RepliesOwnView)
 
+pub desk_serves_nobody : {S : Type 0} (store : Ghosts S) (desk : Held S)
+    → OfficeServes store desk desk []
+desk_serves_nobody store desk = record {
+  answered = refl;
+  leads = record {
+    clean = λ clean. clean;
+    runs = λ clean office now. (office, nobody_served office, now);
+  };
+}
+
 module _ (AreTheirs : Bool → List Visit → Type 0) (Serve : List Visit → Type 0)
     (IsClosed : Type 0) (terms : Terms) (errors : Option (List ℕ)) where
   -- no client was served, because of another fault than of listening
@@ -231,10 +241,14 @@ module _ {S : Type 0} (store : Ghosts S) where
 
     pub desk_serves : (vs : List Visit) → ServesWhileOpen Answers is_shut old new vs
         → OfficeServes store (now old) last vs
-    desk_serves vs run = visits_by_view store vs (now old) last
-        (lent_visits name now (Answered store) old new last given vs
+    desk_serves vs run =
+        let answered = lent_visits name now (Answered store) old new last given vs
         (visits_along (λ m. m) Answers (Lends name now (Answered store)) answers_lent vs old new
-        (served_open Answers is_shut vs old new run)))
+        (served_open Answers is_shut vs old new run)) in
+        record {
+          answered = answered;
+          leads = visits_by_view store vs (now old) last answered;
+        }
 
     -- a store that was found closed is closed
     pub desk_shut : (vs : List Visit) → ServesWhileOpen Answers is_shut old new vs

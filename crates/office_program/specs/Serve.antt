@@ -9,8 +9,9 @@ use Rattle.office_connections.specs.Clients.{AreOfClients, ServesClients}
 use Rattle.office_connections.specs.Lines.{PrintsPort, PrintsFaults}
 use Rattle.office_connections.specs.declared.accepting.Service.{Service}
 use Rattle.office_http.specs.Clients.{ServesAllByView}
+use Rattle.office_http.specs.Replying.{Answered}
 use Rattle.office_http.specs.Serving.{LeadsOffice}
-use Rattle.office_messages.specs.Visits.{Visit}
+use Rattle.office_messages.specs.Visits.{ServesVisits, Visit}
 use Rattle.office_messages.specs.declared.statuses.Status.{Status}
 use Rattle.office_messages.specs.declared.statuses.Status.TheVariants.{Created, Done}
 use Rattle.office_model.specs.Office.{OfficeState}
@@ -54,10 +55,13 @@ AsksWhetherShut says other old is_shut new =
 
 -- ---- the clients
 
--- assuming the disk returns what was written, the office served these connections, and each
--- candidate got the text of their view
-abbrev pub OfficeServes : {S : Type 0} → Ghosts S → Held S → Held S → List Visit → Type 0
-OfficeServes store old new visits = LeadsOffice store (ServesAllByView visits) old new
+-- the desk served these connections, one after another, and each message was answered as `reply`
+-- says; assuming the disk returns what was written, the office served them, and each candidate got the
+-- text of their view
+pub record OfficeServes {S : Type 0} (store : Ghosts S) (old new : Held S) (visits : List Visit)
+    : Type 0 where
+  pub answered : ServesVisits (Answered store) visits old new
+  pub leads : LeadsOffice store (ServesAllByView visits) old new
 
 -- assuming the disk returns what was written, and the database had nothing uncommitted: the office
 -- found in it served these connections, each candidate got the text of their view, and the database

@@ -1,9 +1,9 @@
-use Rattle.std.proofs.Common.{◌≡◌, Err, rules}
+use Rattle.std.proofs.Common.{◌≡◌, Err, refl, rules}
 use Rattle.office_policy.specs.CommandBodies.{plain_text}
 use Rattle.office_model.specs.Answers.{now_loaded}
 use Rattle.office_model.specs.Loading.{load_session}
 use Rattle.office_model.specs.Step.{outcome}
-use Rattle.office_desk.proofs.AnswerLemmas.{body_performed, fault_changed, text_faulty}
+use Rattle.office_desk.proofs.AnswerLemmas.{body_performed, fault_changed, ok_changed, text_faulty}
 use Rattle.office_desk.proofs.changing.load.Goals as goal
 
 pub returns-in_err-text : goal.returns-in_err-text
@@ -19,3 +19,9 @@ returns-in_err-loaded g c caller =
     c.load.new.self _ _
     c.in_err-loaded.ensures.runs c.in_err-loaded.ensures.leaves
     c.from_residual-in_err-loaded.ensures.1)
+
+pub returns : goal.returns
+returns g c caller =
+    rw c.in_ok-text.ensures
+    (ok_changed g.S.Store now_loaded (load_session c.in_ok-text.text.now) c.args.office.now
+    c.load.new.self _ _ c.in_ok-loaded.ensures.runs c.in_ok-loaded.ensures.leaves (λ none. none) refl)

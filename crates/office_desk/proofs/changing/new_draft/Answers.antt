@@ -1,9 +1,9 @@
-use Rattle.std.proofs.Common.{◌≡◌, Err, rules}
+use Rattle.std.proofs.Common.{◌≡◌, Err, refl, rules}
 use Rattle.office_policy.specs.CommandBodies.{plain_text}
 use Rattle.office_model.specs.Answers.{now_drafted}
 use Rattle.office_model.specs.DraftCommands.{draft_made}
 use Rattle.office_model.specs.Step.{outcome}
-use Rattle.office_desk.proofs.AnswerLemmas.{body_performed, fault_changed, text_faulty}
+use Rattle.office_desk.proofs.AnswerLemmas.{body_performed, fault_changed, ok_changed, text_faulty}
 use Rattle.office_desk.proofs.changing.new_draft.Goals as goal
 
 pub returns-in_err-text : goal.returns-in_err-text
@@ -20,3 +20,10 @@ returns-in_err-penalty g c caller =
     (draft_made c.args.number c.in_ok-text.text.now) c.args.office.now c.new_draft.new.self _ _
     c.in_err-penalty.ensures.runs c.in_err-penalty.ensures.leaves
     c.from_residual-in_err-penalty.ensures.1)
+
+pub returns : goal.returns
+returns g c caller =
+    rw c.in_ok-text.ensures
+    (ok_changed g.S.Store (now_drafted c.args.number)
+    (draft_made c.args.number c.in_ok-text.text.now) c.args.office.now c.new_draft.new.self _ _
+    c.in_ok-penalty.ensures.runs c.in_ok-penalty.ensures.leaves (λ none. none) refl)

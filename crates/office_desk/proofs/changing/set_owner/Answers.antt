@@ -1,8 +1,8 @@
-use Rattle.std.proofs.Common.{◌≡◌, Err, rules}
+use Rattle.std.proofs.Common.{◌≡◌, Err, refl, rules}
 use Rattle.office_model.specs.Answers.{now_owned}
 use Rattle.office_model.specs.Commands.{set_owner_result}
 use Rattle.office_model.specs.Step.{outcome}
-use Rattle.office_desk.proofs.AnswerLemmas.{body_performed, fault_changed}
+use Rattle.office_desk.proofs.AnswerLemmas.{body_performed, fault_changed, ok_changed}
 use Rattle.office_desk.proofs.changing.set_owner.Goals as goal
 
 pub returns-in_err-dept : goal.returns-in_err-dept
@@ -19,3 +19,10 @@ returns-in_err-set_owner g c caller =
     (set_owner_result c.args.exam c.in_ok-dept.dept) c.args.office.now c.set_owner.new.self _ _
     c.in_err-set_owner.ensures.runs c.in_err-set_owner.ensures.leaves
     c.from_residual-in_err-set_owner.ensures.1)
+
+pub returns : goal.returns
+returns g c caller =
+    rw c.in_ok-dept.ensures
+    (ok_changed g.S.Store (λ done. now_owned c.args.exam c.in_ok-dept.dept)
+    (set_owner_result c.args.exam c.in_ok-dept.dept) c.args.office.now c.set_owner.new.self _ _
+    c.in_ok-set_owner.ensures.runs c.in_ok-set_owner.ensures.leaves (λ none. none) refl)

@@ -1,3 +1,5 @@
+use Rattle.std.proofs.Common.{[], refl, rules}
+use Rattle.std.proofs.KnownBytes.{Appends-nil}
 use Rattle.office_messages.proofs.RunLemmas.{lent_serves, lent_serves_front}
 use Rattle.office_http.specs.Replying.{Answered}
 use Rattle.office_http.proofs.IsolationLemmas.{serves_by_view}
@@ -21,3 +23,25 @@ returns-clause-err g c =
     serves_front_leads g.S.Store _ _ _ _ _ c.serve.result
     (lent_serves_front (λ m. m.desk.ghost_name) (λ m. m.desk.now) (Answered g.S.Store) _ _ _ _ _ _
     c.desk-1.given.1 c.serve.result c.serve.ensures.err)
+
+-- no message was answered
+pub returns-in_default-clause-answered : goal.returns-in_default-clause-answered
+returns-in_default-clause-answered g c = (
+  tt,
+  record {
+    items = [];
+    output = [];
+    begins = search rules;
+    trace = (refl, refl);
+    written = λ other. Appends-nil _;
+    broken = λ is. absurd cc;
+  },
+)
+
+pub returns-clause-answered : goal.returns-clause-answered
+returns-clause-answered g c = (
+  lent_serves (λ m. m.desk.ghost_name) (λ m. m.desk.now) (Answered g.S.Store) _ _ _ _ _ _
+      c.desk-1.given.1 c.serve.result c.serve.ensures.ok,
+  lent_serves_front (λ m. m.desk.ghost_name) (λ m. m.desk.now) (Answered g.S.Store) _ _ _ _ _ _
+      c.desk-1.given.1 c.serve.result c.serve.ensures.err,
+)

@@ -1,15 +1,12 @@
 use Rattle.std.proofs.Common.{false, inl, inr, refl, true}
-use Rattle.office_program.proofs.ServeFacts.{leaves_port, nobody_comes, nobody_served}
+use Rattle.office_program.proofs.ServeFacts.{desk_serves_nobody, leaves_port, nobody_comes}
 use Rattle.office_program.proofs.ServeFacts.{prints_served, terms_follow}
 use Rattle.office_program.proofs.serving.listen_and_serve.Goals as goal
 
 -- listening failed
 pub returns-in_default-clause-reached : goal.returns-in_default-clause-reached
 returns-in_default-clause-reached g c = nobody_comes _ _ _ _ _ (inl (c.in_default.ensures.failed, refl))
-    (record {
-      clean = λ clean. clean;
-      runs = λ clean office now. (office, nobody_served office, now);
-    })
+    (desk_serves_nobody g.S.Store _)
 
 pub returns-clause-reached : goal.returns-clause-reached
 returns-clause-reached g c =

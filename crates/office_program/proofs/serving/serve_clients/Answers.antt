@@ -2,17 +2,14 @@ use Rattle.std.proofs.Common.{◌∙◌, arith, inl, inr, refl}
 use Rattle.std.proofs.lemmas.Bool.{eqb-true}
 use Rattle.sqlite.specs.declared.error.Error.TheVariants.{SqliteFailure}
 use Rattle.sqlite.specs.declared.error.ErrorCode.TheVariants.{OutOfMemory}
-use Rattle.office_program.proofs.ServeFacts.{desk_serves, desk_shut, nobody_served, serves_nobody}
+use Rattle.office_program.proofs.ServeFacts.{desk_serves, desk_serves_nobody, desk_shut, serves_nobody}
 use Rattle.office_program.proofs.ServeFacts.{terms_follow, write_is_no_listen}
 use Rattle.office_program.proofs.serving.serve_clients.Goals as goal
 
 pub returns-in_default-clause-served : goal.returns-in_default-clause-served
 returns-in_default-clause-served g c =
     serves_nobody _ _ _ _ _ refl
-    (record {
-      clean = λ clean. clean;
-      runs = λ clean office now. (office, nobody_served office, now);
-    }) _ (λ is. cc)
+    (desk_serves_nobody g.S.Store _) _ (λ is. cc)
 
 -- out of memory for the desk gets the same line as out of memory for a database
 pub returns-in_default-clause-fault : goal.returns-in_default-clause-fault

@@ -29,10 +29,10 @@ returns-clause-reached g c =
     terms_follow _ _ _ _ _ _ (λ has_failed vs theirs. theirs)
     (λ vs served clean kept there is.
     let at_end = subst (λ held. HasCleanDisk (state g.S.Store held)) same clean in
-    let begun = subst (λ held. HasCleanDisk (state g.S.Store held)) made (served.clean at_end) in
+    let begun = subst (λ held. HasCleanDisk (state g.S.Store held)) made (served.leads.clean at_end) in
     let now = subst (λ held. Represents (state g.S.Store held) there) (sym made)
     (c.in-Ok.ensures.found begun there is) in
-    let led = served.runs at_end there now in
+    let led = served.leads.runs at_end there now in
     let after = subst (λ held. Represents (state g.S.Store held) led.0) (sym same) led.2 in
     (led.0, led.1, λ opened. inr (kept_holds _ led.0 (after opened))))
     (subst (IsStoreShut g.S.Store) (sym same)) _ _ _ _ c.listen_and_serve-done.ensures.reached
