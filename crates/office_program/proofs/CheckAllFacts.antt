@@ -1,7 +1,7 @@
 -- Outcomes of solutions, one after another.
 use Rattle.std.proofs.Common.{◌≡◌, ◌∙◌, List, [], ◌∷◌, ◌++◌, ℕ, Bool, true, false, Option}
 use Rattle.std.proofs.Common.{Result, ap, ap₂, append-nil, codes, inl, inr, refl, string_bytes, subst, sym}
-use Rattle.std.specs.Prelude.{◌||◌, ◌&&◌, IsTrue, OnOk, is_ok}
+use Rattle.std.specs.Prelude.{◌||◌, ◌&&◌}
 use Rattle.std.specs.List.{flat_map, list_any}
 use Rattle.std.specs.Io.KnownBytes.{Appends}
 use Rattle.std.proofs.KnownBytes.{Appends-nil, Appends-trans}
@@ -13,11 +13,11 @@ use Rattle.exam_model.specs.Enrolments.{Enrolled}
 use Rattle.exam_model.specs.Instance.{Session}
 use Rattle.office_check.specs.declared.judging.LineForm.{LineForm}
 use Rattle.office_files.specs.declared.inputs.InputFault.{InputFault}
-use Rattle.office_program.specs.CheckAll.{AddsOutcome, HasOutcomes, IsLineOf, IsOutcome, Outcome}
-use Rattle.office_program.specs.FaultLines.{solution_line}
+use Rattle.office_program.specs.CheckAll.{AddsOutcome, HasOutcomes, IsLineOf, IsOutcome, Outcome, TellsAll, TellsOne}
+use Rattle.office_program.specs.FaultLines.{fault_line, solution_line}
+use Rattle.office_program.specs.declared.faults.ProgramFault.{ProgramFault}
 use Rattle.office_program.specs.declared.judging.Found.{Found}
 use Rattle.office_program.specs.declared.judging.VerdictLine.{VerdictLine}
-use Rattle.office_program.proofs.EndingFacts.{if_written}
 
 or_false : (b : Bool) → (b || false) ≡ b
 or_false true = refl
@@ -27,10 +27,34 @@ or_true : (b : Bool) → (b || true) ≡ true
 or_true true = refl
 or_true false = refl
 
--- two lines were written if both together were
-both : (a b : Bool) → IsTrue (a && b) → IsTrue a × IsTrue b
-both true b is = (refl, is)
-both false b is = let never : false ≡ true = is in cc
+and_true : (b : Bool) → b ≡ (b && true)
+and_true true = refl
+and_true false = refl
+
+and_then : (a b c : Bool) → ((a && b) && c) ≡ (a && (b && c))
+and_then true b c = refl
+and_then false b c = refl
+
+-- the line of one more fault
+told_more : {W : Type 0} (tells : W → List ℕ → Bool → W → Type 0) (os : List Outcome) (o : Outcome)
+    (a b c : W) (before last : Bool) → TellsAll tells os a before b → TellsOne tells o b last c
+    → TellsAll tells (os ++ o ∷ []) a (before && last) c
+told_more tells [] o a b c before last so_far next = (
+  c,
+  last,
+  true,
+  subst (λ s. TellsOne tells o s last c) so_far.1 next,
+  (refl, refl),
+  ap (λ is. is && last) so_far.0 ∙ and_true last,
+)
+told_more tells (x ∷ os) o a b c before last so_far next = (
+  so_far.0,
+  so_far.1,
+  so_far.2 && last,
+  so_far.3,
+  told_more tells os o so_far.0 b c so_far.2 last so_far.4 next,
+  ap (λ is. is && last) so_far.5 ∙ and_then so_far.1 so_far.2 last,
+)
 
 -- a property of all outcomes and of one more
 flat_more : (f : Outcome → List ℕ) (os : List Outcome) (o : Outcome)
@@ -43,26 +67,27 @@ any_more : (p : Outcome → Bool) (os : List Outcome) (o : Outcome)
 any_more p os o =
     ap (λ b. list_any p os || b) (sym (or_false (p o))) ∙ sym (list_any-append p os (o ∷ []))
 
-module _ (I : Session) (E : Enrolled) (form : LineForm) where
+module _ {W : Type 0} (tells : W → List ℕ → Bool → W → Type 0) (I : Session) (E : Enrolled)
+    (form : LineForm) where
   -- no outcome
-  pub no_outcome : (printed said : Option (List ℕ))
-      → HasOutcomes I E form [] printed printed said said
+  pub no_outcome : (printed : Option (List ℕ)) (errors : W)
+      → HasOutcomes tells I E form [] printed printed errors errors
       (record { has_fault = false; has_breach = false; is_err_written = true })
-  no_outcome printed said = record {
+  no_outcome printed errors = record {
     outcomes = [];
     judged = record { are = refl; each = All-nil _ };
     printed = Appends-nil printed;
-    said = λ err_line. Appends-nil said;
+    told = (refl, refl);
     fault = refl;
     breach = refl;
   }
 
   -- one more outcome
   pub outcome_more : (paths : List (List ℕ)) (path : List ℕ) (old mid new : Option (List ℕ))
-      (errors_old errors_mid errors_new : Option (List ℕ)) (before after : Found)
-      → HasOutcomes I E form paths old mid errors_old errors_mid before
-      → AddsOutcome I E form path before mid new errors_mid errors_new after
-      → HasOutcomes I E form (paths ++ path ∷ []) old new errors_old errors_new after
+      (errors_old errors_mid errors_new : W) (before after : Found)
+      → HasOutcomes tells I E form paths old mid errors_old errors_mid before
+      → AddsOutcome tells I E form path before mid new errors_mid errors_new after
+      → HasOutcomes tells I E form (paths ++ path ∷ []) old new errors_old errors_new after
   outcome_more paths path old mid new errors_old errors_mid errors_new before after so_far next =
       let os = so_far.outcomes in
       let o = next.outcome in
@@ -75,10 +100,9 @@ module _ (I : Session) (E : Enrolled) (form : LineForm) where
         };
         printed = subst (Appends old new) (sym (flat_more (λ o. o.printed) os o))
             (Appends-trans old mid new _ _ so_far.printed next.printed);
-        said = λ err_line.
-            let both = next.said err_line in
-            subst (Appends errors_old errors_new) (sym (flat_more (λ o. o.said) os o))
-            (Appends-trans errors_old errors_mid errors_new _ _ (so_far.said both.0) both.1);
+        told = subst (λ is. TellsAll tells (os ++ o ∷ []) errors_old is errors_new) (sym next.said)
+            (told_more tells os o errors_old errors_mid errors_new before.is_err_written
+            next.is_written so_far.told next.told);
         fault = next.fault ∙ ap (λ b. b || o.is_faulty) so_far.fault
             ∙ any_more (λ o. o.is_faulty) os o;
         breach = next.breach ∙ ap (λ b. b || o.has_breach) so_far.breach
@@ -87,9 +111,9 @@ module _ (I : Session) (E : Enrolled) (form : LineForm) where
 
   -- a line that is printed is an outcome
   pub line_added : (path : List ℕ) (line : VerdictLine) (found : Found)
-      (old new errors : Option (List ℕ)) → IsLineOf I E form path line
+      (old new : Option (List ℕ)) (errors : W) → IsLineOf I E form path line
       → Appends old new (string_bytes line.text)
-      → AddsOutcome I E form path found old new errors errors (record {
+      → AddsOutcome tells I E form path found old new errors errors (record {
         has_fault = found.has_fault;
         has_breach = found.has_breach || line.has_breach;
         is_err_written = found.is_err_written;
@@ -113,23 +137,25 @@ module _ (I : Session) (E : Enrolled) (form : LineForm) where
       breach = is.breach;
     });
     printed = printed;
-    said = λ err_line. (err_line, Appends-nil errors);
+    is_written = true;
+    told = (refl, refl);
+    said = and_true found.is_err_written;
     fault = sym (or_false found.has_fault);
     breach = refl;
   }
 
   -- so is a fault
-  pub fault_added : {T X : Type 0} (r : Result T X) (is_err_written : Bool) (path : List ℕ)
-      (fault : InputFault) (found : Found) (old errors_old errors_new : Option (List ℕ))
-      → is_err_written ≡ is_ok r
-      → OnOk r (Appends errors_old errors_new
-      (path ++ codes ": " ++ solution_line path fault ++ 10 ∷ []))
-      → AddsOutcome I E form path found old old errors_old errors_new (record {
+  pub fault_added : (is_err_written : Bool) (path : List ℕ) (fault : InputFault) (found : Found)
+      (old : Option (List ℕ)) (errors_old errors_new : W) (shown : ProgramFault)
+      → fault_line shown ≡ solution_line path fault
+      → tells errors_old (path ++ codes ": " ++ fault_line shown ++ 10 ∷ []) is_err_written
+      errors_new
+      → AddsOutcome tells I E form path found old old errors_old errors_new (record {
         has_fault = true;
         has_breach = found.has_breach;
         is_err_written = found.is_err_written && is_err_written;
       })
-  fault_added r is_err_written path fault found old errors_old errors_new is said = record {
+  fault_added is_err_written path fault found old errors_old errors_new shown is told = record {
     outcome = record {
       path = path;
       printed = [];
@@ -146,9 +172,10 @@ module _ (I : Session) (E : Enrolled) (form : LineForm) where
       breach = refl;
     });
     printed = Appends-nil old;
-    said = λ err_line.
-        let yes = both found.is_err_written is_err_written err_line in
-        (yes.0, if_written r _ said is_err_written is yes.1);
+    is_written = is_err_written;
+    told = subst (λ line. tells errors_old (path ++ codes ": " ++ line ++ 10 ∷ []) is_err_written
+        errors_new) is told;
+    said = refl;
     fault = sym (or_true found.has_fault);
     breach = sym (or_false found.has_breach);
   }

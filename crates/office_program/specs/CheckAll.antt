@@ -1,6 +1,6 @@
 -- The output of `check-all`: a line for each solution that is judged, and one for each fault.
 use Rattle.std.specs.Prelude.{◌≡◌, ◌⊎◌, ◌++◌, ◌∷◌, [], ℕ, ◌==◌, Bool, true, false, not, All, IsTrue, List}
-use Rattle.std.specs.Prelude.{Option, codes, if◌then◌else◌, map, string_bytes, ◌||◌}
+use Rattle.std.specs.Prelude.{MatchBool, Option, codes, if◌then◌else◌, map, string_bytes, ◌&&◌, ◌||◌}
 use Rattle.std.specs.List.{flat_map, list_any}
 use Rattle.std.specs.Io.KnownBytes.{Appends}
 use Rattle.exam_model.specs.Enrolments.{Enrolled}
@@ -73,13 +73,26 @@ pub record PrintsVerdicts (form : LineForm) (paths : List (List ℕ)) (old new :
   pub ended : status ≡ status_of_all (list_any (λ o. o.is_faulty) outcomes)
       (list_any (λ o. o.has_breach) outcomes)
 
--- and the line of each fault is written, unless a write failed
-pub record JudgesAll (form : LineForm) (paths : List (List ℕ))
-    (old new errors_old errors_new : Option (List ℕ)) (is_err_written : Bool) (status : ℕ)
-    : Type 0 where
+-- the line of a fault was tried to be written, which ended so; nothing was, if there is none
+abbrev pub TellsOne : {W : Type 0} → (W → List ℕ → Bool → W → Type 0) → Outcome → W → Bool → W
+    → Type 0
+TellsOne tells o old is_written new =
+    MatchBool o.is_faulty (tells old o.said is_written new) ((is_written ≡ true) × (new ≡ old))
+
+-- the same for the line of each fault, in order; whether all were written
+abbrev pub TellsAll : {W : Type 0} → (W → List ℕ → Bool → W → Type 0) → List Outcome → W → Bool → W
+    → Type 0
+TellsAll tells [] old are_written new = (are_written ≡ true) × (new ≡ old)
+TellsAll {W} tells (o ∷ os) old are_written new =
+    (mid : W) × (first : Bool) × (others : Bool) × TellsOne tells o old first mid
+    × TellsAll tells os mid others new × (are_written ≡ (first && others))
+
+-- and the line of each fault is written, unless its writer failed
+pub record JudgesAll {W : Type 0} (tells : W → List ℕ → Bool → W → Type 0) (form : LineForm)
+    (paths : List (List ℕ)) (old new : Option (List ℕ)) (errors_old errors_new : W)
+    (is_err_written : Bool) (status : ℕ) : Type 0 where
   pub prints : PrintsVerdicts form paths old new status
-  pub said : IsTrue is_err_written
-      → Appends errors_old errors_new (flat_map (λ o. o.said) prints.outcomes)
+  pub told : TellsAll tells prints.outcomes errors_old is_err_written errors_new
 
 -- ---- one solution after another
 
@@ -93,25 +106,26 @@ pub record IsLineOf (I : Session) (E : Enrolled) (form : LineForm) (path : List 
   pub breach : line.has_breach ≡ not (verdict.breaches == 0)
 
 -- the solution of this path has an outcome, which is counted
-pub record AddsOutcome (I : Session) (E : Enrolled) (form : LineForm) (path : List ℕ)
-    (before : Found) (old new errors_old errors_new : Option (List ℕ)) (after : Found)
-    : Type 0 where
+pub record AddsOutcome {W : Type 0} (tells : W → List ℕ → Bool → W → Type 0) (I : Session)
+    (E : Enrolled) (form : LineForm) (path : List ℕ) (before : Found) (old new : Option (List ℕ))
+    (errors_old errors_new : W) (after : Found) : Type 0 where
   pub outcome : Outcome
   pub is : outcome.path ≡ path
   pub of : IsOutcome I E form outcome
   pub printed : Appends old new outcome.printed
-  pub said : IsTrue after.is_err_written
-      → IsTrue before.is_err_written × Appends errors_old errors_new outcome.said
+  pub is_written : Bool
+  pub told : TellsOne tells outcome errors_old is_written errors_new
+  pub said : after.is_err_written ≡ (before.is_err_written && is_written)
   pub fault : after.has_fault ≡ (before.has_fault || outcome.is_faulty)
   pub breach : after.has_breach ≡ (before.has_breach || outcome.has_breach)
 
 -- the solutions of these paths have outcomes, which are counted
-pub record HasOutcomes (I : Session) (E : Enrolled) (form : LineForm) (paths : List (List ℕ))
-    (old new errors_old errors_new : Option (List ℕ)) (found : Found) : Type 0 where
+pub record HasOutcomes {W : Type 0} (tells : W → List ℕ → Bool → W → Type 0) (I : Session)
+    (E : Enrolled) (form : LineForm) (paths : List (List ℕ)) (old new : Option (List ℕ))
+    (errors_old errors_new : W) (found : Found) : Type 0 where
   pub outcomes : List Outcome
   pub judged : AreJudged I E form paths outcomes
   pub printed : Appends old new (flat_map (λ o. o.printed) outcomes)
-  pub said : IsTrue found.is_err_written
-      → Appends errors_old errors_new (flat_map (λ o. o.said) outcomes)
+  pub told : TellsAll tells outcomes errors_old found.is_err_written errors_new
   pub fault : found.has_fault ≡ list_any (λ o. o.is_faulty) outcomes
   pub breach : found.has_breach ≡ list_any (λ o. o.has_breach) outcomes

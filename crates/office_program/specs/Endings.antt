@@ -1,12 +1,13 @@
 -- The lines that are written to `err`, and the text that is then printed on `out`.
-use Rattle.std.specs.Prelude.{◌≡◌, ◌≢◌, ◌⊎◌, ℕ, ◌++◌, ◌∷◌, [], Bool, true, List, Option}
+use Rattle.std.specs.Prelude.{◌≡◌, ◌≢◌, ◌⊎◌, ℕ, ◌++◌, ◌∷◌, [], Bool, List, Option}
 use Rattle.std.specs.Prelude.{map, string_bytes}
 use Rattle.std.specs.Io.KnownBytes.{Appends, Keeps}
-use Rattle.clap.specs.Words.{Text}
+use Rattle.clap.specs.Words.{IsAmong, Text}
+use Rattle.clap.specs.declared.error.kind.ErrorKind.TheVariants as kind
 use Rattle.office_connections.specs.Lines.{PrintsPort, PrintsFaults}
 use Rattle.office_program.specs.CheckAll.{JudgesAll}
 use Rattle.office_program.specs.FaultLines.{fault_line}
-use Rattle.office_program.specs.Program.{IsTask}
+use Rattle.office_program.specs.Program.{IsTask, fault_of_words}
 use Rattle.office_program.specs.Tasks.{IsOfTask}
 use Rattle.office_program.specs.declared.faults.ProgramFault.{ProgramFault}
 use Rattle.office_program.specs.declared.faults.ProgramFault.TheVariants.{CannotWrite, NoMemory}
@@ -52,49 +53,57 @@ LeavesPrinted (Serve database terms) old new = Keeps old new ⊎ PrintsPort term
 LeavesPrinted (Export database) old new = Keeps old new
 LeavesPrinted (Explain words) old new = Keeps old new
 
--- the line of the task's fault is appended to `err` after what the task wrote before; unless it is
--- a fault of writing, only the port of `serve` is printed
-pub record WritesTaskFault {W : Type 0} (contents : W → Option (List ℕ)) (task : Task) (old new : W)
-    (printed_old printed_new : Option (List ℕ)) : Type 0 where
+-- the line of the task's fault was tried to be written to `err`, after what the task wrote before, and
+-- this says whether it was written; unless it is a fault of writing, only the port of `serve` is
+-- printed
+pub record WritesTaskFault {W : Type 0} (tells : W → List ℕ → Bool → W → Type 0) (task : Task)
+    (old new : W) (printed_old printed_new : Option (List ℕ)) (is_written : Bool) : Type 0 where
   pub shown : ProgramFault
   pub fault : IsOfTask task shown
   pub before : W
   pub silent : IsSilent task old before
-  pub line : Appends (contents before) (contents new) (fault_line shown ++ 10 ∷ [])
+  pub line : tells before (fault_line shown ++ 10 ∷ []) is_written new
   pub printed : shown ≢ CannotWrite → LeavesPrinted task printed_old printed_new
 
--- a line is written for words that give no task: memory ran out, and nothing is printed; or the
--- help that they ask for could not be written
-abbrev pub WritesNoTaskFault : (old new printed_old printed_new : Option (List ℕ)) → Type 0
-WritesNoTaskFault old new printed_old printed_new =
-    (Appends old new (fault_line NoMemory ++ 10 ∷ []) × Keeps printed_old printed_new)
-    ⊎ Appends old new (fault_line CannotWrite ++ 10 ∷ [])
+-- the line for words that give no task was tried to be written: memory ran out, and nothing is
+-- printed; or they ask for help, which could not be written
+abbrev pub WritesNoTaskFault : {W : Type 0} → (W → List ℕ → Bool → W → Type 0) → Type 0
+    → (old new : W) → (printed_old printed_new : Option (List ℕ)) → Bool → Type 0
+WritesNoTaskFault tells AsksForHelp old new printed_old printed_new is_written =
+    (tells old (fault_line NoMemory ++ 10 ∷ []) is_written new × Keeps printed_old printed_new)
+    ⊎ (AsksForHelp × tells old (fault_line CannotWrite ++ 10 ∷ []) is_written new)
+
+-- the words ask for help or for the version
+abbrev pub AskForHelp : List Text → Type 0
+AskForHelp words =
+    IsAmong kind.DisplayHelp (fault_of_words words)
+    ⊎ IsAmong kind.DisplayVersion (fault_of_words words)
 
 -- what `check-all` prints, and writes to `err`, if a solution has a fault
-abbrev pub WritesSolutionFaults : {W : Type 0} → (W → Option (List ℕ)) → Task → (old new : W)
-    → (printed_old printed_new : Option (List ℕ)) → Bool → Type 0
-WritesSolutionFaults contents (Check instance solution) old new printed_old printed_new
+abbrev pub WritesSolutionFaults : {W : Type 0} → (W → List ℕ → Bool → W → Type 0) → Task
+    → (old new : W) → (printed_old printed_new : Option (List ℕ)) → Bool → Type 0
+WritesSolutionFaults tells (Check instance solution) old new printed_old printed_new
     is_err_written = ⊥
-WritesSolutionFaults contents (CheckAll session solutions form) old new printed_old printed_new
+WritesSolutionFaults tells (CheckAll session solutions form) old new printed_old printed_new
     is_err_written =
-    JudgesAll form (map string_bytes solutions.items) printed_old printed_new
-    (contents old) (contents new) is_err_written 1
-WritesSolutionFaults contents (Places instance solution exam) old new printed_old printed_new
+    JudgesAll tells form (map string_bytes solutions.items) printed_old printed_new old new
+    is_err_written 1
+WritesSolutionFaults tells (Places instance solution exam) old new printed_old printed_new
     is_err_written = ⊥
-WritesSolutionFaults contents (Load database instance) old new printed_old printed_new
+WritesSolutionFaults tells (Load database instance) old new printed_old printed_new
     is_err_written = ⊥
-WritesSolutionFaults contents (Serve database terms) old new printed_old printed_new
+WritesSolutionFaults tells (Serve database terms) old new printed_old printed_new
     is_err_written = ⊥
-WritesSolutionFaults contents (Export database) old new printed_old printed_new is_err_written = ⊥
-WritesSolutionFaults contents (Explain words) old new printed_old printed_new is_err_written = ⊥
+WritesSolutionFaults tells (Export database) old new printed_old printed_new is_err_written = ⊥
+WritesSolutionFaults tells (Explain words) old new printed_old printed_new is_err_written = ⊥
 
--- the line of a fault is written, either of the task of the words or for words that give no task;
--- or the lines of solutions' faults
-abbrev pub WritesFault : {W : Type 0} → (W → Option (List ℕ)) → List Text → (old new : W)
-    → (printed_old printed_new : Option (List ℕ)) → Type 0
-WritesFault contents words old new printed_old printed_new =
+-- the line of a fault was tried to be written, either of the task of the words or for words that
+-- give no task; or the lines of solutions' faults; and this says whether each was written whole
+abbrev pub WritesFault : {W : Type 0} → (W → List ℕ → Bool → W → Type 0) → List Text
+    → (old new : W) → (printed_old printed_new : Option (List ℕ)) → Bool → Type 0
+WritesFault tells words old new printed_old printed_new is_written =
     ((task : Task) × IsTask words task
-    × WritesTaskFault contents task old new printed_old printed_new)
-    ⊎ (WritesNoTaskFault (contents old) (contents new) printed_old printed_new
+    × WritesTaskFault tells task old new printed_old printed_new is_written)
+    ⊎ (WritesNoTaskFault tells (AskForHelp words) old new printed_old printed_new is_written
     ⊎ ((task : Task) × IsTask words task
-    × WritesSolutionFaults contents task old new printed_old printed_new true))
+    × WritesSolutionFaults tells task old new printed_old printed_new is_written))

@@ -1,15 +1,15 @@
 // `check-all`: judges many solutions of one session by the files of their paths.
-ghost use Rattle.std.specs.Prelude.{◌≡◌, ◌≢◌, ◌==◌, ◌++◌, ◌∷◌, [], ℕ, IfErr, IfOk, List, OnOk};
-ghost use Rattle.std.specs.Prelude.{◌&&◌, ◌||◌, codes, false, map, string_bytes, true};
-ghost use Rattle.std.specs.Io.KnownBytes.{Appends, Keeps};
+ghost use Rattle.std.specs.Prelude.{◌≡◌, ◌≢◌, ◌==◌, ℕ, IfErr, IfOk, List};
+ghost use Rattle.std.specs.Prelude.{◌&&◌, ◌||◌, false, map, string_bytes, true};
+ghost use Rattle.std.specs.Io.KnownBytes.{Keeps};
 ghost use Rattle.office_files.specs.InstanceText.{InstanceText};
 ghost use Rattle.office_program.specs.CheckAll.{AddsOutcome, HasOutcomes, IsLineOf, JudgesAll};
 ghost use Rattle.office_program.specs.CheckAll.{status_of_all};
-ghost use Rattle.office_program.specs.FaultLines.{solution_line};
 ghost use Rattle.office_program.specs.TaskFaults.{IsOfCheckAll};
 
 use crate::ending::Ending;
 use crate::faults::{ProgramFault, fault_of_input, fault_of_solution};
+use crate::lines::Lines;
 use office_check::{Judge, LineForm};
 use office_files::InputFault;
 use std::io::Write;
@@ -33,7 +33,7 @@ pub(crate) struct VerdictLine {
 }
 
 // Runs `check-all`. It opens one solution after another; a fault of one doesn't affect the others.
-pub(crate) fn check_all<'a, R: Files + AllocGlobal, W: Write, E: Write>(
+pub(crate) fn check_all<'a, R: Files + AllocGlobal, W: Write, E: Lines>(
     rt: &R,
     session: &'a str,
     solutions: &[String],
@@ -41,8 +41,8 @@ pub(crate) fn check_all<'a, R: Files + AllocGlobal, W: Write, E: Write>(
     out: &mut W,
     err: &mut E,
 ) -> Result<Ending, ProgramFault<'a>>
-    ensures judged { IfOk result (λ ending. JudgesAll form (map string_bytes solutions.now)
-        (W.contents out.old) (W.contents out.new) (E.contents err.old) (E.contents err.new)
+    ensures judged { IfOk result (λ ending. JudgesAll E.tells form (map string_bytes solutions.now)
+        (W.contents out.old) (W.contents out.new) err.old err.new
         ending.is_err_written ending.status) }
     ensures quiet { IfOk result (λ ending. ending.status ≢ 1 → err.new ≡ err.old) }
 
@@ -92,7 +92,7 @@ fn status_of(found: Found) -> u8
 }
 
 // Judges solutions, one after another. Fails if a line can't be printed.
-fn judge_each<R: Files + AllocGlobal, W: Write, E: Write>(
+fn judge_each<R: Files + AllocGlobal, W: Write, E: Lines>(
     rt: &R,
     judge: &Judge,
     solutions: &[String],
@@ -100,9 +100,9 @@ fn judge_each<R: Files + AllocGlobal, W: Write, E: Write>(
     out: &mut W,
     err: &mut E,
 ) -> io::Result<Found>
-    ensures ok { IfOk result (HasOutcomes judge.now.0 judge.now.1 form
+    ensures ok { IfOk result (HasOutcomes E.tells judge.now.0 judge.now.1 form
         (map string_bytes solutions.now) (W.contents out.old) (W.contents out.new)
-        (E.contents err.old) (E.contents err.new)) }
+        err.old err.new) }
     ensures quiet { IfOk result (λ found. found.has_fault ≡ false → err.new ≡ err.old) }
 {
     let mut found = Found {
@@ -117,7 +117,7 @@ fn judge_each<R: Files + AllocGlobal, W: Write, E: Write>(
 }
 
 // Judges one more solution.
-fn judge_one<R: Files + AllocGlobal, W: Write, E: Write>(
+fn judge_one<R: Files + AllocGlobal, W: Write, E: Lines>(
     rt: &R,
     judge: &Judge,
     path: &str,
@@ -126,8 +126,8 @@ fn judge_one<R: Files + AllocGlobal, W: Write, E: Write>(
     out: &mut W,
     err: &mut E,
 ) -> io::Result<Found>
-    ensures ok { IfOk result (AddsOutcome judge.now.0 judge.now.1 form path.now found
-        (W.contents out.old) (W.contents out.new) (E.contents err.old) (E.contents err.new)) }
+    ensures ok { IfOk result (AddsOutcome E.tells judge.now.0 judge.now.1 form path.now found
+        (W.contents out.old) (W.contents out.new) err.old err.new) }
     ensures quiet { IfOk result (λ now. now.has_fault ≡ false
         → (found.has_fault ≡ false) × (err.new ≡ err.old)) }
 {
@@ -137,7 +137,7 @@ fn judge_one<R: Files + AllocGlobal, W: Write, E: Write>(
             Ok(with_verdict(found, line.has_breach))
         }
         Err(fault) => {
-            let is_err_written = print_fault(path, fault, err).is_ok();
+            let is_err_written = err.tell_of(path, &fault_of_solution(fault, path));
             Ok(with_fault(found, is_err_written))
         }
     }
@@ -189,13 +189,4 @@ fn line_at<R: Files + AllocGlobal>(
         text: verdict.line(rt.alloc(), path, form)?,
         has_breach: verdict.has_breach(),
     })
-}
-
-// Prints the line of a solution's fault, after its path.
-fn print_fault<E: Write>(path: &str, fault: InputFault, err: &mut E) -> io::Result<()>
-    ensures { OnOk result (Appends (E.contents err.old) (E.contents err.new)
-        (path.now ++ codes ": " ++ solution_line path.now fault ++ 10 ∷ [])) }
-{
-    let shown = fault_of_solution(fault, path);
-    writeln!(err, "{path}: {shown}")
 }

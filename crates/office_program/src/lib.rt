@@ -13,6 +13,7 @@ mod exporting;
 mod faults;
 mod helps;
 mod judging;
+mod lines;
 mod listing;
 mod loading;
 mod notices;
@@ -23,6 +24,8 @@ mod words;
 
 pub use ending::Ending;
 pub use exporting::{ExportFault, export_run};
+pub use faults::ProgramFault;
+pub use lines::Lines;
 pub use loading::{LoadFault, load_run};
 pub use program::{refuse_arguments, run_program};
 pub use serving::{listen_and_serve, serve_clients, serve_office};

@@ -24,6 +24,7 @@ use crate::explaining::explain;
 use crate::exporting::export;
 use crate::faults::{ProgramFault, fault_of_input, fault_of_load, fault_of_open};
 use crate::judging::check_all;
+use crate::lines::Lines;
 use crate::listing::list_places;
 use crate::loading::load_run;
 use crate::notices::{LongWork, announce, announce_upgrade};
@@ -38,7 +39,7 @@ use std::{fs, io};
 
 /// Does what the words say; the first word is the program's name. The lines of faults, including
 /// those of connections, and the text of a mistake are written to `err`, everything else to `out`.
-pub fn run_program<O: Write, E: Write>(
+pub fn run_program<O: Write, E: Write + Lines>(
     rt: &HostRuntime,
     words: &[String],
     out: &mut O,
@@ -72,13 +73,14 @@ pub fn run_program<O: Write, E: Write>(
         → (task : Task) × IsTask (map string_bytes words.now) task
         × Prints task (O.contents out.old) (O.contents out.new) }
 
-    // Status 1 comes with the whole line of a fault of the words on `err`, unless `err` failed.
-    // Unless the fault is one of writing, `out` is unchanged, or has the line of the port. `check`,
+    // Status 1 comes with a try to write the line of a fault of the words to `err`, and
+    // `is_err_written` says whether it was written whole; it is false only if `err` failed. Unless
+    // the fault is one of writing, `out` is unchanged, or has the line of the port. `check`,
     // `places`, `load`, `export` and `explain` write nothing else to `err`; for `serve` this is the
     // last line there; `check-all` writes a line for each solution with a fault, with its path.
-    ensures err_line { result.status ≡ 1 → IsTrue result.is_err_written
-        → WritesFault E.contents (map string_bytes words.now) err.old err.new
-        (O.contents out.old) (O.contents out.new) }
+    ensures err_line { result.status ≡ 1
+        → WritesFault E.tells (map string_bytes words.now) err.old err.new
+        (O.contents out.old) (O.contents out.new) result.is_err_written }
 {
     let task = match read_words(rt.alloc(), words) {
         Ok(task) => task,
@@ -94,7 +96,7 @@ pub fn run_program<O: Write, E: Write>(
     }
 }
 
-fn run_task<'a, W: Write, E: Write>(
+fn run_task<'a, W: Write, E: Write + Lines>(
     rt: &HostRuntime,
     task: &'a Task,
     out: &mut W,
@@ -110,7 +112,7 @@ fn run_task<'a, W: Write, E: Write>(
 
     // An `Ok` has status 1 only if solutions have faults.
     ensures faulty { IfOk result (λ ending. ending.status ≡ 1
-        → WritesSolutionFaults E.contents task.now err.old err.new
+        → WritesSolutionFaults E.tells task.now err.old err.new
         (W.contents out.old) (W.contents out.new) ending.is_err_written) }
 
     // A line that names a file names one of the task's.
@@ -199,14 +201,14 @@ fn load_text<'a, W: Write>(
 }
 
 // Answers words that are no command: a mistake in them, or a call for help.
-fn refuse_words<O: Write, E: Write>(error: &Error, out: &mut O, err: &mut E) -> Ending
+fn refuse_words<O: Write, E: Write + Lines>(error: &Error, out: &mut O, err: &mut E) -> Ending
     ensures within { result.status ≤ 2 }
     ensures help { result.status ≡ 0 → (kind_of error.now ≡ kind.DisplayHelp)
         ⊎ (kind_of error.now ≡ kind.DisplayVersion) }
     ensures mistake { (result.status ≡ 2) ↔ IsMistake (kind_of error.now) }
-    ensures err_line { result.status ≡ 1 → IsTrue result.is_err_written
-        → WritesNoTaskFault (E.contents err.old) (E.contents err.new)
-        (O.contents out.old) (O.contents out.new) }
+    ensures err_line { result.status ≡ 1 → WritesNoTaskFault E.tells
+        ((kind_of error.now ≡ kind.DisplayHelp) ⊎ (kind_of error.now ≡ kind.DisplayVersion))
+        err.old err.new (O.contents out.old) (O.contents out.new) result.is_err_written }
     ensures quiet { result.status ≡ 0 → err.new ≡ err.old }
     ensures unprinted { result.status ≡ 2 → out.new ≡ out.old }
 {
@@ -226,35 +228,26 @@ fn refuse_words<O: Write, E: Write>(error: &Error, out: &mut O, err: &mut E) -> 
 }
 
 // Ends with a fault. If its line can't be printed, nothing more can be done.
-fn complain<W: Write>(fault: &ProgramFault<'_>, err: &mut W) -> Ending
+fn complain<E: Lines>(fault: &ProgramFault<'_>, err: &mut E) -> Ending
     ensures status { result.status ≡ 1 }
-    ensures err_line { IsTrue result.is_err_written
-        → Appends (W.contents err.old) (W.contents err.new) (fault_line fault.now ++ 10 ∷ []) }
+    ensures err_line { E.tells err.old (fault_line fault.now ++ 10 ∷ []) result.is_err_written
+        err.new }
 {
     Ending {
         status: 1,
-        is_err_written: print_fault(fault, err).is_ok(),
+        is_err_written: err.tell(fault),
     }
 }
 
-// Prints the line of a fault.
-fn print_fault<W: Write>(fault: &ProgramFault<'_>, err: &mut W) -> io::Result<()>
-    ensures { OnOk result
-        (Appends (W.contents err.old) (W.contents err.new) (fault_line fault.now ++ 10 ∷ [])) }
-{
-    writeln!(err, "{fault}")
-}
-
 /// Answers a command line that is not UTF-8, or that memory ran out for.
-pub fn refuse_arguments<E: Write>(fault: &io::Error, err: &mut E) -> Ending
+pub fn refuse_arguments<E: Write + Lines>(fault: &io::Error, err: &mut E) -> Ending
     ensures within { (result.status ≡ 1) ⊎ (result.status ≡ 2) }
     // The status is 1 for out of memory, else 2.
     ensures memory { (result.status ≡ 1) ↔ (error_kind fault.now ≡ failure.OutOfMemory) }
 
     // The line of either is written whole, unless `err` failed.
-    ensures no_memory { result.status ≡ 1 → IsTrue result.is_err_written
-        → Appends (E.contents err.old) (E.contents err.new)
-        (fault_line ProgramFault.NoMemory ++ 10 ∷ []) }
+    ensures no_memory { result.status ≡ 1 → E.tells err.old
+        (fault_line ProgramFault.NoMemory ++ 10 ∷ []) result.is_err_written err.new }
     ensures no_texts { result.status ≡ 2 → IsTrue result.is_err_written
         → Appends (E.contents err.old) (E.contents err.new) (not_text_line ++ 10 ∷ []) }
 {

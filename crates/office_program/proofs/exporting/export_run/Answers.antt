@@ -58,7 +58,7 @@ returns-in-Err-export_from-clause-stays g c = λ clean kept there is opened.
 pub returns-in-Err-clause-survives : goal.returns-in-Err-clause-survives
 returns-in-Err-clause-survives g c =
     survives_weaker (state g.S.Store c.args.conn) (state g.S.Store c.in-Err.conn) _ _
-    (λ _ found may. (may.0, may.2)) c.in-Err.ensures.leaves.survives
+    (λ _ found may. (may.0, may.2, may.3)) c.in-Err.ensures.leaves.survives
 
 pub returns-in-Ok-export_from-clause-survives : goal.returns-in-Ok-export_from-clause-survives
 returns-in-Ok-export_from-clause-survives g c =

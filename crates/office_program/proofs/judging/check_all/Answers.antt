@@ -19,5 +19,5 @@ returns-in-Ok-judge_each-clause-judged g c =
         printed = all.printed;
         ended = c.status_of.ensures ∙ ap₂ status_of_all all.fault all.breach;
       };
-      said = all.said;
+      told = all.told;
     }

@@ -5,9 +5,9 @@ use Rattle.office_program.proofs.judging.judge_each.Given as goal
 -- the solutions so far have their outcomes
 abbrev pub invariant-loop-path : goal.invariant-loop-path
 invariant-loop-path g l = record {
-  outcomes : HasOutcomes l.judge.0 l.judge.1 l.form
+  outcomes : HasOutcomes g.E.Lines.tells l.judge.0 l.judge.1 l.form
       (map string_bytes (take l.path-index l.solutions))
       (g.W.Write.contents l.fn.out) (g.W.Write.contents l.out)
-      (g.E.Write.contents l.fn.err) (g.E.Write.contents l.err) l.found;
+      l.fn.err l.err l.found;
   quiet : l.found.has_fault ≡ false → l.err ≡ l.fn.err;
 }

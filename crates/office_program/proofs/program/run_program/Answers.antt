@@ -17,7 +17,7 @@ returns-in-Ok-run_task-clause-quiet g c = λ ended err_line. inr (
 
 -- or `err` gets the line of its fault
 pub returns-clause-err_line : goal.returns-clause-err_line
-returns-clause-err_line g c = λ one err_line. inl (
+returns-clause-err_line g c = λ one. inl (
   c.in-Ok.task,
   c.in-Ok.ensures.task,
   record {
@@ -25,7 +25,7 @@ returns-clause-err_line g c = λ one err_line. inl (
     fault = c.in-Err-run_task.ensures.fault;
     before = c.run_task.new.err;
     silent = c.run_task.ensures.silent;
-    line = c.complain-ending.ensures.err_line err_line;
+    line = c.complain-ending.ensures.err_line;
     printed = c.in-Err-run_task.ensures.unwritten;
   },
 )

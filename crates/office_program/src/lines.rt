@@ -1,0 +1,35 @@
+// Lines of faults, and whether each was written.
+ghost use Rattle.std.specs.Prelude.{◌++◌, ◌∷◌, [], ℕ, Bool, List, codes};
+ghost use Rattle.office_program.specs.FaultLines.{fault_line};
+
+use crate::faults::ProgramFault;
+use std::io::{Stderr, Write};
+
+/// A writer of lines of faults, which says whether each was written.
+pub trait Lines {
+    // In the first state a try to write this text may end so, written whole or not, and change to
+    // the second state.
+    ghost tells: { Self → List ℕ → Bool → Self → Type 0 };
+
+    /// Tries to write the line of a fault. Returns whether it was written whole.
+    fn tell(&mut self, fault: &ProgramFault<'_>) -> bool
+        ensures { tells self.old (fault_line fault.now ++ 10 ∷ []) result self.new };
+
+    /// Tries to write the line of a fault after a path. Returns whether it was written whole.
+    fn tell_of(&mut self, path: &str, fault: &ProgramFault<'_>) -> bool
+        ensures { tells self.old (path.now ++ codes ": " ++ fault_line fault.now ++ 10 ∷ [])
+            result self.new };
+}
+
+impl Lines for Stderr {
+    // No clause of the system says which bytes a terminal has.
+    ghost tells = { λ _ _ _ _. Unit {0} };
+
+    fn tell(&mut self, fault: &ProgramFault<'_>) -> bool {
+        writeln!(self, "{fault}").is_ok()
+    }
+
+    fn tell_of(&mut self, path: &str, fault: &ProgramFault<'_>) -> bool {
+        writeln!(self, "{path}: {fault}").is_ok()
+    }
+}
