@@ -158,8 +158,9 @@ def strangers(run, stack):
     run.judge("places without it", told_error(404, "path"), office.ask(
         "GET", "/drafts/1/exams/3/places")[::2])
     stack.service.start()
-    run.judge("the service", (True, (200, {"ledger": True})), (
-        before < stack.service.socket.stat().st_ctime_ns, asked(office, "GET", "about")))
+    browser.until("the service answers", lambda: asked(office, "GET", "about") == (
+        200, {"ledger": True}))
+    run.judge("its socket is new", True, before < stack.service.socket.stat().st_ctime_ns)
     run.judge("another site's page", told_error(403, "forbidden", rule="origin"), office.ask(
         "PUT", "/-/registry/batches/1", b"", Origin="https://elsewhere.example")[::2])
     run.judge("the names of its sessions, for others", (200, 401), tuple(
@@ -315,7 +316,9 @@ def history(run, stack):
     _, found = asked(ada, "GET", "history?student=1")
     run.judge("why a seat changed", ([[0, 0, 0, 1, 1, None], [3, 2, 0, 1, 1, 1],
                                       [3, 3, 1, 2, 2, None]],
-                                     [["moved", 3, "registry", "office", '{"period":3,"room":1}']]),
+                                     [["moved", 3, "registry", "office", '{"period":3,"room":1}'],
+                                      ["placed", 3, "registry", "office", '{"period":2,"room":0}'],
+                                      ["cleared", 3, "registry", "office", ""]]),
               ([[one[name] for name in ("exam", "period", "room", "seat", "first", "last")]
                 for one in found["seats"]],
                [[one[name] for name in ("what", "exam", "by", "caller", "body")]
@@ -323,8 +326,9 @@ def history(run, stack):
     run.judge("where an exam was", [[1, 2, 0], [2, 3, 1]], [
         [one[name] for name in ("publication", "period", "room")]
         for one in asked(ada, "GET", "history?exam=3")[1]["places"]])
-    run.judge("what was done", ["published", "moved", "published", "made"], [
-        one["what"] for one in asked(ada, "GET", "history")[1]["edits"]])
+    run.judge("what was done", [
+        "published", "moved", "placed", "placed", "cleared", "cleared", "published", "made"], [
+            one["what"] for one in asked(ada, "GET", "history")[1]["edits"]])
     run.judge("a kept timetable", (200, b"0, 0\r\n1, 0\r\n3, 1\r\n2, 0\r\n"),
               asked(ada, "GET", "publications/1"))
     for path in ("publications/9", "differences?from=1&to=9", "differences?from=1",
