@@ -33,6 +33,7 @@ import tempfile
 import time
 from concurrent.futures import ThreadPoolExecutor
 from contextlib import contextmanager
+from dataclasses import dataclass
 from functools import cache
 from pathlib import Path
 from queue import Empty, SimpleQueue
@@ -84,8 +85,8 @@ def say_current(crates):
     for name in crates:
         judged.add(len(edits_of(name)),
                    [f"{name}: {at.stem} has to be tried" for at in untried(name)]
-                   + [f"{name}: {at.stem}: {file} has no such text: {old}"
-                      for at, file, old in misplaced(name)]
+                   + [f"{name}: {at.stem}: {place.file} hasn't this text, or not once: {place.old}"
+                      for at, place in misplaced(name)]
                    + [f"{name}: {at.stem} is refused by {word}, which is no word of its crate"
                       for at, word in unknown_words(name)])
     if late:
@@ -209,30 +210,72 @@ def link_or_copy(file, to):
         shutil.copy2(file, to)
 
 
+@dataclass(frozen=True)
+class Place:
+    """A text of a file, which an edit replaces by another: of a function, given by its type, if it
+    has one, and its name; or, with neither, of the file."""
+
+    file: str
+    function: tuple[str | None, str] | None
+    old: str
+    new: str
+
+    def found_in(self, text):
+        """Where it begins in the file's text, if it is there once."""
+        lines = text.splitlines(keepends=True)
+        spans = [(0, len(lines))] if self.function is None else [
+            (at, end) for at, end, name in bodies_of(text) if name == self.function]
+        found = [sum(map(len, lines[:at])) + inside.index(self.old) for at, end in spans
+                 if (inside := "".join(lines[at:end])).count(self.old) == 1]
+        return found[0] if len(found) == 1 else None
+
+    def put_into(self, text, at):
+        return text[:at] + self.new + text[at + len(self.old):]
+
+    def whole_line(self, text):
+        """The line that it changes, and what it makes of it."""
+        at = self.found_in(text)
+        begun, ended = text.rindex("\n", 0, at) + 1, text.index("\n", at)
+        return text[begun:ended], text[begun:at] + self.new + text[at + len(self.old):ended]
+
+
 class Edit:
-    """An edit: where it lies, what it puts for what in which file, and the functions that it is in;
-    none where a place of it is in no function."""
+    """An edit: where it lies, what it replaces, and the functions that it is in; none where a place
+    of it is in no function. `in:` says the file and the function of what follows, `file:` the file
+    alone; `old:` and `new:` are of one line."""
 
     def __init__(self, crate, at):
-        self.at, self.places, file = at, [], None
+        self.at, self.places, where, old = at, [], None, None
+        self.crate = TOP / "crates" / crate
         for line in at.read_text().splitlines():
             word, _, text = line.partition(": ")
-            if word == "file":
-                file = text
+            if word in ("in", "file"):
+                file, _, path = text.partition(" ")
+                *owner, name = path.split("::")
+                where = file, ((owner or [None])[0], name) if word == "in" else None
             elif word == "old":
-                self.places.append([file, text])
+                old = text
             elif word == "new":
-                self.places[-1].append(text)
-        inside = {(file, function_of(TOP / "crates" / crate / file, old))
-                  for file, old, _ in self.places}
+                self.places.append(Place(*where, old, text))
+        inside = {(place.file, place.function) for place in self.places}
         self.functions = inside if all(function for _, function in inside) else set()
 
     def put_into(self, crate):
-        for file, old, new in self.places:
-            lines = (crate / file).read_text().splitlines(keepends=True)
-            at = lines_with(old, lines)[0]
-            lines[at] = lines[at].replace(old, new, 1)
-            (crate / file).write_text("".join(lines))
+        """Makes the edit in the files of this copy of its crate, each place as it is found there
+        before."""
+        for name in {place.file for place in self.places}:
+            text = (crate / name).read_text()
+            found = sorted(((place.found_in(text), place) for place in self.places
+                            if place.file == name), key=lambda it: -it[0])
+            for at, place in found:
+                text = place.put_into(text, at)
+            (crate / name).write_text(text)
+
+    def for_kit(self):
+        """The edit as `rt must-fail` reads it, by whole lines."""
+        return "".join("file: {}\nold: {}\nnew: {}\n".format(
+            place.file, *place.whole_line((self.crate / place.file).read_text()))
+            for place in self.places)
 
     def is_of(self, crate, path):
         """Whether a function's path, as the prover prints it, may be that of one it is in. A method
@@ -247,27 +290,14 @@ class Edit:
         return False
 
 
-def function_of(file, text):
-    """The type, if there is one, and the name of the function in whose body a text stands once."""
-    found = lines_with(text, file.read_text().splitlines())
-    return next((name for at, end, name in bodies_of(file) if len(found) == 1
-                 and at < found[0] < end), None)
-
-
 @cache
-def bodies_of(file):
-    """Each function of a file: its first line, the one after its last, its type, if it has one, and
-    its name."""
+def bodies_of(text):
+    """Each function of a file's text: its first line, the one after its last, its type, if it has
+    one, and its name."""
     return [(function.at, function.end,
              (None if item.function else item.of["type"] if item.of else item.name, function.name))
-            for item in items(file.read_text().splitlines())
+            for item in items(text.splitlines())
             for function in ([item] if item.function else item.functions)]
-
-
-def lines_with(text, lines):
-    """The numbers of the lines that are this text, or, if none is, that have it in them."""
-    same = [number for number, line in enumerate(lines) if line.rstrip("\n") == text]
-    return same or [number for number, line in enumerate(lines) if text in line]
 
 
 def batches(edits):
@@ -307,7 +337,8 @@ def try_together(copies, edits):
 def must_fail(copies, edits):
     with copies.one() as copy:
         for edit in edits:
-            shutil.copy(edit.at, copy / "crates" / copies.name / "must-fail")
+            to = copy / "crates" / copies.name / "must-fail" / edit.at.name
+            to.write_text(edit.for_kit())
         return run(["rt", "must-fail", copies.name], copy).stdout
 
 
@@ -346,9 +377,9 @@ def wanted_of(name):
 
 
 def misplaced(name):
-    """The edits of a crate that replace what isn't in the file that they name."""
-    return [(at, file, old) for at in edits_of(name) for file, old, _ in Edit(name, at).places
-            if old not in (TOP / "crates" / name / file).read_text()]
+    """The places of a crate's edits that aren't there, or not once."""
+    return [(at, place) for at in edits_of(name) for place in Edit(name, at).places
+            if place.found_in((TOP / "crates" / name / place.file).read_text()) is None]
 
 
 def unknown_words(name):
@@ -383,13 +414,13 @@ def hashes(name):
 
 def forget():
     """What is read of the sources from now on is read anew."""
-    for read in (hashes, parts_of, index_of, bodies_of):
+    for read in (hashes, parts_of, index_of):
         read.cache_clear()
 
 
 def hashes_of(name, at):
     edit = Edit(name, at)
-    seeds = seeds_of(name, edit.functions, [old for _, old, _ in edit.places])
+    seeds = seeds_of(name, edit.functions, [place.old for place in edit.places])
     own, others = deciding((name, *sorted(below(name))), seeds or set(parts_of(name)))
     kit = (TOP / "release" / "KIT").read_text()
     return hash_of([plain_text(at), *own])[:16], hash_of([kit, *others])[:8]
