@@ -109,10 +109,11 @@ def flake8(kinds):
 
 
 def mypy(path, names, *options):
+    # What one set of options has kept is of no use to another.
+    kept = f"mypy-{os.getuid()}{''.join(options)}"
     said = complaints(["mypy", "--scripts-are-modules", "--explicit-package-bases",
                        "--no-error-summary",
-                       "--cache-dir",
-                       str(pathlib.Path(tempfile.gettempdir()) / f"mypy-{os.getuid()}"),
+                       "--cache-dir", str(pathlib.Path(tempfile.gettempdir()) / kept),
                        *options, *names], {"MYPYPATH": path})
     return [line for line in said if not line.startswith("Success")]
 
