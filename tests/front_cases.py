@@ -208,7 +208,7 @@ FAULTY_PEOPLE = [
      "line 3, password: a password has no line breaks and no NUL"),
     (f"user,caller,password\nx,office,{'é' * 129}\n",
      "line 2, password: a password has at most 256 bytes"),
-    ("name,caller\nx,office\n", "line 1, user: there is no such column (there are: name, caller)"),
+    ("name,caller\nx,office\n", "line 1, user: this column is missing (there are: name, caller)"),
     ("user\nx\n", "line 2, caller: office, dept:N or cand:N is expected, not ''"),
     ('user,caller\n"x,office\n', "line 2: this is not CSV: unexpected end of data"),
 ]

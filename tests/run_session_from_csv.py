@@ -45,10 +45,10 @@ FAULTS = [
     ("exams", ",Physics", ",Chemistry",
      "exams.csv, line 4, department: there is no department 'Chemistry'\n"
      "exams.csv, line 5, department: there is no department 'Chemistry'"),
-    ("exams", "code,title,minutes", "Kürzel,title,minutes", "exams.csv, line 1, code: there is no "
-     "such column (there are: Kürzel, title, minutes, department)"),
+    ("exams", "code,title,minutes", "Kürzel,title,minutes", "exams.csv, line 1, code: this "
+     "column is missing (there are: Kürzel, title, minutes, department)"),
     ("exams", "code,title", "course code,Exam Code", "exams.csv, line 1, code: there are two such "
-     "columns: course code and Exam Code\nexams.csv, line 1, title: there is no such column (there "
+     "columns: course code and Exam Code\nexams.csv, line 1, title: this column is missing (there "
      "are: course code, Exam Code, minutes, department)"),
     ("exams", "code,title", "code,code,title",
      "exams.csv, line 1, code: there are two such columns: code and code"),

@@ -239,7 +239,7 @@ def columns_in(file: str, header: list[str], columns: Iterable[Column], wanted: 
         elif found:
             places[column.name] = found[0]
         elif column.is_needed:
-            faults.add(file, 1, column.name, f"there is no such column (there are: {names})")
+            faults.add(file, 1, column.name, f"this column is missing (there are: {names})")
     return places
 
 
