@@ -101,7 +101,9 @@ class Counts:
     """When something failed, by what is counted; at most the last ten minutes."""
 
     def __init__(self):
-        self.moments, self.swept = collections.defaultdict(collections.deque), 0.0
+        self.moments: dict[str, collections.deque[float]] = collections.defaultdict(
+            collections.deque)
+        self.swept = 0.0
         for key, moment in kept.ask("SELECT key, at FROM failed ORDER BY at"):
             self.moments[key].append(moment)
 
@@ -338,10 +340,11 @@ def place_of(text):
 def shown(what, user="", place="/"):
     status, words = PAGES[what]
     if wants_page() or status == 200:
-        body = flask.render_template("sign-in.html", words=words, user=user, place=place)
+        page = flask.render_template("sign-in.html", words=words, user=user, place=place)
+        reply = flask.make_response(page, status)
     else:
-        body = flask.jsonify(error={401: "signed-out", 429: "often"}.get(status, "forbidden"))
-    reply = flask.make_response(body, status)
+        error = {401: "signed-out", 429: "often"}.get(status, "forbidden")
+        reply = flask.make_response(flask.jsonify(error=error), status)
     if status in (401, 429):
         reply.headers["X-Failed"] = str(status)
     if status == 429:

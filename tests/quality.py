@@ -38,7 +38,7 @@ KINDS = [
     ("rattle", r"crates/.*|crates\.txt|HANDLES", ""),  # `rt ci` judges these
     ("made", r"docs/generated/.*|docs/openapi\.yaml|release/(KIT|SHA256|SOURCES|examoffice)"
      r"|release/share/(?!man).*", ""),  # compared with what makes them, by other parts of the tests
-    ("tool", r"tools/.*\.py", ""), ("tool", r"tools/.*", "#!.*python"),
+    ("tool", r"tools/.*\.py|front/agent\.py", ""), ("tool", r"tools/.*", "#!.*python"),
     ("python", r".*\.py", ""), ("python", r".*", "#!.*python"), ("shell", r".*", "#!.*sh$"),
     ("page script", r"front/page/.*\.js", ""), ("script", r".*\.m?js", ""),
     ("html", r".*\.html", ""), ("style", r".*\.css", ""), ("nginx", r"front/.*\.conf", ""),
@@ -47,9 +47,9 @@ KINDS = [
     ("c++", r".*\.cpp", ""),
     # What the tests compile, or read as it is; lintian judges units, as a part of the package.
     ("compiled", r".*\.(h|rs|rt\.in|toml|lock)|bench/office/Makefile", ""),
-    ("read", r".*\.(csv|exam|sol|sqlite|gz|png|svg|logrotate|gitignore|cfg|lua|tmpfiles|sysusers)"
-     r"|\.gitignore|COPYRIGHT|VERSION|tests/packages|packaging/debian/.*|packaging/.*\.(conf|d)",
-     ""),
+    ("read", r".*\.(csv|exam|sol|sqlite|gz|png|svg|logrotate|gitignore|cfg|ini|lua|tmpfiles)"
+     r"|.*\.sysusers|\.gitignore|COPYRIGHT|VERSION|tests/packages|packaging/debian/.*"
+     r"|packaging/.*\.(conf|d)", ""),
 ]
 
 
@@ -112,7 +112,7 @@ def mypy(path, names, *options):
     # What one set of options has kept is of no use to another.
     kept = f"mypy-{os.getuid()}{''.join(options)}"
     said = complaints(["mypy", "--scripts-are-modules", "--explicit-package-bases",
-                       "--no-error-summary",
+                       "--no-error-summary", "--config-file", "tests/mypy.ini",
                        "--cache-dir", str(pathlib.Path(tempfile.gettempdir()) / kept),
                        *options, *names], {"MYPYPATH": path})
     return [line for line in said if not line.startswith("Success")]
@@ -296,19 +296,18 @@ def links(_):
     return [] if said[-1].endswith(" 0 failed") else said
 
 
-# Each check, and the program that it needs.
+# Each check, and the program that it needs. The long ones come first, so that none ends long after
+# the others.
 CHECKS = {
-    "files without a check": (unknown, "git"), "exceptions": (exceptions, "git"),
-    "unused names": (unused, "git"), "proofs": (long_proofs, "git"),
-    "shellcheck": (shellcheck, "shellcheck"),
-    "C++": (warnings, "g++"), "flake8": (flake8, "flake8"),
-    "mypy of tools": (mypy_of_tools, "mypy"),
-    "mypy of tests": (mypy_of_tests, "mypy"), "eslint": (eslint, "eslint"),
-    "types of scripts": (types, "tsc"), "functions of pages": (node_tests, "node"),
-    "ids": (ids, "git"), "styles": (styles, "git"), "nginx": (nginx, "nginx"),
-    "tidy": (tidy, "tidy"),
-    "mandoc": (mandoc, "mandoc"), "openapi": (described, "git"), "JSON": (json_files, "git"),
-    "links": (links, "git"),
+    "mypy of tools": (mypy_of_tools, "mypy"), "types of scripts": (types, "tsc"),
+    "mypy of tests": (mypy_of_tests, "mypy"), "flake8": (flake8, "flake8"),
+    "C++": (warnings, "g++"), "eslint": (eslint, "eslint"),
+    "functions of pages": (node_tests, "node"), "shellcheck": (shellcheck, "shellcheck"),
+    "openapi": (described, "git"), "links": (links, "git"), "styles": (styles, "git"),
+    "unused names": (unused, "git"), "exceptions": (exceptions, "git"),
+    "files without a check": (unknown, "git"), "proofs": (long_proofs, "git"),
+    "ids": (ids, "git"), "nginx": (nginx, "nginx"), "tidy": (tidy, "tidy"),
+    "mandoc": (mandoc, "mandoc"), "JSON": (json_files, "git"),
 }
 
 
@@ -334,7 +333,7 @@ def main(names):
         print(f"quality: {name} is left out without {lacks(name)}")
         del checks[name]
     kinds = files() if checks else {}
-    with concurrent.futures.ThreadPoolExecutor(3) as pool:
+    with concurrent.futures.ThreadPoolExecutor(os.cpu_count()) as pool:
         for name, said in zip(checks, pool.map(lambda check: check(kinds), checks.values())):
             faults = [line for line in said if not excepted(line)]
             judged.add(1, [f"{name}:\n  " + "\n  ".join(faults)] if faults else [])
