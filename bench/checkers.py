@@ -1,9 +1,12 @@
 """The program and the two baselines: how each is built, and what it answers."""
+import hashlib
+import os
 import pathlib
 import re
 import shutil
 import subprocess
 import sys
+import time
 from collections import namedtuple
 
 HERE = pathlib.Path(__file__).resolve().parent
@@ -58,6 +61,14 @@ def baselines():
 def program(path=None):
     """The program's command: that of the path, or else the release."""
     return [str(pathlib.Path(path or PROGRAM).resolve()), "check"]
+
+
+def caption(path=None):
+    """What is measured, of which program, when, and how busy the machine is."""
+    command = " ".join([pathlib.Path(sys.argv[0]).name, *sys.argv[1:]])
+    digest = hashlib.sha256(pathlib.Path(program(path)[0]).read_bytes()).hexdigest()[:8]
+    return (f"{command}: program {digest}, {time.strftime('%-d %B %Y')},"
+            f" load {os.getloadavg()[0]:.0f}")
 
 
 def ask(command, instance, solution):

@@ -11,7 +11,7 @@ import sys
 import tempfile
 import time
 
-from checkers import HERE, program
+from checkers import HERE, caption, program
 
 SOURCE, BUILT = HERE / "office", HERE / "build" / "office"
 MESSAGES = 100
@@ -82,13 +82,18 @@ class Server:
                     costs.append(self.cost())
         return replies, costs
 
-    def ask(self, name, questions, times=1, status=b"2"):
-        """Asks questions, which have to get this status. The row is the median cost of one."""
+    def accepted(self, questions, times=1, status=b"2"):
+        """Asks questions, which have to get this status. Returns the cost of each."""
         replies, costs = self.asked(questions, times)
         for reply in replies:
             if not reply.startswith(b"HTTP/1.1 " + status):
-                sys.exit(f"{self.name}: {name}: {reply!r}")
+                sys.exit(f"{self.name}: {reply!r}")
         self.replies += replies
+        return costs
+
+    def ask(self, name, questions, times=1, status=b"2"):
+        """Asks questions, which have to get this status. The row is the median cost of one."""
+        costs = self.accepted(questions, times, status)
         self.figures[name, self.unit] = statistics.median(costs)
         if len(costs) >= 100:
             cuts = statistics.quantiles(costs, n=100)
@@ -107,6 +112,11 @@ class Server:
         client.setsockopt(socket.IPPROTO_TCP, socket.TCP_NODELAY, 1)
         return client
 
+    def show_log(self, name):
+        """The row is the size of the database's log, 0 if there is none."""
+        log = pathlib.Path(f"{self.database}-wal")
+        self.figures[name, "MB"] = log.stat().st_size / 1e6 if log.exists() else 0
+
     def show_peak(self, name):
         """The row is the peak memory so far."""
         status = pathlib.Path(f"/proc/{self.process.pid}/status").read_text()
@@ -117,7 +127,40 @@ class Server:
         pathlib.Path(f"/proc/{self.process.pid}/clear_refs").write_text("5")
 
 
-class CountedServer(Server):
+class IdleServer(Server):
+    """A server whose work is counted after it, when it waits again."""
+
+    def wait_until_idle(self):
+        """Waits until the server sleeps: it still works after its reply."""
+        status, sleeps = pathlib.Path(f"/proc/{self.process.pid}/stat"), 0
+        while sleeps < 3:
+            time.sleep(0.02)
+            sleeps = sleeps + 1 if status.read_text().rpartition(")")[2].split()[0] == "S" else 0
+
+    def show_rate(self, name, way, questions):
+        """No row: the waiting takes most of the time."""
+
+
+class ProcessorServer(IdleServer):
+    """A cost is the time of processor since the last cost. On a busy machine it is good to some
+    20 %."""
+
+    unit, most_times = "CPU ms", 100
+    spent = 0.0
+
+    def open(self, name):
+        self.spent = 0.0
+        super().open(name)
+
+    def cost(self):
+        self.wait_until_idle()
+        before = self.spent
+        self.spent = int(pathlib.Path(f"/proc/{self.process.pid}/schedstat").read_text()
+                         .split()[0]) / 1e6
+        return self.spent - before
+
+
+class CountedServer(IdleServer):
     """The same under callgrind. A cost is in millions of instructions since the last cost."""
 
     unit, most_times, patience = "M instr", 4, 3_600
@@ -137,16 +180,6 @@ class CountedServer(Server):
         total = re.search(r"^totals: (\d+)", dump.read_text(), re.M)
         dump.unlink()
         return int(total[1]) / 1e6
-
-    def wait_until_idle(self):
-        """Waits until the server sleeps: it still works after its reply."""
-        status, sleeps = pathlib.Path(f"/proc/{self.process.pid}/stat"), 0
-        while sleeps < 3:
-            time.sleep(0.02)
-            sleeps = sleeps + 1 if status.read_text().rpartition(")")[2].split()[0] == "S" else 0
-
-    def show_rate(self, name, way, questions):
-        """No row: callgrind takes most of the time."""
 
     def show_peak(self, name):
         """No row: callgrind takes memory of its own."""
@@ -197,21 +230,23 @@ def commands(path):
     return {OURS: program(path)[0], PLAIN: plain, PLAIN_WAL: plain}
 
 
-def options(doc, rounds, counts=True):
-    """The options of a command; `counts` says whether it can count instructions."""
+def options(doc, rounds):
+    """The options of a command."""
     parser = argparse.ArgumentParser(description=doc)
     parser.add_argument("--rounds", type=int, default=rounds, help=f"rounds of each ({rounds})")
     parser.add_argument("--program", help="a program other than the release")
-    if counts:
-        parser.add_argument("--instructions", action="store_true",
-                            help="count instructions, by callgrind and in one round, not time")
+    counted = parser.add_mutually_exclusive_group()
+    counted.add_argument("--processor", action="store_true", help="the time of processor")
+    counted.add_argument("--instructions", action="store_true",
+                         help="count instructions, by callgrind and in one round, not time")
     return parser
 
 
 def compared(given, title, instance, measure):
     """In each round, `measure` asks a new server of each column. Prints the medians of their
     figures, and returns whether all replied alike."""
-    kind, rounds = (CountedServer, 1) if given.instructions else (Server, given.rounds)
+    kind, rounds = ((CountedServer, 1) if given.instructions else
+                    (ProcessorServer if given.processor else Server, given.rounds))
     rows, is_same, programs = {name: [] for name in COLUMNS}, True, commands(given.program)
     for _ in range(rounds):
         replies = []
@@ -225,6 +260,7 @@ def compared(given, title, instance, measure):
             replies.append(server.replies)
             rows[name].append(server.figures)
         is_same &= all(them == replies[0] for them in replies)
+    print(caption(given.program))
     show(title, {name: {key: statistics.median(row[key] for row in found) for key in found[0]}
                  for name, found in rows.items()})
     return is_same
@@ -243,7 +279,8 @@ def show(title, figures):
     for (name, unit), figure in ours.items():
         row = [figure, *(other[name, unit] for other in others)]
         print(f"{name:<44}" + "".join(f"{it:>12,.3f}" for it in row)
-              + "".join(f"{figure / it:>14.2f}" for it in row[1:]) + f"  {unit}", flush=True)
+              + "".join(f"{figure / it:>14.2f}" if it else f"{'':>14}" for it in row[1:])
+              + f"  {unit}", flush=True)
 
 
 def sizes_of(instance):

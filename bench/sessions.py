@@ -25,8 +25,8 @@ def place_of(exam):
     return exam % PERIODS, exam // PERIODS // 2
 
 
-def solution_of():
-    return "".join("%d, %d\n" % place_of(exam) for exam in range(EXAMS)).encode()
+def solution_of(place=place_of):
+    return "".join("%d, %d\n" % place(exam) for exam in range(EXAMS)).encode()
 
 
 def instance_of(pairs, each):

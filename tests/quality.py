@@ -16,6 +16,7 @@ import shutil
 import subprocess
 import sys
 import tempfile
+import zlib
 
 import openapi
 from cases import Cases
@@ -46,7 +47,7 @@ KINDS = [
     ("unit", r"packaging/.*\.(service|timer|socket|target)", ""), ("json", r".*\.json", ""),
     ("c++", r".*\.cpp", ""),
     # What the tests compile, or read as it is; lintian judges units, as a part of the package.
-    ("compiled", r".*\.(h|rs|rt\.in|toml|lock)|bench/office/Makefile", ""),
+    ("compiled", r".*\.(h|rs|toml|lock)|bench/office/Makefile", ""),
     ("read", r".*\.(csv|exam|sol|sqlite|gz|png|svg|logrotate|gitignore|cfg|ini|lua|tmpfiles)"
      r"|.*\.sysusers|\.gitignore|COPYRIGHT|VERSION|tests/packages|packaging/debian/.*"
      r"|packaging/.*\.(conf|d)", ""),
@@ -109,8 +110,8 @@ def flake8(kinds):
 
 
 def mypy(path, names, *options):
-    # What one set of options has kept is of no use to another.
-    kept = f"mypy-{os.getuid()}{''.join(options)}"
+    # What was kept of another copy of these files, or with other options, is of no use here.
+    kept = f"mypy-{os.getuid()}-{zlib.crc32(bytes(TOP)):08x}{''.join(options)}"
     said = complaints(["mypy", "--scripts-are-modules", "--explicit-package-bases",
                        "--no-error-summary", "--config-file", "tests/mypy.ini",
                        "--cache-dir", str(pathlib.Path(tempfile.gettempdir()) / kept),
