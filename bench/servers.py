@@ -37,7 +37,7 @@ class Server:
     """A server of an instance with its own database. `ask` collects its replies and its figures,
     by name and unit. A cost is in milliseconds."""
 
-    unit, most_times, patience = "ms", 1_000, 60
+    unit, most_times, patience = "ms", 1_000, 600
     prefix: list[str] = []
 
     def __init__(self, name, command, folder, instance):
