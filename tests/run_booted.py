@@ -198,10 +198,10 @@ def removal(judged, machine):
     judged.judge("removed", ["inactive"] * 3, machine.types(
         f"systemctl is-active {' '.join(UNITS)}").split())
     machine.types("dpkg -P examoffice")
-    kept = "/etc/examoffice/ship\n/etc/examoffice/term.env\nterm.db\nnames\n0"
+    kept = "/etc/examoffice/ship\n/etc/examoffice/term.env\nterm.db\nlabels.json\nnames\n0"
     judged.judge("purged", kept, machine.types(
         "find /etc/examoffice -type f | grep -v dpkg-old | sort; ls /var/lib/examoffice | grep db$"
-        "\nls /var/lib/examoffice-registry/term/now | grep names"
+        "\nls /var/lib/examoffice-registry/term/now | grep 'names\\|labels'"
         "\nfind /etc/systemd/system -name 'examoffice*' | wc -l"))
 
 

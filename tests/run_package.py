@@ -6,6 +6,7 @@ lintian, if there is one, has to find nothing. The version is in VERSION; the ch
 docs/openapi.yaml repeat it. Without dpkg-deb and help2man a line says that the package is left
 out.
 """
+import contextlib
 import http.server
 import os
 import pathlib
@@ -50,6 +51,32 @@ class Office(http.server.BaseHTTPRequestHandler):
 
     def log_message(self, *_):
         pass
+
+
+def of_removal(judged, folder):
+    """What an operator has linked is kept: purging deletes the links, dpkg what the first version
+    had there, through them."""
+    root, made = folder / "purged", folder / "made"
+    front = root / "etc" / "examoffice" / "front"
+    for path in (front, made, root / "run"):
+        path.mkdir(parents=True)
+    for name in ("labels.json", "callers"):
+        (made / name).write_text("kept\n")
+    (front / "labels").symlink_to(made)
+    (front / "callers").symlink_to(made / "callers")
+    (front / "users").write_text("registry:x\n")
+    script = folder / "postrm"
+    script.write_text(re.sub(r"/(etc|var|run)/", rf"{root}/\1/", (
+        TOP / "packaging" / "debian" / "postrm").read_text()))
+    judged.judge("removed", (0, ""), ran("sh", script, "remove"))
+    for conffile in ("labels/labels.json", "callers", "users"):
+        with contextlib.suppress(FileNotFoundError):
+            (front / conffile).resolve(strict=True).unlink()
+    judged.judge("what dpkg leaves", ["callers.aside", "labels.aside"],
+                 sorted(path.name for path in front.iterdir()))
+    judged.judge("purged", (0, "", False), (*ran("sh", script, "purge"), front.exists()))
+    judged.judge("what was linked", ["callers", "labels.json"],
+                 sorted(path.name for path in made.iterdir()))
 
 
 def says_status(judged, folder, program):
@@ -173,6 +200,7 @@ def main():
         return judged.end()
     with tempfile.TemporaryDirectory() as folder:
         os.chmod(folder, 0o755)
+        of_removal(judged, pathlib.Path(folder))
         of_the_package(judged, pathlib.Path(folder))
     return judged.end()
 
