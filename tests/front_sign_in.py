@@ -112,7 +112,7 @@ class Client:
 class Stack:
     """Front, queue, agent and office. If one of them doesn't start, the others are stopped."""
 
-    def __init__(self, run, make_front, name, edits=(), **office):
+    def __init__(self, run, make_front, name, edits=(), sign_in="sign_in.conf", **office):
         self.run = Run.apart(run.program, run.folder, "front", name)
         self.key = secrets.token_hex(32)
         with contextlib.ExitStack() as begun:
@@ -125,7 +125,7 @@ class Stack:
             self.queue = SignInQueue(self.run.folder / "queue", self.office.port, self.agent)
             begun.callback(self.queue.stop)
             self.front = make_front(self.run.folder, self.queue.address, (
-                ("include password.conf", "include sign_in.conf"), *edits))
+                ("include password.conf", f"include {sign_in}"), *edits))
             begun.callback(self.front.stop)
             self.begun = begun.pop_all()
 
@@ -332,6 +332,22 @@ def old_hashes(run, stack):
     users.write_text(before)
 
 
+def users_of_a_file(run, stack):
+    """Users of a CSV file have argon2id from the beginning, and sign in."""
+    people, made = stack.run.folder / "people.csv", stack.run.folder / "people"
+    people.write_text("user,caller,password\nzoe,cand:1,her word\n")
+    ended = subprocess.run([TOP / "tools" / "users_from_csv", people, made], check=False,
+                           capture_output=True, text=True)
+    run.judge("users of a file", (0, ""), (ended.returncode, ended.stderr))
+    line = (made / "users").read_text()
+    run.judge("its hash", "zoe:$argon2id$v=19$m=19456,t=2,p=1$", line[:35])
+    for name, text in (("users", line), ("callers", (made / "callers").read_text())):
+        with (stack.front.folder / name).open("a") as file:
+            file.write(text)
+    run.judge("they sign in", [401, 303], [
+        Client(stack.front).sign_in("zoe", word)[0] for word in ("another", "her word")])
+
+
 def programs(run, stack):
     """A program has a token in place of a password, until it is removed."""
     key = stack.run.folder / "front.key"
@@ -467,8 +483,17 @@ def a_crowd(run, stack):
     run.judge("how long the last one waits", True, longest < 15)
 
 
+def processor_seconds(process):
+    """What a process and its children have used."""
+    children = pathlib.Path(f"/proc/{process.pid}/task/{process.pid}/children").read_text().split()
+    fields = [pathlib.Path(f"/proc/{pid}/stat").read_text().rpartition(")")[2].split()
+              for pid in (process.pid, *children)]
+    return sum(int(one[11]) + int(one[12]) for one in fields) / os.sysconf("SC_CLK_TCK")
+
+
 def first_sign_ins(run, stack):
-    """25,000 users are new: many of one address sign in at once, and who was signed in goes on."""
+    """25,000 users are new: many of one address sign in at once, and who was signed in goes on.
+    In an hour two processors could do it for all."""
     users = stack.front.folder / "users"
     before, count = users.read_text(), 100
     hashed = subprocess.run(["openssl", "passwd", "-apr1", "-stdin"], check=True, text=True,
@@ -479,11 +504,14 @@ def first_sign_ins(run, stack):
     began = time.monotonic()
     run.judge("whoever is signed in, when 25,000 users are new", {200},
               {ada.view("/-/user")[0] for _ in iter(lambda: time.monotonic() < began + 3, False)})
+    before_them = processor_seconds(stack.agent.process)
     with concurrent.futures.ThreadPoolExecutor(count) as pool:
         came = collections.Counter(pool.map(
             lambda number: Client(stack.front, "127.6.0.1").sign_in(f"s{number}", "a word")[0],
             range(count)))
     run.judge("first sign-ins at once", {303: count}, came)
+    each = (processor_seconds(stack.agent.process) - before_them) / count
+    run.judge("what 25,000 in an hour need of two processors", True, each < 2 * 3_600 / 25_000)
     users.write_text(before)
 
 
@@ -495,7 +523,8 @@ def judge_stack(run, make_front):
         for method, path, body, status in (("PUT", "/drafts/1", SOLUTION, 201),
                                            ("POST", "/drafts/1/publish", b"", 200)):
             run.judge("the start", status, office.ask(method, path, body)[0])
-        for part in (sessions, asked_too_often, forged, old_hashes, programs, basic, networks,
+        for part in (sessions, asked_too_often, forged, old_hashes, users_of_a_file, programs,
+                     basic, networks,
                      a_crowd, first_sign_ins, ends, guesses):
             part(run, stack)
     finally:

@@ -63,6 +63,12 @@ class University:
 
     def __init__(self, run):
         self.run = run
+        with contextlib.ExitStack() as begun:
+            self.begin(run, begun)
+            self.begun = begun.pop_all()
+
+    def begin(self, run, begun):
+        """Starts all of it; what runs already is stopped if something doesn't start."""
         self.port, database = browser.free_port(), run.folder / "term.db"
         subprocess.run([run.program, "load", "--db", database, UNIVERSITY / "session.exam"],
                        check=True, stdout=subprocess.DEVNULL)
@@ -70,6 +76,7 @@ class University:
         self.exams = range(len(exams))
         self.students = sorted({int(field) for line in exams for field in line.split(",")[1:]})
         self.office = front_queue.RestartingOffice(run.program, database, self.port)
+        begun.callback(self.office.stop)
         self.key = os.urandom(32).hex()
         folder = run.folder / "front"
         subprocess.run(["cp", "-r", TOP / "front", folder], check=True)
@@ -80,9 +87,12 @@ class University:
         (folder / "callers").write_text("registry office;\n" + "".join(
             f"s{number} cand:{number};\n" for number in self.students))
         self.agent = front_sign_in.Agent(run.folder, folder, self.key)
+        begun.callback(self.agent.stop)
         self.queue = front_sign_in.SignInQueue(run.folder / "queue", self.port, self.agent)
+        begun.callback(self.queue.stop)
         self.front = Front(run.folder, self.queue.address,
                            (("include password.conf", "include sign_in.conf"),))
+        begun.callback(self.front.stop)
         self.host = f"127.0.0.1:{self.front.port}"
 
     def cookie(self, user):
@@ -117,8 +127,7 @@ class University:
         return status, seconds
 
     def stop(self):
-        for part in (self.front, self.queue, self.agent, self.office):
-            part.stop()
+        self.begun.close()
 
 
 async def visits(university, waits, seconds, rate=RATE, source="127.0.0.1"):

@@ -403,8 +403,8 @@ def users(run, folder):
     run.judge("callers of the ledger", ["ada cand:1;", "ben cand:2;", "registry office;"],
               lines("callers"))
     hashed = dict(line.split(":", 1) for line in lines("users"))
-    run.judge("passwords stay", ("{PLAIN}try-ada", "$5$kept", "$apr1$", False), (
-        hashed["ada"], hashed["registry"], hashed["ben"][:6], (front / "passwords.csv").exists()))
+    run.judge("passwords stay", ("{PLAIN}try-ada", "$5$kept", "$argon2id$", False), (
+        hashed["ada"], hashed["registry"], hashed["ben"][:10], (front / "passwords.csv").exists()))
     run.judge("the ledger's own file", lines("callers"), [
         line for line in (made / "now" / "callers").read_text().splitlines() if line[0] != "#"])
     run.judge("a user who is meant to be another", ((0, ""), "ada cand:3;"), (
