@@ -167,17 +167,39 @@ def small_boards(run, it):
 
 
 def some_of_them(run, it):
-    """Lists of a day or a building."""
+    """Lists of a part of the session; on other paper."""
     for words, options, pages in (
             ("a day", ["--day", "2005-04-18"], "2 pages"),
             ("a building", ["--building", "Main building"], "3 pages"),
-            ("both", ["--day", "2005-04-18", "--building", "Main building"], "1 page")):
+            ("a day of a building", ["--day", "2005-04-18", "--building", "Main building"],
+             "1 page"),
+            ("a period", ["--day", "2005-04-18", "--start", "09:30"], "2 pages"),
+            ("a room", ["--room", "Great Hall"], "3 pages"),
+            ("a room in a period", ["--day", "2005-04-18", "--start", "09:30", "--room",
+                                    "Room 2.14", "--building", "Physics building"], "1 page")):
         run.judge(f"lists of {words}", (0, f"door-lists.pdf: {pages}"), (
             lambda status, said, _: (status, said.splitlines()[-1]))(
             *it.lists("--kind", "door", *options)))
-    for words, options in (("day", ["--day", "2005-04-19"]), ("building", ["--building", "Main"])):
+    for words, options in (("day", ["--day", "2005-04-19"]), ("building", ["--building", "Main"]),
+                           ("period", ["--day", "2005-04-18", "--start", "14:00"]),
+                           ("room", ["--room", "Great Hall", "--building", "Physics building"])):
         run.judge(f"no such {words}", (1, "", "nobody has a seat there\n"), it.lists(*options))
     run.judge("no such kind", 2, it.lists("--kind", "doors")[0])
+    on_letter(run, it)
+
+
+def on_letter(run, it):
+    """On US Letter everything stands on the page; labels stay on A4."""
+    it.lists("--paper", "letter")
+    sizes = {kind: set(re.findall(r'<page width="(.+?)" height="(.+?)"', it.text(kind, "-bbox")))
+             for kind in FILES}
+    # In points; A4 has 210 by 297 mm.
+    letter, a4 = {("612.000000", "792.000000")}, {("595.275591", "841.889764")}
+    run.judge("sizes of pages", {kind: a4 if "labels" in kind else letter for kind in FILES}, sizes)
+    run.judge("what isn't on the page", [], [
+        word[0] for kind in ("door", "attendance", "exams", "days")
+        for word in WORD.finditer(it.text(kind, "-bbox"))
+        if float(word[3]) > 612 - 40 or float(word[4]) > 792 - 30])
 
 
 def publications(run):

@@ -16,6 +16,7 @@ from typing import Any
 
 from .folder import write_file
 from .ledger import now
+from .paper import PAPERS
 from .printing import KINDS
 
 TOOL = pathlib.Path(__file__).resolve().parent.parent / "lists"
@@ -26,6 +27,9 @@ SECONDS = 1800
 CUT_OFF = "the service was stopped meanwhile; please ask for the lists again"
 UNFINISHED = ("waiting", "working")
 Job = dict[str, Any]
+# What a request may say of the part of the session and the paper, and its form.
+FORMS = {"day": r"\d{4}-\d\d-\d\d", "start": r"\d\d:\d\d", "building": "(?s:.+)", "room": "(?s:.+)",
+         "paper": "|".join(PAPERS)}
 
 
 class Busy(Exception):
@@ -33,17 +37,17 @@ class Busy(Exception):
 
 
 def wanted_in(body: Any) -> Job | None:
-    """What a request asks for: kinds of lists, and perhaps a day or a building; None if it isn't
-    one."""
-    if not isinstance(body, dict):
-        return None
-    kinds, day, building = body.get("kinds"), body.get("day"), body.get("building")
+    """What a request asks for: kinds of lists, of which part of the session, on which paper; None
+    if it doesn't say that."""
+    kinds = body.get("kinds") if isinstance(body, dict) else None
     if (not isinstance(kinds, list) or not kinds or not all(kind in KINDS for kind in kinds)
-            or len(set(kinds)) != len(kinds)
-            or day is not None and not re.fullmatch(r"\d{4}-\d\d-\d\d", f"{day}")
-            or building is not None and not isinstance(building, str)):
+            or len(set(kinds)) != len(kinds)):
         return None
-    return {"kinds": kinds, "day": day, "building": building}
+    part = {name: body.get(name) for name in FORMS}
+    if any(text is not None and not (isinstance(text, str) and re.fullmatch(FORMS[name], text))
+           for name, text in part.items()):
+        return None
+    return {"kinds": kinds, **part}
 
 
 class Jobs:
@@ -60,7 +64,7 @@ class Jobs:
         with self.lock:
             unfinished = [job for job in self.all(folder) if job["state"] in UNFINISHED]
             for job in unfinished:
-                if all(job[name] == wanted[name] for name in wanted):
+                if all(job.get(name) == wanted[name] for name in wanted):
                     return job
             if len(unfinished) >= MOST_WAITING:
                 raise Busy
@@ -129,9 +133,8 @@ def save(path: pathlib.Path, job: Job) -> None:
 
 
 def options(wanted: Job) -> list[str]:
-    named = [("day", wanted["day"]), ("building", wanted["building"])]
     return [*(f"--kind={kind}" for kind in wanted["kinds"]),
-            *(f"--{name}={value}" for name, value in named if value is not None)]
+            *(f"--{name}={wanted[name]}" for name in FORMS if wanted[name] is not None)]
 
 
 def outcome(path: pathlib.Path, words: Sequence[Any], environment: Mapping[str, str]) -> Job:

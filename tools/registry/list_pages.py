@@ -7,12 +7,11 @@ from collections.abc import Callable, Iterable, Iterator, Sequence
 
 from .history import Row
 from .listing import Lists, People, Sheet, joined
-from .paper import HEIGHT, MM, WIDTH, Block, Pdf, shortened
+from .paper import MM, Block, Pdf, shortened
 from .published import day_in_words
 from .session import count
 
 MARGIN, BOTTOM = 15 * MM, 12 * MM
-INNER = WIDTH - 2 * MARGIN
 GAP, BETWEEN_COLUMNS = 2 * MM, 8 * MM
 BOX = 3.5 * MM
 # Where a number is written by hand.
@@ -46,9 +45,14 @@ def extents(columns: Sequence[Column], width: float) -> list[tuple[float, float]
     return found
 
 
-def strips(beside: int) -> list[tuple[float, float]]:
+def inner(pdf: Pdf) -> float:
+    """How wide a page is between its margins."""
+    return pdf.width - 2 * MARGIN
+
+
+def strips(pdf: Pdf, beside: int) -> list[tuple[float, float]]:
     """Where each of so many tables beside each other begins, and how wide it is."""
-    width = (INNER - BETWEEN_COLUMNS * (beside - 1)) / beside
+    width = (inner(pdf) - BETWEEN_COLUMNS * (beside - 1)) / beside
     return [((width + BETWEEN_COLUMNS) * place, width) for place in range(beside)]
 
 
@@ -95,9 +99,9 @@ class Table:
     may_halve: bool = False
 
     def filled(self, pdf: Pdf, beside: int) -> list[list[Block]]:
-        places = extents(self.columns, strips(beside)[0][1])
+        places = extents(self.columns, strips(pdf, beside)[0][1])
         rows = [row_block(pdf, cells, self.columns, places, self.padding) for cells in self.rows]
-        first, further = (HEIGHT - MARGIN - BOTTOM - self.head(pdf, beside, page, MANY).height
+        first, further = (pdf.height - MARGIN - BOTTOM - self.head(pdf, beside, page, MANY).height
                           for page in (1, 2))
         return in_strips(rows, first, further, beside)
 
@@ -106,11 +110,11 @@ class Table:
         block = self.top(page, pages)
         block.height += 2 * GAP
         heads = [pdf.text(column.head, "small") for column in self.columns]
-        for start, strip in strips(beside):
+        for start, strip in strips(pdf, beside):
             for text, (x, width), column in zip(heads, extents(self.columns, strip), self.columns):
                 block.put(text, start + x + (width if column.right else 0), right=column.right)
         block.height += heads[0].height
-        for start, strip in strips(beside):
+        for start, strip in strips(pdf, beside):
             block.underline(start, start + strip)
         return block
 
@@ -122,7 +126,7 @@ class Table:
         for page, columns in enumerate(pages, 1):
             head = self.head(pdf, beside, page, len(pages))
             pdf.draw(head, MARGIN, MARGIN)
-            for rows, (x, _) in zip(columns, strips(beside)):
+            for rows, (x, _) in zip(columns, strips(pdf, beside)):
                 y = MARGIN + head.height
                 for row in rows:
                     pdf.draw(row, MARGIN + x, y)
@@ -141,11 +145,11 @@ def heading(pdf: Pdf, lists: Lists, left: Sequence[tuple[str, str]], kind: str, 
         right.append((lists.published.replaced_words(), "strong"))
     for (words, style), (end, of_end) in itertools.zip_longest(
             [*left, (lists.title(), "small")], right, fillvalue=("", "small")):
-        beside = pdf.text(end, of_end, INNER / 2)
-        text = pdf.text(shortened(words, MOST_TITLE), style, INNER - GAP - beside.width)
+        beside = pdf.text(end, of_end, inner(pdf) / 2)
+        text = pdf.text(shortened(words, MOST_TITLE), style, inner(pdf) - GAP - beside.width)
         height = max(text.height, beside.height)
         block.put(text, 0, block.height + height - text.height)
-        block.put(beside, INNER, block.height + height - beside.height, right=True)
+        block.put(beside, inner(pdf), block.height + height - beside.height, right=True)
         block.height += height
     return block
 
@@ -193,12 +197,13 @@ def exam_lines(pdf: Pdf, lists: Lists, sheet: Sheet, block: Block, has_counts: b
         counts = f", present {BLANK} absent {BLANK}" if has_counts else ""
         end = pdf.text(f"{lists.times(number, sheet.period)}, {taking}{counts}", "row")
         text = pdf.text(shortened(joined([exam.code, exam.title], " "), MOST_TITLE), "strong",
-                        INNER - end.width - GAP)
+                        inner(pdf) - end.width - GAP)
         block.put(text, 0)
-        block.put(end, INNER, right=True)
+        block.put(end, inner(pdf), right=True)
         block.height += text.height
     if exams[MOST_EXAMS:]:
-        text = pdf.text("and " + ", ".join(exam.code for exam in exams[MOST_EXAMS:]), "row", INNER)
+        text = pdf.text("and " + ", ".join(exam.code for exam in exams[MOST_EXAMS:]), "row",
+                        inner(pdf))
         block.put(text, 0)
         block.height += text.height
 
@@ -209,9 +214,9 @@ def invigilator(pdf: Pdf, block: Block, candidates: int) -> None:
     name = pdf.text("Invigilator", "row")
     counts = pdf.text(f"present {BLANK} absent {BLANK} of {candidates:,}", "row")
     block.put(name, 0)
-    block.put(counts, INNER, right=True)
+    block.put(counts, inner(pdf), right=True)
     block.height += name.height
-    block.underline(name.width + GAP, INNER - counts.width - BETWEEN_COLUMNS)
+    block.underline(name.width + GAP, inner(pdf) - counts.width - BETWEEN_COLUMNS)
 
 
 def sheet_table(pdf: Pdf, lists: Lists, sheet: Sheet, kind: Kind) -> Table:

@@ -8,7 +8,7 @@ from .history import Row
 from .ledger import Ledger
 from .paper import module
 from .published import Published, day_in_words
-from .session import Session
+from .session import Period, Room, Session
 
 
 @dataclasses.dataclass
@@ -60,6 +60,21 @@ def later(start: str, minutes: int) -> str:
     return f"{hours % 24:02}:{passed:02}"
 
 
+@dataclasses.dataclass(frozen=True)
+class Part:
+    """Of which part of a session lists are: of a day, of the periods that begin then, of a building
+    or a room, by their names; of all, where it says nothing."""
+
+    day: str | None = None
+    start: str | None = None
+    building: str | None = None
+    room: str | None = None
+
+    def has(self, period: Period, room: Room) -> bool:
+        return (self.day in (None, period.date) and self.start in (None, period.start[:5])
+                and self.building in (None, room.building) and self.room in (None, room.name))
+
+
 @dataclasses.dataclass
 class Lists:
     """What all lists of a publication share."""
@@ -68,26 +83,23 @@ class Lists:
     people: People
     published: Published
     sheets: list[Sheet]
-    # Of this day or this building only, if it is named.
-    day: str | None = None
-    building: str | None = None
+    part: Part
+    paper: str
 
     @classmethod
-    def of(cls, path: pathlib.Path, published: Published, day: str | None, building: str | None
-           ) -> Lists:
+    def of(cls, path: pathlib.Path, published: Published, part: Part, paper: str) -> Lists:
         """The lists of a publication, with the names of a ledger."""
         ledger = Ledger.read_at(path)
         try:
-            made = cls(ledger.session(), People.of(ledger), published, [], day, building)
+            made = cls(ledger.session(), People.of(ledger), published, [], part, paper)
         finally:
             ledger.close()
         made.sheets = made.all_sheets()
         return made
 
     def has(self, period: int, room: int) -> bool:
-        """Whether a period and a room are of the day and the building."""
-        return (self.day in (None, self.session.periods[period].date)
-                and self.building in (None, self.session.rooms[room].building))
+        """Whether the lists are of a period and a room."""
+        return self.part.has(self.session.periods[period], self.session.rooms[room])
 
     def all_sheets(self) -> list[Sheet]:
         """A sheet for each room in each period, by period, building and room."""

@@ -12,6 +12,7 @@ from .ledger import Ledger
 from .session import TEXTS, WEIGHTS, Session
 
 MOST_BYTES = 4_194_304
+ENCODED = json.JSONEncoder(ensure_ascii=False).encode
 JSON_END = re.compile(r'^"digest": "([0-9a-f]{64})"\}\n\Z', re.M)
 PLAIN_END = re.compile(r"^# digest ([0-9a-f]{64})\n\Z", re.M)
 
@@ -64,10 +65,10 @@ def lines_of_json(value: Mapping[str, Any]) -> str:
     parts = []
     for name, part in value.items():
         if isinstance(part, list) and part:
-            items = ",\n".join(json.dumps(item, ensure_ascii=False) for item in part)
-            parts.append(f"{json.dumps(name)}: [\n{items}]")
+            items = ",\n".join(map(ENCODED, part))
+            parts.append(f"{ENCODED(name)}: [\n{items}]")
         else:
-            parts.append(f"{json.dumps(name)}: {json.dumps(part, ensure_ascii=False)}")
+            parts.append(f"{ENCODED(name)}: {ENCODED(part)}")
     return "{" + ",\n".join(parts) + "}\n"
 
 

@@ -1,4 +1,4 @@
-"""A PDF file on A4: texts in any script, shaped by Pango once each and drawn by cairo."""
+"""A PDF file: texts in any script, shaped by Pango once each and drawn by cairo."""
 from __future__ import annotations
 
 import dataclasses
@@ -8,7 +8,8 @@ from typing import Any, BinaryIO
 
 # A millimetre in points, in which all lengths are.
 MM = 72 / 25.4
-WIDTH, HEIGHT = 210 * MM, 297 * MM
+# Each kind of paper, with its width and its height.
+PAPERS = {"a4": (210 * MM, 297 * MM), "letter": (612.0, 792.0)}
 FONTS = "Noto Sans, DejaVu Sans, Sans"
 # The size of each style in points, and whether it is bold.
 STYLES = {"room": (18, True), "head": (12, True), "when": (12, False), "strong": (9, True),
@@ -94,9 +95,10 @@ class Block:
 class Pdf:
     """A PDF file that is being written, page by page."""
 
-    def __init__(self, file: BinaryIO, title: str) -> None:
+    def __init__(self, file: BinaryIO, title: str, paper: str) -> None:
         self.Pango, self.bridge, cairo = pango()
-        self.surface = cairo.PDFSurface(file, WIDTH, HEIGHT)
+        self.width, self.height = PAPERS[paper]
+        self.surface = cairo.PDFSurface(file, self.width, self.height)
         self.surface.set_metadata(cairo.PDFMetadata.TITLE, title)
         self.drawing = cairo.Context(self.surface)
         self.context = self.bridge.create_context(self.drawing)

@@ -43,7 +43,9 @@ def make(lists: Lists, kind: str, folder: pathlib.Path) -> Made:
     flags = os.O_WRONLY | os.O_CREAT | os.O_EXCL | os.O_NOFOLLOW
     try:
         with open(os.open(part, flags, 0o640), "wb") as file:
-            pdf = Pdf(file, f"{title}: {lists.title()}. {lists.published.words()}")
+            # Stock of labels is A4.
+            paper = "a4" if kind.startswith("labels-") else lists.paper
+            pdf = Pdf(file, f"{title}: {lists.title()}. {lists.published.words()}", paper)
             draw(pdf, lists)
             pdf.end()
         part.replace(folder / name)

@@ -13,8 +13,10 @@ it knows who changed what, and when a publication is to be kept: REGISTRY_PUBLIC
 """
 from __future__ import annotations
 
+import concurrent.futures
 import contextlib
 import hashlib
+import itertools
 import json
 import os
 import pathlib
@@ -129,14 +131,37 @@ def about() -> dict[str, Any]:
 
 # ---- A new session
 
+# Whoever asks for a new session waits at most so long, in seconds, and asks again then what came of
+# it: on a machine that does much else, the files of 25,000 names take minutes.
+HELD = float(os.environ.get("REGISTRY_HELD", "20"))
+MOST_ASKED = 8
+worker = concurrent.futures.ThreadPoolExecutor(1)
+asked_for: dict[int, concurrent.futures.Future[dict[str, Any]]] = {}
+question = itertools.count(1)
+
+
 @app.post("/-/registry/session")
 def new_session() -> tuple[dict[str, Any], int]:
     """Checks the CSV files of a new session; with the digest of what was checked, loads it."""
     files = {name: flask.request.files[name].read() for name in FILES
              if name in flask.request.files}
+    number = next(question)
+    asked_for[number] = worker.submit(set_up, folder().path, office_of(session()), files, user(),
+                                      flask.request.form.get("checked"))
+    asked_for.pop(number - MOST_ASKED, None)
+    return came_of(number)
+
+
+@app.get("/-/registry/session/<int:number>")
+def came_of(number: int) -> tuple[dict[str, Any], int]:
+    """What came of a question for a new session, or that it is still worked at."""
+    if number not in asked_for:
+        return {"error": "unavailable"}, 503
+    concurrent.futures.wait([asked_for[number]], HELD)
+    if not asked_for[number].done():
+        return {"working": number}, 202
     try:
-        found = set_up(folder().path, office_of(session()), files, user(),
-                       flask.request.form.get("checked"))
+        found = asked_for[number].result()
     except Changed:
         return {"error": "files-differ"}, 409
     except Loaded:
