@@ -8,7 +8,8 @@ import shutil
 
 import browser
 from pages_all import (
-    list_of_sessions, other_labels, pages_for_everybody, pages_in_error, pictures, style_is_read)
+    large_texts, list_of_sessions, other_labels, pages_for_everybody, pages_in_error, pictures,
+    style_is_read)
 from pages_candidate import (
     calendar_file, candidates_page, moved_exam, next_exam_first, overlapping_exams, signing_on,
     states_of_exams)
@@ -47,6 +48,7 @@ def judge(run, started, front, wide, sso, many, office, program, edited, folder)
     printed(run, chromium, wide)
     other_labels(run, chromium, wide)
     pages_for_everybody(run, chromium, front)
+    large_texts(run, chromium, front)
     if folder:
         pictures(chromium, front, folder)
     pages_in_error(run, chromium, front, office)

@@ -4,10 +4,12 @@ import contextlib
 import datetime
 import gzip
 import hashlib
+import http.client
 import json
 import os
 import re
 import shutil
+import socket
 import sqlite3
 import subprocess
 import time
@@ -15,6 +17,7 @@ import time
 import browser
 import front_sign_in
 import places_office
+import sign_on
 from front_cases import told_error
 from front_page import Page, is_read
 from front_sign_in import GUNICORN, TOP, Client
@@ -79,12 +82,12 @@ class Stack(front_sign_in.Stack):
     """Front, queue, agent and office, and the registry's service with a token of its own; with the
     session of the small example, or new."""
 
-    def __init__(self, run, make_front, name, is_new=False):
+    def __init__(self, run, make_front, name, edits=(), is_new=False, **more):
         folder = run.folder / name
         super().__init__(run, make_front, name, (
             ("/run/examoffice-registry", f"{folder}/registry"), ("rate=2r/s", "rate=9000r/s"),
-            ("/var/lib/examoffice-front", f"{folder}/front/run")),
-            **({"start": None} if is_new else {}))
+            ("/var/lib/examoffice-front", f"{folder}/front/run"), *edits),
+            **({"start": None} if is_new else {}), **more)
         with contextlib.ExitStack() as begun:
             begun.callback(self.begun.close)
             front = self.front.folder
@@ -94,6 +97,8 @@ class Stack(front_sign_in.Stack):
             self.service = Service(folder / "registry", is_new, {
                 "REGISTRY_FRONT": f"{front}/run/front.sock", "REGISTRY_TOKEN": self.token,
                 "REGISTRY_LOG": f"{front}/run/changes.log", "REGISTRY_PUBLICATIONS": "4",
+                # A new session is asked for more than once.
+                "REGISTRY_HELD": "0.01",
                 "EXAMOFFICE": str(places_office.command(run.program, folder))})
             begun.callback(self.service.stop)
             (front / "labels").rename(front / "labels.small")
@@ -102,10 +107,18 @@ class Stack(front_sign_in.Stack):
             else:
                 (front / "labels").symlink_to(self.service.made / "now")
             self.front.reload()
-            browser.until("the token counts", lambda: Client(self.front).ask(
-                "GET", "/instance", Authorization=f"Bearer {self.token}")[0]
-                == (409 if is_new else 200))
+            browser.until("the token counts", lambda: self.by_token("/instance")
+                          == (409 if is_new else 200))
             self.begun = begun.pop_all()
+
+    def by_token(self, path):
+        """The status of a reply to the service's token, by the socket at which it asks."""
+        client = http.client.HTTPConnection("term.session", timeout=SECONDS)
+        with contextlib.closing(client):
+            client.sock = socket.socket(socket.AF_UNIX)
+            client.sock.connect(str(self.front.folder / "run" / "front.sock"))
+            client.request("GET", path, headers={"Authorization": f"Bearer {self.token}"})
+            return client.getresponse().status
 
     def added_program(self):
         """A token for the service, as the package makes it."""
@@ -143,6 +156,7 @@ def strangers(run, stack):
     questions = (("GET", "about"), ("GET", "batches"), ("PUT", "batches/1"), ("POST", "students"),
                  ("GET", "history"), ("GET", "publications/1"), ("GET", "lists"),
                  ("POST", "lists"), ("GET", "lists/1/door-lists.pdf"), ("POST", "session"),
+                 ("GET", "session/1"),
                  ("GET", "anything"))
     for running in (True, False):
         for name, client in people.items():
@@ -385,7 +399,10 @@ def sent_files(client, files, **more):
                     + content + b"\r\n" for head, content in parts) + b"--=b=--\r\n"
     status, _, text = client.ask("POST", "/-/registry/session", body, **{
         "Content-Type": "multipart/form-data; boundary==b="})
-    return status, json.loads(text)
+    said = json.loads(text)
+    while status == 202:
+        status, said = asked(client, "GET", f"session/{said['working']}")
+    return status, said
 
 
 def new_session(run, stack):
@@ -418,6 +435,8 @@ def new_session(run, stack):
                                                      "rooms": 2}),
               (status, loaded["summary"][0], loaded["loaded"]))
     run.judge("no other one", (409, {"error": "loaded"}), sent_files(office, CSV))
+    run.judge("what nobody asked for", (503, {"error": "unavailable"}),
+              asked(office, "GET", "session/99"))
     ada = signed_in(stack, "ada")
     run.judge("its names, without a link of labels", (
         "MATH101", 3, "Ada Archer", None, told_error(403, "forbidden", rule="P2")), (
@@ -467,7 +486,8 @@ def lists(run, stack):
     ada = signed_in(stack, "registry")
     for body in ("{", "[]", "{}", '{"kinds":[]}', '{"kinds":["doors"]}',
                  '{"kinds":["door","door"]}', '{"kinds":["door"],"day":"monday"}',
-                 '{"kinds":["door"],"building":1}'):
+                 '{"kinds":["door"],"building":1}', '{"kinds":["door"],"start":"9"}',
+                 '{"kinds":["door"],"room":""}', '{"kinds":["door"],"paper":"a5"}'):
         run.judge(f"lists: {body}", (400, {"error": "body"}), asked(ada, "POST", "lists", body))
     run.judge("no lists yet", [], asked(ada, "GET", "lists")[1]["lists"])
     wanted = {"kinds": ["door", "exams"], "day": None, "building": "Main building"}
@@ -515,7 +535,7 @@ def old_lists(run, stack, ada):
         return [one["number"] for one in asked(ada, "GET", "lists")[1]["lists"]]
 
     browser.until("the first is removed", lambda: numbers() == [7, 6, 5, 4, 3, 2])
-    run.judge("its files too", False, (stack.service.made / "lists" / "1").exists())
+    browser.until("its files are too", lambda: not (stack.service.made / "lists" / "1").exists())
     for number, days in ((2, 0.9), (3, 1.1)):
         then = time.time() - 86_400 * days
         os.utime(stack.service.made / "lists" / f"{number}", (then, then))
@@ -535,19 +555,25 @@ def lists_on_the_page(run, page, stack, office):
             "said": "1 file is made, with 4 pages.", made % 1: ["Door lists"],
             made % 2: ["The whole session"]}),
         ("labels of a building", [
-            ("set", "#list-kind", "labels-3x7"), ("set", "#list-of", "building Physics building"),
+            ("set", "#list-kind", "labels-3x7"),
+            ("set", "#list-of", '{"building":"Physics building"}'),
             "click #lists button"], {
             "said": "1 file is made, with 1 page.",
             made % 1: ["Seat labels, 3 x 7", "Door lists"],
-            made % 2: ["Physics building", "The whole session"]}))
+            made % 2: ["Physics building", "The whole session"]}),
+        ("a period, on US Letter", [
+            ("set", "#list-kind", "attendance"), ("set", "#list-paper", "letter"),
+            ("set", "#list-of", '{"day":"2005-04-15","start":"14:00"}'), "click #lists button"], {
+            "said": "1 file is made, with 1 page.", made % 2: [
+                page.moment("2005-04-15", "14:00:00"), "Physics building", "The whole session"]}))
     run.judge("the file of the page", b"%PDF-", page.downloaded(
-        "door-lists.pdf", "#lists-made tr:nth-child(2) a")[:5])
+        "door-lists.pdf", "#lists-made tr:nth-child(3) a")[:5])
     later = "Another timetable was published since."
     page.judge("they are of the publication", {"texts #lists-made td:nth-child(3) .below": []})
     run.judge("one more publication", 200, office.ask("POST", "/drafts/1/publish")[0])
     browser.until("it is kept", lambda: published(stack, office)[0]["number"] == 3)
     page.steps(("they are of an earlier one", "click #refresh", {
-        "texts #lists-made td:nth-child(3) .below": [later, later]}))
+        "texts #lists-made td:nth-child(3) .below": [later, later, later]}))
 
 
 NEW = "student,name,exam,action\nr9,Zoë Zander,MATH101,new\nr9,,PHYS102,add\nq1,Quo,,new"
@@ -676,6 +702,30 @@ def judge_new(run, make_front):
         stack.stop()
 
 
+def judge_signed_on(run, make_front):
+    """With single sign-on the service goes on asking with its token, by its own socket."""
+    with sign_on.provider() as address:
+        stack = Stack(run, make_front, "registry_sso", (("127.0.0.1:4180", address),),
+                      sign_in="sso.conf")
+        try:
+            client = {user: Client(stack.front) for user in ("registry", "ada", "physics", "eve")}
+            for user, one in client.items():
+                one.cookies = {"signed_in": user}
+            run.judge("single sign-on: a batch", (200, {
+                "added": 1, "batch": 5, "dropped": 0, "unchanged": 0}), asked(
+                client["registry"], "PUT", "batches/5", batch_text("3,0,add")))
+            run.judge("single sign-on: who sent it", [(5, "registry")], stack.service.rows(
+                "SELECT number, prepared_by FROM batches WHERE number > 0"))
+            run.judge("single sign-on: others", [NOT_THE_OFFICE] * 3 + [NOBODY], [
+                one.ask("GET", "/-/registry/about")[::2]
+                for one in (*[client[user] for user in ("ada", "physics", "eve")],
+                            Client(stack.front))])
+            run.judge("single sign-on: the token on the address", 401, Client(stack.front).ask(
+                "GET", "/instance", Authorization=f"Bearer {stack.token}")[0])
+        finally:
+            stack.stop()
+
+
 def judge_stack(run, make_front):
     stack = Stack(run, make_front, "registry")
     try:
@@ -692,6 +742,6 @@ def judge(of_front, make_front):
         print("front: the registry's service is left out, as signing in is")
         return
     run = Run.apart(of_front.program, of_front.folder, "front", "of_registry")
-    judge_new(run, make_front)
-    judge_stack(run, make_front)
+    for part in (judge_new, judge_signed_on, judge_stack):
+        part(run, make_front)
     of_front.count, of_front.failed = of_front.count + run.count, of_front.failed + run.failed

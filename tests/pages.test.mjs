@@ -24,8 +24,9 @@ const { penaltyOf, pointsAfter } = await import('../front/page/points.js');
 const { sessionIn } = await import('../front/page/session.js');
 const { distance, fold, studentIdentities } = await import('../front/page/identities.js');
 const {
-  differences, differencesForCandidate, differencesForDepartment, faultsOfNames, isSealed, Names,
+  differences, differencesForCandidate, differencesForDepartment, faultsOfNames, isSealed,
 } = await import('../front/page/labels.js');
+const { Names } = await import('../front/page/names.js');
 const { changesIn, eventsOf } = await import('../front/page/history.js');
 const { kindsText, sizeText, wantedIn } = await import('../front/page/lists.js');
 const { People } = await import('../front/page/seats.js');
@@ -33,8 +34,9 @@ const { faultOfChoice, filesByKind } = await import('../front/page/setup.js');
 const { examsWith } = await import('../front/page/tables.js');
 const { clashesOf, fullRoomsOf } = await import('../front/page/preview.js');
 const {
-  editOf, requestOf, reversed, stepOf, Steps, stepText, strayOf,
+  editOf, requestOf, stepOf, stepText, strayOf,
 } = await import('../front/page/edits.js');
+const { reversed, Steps } = await import('../front/page/steps.js');
 const {
   differenceMark, differenceText, forbidText, optionsIn, periodsInOrder, periodsOf, periodTyped,
   sharedByPeriod,
@@ -455,11 +457,11 @@ cases('what happened', [
 const ALL_KINDS = ['door', 'attendance', 'labels-3x7', 'labels-3x8', 'exams', 'days'];
 
 cases('lists to print', [
-  ['what the form asks for', [{ kinds: ['door'], day: null, building: null },
-    { kinds: ALL_KINDS, day: '2027-05-14', building: null },
-    { kinds: ['days'], day: null, building: 'Main building' }],
-  () => [['door', ''], ['all', 'day 2027-05-14'], ['days', 'building Main building']].map(
-    ([kind, of]) => wantedIn(kind, of))],
+  ['what the form asks for', [{ kinds: ['door'], paper: 'a4' },
+    { kinds: ALL_KINDS, day: '2027-05-14', start: '09:30', paper: 'letter' },
+    { kinds: ['days'], building: 'Main building', paper: 'a4' }],
+  () => [['door', '', 'a4'], ['all', '{"day":"2027-05-14","start":"09:30"}', 'letter'],
+    ['days', '{"building":"Main building"}', 'a4']].map((form) => wantedIn(...form))],
   ['what is made', ['All lists', 'Door lists, Timetable by exam'],
     () => [ALL_KINDS, ['door', 'exams']].map(kindsText)],
   ['sizes', ['1 kB', '1,000 kB', '1 MB', '14.3 MB'], () => [1, 999_001, 1e6, 14_260_000].map(sizeText)],

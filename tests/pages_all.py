@@ -55,6 +55,7 @@ return [...document.body.querySelectorAll('*')].filter(e => e.checkVisibility() 
   && !e.closest('.unseen, option') && [...e.childNodes].some(n => n.nodeType === 3 &&
   n.data.trim())) .filter(e => ratio(e) < 4.5).map(e => `${e.tagName} ${e.innerText}`);
 """
+FONT_SIZE = "document.documentElement.style.fontSize = arguments[0]"
 # What the Tab key should reach, in this order; each has a place in the document.
 REACHED = """
 const all = [...document.querySelectorAll('*')];
@@ -125,6 +126,19 @@ def pages_for_everybody(run, chromium, front):
             run.judge(f"{page} in print", 0, reader.run(
                 "return [...document.querySelectorAll('button, .skip')].filter(e => "
                 "e.offsetWidth).length"))
+
+
+def large_texts(run, chromium, front):
+    """Pages can be read on a phone with texts of twice the size."""
+    for user, page in PAGES:
+        with reading(chromium, front, user, page, width=390, height=844) as reader:
+            reader.run(FONT_SIZE, "200%")
+            for section in ("", *reader.run("return [...document.querySelectorAll("
+                                            "'#menu li:not([hidden])')].map(e => e.dataset.to)")):
+                if section:
+                    reader.click(f"#menu [data-to={section}] a")
+                    is_read(reader)
+                run.judge(f"what {page} {section} lacks with large texts", [], reader.run(LACKS))
 
 
 STYLE = """

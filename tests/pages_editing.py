@@ -1,6 +1,7 @@
 """Editing on the registry's page: each place of an exam with its points or what forbids it, before
 anything is made; by mouse and by keyboard; undo and redo."""
 from front_page import opened
+from pages_all import CONTRAST, FONT_SIZE, LACKS
 from places_office import asked
 
 FRIDAY, MONDAY = "2005-04-15", "2005-04-18"
@@ -235,6 +236,31 @@ def changed_meanwhile(page, edited, words):
     moved_elsewhere(edited, 2, 0)
 
 
+# What is done on a phone, in this order, with what it begins with.
+ON_A_PHONE = [("a move", [MOVE, "click #move-places .rooms"]),
+              ("a swap", ["click #cell-body .buttons :nth-child(3)", ("set", "#swap-words", "m")])]
+
+
+def on_a_phone(run, chromium, front):
+    """A move can be read and made on a phone, in the dark scheme, with texts of twice the size, and
+    by a screen reader."""
+    with opened(run, chromium, front, "registry", "registry.html#timetable/draft-1/3", width=390,
+                height=844, is_dark=True) as page:
+        for size, (name, acts) in ((size, it) for size in ("100%", "200%") for it in ON_A_PHONE):
+            page.reader.run(FONT_SIZE, size)
+            page.act(*acts)
+            run.judge(f"what {name} lacks on a phone, with texts of {size}", ([], []), (
+                page.reader.run(LACKS), page.reader.run(CONTRAST)))
+            if name == "a swap":
+                page.act("press escape")
+        words = Words(page)
+        page.steps(
+            ("a move on a phone", [MOVE, "click #move-places .place"], {
+                "said": f"PHYS102: {words.hall[3]}. 27 points now, 37 before."}),
+            ("it is taken back", "click #undo", {
+                "said": f"PHYS102: {words.hall[2]}. 37 points now, 27 before."}))
+
+
 def editing(run, chromium, edited):
     """A registrar edits a draft in its picture."""
     with opened(run, chromium, edited.front, "registry", "registry.html#timetable/draft-1") as page:
@@ -247,3 +273,4 @@ def editing(run, chromium, edited):
         taken_out(page, words)
         swapped(page, words)
         changed_meanwhile(page, edited, words)
+    on_a_phone(run, chromium, edited.front)

@@ -60,6 +60,12 @@ STARTS = ((FRIDAY, "09:30:00"), (FRIDAY, "14:00:00"), (FRIDAY, "17:00:00"), (MON
 GAPS = {1: 1, 2: 2}
 
 
+def page_of_free_cell(moments):
+    """What the panel has of the room in the second period, which is free."""
+    return (f"{ROOM} {moments[1]}, Draft 2 0 of 2 seats taken The mouse or the arrow keys choose a "
+            "cell; Enter comes here, M moves the exam of a cell.")
+
+
 def pictures_of_timetables(run, chromium, front):
     """A timetable is a grid of named cells, which arrows go through; another one is beside it."""
     with opened(run, chromium, front, "registry", "registry.html#timetable/draft-2") as page:
@@ -76,7 +82,8 @@ def pictures_of_timetables(run, chromium, front):
         page.steps(
             ("an exam of the picture", ["focus #pictures [tabindex='0']", "press right"],
              {"#cell h3": HALL, "names #cell li": ["MATH102 Linear algebra"]}),
-            ("a cell below", "press down down", {"#cell h3": ROOM, "names #cell li": []}),
+            ("a cell below", "press down down", {"#cell h3": ROOM, "names #cell li": [],
+                                                 "words #cell-body": page_of_free_cell(moments)}),
             ("what is in a cell", ["press end enter"],
              {"focus": "cell-title", "names #cell li": ["PHYS101 Mechanics"]}),
             ("the smallest room first", ("set", "#room-order", "list"), {

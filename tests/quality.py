@@ -250,23 +250,39 @@ def unknown(kinds):
     return [f"{name}: no kind of KINDS in tests/quality.py" for name in kinds.get(None, [])]
 
 
+def scripts_of(page):
+    """The scripts of a page, those that others import too, each with its text."""
+    found, waiting = {}, re.findall(r'<script[^>]* src="/?([\w.-]+)"', page.read_text())
+    while waiting:
+        name = waiting.pop()
+        if name not in found:
+            found[name] = page.with_name(name).read_text()
+            waiting += re.findall(r"from '\./([\w.-]+)'", found[name])
+    return found
+
+
 def ids(kinds):
     """An element that a script asks for by its id is in the page, or made by a script."""
     said = []
     for name in kinds["html"]:
-        text, seen, used = (TOP / name).read_text(), set(), set()
-        made = set(re.findall(r'\bid="([\w-]+)"', text))
-        scripts = re.findall(r'<script[^>]* src="/?([\w.-]+)"', text)
-        while scripts:
-            script = scripts.pop()
-            if script not in seen:
-                seen.add(script)
-                code = (TOP / name).with_name(script).read_text()
-                scripts += re.findall(r"from '\./([\w.-]+)'", code)
-                used |= set(re.findall(r"byId\('([\w-]+)'\)", code))
-                made |= set(re.findall(r"\bid: '([\w-]+)'", code))
+        page = TOP / name
+        code = "\n".join(scripts_of(page).values())
+        made = set(re.findall(r'\bid="([\w-]+)"', page.read_text()))
+        made |= set(re.findall(r"\bid: '([\w-]+)'", code))
         said += [f"{name}: a script asks for #{one}, which isn't there"
-                 for one in sorted(used - made)]
+                 for one in sorted(set(re.findall(r"byId\('([\w-]+)'\)", code)) - made)]
+    return said
+
+
+def preloads(kinds):
+    """A page names all modules that its script leads to, so that a browser fetches them at once."""
+    said = []
+    for name in kinds["html"]:
+        page = TOP / name
+        named = re.findall(r'<link rel="modulepreload" href="([\w.-]+)">', page.read_text())
+        first = re.findall(r'<script type="module" src="([\w.-]+)"', page.read_text())
+        said += [f"{name}: {one} is missing or too much among those that are fetched at once"
+                 for one in sorted(set(named) ^ (scripts_of(page).keys() - first))]
     return said
 
 
@@ -307,8 +323,8 @@ CHECKS = {
     "openapi": (described, "git"), "links": (links, "git"), "styles": (styles, "git"),
     "unused names": (unused, "git"), "exceptions": (exceptions, "git"),
     "files without a check": (unknown, "git"), "proofs": (long_proofs, "git"),
-    "ids": (ids, "git"), "nginx": (nginx, "nginx"), "tidy": (tidy, "tidy"),
-    "mandoc": (mandoc, "mandoc"), "JSON": (json_files, "git"),
+    "ids": (ids, "git"), "preloads": (preloads, "git"), "nginx": (nginx, "nginx"),
+    "tidy": (tidy, "tidy"), "mandoc": (mandoc, "mandoc"), "JSON": (json_files, "git"),
 }
 
 

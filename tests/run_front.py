@@ -35,6 +35,7 @@ import front_registry
 import front_sign_in
 import openapi
 import places_office
+import sign_on
 from front_cases import (
     CALLER, CALLERS, CANDIDATE, FAULTY_PEOPLE, FAULTY_STUDENTS, FIRST_VIEW, LABELS, LOGGED,
     LOGGED_QUESTIONS, LOOKED_FOR, MADE, PAGES, SECOND_VIEW, STRANGERS, TARGETS, WIDE, WIDE_LABELS,
@@ -402,7 +403,8 @@ def users_from_csv(run, office):
 
     def ended(text, students=TOP / "front/labels/students.json"):
         people.write_text(text)
-        return subprocess.run([tool, people, made, "--students", students],
+        # nginx itself reads the hashes here, without the agent.
+        return subprocess.run([tool, people, made, "--students", students, "--apr1"],
                               capture_output=True, text=True, timeout=SECONDS)
 
     for text, words in FAULTY_PEOPLE:
@@ -440,52 +442,17 @@ def users_from_csv(run, office):
     made_front.stop()
 
 
-class Agent(http.server.BaseHTTPRequestHandler):
-    """A stub of an identity provider's agent: its cookie is the user's name."""
-
-    # Who signs in at the provider next.
-    signs_in = "ada"
-
-    def do_POST(self):
-        self.do_GET()
-
-    def do_GET(self):
-        path, _, query = self.path.partition("?")
-        user = re.search(r"signed_in=(\w+)", self.headers.get("Cookie", ""))
-        if path == "/oauth2/auth" and user:
-            self.answer(202, X_Auth_Request_User=user[1])
-        elif path == "/oauth2/start":
-            self.answer(302, Location=query.removeprefix("rd="),
-                        Set_Cookie=f"signed_in={self.signs_in}; Path=/; HttpOnly")
-        elif path == "/oauth2/sign_out":
-            self.answer(200, Set_Cookie="signed_in=; Path=/; Max-Age=0")
-        else:
-            self.answer(401)
-
-    def answer(self, status, **fields):
-        self.send_response(status)
-        for name, value in fields.items():
-            self.send_header(name.replace("_", "-"), value)
-        self.send_header("Content-Length", "0")
-        self.end_headers()
-
-    def log_message(self, *_):
-        pass
-
-
 @contextlib.contextmanager
 def signed_on(run, office):
     """A front with sso.conf, and the stub that it asks."""
-    with http.server.ThreadingHTTPServer(("127.0.0.1", 0), Agent) as agent:
-        threading.Thread(target=agent.serve_forever).start()
+    with sign_on.provider() as address:
         front = Front(run.folder / "sso", office.port, (
             *QUICK[:2], ("include password.conf", "include sso.conf"),
-            ("127.0.0.1:4180", f"127.0.0.1:{agent.server_port}")))
+            ("127.0.0.1:4180", address)))
         try:
             yield front
         finally:
             front.stop()
-            agent.shutdown()
 
 
 def single_sign_on(run, front):
@@ -593,7 +560,7 @@ def words_of_pages(run):
     """The pages have words for each rule and error, and for no fault that FAULTS.md lacks."""
     formats = (TOP / "docs" / "FORMATS.md").read_text()
     numbered = (TOP / "docs" / "generated" / "FAULTS.md").read_text().split("\n## ")[1]
-    script = (TOP / "front" / "page" / "office.js").read_text()
+    script = (TOP / "front" / "page" / "refusals.js").read_text()
 
     def keys(name):
         block = script.split(f"const {name} = {{")[1].split("\n};")[0]

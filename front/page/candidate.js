@@ -1,14 +1,12 @@
 // A candidate's page: their examinations by day, the next one first, and how close together these are.
+import { ask, readUser } from './asking.js';
 import { calendarText } from './calendar.js';
 import { overlapsOf, pointsInWords } from './conflicts.js';
-import {
-  applyLabels, differencesForCandidate, linkTo, readLabels, readOwnName,
-} from './labels.js';
+import { day, endTime, time } from './dates.js';
+import { byId, cell, columnHead, download, element, row, rowHead } from './elements.js';
+import { applyLabels, differencesForCandidate, linkTo, readLabels, readOwnName } from './labels.js';
 import { showProgress } from './messages.js';
-import {
-  ask, byId, cell, columnHead, count, day, download, element, endTime, numeral, readUser, row,
-  rowHead, time,
-} from './office.js';
+import { count, numeral } from './numbers.js';
 
 const STATES = { seated: 'Seat assigned', pending: 'No seat yet', withdrawn: 'Withdrawn' };
 

@@ -1,5 +1,5 @@
 // The dialog that asks before what can't be undone.
-import { byId } from './office.js';
+import { byId } from './elements.js';
 
 /** Asks with this title and these elements; acts on a yes. */
 export function confirmFirst(title, text, yes, act) {

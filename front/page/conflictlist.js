@@ -1,11 +1,12 @@
 // The section of conflicts: a list of what is wrong with the open timetable, with search and as a file.
 import { csvText } from './csv.js';
+import { dayInShort, time } from './dates.js';
+import { byId, cell, download, element, listTable, rowHead } from './elements.js';
 import { countsOf, findingsOfDraft, findingsOfPublication, KINDS } from './findings.js';
 import { fold } from './identities.js';
-import {
-  byId, cell, count, dayInShort, download, element, listTable, rowHead, ruleText, time,
-} from './office.js';
+import { count } from './numbers.js';
 import { placesIn } from './preview.js';
+import { ruleText } from './refusals.js';
 import { peopleOf, withoutSeat } from './seats.js';
 import { addressOf } from './sections.js';
 import { office, openTimetable } from './state.js';
@@ -14,7 +15,8 @@ import { office, openTimetable } from './state.js';
 
 function found(timetable, session, seats) {
   const places = placesIn(timetable);
-  return timetable.number ? findingsOfDraft(timetable, places, session, ruleText)
+  return timetable.number ? findingsOfDraft(timetable, places, session,
+    (rule, exam, other) => ruleText(rule, exam, other, office.names))
     : findingsOfPublication(places, session, withoutSeat(seats ?? [], session));
 }
 

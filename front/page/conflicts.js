@@ -1,5 +1,5 @@
 // Exams at one time: of a candidate, and of all who take them.
-import { count } from './office.js';
+import { count } from './numbers.js';
 
 /**
  * An exam or a period with its time, which has no zone; without a length only what begins at the same

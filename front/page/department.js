@@ -1,23 +1,24 @@
 // A department's page: its exams in a draft, and changes of their places.
+import { readUser, Refusal } from './asking.js';
 import { readAgain, readDrafts, verdict } from './drafts.js';
-import { makeAgain, makeEdit, Steps, stepText } from './edits.js';
+import { makeAgain, makeEdit, stepText } from './edits.js';
+import { byId, cell, element, row } from './elements.js';
 import { fold } from './identities.js';
-import { applyLabels, differencesForDepartment, Names, readLabels } from './labels.js';
+import { applyLabels, differencesForDepartment, readLabels } from './labels.js';
 import { showProgress } from './messages.js';
-import { byId, cell, count, element, numeral, readUser, Refusal, row, ruleText } from './office.js';
+import { count, numeral } from './numbers.js';
 import { focusPlaceList, showPlaceList } from './placelist.js';
 import { forbidText, periodsOf, readOptions } from './places.js';
+import { ruleText } from './refusals.js';
+import { office } from './state.js';
 
-// What was last read and shown: the department's number, the names, all drafts, and the open one; and the
-// edits that can be taken back.
+// What was last read and shown: the department's number, all drafts, and the open one.
 const page = {
   department: 0,
-  names: new Names(),
   /** @type {import('./drafts.js').Draft[]} */
   drafts: [],
   /** @type {import('./drafts.js').Draft | null} */
   draft: null,
-  steps: new Steps(),
 };
 
 /** The open draft; the page shows nothing that needs one while there is none. */
@@ -35,8 +36,8 @@ async function load() {
   page.department = Number(caller.replace('dept:', ''));
   const labels = await readLabels();
   const [first] = page.drafts;
-  page.names = applyLabels(labels, labels && first ? differencesForDepartment(labels, first) : []);
-  byId('department').textContent = page.names.labels?.departments[page.department]
+  applyLabels(labels, labels && first ? differencesForDepartment(labels, first) : []);
+  byId('department').textContent = office.names.labels?.departments[page.department]
     ?? `Department ${page.department}`;
   const open = page.drafts.find(({ number }) => number === page.draft?.number) ?? first;
   page.draft = open ?? null;
@@ -52,7 +53,7 @@ async function load() {
 /** The department's exams as the labels have them; without labels all exams. */
 function ownExams() {
   return openDraft().places.map(({ exam }) => exam).filter((exam) => (
-    !page.names.labels || page.names.labels.exams[exam].department === page.department));
+    !office.names.labels || office.names.labels.exams[exam].department === page.department));
 }
 
 // ---- One draft
@@ -66,14 +67,14 @@ const { compare } = new Intl.Collator();
 /** @type {Record<string, (one: any, other: any) => number>} */
 const ORDERS = {
   exam: (one, other) => one.exam - other.exam,
-  code: (one, other) => compare(page.names.exam(one.exam), page.names.exam(other.exam)),
+  code: (one, other) => compare(office.names.exam(one.exam), office.names.exam(other.exam)),
   period: (one, other) => (one.period ?? -1) - (other.period ?? -1) || one.room - other.room,
   room: (one, other) => (one.room ?? -1) - (other.room ?? -1) || one.period - other.period,
 };
 
 /** The places of the department's exams that have the words looked for, in the order that is chosen. */
 function placesShown() {
-  const { names } = page;
+  const { names } = office;
   const words = fold(byId('own-words').value).split(/\s+/).filter(Boolean);
   const own = new Set(ownExams());
   return openDraft().places.filter(({ exam }) => own.has(exam)).filter((place) => {
@@ -83,7 +84,7 @@ function placesShown() {
 }
 
 function placeRow({ exam, period, room }) {
-  const { names } = page;
+  const { names } = office;
   const title = `exam-${exam}`;
   const seats = names.labels?.rooms[room]?.capacity;
   const choose = element('button', { type: 'button', 'aria-describedby': title }, 'Change …');
@@ -118,7 +119,7 @@ function showDraft() {
   byId('violations').replaceChildren(...draft.breaches
     .filter(({ exam, other }) => own.has(exam) || own.has(other))
     .map(({ rule, exam, other }) => element('li', {}, element('b', {}, rule), ' ',
-      ruleText(rule, exam, other))));
+      ruleText(rule, exam, other, office.names))));
   showPlaces();
   showSteps();
 }
@@ -126,10 +127,10 @@ function showDraft() {
 /** Shows which edits can be taken back or made again. */
 function showSteps() {
   for (const way of /** @type {('undo' | 'redo')[]} */ (['undo', 'redo'])) {
-    const step = page.steps.next(openDraft().number, way);
+    const step = office.steps.next(openDraft().number, way);
     const word = way === 'undo' ? 'Undo' : 'Redo';
     byId(way).hidden = !step;
-    byId(way).textContent = step ? `${word}: ${stepText(step, way, page.names)}` : word;
+    byId(way).textContent = step ? `${word}: ${stepText(step, way, office.names)}` : word;
   }
 }
 
@@ -146,13 +147,14 @@ const choices = (labelled, words) => Array.from(
 
 /** A room in words, with its seats if the labels have them. */
 function roomText(room) {
-  const { names } = page;
+  const { names } = office;
   return names.labels ? `${names.roomInBuilding(room)} (${count(names.labels.rooms[room].capacity, 'seat')})`
     : names.room(room);
 }
 
 function fillForm() {
-  const { names, drafts } = page;
+  const { names } = office;
+  const { drafts } = page;
   const { labels } = names;
   const exams = ownExams().map((exam) => (
     [exam, [names.exam(exam), names.examTitle(exam)].filter(Boolean).join(' ')]));
@@ -189,7 +191,7 @@ function chooseExam() {
     byId('edit-other').value = others.find(({ disabled }) => !disabled)?.value ?? '';
   }
   const names = { put: place.period === null ? 'Place' : 'Move', swap: 'Swap', clear: 'Take out' };
-  byId('edit-submit').textContent = `${names[kind]} ${page.names.exam(exam)}`;
+  byId('edit-submit').textContent = `${names[kind]} ${office.names.exam(exam)}`;
 }
 
 /** The change that the form describes. */
@@ -208,7 +210,7 @@ function formChange() {
 function look() {
   const exam = Number(byId('edit-exam').value);
   const draft = openDraft();
-  const name = page.names.exam(exam);
+  const name = office.names.exam(exam);
   showProgress(`Looking where ${name} can go …`, async () => {
     let options;
     try {
@@ -225,7 +227,7 @@ function look() {
 }
 
 function showOptions(exam, draft, options) {
-  const { names } = page;
+  const { names } = office;
   showPlaceList(byId('edit-places'), { label: `Where ${names.exam(exam)} can go`, order: 'points',
     periods: periodsOf(options, draft.places[exam]), points: draft.penalty.total,
     dates: names.labels?.periods ?? [], period: (period) => names.period(period),
@@ -238,7 +240,7 @@ function showOptions(exam, draft, options) {
 
 // ---- Changes
 
-const pageOf = () => ({ names: page.names, steps: page.steps, show: (draft) => {
+const pageOf = () => ({ names: office.names, steps: office.steps, show: (draft) => {
   page.draft = draft;
   showDraft();
   chooseExam();

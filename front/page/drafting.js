@@ -1,6 +1,7 @@
 // The form that makes a draft, from a solution file or empty.
+import { change } from './asking.js';
+import { byId, element } from './elements.js';
 import { atField, showProgress } from './messages.js';
-import { byId, change, element } from './office.js';
 import { office } from './state.js';
 
 const NUMBERS = [1, 2, 3, 4, 5, 6, 7, 8];

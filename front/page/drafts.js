@@ -1,5 +1,7 @@
 // Drafts, as the registry's and the departments' pages read them.
-import { ask, askOrNull, count, element, numeral, Refusal } from './office.js';
+import { ask, askOrNull, Refusal } from './asking.js';
+import { element } from './elements.js';
+import { count, numeral } from './numbers.js';
 
 // The office has no list of its drafts; their numbers are these eight.
 const NUMBERS = [1, 2, 3, 4, 5, 6, 7, 8];

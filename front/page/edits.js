@@ -1,17 +1,17 @@
 // Edits of a draft: the requests that make them, and how they are taken back and made again. A draft is
 // read again just before each, so that nothing is edited unseen.
+import { change, Refusal } from './asking.js';
 import { changesBetween, readAgain } from './drafts.js';
-import { change, count, numeral, Refusal } from './office.js';
+import { count, numeral } from './numbers.js';
 
 /**
  * @typedef {import('./drafts.js').Draft} Draft
- * @typedef {{ period: number | null, room: number | null }} Place
+ * @typedef {import('./steps.js').Place} Place
+ * @typedef {import('./steps.js').Step} Step
+ * @typedef {import('./steps.js').Steps} Steps
  *
  * What somebody wants to do: put an exam into a place, swap it with another one, or take it out.
  * @typedef {{ kind: string, exam: number, other?: number, period?: number, room?: number }} Edit
- *
- * What an edit did: which exams it moved, from where to where.
- * @typedef {{ exam: number, from: Place, to: Place }[]} Step
  */
 
 const placeIn = ({ places }, exam) => ({ period: places[exam].period, room: places[exam].room });
@@ -52,58 +52,9 @@ export function editOf([{ exam, to: { period, room } }, second]) {
   return period === null || room === null ? { kind: 'clear', exam } : { kind: 'put', exam, period, room };
 }
 
-/**
- * The step that takes one back.
- * @param {Step} step
- * @returns {Step}
- */
-export const reversed = (step) => step.map(({ exam, from, to }) => ({ exam, from: to, to: from }));
-
 /** The exam of a step that isn't where the step begins, as a place of the draft; undefined if all are. */
 export const strayOf = (step, { places }) => step.map(({ exam, from }) => (
   isSame(places[exam], from) ? undefined : places[exam])).find((place) => place !== undefined);
-
-/** The steps of a page in each draft: those that can be taken back, and those that were. */
-export class Steps {
-  constructor() {
-    /** @type {Map<number, { undo: Step[], redo: Step[] }>} */
-    this.drafts = new Map();
-  }
-
-  of(draft) {
-    const found = this.drafts.get(draft) ?? { undo: [], redo: [] };
-    this.drafts.set(draft, found);
-    return found;
-  }
-
-  /** Notes a step that was made. */
-  made(draft, step) {
-    const steps = this.of(draft);
-    steps.undo.push(step);
-    steps.redo = [];
-  }
-
-  /**
-   * The step that undo or redo would make in a draft, or null.
-   * @param {number} draft
-   * @param {'undo' | 'redo'} way
-   */
-  next(draft, way) {
-    const last = this.of(draft)[way].at(-1);
-    return last ? (way === 'undo' ? reversed(last) : last) : null;
-  }
-
-  /** Notes that undo or redo was made; or, if an exam has moved meanwhile, that it can't be. */
-  took(draft, way, isMade = true) {
-    const steps = this.of(draft);
-    const step = steps[way].pop();
-    if (step && isMade) steps[way === 'undo' ? 'redo' : 'undo'].push(step);
-  }
-
-  forget(draft) {
-    this.drafts.delete(draft);
-  }
-}
 
 // ---- Words
 
@@ -135,7 +86,7 @@ async function unchanged(seen, { names, show }, judge = () => '') {
   const fault = judge(found) || (changes.length && 'Look at the draft, then try again.');
   if (!fault) return found;
   show(found);
-  throw new Refusal(409, {}, `${NOT_MADE} ${fault}`, { details: changes });
+  throw new Refusal(409, {}, `${NOT_MADE} ${fault}`, changes);
 }
 
 /**

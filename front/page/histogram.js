@@ -1,6 +1,7 @@
 // The gaps between a candidate's exams, as a table that is a histogram: a row for each gap.
+import { cell, element, listTable, rowHead } from './elements.js';
 import { gapsOf, MOST_GAP, seatedIn } from './layout.js';
-import { cell, element, listTable, numeral, rowHead } from './office.js';
+import { numeral } from './numbers.js';
 import { placesIn } from './preview.js';
 import { office } from './state.js';
 

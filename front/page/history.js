@@ -1,13 +1,14 @@
 // What happened to the session: publications, edits and batches, with who made them and when; the
 // difference of two publications; and the way back. The registry's service keeps all of it.
+import { ask, change } from './asking.js';
 import { inverseText } from './changes.js';
 import { confirmFirst } from './confirm.js';
+import { csvText } from './csv.js';
+import { moment } from './dates.js';
+import { byId, cell, download, element, listTable } from './elements.js';
 import { examIdentities } from './identities.js';
 import { showProgress } from './messages.js';
-import {
-  ask, byId, cell, change, count, download, element, listTable, moment, numeral,
-} from './office.js';
-import { csvText } from './csv.js';
+import { count, numeral } from './numbers.js';
 import { changedRows, People } from './seats.js';
 import { office } from './state.js';
 

@@ -1,6 +1,9 @@
 // Names for the numbers of a session, from files that are made of its ledger, if they match what the
 // office says.
-import { byId, dayInShort, element, numeral, setExamNames, time } from './office.js';
+import { byId, element } from './elements.js';
+import { Names } from './names.js';
+import { numeral } from './numbers.js';
+import { office } from './state.js';
 
 // An office that lacks more of the enrolments that the ledger expects has another session: this share,
 // or this number in a small session.
@@ -170,73 +173,15 @@ export function differencesForDepartment(labels, draft) {
   return Object.keys(wrong).filter((name) => wrong[name]);
 }
 
-/** Names of exams and rooms: those of the labels, or numbers if there are none. */
-export class Names {
-  constructor(labels = null) {
-    this.labels = labels;
-    /** @type {{number: number, id: string, name: string, exams?: number[]}[]} */
-    this.students = [];
-    /**
-     * Enrolments that were changed here, and not by a list of the student system.
-     * @type {{student: number, exam: number, action: string, at: string, by: string}[]}
-     */
-    this.here = [];
-  }
-
-  /** What the university calls an exam: its code, or "Exam 0". */
-  exam(number) {
-    return this.labels?.exams[number].code ?? `Exam ${number}`;
-  }
-
-  examTitle(number) {
-    return this.labels?.exams[number].title || null;
-  }
-
-  department(number) {
-    const department = this.labels?.exams[number].department ?? null;
-    return department === null ? null : this.labels.departments[department] ?? `${department}`;
-  }
-
-  minutes(number) {
-    return this.labels?.exams[number].minutes ?? null;
-  }
-
-  room(number) {
-    return this.labels?.rooms[number].name ?? `Room ${number}`;
-  }
-
-  building(number) {
-    return this.labels?.rooms[number].building || null;
-  }
-
-  roomInBuilding(number) {
-    return [this.room(number), this.building(number)].filter(Boolean).join(', ');
-  }
-
-  /** A period's day and start, or "Period 0". */
-  period(number) {
-    const period = this.labels?.periods[number];
-    return period ? `${dayInShort(period.date).textContent}, ${time(period.start).textContent}`
-      : `Period ${number}`;
-  }
-
-  /** A place in words, amid a sentence. */
-  place({ period, room }) {
-    if (period === null) return 'not placed';
-    return this.labels ? `${this.period(period)}, ${this.roomInBuilding(room)}`
-      : `period ${period}, room ${room}`;
-  }
-}
-
 function showNote(words) {
   byId('labels-note').textContent = words;
   byId('labels-note').hidden = !words;
 }
 
-/** Shows the texts of names; returns the names. */
+/** The page uses these names from now on, and shows their texts; returns them. */
 function applyNames(names) {
   const { labels } = names;
-  setExamNames((number) => labels?.exams[number]?.code ?? number);
+  office.names = names;
   byId('session-title').textContent = labels
     ? [labels.university, labels.title].filter(Boolean).join(' · ') : '';
   return names;

@@ -1,9 +1,12 @@
 // The form for late changes: a CSV file of the university's own, checked and shown before it is sent.
+import { change } from './asking.js';
 import { batchTexts, changesOfList, effectOf, inverseText, linesIn } from './changes.js';
 import { confirmFirst } from './confirm.js';
+import { byId, element, faultList } from './elements.js';
 import { atField, FormFault, showProgress } from './messages.js';
-import { byId, change, count, element, faultList, numeral } from './office.js';
+import { count, numeral } from './numbers.js';
 import { showPreview } from './preview.js';
+import { refusalText } from './refusals.js';
 import { batchPath, numbersOf } from './service.js';
 import { office } from './state.js';
 
@@ -129,7 +132,8 @@ const sendOne = (number, body, before) => atField(fieldOfLines(), async () => {
     return await change([before, `Batch ${number} was refused.`].filter(Boolean).join(' '),
       batchPath(office.service, number), 'PUT', body);
   } catch (refusal) {
-    throw refusal.error === 'batch-differs' ? new FormFault(refusal.message, 'batch-number') : refusal;
+    throw refusal.error === 'batch-differs' ? new FormFault(
+      refusalText(refusal, office.names), 'batch-number') : refusal;
   }
 });
 

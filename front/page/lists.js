@@ -1,9 +1,10 @@
 // Lists to print that the registry's service makes as PDF files: what is asked for, what is being made,
 // and the files.
-import {
-  ask, byId, cell, change, count, dayInShort, element, listTable, moment, numeral,
-} from './office.js';
+import { ask, change } from './asking.js';
+import { dayInShort, moment, time } from './dates.js';
+import { byId, cell, element, fill, listTable } from './elements.js';
 import { showProgress } from './messages.js';
+import { count, numeral } from './numbers.js';
 import { office } from './state.js';
 
 const PATH = '/-/registry/lists';
@@ -18,8 +19,8 @@ const MOST_WARNINGS = 5;
 /**
  * @typedef {{ name: string, pages: number, bytes: number }} File
  * @typedef {{ number: number, by: string, at: string, kinds: string[], day: string | null,
- *   building: string | null, state: string, words?: string, publication?: string,
- *   warnings?: string[], files?: File[] }} Job
+ *   start?: string | null, building: string | null, room?: string | null, state: string, words?: string,
+ *   publication?: string, warnings?: string[], files?: File[] }} Job
  */
 
 /** The size of a file in words. */
@@ -36,19 +37,16 @@ export function kindsText(kinds) {
     : kinds.map((kind) => KINDS[kind]).join(', ');
 }
 
-/** What the form asks for: all kinds or one, of the session, of a day or of a building. */
-export function wantedIn(kind, of) {
-  const [what, ...name] = of.split(' ');
-  return {
-    kinds: kind === 'all' ? Object.keys(KINDS) : [kind],
-    day: what === 'day' ? name.join(' ') : null, building: what === 'building' ? name.join(' ') : null,
-  };
-}
+/** What the form asks for: all kinds or one, of a part of the session (as JSON) or all, on which paper. */
+export const wantedIn = (kind, of, paper) => ({
+  kinds: kind === 'all' ? Object.keys(KINDS) : [kind], ...JSON.parse(of || '{}'), paper });
 
 // ---- What is shown
 
-function ofCell({ day, building }) {
-  return cell(day ? dayInShort(day) : building ?? 'The whole session');
+function ofCell({ day, start, building, room }) {
+  const place = [room, building].filter(Boolean).join(', ');
+  return cell(day && dayInShort(day), start && [', ', time(`${start}:00`)], place,
+    !day && !place && 'The whole session');
 }
 
 function fileLine({ number }, { name, pages, bytes }) {
@@ -120,16 +118,28 @@ async function ended(number) {
 
 // ---- The form
 
-/** The days and the buildings that can be chosen. */
-function showChoices({ session, names }) {
-  const days = [...new Set(session.periods.map(({ date }) => date))].sort();
-  const buildings = [...new Set(session.capacities.map((_, room) => names.building(room)))].filter(Boolean);
+const choice = (value, words) => element('option', { value: JSON.stringify(value) }, words);
+
+/** The days, periods, buildings and rooms that can be chosen; rooms only by their names. */
+function choicesOf({ session, names }) {
+  const rooms = names.labels?.rooms ?? [];
+  return {
+    'A day': [...new Set(session.periods.map(({ date }) => date))].sort()
+      .map((day) => choice({ day }, dayInShort(day).textContent)),
+    'A period': session.periods.map(({ date, start }) => choice({ day: date, start: start.slice(0, 5) },
+      `${dayInShort(date).textContent}, ${time(start).textContent}`)),
+    'A building': [...new Set(rooms.map(({ building }) => building))].filter(Boolean)
+      .map((building) => choice({ building }, building)),
+    'A room': rooms.map(({ name, building }, room) => choice(
+      { ...(building && { building }), room: name }, names.roomInBuilding(room))),
+  };
+}
+
+function showChoices() {
   const chosen = byId('list-of').value;
-  byId('list-of').replaceChildren(element('option', { value: '' }, 'The whole session'),
-    element('optgroup', { label: 'A day' }, days.map((date) => element('option', { value: `day ${date}` },
-      dayInShort(date).textContent))),
-    ...(buildings.length ? [element('optgroup', { label: 'A building' }, buildings.map((name) => (
-      element('option', { value: `building ${name}` }, name))))] : []));
+  fill(byId('list-of'), element('option', { value: '' }, 'The whole session'),
+    Object.entries(choicesOf(office)).map(([label, choices]) => (
+      choices.length > 0 && element('optgroup', { label }, choices))));
   byId('list-of').value = chosen;
   if (byId('list-of').selectedIndex < 0) byId('list-of').value = '';
 }
@@ -141,14 +151,14 @@ export function showLists() {
   byId('lists').hidden = !isThere;
   byId('lists-made').hidden = !isThere;
   if (!isThere) return;
-  showChoices(office);
+  showChoices();
   follow().catch(() => byId('lists-made').replaceChildren());
 }
 
 export function setUpLists() {
   byId('lists').addEventListener('submit', (event) => {
     event.preventDefault();
-    const wanted = wantedIn(byId('list-kind').value, byId('list-of').value);
+    const wanted = wantedIn(...['kind', 'of', 'paper'].map((name) => byId(`list-${name}`).value));
     showProgress('The lists are being made. This may take a minute …', async () => {
       const { number } = await change('No lists are made.', PATH, 'POST', JSON.stringify(wanted));
       return ended(number);

@@ -1,6 +1,8 @@
 // The form that loads a session.
+import { change } from './asking.js';
+import { byId } from './elements.js';
 import { atField, showProgress } from './messages.js';
-import { byId, change, count } from './office.js';
+import { count } from './numbers.js';
 
 /** Sets up the form; `load` reads everything again. */
 export function setUpSessionForm(load) {

@@ -1,5 +1,9 @@
 // What a page says of its work: while it does it, when it is done, and what went wrong.
-import { byId, element, moment, Refusal } from './office.js';
+import { Refusal } from './asking.js';
+import { moment } from './dates.js';
+import { byId, element } from './elements.js';
+import { refusalText } from './refusals.js';
+import { office } from './state.js';
 
 /** A fault in a form: what is wrong, with which of its fields, and details as elements. */
 export class FormFault extends Error {
@@ -20,7 +24,8 @@ export async function atField(field, work) {
   try {
     return await work();
   } catch (fault) {
-    throw fault instanceof Refusal ? new FormFault(fault.message, field, fault.details) : fault;
+    throw fault instanceof Refusal
+      ? new FormFault(refusalText(fault, office.names), field, fault.details) : fault;
   }
 }
 
@@ -58,10 +63,16 @@ function linkToOwnPage({ rule }) {
     ? [element('p', {}, element('a', { href: '/' }, 'Go to your own page'))] : [];
 }
 
+/** A fault in words; one that nobody expected goes to the console too. */
+function wordsOf(fault) {
+  if (fault instanceof Refusal) return refusalText(fault, office.names);
+  if (fault instanceof FormFault) return fault.message;
+  console.error(fault);
+  return 'Something went wrong on this page. Please reload it.';
+}
+
 function showFault(fault) {
-  const isKnown = fault instanceof Refusal || fault instanceof FormFault;
-  if (!isKnown) console.error(fault);
-  const message = isKnown ? fault.message : 'Something went wrong on this page. Please reload it.';
+  const message = wordsOf(fault);
   byId('error').replaceChildren(element('p', {}, message), ...(fault.details ?? []), ...linkToOwnPage(fault));
   if (fault.field) showFieldError(fault.field, message);
   else byId('error').scrollIntoView({ block: 'nearest' });

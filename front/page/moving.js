@@ -1,13 +1,13 @@
 // Moving an exam of the open draft: its picture and a list say of each place what it costs, or what forbids
 // it, before anything is made.
+import { dayInShort, time } from './dates.js';
 import { makeAgain, makeEdit, stepText } from './edits.js';
+import { byId, element } from './elements.js';
 import { showProgress } from './messages.js';
-import { byId, count, dayInShort, element, numeral, time } from './office.js';
+import { count, numeral } from './numbers.js';
 import { focusPlace, markPlaces, markTarget } from './picture.js';
 import { focusPlaceList, showPlaceList } from './placelist.js';
-import {
-  differenceMark, forbidText, periodsOf, pointsText, readOptions, sharedByPeriod,
-} from './places.js';
+import { differenceMark, forbidText, periodsOf, pointsText, readOptions, sharedByPeriod } from './places.js';
 import { placesIn } from './preview.js';
 import { keepDraft } from './reading.js';
 import { addressOf } from './sections.js';

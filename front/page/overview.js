@@ -1,7 +1,8 @@
 // All timetables at a glance: a card for each, which opens it, and their penalties by part.
 import { concernText } from './conflictlist.js';
 import { verdict } from './drafts.js';
-import { byId, cell, count, element, listTable, numeral, rowHead } from './office.js';
+import { byId, cell, element, listTable, rowHead } from './elements.js';
+import { count, numeral } from './numbers.js';
 import { addressOf } from './sections.js';
 import { office } from './state.js';
 

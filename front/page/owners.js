@@ -1,8 +1,10 @@
 // The form that gives exams to departments, by a CSV file or as the names have them.
+import { change } from './asking.js';
 import { columnsOf, recordsOf } from './csv.js';
+import { byId, faultList } from './elements.js';
 import { departmentIdentities, examIdentities, numberIn } from './identities.js';
 import { atField, FormFault, showProgress } from './messages.js';
-import { byId, change, count, faultList } from './office.js';
+import { count } from './numbers.js';
 import { office } from './state.js';
 
 const COLUMNS = {

@@ -1,6 +1,7 @@
 // The open timetable on paper: a table for each period, with a line for each room. It is made when the
 // page is printed.
-import { byId, cell, dayInShort, element, row, rowHead, time } from './office.js';
+import { dayInShort, time } from './dates.js';
+import { byId, cell, element, row, rowHead } from './elements.js';
 import { usesByPlace } from './layout.js';
 import { usesOf } from './session.js';
 import { office, openTimetable } from './state.js';

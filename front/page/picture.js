@@ -1,7 +1,9 @@
 // A timetable as a picture: a cell for each room and period, darker the more seats are taken, and below
 // them the candidates of each period as bars. It is a grid with one tab stop; arrows go between cells.
+import { day, dayInShort, shortWeekday, time } from './dates.js';
+import { element, row } from './elements.js';
 import { daysOfPeriods, loadOf, shadeOf, stepIn, usesByPlace } from './layout.js';
-import { count, day, dayInShort, element, numeral, row, shortWeekday, time } from './office.js';
+import { count, numeral } from './numbers.js';
 import { office } from './state.js';
 
 /**

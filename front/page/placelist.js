@@ -1,6 +1,7 @@
 // The list of where an exam can go: a line for each period, which opens its rooms. One line is a tab stop;
 // arrows go between them, and the digits of a day, then of a period of that day, lead there.
-import { byId, count, element } from './office.js';
+import { byId, element } from './elements.js';
+import { count } from './numbers.js';
 import { periodsInOrder, periodTyped, pointsText } from './places.js';
 
 /**

@@ -1,6 +1,7 @@
 // Where an exam can go: what the office says of each place of the session, by period.
+import { ask } from './asking.js';
 import { daysOfPeriods } from './layout.js';
-import { ask, count, numeral } from './office.js';
+import { count, numeral } from './numbers.js';
 
 /**
  * One place for an exam: the draft's points with the exam there; or the rule that forbids it, with the two
@@ -30,7 +31,7 @@ export async function readOptions(draft, exam) {
   try {
     return optionsIn(await ask(`/drafts/${draft}/exams/${exam}/places`));
   } catch (refusal) {
-    if (refusal.error === 'path') refusal.message = 'This office doesn\'t list where an exam can go.';
+    if (refusal.error === 'path') refusal.words = 'This office doesn\'t list where an exam can go.';
     throw refusal;
   }
 }

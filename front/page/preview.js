@@ -1,5 +1,7 @@
 // What late changes would do, with names: shown before they are sent.
-import { byId, cell, count, dayInShort, element, listTable, rowHead, time } from './office.js';
+import { dayInShort, time } from './dates.js';
+import { byId, cell, element, listTable, rowHead } from './elements.js';
+import { count } from './numbers.js';
 
 /** Where each exam of a timetable is: its period and its room. */
 export function placesIn(timetable) {

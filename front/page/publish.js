@@ -1,8 +1,10 @@
 // Publishing and dropping the draft that is open; both ask first.
+import { ask, change, Refusal } from './asking.js';
 import { confirmFirst } from './confirm.js';
 import { changesBetween, verdict } from './drafts.js';
+import { byId, element } from './elements.js';
 import { showProgress } from './messages.js';
-import { ask, byId, change, count, element, Refusal } from './office.js';
+import { count } from './numbers.js';
 import { offerChanges, readSeats } from './seats.js';
 import { office, openTimetable } from './state.js';
 

@@ -1,6 +1,6 @@
 // What the registry's page reads of the office, into its state.
+import { ask, askOrNull } from './asking.js';
 import { penaltyIn, readAgain } from './drafts.js';
-import { ask, askOrNull } from './office.js';
 import { readSeats } from './seats.js';
 import { sessionIn, usesIn } from './session.js';
 import { office } from './state.js';

@@ -1,23 +1,25 @@
 // The registry's page: reads what the office has, and shows the section that the address names. Each
 // section has modules of its own.
-import { readDrafts } from './drafts.js';
+import { readUser } from './asking.js';
 import { setUpDraftForm, showDraftForm } from './drafting.js';
+import { readDrafts } from './drafts.js';
+import { byId } from './elements.js';
 import { setUpHistory, showHistory } from './history.js';
 import { applyOfficeNames, readLabels } from './labels.js';
-import { setUpLists, showLists } from './lists.js';
 import { setUpLateChanges } from './late.js';
+import { setUpLists, showLists } from './lists.js';
+import { setUpSessionForm } from './loading.js';
 import { showProgress } from './messages.js';
-import { byId, count, readUser } from './office.js';
+import { count } from './numbers.js';
 import { setUpOwnersForm, showOwnersForm } from './owners.js';
+import { setUpPaper } from './paper.js';
 import { setUpPublishing } from './publish.js';
 import { readPublished, readSession, rereadDraft, rereadPublished } from './reading.js';
 import { setUpSeats, showSeats } from './seats.js';
-import { readService } from './service.js';
-import { setUpSessionForm } from './loading.js';
-import { setUpSetUp, showSetUp } from './setup.js';
 import { showSection, wanted } from './sections.js';
+import { readService } from './service.js';
+import { setUpSetUp, showSetUp } from './setup.js';
 import { office } from './state.js';
-import { setUpPaper } from './paper.js';
 import { reread, setUpPictures, showTimetable } from './timetable.js';
 
 /** Reads everything, and shows the section that was shown. Returns how much there is, in words. */

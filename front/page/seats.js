@@ -1,11 +1,12 @@
 // Who sits where: the seat list of the published timetable, searched, compared, downloaded, printed.
+import { ask } from './asking.js';
 import { csvText } from './csv.js';
+import { dayInShort, time } from './dates.js';
+import { byId, cell, download, element, listTable, rowHead } from './elements.js';
 import { fold, studentIdentities } from './identities.js';
 import { daysOfCandidate } from './layout.js';
 import { FormFault, showProgress } from './messages.js';
-import {
-  ask, byId, cell, count, dayInShort, download, element, listTable, numeral, rowHead, time,
-} from './office.js';
+import { count, numeral } from './numbers.js';
 import { printSheets, sheetsOf } from './sheets.js';
 
 const MOST_PRINTED = 10_000;

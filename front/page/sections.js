@@ -1,6 +1,6 @@
 // The sections of the registry's page: each has an address, such as #conflicts/draft-2, and a line in
 // the menu.
-import { byId } from './office.js';
+import { byId } from './elements.js';
 import { office } from './state.js';
 
 // The sections that are about one timetable, whose address names it.

@@ -1,5 +1,5 @@
 // The registry's service, which runs beside the office and keeps the session's ledger.
-import { ask, change } from './office.js';
+import { ask, change } from './asking.js';
 
 /**
  * What the service says of itself; null if there is none, or if it has no ledger of this session.

@@ -1,6 +1,8 @@
 // The page that lists the sessions of this front.
+import { ask, readUser } from './asking.js';
+import { byId, element } from './elements.js';
 import { showProgress } from './messages.js';
-import { ask, byId, count, element, readUser } from './office.js';
+import { count } from './numbers.js';
 
 showProgress('Loading the sessions …', async () => {
   await readUser();

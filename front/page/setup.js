@@ -1,8 +1,10 @@
 // A new session from five CSV files: the registry's service checks them as the tools do and says what is
 // in them; then they are loaded, and each exam is given to its department.
+import { ask, change } from './asking.js';
 import { confirmFirst } from './confirm.js';
+import { byId, element, faultList } from './elements.js';
 import { atField, FormFault, showProgress } from './messages.js';
-import { ask, byId, change, count, element, faultList } from './office.js';
+import { count } from './numbers.js';
 import { setOwnersOfNames } from './owners.js';
 import { office } from './state.js';
 
@@ -58,6 +60,13 @@ async function bodyOf(found, checked = null) {
   return body;
 }
 
+/** What the service says of these files; it is asked again as long as it works at them. */
+async function told(words, body) {
+  let said = await change(words, PATH, 'POST', body);
+  while (said.working) said = await change(words, `${PATH}/${said.working}`);
+  return said;
+}
+
 // The files that were checked, and their digest.
 let last = null;
 
@@ -73,7 +82,7 @@ async function check() {
   const { found, ...choice } = filesByKind([...byId('csv-files').files]);
   const fault = faultOfChoice(choice);
   if (fault) throw new FormFault(fault, 'csv-files');
-  const said = await change('Nothing was checked.', PATH, 'POST', await bodyOf(found));
+  const said = await told('Nothing was checked.', await bodyOf(found));
   if (!said.faults.length) return showFound(said, found);
   throw new FormFault(`Nothing can be loaded: ${count(said.faults.length, 'fault')}.`, 'csv-files',
     faultList(said.faults));
@@ -86,8 +95,7 @@ function hidePreview() {
 
 /** Loads what was checked, shows it, and gives each exam to its department. */
 async function loadChecked(load) {
-  const { loaded } = await change('The session was not loaded.', PATH, 'POST',
-    await bodyOf(last.found, last.digest));
+  const { loaded } = await told('The session was not loaded.', await bodyOf(last.found, last.digest));
   hidePreview();
   byId('csv-session').reset();
   await load();

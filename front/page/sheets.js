@@ -1,7 +1,7 @@
 // Sheets for a room in a period, on paper: door lists, attendance sheets, seat labels.
-import {
-  byId, cell, columnHead, count, day, dayInShort, element, endTime, row, small, time, unseen,
-} from './office.js';
+import { day, dayInShort, endTime, time } from './dates.js';
+import { byId, cell, columnHead, element, row, small, unseen } from './elements.js';
+import { count } from './numbers.js';
 
 const ORDERS = {
   name: (people) => {

@@ -1,6 +1,6 @@
-// What the registry's page has read last, and what it shows.
-import { Steps } from './edits.js';
-import { Names } from './labels.js';
+// What a page has read last, and what it shows: names and edits on every page, the rest on the registry's.
+import { Names } from './names.js';
+import { Steps } from './steps.js';
 
 /**
  * @typedef {{ minutes: number[], candidates: number[][], capacities: number[], spread: number,

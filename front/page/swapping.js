@@ -1,7 +1,8 @@
 // Swapping the exam that is being moved with another one: with the points, but the office says only then
 // whether a rule forbids it.
 import { stepOf } from './edits.js';
-import { byId, count, element } from './office.js';
+import { byId, element } from './elements.js';
+import { count } from './numbers.js';
 import { pointsText } from './places.js';
 import { pointsAfter } from './points.js';
 import { placesIn } from './preview.js';

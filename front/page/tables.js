@@ -1,9 +1,9 @@
 // A timetable as tables: files to download, what differs from another one, and what is looked for.
 import { csvText } from './csv.js';
+import { dayInShort, endTime, time } from './dates.js';
+import { byId, cell, download, element, listTable, rowHead } from './elements.js';
 import { fold } from './identities.js';
-import {
-  byId, cell, count, dayInShort, download, element, endTime, listTable, rowHead, time,
-} from './office.js';
+import { count } from './numbers.js';
 import { addressOf } from './sections.js';
 
 /** Where each exam of a timetable is, by number; null in both if it isn't placed. */

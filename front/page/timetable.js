@@ -1,11 +1,13 @@
 // The timetable that is open, as a picture: its cells, what is in them, and another one beside it.
 import { findingsOf, showConflicts } from './conflictlist.js';
+import { dayInShort, time } from './dates.js';
+import { byId, element, fill } from './elements.js';
 import { histogramOf } from './histogram.js';
 import { differingPlaces, loadOf, roomsInOrder, usesByPlace } from './layout.js';
 import {
   endMoving, openDraft, pressPlace, putInto, setUpMoving, showPlace, showSteps, startMoving,
 } from './moving.js';
-import { byId, count, dayInShort, element, numeral, time } from './office.js';
+import { count, numeral } from './numbers.js';
 import { showOverview } from './overview.js';
 import { focusPlace, pictureOf } from './picture.js';
 import { placesIn } from './preview.js';
@@ -139,7 +141,7 @@ function showCell(timetable, place, isEntered, chosen = null) {
   const when = session?.periods[place.period];
   const use = usesByPlace(usesIn(timetable)).get(`${place.period} ${place.room}`);
   const capacity = session?.capacities[place.room] ?? 0;
-  byId('cell-body').replaceChildren(
+  fill(byId('cell-body'),
     element('h3', { id: 'cell-title', tabindex: -1 }, names.roomInBuilding(place.room)),
     element('p', {}, ...(when ? [dayInShort(when.date), ', ', time(when.start), ', '] : []), timetable.name),
     element('p', { class: use && use.used > capacity ? 'verdict broken' : 'quiet' },
@@ -161,7 +163,7 @@ function showExam(exam) {
   const timetable = openTimetable();
   const place = timetable && placesIn(timetable).get(exam);
   if (!place) {
-    byId('cell-body').replaceChildren(
+    fill(byId('cell-body'),
       element('h3', { id: 'cell-title', tabindex: -1 }, office.names.exam(exam)),
       element('p', {}, office.names.examTitle(exam)), element('p', {}, 'Not placed'),
       moveButton(exam, timetable, 'Place'));
