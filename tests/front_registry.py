@@ -469,6 +469,42 @@ def new_session_on_the_page(run, page, folder):
     run.judge("complaints about a new session", [], page.reader.complaints())
 
 
+LATE = "student,exam,action\ns3,MATH101,add"
+
+
+def week_on_the_page(page):
+    """The rest of the registry's week: a draft, a move, a publication, its lists, a late change
+    that gets its seat when the timetable is published again, and what the history says of it."""
+    publish = ["click #publish", "click #confirm-yes"]
+    hall = page.moment("2005-04-18", "09:30:00") + ", Great Hall, Main building"
+    page.steps(
+        ("a draft", [("type", "#draft-file", TOP / "examples" / "small.sol"),
+                     "click #draft button"], {"said": "Draft 1 is made."}),
+        ("an exam is moved", [
+            "click #menu [data-to=timetable] a", ("set", "#find", "optics"),
+            "click #found tbody a", "click #cell .move", "click #move-places .place"], {
+            "said": f"PHYS102: {hall}. 27 points now, 37 before."}),
+        ("published", publish, {
+            "said": "Draft 1 is published; the seats of 3 candidates have changed."}),
+        ("its lists", ["click #menu [data-to=seats] a", "click #lists button"], {
+            "said": "1 file is made, with 4 pages."}),
+        ("a late change", ["click #menu [data-to=late-changes] a", ("type", "#batch-lines", LATE),
+                           "click #batch button"], {
+            "#batch-effect": "1 to add, 0 to drop."}),
+        ("it is sent", "click #batch-send", {}),
+        ("nobody has a seat for it yet", [
+            "click #menu [data-to=seats] a", "click #seatless"], {
+            "titles #seat-found tbody tr": ["Cleo Carter s3 MATH101 Calculus"]}),
+        ("published again", [
+            "click #menu [data-to=timetable] a", "click #cards li:nth-child(2) a", *publish], {
+            "said": "Draft 1 is published; the seats of 1 candidate have changed."}),
+        ("everybody has a seat", ["click #menu [data-to=seats] a", "click #seatless"], {
+            "texts #seat-found tbody tr": []}),
+        # Four owners, a draft, a move, two publications and a batch.
+        ("what happened", "click #menu [data-to=history] a", {
+            "texts #history-found td:nth-child(2)": ["registry"] * 9}))
+
+
 # ---- Lists to print
 
 def ended(stack, client, number):
@@ -653,7 +689,10 @@ def new_in_browser(run, chromium, make_front):
     stack = Stack(run, make_front, "registry_new_page", is_new=True)
     try:
         sign_in_on_the_page(chromium, stack)
-        new_session_on_the_page(run, Page(run, chromium), stack.run.folder)
+        page = Page(run, chromium)
+        new_session_on_the_page(run, page, stack.run.folder)
+        week_on_the_page(page)
+        run.judge("complaints about a week on the page", [], chromium.complaints())
     finally:
         stack.stop()
 
