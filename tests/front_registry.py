@@ -500,9 +500,12 @@ def week_on_the_page(page):
             "said": "Draft 1 is published; the seats of 1 candidate have changed."}),
         ("everybody has a seat", ["click #menu [data-to=seats] a", "click #seatless"], {
             "texts #seat-found tbody tr": []}),
-        # Four owners, a draft, a move, two publications and a batch.
         ("what happened", "click #menu [data-to=history] a", {
-            "texts #history-found td:nth-child(2)": ["registry"] * 9}))
+            "texts #history-found td:nth-child(2)": ["registry"] * 6,
+            "texts #history-found tr:nth-child(4) td:nth-child(3)": [
+                f"PHYS102 moved to {hall}, in draft 1"],
+            "texts #history-found tr:last-child td:nth-child(3)": [
+                "Exams given to their owners, PHYS102 the last one"]}))
 
 
 # ---- Lists to print

@@ -442,6 +442,11 @@ cases('what happened', [
     'ada: MATH101 moved, in draft 3', 'cleo: Batch 5, from this page: 1 added, 0 dropped, 2 unchanged. '
     + 'PHYS102 of D\'Angelo, Chloë added. draft 1: 37 to 38 points',
     'ada: A timetable was published: publication 1, 1 point, 6 seats changed'], () => told({}, KNOWN)],
+  ['owners', ['ada: MATH101 given to no department',
+    'ben: Exams given to their owners, PHYS102 the last one', 'ada: PHYS102 given to Mathematics'],
+  () => told({ publications: [], batches: [], edits: [
+    ['ada', 0, 0], ['ben', 1, 1], ['ben', 0, 1], ['ben', 0, 0], ['ada', 1, 1]].map(([by, exam, dept]) => ({
+    at: AT('10'), by, what: 'owner', draft: null, exam, other: null, body: `{"dept":${dept}}` })) }, KNOWN)],
   ['to a candidate', ['ben: Exam 0: no seat any more (publication 2)',
     'ada: Exam 0: seat 3, period 0, room 0 (publication 1)'],
   () => told({ edits: [], batches: [], seats: [{ ...ONE_SEAT, first: 1, last: 1 }] })],

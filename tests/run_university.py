@@ -3,7 +3,8 @@
 
 The CSV files of examples/university become a session; a browser opens the registry's page,
 publishes the timetable, prints it, and sends late changes by codes; a hundred candidates open
-their pages at once from one address. A failing case is printed with what was expected and what
+their pages at once from one address. Then such a session is set up on the page, beside the
+registry's service. A failing case is printed with what was expected and what
 came; then come the times, and the last line counts the cases. It isn't part of the gate, which
 `./test university` says.
 """
@@ -19,6 +20,8 @@ import tempfile
 import time
 
 import browser
+import front_registry
+import front_sign_in
 import places_office
 from front_page import KEYS, is_read, reading, sheets_printed
 from front_cases import ask, password
@@ -204,6 +207,62 @@ def seat_lists(run, times, reader, front, labels):
             for number, exam, _, _, seat in seats})
 
 
+CSV = ("exams.csv", "rooms.csv", "periods.csv", "enrolments.csv.gz", "rules.csv")
+
+
+def by_the_service(run, times, chromium):
+    """A session of five CSV files is set up on the page; then what its history takes."""
+    if front_sign_in.missing():
+        print(f"university: set-up is left out without {' and '.join(front_sign_in.missing())}")
+        return
+    stack = front_registry.Stack(run, Front, "university_service", is_new=True)
+    try:
+        front_registry.sign_in_on_the_page(chromium, stack)
+        chromium.types("#csv-files", "\n".join(str(UNIVERSITY / name) for name in CSV))
+        with times.of("five CSV files are checked on the page"):
+            chromium.click("#csv-session button")
+            chromium.waits("return !document.querySelector('#csv-preview').hidden")
+            is_read(chromium)
+        chromium.click("#csv-load")
+        with times.of("they are loaded, with names and owners"):
+            chromium.click("#confirm-yes")
+            is_read(chromium)
+        run.judge("a session set up on the page", "The session is loaded: 1,500 exams, 117,419"
+                  " enrolments, 45 periods, 40 rooms. 1,500 exams have their owners.",
+                  chromium.text("#status"))
+        published_twice(run, stack)
+        with times.of("the history"):
+            go_to(chromium, "history")
+        with times.of("what differs between two publications"):
+            chromium.click("#history-compare button")
+            is_read(chromium)
+        run.judge("exams that moved", True, chromium.text("#status").startswith("1 exam and "))
+    finally:
+        stack.stop()
+
+
+def published_twice(run, stack):
+    """Publishes the timetable, moves an exam to the best of its other places, publishes again."""
+    office = front_registry.signed_in(stack, "registry")
+
+    def publish(number):
+        run.judge("a publication", 200, office.ask("POST", "/drafts/1/publish")[0])
+        browser.until(f"publication {number} is kept", lambda: len(front_registry.asked(
+            office, "GET", "history")[1]["publications"]) == number)
+
+    solution = (UNIVERSITY / "timetable.sol").read_bytes()
+    run.judge("a draft for the service", 201, office.ask("PUT", "/drafts/1", solution)[0])
+    publish(1)
+    here = solution.decode().splitlines()[0].split(", ")
+    lines = office.ask("GET", "/drafts/1/exams/0/places")[2].decode().splitlines()[1:]
+    places = [place for place in (line.split(",") for line in lines)
+              if place[2] and place[:2] != here]
+    period, room, *_ = min(places, key=lambda place: int(place[2]))
+    run.judge("a move", 200, office.ask("POST", "/drafts/1/exams/0/move", json.dumps(
+        {"period": int(period), "room": int(room)}))[0])
+    publish(2)
+
+
 def many_candidates(run, times, front):
     """A hundred candidates of one address open their pages at once."""
     def opened(user):
@@ -238,6 +297,7 @@ def main():
                         with reading(chromium, front, CANDIDATES[0]) as reader:
                             run.judge("a candidate's page", True,
                                       "Seat assigned" in reader.text("#timetable, #past"))
+                    by_the_service(run, times, chromium)
                 many_candidates(run, times, front)
             finally:
                 front.stop()

@@ -62,6 +62,28 @@ function placeIn(body, names) {
   }
 }
 
+/** The department of an owner's body, such as {"dept":3}. */
+function ownerIn(body, names) {
+  try {
+    const { dept } = JSON.parse(body);
+    return dept ? names.labels?.departments[dept] ?? `department ${dept}` : 'no department';
+  } catch {
+    return 'another owner';
+  }
+}
+
+/** The edits, with one line for all owners that somebody set one after another. */
+function inLines(edits) {
+  const lines = [];
+  for (const edit of edits) {
+    const last = lines.at(-1);
+    const isMore = edit.what === 'owner' && /^owners?$/.test(last?.what) && last.by === edit.by;
+    if (isMore) last.what = 'owners';
+    else lines.push({ ...edit });
+  }
+  return lines;
+}
+
 function editText({ what, draft, exam, other, body }, names) {
   const named = exam === null ? '' : names.exam(exam);
   return {
@@ -70,7 +92,8 @@ function editText({ what, draft, exam, other, body }, names) {
     cleared: `${named} taken out of draft ${draft}`,
     swapped: `${named} and ${other === null ? '' : names.exam(other)} swapped in draft ${draft}`,
     made: `Draft ${draft} made`, dropped: `Draft ${draft} dropped`,
-    owner: `${named} given to another owner`,
+    owner: `${named} given to ${ownerIn(body, names)}`,
+    owners: `Exams given to their owners, ${named} the last one`,
   }[what] ?? what;
 }
 
@@ -114,7 +137,7 @@ export function eventsOf(found, names, people) {
   if (seats) published = seatEvents(seats, publications, names);
   else if (places) published = placeEvents(places, publications, names);
   return [...published,
-    ...edits.filter(({ what }) => what !== 'published').map((one) => (
+    ...inLines(edits.filter(({ what }) => what !== 'published')).map((one) => (
       { at: one.at, by: one.by, words: editText(one, names) })),
     ...batches.map((one) => ({ at: one.at, by: one.by, words: batchText(one, names, people), batch: one })),
   ].sort((a, b) => Date.parse(b.at) - Date.parse(a.at));
