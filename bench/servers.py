@@ -13,7 +13,7 @@ import time
 
 from checkers import HERE, caption, program
 
-SOURCE, BUILT = HERE / "office", HERE / "build" / "office"
+SOURCE, BUILT = HERE / "office", HERE / "build" / "servers"
 MESSAGES = 100
 DRAFTS = 8
 OURS, PLAIN, PLAIN_WAL = COLUMNS = "examoffice", "c++", "c++ in WAL"

@@ -26,7 +26,7 @@ from serve_cases import batch_text, message
 
 TOP = pathlib.Path(__file__).resolve().parent.parent
 SOURCE = TOP / "bench" / "office" / "office.cpp"
-PLAIN = TOP / "bench" / "build" / "office"
+PLAIN = TOP / "bench" / "build" / "plain_office"
 HEADER = pathlib.Path("/usr/include/sqlite3.h")
 FIRST_SEED = 2007
 AT_ONCE = 2
