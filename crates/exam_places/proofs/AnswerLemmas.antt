@@ -1,12 +1,13 @@
 -- The answer of an edit, by the rules and by the shares.
 use Rattle.std.specs.Prelude.{nat_lt}
 use Rattle.std.proofs.Common.{◌≡◌, ℕ, zero, suc, ◌+◌, ◌<◌, Bool, true, false, cond, [], ◌∷◌, length, map, set, Option, Some, None, refl, sym, ◌∙◌, ap, arith}
-use Rattle.std.specs.List.{range_with_len}
+use Rattle.std.specs.List.{flat_map, range_with_len}
 use Rattle.std.proofs.lemmas.Bool.{lt-ltb}
+use Rattle.std.proofs.lemmas.List.{set-get_or}
 use Rattle.exam_terms.specs.declared.place.Place.{Place}
 use Rattle.exam_model.specs.Enrolments.{Enrolled}
 use Rattle.exam_model.specs.Instance.{Session, IsInstance}
-use Rattle.exam_model.specs.Timetable.{Placing}
+use Rattle.exam_model.specs.Timetable.{Placing, place_of}
 use Rattle.exam_rules.specs.declared.breach.Breach.{Breach}
 use Rattle.exam_rules.specs.Breaches.{least_breach_of}
 use Rattle.exam_score.specs.Penalty.{total_of}
@@ -17,6 +18,8 @@ use Rattle.exam_places.specs.declared.place_row.PlaceRow.{PlaceRow}
 use Rattle.exam_places.specs.Answers.{Answered, answer_at, answer_to, answers_of, period_answers, place}
 use Rattle.exam_places.specs.Places.{PlaceAnswer, breach_or, edit_answer, period_places, place_answer, place_row, places_of}
 use Rattle.exam_places.specs.Shares.{period_share, place_share}
+use Rattle.exam_places.specs.Unplaced.{IsUnplaced, IsWithout, answer_by, least_breach, row_by, rows_by, share_of, total_without}
+use Rattle.exam_places.specs.declared.unplaced_exam.UnplacedExam.{UnplacedExam}
 use Rattle.exam_places.proofs.CountingLemmas.{lists_same, mapped_lists, mapped_twice, values_same}
 use Rattle.exam_places.proofs.TotalLemmas.{total_added}
 
@@ -68,17 +71,68 @@ total_unplaced I known E W x a unplaced enrolled fits within period room =
 
 -- ---- every place
 
--- every place, by the timetable without the exam
-pub all_places : (I : Session) (E : Enrolled) (T W : Placing) (e : ℕ) → W ≡ set T e None
-    → places_of I E W e ≡ places_of I E T e
-all_places I E T W e is =
-    lists_same (period_places I E W e) (period_places I E T e) 0 (length I.periods)
-    (λ p lp. values_same (place_row I E W e p) (place_row I E T e p) 0 (length I.rooms)
-    (λ r lr. ap (λ (U : Placing). place_row I E U e p r) is
-    ∙ ap (answered_row p r) (place_cleared I E T e (place p r))))
+-- every place, by the penalty without the exam
+pub all_rows : (u : UnplacedExam) (T : Placing) (without : ℕ) → IsInstance u.instance.now
+    → IsUnplaced u → u.timetable.now ≡ set T u.exam None → without ≡ total_without u
+    → flat_map (rows_by u without) (range_with_len 0 (length u.instance.now.periods))
+    ≡ places_of u.instance.now u.enrolments.now T u.exam
+all_rows u T without known is cleared total =
+    lists_same (rows_by u without) (period_places I E T e) 0 (length I.periods)
+    (λ p lp. values_same (row_by u (without + share_of u (place p 0)) p) (place_row I E T e p)
+    0 (length I.rooms)
+    (λ r lr. ap (answered_row p r) (one p r (omega (arith, lp)) (omega (arith, lr)))))
   where
+    I : Session
+    I = u.instance.now
+
+    E : Enrolled
+    E = u.enrolments.now
+
+    e : ℕ
+    e = u.exam
+
     answered_row : ℕ → ℕ → PlaceAnswer → PlaceRow
     answered_row p r answer = record { period = p; room = r; answer = answer }
+
+    one : (p r : ℕ) → p < length I.periods → r < length I.rooms
+        → answer_by u (without + share_of u (place p 0)) (place p r)
+        ≡ place_answer I E T e (place p r)
+    one p r lp lr =
+        ap (breach_or (least_breach u (place p r)))
+        (ap (λ n. n + share_of u (place p 0) + place_share I u.timetable.now e (place p r)) total
+        ∙ sym (total_unplaced I known E u.timetable.now e (place p r) is.unplaced is.fits.enrolments
+        is.fits.timetable is.exists lp lr))
+        ∙ ap (λ U. place_answer I E U e (place p r)) cleared
+        ∙ place_cleared I E T e (place p r)
+
+-- the penalty of a timetable that places the exam
+pub total_placed : (u : UnplacedExam) (T : Placing) (at : Place) → IsInstance u.instance.now
+    → IsUnplaced u → IsWithout u T → place_of T u.exam ≡ Some at
+    → at.period < length u.instance.now.periods → at.room < length u.instance.now.rooms
+    → total_of (track u.instance.now u.enrolments.now T)
+    ≡ total_without u + share_of u at
+    + place_share u.instance.now u.timetable.now u.exam at
+total_placed u T at known is without placed period room =
+    ap (λ U. total_of (track I E U)) (sym (ap (set T e) (sym placed) ∙ set-get_or T e None))
+    ∙ total_added I known E T e at is.fits.enrolments without.fits.timetable is.exists period room
+    ∙ ap (λ U. total_of (track I E U) + period_share I E U e at + place_share I U e at)
+    (sym without.cleared)
+  where
+    I : Session
+    I = u.instance.now
+
+    E : Enrolled
+    E = u.enrolments.now
+
+    e : ℕ
+    e = u.exam
+
+-- that of a timetable that doesn't
+pub total_missing : (u : UnplacedExam) (T : Placing) → IsWithout u T → place_of T u.exam ≡ None
+    → total_of (track u.instance.now u.enrolments.now T) ≡ total_without u
+total_missing u T without missing =
+    ap (λ U. total_of (track u.instance.now u.enrolments.now U))
+    (sym (without.cleared ∙ ap (set T u.exam) (sym missing) ∙ set-get_or T u.exam None))
 
 -- the edits answer what the rows say
 pub places_answer : (I : Session) (E : Enrolled) (T : Placing) (e : ℕ) → e < length I.exams

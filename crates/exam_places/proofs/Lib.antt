@@ -7,7 +7,14 @@ pub mod PairShares
 pub mod PlaceShares
 pub mod MixedShares
 pub mod TotalLemmas
-pub mod RowLemmas
 pub mod ShareLemmas
 pub mod AnswerLemmas
 pub mod OrderedLemmas
+pub mod FirstLemmas
+pub mod CommonStudents
+pub mod FirstPairs
+pub mod RuleFirsts
+pub mod TableLemmas
+pub mod SizeLemmas
+pub mod PeriodSums
+pub mod MixedEntries

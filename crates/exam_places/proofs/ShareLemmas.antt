@@ -1,29 +1,14 @@
--- Shares by a row of shared students and by the sizes of exams.
-use Rattle.std.specs.Prelude.{slice_index}
-use Rattle.std.proofs.Common.{◌≡◌, ℕ, ◌*◌, ◌<◌, cond, ◌&&◌, List, length, set, Option, Some, sym, ◌∙◌, ap, arith}
+-- The front load by the sizes of exams.
+use Rattle.std.proofs.Common.{◌≡◌, ℕ, ◌<◌, cond, ◌&&◌, List, length, set, Some, sym, ◌∙◌, ap, arith}
 use Rattle.exam_terms.specs.declared.place.Place.{Place}
 use Rattle.exam_model.specs.Enrolments.{Enrolled}
 use Rattle.exam_model.specs.Instance.{Session}
-use Rattle.exam_model.specs.PairCost.{cost_between}
-use Rattle.exam_model.specs.Sums.{sum_below}
 use Rattle.exam_model.specs.Timetable.{Placing}
-use Rattle.exam_model.proofs.SumLemmas.{sum_below-within}
 use Rattle.exam_score.specs.Front.{AreSizes, front_by}
 use Rattle.exam_score.specs.FrontLoad.{is_largest, is_late}
 use Rattle.exam_score.proofs.FrontLemmas.{front_by_sizes}
-use Rattle.exam_places.specs.SharedRow.{IsSharedRow}
-use Rattle.exam_places.specs.Shares.{cost_beside, front_at, shared_of}
+use Rattle.exam_places.specs.Shares.{front_at}
 use Rattle.exam_places.proofs.PlacedLemmas.{own_place}
-
--- the cost beside the others by the row
-pub beside_by_row : (cost : ℕ → ℕ → ℕ) (E : Enrolled) (at : ℕ → Option ℕ) (e p : ℕ) (row : List ℕ)
-    → IsSharedRow E e row
-    → sum_below (length row) (λ f. slice_index row f * cost_between cost (Some p) (at f))
-    ≡ cost_beside cost E at e p
-beside_by_row cost E at e p row is =
-    sum_below-within _ _ (length row)
-    (λ f l. ap (λ n. n * cost_between cost (Some p) (at f)) (is.each f l))
-    ∙ ap (λ n. sum_below n (λ f. shared_of E e f * cost_between cost (Some p) (at f))) is.count
 
 -- the front load by the sizes
 pub front_of_sizes : (I : Session) (E : Enrolled) (T : Placing) (e : ℕ) (a : Place) (sizes : List ℕ)

@@ -1,6 +1,9 @@
 pub mod Answers
+pub mod Firsts
 pub mod Shares
-pub mod SharedRow
 pub mod Groups
 pub mod Places
 pub mod Unplaced
+pub mod Breaches
+pub mod PeriodTable
+pub mod PlaceTable

@@ -1,5 +1,6 @@
 -- An unplaced exam: what it breaks and adds in each period, and at each place.
-use Rattle.std.specs.Prelude.{◌≡◌, ℕ, ◌+◌, ◌<◌, ◌≤◌, ◌^◌, List, [], ◌∷◌, length, Option, Some, None, slice_set}
+use Rattle.std.specs.Prelude.{◌≡◌, ℕ, ◌+◌, ◌<◌, ◌≤◌, ◌^◌, List, [], ◌∷◌, length, map, Option, Some, None, slice_set}
+use Rattle.std.specs.List.{range_with_len}
 use Rattle.exam_terms.specs.declared.place.Place.{Place}
 use Rattle.exam_model.specs.Fits.{Fits}
 use Rattle.exam_model.specs.Timetable.{Placing}
@@ -9,15 +10,16 @@ use Rattle.exam_rules.specs.Breaches.{first_among, least_breach_of}
 use Rattle.exam_score.specs.Front.{AreSizes}
 use Rattle.exam_score.specs.Penalty.{total_of}
 use Rattle.exam_score.specs.Track.{track}
-use Rattle.exam_places.specs.declared.shares.ExamShares.{ExamShares}
 use Rattle.exam_places.specs.declared.listing.PeriodFacts.{PeriodFacts}
 use Rattle.exam_places.specs.declared.place_row.PlaceRow.{PlaceRow}
+use Rattle.exam_places.specs.declared.tables.ExamTables.{ExamTables}
 use Rattle.exam_places.specs.declared.unplaced_exam.UnplacedExam.{UnplacedExam}
 use Rattle.exam_places.specs.Answers.{place}
 use Rattle.exam_places.specs.Groups.{early_rules, late_rules}
-use Rattle.exam_places.specs.Places.{PlaceAnswer, place_answer, place_row, period_places}
-use Rattle.exam_places.specs.SharedRow.{IsSharedRow}
-use Rattle.exam_places.specs.Shares.{period_share}
+use Rattle.exam_places.specs.Places.{PlaceAnswer, breach_or}
+use Rattle.exam_places.specs.PeriodTable.{IsPeriodTable}
+use Rattle.exam_places.specs.PlaceTable.{AreKeepers, IsPlaceTable}
+use Rattle.exam_places.specs.Shares.{period_share, place_share}
 
 -- the exam exists, and the timetable fits the session and doesn't place the exam
 pub record IsUnplaced (u : UnplacedExam) : Type 0 where
@@ -46,32 +48,35 @@ total_without u = total_of (track u.instance.now u.enrolments.now u.timetable.no
 abbrev pub share_of : UnplacedExam → Place → ℕ
 share_of u at = period_share u.instance.now u.enrolments.now u.timetable.now u.exam at
 
--- the total penalty with that
-abbrev pub total_in : UnplacedExam → Place → ℕ
-total_in u at = total_without u + share_of u at
+-- the answer at a place by the penalty but for what the room adds
+abbrev pub answer_by : UnplacedExam → ℕ → Place → PlaceAnswer
+answer_by u total at =
+    breach_or (least_breach u at) (total + place_share u.instance.now u.timetable.now u.exam at)
 
--- the answer at a place
-abbrev pub answer_of : UnplacedExam → Place → PlaceAnswer
-answer_of u at = place_answer u.instance.now u.enrolments.now u.timetable.now u.exam at
+-- the row of a place by that
+abbrev pub row_by : UnplacedExam → ℕ → ℕ → ℕ → PlaceRow
+row_by u total p r = record { period = p; room = r; answer = answer_by u total (place p r) }
 
--- the row of a place
-abbrev pub row_of : UnplacedExam → ℕ → ℕ → PlaceRow
-row_of u p r = place_row u.instance.now u.enrolments.now u.timetable.now u.exam p r
+-- the rows of a period by the penalty without the exam
+abbrev pub rows_by : UnplacedExam → ℕ → ℕ → List PlaceRow
+rows_by u without p =
+    map (row_by u (without + share_of u (place p 0)) p)
+    (range_with_len 0 (length u.instance.now.rooms))
 
--- the rows of a period
-abbrev pub rows_of : UnplacedExam → ℕ → List PlaceRow
-rows_of u p = period_places u.instance.now u.enrolments.now u.timetable.now u.exam p
+-- the timetable of the unplaced exam is this one without the exam
+pub record IsWithout (u : UnplacedExam) (T : Placing) : Type 0 where
+  pub cleared : u.timetable.now ≡ slice_set T u.exam None
+  pub fits : Fits u.instance.now u.enrolments.now T
 
--- the shared students and the sizes that the exam's shares need, and the penalty without the exam
-pub record AreExamShares (u : UnplacedExam) (shares : ExamShares) : Type 0 where
-  pub shared : IsSharedRow u.enrolments.now u.exam shares.shared.items
-  pub sizes : AreSizes u.enrolments.now shares.sizes.items
-  pub total : shares.total ≡ total_without u
-  pub small : shares.total ≤ 2 ^ 62
+-- what the exam meets in each period and at each place, by all exams, and the exams' sizes
+pub record AreTables (u : UnplacedExam) (tables : ExamTables) : Type 0 where
+  pub periods : IsPeriodTable u (length u.instance.now.exams) tables.periods.items
+  pub places : IsPlaceTable u (length u.instance.now.exams) tables.places.items
+  pub keepers : AreKeepers u.instance.now tables.keepers.items
+  pub sizes : AreSizes u.enrolments.now tables.sizes.items
 
--- the first breaches of the rules on periods, and the penalty, but for what the room adds
+-- the first breaches of the rules on periods, and a penalty that is small
 pub record ArePeriodFacts (u : UnplacedExam) (p : ℕ) (facts : PeriodFacts) : Type 0 where
   pub early : facts.early ≡ first_breach u (place p 0) early_rules
   pub late : facts.late ≡ first_breach u (place p 0) late_rules
-  pub total : facts.total ≡ total_in u (place p 0)
   pub small : facts.total ≤ 2 ^ 62 + 2 ^ 60

@@ -1,123 +1,88 @@
 // What an exam adds to the penalty of a timetable that doesn't place it.
-ghost use Rattle.std.specs.Prelude.{◌≡◌, ◌<◌, ◌≤◌, ◌*◌, ◌^◌, ℕ, Some, None, length, option_map, slice_index, slice_get, IfOk};
-ghost use Rattle.exam_terms.specs.declared.limits.TheConstants.{MAX_AMOUNT, MAX_EXAMS, MAX_PAIRS};
-ghost use Rattle.exam_model.specs.Enrolments.{Enrolled};
-ghost use Rattle.exam_model.specs.Fits.{Fits, PlaceExists, period_of};
-ghost use Rattle.exam_model.specs.PairCost.{cost_between};
+ghost use Rattle.std.specs.Prelude.{◌≡◌, ◌<◌, ◌≤◌, ◌*◌, ◌^◌, ◌&&◌, ℕ, Some, length, not, slice_get};
+ghost use Rattle.exam_terms.specs.declared.limits.TheConstants.{MAX_AMOUNT, MAX_EXAMS, MAX_PAIRS, MAX_PERIODS};
+ghost use Rattle.exam_model.specs.Fits.{PlaceExists, period_of};
 ghost use Rattle.exam_model.specs.Sums.{sum_below};
-ghost use Rattle.exam_model.specs.Timetable.{place_of};
-ghost use Rattle.exam_score.specs.Front.{AreSizes};
-ghost use Rattle.exam_score.specs.MixedDurations.{is_at};
 ghost use Rattle.exam_score.specs.Track.{period_penalty};
-ghost use Rattle.exam_places.specs.Shares.{cost_beside, mixed_share, place_share, shared_of};
-ghost use Rattle.exam_places.specs.SharedRow.{IsSharedRow};
 ghost use Rattle.exam_places.specs.Answers.{place};
-ghost use Rattle.exam_places.specs.Unplaced.{AreExamShares, IsUnplaced, share_of};
+ghost use Rattle.exam_places.specs.Firsts.{is_found};
+ghost use Rattle.exam_places.specs.PeriodTable.{shared_in};
+ghost use Rattle.exam_places.specs.PlaceTable.{place_entry};
+ghost use Rattle.exam_places.specs.Shares.{cost_beside, mixed_share, place_share};
+ghost use Rattle.exam_places.specs.Unplaced.{AreTables, IsUnplaced, share_of};
 
+use crate::firsts::is_found;
+use crate::period_table::PeriodEntry;
+use crate::place_table::PlaceEntry;
+use crate::tables::ExamTables;
 use crate::unplaced_exam::UnplacedExam;
-use exam_model::{Enrolments, ExamNo, Instance, PairCost, PeriodNo, Place, RoomNo, Timetable};
+use exam_model::{ExamNo, Instance, PairCost, PeriodNo, Place, RoomNo};
 use exam_score::{DayCost, NightCost, RowCost, SpreadCost, front_share};
-use std::alloc::{AllocError, Global};
-
-/// Returns how many students sit the exam and each other one.
-pub(crate) fn shared_row(
-    alloc: Global,
-    enrolments: &Enrolments,
-    exam: ExamNo,
-) -> Result<Vec<u32>, AllocError>
-    requires exists { exam < length enrolments.now }
-    ensures { IfOk result (λ row. IsSharedRow enrolments.now exam row.items) }
-{
-    enrolments.lemma_order();
-    let mut row = Vec::with_capacity(alloc, enrolments.exams() as usize)?;
-    for other in 0..enrolments.exams() {
-        row.push(shared_of(enrolments, exam, ExamNo::new(other)))?;
-    }
-    Ok(row)
-}
-
-// Returns how many students sit both exams.
-fn shared_of(enrolments: &Enrolments, exam: ExamNo, other: ExamNo) -> u32
-    requires exists { exam < length enrolments.now }
-    requires other_exists { other < length enrolments.now }
-    ensures shared { result ≡ shared_of enrolments.now exam other }
-    ensures small { result ≤ MAX_PAIRS }
-{
-    enrolments.lemma_order();
-    if other < exam {
-        enrolments.shared(other, exam)
-    } else {
-        enrolments.shared(exam, other)
-    }
-}
-
-// Returns the cost of one exam in a period with each exam that is placed, for the students who
-// sit both.
-fn cost_beside<C: PairCost>(cost: &C, row: &[u32], timetable: &Timetable, period: PeriodNo) -> u64
-    requires row { length row.now ≡ length timetable.now }
-    requires small { (f : ℕ) → slice_index row.now f ≤ MAX_PAIRS }
-    ensures sum { result ≡ sum_below (length row.now) (λ f. slice_index row.now f
-        * cost_between (C.cost_of cost.now) (Some period) (period_of timetable.now f)) }
-    ensures small { result ≤ length row.now * (MAX_PAIRS * MAX_AMOUNT) }
-{
-    timetable.lemma_limit();
-    let mut total = 0;
-    for other in 0..timetable.exams() {
-        total += cost_of_one(
-            cost,
-            row[other as usize],
-            timetable.get(ExamNo::new(other)),
-            period,
-        );
-    }
-    total
-}
-
-// Returns the cost with one exam, which so many students sit too.
-fn cost_of_one<C: PairCost>(cost: &C, shared: u32, other: Option<Place>, period: PeriodNo) -> u64
-    requires few { shared ≤ MAX_PAIRS }
-    ensures cost { result ≡ shared
-        * cost_between (C.cost_of cost.now) (Some period) (option_map (λ at. at.period) other) }
-    ensures small { result ≤ MAX_PAIRS * MAX_AMOUNT }
-{
-    match other {
-        Some(place) => u64::from(shared) * cost.cost(period, place.period),
-        None => 0,
-    }
-}
-
-/// What the shares of an exam need: how many students it shares with each exam, the sizes of all
-/// exams, and the total penalty without it.
-#[derive(Drop)]
-pub(crate) struct ExamShares {
-    pub shared: Vec<u32>,
-    pub sizes: Vec<u32>,
-    pub total: u64,
-}
 
 /// Returns what the exam adds in a period, in any room.
-pub(crate) fn period_share(unplaced: &UnplacedExam, shares: &ExamShares, period: PeriodNo) -> u64
+pub(crate) fn period_share(unplaced: &UnplacedExam, tables: &ExamTables, period: PeriodNo) -> u64
     requires unplaced { IsUnplaced unplaced.now }
-    requires shares { AreExamShares unplaced.now shares.now }
+    requires tables { AreTables unplaced.now tables.now }
     requires exists { period < length unplaced.now.instance.now.periods }
     ensures share { result ≡ share_of unplaced.now (place period 0) }
     ensures small { result ≤ 2 ^ 60 }
 {
     let instance = unplaced.instance;
-    let timetable = unplaced.timetable;
-    let row = shares.shared.as_slice();
-    let sizes = shares.sizes.as_slice();
+    let sizes = tables.sizes.as_slice();
     instance.lemma_limits();
-    timetable.lemma_limit();
     let room = RoomNo::new(0);
-    let in_row = cost_beside(&RowCost(instance), row, timetable, period);
-    let in_day = cost_beside(&DayCost(instance), row, timetable, period);
-    let in_spread = cost_beside(&SpreadCost(instance), row, timetable, period);
-    let over_night = cost_beside(&NightCost(instance), row, timetable, period);
+    let in_row = cost_beside(&RowCost(instance), unplaced, tables, period);
+    let in_day = cost_beside(&DayCost(instance), unplaced, tables, period);
+    let in_spread = cost_beside(&SpreadCost(instance), unplaced, tables, period);
+    let over_night = cost_beside(&NightCost(instance), unplaced, tables, period);
     let place = Place { period, room };
     let front = front_share(instance, sizes, unplaced.exam, Some(place));
     let penalty = penalty_of_period(instance, period);
     in_row + in_day + in_spread + over_night + front + penalty
+}
+
+// Returns the cost of the exam in a period with all placed exams, for the students that it shares
+// with them.
+fn cost_beside<C: PairCost>(
+    cost: &C,
+    unplaced: &UnplacedExam,
+    tables: &ExamTables,
+    period: PeriodNo,
+) -> u64
+    requires unplaced { IsUnplaced unplaced.now }
+    requires tables { AreTables unplaced.now tables.now }
+    ensures sum { result ≡ cost_beside (C.cost_of cost.now) unplaced.now.enrolments.now
+        (period_of unplaced.now.timetable.now) unplaced.now.exam period }
+    ensures small { result ≤ MAX_PERIODS * (MAX_EXAMS * MAX_PAIRS * MAX_AMOUNT) }
+{
+    unplaced.instance.lemma_limits();
+    unplaced.enrolments.lemma_order();
+    sum_by_period(cost, &tables.periods, period)
+}
+
+// Returns the same by a table of the periods.
+fn sum_by_period<C: PairCost>(cost: &C, table: &[PeriodEntry], period: PeriodNo) -> u64
+    requires few { length table.now ≤ MAX_PERIODS }
+    requires small { (q : ℕ) → shared_in table.now q ≤ MAX_EXAMS * MAX_PAIRS }
+    ensures sum { result ≡ sum_below (length table.now) (λ q. shared_in table.now q
+        * C.cost_of cost.now period q) }
+    ensures small { result ≤ MAX_PERIODS * (MAX_EXAMS * MAX_PAIRS * MAX_AMOUNT) }
+{
+    let mut total = 0;
+    for (number, entry) in table.iter().enumerate() {
+        let other = PeriodNo::new(number as u32);
+        total += cost_in(cost, entry.shared, period, other);
+    }
+    total
+}
+
+// Returns the cost with the exams of one period, with which the exam shares so many students.
+fn cost_in<C: PairCost>(cost: &C, shared: u64, period: PeriodNo, other: PeriodNo) -> u64
+    requires few { shared ≤ MAX_EXAMS * MAX_PAIRS }
+    ensures cost { result ≡ shared * C.cost_of cost.now period other }
+    ensures small { result ≤ MAX_EXAMS * MAX_PAIRS * MAX_AMOUNT }
+{
+    shared * cost.cost(period, other)
 }
 
 // Returns the penalty of a period.
@@ -131,55 +96,41 @@ fn penalty_of_period(instance: &Instance, period: PeriodNo) -> u64
 }
 
 /// Returns what an exam adds at a place, apart from its period.
-pub(crate) fn place_share(
-    instance: &Instance,
-    timetable: &Timetable,
-    exam: ExamNo,
-    place: Place,
-) -> u64
-    requires exams { length timetable.now ≡ length instance.now.exams }
-    requires exists { exam < length instance.now.exams }
-    requires place { PlaceExists instance.now (Some place) }
-    ensures share { result ≡ place_share instance.now timetable.now exam place }
+pub(crate) fn place_share(unplaced: &UnplacedExam, entry: &PlaceEntry, at: &Place) -> u64
+    requires unplaced { IsUnplaced unplaced.now }
+    requires exists { PlaceExists unplaced.now.instance.now (Some at.now) }
+    requires entry { entry.now
+        ≡ place_entry unplaced.now (length unplaced.now.instance.now.exams) at.now }
+    ensures share { result ≡ place_share unplaced.now.instance.now unplaced.now.timetable.now
+        unplaced.now.exam at.now }
     ensures small { result ≤ 2 * MAX_AMOUNT }
 {
+    let instance = unplaced.instance;
     instance.lemma_limits();
-    let penalty = u64::from(instance.room(place.room).penalty);
-    mixed_share(instance, timetable, exam, place) + penalty
+    let penalty = u64::from(instance.room(at.room).penalty);
+    mixed_share(unplaced, entry, at) + penalty
 }
 
-// Returns what an exam adds to the mixed part at a place.
-#[tactic(auto, using(exam_model::proofs::SumLemmas::sum_below_more))]
-fn mixed_share(instance: &Instance, timetable: &Timetable, exam: ExamNo, place: Place) -> u64
-    requires exams { length timetable.now ≡ length instance.now.exams }
-    requires exists { exam < length instance.now.exams }
-    ensures share { result ≡ mixed_share instance.now timetable.now exam place }
+// Returns what an exam adds to the mixed part at a place: the weight if exams are there and none of
+// them lasts as long.
+fn mixed_share(unplaced: &UnplacedExam, entry: &PlaceEntry, at: &Place) -> u64
+    requires entry { entry.now
+        ≡ place_entry unplaced.now (length unplaced.now.instance.now.exams) at.now }
+    ensures share { result ≡ mixed_share unplaced.now.instance.now unplaced.now.timetable.now
+        unplaced.now.exam at.now }
     ensures small { result ≤ MAX_AMOUNT }
 {
-    instance.lemma_limits();
-    let minutes = instance.exam(exam).minutes;
-    let mut used = 0u32;
-    let mut same = 0u32;
-    for other in 0..instance.exams() {
-        let other = ExamNo::new(other);
-        let here = is_here(timetable, other, place);
-        used += u32::from(here);
-        same += u32::from(here && instance.exam(other).minutes == minutes);
-    }
-    if 0 < used && same == 0 {
-        u64::from(instance.weights().mixed)
+    unplaced.instance.lemma_limits();
+    if are_mixed(entry.first, entry.as_long) {
+        u64::from(unplaced.instance.weights().mixed)
     } else {
         0
     }
 }
 
-// Returns whether an exam is at a place.
-fn is_here(timetable: &Timetable, exam: ExamNo, place: Place) -> bool
-    requires exists { exam < length timetable.now }
-    ensures { result ≡ is_at place.period place.room (place_of timetable.now exam) }
+// Returns whether an exam that comes to others is not as long as one of them.
+fn are_mixed(first: Option<ExamNo>, as_long: Option<ExamNo>) -> bool
+    ensures { result ≡ (is_found first && not (is_found as_long)) }
 {
-    match timetable.get(exam) {
-        Some(own) => own.period == place.period && own.room == place.room,
-        None => false,
-    }
+    is_found(first) && !is_found(as_long)
 }

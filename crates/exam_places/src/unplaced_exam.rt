@@ -1,9 +1,9 @@
-// The breaches of an exam that is put at a place: the rules on periods are judged once a period.
-ghost use Rattle.std.specs.Prelude.{◌≡◌, ◌<◌, [], ◌∷◌, length, Some, IfOk};
+// An exam, a timetable that doesn't place it, and what each of its periods breaks.
+ghost use Rattle.std.specs.Prelude.{◌≡◌, ◌<◌, length, Some, IfOk};
 ghost use Rattle.exam_model.specs.Fits.{Fits, PlaceExists};
 ghost use Rattle.exam_places.specs.Answers.{place};
-ghost use Rattle.exam_places.specs.Groups.{early_rules, late_rules};
-ghost use Rattle.exam_places.specs.Unplaced.{IsUnplaced, first_breach, least_breach, with_place};
+ghost use Rattle.exam_places.specs.Groups.{late_rules};
+ghost use Rattle.exam_places.specs.Unplaced.{IsUnplaced, first_breach, with_place};
 
 use exam_model::{Enrolments, ExamNo, Instance, PeriodNo, Place, RoomNo, Timetable};
 use exam_rules::{Breach, BreachRule, first_breach_among};
@@ -19,23 +19,6 @@ pub(crate) struct UnplacedExam<'a> {
 }
 
 impl<'a> UnplacedExam<'a> {
-    /// Returns the first breach of the rules on a place's period that come before `Capacity`.
-    pub(crate) fn early_breach(
-        &self,
-        alloc: Global,
-        period: PeriodNo,
-    ) -> Result<Option<Breach>, AllocError>
-        requires unplaced { IsUnplaced self.now }
-        requires period { period < length self.now.instance.now.periods }
-        ensures { IfOk result (λ found. found
-            ≡ first_breach self.now (place period 0) early_rules) }
-    {
-        self.instance.lemma_limits();
-        let room = RoomNo::new(0);
-        let rules = [BreachRule::Duration, BreachRule::Clash];
-        self.breach_among(alloc, Place { period, room }, &rules)
-    }
-
     /// Returns the first breach of the rules of lines, which depend on a place's period only.
     pub(crate) fn late_breach(
         &self,
@@ -56,48 +39,7 @@ impl<'a> UnplacedExam<'a> {
         self.breach_among(alloc, Place { period, room }, &rules)
     }
 
-    /// Returns the least breach that names the exam at a place, given those of its period.
-    pub(crate) fn breach_at(
-        &self,
-        alloc: Global,
-        early: Option<Breach>,
-        late: Option<Breach>,
-        at: Place,
-    ) -> Result<Option<Breach>, AllocError>
-        requires unplaced { IsUnplaced self.now }
-        requires exists { PlaceExists self.now.instance.now (Some at) }
-        requires early { early ≡ first_breach self.now (place at.period 0) early_rules }
-        requires late { late ≡ first_breach self.now (place at.period 0) late_rules }
-        ensures { IfOk result (λ found. found ≡ least_breach self.now at) }
-    {
-        if let Some(breach) = early {
-            return Ok(Some(breach));
-        }
-        let capacity = self.breach_by(alloc, &at, BreachRule::Capacity)?;
-        if let Some(breach) = capacity {
-            return Ok(Some(breach));
-        }
-        if let Some(breach) = late {
-            return Ok(Some(breach));
-        }
-        self.breach_by(alloc, &at, BreachRule::RoomExclusive)
-    }
-
-    // Returns the first breach of one rule.
-    fn breach_by(
-        &self,
-        alloc: Global,
-        at: &Place,
-        rule: BreachRule,
-    ) -> Result<Option<Breach>, AllocError>
-        requires unplaced { IsUnplaced self.now }
-        requires exists { PlaceExists self.now.instance.now (Some at.now) }
-        ensures { IfOk result (λ found. found ≡ first_breach self.now at.now (rule ∷ [])) }
-    {
-        self.breach_among(alloc, *at, &[rule])
-    }
-
-    // Returns the first breach of some rules, in the order of this list.
+    // Returns the first breach of some rules at a place, in the order of this list.
     fn breach_among(
         &self,
         alloc: Global,
