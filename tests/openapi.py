@@ -142,7 +142,7 @@ def routes():
 def callers():
     """Of the source: the callers that the policy permits each method of each path."""
     policy = (POLICY / "policy.rt").read_text().split("fn kind(")[1].split("\n    }\n")[0]
-    rows = re.findall(r"((?:Command::\w+(?:\([^)]*\))?(?: \| )?)+|_) => (?:\{\s*)?Kind::(\w+)",
+    rows = re.findall(r"((?:Command::\w+(?:\([^)]*\))?(?:\s+\| )?)+|_) => (?:\{\s*)?Kind::(\w+)",
                       policy)
     kinds = {command: kind for names,
              kind in rows for command in re.findall(r"Command::(\w+)", names)}

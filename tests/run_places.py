@@ -3,8 +3,9 @@
 
 For every exam and every place of the small session, a fresh draft of the solution gets the edit
 that moves the exam there, and another one, from which the exam is cleared, the edit that places it
-there. Both have to answer what the place's line says: the penalty, or the breach. A failing case is
-printed with what was expected and what came, and the last line counts the cases.
+there. Both have to answer what the place's line says: the penalty, or the breach. The office has to
+list the same lines for both drafts. A failing case is printed with what was expected and what came,
+and the last line counts the cases.
 """
 import csv
 import http.client
@@ -21,6 +22,7 @@ from tools_path import TOP
 
 EXAMPLES = TOP / "examples"
 EXAMS = 4
+DRAFT = "/drafts/1"
 PLACES = [(period, room) for period in range(4) for room in range(2)]
 SOLUTIONS = {
     "the solution": (EXAMPLES / "small.sol").read_text(),
@@ -44,16 +46,26 @@ class Drafts:
         reply = connection.getresponse()
         return reply.status, reply.read().decode()
 
+    def begin(self, solution, exam, is_placed):
+        """Makes the draft of a solution, without the exam if it is not to be placed."""
+        self.ask("PUT", DRAFT, solution)
+        if not is_placed:
+            self.ask("DELETE", f"{DRAFT}/exams/{exam}", None)
+
+    def listed(self, solution, exam, is_placed):
+        """The text in which the office lists the exam's places."""
+        self.begin(solution, exam, is_placed)
+        said = self.ask("GET", f"{DRAFT}/exams/{exam}/places", None)
+        self.ask("DELETE", DRAFT, None)
+        return said
+
     def answer(self, solution, exam, place, is_placed):
         """The end of the place's line, by the edit that puts the exam there."""
-        draft = "/drafts/1"
-        self.ask("PUT", draft, solution)
-        if not is_placed:
-            self.ask("DELETE", f"{draft}/exams/{exam}", None)
+        self.begin(solution, exam, is_placed)
         edit = "move" if is_placed else "place"
-        status, said = self.ask("POST", f"{draft}/exams/{exam}/{edit}", json.dumps(place))
+        status, said = self.ask("POST", f"{DRAFT}/exams/{exam}/{edit}", json.dumps(place))
         reply = json.loads(said)
-        self.ask("DELETE", draft, None)
+        self.ask("DELETE", DRAFT, None)
         if status == 200:
             return [str(reply["penalty"]), "", "", ""]
         if reply["error"] == "broken":
@@ -62,12 +74,12 @@ class Drafts:
 
 
 def listed(program, folder, solution, exam):
-    """The lines of an exam's places, as the command prints them."""
+    """The text of an exam's places, as the command prints it."""
     (folder / "listed.sol").write_text(solution)
     ended = subprocess.run(
         [program, "places", EXAMPLES / "small.exam", folder / "listed.sol", str(exam)],
         capture_output=True, text=True, check=True, timeout=SECONDS)
-    return list(csv.reader(io.StringIO(ended.stdout)))[1:]
+    return ended.stdout
 
 
 def main():
@@ -79,9 +91,13 @@ def main():
         drafts = Drafts(program, folder)
         for name, solution in SOLUTIONS.items():
             for exam in range(EXAMS):
-                lines = listed(program, folder, solution, exam)
+                text = listed(program, folder, solution, exam)
+                lines = list(csv.reader(io.StringIO(text)))[1:]
                 judged.judge(f"{name}, exam {exam}: every place, by period and room", PLACES,
                              [(int(period), int(room)) for period, room, *_ in lines])
+                for is_placed in (True, False):
+                    judged.judge(f"{name}, exam {exam}: as the office lists them",
+                                 (200, text), drafts.listed(solution, exam, is_placed))
                 for period, room, *said in lines:
                     place = {"period": int(period), "room": int(room)}
                     for is_placed in (True, False):

@@ -140,6 +140,7 @@ def batch(rng, size, sent):
 
 QUESTIONS = ["/instance", "/publication", "/publication/penalty", "/publication/rooms",
              "/publication/seats", "/drafts/{d}", "/drafts/{d}/penalty", "/drafts/{d}/violations",
+             "/drafts/{d}/exams/{e}/places",
              "/me", "/me/exam/{e}", "/me/penalty", "/nothing", "/drafts", "/me/"]
 CALLERS = {"office": 75, "cand:{s}": 8, "dept:1": 8, "cand:0": 2, "dept:1000": 2, "Office": 3,
            None: 2}

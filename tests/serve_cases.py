@@ -135,6 +135,23 @@ PENALTY, VIOLATIONS = message("GET", "/drafts/1/penalty"), message("GET", "/draf
 PLACES = ('{"draft":1,"exams":[{"exam":0,"period":0,"room":0},{"exam":1,"period":1,"room":0},'
           '{"exam":2,"period":3,"room":1},{"exam":3,"period":2,"room":0}],"penalty":37}')
 
+# Where exam 3 can go from the small solution, as RULES.md works out by hand.
+PLACES_OF_3 = """period,room,penalty,rule,exam,other
+0,0,,Clash,0,3
+0,1,,Clash,0,3
+1,0,39,,,
+1,1,36,,,
+2,0,37,,,
+2,1,44,,,
+3,0,27,,,
+3,1,44,,,
+"""
+
+
+def places_of(exam, caller="office"):
+    return message("GET", f"/drafts/1/exams/{exam}/places", caller=caller)
+
+
 # The small solution published, and what its candidates see of it.
 PUBLISHED = (FROM_SOLUTION, drafted(201, 37)), (publish(), published(3, 37))
 UNPLACED = (EMPTY, drafted(201, 0)), (publish(), reply(409, '{"error":"unplaced","exam":0}'))
@@ -345,6 +362,30 @@ CASES = [
          (message("GET", "/publication/seat"), error(404, "path")),
          (message("GET", "/publication/seats/"), error(404, "path")),
          (message("GET", "/publication/seats?exam=0"), error(404, "path"))),
+    case("where an exam can go", SMALL,
+         (places_of(3), error(404, "draft")),
+         (FROM_SOLUTION, drafted(201, 37)),
+         (places_of(3), text(PLACES_OF_3)),
+         (places_of("03"), text(PLACES_OF_3)),
+         (places_of(4), error(404, "number")),
+         (places_of(999999999), error(404, "number")),
+         (places_of("x"), error(404, "path")),
+         (places_of(3, caller="dept:3"), forbidden("P3")),
+         (message("PUT", "/exams/3/owner", b'{"dept":3}'), reply(200, '{"dept":3,"exam":3}')),
+         (places_of(3, caller="dept:3"), text(PLACES_OF_3)),
+         (places_of(2, caller="dept:3"), forbidden("P3")),
+         (places_of(4, caller="dept:3"), forbidden("P3")),
+         (places_of(3, caller="cand:1"), forbidden("P1")),
+         (places_of(3, caller=None), error(400, "caller")),
+         *((message(method, "/drafts/1/exams/3/places", b"a body"), error(405, "method", "GET"))
+           for method in ("PUT", "POST", "DELETE")),
+         (message("GET", "/drafts/1/exams/3/places/"), error(404, "path")),
+         (message("GET", "/drafts/1/exams/3/places?room=0"), error(404, "path")),
+         (message("GET", "/drafts/1/exams/3/place"), error(405, "method", "POST")),
+         (message("GET", "/drafts/1"), reply(200, PLACES))),
+    case("where an exam can go, without a session", None,
+         (places_of(3), error(409, "not-loaded")),
+         (places_of(3, caller="dept:3"), forbidden("P3"))),
     case("candidate_view", SMALL,
          *PUBLISHED,
          (asked_by(2), SECOND_PAGE),

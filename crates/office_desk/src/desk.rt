@@ -16,7 +16,7 @@ use crate::changing::{
 };
 use crate::judging::permission;
 use crate::publications::{publication, publication_penalty, publication_rooms, publication_seats};
-use crate::showing::{draft, instance, penalty, violations};
+use crate::showing::{draft, instance, penalty, places, violations};
 use office_policy::{Caller, Command};
 use office_store::{Edit, Office, StoreFault};
 use sqlite::Alter;
@@ -113,6 +113,7 @@ fn perform<S: Alter>(
         Command::Draft(number) => draft(office, alloc, number),
         Command::DraftPenalty(number) => penalty(office, alloc, number),
         Command::DraftViolations(number) => violations(office, alloc, number),
+        Command::DraftPlaces(number, exam) => places(office, alloc, number, exam),
         Command::DropDraft(number) => drop_draft(office, number),
         Command::Place(number, exam, body) => {
             let place = body_or_answer(body)?;

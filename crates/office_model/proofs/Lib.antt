@@ -9,3 +9,4 @@ pub mod FollowLemmas
 pub mod ChangeLemmas
 pub mod AnswerLemmas
 mod ViewLemmas
+pub mod PlaceEditLemmas

@@ -22,7 +22,8 @@ use Rattle.office_files.proofs.ReadingLaws.{bind_ok, unless_ok}
 use Rattle.office_files.proofs.SolutionLaws.{solution_is_text}
 use Rattle.office_policy.specs.Commands.{HasSmallNumbers, PlainCommand, me, my_exam, my_penalty, load, instance}
 use Rattle.office_policy.specs.Commands.{set_owner, new_draft, draft, draft_penalty}
-use Rattle.office_policy.specs.Commands.{draft_violations, drop_draft, place, move, clear, swap}
+use Rattle.office_policy.specs.Commands.{draft_violations, draft_places, drop_draft, place, move}
+use Rattle.office_policy.specs.Commands.{clear, swap}
 use Rattle.office_policy.specs.Commands.{publish, publication, publication_penalty}
 use Rattle.office_policy.specs.Commands.{publication_rooms, publication_seats, batch}
 use Rattle.office_policy.specs.declared.callers.Caller.{Caller}
@@ -220,6 +221,7 @@ keeps old instance is small batches = tt
 keeps old (draft d) is small batches = tt
 keeps old (draft_penalty d) is small batches = tt
 keeps old (draft_violations d) is small batches = tt
+keeps old (draft_places d exam) is small batches = tt
 keeps old publication is small batches = tt
 keeps old publication_penalty is small batches = tt
 keeps old publication_rooms is small batches = tt

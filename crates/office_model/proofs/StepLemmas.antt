@@ -5,8 +5,8 @@ use Rattle.exam_draft.specs.declared.edit.Edit.{Edit}
 use Rattle.exam_draft.specs.declared.edit.Edit.TheVariants as edit
 use Rattle.office_policy.specs.Commands.{PlainCommand, me, my_exam, my_penalty, load, instance}
 use Rattle.office_policy.specs.Commands.{set_owner, new_draft, draft, draft_penalty}
-use Rattle.office_policy.specs.Commands.{draft_violations, drop_draft, place, move, clear, swap}
-use Rattle.office_policy.specs.Commands.{publish, publication, publication_penalty}
+use Rattle.office_policy.specs.Commands.{draft_violations, draft_places, drop_draft, place, move}
+use Rattle.office_policy.specs.Commands.{clear, swap, publish, publication, publication_penalty}
 use Rattle.office_policy.specs.Commands.{publication_rooms, publication_seats, batch}
 use Rattle.office_policy.specs.declared.callers.Caller.{Caller}
 use Rattle.office_policy.specs.declared.callers.Caller.TheVariants.{Office, Dept, Cand}
@@ -24,7 +24,7 @@ use Rattle.office_model.specs.Publishing.{draft_published}
 use Rattle.office_model.specs.Step.{outcome, candidate_outcome, permitted_outcome, if_allowed, allowed_in, step}
 use Rattle.office_model.proofs.CommandLemmas.{Frames, owned_frame, made_frame, dropped_frame}
 use Rattle.office_model.proofs.CommandLemmas.{edited_frame}
-use Rattle.office_model.proofs.ShownLemmas.{session_stays, draft_stays, in_session_stays}
+use Rattle.office_model.proofs.ShownLemmas.{session_stays, draft_stays, in_session_stays, places_stay}
 
 pub any_ok : {A F : Type 0} (P : A → Type 0) (m : Result A F) → ((x : A) → P x) → IfOk m P
 any_ok P (Ok x) h = h x
@@ -107,6 +107,7 @@ module _ (P : OfficeState → Type 0) (Q : PlainAnswer → Type 0) (old : Office
     permitted_law caller (draft d) h q = back _ (draft_stays old _ d)
     permitted_law caller (draft_penalty d) h q = back _ (draft_stays old _ d)
     permitted_law caller (draft_violations d) h q = back _ (in_session_stays old _ d)
+    permitted_law caller (draft_places d exam) h q = back _ (places_stay old _ d exam)
     permitted_law caller (drop_draft d) h q =
         outcome_law P Q (λ done. now_dropped d) old (draft_dropped d old) here h q
     permitted_law caller (place d exam (Given at)) h q = edited_law d (edit.Place exam at) h q
@@ -179,6 +180,7 @@ module _ (P : OfficeState → Type 0) (Q : PlainAnswer → Type 0) (old : Office
   framed_keeps (draft d) h = tt
   framed_keeps (draft_penalty d) h = tt
   framed_keeps (draft_violations d) h = tt
+  framed_keeps (draft_places d exam) h = tt
   framed_keeps (drop_draft d) h =
       whatever P Q (λ done. now_dropped d) (draft_dropped d old) (dropped_frame P d old frame)
   framed_keeps (place d exam (Given at)) h = edits d (edit.Place exam at)

@@ -14,3 +14,4 @@ pub mod Candidates
 pub mod Step
 pub mod Quiet
 pub mod Runs
+pub mod PlaceEdits

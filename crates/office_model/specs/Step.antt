@@ -1,11 +1,15 @@
 -- One step of the office: the policy is judged, then the body, then the state.
 use Rattle.std.specs.Prelude.{◌≡◌, ℕ, ◌⊎◌, List, Option, Some, None, option_map, Result, Ok, Err}
-use Rattle.exam_terms.specs.Refusing.{◌>>=◌, else_err}
+use Rattle.exam_terms.specs.Refusing.{◌>>=◌, else_err, unless}
 use Rattle.exam_model.specs.Enrolments.{Enrolled}
 use Rattle.exam_model.specs.Instance.{Session}
 use Rattle.exam_model.specs.Timetable.{Placing}
 use Rattle.exam_draft.specs.declared.edit.Edit.{Edit}
 use Rattle.exam_draft.specs.declared.edit.Edit.TheVariants as edit
+use Rattle.exam_draft.specs.declared.fault.EditFault.TheVariants.{NoSuch}
+use Rattle.exam_draft.specs.Edits.{exam_exists}
+use Rattle.exam_places.specs.declared.place_row.PlaceRow.{PlaceRow}
+use Rattle.exam_places.specs.Places.{places_of}
 use Rattle.exam_rules.specs.Breaches.{breaches_of}
 use Rattle.exam_score.specs.Penalty.{total_of}
 use Rattle.exam_score.specs.Track.{track}
@@ -13,8 +17,8 @@ use Rattle.office_files.specs.CanonicalText.{canonical_instance}
 use Rattle.office_files.specs.CanonicalSolution.{canonical_solution}
 use Rattle.office_policy.specs.Commands.{PlainCommand, me, my_exam, my_penalty, load, instance}
 use Rattle.office_policy.specs.Commands.{set_owner, new_draft, draft, draft_penalty}
-use Rattle.office_policy.specs.Commands.{draft_violations, drop_draft, place, move, clear, swap}
-use Rattle.office_policy.specs.Commands.{publish, publication, publication_penalty}
+use Rattle.office_policy.specs.Commands.{draft_violations, draft_places, drop_draft, place, move}
+use Rattle.office_policy.specs.Commands.{clear, swap, publish, publication, publication_penalty}
 use Rattle.office_policy.specs.Commands.{publication_rooms, publication_seats, batch}
 use Rattle.office_policy.specs.Policy.{kind_of, permits}
 use Rattle.office_policy.specs.declared.callers.Caller.{Caller}
@@ -24,6 +28,7 @@ use Rattle.office_policy.specs.declared.command.Body.TheVariants.{Given, Bad, Lo
 use Rattle.office_policy.specs.declared.policy.Denial.{Denial}
 use Rattle.office_policy.specs.declared.policy.Kind.{Kind}
 use Rattle.office_policy.specs.declared.policy.Kind.TheVariants.{Editing}
+use Rattle.office_reports.specs.PlaceList.{places_text}
 use Rattle.office_reports.specs.Reports.{penalty_text, violation_text}
 use Rattle.office_reports.specs.Rooms.{rooms_text}
 use Rattle.office_reports.specs.SeatList.{seats_text}
@@ -40,7 +45,8 @@ use Rattle.office_model.specs.Commands.{set_owner_result, owner_in, session_show
 use Rattle.office_model.specs.Office.{OfficeState, Publication, published_enrolments}
 use Rattle.office_model.specs.Publishing.{draft_published}
 use Rattle.office_model.specs.Views.{view_of}
-use Rattle.office_model.specs.declared.fault.StoreFault.TheVariants.{NoDraft}
+use Rattle.office_model.specs.declared.fault.Refusal.TheVariants as refusal
+use Rattle.office_model.specs.declared.fault.StoreFault.TheVariants.{NoDraft, Refused}
 
 -- the office after a step, and the answer
 abbrev pub Outcome : Type 0
@@ -69,6 +75,13 @@ draft_in_session d office = do
 -- the report of a draft's breaches
 abbrev pub violations_of : (Session × Enrolled) × Placing → List ℕ
 violations_of found = violation_text (breaches_of found.0.0 found.0.1 found.1)
+
+-- the places of an exam of the session, in a draft with the live enrolments
+abbrev pub draft_places_shown : ℕ → ℕ → OfficeState → CommandResult (List PlaceRow)
+draft_places_shown d exam office = do
+  found ← draft_in_session d office
+  _ ← unless (exam_exists found.0.0.0 exam) (Refused (refusal.Edit NoSuch))
+  Ok (places_of found.0.0.0 found.0.0.1 found.0.1 exam, found.1)
 
 -- the session and its publication, if there is one
 abbrev pub publication_in : OfficeState → Option (Session × Publication)
@@ -117,6 +130,8 @@ permitted_outcome old caller (draft_penalty d) =
     outcome (λ found. text (penalty_text found.1)) old (draft_shown d old)
 permitted_outcome old caller (draft_violations d) =
     outcome (λ found. text (violations_of found)) old (draft_in_session d old)
+permitted_outcome old caller (draft_places d exam) =
+    outcome (λ rows. text (places_text rows)) old (draft_places_shown d exam old)
 permitted_outcome old caller (drop_draft d) =
     outcome (λ done. now_dropped d) old (draft_dropped d old)
 permitted_outcome old caller (place d exam body) =

@@ -21,6 +21,7 @@ pub data PlainCommand : Type 0 where
   draft_penalty : ℕ → PlainCommand
   draft_violations : ℕ → PlainCommand
   drop_draft : ℕ → PlainCommand
+  draft_places : ℕ → ℕ → PlainCommand
   place : ℕ → ℕ → Body Place → PlainCommand
   move : ℕ → ℕ → Body Place → PlainCommand
   clear : ℕ → ℕ → PlainCommand
@@ -45,6 +46,7 @@ plain_command (command.Draft d) = draft d
 plain_command (command.DraftPenalty d) = draft_penalty d
 plain_command (command.DraftViolations d) = draft_violations d
 plain_command (command.DropDraft d) = drop_draft d
+plain_command (command.DraftPlaces d e) = draft_places d e
 plain_command (command.Place d e at) = place d e at
 plain_command (command.Move d e to) = move d e to
 plain_command (command.Clear d e) = clear d e
@@ -65,6 +67,7 @@ HasSmallNumbers (draft d) = IsSmall d
 HasSmallNumbers (draft_penalty d) = IsSmall d
 HasSmallNumbers (draft_violations d) = IsSmall d
 HasSmallNumbers (drop_draft d) = IsSmall d
+HasSmallNumbers (draft_places d e) = IsSmall d × IsSmall e
 HasSmallNumbers (place d e at) = IsSmall d × IsSmall e × IfBodyHasValue at IsSmallPlace
 HasSmallNumbers (move d e to) = IsSmall d × IsSmall e × IfBodyHasValue to IsSmallPlace
 HasSmallNumbers (clear d e) = IsSmall d × IsSmall e

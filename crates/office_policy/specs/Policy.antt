@@ -3,7 +3,8 @@ use Rattle.std.specs.Prelude.{ℕ, ◌==◌, ◌&&◌, Bool, true, false, Some, 
 use Rattle.office_policy.specs.declared.callers.Caller.{Caller}
 use Rattle.office_policy.specs.declared.callers.Caller.TheVariants.{Office, Dept, Cand}
 use Rattle.office_policy.specs.Commands.{PlainCommand, me, my_exam, my_penalty, draft}
-use Rattle.office_policy.specs.Commands.{draft_penalty, draft_violations, place, move, clear, swap}
+use Rattle.office_policy.specs.Commands.{draft_penalty, draft_violations, draft_places, place}
+use Rattle.office_policy.specs.Commands.{move, clear, swap}
 use Rattle.office_policy.specs.declared.policy.Denial.{Denial}
 use Rattle.office_policy.specs.declared.policy.Denial.TheVariants.{P1, P2, P3, P4}
 use Rattle.office_policy.specs.declared.policy.Kind.{Kind}
@@ -17,6 +18,7 @@ kind_of my_penalty = Personal
 kind_of (draft d) = Reading
 kind_of (draft_penalty d) = Reading
 kind_of (draft_violations d) = Reading
+kind_of (draft_places d e) = Editing e None
 kind_of (place d e at) = Editing e None
 kind_of (move d e to) = Editing e None
 kind_of (clear d e) = Editing e None

@@ -37,6 +37,8 @@ pub enum Command<'a> {
     DraftViolations(u32),
     /// `DELETE /drafts/{d}`
     DropDraft(u32),
+    /// `GET /drafts/{d}/exams/{e}/places`
+    DraftPlaces(u32, ExamNo),
     /// `POST /drafts/{d}/exams/{e}/place`
     Place(u32, ExamNo, Body<Place>),
     /// `POST /drafts/{d}/exams/{e}/move`

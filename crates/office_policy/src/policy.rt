@@ -14,7 +14,8 @@ pub enum Denial {
     P1,
     /// Only the office may run the command, and a department asks for it.
     P2,
-    /// A department edits an exam that it doesn't own, or that doesn't exist.
+    /// A department edits an exam that it doesn't own, or that doesn't exist, or asks where such an
+    /// exam can go.
     P3,
     /// The office or a department asks for a candidate's page.
     P4,
@@ -29,7 +30,8 @@ pub enum Kind {
     Official,
     /// Reading a draft and its reports.
     Reading,
-    /// Placing, moving or clearing an exam of a draft, or swapping it with another.
+    /// Placing, moving or clearing an exam of a draft, swapping it with another, or asking where it
+    /// can go.
     Editing(ExamNo, Option<ExamNo>),
 }
 
@@ -43,9 +45,10 @@ impl Command<'_> {
             Command::Draft(_) | Command::DraftPenalty(_) | Command::DraftViolations(_) => {
                 Kind::Reading
             }
-            Command::Place(_, exam, _) | Command::Move(_, exam, _) | Command::Clear(_, exam) => {
-                Kind::Editing(exam, None)
-            }
+            Command::DraftPlaces(_, exam)
+            | Command::Place(_, exam, _)
+            | Command::Move(_, exam, _)
+            | Command::Clear(_, exam) => Kind::Editing(exam, None),
             Command::Swap(_, a, b) => Kind::Editing(a, Some(b)),
             _ => Kind::Official,
         }

@@ -11,8 +11,8 @@ use Rattle.exam_terms.specs.declared.place.Place.{Place}
 use Rattle.office_policy.specs.Numbers.{IsSmall}
 use Rattle.office_policy.specs.Commands.{PlainCommand, HasSmallNumbers}
 use Rattle.office_policy.specs.Commands.{me, my_exam, my_penalty, load, set_owner, new_draft, draft}
-use Rattle.office_policy.specs.Commands.{draft_penalty, draft_violations, drop_draft, place, move}
-use Rattle.office_policy.specs.Commands.{clear, swap, publish, batch}
+use Rattle.office_policy.specs.Commands.{draft_penalty, draft_violations, draft_places, drop_draft}
+use Rattle.office_policy.specs.Commands.{place, move, clear, swap, publish, batch}
 use Rattle.office_policy.specs.declared.callers.Caller.{Caller}
 use Rattle.office_policy.specs.declared.callers.Caller.TheVariants.{Cand}
 use Rattle.office_policy.specs.declared.command.Body.{Body}
@@ -120,6 +120,9 @@ same_row t p = (refl, refl)
 -- each page is among the pages
 in_pages : (p : Page) → IsIn (pattern_of (parts_of p)) p pages
 in_pages page.Me = search (inl, inr, same_row) depth 60 fits 4000
+in_pages page.Publication =
+    inr (inr (inr (inr (inr (inr (inr (inr (inr (inr (inr (inr (inr (inr (inr (inr (inr (inr (inl (refl, refl)
+    ))))))))))))))))))
 in_pages _ = search (inl, inr, same_row) depth 60 fits 4000
 
 -- a path that the pattern of the page takes is the page's
@@ -142,6 +145,7 @@ filled (new_draft d text) small = (small, tt)
 filled (draft d) small = (small, tt)
 filled (draft_penalty d) small = (small, tt)
 filled (draft_violations d) small = (small, tt)
+filled (draft_places d e) small = (small.0, (small.1, tt))
 filled (drop_draft d) small = (small, tt)
 filled (place d e at) small = (small.0, (small.1, tt))
 filled (move d e to) small = (small.0, (small.1, tt))

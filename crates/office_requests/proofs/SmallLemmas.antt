@@ -160,6 +160,7 @@ command_small Put page.Draft n body small = small.0
 command_small Get page.Draft n body small = small.0
 command_small Get page.DraftPenalty n body small = small.0
 command_small Get page.DraftViolations n body small = small.0
+command_small Get page.DraftPlaces n body small = (small.0, small.1)
 command_small Delete page.Draft n body small = small.0
 command_small Post page.Place n body small = (small.0, small.1, place_small body)
 command_small Post page.Move n body small = (small.0, small.1, place_small body)

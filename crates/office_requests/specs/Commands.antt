@@ -3,8 +3,9 @@ use Rattle.std.specs.Prelude.{◌≡◌, ℕ, Bool, true, false, List, Option, S
 use Rattle.exam_terms.specs.Refusing.{◌>>=◌, else_err}
 use Rattle.office_policy.specs.Commands.{PlainCommand, me, my_exam, my_penalty, load, instance}
 use Rattle.office_policy.specs.Commands.{set_owner, new_draft, draft, draft_penalty}
-use Rattle.office_policy.specs.Commands.{draft_violations, drop_draft, place, move, clear, swap}
-use Rattle.office_policy.specs.Commands.{publish, publication, publication_penalty}
+use Rattle.office_policy.specs.Commands.{draft_violations, draft_places, drop_draft, place}
+use Rattle.office_policy.specs.Commands.{move, clear, swap, publish, publication}
+use Rattle.office_policy.specs.Commands.{publication_penalty}
 use Rattle.office_policy.specs.Commands.{publication_rooms, publication_seats, batch}
 use Rattle.office_policy.specs.declared.command.Body.TheVariants.{Given}
 use Rattle.office_requests.specs.Bodies.{text_body, place_body, dept_body}
@@ -28,6 +29,7 @@ command_of Put page.Draft n body = Some (new_draft n.0 (text_body body))
 command_of Get page.Draft n body = Some (draft n.0)
 command_of Get page.DraftPenalty n body = Some (draft_penalty n.0)
 command_of Get page.DraftViolations n body = Some (draft_violations n.0)
+command_of Get page.DraftPlaces n body = Some (draft_places n.0 n.1)
 command_of Delete page.Draft n body = Some (drop_draft n.0)
 command_of Post page.Place n body = Some (place n.0 n.1 (place_body body))
 command_of Post page.Move n body = Some (move n.0 n.1 (place_body body))

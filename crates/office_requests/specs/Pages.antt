@@ -30,6 +30,7 @@ parts_of page.Owner = word (codes "exams") ∷ number ∷ word (codes "owner") �
 parts_of page.Draft = draft []
 parts_of page.DraftPenalty = draft (word (codes "penalty") ∷ [])
 parts_of page.DraftViolations = draft (word (codes "violations") ∷ [])
+parts_of page.DraftPlaces = draft_exam (word (codes "places") ∷ [])
 parts_of page.Place = draft_exam (word (codes "place") ∷ [])
 parts_of page.Move = draft_exam (word (codes "move") ∷ [])
 parts_of page.Slot = draft_exam []
@@ -50,8 +51,8 @@ pattern_of (number ∷ parts) = slash ∷ param_token ∷ pattern_of parts
 -- the pages, in the order in which the router searches them
 abbrev pub all_pages : List Page
 all_pages =
-    page.Batch ∷ page.Move ∷ page.Place ∷ page.Slot ∷ page.DraftPenalty ∷ page.Publish ∷ page.Swap
-    ∷ page.DraftViolations ∷ page.Draft ∷ page.Owner ∷ page.Instance ∷ page.MyExam
+    page.Batch ∷ page.Move ∷ page.DraftPlaces ∷ page.Place ∷ page.Slot ∷ page.DraftPenalty
+    ∷ page.Publish ∷ page.Swap ∷ page.DraftViolations ∷ page.Draft ∷ page.Owner ∷ page.Instance ∷ page.MyExam
     ∷ page.MyPenalty ∷ page.Me ∷ page.PublicationPenalty ∷ page.PublicationRooms
     ∷ page.PublicationSeats ∷ page.Publication ∷ []
 

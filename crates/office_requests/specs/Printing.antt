@@ -3,8 +3,9 @@ use Rattle.std.specs.Prelude.{ℕ, List, [], ◌∷◌, ◌++◌, codes, decimal
 use Rattle.matchit.specs.Seek.{slash}
 use Rattle.office_policy.specs.Commands.{PlainCommand, me, my_exam, my_penalty, load, instance}
 use Rattle.office_policy.specs.Commands.{set_owner, new_draft, draft, draft_penalty}
-use Rattle.office_policy.specs.Commands.{draft_violations, drop_draft, place, move, clear, swap}
-use Rattle.office_policy.specs.Commands.{publish, publication, publication_penalty}
+use Rattle.office_policy.specs.Commands.{draft_violations, draft_places, drop_draft, place}
+use Rattle.office_policy.specs.Commands.{move, clear, swap, publish, publication}
+use Rattle.office_policy.specs.Commands.{publication_penalty}
 use Rattle.office_policy.specs.Commands.{publication_rooms, publication_seats, batch}
 use Rattle.office_requests.specs.Pages.{Part, word, number, parts_of}
 use Rattle.office_requests.specs.declared.routes.Page.{Page}
@@ -23,6 +24,7 @@ row_of (draft d) = (codes "GET", page.Draft, d ∷ [])
 row_of (draft_penalty d) = (codes "GET", page.DraftPenalty, d ∷ [])
 row_of (draft_violations d) = (codes "GET", page.DraftViolations, d ∷ [])
 row_of (drop_draft d) = (codes "DELETE", page.Draft, d ∷ [])
+row_of (draft_places d e) = (codes "GET", page.DraftPlaces, d ∷ e ∷ [])
 row_of (place d e at) = (codes "POST", page.Place, d ∷ e ∷ [])
 row_of (move d e to) = (codes "POST", page.Move, d ∷ e ∷ [])
 row_of (clear d e) = (codes "DELETE", page.Slot, d ∷ e ∷ [])

@@ -58,6 +58,7 @@ fn command_of<'a>(
         (Verb::Get, Page::Draft) => Command::Draft(first),
         (Verb::Get, Page::DraftPenalty) => Command::DraftPenalty(first),
         (Verb::Get, Page::DraftViolations) => Command::DraftViolations(first),
+        (Verb::Get, Page::DraftPlaces) => Command::DraftPlaces(first, ExamNo::new(second)),
         (Verb::Delete, Page::Draft) => Command::DropDraft(first),
         (Verb::Post, Page::Place) => {
             Command::Place(first, ExamNo::new(second), place_body(alloc, body)?)

@@ -24,7 +24,9 @@ pub(crate) fn numbers_in(page: Page, path: &[u8]) -> Result<(u32, u32, u32), Ref
         | Page::DraftViolations
         | Page::Publish
         | Page::Batch => (number_in(path, 2)?, 0, 0),
-        Page::Place | Page::Move | Page::Slot => (number_in(path, 2)?, number_in(path, 4)?, 0),
+        Page::DraftPlaces | Page::Place | Page::Move | Page::Slot => {
+            (number_in(path, 2)?, number_in(path, 4)?, 0)
+        }
         Page::Swap => (
             number_in(path, 2)?,
             number_in(path, 4)?,

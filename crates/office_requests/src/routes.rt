@@ -19,6 +19,7 @@ pub enum Page {
     Draft,
     DraftPenalty,
     DraftViolations,
+    DraftPlaces,
     Place,
     Move,
     /// An exam's place in a draft.
@@ -33,7 +34,7 @@ pub enum Page {
 }
 
 // Each page with its route.
-const ROUTES: [(&str, Page); 18] = [
+const ROUTES: [(&str, Page); 19] = [
     ("/me", Page::Me),
     ("/me/exam/{n}", Page::MyExam),
     ("/me/penalty", Page::MyPenalty),
@@ -42,6 +43,7 @@ const ROUTES: [(&str, Page); 18] = [
     ("/drafts/{d}", Page::Draft),
     ("/drafts/{d}/penalty", Page::DraftPenalty),
     ("/drafts/{d}/violations", Page::DraftViolations),
+    ("/drafts/{d}/exams/{e}/places", Page::DraftPlaces),
     ("/drafts/{d}/exams/{e}/place", Page::Place),
     ("/drafts/{d}/exams/{e}/move", Page::Move),
     ("/drafts/{d}/exams/{e}", Page::Slot),

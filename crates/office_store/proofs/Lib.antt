@@ -20,6 +20,7 @@ pub mod StepLemmas
 pub mod CommandLemmas
 pub mod OpenLemmas
 pub mod JudgeLemmas
+pub mod PlaceListLemmas
 pub mod PublishedReadLemmas
 pub mod NewPublicationLemmas
 pub mod PublishLemmas

@@ -5,6 +5,7 @@ ghost use Rattle.sqlite.specs.State.{HasCleanDisk};
 ghost use Rattle.office_model.specs.Office.{OfficeState};
 ghost use Rattle.office_model.specs.Commands.{session_shown};
 ghost use Rattle.office_model.specs.DraftCommands.{draft_shown};
+ghost use Rattle.office_model.specs.Step.{draft_places_shown};
 ghost use Rattle.office_records.specs.Representation.{RepresentsOffice};
 ghost use Rattle.office_store.specs.Judging.{draft_judged, plain_list};
 ghost use Rattle.office_store.specs.Leaving.{LeavesUnchanged};
@@ -13,10 +14,12 @@ ghost use Rattle.office_store.specs.Pricing.{draft_priced};
 ghost use Rattle.office_store.specs.Running.{CommandOutcome, CommandRan};
 
 use crate::office::Office;
-use exam_model::{Enrolments, Instance, Timetable};
+use exam_draft::EditFault;
+use exam_model::{Enrolments, ExamNo, Instance, Timetable};
+use exam_places::{PlaceRow, places_if_scored};
 use exam_rules::{Breach, breaches};
 use exam_score::Parts;
-use office_model::StoreFault;
+use office_model::{Refusal, StoreFault};
 use sqlite::Alter;
 use std::alloc::Global;
 
@@ -92,5 +95,35 @@ impl<S: Alter> Office<S> {
         };
         let breaches = breaches(alloc, instance, enrolments, &draft.timetable)?;
         Ok(breaches)
+    }
+
+    /// Returns every place for an exam of a draft, with what the edit that puts the exam there
+    /// answers. `NotLoaded`, then `NoDraft`: no draft has this number, then `Refused`: there is no
+    /// such exam.
+    pub fn places(
+        &mut self,
+        alloc: Global,
+        number: u32,
+        exam: ExamNo,
+    ) -> Result<Vec<PlaceRow>, StoreFault>
+        ensures runs { CommandRan S.Store (draft_places_shown number exam)
+            self.old self.new (plain_list result) }
+        // While it is open, the database is unchanged. On `Ok` memory and the file agree.
+        ensures leaves { LeavesUnchanged S.Store self.old self.new result }
+    {
+        self.look()?;
+        let memory = &self.memory;
+        let Some((instance, enrolments)) = &memory.kept else {
+            return Err(StoreFault::NotLoaded);
+        };
+        let Some(draft) = memory.draft(number) else {
+            return Err(StoreFault::NoDraft);
+        };
+        if exam.get() >= instance.exams() {
+            return Err(StoreFault::Refused(Refusal::Edit(EditFault::NoSuch)));
+        }
+        let (timetable, parts) = (&draft.timetable, draft.parts);
+        let rows = places_if_scored(alloc, instance, enrolments, timetable, parts, exam)?;
+        Ok(rows)
     }
 }

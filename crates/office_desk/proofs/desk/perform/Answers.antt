@@ -21,6 +21,9 @@ returns-in-DraftPenalty g c = rw c.in-DraftPenalty.is (c.penalty.ensures c.args.
 pub returns-in-DraftViolations : goal.returns-in-DraftViolations
 returns-in-DraftViolations g c = rw c.in-DraftViolations.is (c.violations.ensures c.args.caller)
 
+pub returns-in-DraftPlaces : goal.returns-in-DraftPlaces
+returns-in-DraftPlaces g c = rw c.in-DraftPlaces.is (c.places.ensures c.args.caller)
+
 pub returns-in-DropDraft : goal.returns-in-DropDraft
 returns-in-DropDraft g c = rw c.in-DropDraft.is (c.drop_draft.ensures c.args.caller)
 
