@@ -2,7 +2,8 @@
 import base64
 import pathlib
 
-from serve_cases import FIRST, SECOND, SOLUTION, cost, me, message, report
+from serve_cases import (
+    FIRST, PLACES_OF_3, SECOND, SOLUTION, cost, me, message, report)
 
 TOP = pathlib.Path(__file__).resolve().parent.parent
 
@@ -60,7 +61,7 @@ MADE = [(ask("registry", "PUT", "/drafts/1", SOLUTION), (201, b'{"draft":1,"pena
          (200, b'{"changed":3,"draft":1,"penalty":37}')),
         (ask("registry", "PUT", "/drafts/2", BROKEN), (201, b'{"draft":2,"penalty":34}'))]
 FIRST_VIEW, SECOND_VIEW = parted(me(1, 6, *FIRST)), parted(me(2, 8, *SECOND))
-P1, P2, P4 = (told_error(403, "forbidden", rule=rule) for rule in ("P1", "P2", "P4"))
+P1, P2, P3, P4 = (told_error(403, "forbidden", rule=rule) for rule in ("P1", "P2", "P3", "P4"))
 REQUEST, CALLER, PATH = (told_error(status, error) for status, error in
                          ((400, "request"), (400, "caller"), (404, "path")))
 CANDIDATE = ask("ada", "GET", "/me")
@@ -84,6 +85,9 @@ CALLERS = [
     ("a department", ask("physics", "GET", "/drafts/2/violations"),
      (200, b"breaches 1\nAfter 1 0\n")),
     ("a department that publishes", ask("physics", "POST", "/drafts/1/publish"), P2),
+    *((f"where an exam can go, for {user}", ask(user, "GET", "/drafts/1/exams/3/places"), answer)
+      for user, answer in (("registry", (200, PLACES_OF_3.encode())), ("physics", P3),
+                           ("ada", P1))),
     ("a user who is nobody", ask("nobody", "GET", "/me"), CALLER),
     ("X-Caller of the office", ask("ada", "GET", "/me", b"", "X-Caller: office"), FIRST_VIEW),
     ("X-Caller of another", ask("ada", "GET", "/me", b"", "x-caller: cand:2"), FIRST_VIEW),

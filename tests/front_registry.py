@@ -16,7 +16,6 @@ import time
 
 import browser
 import front_sign_in
-import places_office
 import sign_on
 from front_cases import told_error
 from front_page import Page, is_read
@@ -68,16 +67,6 @@ class Service:
             return ledger.execute(statement).fetchall()
 
 
-# Where exam 3 of the small solution can go (docs/RULES.md); and the same if exam 2 has no place,
-# which costs 13 points (1, 5 and 7), and 23 beside exam 3, because their durations differ.
-def listed(*points):
-    return ("period,room,penalty,rule,exam,other\n0,0,,Clash,0,3\n0,1,,Clash,0,3\n" + "".join(
-        f"{place // 2},{place % 2},{one},,,\n" for place, one in enumerate(points, 2))).encode()
-
-
-PLACES, FEWER = listed(39, 36, 37, 44, 27, 44), listed(26, 23, 24, 31, 14, 21)
-
-
 class Stack(front_sign_in.Stack):
     """Front, queue, agent and office, and the registry's service with a token of its own; with the
     session of the small example, or new."""
@@ -85,7 +74,7 @@ class Stack(front_sign_in.Stack):
     def __init__(self, run, make_front, name, edits=(), is_new=False, **more):
         folder = run.folder / name
         super().__init__(run, make_front, name, (
-            ("/run/examoffice-registry", f"{folder}/registry"), ("rate=2r/s", "rate=9000r/s"),
+            ("/run/examoffice-registry", f"{folder}/registry"),
             ("/var/lib/examoffice-front", f"{folder}/front/run"), *edits),
             **({"start": None} if is_new else {}), **more)
         with contextlib.ExitStack() as begun:
@@ -98,8 +87,7 @@ class Stack(front_sign_in.Stack):
                 "REGISTRY_FRONT": f"{front}/run/front.sock", "REGISTRY_TOKEN": self.token,
                 "REGISTRY_LOG": f"{front}/run/changes.log", "REGISTRY_PUBLICATIONS": "4",
                 # A new session is asked for more than once.
-                "REGISTRY_HELD": "0.01",
-                "EXAMOFFICE": str(places_office.command(run.program, folder))})
+                "REGISTRY_HELD": "0.01"})
             begun.callback(self.service.stop)
             (front / "labels").rename(front / "labels.small")
             if is_new:
@@ -169,8 +157,6 @@ def strangers(run, stack):
     office = signed_in(stack, "registry")
     run.judge("no service", ((200, b"null"), NONE), tuple(
         office.ask("GET", f"/-/registry/{path}")[::2] for path in ("about", "batches")))
-    run.judge("places without it", told_error(404, "path"), office.ask(
-        "GET", "/drafts/1/exams/3/places")[::2])
     stack.service.start()
     browser.until("the service answers", lambda: asked(office, "GET", "about") == (
         200, {"ledger": True}))
@@ -180,31 +166,6 @@ def strangers(run, stack):
     run.judge("the names of its sessions, for others", (200, 401), tuple(
         Client(stack.front, host="other.session").ask("GET", "/instance", **fields)[0]
         for fields in ({"Authorization": f"Bearer {stack.token}"}, {})))
-
-
-def places(run, stack):
-    """Where an exam can go, for the office, as long as the office doesn't answer it itself."""
-    client = {user: signed_in(stack, user) for user in ("registry", "physics", "ada")}
-
-    def told(user, path="/drafts/1/exams/3/places"):
-        return client[user].ask("GET", path)[::2]
-
-    def edited(method, path, body=b""):
-        return client["registry"].ask(method, f"/drafts/1/exams/{path}", body)[0]
-
-    run.judge("the places of an exam", (200, PLACES), told("registry"))
-    run.judge("it is taken out", 200, edited("DELETE", "3"))
-    run.judge("the places of an exam without one", (200, PLACES), told("registry"))
-    run.judge("another one is taken out", 200, edited("DELETE", "2"))
-    run.judge("its places beside another one", (200, FEWER), told("registry"))
-    run.judge("they are placed again", (200, 200), (
-        edited("POST", "2/place", b'{"period":3,"room":1}'),
-        edited("POST", "3/place", b'{"period":2,"room":0}')))
-    for path, error in (("/drafts/7/exams/3/places", "draft"),
-                        ("/drafts/1/exams/4/places", "number")):
-        run.judge(path, told_error(404, error), told("registry", path))
-    run.judge("the places for a department", told_error(404, "path"), told("physics"))
-    run.judge("the places for a candidate", told_error(403, "forbidden", rule="P1"), told("ada"))
 
 
 def batches(run, stack):
@@ -330,9 +291,8 @@ def history(run, stack):
     _, found = asked(ada, "GET", "history?student=1")
     run.judge("why a seat changed", ([[0, 0, 0, 1, 1, None], [3, 2, 0, 1, 1, 1],
                                       [3, 3, 1, 2, 2, None]],
-                                     [["moved", 3, "registry", "office", '{"period":3,"room":1}'],
-                                      ["placed", 3, "registry", "office", '{"period":2,"room":0}'],
-                                      ["cleared", 3, "registry", "office", ""]]),
+                                     [["moved", 3, "registry", "office",
+                                       '{"period":3,"room":1}']]),
               ([[one[name] for name in ("exam", "period", "room", "seat", "first", "last")]
                 for one in found["seats"]],
                [[one[name] for name in ("what", "exam", "by", "caller", "body")]
@@ -340,9 +300,8 @@ def history(run, stack):
     run.judge("where an exam was", [[1, 2, 0], [2, 3, 1]], [
         [one[name] for name in ("publication", "period", "room")]
         for one in asked(ada, "GET", "history?exam=3")[1]["places"]])
-    run.judge("what was done", [
-        "published", "moved", "placed", "placed", "cleared", "cleared", "published", "made"], [
-            one["what"] for one in asked(ada, "GET", "history")[1]["edits"]])
+    run.judge("what was done", ["published", "moved", "published", "made"], [
+        one["what"] for one in asked(ada, "GET", "history")[1]["edits"]])
     run.judge("a kept timetable", (200, b"0, 0\r\n1, 0\r\n3, 1\r\n2, 0\r\n"),
               asked(ada, "GET", "publications/1"))
     for path in ("publications/9", "differences?from=1&to=9", "differences?from=1",
@@ -772,7 +731,7 @@ def judge_stack(run, make_front):
     stack = Stack(run, make_front, "registry")
     try:
         published_first(run, stack)
-        for part in (places, strangers, history, lists, batches, new_students, at_once):
+        for part in (strangers, history, lists, batches, new_students, at_once):
             part(run, stack)
     finally:
         stack.stop()

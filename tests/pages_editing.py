@@ -2,7 +2,8 @@
 anything is made; by mouse and by keyboard; undo and redo."""
 from front_page import opened
 from pages_all import CONTRAST, FONT_SIZE, LACKS
-from places_office import asked
+from run_serve import one_reply
+from serve_cases import message
 
 FRIDAY, MONDAY = "2005-04-15", "2005-04-18"
 HALL, ROOM = "Great Hall", "Room 2.14"
@@ -205,8 +206,10 @@ def swapped(page, words):
 
 def moved_elsewhere(edited, period, room):
     """The office moves PHYS102."""
-    asked(edited.office.port, "POST", "/drafts/1/exams/3/move",
-          '{"period":%d,"room":%d}' % (period, room))
+    with edited.office.connect() as client:
+        client.sendall(message("POST", "/drafts/1/exams/3/move",
+                               b'{"period":%d,"room":%d}' % (period, room)))
+        one_reply(client)
 
 
 def changed_meanwhile(page, edited, words):

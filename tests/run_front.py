@@ -34,7 +34,6 @@ import front_queue
 import front_registry
 import front_sign_in
 import openapi
-import places_office
 import sign_on
 from front_cases import (
     CALLER, CALLERS, CANDIDATE, FAULTY_PEOPLE, FAULTY_STUDENTS, FIRST_VIEW, LABELS, LOGGED,
@@ -620,8 +619,7 @@ def wide_session(run):
 
 
 class EditedOffice:
-    """A front before an office of its own that answers where an exam can go, and that can be
-    started again."""
+    """A front before an office of its own that can be started again."""
 
     def __init__(self, run):
         self.run, self.begun = run, contextlib.ExitStack()
@@ -636,9 +634,7 @@ class EditedOffice:
         self.begun.callback(lambda: self.office.killed())
         with contextlib.ExitStack() as begun:
             begun.callback(self.begun.close)
-            self.places = self.begun.enter_context(
-                places_office.with_places(self.run.program, self.office.port))
-            self.front = Front(self.run.folder / "edited", self.places.server_port)
+            self.front = Front(self.run.folder / "edited", self.office.port)
             self.begun.callback(self.front.stop)
             for question, answer in MADE:
                 self.run.judge("the start of editing", answer, self.front.told(question))
@@ -651,8 +647,7 @@ class EditedOffice:
     def restart(self):
         """Ends the office, and starts it again with its file."""
         self.office.killed()
-        self.office = Office(self.run.program, self.database)
-        self.places.RequestHandlerClass.port = self.office.port
+        self.office = Office(self.run.program, self.database, port=self.office.port)
 
 
 @contextlib.contextmanager

@@ -47,10 +47,10 @@ class Office:
     """The program while it serves a database; its end is waited for, and judged."""
 
     def __init__(self, program, database, connections=1_000_000, patience=None,
-                 stderr=subprocess.PIPE, env=None):
+                 stderr=subprocess.PIPE, env=None, port=0):
         more = ["--patience", str(patience)] if patience else []
         self.process = subprocess.Popen(
-            [program, "serve", "--db", str(database), "--port", "0",
+            [program, "serve", "--db", str(database), "--port", str(port),
              "--connections", str(connections), *more],
             stdin=subprocess.DEVNULL, stdout=subprocess.PIPE, stderr=stderr, env=env)
         line = self.process.stdout.readline()

@@ -22,7 +22,6 @@ import time
 import browser
 import front_registry
 import front_sign_in
-import places_office
 from front_page import KEYS, is_read, reading, sheets_printed
 from front_cases import ask, password
 from run_front import NGINX, TOP, Front
@@ -283,13 +282,12 @@ def main():
     if lacking:
         print(f"university: left out without {' and '.join(lacking)}")
         return 0
-    with tempfile.TemporaryDirectory() as folder, contextlib.ExitStack() as stack:
+    with tempfile.TemporaryDirectory() as folder:
         run, times = Run(pathlib.Path(sys.argv[1]).resolve(), folder, "university"), Times()
         office, front_folder, labels = set_up(run, times)
         try:
-            places = stack.enter_context(places_office.with_places(run.program, office.port))
             # The exam is chosen five times at once.
-            front = Front(front_folder, places.server_port, edits=(("rate=2r/s", "rate=9r/s"),))
+            front = Front(front_folder, office.port, edits=(("rate=2r/s", "rate=9r/s"),))
             try:
                 with browser.Browser(run.folder) as chromium:
                     registrys_week(run, times, chromium, front, labels)

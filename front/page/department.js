@@ -206,20 +206,13 @@ function formChange() {
 
 // ---- Where an exam can go
 
-/** Asks where the exam of the form can go, and lists it; an office that doesn't know is left at that. */
+/** Asks where the exam of the form can go, and lists it. */
 function look() {
   const exam = Number(byId('edit-exam').value);
   const draft = openDraft();
   const name = office.names.exam(exam);
   showProgress(`Looking where ${name} can go …`, async () => {
-    let options;
-    try {
-      options = await readOptions(draft.number, exam);
-    } catch (refusal) {
-      if (refusal.error !== 'path') throw refusal;
-      byId('edit-kind').focus();
-      return `Choose a period and a room for ${name}.`;
-    }
+    const options = await readOptions(draft.number, exam);
     showOptions(exam, draft, options);
     return `${count(options.filter(({ points }) => points !== null).length, 'place')} of ${
       numeral(options.length)} are free for ${name}. Choosing one makes the change.`;

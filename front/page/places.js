@@ -26,15 +26,9 @@ export const optionsIn = (text) => text.trimEnd().split('\n').slice(1).map((line
     exams: isFree ? [] : exams.map(Number) };
 });
 
-/** Asks where an exam of a draft can go. */
-export async function readOptions(draft, exam) {
-  try {
-    return optionsIn(await ask(`/drafts/${draft}/exams/${exam}/places`));
-  } catch (refusal) {
-    if (refusal.error === 'path') refusal.words = 'This office doesn\'t list where an exam can go.';
-    throw refusal;
-  }
-}
+/** Asks the office where an exam of a draft can go. */
+export const readOptions = async (draft, exam) => (
+  optionsIn(await ask(`/drafts/${draft}/exams/${exam}/places`)));
 
 // Rules that another room of the same period can keep.
 const OF_ROOMS = ['Capacity', 'RoomExclusive'];

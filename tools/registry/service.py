@@ -37,7 +37,6 @@ from .ledger import Ledger, NotALedger, locked
 from .list_jobs import Busy, Jobs, wanted_in
 from .office import TOKEN as TOKEN_NAME
 from .office import Office, OfficeBySocket, Refused
-from .places import places_of_exam
 from .published import words_of_last
 from .sending import send_all, send_one
 from .setting_up import FILES, Changed, Loaded, set_up
@@ -257,14 +256,6 @@ def batch(number: str) -> tuple[dict[str, Any], int]:
     return {"number": int(number), "changes": [
         {"student": student, "exam": exam, "action": action, "acted": bool(acted)}
         for student, exam, action, acted in rows]}, 200
-
-
-# ---- Where an exam can go, as long as the office doesn't answer it itself
-
-@app.get("/drafts/<int:draft>/exams/<int:exam>/places")
-def places(draft: int, exam: int) -> flask.Response:
-    return flask.Response(places_of_exam(office_of(session()), draft, exam),
-                          mimetype="text/plain")
 
 
 # ---- History
