@@ -3,16 +3,17 @@
 
 The CSV files of examples/university become a session; a browser opens the registry's page,
 publishes the timetable, prints it, and sends late changes by codes; a hundred candidates open
-their pages at once from one address. Then such a session is set up on the page, beside the
-registry's service. A failing case is printed with what was expected and what
-came; then come the times, and the last line counts the cases. It isn't part of the gate, which
-`./test university` says.
+their pages at once from one address; a hundred places of exams are compared with the edits that
+put the exams there. Then such a session is set up on the page, beside the registry's service. A
+failing case is printed with what was expected and what came; then come the times, and the last
+line counts the cases. It isn't part of the gate; `./test university` runs it.
 """
 import collections
 import concurrent.futures
 import contextlib
 import json
 import pathlib
+import random
 import shutil
 import subprocess
 import sys
@@ -25,8 +26,8 @@ import front_sign_in
 from front_page import KEYS, is_read, reading, sheets_printed
 from front_cases import ask, password
 from run_front import NGINX, TOP, Front
-from run_serve import Office, Run
-from serve_cases import message
+from run_serve import Office, Run, one_reply
+from serve_cases import at, message
 
 UNIVERSITY = TOP / "examples" / "university"
 # They sign in with their student ID.
@@ -262,6 +263,33 @@ def published_twice(run, stack):
     publish(2)
 
 
+def places_beside_edits(run, times, office):
+    """Ten places of each of ten exams, chosen by a fixed seed: the edit that moves the exam there
+    answers what its line says."""
+    chosen = random.Random(2027)
+    with office.connect() as client:
+        def told(method, path, body=b""):
+            client.sendall(message(method, f"/drafts/2{path}", body))
+            return one_reply(client)
+
+        told("PUT", "", (UNIVERSITY / "timetable.sol").read_bytes())
+        draft = json.loads(told("GET", "")[1])["exams"]
+        for one in chosen.sample(draft, 10):
+            path = f"/exams/{one['exam']}"
+            with times.of(f"every place of exam {one['exam']}"):
+                listed = told("GET", f"{path}/places")[1].decode().splitlines()[1:]
+            for line in chosen.sample(listed, 10):
+                period, room, *said = line.split(",")
+                status, reply = told("POST", f"{path}/move",
+                                     at(int(period), int(room)))
+                reply = json.loads(reply)
+                run.judge(f"exam {one['exam']} at {period}, {room}", said,
+                          [str(reply["penalty"]), "", "", ""] if status == 200 else
+                          ["", reply["rule"], str(reply["exam"]), str(reply["other"])])
+                if status == 200:
+                    told("POST", f"{path}/move", at(one["period"], one["room"]))
+
+
 def many_candidates(run, times, front):
     """A hundred candidates of one address open their pages at once."""
     def opened(user):
@@ -297,6 +325,7 @@ def main():
                                       "Seat assigned" in reader.text("#timetable, #past"))
                     by_the_service(run, times, chromium)
                 many_candidates(run, times, front)
+                places_beside_edits(run, times, office)
             finally:
                 front.stop()
         finally:
