@@ -16,6 +16,7 @@ pub mod ReadableLemmas
 pub mod RepublicationLemmas
 pub mod OrderLemmas
 pub mod SeatRowLemmas
+pub mod SeatDifferenceLemmas
 pub mod SamePublication
 pub mod PlacedRowLemmas
 pub mod PlacedSeatLemmas

@@ -1,27 +1,25 @@
--- A republication that rewrites only the seats and the shares of the candidates who changed stores
--- the right seats and the right shares.
-use Rattle.std.proofs.Common.{◌≡◌, ◌<◌, ℕ, Bool, true, false, cond, not, ◌&&◌, ◌||◌, eqb, List, [], ◌∷◌, ◌++◌, map, filter, Option, Some, None, refl, sym, ◌∙◌, ap, ap₂, subst, eqb-true}
+-- A republication that rewrites only the shares of the candidates whose exams or periods differ
+-- stores the right shares.
+use Rattle.std.proofs.Common.{◌≡◌, ◌<◌, ℕ, Bool, true, false, cond, not, ◌&&◌, ◌||◌, eqb, List, [], ◌∷◌, ◌++◌, map, filter, Option, Some, None, refl, sym, ◌∙◌, ap, ap₂, subst}
 use Rattle.std.specs.Prelude.{IsPermutation}
-use Rattle.std.proofs.lemmas.Bool.{and_parts}
-use Rattle.std.proofs.lemmas.List.Sorted.{IsPermutation-trans, IsPermutation-sym, IsPermutation-append_right, IsPermutation-filter_both, IsPermutation-map}
+use Rattle.std.proofs.lemmas.List.Sorted.{IsPermutation-trans, IsPermutation-sym, IsPermutation-append_right, IsPermutation-filter_both}
 use Rattle.sqlite_trees.proofs.ListLemmas.{IsPermutation-filter, filter-map, map-map}
 use Rattle.exam_model.specs.Enrolments.{IsAscending, has_number}
 use Rattle.exam_model.specs.Instance.{Session}
 use Rattle.exam_model.proofs.SameSet.{same_list}
+use Rattle.exam_model.proofs.SumLemmas.{chain_from_index}
 use Rattle.exam_publish.specs.declared.seat_row.SeatRow.{SeatRow}
-use Rattle.exam_publish.specs.Changed.{changed_students, has_row, is_changed, rows_of, same_row, same_rows, students_of}
+use Rattle.exam_publish.specs.Changed.{changed_students, has_row, is_changed, rows_of, same_rows, sorted_numbers, students_of}
+use Rattle.exam_publish.specs.Rows.{RowBefore, RowsInOrder}
 use Rattle.exam_publish.specs.Shares.{share_of, student_shares}
 use Rattle.exam_publish.proofs.ChangedLemmas.{changed_has_row}
-use Rattle.exam_publish.proofs.ListLemmas.{any_map, ascending_from_chain, chain_ascending, chain_filter, has_ascending, has_filter}
+use Rattle.exam_publish.proofs.ListLemmas.{any_map, ascending_from_chain, chain_ascending, chain_filter, chain_map, has_ascending, has_filter, index_from_chain}
 use Rattle.exam_publish.proofs.ShareLemmas.{same_share}
-use Rattle.office_tables.specs.declared.seat.SeatRow as tables
+use Rattle.exam_score.specs.Personal.{personal_of}
 use Rattle.office_tables.specs.declared.share_student.StudentShareRow.{StudentShareRow}
 use Rattle.office_model.specs.Office.{Publication}
 use Rattle.office_model.specs.Publishing.{publication_rows}
-use Rattle.office_records.specs.Publications.{stored_seat}
-use Rattle.office_records.specs.SeatsStored.{seat_rows_of, seat_rows_without, student_seats_put}
-use Rattle.office_records.specs.SharesStored.{share_rows_of, share_rows_without, student_share_row, student_share_rows, student_shares_put}
-use Rattle.office_records.proofs.RegroupLemmas.{kept_alike}
+use Rattle.office_records.specs.SharesStored.{retimed_students, share_rows_of, share_rows_without, student_share_row, student_share_rows, student_shares_put, timed}
 
 -- ---- the candidates who changed
 
@@ -44,33 +42,6 @@ both_some [] [] h = refl
 both_some [] (q ∷ qs) h = cc
 both_some (r ∷ rs) [] h = cc
 both_some (r ∷ rs) (q ∷ qs) h = refl
-
--- rows with equal fields are equal
-equal_row : (r q : SeatRow) → same_row r q ≡ true → r ≡ q
-equal_row r q h =
-    let a = and_parts (eqb r.student q.student) _ h in
-    let b = and_parts (eqb r.exam q.exam) _ a.1 in
-    let c = and_parts (eqb r.period q.period) _ b.1 in
-    let d = and_parts (eqb r.room q.room) (eqb r.seat q.seat) c.1 in
-    λ i. record {
-      student = eqb-true r.student q.student a.0 i;
-      exam = eqb-true r.exam q.exam b.0 i;
-      period = eqb-true r.period q.period c.0 i;
-      room = eqb-true r.room q.room d.0 i;
-      seat = eqb-true r.seat q.seat d.1 i;
-    }
-
-equal_rows : (rs qs : List SeatRow) → same_rows rs qs ≡ true → rs ≡ qs
-equal_rows [] [] h = refl
-equal_rows [] (q ∷ qs) h = cc
-equal_rows (r ∷ rs) [] h = cc
-equal_rows (r ∷ rs) (q ∷ qs) h =
-    let parts = and_parts (same_row r q) (same_rows rs qs) h in
-    ap₂ (λ x xs. x ∷ xs) (equal_row r q parts.0) (equal_rows rs qs parts.1)
-
-twice_not : (b : Bool) → not (not b) ≡ true → b ≡ true
-twice_not true h = refl
-twice_not false h = h
 
 is_seated : (rows : List SeatRow) (s : ℕ) → has_number (students_of rows) s ≡ has_row rows s
 is_seated rows s =
@@ -117,50 +88,6 @@ module _ (old new : List SeatRow) where
           ascending_from_chain (others rows)
           (chain_filter (λ x y. x < y) (λ s. not (has_changed s))
           (students_of rows) (chain_ascending (map (λ (row : SeatRow). row.student) rows)))
-
-  -- ---- their seats
-
-  -- a candidate who didn't change has the same rows as before
-  still_rows : (s : ℕ) → not (has_changed s) ≡ true → rows_of s old ≡ rows_of s new
-  still_rows s still =
-      equal_rows (rows_of s old) (rows_of s new)
-      (twice_not (same_rows (rows_of s old) (rows_of s new)) (ap not (sym (is_listed s)) ∙ still))
-
-  abbrev is_still : tables.SeatRow → Bool
-  is_still row = not (has_changed row.student)
-
-  abbrev still_in : List SeatRow → List SeatRow
-  still_in rows = filter (λ row. not (has_changed row.student)) rows
-
-  seats_of_others : IsPermutation (map stored_seat (still_in old)) (map stored_seat (still_in new))
-  seats_of_others =
-      IsPermutation-map stored_seat (still_in old) (still_in new)
-      (kept_alike (λ (row : SeatRow). row.student) (λ s. not (has_changed s)) old new still_rows)
-
-  -- the rows that are left are those of the others
-  seats_left : (stored : List tables.SeatRow) → IsPermutation stored (map stored_seat old)
-      → IsPermutation (seat_rows_without changed stored)
-      (seat_rows_without changed (map stored_seat new))
-  seats_left stored are =
-      subst (IsPermutation (seat_rows_without changed stored))
-      (sym (filter-map is_still stored_seat new))
-      (IsPermutation-trans _ _ _
-      (subst (IsPermutation (seat_rows_without changed stored))
-      (filter-map is_still stored_seat old)
-      (IsPermutation-filter is_still stored (map stored_seat old) are))
-      seats_of_others)
-
-  pub put_seats : (stored : List tables.SeatRow) → IsPermutation stored (map stored_seat old)
-      → IsPermutation
-      (student_seats_put changed (seat_rows_of changed (map stored_seat new)) stored)
-      (map stored_seat new)
-  put_seats stored are =
-      let all = map stored_seat new in
-      IsPermutation-trans _ _ _
-      (IsPermutation-append_right (seat_rows_of changed all) _ _ (seats_left stored are))
-      (IsPermutation-sym _ _
-      (IsPermutation-filter_both (λ (row : tables.SeatRow). has_changed row.student) is_still
-      (λ row. refl) all))
 
   -- ---- their shares
 
@@ -231,31 +158,59 @@ rows_now_are : (I : Session) (published : Option Publication)
 rows_now_are I None = refl
 rows_now_are I (Some p) = refl
 
--- the old rows of the candidates who changed, replaced by their new rows: the rows of all
-pub seats_put : (old : Option Publication) (new : Publication) (stored : List tables.SeatRow)
-    → IsPermutation stored (map stored_seat (publication_rows old))
-    → IsPermutation
-    (student_seats_put (changed_students (publication_rows old) new.rows)
-    (seat_rows_of (changed_students (publication_rows old) new.rows)
-    (map stored_seat new.rows)) stored)
-    (map stored_seat new.rows)
-seats_put old new stored are = put_seats (publication_rows old) new.rows stored are
+-- ---- periods alone
 
--- new share rows likewise
+-- rows without their rooms and seats are in the same order
+pub timed_in_order : (rows : List SeatRow) → RowsInOrder rows → RowsInOrder (map timed rows)
+timed_in_order rows up =
+    index_from_chain RowBefore (map timed rows)
+    (chain_map RowBefore timed rows (chain_from_index RowBefore rows up))
+
+-- and give the same shares
+timed_shares : (I : Session) (rows : List SeatRow)
+    → student_shares I (map timed rows) ≡ student_shares I rows
+timed_shares I rows =
+    λ i. map (λ (s : ℕ). (s, personal_of I.periods I.weights (periods_are s i))) (students_are i)
+  where
+    students_are : students_of (map timed rows) ≡ students_of rows
+    students_are = ap sorted_numbers (map-map (λ (row : SeatRow). row.student) timed rows)
+
+    periods_are : (s : ℕ) → map (λ (row : SeatRow). row.period) (rows_of s (map timed rows))
+        ≡ map (λ (row : SeatRow). row.period) (rows_of s rows)
+    periods_are s =
+        ap (map (λ (row : SeatRow). row.period))
+        (filter-map (λ (row : SeatRow). eqb row.student s) timed rows)
+        ∙ map-map (λ (row : SeatRow). row.period) timed (rows_of s rows)
+
+-- the old shares of the candidates whose exams or periods differ, replaced by their new ones: the
+-- shares of all
 pub shares_put : (I : Session) (old : Option Publication) (new : Publication)
     (stored : List StudentShareRow) → IsPermutation stored (student_share_rows I old)
     → IsPermutation
-    (student_shares_put (changed_students (publication_rows old) new.rows)
-    (share_rows_of (changed_students (publication_rows old) new.rows)
+    (student_shares_put (retimed_students (publication_rows old) new.rows)
+    (share_rows_of (retimed_students (publication_rows old) new.rows)
     (student_share_rows I (Some new)))
     stored)
     (student_share_rows I (Some new))
 shares_put I old new stored are =
-    let was = publication_rows old in
-    let who = changed_students was new.rows in
     subst
     (λ (all : List StudentShareRow). IsPermutation
     (student_shares_put who (share_rows_of who all) stored) all)
-    (sym (rows_are was new.rows I new.rows))
-    (put was new.rows I stored
-    (subst (IsPermutation stored) (rows_now_are I old ∙ rows_are was new.rows I was) are))
+    (sym (rows_said new.rows))
+    (put was now I stored
+    (subst (IsPermutation stored) (rows_now_are I old ∙ rows_said (publication_rows old)) are))
+  where
+    was : List SeatRow
+    was = map timed (publication_rows old)
+
+    now : List SeatRow
+    now = map timed new.rows
+
+    who : List ℕ
+    who = changed_students was now
+
+    rows_said : (rows : List SeatRow) → map student_share_row (student_shares I rows)
+        ≡ map (row_for was now I (map timed rows)) (students_of (map timed rows))
+    rows_said rows =
+        ap (map student_share_row) (sym (timed_shares I rows))
+        ∙ rows_are was now I (map timed rows)

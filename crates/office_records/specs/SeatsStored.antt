@@ -1,16 +1,23 @@
 -- The seat rows that a republication rewrites.
-use Rattle.std.specs.Prelude.{ℕ, not, List, ◌++◌, filter}
-use Rattle.exam_model.specs.Enrolments.{has_number}
+use Rattle.std.specs.Prelude.{Bool, not, ◌&&◌, ◌==◌, List, filter}
+use Rattle.std.specs.List.{list_any}
+use Rattle.exam_publish.specs.declared.seat_row.SeatRow as publish
+use Rattle.exam_publish.specs.Changed.{same_row}
 use Rattle.office_tables.specs.declared.seat.SeatRow.{SeatRow}
 
--- the rows of these candidates
-abbrev pub seat_rows_of : List ℕ → List SeatRow → List SeatRow
-seat_rows_of students rows = filter (λ row. has_number students row.student) rows
+-- whether one of these rows agrees with a row in all that it says
+abbrev pub has_same : List publish.SeatRow → publish.SeatRow → Bool
+has_same rows row = list_any (λ other. same_row other row) rows
 
--- the rows of all but these candidates
-abbrev pub seat_rows_without : List ℕ → List SeatRow → List SeatRow
-seat_rows_without students rows = filter (λ row. not (has_number students row.student)) rows
+-- the rows with which none of the others agrees
+abbrev pub rows_beside : List publish.SeatRow → List publish.SeatRow → List publish.SeatRow
+rows_beside others rows = filter (λ row. not (has_same others row)) rows
 
--- new rows of these candidates in place of those that are stored
-abbrev pub student_seats_put : List ℕ → List SeatRow → List SeatRow → List SeatRow
-student_seats_put students new stored = new ++ seat_rows_without students stored
+-- whether one of these is a seat of the same student in the same exam
+abbrev pub has_seat : List SeatRow → SeatRow → Bool
+has_seat seats row =
+    list_any (λ seat. (row.student == seat.student) && (row.exam == seat.exam)) seats
+
+-- the stored seats but for these students' in these exams
+abbrev pub seats_without : List SeatRow → List SeatRow → List SeatRow
+seats_without gone stored = filter (λ row. not (has_seat gone row)) stored

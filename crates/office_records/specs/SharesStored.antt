@@ -4,7 +4,9 @@ use Rattle.exam_terms.specs.declared.limits.TheConstants.{MAX_STUDENT}
 use Rattle.exam_model.specs.Enrolments.{has_number}
 use Rattle.exam_model.specs.Instance.{Session}
 use Rattle.exam_score.specs.Penalty.{PersonalPenalty, personal_total}
+use Rattle.exam_publish.specs.Changed.{changed_students}
 use Rattle.exam_publish.specs.Shares.{Sharing, student_shares}
+use Rattle.exam_publish.specs.declared.seat_row.SeatRow.{SeatRow}
 use Rattle.office_tables.specs.declared.share_part.PartShareRow.{PartShareRow}
 use Rattle.office_tables.specs.declared.share_student.StudentShareRow.{StudentShareRow}
 use Rattle.office_model.specs.Office.{Publication}
@@ -47,6 +49,14 @@ pub record AreShared (I : Session) (published : Option Publication)
   pub of_parts : IsPermutation parts (part_share_rows I published)
 
 -- ---- a republication
+
+-- a seat row without its room and seat
+abbrev pub timed : SeatRow → SeatRow
+timed row = record row { room = 0; seat = 0 }
+
+-- the candidates whose exams or periods differ; nothing else can change a candidate's share
+abbrev pub retimed_students : List SeatRow → List SeatRow → List ℕ
+retimed_students old new = changed_students (map timed old) (map timed new)
 
 -- the rows of these candidates
 abbrev pub share_rows_of : List ℕ → List StudentShareRow → List StudentShareRow

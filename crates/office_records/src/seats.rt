@@ -1,42 +1,71 @@
 // Seat rows in the form of the tables.
-ghost use Rattle.std.specs.Prelude.{◌≡◌, ◌<◌, List, map, IfErr, IfNone, IfOk, IfSome, IsPermutation};
+ghost use Rattle.std.specs.Prelude.{◌≡◌, ◌<◌, ◌++◌, ◌∷◌, [], if◌then◌else◌, List, map, IfErr, IfNone, IfOk, IfSome, OnOk, IsPermutation};
 ghost use Rattle.exam_terms.specs.declared.limits.TheConstants.{MAX_STUDENT};
-ghost use Rattle.exam_model.specs.Enrolments.{IsAscending, has_number};
 ghost use Rattle.exam_publish.specs.Rows.{AreNumbered, RowsInOrder};
 ghost use Rattle.exam_publish.specs.declared.seat_row.SeatRow as published;
 ghost use Rattle.office_records.specs.Publications.{stored_seat};
-ghost use Rattle.office_records.specs.SeatsStored.{seat_rows_of};
+ghost use Rattle.office_records.specs.SeatsStored.{rows_beside};
 
 use crate::fault::RecordFault;
 use exam_model::{ExamNo, PeriodNo, RoomNo, StudentNo};
 use exam_publish as publish;
+use exam_publish::is_before;
 use office_tables::SeatRow;
 use std::alloc::{AllocError, Global};
 
-/// Returns the rows to be stored for the seats of only these candidates, in the order of the seats.
-pub fn changed_seat_rows(
+/// Returns the rows to be stored for those of these seats that aren't among the others: with which
+/// none of the others agrees in all that it says. They keep their order.
+pub fn seats_beside(
     alloc: Global,
     rows: &[publish::SeatRow],
-    changed: &[StudentNo],
+    others: &[publish::SeatRow],
 ) -> Result<Vec<SeatRow>, AllocError>
-    requires { IsAscending changed.now }
+    requires rows_in_order { RowsInOrder rows.now }
+    requires others_in_order { RowsInOrder others.now }
     ensures { IfOk result (λ stored. stored.items
-        ≡ seat_rows_of changed.now (map stored_seat rows.now)) }
+        ≡ map stored_seat (rows_beside others.now rows.now)) }
 {
     let mut stored = Vec::new(alloc);
-    'rows: for row in rows {
-        if is_among(changed, row.student) {
-            stored.push(stored_seat(*row))?;
+    let mut left = rows;
+    let mut right = others;
+    'walk: while let Some((row, rest)) = left.split_first() {
+        let Some((other, more)) = right.split_first() else {
+            push_seats(&mut stored, left)?;
+            return Ok(stored);
+        };
+        if is_before(other, row) {
+            right = more;
+        } else {
+            push_unless(&mut stored, row == other, *row)?;
+            left = rest;
         }
     }
     Ok(stored)
 }
 
-fn is_among(students: &[StudentNo], student: StudentNo) -> bool
-    requires { IsAscending students.now }
-    ensures { result ≡ has_number students.now student }
+// Adds a seat, unless it stays.
+fn push_unless(
+    stored: &mut Vec<SeatRow>,
+    stays: bool,
+    row: publish::SeatRow,
+) -> Result<(), AllocError>
+    ensures { OnOk result (stored.new.items
+        ≡ stored.old.items ++ (if stays then [] else stored_seat row ∷ [])) }
 {
-    students.binary_search(&student).is_ok()
+    if !stays {
+        stored.push(stored_seat(row))?;
+    }
+    Ok(())
+}
+
+// Adds all these seats.
+fn push_seats(stored: &mut Vec<SeatRow>, rows: &[publish::SeatRow]) -> Result<(), AllocError>
+    ensures { OnOk result (stored.new.items ≡ stored.old.items ++ map stored_seat rows.now) }
+{
+    'rows: for row in rows {
+        stored.push(stored_seat(*row))?;
+    }
+    Ok(())
 }
 
 // Returns a seat in the form of the tables.

@@ -1,12 +1,12 @@
 -- A publication that is written.
-use Rattle.std.proofs.Common.{◌≡◌, ℕ, true, not, eqb, List, [], ◌∷◌, ◌++◌}
+use Rattle.std.proofs.Common.{◌≡◌, ℕ, true, not, ◌&&◌, eqb, List, [], ◌∷◌, ◌++◌, length}
 use Rattle.std.proofs.Common.{map, filter, reverse, Option, Some, None, Result, Ok, Err, refl}
 use Rattle.std.proofs.Common.{sym, ◌∙◌, ap, ap₂, subst, arith}
 use Rattle.std.specs.Prelude.{◌||◌, IsPermutation, Vec, is_some, option_map}
 use Rattle.std.specs.declared.alloc.Global.{Global}
 use Rattle.std.specs.List.{list_any}
 use Rattle.std.proofs.lemmas.Bool.Decides.{nat_tests}
-use Rattle.std.proofs.lemmas.List.{append-nil}
+use Rattle.std.proofs.lemmas.List.{append-nil, nil_from_length}
 use Rattle.std.proofs.lemmas.Simd.{map-map}
 use Rattle.std.proofs.lemmas.List.Sorted.{IsPermutation-append, IsPermutation-refl}
 use Rattle.std.proofs.lemmas.List.Sorted.{length_permutation}
@@ -16,28 +16,32 @@ use Rattle.exam_model.specs.Enrolments.{Enrolled, has_number}
 use Rattle.exam_model.specs.Fits.{Fits}
 use Rattle.exam_model.specs.Instance.{Session}
 use Rattle.exam_model.specs.Timetable.{Placing}
-use Rattle.exam_publish.specs.Changed.{changed_students}
 use Rattle.exam_publish.specs.Permit.{publish_refusal}
-use Rattle.exam_publish.specs.declared.seat_row.SeatRow.{SeatRow}
+use Rattle.exam_publish.specs.Rows.{RowsInOrder}
+use Rattle.exam_publish.specs.Shares.{student_shares}
+use Rattle.exam_publish.specs.declared.seat_row.SeatRow as publish
+use Rattle.exam_publish.proofs.ListLemmas.{any_map}
 use Rattle.office_tables.specs.Alterations.{after_all}
 use Rattle.office_tables.specs.SharePart.{no_part_shares, with_part_share}
 use Rattle.office_tables.specs.Placed.{with_placement, without_placement}
-use Rattle.office_tables.specs.Seat.{with_seat, without_student_seats}
+use Rattle.office_tables.specs.Seat.{with_seat, without_seat}
 use Rattle.office_tables.specs.ShareStudent.{with_student_share, without_student_share}
 use Rattle.office_tables.specs.Tables.{Meta, Tables}
 use Rattle.office_tables.specs.TablesHeld.{HoldsTables}
 use Rattle.office_tables.proofs.AlterationLemmas.{part_shares_put, placements_gone, placements_put, seats_put}
-use Rattle.office_tables.proofs.AlterationLemmas.{student_seats_gone, student_shares_gone}
+use Rattle.office_tables.proofs.AlterationLemmas.{seats_gone, student_shares_gone}
 use Rattle.office_tables.proofs.AlterationLemmas.{student_shares_put}
 use Rattle.office_tables.specs.declared.placed.DeletePlacement.{DeletePlacement}
 use Rattle.office_tables.specs.Inserted.{InsertPlacement}
 use Rattle.office_tables.specs.declared.placed.PlacedRow.{PlacedRow}
-use Rattle.office_tables.specs.declared.seat.DeleteStudentSeats.{DeleteStudentSeats}
+use Rattle.office_tables.specs.declared.seat.DeleteSeat.{DeleteSeat}
+use Rattle.office_tables.specs.declared.seat.SeatRow.{SeatRow}
 use Rattle.office_tables.specs.Inserted.{InsertSeat}
 use Rattle.office_tables.specs.declared.share_student.DeleteStudentShare.{DeleteStudentShare}
 use Rattle.office_tables.specs.Inserted.{InsertPartShare}
 use Rattle.office_tables.specs.declared.share_student.InsertStudentShare.{InsertStudentShare}
-use Rattle.office_model.specs.Office.{AreRecords, OfficeState}
+use Rattle.office_tables.specs.declared.share_student.StudentShareRow.{StudentShareRow}
+use Rattle.office_model.specs.Office.{AreRecords, IsPublication, OfficeState}
 use Rattle.office_model.specs.Office.{Publication, Records}
 use Rattle.office_model.specs.Publishing.{draft_published, publication_counts, published_as, publication_rows}
 use Rattle.office_model.specs.declared.fault.StoreFault.{StoreFault}
@@ -45,19 +49,21 @@ use Rattle.office_model.specs.declared.fault.StoreFault.TheVariants.{NoDraft, No
 use Rattle.office_model.proofs.RecordLemmas.{published_records}
 use Rattle.office_records.specs.Memory.{memory_of}
 use Rattle.office_records.specs.Publications.{placed_from, placed_rows, stored_seat}
-use Rattle.office_records.specs.SeatsStored.{seat_rows_of, seat_rows_without}
-use Rattle.office_records.specs.SharesStored.{share_rows_of, share_rows_without}
+use Rattle.office_records.specs.SeatsStored.{rows_beside, seats_without}
+use Rattle.office_records.specs.SharesStored.{retimed_students, share_rows_of, share_rows_without}
+use Rattle.office_records.specs.SharesStored.{student_share_row}
 use Rattle.office_records.specs.PartShares.{part_share_rows}
 use Rattle.office_records.specs.SharesStored.{student_share_rows}
 use Rattle.office_records.specs.Representation.{RepresentsOffice, IsSound, TablesRepresentRecords}
 use Rattle.office_records.specs.TableRows.{meta_row, session_text}
 use Rattle.office_records.proofs.RepublicationLemmas as republication
+use Rattle.office_records.proofs.SeatDifferenceLemmas as differences
 use Rattle.office_store.specs.ChangedPlacements.{changed_rows, exams_of, placements_without}
 use Rattle.office_store.specs.PublicationChanges.{mark_put, meta_after, places_put}
-use Rattle.office_store.specs.PublicationChanges.{publication_put, shares_put}
+use Rattle.office_store.specs.PublicationChanges.{publication_put, seats_left, shares_put}
 use Rattle.office_store.specs.NewPublications.{AreInserted, IsInserted, Publishes}
-use Rattle.office_store.specs.NewPublications.{InsertsOrRefuses, mark_text}
-use Rattle.office_store.specs.RowPuts.{place_gone, placement_put}
+use Rattle.office_store.specs.NewPublications.{InsertsOrRefuses, candidates_before, mark_text}
+use Rattle.office_store.specs.RowPuts.{place_gone, placement_put, seat_gone}
 use Rattle.office_store.specs.Memory.{HasPublished, IsMemoryOf, scored_draft}
 use Rattle.office_store.specs.declared.memory.OfficeMemory.{OfficeMemory}
 use Rattle.office_store.specs.declared.new_publication.NewPublication.{NewPublication}
@@ -92,18 +98,6 @@ places_gone_after its t =
           t.placed;
     })
 
-pub seats_gone_after : (its : List DeleteStudentSeats) (t : Tables)
-    → after_all (λ (it : DeleteStudentSeats). without_student_seats it.student) its t
-    ≡ record t {
-      seat = seat_rows_without (map (λ (it : DeleteStudentSeats). it.student) its) t.seat;
-    }
-seats_gone_after its t =
-    student_seats_gone its t
-    ∙ (λ i. record t {
-      seat = filter (λ row. not (among (λ (it : DeleteStudentSeats). it.student) row.student its i))
-          t.seat;
-    })
-
 pub shares_gone_after : (its : List DeleteStudentShare) (t : Tables)
     → after_all (λ (it : DeleteStudentShare). without_student_share it.student) its t
     ≡ record t {
@@ -136,19 +130,18 @@ module _ (gone : List DeletePlacement) (ps : List InsertPlacement) where
       ∙ placements_put ps _
 
 -- the seats
-module _ (gone : List DeleteStudentSeats) (ss : List InsertSeat) where
+module _ (gone : List DeleteSeat) (ss : List InsertSeat) where
   abbrev pub seats_made : Tables → Tables
   seats_made t =
       after_all (λ (it : InsertSeat). with_seat it.row) ss
-      (after_all (λ (it : DeleteStudentSeats). without_student_seats it.student) gone t)
+      (after_all (λ (it : DeleteSeat). without_seat it.student it.exam) gone t)
 
   seats_are : (t : Tables) → seats_made t
       ≡ record t {
-        seat = reverse (map (λ (it : InsertSeat). it.row) ss)
-            ++ seat_rows_without (map (λ (it : DeleteStudentSeats). it.student) gone) t.seat;
+        seat = reverse (map (λ (it : InsertSeat). it.row) ss) ++ seats_left gone t.seat;
       }
   seats_are t =
-      ap (after_all (λ (it : InsertSeat). with_seat it.row) ss) (seats_gone_after gone t)
+      ap (after_all (λ (it : InsertSeat). with_seat it.row) ss) (seats_gone gone t)
       ∙ seats_put ss _
 
 -- the shares of candidates, and of exams, periods and rooms
@@ -192,9 +185,9 @@ module _ (gone : List DeleteStudentShare) (students : List InsertStudentShare)
 
 -- writes with the same lists are those of the new publication
 pub places_made : (new : NewPublication) (away : List DeletePlacement) (ps : List InsertPlacement)
-    (gone : List DeleteStudentSeats) (ss : List InsertSeat)
+    (gone : List DeleteSeat) (ss : List InsertSeat)
     → away ≡ new.places_gone.items → ps ≡ new.placements.items
-    → gone ≡ new.deleted_seats.items → ss ≡ new.seats.items → (t : Tables)
+    → gone ≡ new.seats_gone.items → ss ≡ new.seats.items → (t : Tables)
     → seats_made gone ss (placements_made away ps (mark_put new.text t)) ≡ places_put new t
 places_made new away ps gone ss a b c d t =
     ap (seats_made gone ss) (placements_are away ps (mark_put new.text t))
@@ -203,8 +196,7 @@ places_made new away ps gone ss a b c d t =
       meta = meta_after new.text t.meta;
       placed = reverse (map (λ (it : InsertPlacement). it.row) (b i))
           ++ placements_without (map (λ (it : DeletePlacement). it.exam) (a i)) t.placed;
-      seat = reverse (map (λ (it : InsertSeat). it.row) (d i))
-          ++ seat_rows_without (map (λ (it : DeleteStudentSeats). it.student) (c i)) t.seat;
+      seat = reverse (map (λ (it : InsertSeat). it.row) (d i)) ++ seats_left (c i) t.seat;
     })
 
 pub shares_made : (new : NewPublication) (gone : List DeleteStudentShare)
@@ -223,7 +215,7 @@ put_in rows xs is =
     subst (IsPermutation (reverse rows)) is (IsPermutation-sym _ _ (IsPermutation-reverse rows))
 
 -- inserted rows in front of the rows that are left after a delete
-put_over : {X : Type 0} (left : List ℕ → List X) (gone who : List ℕ) (rows xs : List X)
+put_over : {X Y : Type 0} (left : List Y → List X) (gone who : List Y) (rows xs : List X)
     → gone ≡ who → rows ≡ xs → IsPermutation (reverse rows ++ left gone) (xs ++ left who)
 put_over left gone who rows xs same is =
     IsPermutation-append _ _ _ _ (put_in rows xs is)
@@ -245,7 +237,7 @@ placed_in : (published : Option Publication) (rows before placed : List PlacedRo
     ++ placements_without (map (λ (it : DeletePlacement). it.exam) gone) placed) rows
 placed_in published rows before placed gone put away come were are =
     IsPermutation-trans _ _ _
-    (put_over (λ l. placements_without l placed)
+    (put_over (λ (l : List ℕ). placements_without l placed)
     (map (λ (it : DeletePlacement). it.exam) gone) (exams_of (changed_rows before rows))
     (map (λ (it : InsertPlacement). it.row) put) (changed_rows rows before)
     (ap (map (λ (it : DeletePlacement). it.exam)) away
@@ -271,6 +263,59 @@ meta_in I None (row ∷ before) None were is meta stood =
     absurd (let long = length_permutation _ _ were in omega (arith, long))
 meta_in I (Some p) (row ∷ before) None were is meta stood = stood
 
+-- a publication without seats has no candidates' shares
+shares_of_none : (I : Session) (published : Option Publication) → publication_rows published ≡ []
+    → student_share_rows I published ≡ []
+shares_of_none I None none = refl
+shares_of_none I (Some p) none =
+    ap (λ (rows : List publish.SeatRow). map student_share_row (student_shares I rows)) none
+
+-- the seats of a publication are in order
+old_in_order : (r : Records) → AreRecords r → RowsInOrder (publication_rows r.published)
+old_in_order r is = go r.published is.publication
+  where
+    none : RowsInOrder []
+    none = λ i j d l m. absurd (omega arith)
+
+    go : (published : Option Publication)
+        → ((p : Publication) → published ≡ Some p → IsPublication r.session p)
+        → RowsInOrder (publication_rows published)
+    go None each = none
+    go (Some p) each = (each p refl).rows.in_order
+
+-- and so are those of the new one
+new_in_order : (r : Records) (T : Placing) → AreRecords r → Fits r.session r.enrolments T
+    → publish_refusal r.session r.enrolments T ≡ None → RowsInOrder (published_as r T).rows
+new_in_order r T is fits permitted =
+    ((published_records r T is fits permitted).publication (published_as r T) refl).rows.in_order
+
+-- the stored seats without those that are deleted
+left_without : (gone stored : List SeatRow) → seats_left (map seat_gone gone) stored
+    ≡ seats_without gone stored
+left_without gone stored =
+    λ i. filter
+    (λ (row : SeatRow). not (any_map
+    (λ (it : DeleteSeat). eqb row.student it.student && eqb row.exam it.exam) seat_gone gone i))
+    stored
+
+-- if nothing was published before, no share is stored, so none need be deleted
+none_before : (I : Session) (published : Option Publication) (who : List ℕ)
+    (stored : List StudentShareRow) → IsPermutation stored (student_share_rows I published)
+    → share_rows_without (candidates_before (publication_rows published) who) stored
+    ≡ share_rows_without who stored
+none_before I published who stored are = go (publication_rows published) refl
+  where
+    nobody : publication_rows published ≡ [] → stored ≡ []
+    nobody none =
+        nil_from_length stored
+        (sym (length_permutation _ _ are) ∙ ap length (shares_of_none I published none))
+
+    go : (rows : List publish.SeatRow) → publication_rows published ≡ rows
+        → share_rows_without (candidates_before rows who) stored ≡ share_rows_without who stored
+    go [] is =
+        ap (share_rows_without []) (nobody is) ∙ sym (ap (share_rows_without who) (nobody is))
+    go (row ∷ rows) is = refl
+
 -- ---- the office
 
 module _ (r : Records) (T : Placing) (is : AreRecords r) (fits : Fits r.session r.enrolments T)
@@ -282,37 +327,44 @@ module _ (r : Records) (T : Placing) (is : AreRecords r) (fits : Fits r.session 
       (penalty : ℕ) (new : NewPublication)
       (put : AreInserted r.session T before (publication_rows r.published) new_one.rows penalty new)
       (t : Tables) where
-    abbrev who : List ℕ
-    who = changed_students (publication_rows r.published) new_one.rows
+    abbrev retimed : List ℕ
+    retimed = retimed_students (publication_rows r.published) new_one.rows
 
-    seat_in : IsPermutation t.seat (map stored_seat (publication_rows r.published))
+    seat_in : RowsInOrder (publication_rows r.published) → RowsInOrder new_one.rows
+        → IsPermutation t.seat (map stored_seat (publication_rows r.published))
         → IsPermutation (publication_put new t).seat (map stored_seat new_one.rows)
-    seat_in stored =
-        let all = map stored_seat new_one.rows in
+    seat_in up up' stored =
+        let come = map stored_seat (rows_beside (publication_rows r.published) new_one.rows) in
+        let gone = map stored_seat (rows_beside new_one.rows (publication_rows r.published)) in
         IsPermutation-trans _ _ _
-        (put_over (λ l. seat_rows_without l t.seat)
-        (map (λ (it : DeleteStudentSeats). it.student) new.deleted_seats.items) who
-        (map (λ (it : InsertSeat). it.row) new.seats.items) (seat_rows_of who all)
-        (ap (map (λ (it : DeleteStudentSeats). it.student)) put.deleted_seats
-        ∙ taken_back _ (λ (it : DeleteStudentSeats). it.student) (λ x. refl) who)
+        (put_over (λ (l : List DeleteSeat). seats_left l t.seat)
+        new.seats_gone.items (map seat_gone gone)
+        (map (λ (it : InsertSeat). it.row) new.seats.items) come
+        put.seats_gone
         (ap (map (λ (it : InsertSeat). it.row)) put.seats
-        ∙ taken_back _ (λ (it : InsertSeat). it.row) (λ x. refl) (seat_rows_of who all)))
-        (republication.seats_put r.published new_one t.seat stored)
+        ∙ taken_back _ (λ (it : InsertSeat). it.row) (λ x. refl) come))
+        (subst (λ l. IsPermutation (come ++ l) (map stored_seat new_one.rows))
+        (sym (left_without gone t.seat))
+        (differences.seats_put (publication_rows r.published) new_one.rows up up' t.seat stored))
 
     share_in : IsPermutation t.share_student (student_share_rows r.session r.published)
         → IsPermutation (publication_put new t).share_student
         (student_share_rows r.session (Some new_one))
     share_in stored =
         let all = student_share_rows r.session (Some new_one) in
+        let before = candidates_before (publication_rows r.published) retimed in
         IsPermutation-trans _ _ _
-        (put_over (λ l. share_rows_without l t.share_student)
-        (map (λ (it : DeleteStudentShare). it.student) new.deleted_shares.items) who
-        (map (λ (it : InsertStudentShare). it.row) new.students.items) (share_rows_of who all)
+        (put_over (λ (l : List ℕ). share_rows_without l t.share_student)
+        (map (λ (it : DeleteStudentShare). it.student) new.deleted_shares.items) before
+        (map (λ (it : InsertStudentShare). it.row) new.students.items) (share_rows_of retimed all)
         (ap (map (λ (it : DeleteStudentShare). it.student)) put.deleted_shares
-        ∙ taken_back _ (λ (it : DeleteStudentShare). it.student) (λ x. refl) who)
+        ∙ taken_back _ (λ (it : DeleteStudentShare). it.student) (λ x. refl) before)
         (ap (map (λ (it : InsertStudentShare). it.row)) put.students
-        ∙ taken_back _ (λ (it : InsertStudentShare). it.row) (λ x. refl) (share_rows_of who all)))
-        (republication.shares_put r.session r.published new_one t.share_student stored)
+        ∙ taken_back _ (λ (it : InsertStudentShare). it.row) (λ x. refl)
+        (share_rows_of retimed all)))
+        (subst (λ l. IsPermutation (share_rows_of retimed all ++ l) all)
+        (sym (none_before r.session r.published retimed t.share_student stored))
+        (republication.shares_put r.session r.published new_one t.share_student stored))
 
     published_represents : TablesRepresentRecords t r
         → TablesRepresentRecords (publication_put new t) (record r { published = Some new_one })
@@ -326,7 +378,7 @@ module _ (r : Records) (T : Placing) (is : AreRecords r) (fits : Fits r.session 
         placed = placed_in r.published (placed_from 0 T) before t.placed new.places_gone.items
             new.placements.items put.places_gone put.placements were
             (IsPermutation-trans _ _ _ h.published.placed (IsPermutation-sym _ _ were));
-        seat = seat_in h.published.seat;
+        seat = seat_in (old_in_order r is) (new_in_order r T is fits permitted) h.published.seat;
       };
       batches = h.batches;
     }
@@ -376,14 +428,14 @@ publish_gives d r T there permitted = rw (there, permitted) refl
 
 -- the writes for an office's records are those for the office
 in_office : (d : ℕ) (r : Records)
-    (result : Result (NewPublication × (Placing × Vec SeatRow Global)) StoreFault)
+    (result : Result (NewPublication × (Placing × Vec publish.SeatRow Global)) StoreFault)
     → Publishes d r result → InsertsOrRefuses d (Some r) result
 in_office d r (Ok new) puts = record { records = r; is = refl; put = puts }
 in_office d r (Err fault) refused = refused
 
 -- what is in memory decides for each office that is represented
 pub puts_in_memory : (m : OfficeMemory) (I : Session) (E : Enrolled) → m.kept ≡ Some (I, E)
-    → (d : ℕ) (result : Result (NewPublication × (Placing × Vec SeatRow Global)) StoreFault)
+    → (d : ℕ) (result : Result (NewPublication × (Placing × Vec publish.SeatRow Global)) StoreFault)
     (o : OfficeState) → IsMemoryOf o m
     → ((r : Records) → o ≡ Some r → memory_of (Some r) ≡ Some (I, E) → IsMemoryOf (Some r) m
     → Publishes d r result)
@@ -408,7 +460,7 @@ no_such_draft d r none = go (r.draft d) refl
 
 -- the transaction changes the office as the command does
 pub publication_moves : (d : ℕ) (a b : Database) (m : OfficeMemory) (new : NewPublication)
-    (published : Placing × Vec SeatRow Global)
+    (published : Placing × Vec publish.SeatRow Global)
     → ((o : OfficeState) → IsMemoryOf o m → IsInserted d o new published)
     → ((t : Tables) → HoldsTables a t → HoldsTables b (publication_put new t))
     → Moves (draft_published d) new.counts a b m
@@ -429,7 +481,7 @@ publication_moves d a b m new published puts makes o kept is =
 
 -- what is in memory afterwards is of the office after the command
 pub publication_remembers : (d : ℕ) (a : Database) (m n : OfficeMemory) (new : NewPublication)
-    (published : Placing × Vec SeatRow Global)
+    (published : Placing × Vec publish.SeatRow Global)
     → ((o : OfficeState) → IsMemoryOf o m → IsInserted d o new published)
     → HasPublished published m n → Remembers (draft_published d) new.counts a m n
 publication_remembers d a m n new published puts has o kept is next gives =

@@ -17,14 +17,14 @@ use Rattle.office_model.specs.DraftCommands.{live_penalty}
 use Rattle.office_model.specs.declared.fault.StoreFault.{StoreFault}
 use Rattle.office_records.specs.FoundPublications.{publication_from}
 use Rattle.office_records.specs.Publications.{placed_from, placed_rows, stored_seat}
-use Rattle.office_records.specs.SeatsStored.{seat_rows_of}
-use Rattle.office_records.specs.SharesStored.{share_rows_of, student_share_row}
+use Rattle.office_records.specs.SeatsStored.{rows_beside}
+use Rattle.office_records.specs.SharesStored.{retimed_students, share_rows_of, student_share_row}
 use Rattle.office_records.specs.PartShares.{part_rows}
 use Rattle.office_records.specs.TableRows.{session_text}
 use Rattle.office_store.specs.ChangedPlacements.{changed_rows}
 use Rattle.office_store.specs.Running.{IsFault}
 use Rattle.office_store.specs.declared.new_publication.NewPublication.{NewPublication}
-use Rattle.office_store.specs.RowPuts.{place_gone, placement_put, deleted_candidate_seats, seat_put, deleted_share, student_share_put, part_share_put}
+use Rattle.office_store.specs.RowPuts.{place_gone, placement_put, seat_gone, seat_put, deleted_share, student_share_put, part_share_put}
 
 -- ---- the writes
 
@@ -33,22 +33,27 @@ abbrev pub mark_text : Session → List PlacedRow → Option (List ℕ)
 mark_text I [] = Some (session_text I)
 mark_text I (row ∷ before) = None
 
--- the writes that replace the placements before by this timetable: only placements that differ are
--- deleted and inserted, and the seats and shares of only those candidates whose seats differ; with
--- the counts that the call returns
+-- the candidates among these whose shares are deleted: none if nothing was published before
+abbrev pub candidates_before : List SeatRow → List ℕ → List ℕ
+candidates_before [] students = []
+candidates_before (row ∷ old) students = students
+
+-- the writes that replace the placements before by this timetable: only placements and seats that
+-- differ are deleted and inserted, and the shares of only those candidates whose exams or periods
+-- differ; with the counts that the call returns
 pub record AreInserted (I : Session) (T : Placing) (before : List PlacedRow)
     (old rows : List SeatRow)
     (penalty : ℕ) (new : NewPublication) : Type 0 where
   pub text : option_map (λ text. text.items) new.text ≡ mark_text I before
   pub places_gone : new.places_gone.items ≡ map place_gone (changed_rows before (placed_from 0 T))
   pub placements : new.placements.items ≡ map placement_put (changed_rows (placed_from 0 T) before)
-  pub deleted_seats : new.deleted_seats.items
-      ≡ map deleted_candidate_seats (changed_students old rows)
-  pub seats : new.seats.items
-      ≡ map seat_put (seat_rows_of (changed_students old rows) (map stored_seat rows))
-  pub deleted_shares : new.deleted_shares.items ≡ map deleted_share (changed_students old rows)
+  pub seats_gone : new.seats_gone.items
+      ≡ map seat_gone (map stored_seat (rows_beside rows old))
+  pub seats : new.seats.items ≡ map seat_put (map stored_seat (rows_beside old rows))
+  pub deleted_shares : new.deleted_shares.items
+      ≡ map deleted_share (candidates_before old (retimed_students old rows))
   pub students : new.students.items ≡ map student_share_put
-      (share_rows_of (changed_students old rows) (map student_share_row (student_shares I rows)))
+      (share_rows_of (retimed_students old rows) (map student_share_row (student_shares I rows)))
   pub parts : new.parts.items ≡ map part_share_put (part_rows (shares_of I rows T))
   pub counts : new.counts
       ≡ record { changed = length (changed_students old rows); penalty = penalty }

@@ -6,7 +6,7 @@ use Rattle.office_tables.specs.declared.share_part.PartShareRow.{PartShareRow}
 use Rattle.office_tables.specs.declared.placed.PlacedRow.{PlacedRow}
 use Rattle.office_tables.specs.declared.seat.SeatRow as stored
 use Rattle.office_tables.specs.declared.share_student.StudentShareRow.{StudentShareRow}
-use Rattle.office_tables.specs.declared.seat.DeleteStudentSeats.{DeleteStudentSeats}
+use Rattle.office_tables.specs.declared.seat.DeleteSeat.{DeleteSeat}
 use Rattle.office_tables.specs.Inserted.{InsertSeat}
 use Rattle.office_tables.specs.declared.share_student.DeleteStudentShare.{DeleteStudentShare}
 use Rattle.office_tables.specs.Inserted.{InsertPartShare}
@@ -20,9 +20,9 @@ place_gone row = record { exam = row.exam }
 abbrev pub placement_put : PlacedRow → InsertPlacement
 placement_put row = record { row = row }
 
--- the delete of a candidate's seats
-abbrev pub deleted_candidate_seats : ℕ → DeleteStudentSeats
-deleted_candidate_seats student = record { student = student }
+-- the delete of a seat
+abbrev pub seat_gone : stored.SeatRow → DeleteSeat
+seat_gone row = record { student = row.student; exam = row.exam }
 
 -- the insert of a seat
 abbrev pub seat_put : stored.SeatRow → InsertSeat

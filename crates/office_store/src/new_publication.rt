@@ -4,7 +4,6 @@ ghost use Rattle.exam_model.specs.Enrolments.{Enrolled, IsAscending};
 ghost use Rattle.exam_model.specs.Fits.{Fits};
 ghost use Rattle.exam_model.specs.Instance.{Session};
 ghost use Rattle.exam_publish.specs.AddUp.{AreSmall};
-ghost use Rattle.exam_publish.specs.Changed.{changed_students};
 ghost use Rattle.exam_publish.specs.Permit.{publish_refusal};
 ghost use Rattle.exam_publish.specs.Rows.{ArePublishedRows, RowsInOrder};
 ghost use Rattle.exam_score.specs.Penalty.{total_of};
@@ -13,13 +12,14 @@ ghost use Rattle.office_model.specs.Publishing.{draft_published};
 ghost use Rattle.office_records.specs.FoundPublications.{AreFound, publication_from};
 ghost use Rattle.office_records.specs.Memory.{memory_of};
 ghost use Rattle.office_records.specs.Publications.{stored_seat};
-ghost use Rattle.office_records.specs.SeatsStored.{seat_rows_of};
+ghost use Rattle.office_records.specs.SeatsStored.{rows_beside};
 ghost use Rattle.office_records.specs.PartShares.{HasFewParts, part_rows};
 ghost use Rattle.office_records.specs.SharesStored.{student_share_row};
 ghost use Rattle.office_store.specs.Memory.{IsMemoryOf, IsTogether};
 ghost use Rattle.office_store.specs.NewPublications.{AreInserted, AreSmallShares, InsertsOrRefuses};
-ghost use Rattle.office_store.specs.RowPuts.{deleted_candidate_seats, part_share_put};
-ghost use Rattle.office_store.specs.RowPuts.{seat_put, deleted_share, student_share_put};
+ghost use Rattle.office_store.specs.NewPublications.{candidates_before};
+ghost use Rattle.office_store.specs.RowPuts.{part_share_put, seat_gone, seat_put};
+ghost use Rattle.office_store.specs.RowPuts.{deleted_share, student_share_put};
 ghost use Rattle.office_store.specs.Running.{IsFault};
 ghost use Rattle.office_tables.specs.SharePart.{ArePartAmounts};
 ghost use Rattle.office_tables.specs.ShareStudent.{AreStudentAmounts};
@@ -29,10 +29,12 @@ use crate::rewritten_places::{mark_text, placements_put, places_gone};
 use exam_model::{Enrolments, Instance, StudentNo, Timetable};
 use exam_publish::{SeatRow, Shares, changed, numbers_identify, permit, seats, shares_among};
 use office_model::{Published, StoreFault};
-use office_records::{changed_seat_rows, part_share_rows, placement_rows, student_share_rows};
+use office_records::{
+    part_share_rows, placement_rows, retimed_students, seats_beside, student_share_rows,
+};
 use office_tables::{
-    DeletePlacement, DeleteStudentSeats, DeleteStudentShare, InsertPartShare, InsertPlacement,
-    InsertSeat, InsertStudentShare, PlacedRow,
+    DeletePlacement, DeleteSeat, DeleteStudentShare, InsertPartShare, InsertPlacement, InsertSeat,
+    InsertStudentShare, PlacedRow, SeatRow as StoredSeat,
 };
 use std::alloc::{AllocError, Global};
 
@@ -44,10 +46,10 @@ pub(crate) struct NewPublication {
     // The placements that differ from those before: the old ones and the new ones.
     pub(crate) places_gone: Vec<DeletePlacement>,
     pub(crate) placements: Vec<InsertPlacement>,
-    // The seats of the candidates whose seat rows differ from those before: old ones and new ones.
-    pub(crate) deleted_seats: Vec<DeleteStudentSeats>,
+    // The seats that differ from those before: the old ones and the new ones.
+    pub(crate) seats_gone: Vec<DeleteSeat>,
     pub(crate) seats: Vec<InsertSeat>,
-    // The shares of the same candidates.
+    // The shares of the candidates whose exams or periods differ from those before.
     pub(crate) deleted_shares: Vec<DeleteStudentShare>,
     pub(crate) students: Vec<InsertStudentShare>,
     pub(crate) parts: Vec<InsertPartShare>,
@@ -121,15 +123,16 @@ fn publication_writes(
     ensures err { IfErr result (λ e. e ≡ StoreFault.Store) }
 {
     instance.lemma_limits();
-    let candidates = candidates_to_write(alloc, old, rows)?;
-    let shares = shares_among(alloc, instance, rows, &draft.timetable, &candidates)?;
+    let candidates = changed(alloc, old, rows)?;
+    let retimed = retimed_students(alloc, old, rows)?;
+    let shares = shares_among(alloc, instance, rows, &draft.timetable, &retimed)?;
     let text = mark_text(alloc, instance, before)?;
     let places = placement_rows(alloc, &draft.timetable)?;
     let places_gone = places_gone(alloc, &places, before)?;
     let placements = placements_put(alloc, &places, before)?;
-    let deleted_seats = deleted_seats(alloc, &candidates)?;
-    let seats = seats_put(alloc, rows, &candidates)?;
-    let deleted_shares = deleted_shares(alloc, &candidates)?;
+    let seats_gone = seats_gone(alloc, old, rows)?;
+    let seats = seats_put(alloc, rows, old)?;
+    let deleted_shares = deleted_shares(alloc, old, &retimed)?;
     let students = student_shares_put(alloc, &shares)?;
     let parts = part_shares_put(alloc, &shares)?;
     let counts = Published {
@@ -140,29 +143,13 @@ fn publication_writes(
         text,
         places_gone,
         placements,
-        deleted_seats,
+        seats_gone,
         seats,
         deleted_shares,
         students,
         parts,
         counts,
     })
-}
-
-// Returns the candidates whose seats and shares are written: all whose seat rows differ from those
-// before, even if only their places differ.
-fn candidates_to_write(
-    alloc: Global,
-    old: &[SeatRow],
-    rows: &[SeatRow],
-) -> Result<Vec<StudentNo>, AllocError>
-    requires old_in_order { RowsInOrder old.now }
-    requires new_in_order { RowsInOrder rows.now }
-    ensures listed { IfOk result
-        (λ candidates. candidates.items ≡ changed_students old.now rows.now) }
-    ensures ascending { IfOk result (λ candidates. IsAscending candidates.items) }
-{
-    changed(alloc, old, rows)
 }
 
 // Returns how many candidates these are.
@@ -177,47 +164,59 @@ fn count_of(candidates: &[StudentNo]) -> u32
     candidates.len() as u32
 }
 
-fn deleted_seats(
+// Returns the deletions of the seats before that aren't among the new ones.
+fn seats_gone(
     alloc: Global,
-    candidates: &[StudentNo],
-) -> Result<Vec<DeleteStudentSeats>, AllocError>
-    ensures { IfOk result (λ put. put.items ≡ map deleted_candidate_seats candidates.now) }
+    old: &[SeatRow],
+    rows: &[SeatRow],
+) -> Result<Vec<DeleteSeat>, AllocError>
+    requires old_in_order { RowsInOrder old.now }
+    requires new_in_order { RowsInOrder rows.now }
+    ensures { IfOk result (λ gone. gone.items
+        ≡ map seat_gone (map stored_seat (rows_beside rows.now old.now))) }
 {
-    candidates
-        .iter()
-        .map(|candidate| deleted_candidate_seats(*candidate))
-        .collect(alloc)
+    let gone = seats_beside(alloc, old, rows)?;
+    gone.iter().map(|row| seat_gone(*row)).collect(alloc)
 }
 
-fn deleted_candidate_seats(candidate: StudentNo) -> DeleteStudentSeats
-    ensures { result ≡ deleted_candidate_seats candidate }
+fn seat_gone(row: StoredSeat) -> DeleteSeat
+    ensures { result ≡ seat_gone row }
 {
-    DeleteStudentSeats {
-        student: candidate.get(),
+    DeleteSeat {
+        student: row.student,
+        exam: row.exam,
     }
 }
 
+// Returns the insertions of the seats that aren't among those before.
 fn seats_put(
     alloc: Global,
     rows: &[SeatRow],
-    candidates: &[StudentNo],
+    old: &[SeatRow],
 ) -> Result<Vec<InsertSeat>, AllocError>
-    requires { IsAscending candidates.now }
+    requires old_in_order { RowsInOrder old.now }
+    requires new_in_order { RowsInOrder rows.now }
     ensures { IfOk result (λ put. put.items
-        ≡ map seat_put (seat_rows_of candidates.now (map stored_seat rows.now))) }
+        ≡ map seat_put (map stored_seat (rows_beside old.now rows.now))) }
 {
-    let rows = changed_seat_rows(alloc, rows, candidates)?;
-    rows.iter()
+    let come = seats_beside(alloc, rows, old)?;
+    come.iter()
         .map(|row| InsertSeat { row: *row })
         .collect(alloc)
 }
 
+// Returns the deletions of these candidates' shares; none if nothing was published before.
 fn deleted_shares(
     alloc: Global,
+    old: &[SeatRow],
     candidates: &[StudentNo],
 ) -> Result<Vec<DeleteStudentShare>, AllocError>
-    ensures { IfOk result (λ put. put.items ≡ map deleted_share candidates.now) }
+    ensures { IfOk result (λ put. put.items
+        ≡ map deleted_share (candidates_before old.now candidates.now)) }
 {
+    if old.is_empty() {
+        return Ok(Vec::new(alloc));
+    }
     candidates
         .iter()
         .map(|candidate| deleted_share(*candidate))

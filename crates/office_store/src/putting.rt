@@ -24,8 +24,8 @@ impl Alteration for NewPublication {
     }
 }
 
-// Writes the row about the office, if it changes, and the changed placements and candidates' seats:
-// first it deletes all old seats, so that each is free for its next candidate.
+// Writes the row about the office, if it changes, and the changed placements and seats: first it
+// deletes all old seats that go, so that each is free for its next candidate.
 fn put_places<S: Alter>(tx: &mut Transaction<'_, S>, new: &NewPublication) -> Result<(), Error>
     ensures same_reference { tx.new.conn.ghost_name ≡ tx.old.conn.ghost_name }
     ensures makes { Changes S.Store (places_put new.now) tx.old.conn.now tx.new.conn.now result }
@@ -41,7 +41,7 @@ fn put_places<S: Alter>(tx: &mut Transaction<'_, S>, new: &NewPublication) -> Re
     };
     let seats = Both {
         first: Each {
-            alterations: &new.deleted_seats,
+            alterations: &new.seats_gone,
         },
         second: InsertSeats { rows: &new.seats },
     };

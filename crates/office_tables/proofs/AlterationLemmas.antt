@@ -1,19 +1,19 @@
 -- The effect of insertions and deletions on the tables, one after the other.
-use Rattle.std.proofs.Common.{◌≡◌, List, [], ◌∷◌, ◌++◌, map, reverse, filter, not, Bool, true, false, cond, ◌==◌, ◌||◌, refl, sym, ap, ◌∙◌, append_assoc}
+use Rattle.std.proofs.Common.{◌≡◌, List, [], ◌∷◌, ◌++◌, map, reverse, filter, not, Bool, true, false, cond, ◌==◌, ◌&&◌, ◌||◌, refl, sym, ap, ◌∙◌, append_assoc}
 use Rattle.std.specs.List.{list_any}
 use Rattle.std.proofs.lemmas.List.{reverse-append}
 use Rattle.office_tables.specs.Alterations.{after_all}
 use Rattle.office_tables.specs.Draft.{with_draft}
 use Rattle.office_tables.specs.Enrol.{with_enrol, with_enrols}
 use Rattle.office_tables.specs.Placed.{with_placement, without_placement}
-use Rattle.office_tables.specs.Seat.{with_seat, without_student_seats}
+use Rattle.office_tables.specs.Seat.{with_seat, without_seat}
 use Rattle.office_tables.specs.SharePart.{with_part_share}
 use Rattle.office_tables.specs.ShareStudent.{with_student_share, without_student_share}
 use Rattle.office_tables.specs.Slot.{with_slot, with_slots}
 use Rattle.office_tables.specs.Tables.{Tables}
 use Rattle.office_tables.specs.declared.draft.InsertDraft.{InsertDraft}
 use Rattle.office_tables.specs.declared.placed.DeletePlacement.{DeletePlacement}
-use Rattle.office_tables.specs.declared.seat.DeleteStudentSeats.{DeleteStudentSeats}
+use Rattle.office_tables.specs.declared.seat.DeleteSeat.{DeleteSeat}
 use Rattle.office_tables.specs.declared.share_student.DeleteStudentShare.{DeleteStudentShare}
 use Rattle.office_tables.specs.declared.share_student.InsertStudentShare.{InsertStudentShare}
 use Rattle.office_tables.specs.Inserted.{InsertPartShare, InsertSeat, InsertPlacement, InsertEnrol, InsertSlot}
@@ -118,15 +118,19 @@ placements_gone (it ∷ rest) t =
     ∙ ap (λ l. record t { placed = l })
     (twice (λ r. r.exam == it.exam) (λ r. list_any (λ x. r.exam == x.exam) rest) t.placed)
 
--- the seats of these students are gone
-pub student_seats_gone : (its : List DeleteStudentSeats) (t : Tables)
-    → after_all (λ it. without_student_seats it.student) its t
-    ≡ record t { seat = filter (λ r. not (list_any (λ it. r.student == it.student) its)) t.seat }
-student_seats_gone [] t = ap (λ l. record t { seat = l }) (sym (all_left t.seat))
-student_seats_gone (it ∷ rest) t =
-    student_seats_gone rest (without_student_seats it.student t)
+-- the seats of these students in these exams are gone
+pub seats_gone : (its : List DeleteSeat) (t : Tables)
+    → after_all (λ it. without_seat it.student it.exam) its t
+    ≡ record t {
+      seat = filter
+          (λ r. not (list_any (λ it. (r.student == it.student) && (r.exam == it.exam)) its)) t.seat;
+    }
+seats_gone [] t = ap (λ l. record t { seat = l }) (sym (all_left t.seat))
+seats_gone (it ∷ rest) t =
+    seats_gone rest (without_seat it.student it.exam t)
     ∙ ap (λ l. record t { seat = l })
-    (twice (λ r. r.student == it.student) (λ r. list_any (λ x. r.student == x.student) rest) t.seat)
+    (twice (λ r. (r.student == it.student) && (r.exam == it.exam))
+    (λ r. list_any (λ x. (r.student == x.student) && (r.exam == x.exam)) rest) t.seat)
 
 -- the shares of these students are gone
 pub student_shares_gone : (its : List DeleteStudentShare) (t : Tables)

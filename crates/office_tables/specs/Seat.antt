@@ -1,5 +1,5 @@
 -- The table seat: its columns, the effect of statements on it, which rows fit, and their order.
-use Rattle.std.specs.Prelude.{◌<◌, ◌==◌, ℕ, pos, List, [], ◌∷◌, filter, not}
+use Rattle.std.specs.Prelude.{◌<◌, ◌==◌, ◌&&◌, ℕ, pos, List, [], ◌∷◌, filter, not}
 use Rattle.sqlite_value.specs.declared.value.Value.TheVariants.{Int}
 use Rattle.sqlite_value.specs.Order.{Row}
 use Rattle.sqlite_trees.specs.Tree.{IsAscending}
@@ -17,10 +17,10 @@ seat_columns r =
 abbrev pub with_seat : SeatRow → Tables → Tables
 with_seat row t = record t { seat = row ∷ t.seat }
 
--- without this student's seats
-abbrev pub without_student_seats : ℕ → Tables → Tables
-without_student_seats student t =
-    record t { seat = filter (λ r. not (r.student == student)) t.seat }
+-- without this student's seat in this exam
+abbrev pub without_seat : ℕ → ℕ → Tables → Tables
+without_seat student exam t =
+    record t { seat = filter (λ r. not ((r.student == student) && (r.exam == exam))) t.seat }
 
 -- a seat's numbers have 32 bits
 abbrev pub FitsSeat : SeatRow → Type 0

@@ -45,7 +45,7 @@ pub use migrating::migrate;
 pub use owner::{DeleteOwner, InsertOwner, OwnerRow};
 pub use placed::{DeletePlacement, InsertPlacement, InsertPlacements, PlacedRow};
 pub use query::Query;
-pub use seat::{DeleteStudentSeats, InsertSeat, InsertSeats, SeatRow};
+pub use seat::{DeleteSeat, InsertSeat, InsertSeats, SeatRow};
 pub use share_part::{DeletePartShares, InsertPartShare, InsertPartShares, PartShareRow};
 pub use share_queries::{PartShares, StudentShares, StudentSharesOf};
 pub use share_student::{DeleteStudentShare, InsertStudentShare, StudentShareRow};

@@ -1,6 +1,6 @@
 // Seats of students.
 ghost use Rattle.std.specs.Prelude.{false};
-ghost use Rattle.office_tables.specs.Seat.{seat_columns, without_student_seats, FitsSeat};
+ghost use Rattle.office_tables.specs.Seat.{seat_columns, without_seat, FitsSeat};
 
 use crate::altering::Alteration;
 use crate::listing::Listed;
@@ -93,22 +93,23 @@ pub type InsertSeat = Insert<SeatRow, 5, 16>;
 /// Adds seats in their order: sixteen with each statement, and the rest one by one.
 pub type InsertSeats<'a> = InsertAll<'a, InsertSeat>;
 
-/// Deletes a student's seats.
+/// Deletes the seat of a student in an exam.
 #[derive(Clone, Copy)]
-pub struct DeleteStudentSeats {
+pub struct DeleteSeat {
     pub student: u32,
+    pub exam: u32,
 }
 
-impl Alteration for DeleteStudentSeats {
-    ghost alteration = { λ it t. without_student_seats it.student t };
+impl Alteration for DeleteSeat {
+    ghost alteration = { λ it t. without_seat it.student it.exam t };
 
     ghost fits = { λ _. Unit {0} };
 
     fn apply<S: Alter>(&self, tx: &mut Transaction<'_, S>) -> Result<(), Error> {
         run(
             tx,
-            "DELETE FROM seat WHERE student = ?1",
-            params![self.student],
+            "DELETE FROM seat WHERE student = ?1 AND exam = ?2",
+            params![self.student, self.exam],
         )
     }
 }

@@ -5,7 +5,7 @@ ghost use Rattle.office_tables.specs.ShareStudent.{AreStudentAmounts};
 use crate::given::assert_same;
 use office_tables::{
     Alteration, Both, DeleteDraft, DeleteMeta, DeleteOwner, DeletePartShares, DeletePlacement,
-    DeleteSlot, DeleteSlots, DeleteStudentSeats, DeleteStudentShare, DraftRow, Each, EnrolRow,
+    DeleteSeat, DeleteSlot, DeleteSlots, DeleteStudentShare, DraftRow, Each, EnrolRow,
     EnrolsOf, FindEnrolsOf, InsertDraft, InsertEnrol, InsertEnrols, InsertMeta, InsertOwner,
     InsertPartShare, InsertPlacement, InsertPlacements, InsertSeat, InsertSeats, InsertSlot,
     InsertSlots, InsertStudentShare, OwnerRow, OwnersOf, PartShareRow, PartShares, PlacedRow,
@@ -269,7 +269,7 @@ fn delete_most(conn: &mut Connection<MemStore>) -> Result<(), Fail> {
     };
     let seats = Both {
         first: DeletePlacement { exam: 0 },
-        second: DeleteStudentSeats { student: 2 },
+        second: DeleteSeat { student: 2, exam: 0 },
     };
     let shares = Both {
         first: DeleteStudentShare { student: 2 },
