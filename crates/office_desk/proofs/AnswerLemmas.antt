@@ -10,16 +10,19 @@ use Rattle.sqlite_trees.specs.Tree.{Trees}
 use Rattle.office_tables.specs.Alterations.{found_in}
 use Rattle.office_policy.specs.CommandBodies.{plain_text}
 use Rattle.office_policy.specs.declared.command.Body.{Body}
-use Rattle.std.proofs.Common.{◌≡◌, ◌∙◌, ℕ, List, Option, Some, Result, Ok, Err, ap, inl, inr, subst, sym, refl}
+use Rattle.std.proofs.Common.{◌≡◌, ◌∙◌, ℕ, List, Option, None, Some, option_map, Result, Ok, Err, ap, inl, inr, subst, sym, refl}
 use Rattle.exam_model.specs.Instance.{Session}
 use Rattle.office_model.specs.Answers.{PlainAnswer, refused, text, unavailable}
 use Rattle.office_model.specs.Commands.{CommandResult}
-use Rattle.office_model.specs.Office.{OfficeState, Publication}
-use Rattle.office_model.specs.Step.{Outcome, of_published, outcome, with_body}
+use Rattle.exam_score.specs.Penalty.{Penalty}
+use Rattle.exam_score.specs.Track.{track}
+use Rattle.office_model.specs.Office.{OfficeState, Publication, published_enrolments}
+use Rattle.office_model.specs.Step.{Outcome, of_published, outcome, publication_in, with_body}
 use Rattle.office_model.specs.declared.fault.StoreFault.{StoreFault}
 use Rattle.office_model.specs.declared.fault.StoreFault.TheVariants.{BadSchema, Store}
 use Rattle.exam_terms.specs.Refusing.{◌>>=◌}
 use Rattle.office_records.specs.Representation.{RepresentsOffice}
+use Rattle.office_store.specs.Memory.{priced_as, priced_in}
 use Rattle.office_store.specs.Leaving.{HoldsNext, LeavesNext, LeavesUnchanged, MayCommit}
 use Rattle.office_store.specs.Running.{CommandOutcome, CommandRan, Represents}
 use Rattle.office_store.proofs.CommandLemmas.{stays_by}
@@ -294,3 +297,17 @@ pub text_answered : (to_text : Session → Publication → List ℕ)
     → text final_answer ≡ of_published to_text found
 text_answered to_text found p final_answer is same = ap text same
     ∙ sym (ap (of_published to_text) is)
+
+-- a publication has the penalty that is in memory
+pub priced_of : (o : OfficeState) (parts : Penalty) → Some parts ≡ priced_in o
+    → (found : Session × Publication) × (publication_in o ≡ Some found)
+    × (parts ≡ track found.0 (published_enrolments found.0 found.1) found.1.timetable)
+priced_of None parts is = absurd cc
+priced_of (Some r) parts is = go r.published is
+  where
+    go : (published : Option Publication) → Some parts ≡ priced_as r.session published
+        → (found : Session × Publication)
+        × (option_map (λ p. (r.session, p)) published ≡ Some found)
+        × (parts ≡ track found.0 (published_enrolments found.0 found.1) found.1.timetable)
+    go None is = absurd cc
+    go (Some p) is = ((r.session, p), refl, cc)

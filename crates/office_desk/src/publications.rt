@@ -25,7 +25,7 @@ pub(crate) fn publication<S: Alter>(office: &mut Office<S>, alloc: Global) -> Re
     }
 }
 
-// Answers with the penalty of the publication, from its shares.
+// Answers with the penalty of the publication, which is in memory.
 pub(crate) fn publication_penalty<S: Alter>(
     office: &mut Office<S>,
     alloc: Global,
@@ -33,11 +33,8 @@ pub(crate) fn publication_penalty<S: Alter>(
     ensures { (caller : Caller) → CommandPerformed S.Store caller publication_penalty
         office.old office.new result }
 {
-    let Some(shares) = office.shares(alloc)? else {
+    let Some(parts) = office.publication_penalty()? else {
         return Ok(Answer::Unpublished);
-    };
-    let Some(parts) = shares.parts() else {
-        return Err(Answer::Unavailable);
     };
     let report = penalty_report(alloc, parts)?;
     Ok(Answer::Text(report.into_bytes()))

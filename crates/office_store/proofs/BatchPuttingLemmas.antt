@@ -292,11 +292,12 @@ module _ (number : ℕ) (bytes : List ℕ) (changes : List Change)
             )
 
         pub enrol_remembers : Comes (Ok new) → (n : OfficeMemory) → n.batches ≡ m.batches + 1
-            → n.published ≡ m.published → IsRenewed I E new.enrolments new.rescored m n
+            → n.published ≡ m.published → n.priced ≡ m.priced
+            → IsRenewed I E new.enrolments new.rescored m n
             → (AreScored I E m.drafts
             → IfSome new.enrolments (λ F. AreRescored I F m.drafts new.rescored))
             → Remembers (batch_enrolled number bytes) new.counts a m n
-        enrol_remembers comes n batches published renewed rescored o kept is next is_next =
+        enrol_remembers comes n batches published priced renewed rescored o kept is next is_next =
             let of = kept_of o I E (is.session ∙ at_hand) in
             let r = of.records in
             let s = keeping.records_with_batch number bytes r (done r) in
@@ -308,5 +309,5 @@ module _ (number : ℕ) (bytes : List ℕ) (changes : List Change)
             subst (λ o. IsMemoryOf o n)
             (next_is (ap (batch_enrolled number bytes) (sym of.is) ∙ is_next) (gives r here made))
             (after_lines r s m n I E at_hand new.rescored memory refl refl more batches refl
-            published
+            published priced
             new.enrolments refl renewed (rescored (memory_scored r m I E memory kept_too)))

@@ -17,7 +17,7 @@ use Rattle.office_records.proofs.MemoryLemmas.{same_memory}
 use Rattle.office_records.proofs.SamePublication.{same_published}
 use Rattle.office_records.proofs.SameTables.{same_represents}
 use Rattle.office_records.proofs.SlotLemmas.{same_timetable}
-use Rattle.office_store.specs.Memory.{IsMemoryOf, batch_count, scored_by, scored_draft}
+use Rattle.office_store.specs.Memory.{IsMemoryOf, batch_count, priced_as, priced_in, scored_by, scored_draft}
 use Rattle.office_store.specs.declared.memory.OfficeMemory.{OfficeMemory}
 
 -- ---- the number of batches
@@ -113,6 +113,16 @@ one_published db (Some r) (Some s) a b memory =
     let session : r.session ≡ s.session = ap (λ (p : Session × Enrolled). p.0) (some_is memory) in
     same_published b.held r s represents b.represents a.office b.office session
 
+-- and so its penalty is the same
+one_priced : (o p : OfficeState) → memory_of o ≡ memory_of p → published_in o ≡ published_in p
+    → priced_in o ≡ priced_in p
+one_priced None None memory published = refl
+one_priced None (Some s) memory published = absurd cc
+one_priced (Some r) None memory published = absurd cc
+one_priced (Some r) (Some s) memory published =
+    let session : r.session ≡ s.session = ap (λ (p : Session × Enrolled). p.0) (some_is memory) in
+    λ i. priced_as (session i) (published i)
+
 -- ---- all that is in memory
 
 -- the memory of one office that a database represents is the memory of each
@@ -126,4 +136,5 @@ same_in_memory db o p a b m is =
       batches = sym (same_count db o p a b) ∙ is.batches;
       drafts = λ d. is.drafts d ∙ same_drafts db o p a b d memory;
       published = sym (one_published db o p a b memory) ∙ is.published;
+      priced = sym (one_priced o p memory (one_published db o p a b memory)) ∙ is.priced;
     }

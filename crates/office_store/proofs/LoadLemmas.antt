@@ -177,8 +177,10 @@ load_moves text I E counts stored its a b m read counted is_text are_rows is are
 pub load_remembers : (text : List ℕ) (I : Session) (E : Enrolled) (counts : loading.Loaded)
     (a : Database) (m n : OfficeMemory) → instance_in text ≡ Ok (I, E)
     → counts ≡ session_counts (I, E) → is_some m.kept ≡ false → n.kept ≡ Some (I, E) → n.batches ≡ 0
-    → ((d : ℕ) → draft_at n.drafts d ≡ None) → n.published ≡ None → Remembers (load_session text) counts a m n
-load_remembers text I E counts a m n read counted empty kept batches drafts published o here is new gives =
+    → ((d : ℕ) → draft_at n.drafts d ≡ None) → n.published ≡ None → n.priced ≡ None
+    → Remembers (load_session text) counts a m n
+load_remembers text I E counts a m n read counted empty kept batches drafts published priced o here is
+    new gives =
     subst (λ o. IsMemoryOf o n)
     (next_is (ap (load_session text) (sym (none_kept m o is empty)) ∙ gives)
     (loaded_first text (I, E) read))
@@ -187,4 +189,5 @@ load_remembers text I E counts a m n read counted empty kept batches drafts publ
       batches = sym batches;
       drafts = drafts;
       published = sym (ap publication_from published);
+      priced = sym priced;
     })

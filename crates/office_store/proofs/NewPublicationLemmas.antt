@@ -18,7 +18,7 @@ use Rattle.exam_publish.specs.declared.fault.PublishFault.{PublishFault}
 use Rattle.exam_publish.specs.declared.fault.PublishFault.TheVariants.{Broken, NoMemory, Unplaced}
 use Rattle.exam_publish.specs.declared.seat_row.SeatRow.{SeatRow}
 use Rattle.exam_publish.proofs.AmongLemmas.{map_filter}
-use Rattle.exam_score.specs.Penalty.{PersonalPenalty, total_of}
+use Rattle.exam_score.specs.Penalty.{Penalty, PersonalPenalty, total_of}
 use Rattle.exam_score.specs.Track.{track}
 use Rattle.exam_score.specs.FrontLoad.{exam_front}
 use Rattle.office_model.specs.Office.{Records}
@@ -130,12 +130,13 @@ module _ (d : ℕ) (r : Records) (I : Session) (E : Enrolled) (T : Placing)
   -- ---- the writes
 
   pub publishes : (before : List PlacedRow) (old : List SeatRow) (rows : Vec SeatRow Global)
-      (penalty : ℕ) (new : NewPublication) (U : Placing) → publish_refusal I E T ≡ None
+      (penalty : ℕ) (new : NewPublication) (U : Placing) (parts : Penalty)
+      → publish_refusal I E T ≡ None
       → before ≡ placed_rows r.published → old ≡ publication_rows r.published
       → rows.items ≡ seat_rows (pairs_of E) T old → penalty ≡ total_of (track I E T)
-      → AreInserted I T before old rows.items penalty new → U ≡ T
-      → Publishes d r (Ok (new, (U, rows)))
-  publishes before old rows penalty new U permitted were was are costs put same = record {
+      → AreInserted I T before old rows.items penalty new → U ≡ T → parts ≡ track I E T
+      → Publishes d r (Ok (new, (U, rows), parts))
+  publishes before old rows penalty new U parts permitted were was are costs put same priced = record {
     timetable = T;
     draft = there;
     permitted = subst (λ (p : Session × Enrolled). publish_refusal p.0 p.1 T ≡ None) (sym both)
@@ -156,4 +157,5 @@ module _ (d : ℕ) (r : Records) (I : Session) (E : Enrolled) (T : Placing)
         (are ∙ ap (seat_rows (pairs_of E) T) was
         ∙ ap (λ (p : Session × Enrolled).
         seat_rows (pairs_of p.1) T (publication_rows r.published)) (sym both));
+    priced = ap (λ (p : Session × Enrolled). track p.0 p.1 T) both ∙ sym priced;
   }

@@ -21,6 +21,9 @@ use Rattle.exam_publish.specs.Rows.{RowsInOrder}
 use Rattle.exam_publish.specs.Shares.{student_shares}
 use Rattle.exam_publish.specs.declared.seat_row.SeatRow as publish
 use Rattle.exam_publish.proofs.ListLemmas.{any_map}
+use Rattle.exam_publish.proofs.PublishedLemmas.{same_enrolments}
+use Rattle.exam_score.specs.Penalty.{Penalty}
+use Rattle.exam_score.specs.Track.{track}
 use Rattle.office_tables.specs.Alterations.{after_all}
 use Rattle.office_tables.specs.SharePart.{no_part_shares, with_part_share}
 use Rattle.office_tables.specs.Placed.{with_placement, without_placement}
@@ -46,7 +49,7 @@ use Rattle.office_model.specs.Office.{Publication, Records}
 use Rattle.office_model.specs.Publishing.{draft_published, publication_counts, published_as, publication_rows}
 use Rattle.office_model.specs.declared.fault.StoreFault.{StoreFault}
 use Rattle.office_model.specs.declared.fault.StoreFault.TheVariants.{NoDraft, NotLoaded}
-use Rattle.office_model.proofs.RecordLemmas.{published_records}
+use Rattle.office_model.proofs.RecordLemmas.{old_seated, published_records}
 use Rattle.office_records.specs.Memory.{memory_of}
 use Rattle.office_records.specs.Publications.{placed_from, placed_rows, stored_seat}
 use Rattle.office_records.specs.SeatsStored.{rows_beside, seats_without}
@@ -428,14 +431,15 @@ publish_gives d r T there permitted = rw (there, permitted) refl
 
 -- the writes for an office's records are those for the office
 in_office : (d : ℕ) (r : Records)
-    (result : Result (NewPublication × (Placing × Vec publish.SeatRow Global)) StoreFault)
+    (result : Result (NewPublication × (Placing × Vec publish.SeatRow Global) × Penalty) StoreFault)
     → Publishes d r result → InsertsOrRefuses d (Some r) result
 in_office d r (Ok new) puts = record { records = r; is = refl; put = puts }
 in_office d r (Err fault) refused = refused
 
 -- what is in memory decides for each office that is represented
 pub puts_in_memory : (m : OfficeMemory) (I : Session) (E : Enrolled) → m.kept ≡ Some (I, E)
-    → (d : ℕ) (result : Result (NewPublication × (Placing × Vec publish.SeatRow Global)) StoreFault)
+    → (d : ℕ)
+    (result : Result (NewPublication × (Placing × Vec publish.SeatRow Global) × Penalty) StoreFault)
     (o : OfficeState) → IsMemoryOf o m
     → ((r : Records) → o ≡ Some r → memory_of (Some r) ≡ Some (I, E) → IsMemoryOf (Some r) m
     → Publishes d r result)
@@ -460,11 +464,11 @@ no_such_draft d r none = go (r.draft d) refl
 
 -- the transaction changes the office as the command does
 pub publication_moves : (d : ℕ) (a b : Database) (m : OfficeMemory) (new : NewPublication)
-    (published : Placing × Vec publish.SeatRow Global)
-    → ((o : OfficeState) → IsMemoryOf o m → IsInserted d o new published)
+    (published : Placing × Vec publish.SeatRow Global) (penalty : Penalty)
+    → ((o : OfficeState) → IsMemoryOf o m → IsInserted d o new published penalty)
     → ((t : Tables) → HoldsTables a t → HoldsTables b (publication_put new t))
     → Moves (draft_published d) new.counts a b m
-publication_moves d a b m new published puts makes o kept is =
+publication_moves d a b m new published penalty puts makes o kept is =
     let of = puts o is in
     let r = of.records in
     let put = of.put in
@@ -481,15 +485,21 @@ publication_moves d a b m new published puts makes o kept is =
 
 -- what is in memory afterwards is of the office after the command
 pub publication_remembers : (d : ℕ) (a : Database) (m n : OfficeMemory) (new : NewPublication)
-    (published : Placing × Vec publish.SeatRow Global)
-    → ((o : OfficeState) → IsMemoryOf o m → IsInserted d o new published)
-    → HasPublished published m n → Remembers (draft_published d) new.counts a m n
-publication_remembers d a m n new published puts has o kept is next gives =
+    (published : Placing × Vec publish.SeatRow Global) (penalty : Penalty)
+    → ((o : OfficeState) → IsMemoryOf o m → IsInserted d o new published penalty)
+    → HasPublished published penalty m n → Remembers (draft_published d) new.counts a m n
+publication_remembers d a m n new published penalty puts has o kept is next gives =
     let of = puts o is in
     let r = of.records in
     let put = of.put in
+    let T = put.timetable in
+    let held = subst (RepresentsOffice a) of.is kept in
+    let enrolled = same_enrolments r.session r.enrolments T (publication_rows r.published)
+    held.office.session held.office.enrolled.set (held.office.drafts d T put.draft) put.permitted
+    (old_seated r held.office) in
     subst (λ o. IsMemoryOf o n)
     (next_is (ap (draft_published d) (sym of.is) ∙ gives)
     (publish_gives d r put.timetable put.draft put.permitted))
-    (published_changed r m n published (published_as r put.timetable)
-    (subst (λ o. IsMemoryOf o m) of.is is) has put.made)
+    (published_changed r m n published penalty (published_as r put.timetable)
+    (subst (λ o. IsMemoryOf o m) of.is is) has put.made
+    (ap (λ (E : Enrolled). track r.session E T) enrolled ∙ put.priced))

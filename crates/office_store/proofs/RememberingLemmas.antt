@@ -8,10 +8,12 @@ use Rattle.exam_model.specs.Instance.{Session}
 use Rattle.exam_model.specs.Timetable.{Placing}
 use Rattle.exam_publish.specs.declared.seat_row.SeatRow.{SeatRow}
 use Rattle.office_enrolment.specs.AfterBatch.{current_enrolments}
-use Rattle.office_model.specs.Office.{OfficeState, Publication, Records, set_at}
+use Rattle.exam_score.specs.Penalty.{Penalty}
+use Rattle.exam_score.specs.Track.{track}
+use Rattle.office_model.specs.Office.{OfficeState, Publication, Records, published_enrolments, set_at}
 use Rattle.office_model.specs.declared.fault.StoreFault.{StoreFault}
 use Rattle.office_records.specs.FoundPublications.{publication_from}
-use Rattle.office_store.specs.Memory.{AreRescored, HasPublished, HasPut, IsMemoryOf, IsRenewed, draft_at, rescored_draft, scored_by}
+use Rattle.office_store.specs.Memory.{AreRescored, HasPublished, HasPut, IsMemoryOf, IsRenewed, draft_at, priced_as, priced_in, rescored_draft, scored_by}
 use Rattle.office_store.specs.declared.memory.Draft.{Draft}
 use Rattle.office_store.specs.declared.memory.OfficeMemory.{OfficeMemory}
 
@@ -33,6 +35,7 @@ one_changed r m n d x is put = record {
   batches = is.batches ∙ sym put.batches;
   drafts = λ e. go e (eqb e d) refl;
   published = is.published ∙ ap publication_from (sym put.published);
+  priced = is.priced ∙ sym put.priced;
 }
   where
     go : (e : ℕ) (b : Bool) → eqb e d ≡ b → draft_at n.drafts e
@@ -46,14 +49,16 @@ one_changed r m n d x is put = record {
 
 -- a publication replaces the one before
 pub published_changed : (r : Records) (m n : OfficeMemory) (new : Placing × Vec SeatRow Global)
-    (p : Publication) → IsMemoryOf (Some r) m → HasPublished new m n
+    (penalty : Penalty) (p : Publication) → IsMemoryOf (Some r) m → HasPublished new penalty m n
     → publication_from (Some new) ≡ Some p
+    → track r.session (published_enrolments r.session p) p.timetable ≡ penalty
     → IsMemoryOf (Some (record r { published = Some p })) n
-published_changed r m n new p is has made = record {
+published_changed r m n new penalty p is has made costs = record {
   session = is.session ∙ sym has.kept;
   batches = is.batches ∙ sym has.batches;
   drafts = λ d. ap (λ l. draft_at l d) has.drafts ∙ is.drafts d;
   published = sym made ∙ ap publication_from (sym has.published);
+  priced = ap Some costs ∙ sym has.priced;
 }
 
 -- the session, the batches, the drafts and the publication stay
@@ -70,6 +75,7 @@ all_stays r s m is session enrolments batches drafts published = record {
       ∙ ap (λ (f : ℕ → Option Placing). option_map (scored_by r.session r.enrolments) (f d))
       drafts);
   published = published ∙ is.published;
+  priced = (λ i. priced_as (session i) (published i)) ∙ is.priced;
 }
 
 -- ---- a batch
@@ -83,7 +89,8 @@ module _ (r s : Records) (m n : OfficeMemory) (I : Session) (E : Enrolled)
     (kept : m.kept ≡ Some (I, E)) (drafts : List (Option Draft)) (is : IsMemoryOf (Some r) m)
     (session : s.session ≡ r.session) (same : s.draft ≡ r.draft)
     (count : length s.batches ≡ length r.batches + 1) (batches : n.batches ≡ m.batches + 1)
-    (published : s.published ≡ r.published) (stays : n.published ≡ m.published) where
+    (published : s.published ≡ r.published) (stays : n.published ≡ m.published)
+    (priced_stays : n.priced ≡ m.priced) where
   both : ◌≡◌ {A = Session × Enrolled} (r.session, r.enrolments) (I, E)
   both = some_is (is.session ∙ kept)
     where
@@ -99,6 +106,10 @@ module _ (r s : Records) (m n : OfficeMemory) (I : Session) (E : Enrolled)
   still_published : s.published ≡ publication_from n.published
   still_published = published ∙ is.published ∙ ap publication_from (sym stays)
 
+  still_priced : priced_in (Some s) ≡ n.priced
+  still_priced =
+      (λ i. priced_as (session i) (published i)) ∙ is.priced ∙ sym priced_stays
+
   -- the enrolments change
   made : (F : Enrolled) → s.enrolments ≡ F → n.kept ≡ Some (I, F) → n.drafts ≡ drafts
       → AreRescored I F m.drafts drafts → IsMemoryOf (Some s) n
@@ -113,6 +124,7 @@ module _ (r s : Records) (m n : OfficeMemory) (I : Session) (E : Enrolled)
         ∙ ap (λ G. option_map (scored_by I G) (s.draft d)) enrolled
         ∙ ap (λ (f : ℕ → Option Placing). option_map (scored_by I F) (f d)) same);
     published = still_published;
+    priced = still_priced;
   }
 
   -- the enrolments stay
@@ -128,6 +140,7 @@ module _ (r s : Records) (m n : OfficeMemory) (I : Session) (E : Enrolled)
         ∙ ap (λ (f : ℕ → Option Placing). option_map (scored_by r.session r.enrolments) (f d))
         same);
     published = still_published;
+    priced = still_priced;
   }
 
   pub after_lines : (F : Option Enrolled) → s.enrolments ≡ current_enrolments F r.enrolments

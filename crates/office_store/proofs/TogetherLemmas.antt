@@ -8,6 +8,7 @@ use Rattle.exam_model.specs.Enrolments.{Enrolled}
 use Rattle.exam_model.specs.Fits.{Fits, Suits}
 use Rattle.exam_model.specs.Instance.{Session}
 use Rattle.exam_model.specs.Timetable.{Placing}
+use Rattle.exam_score.specs.Penalty.{Penalty}
 use Rattle.exam_publish.specs.Seats.{AreSeated}
 use Rattle.exam_publish.specs.declared.seat_row.SeatRow.{SeatRow}
 use Rattle.office_model.specs.Office.{Publication}
@@ -125,11 +126,11 @@ suits_of m I E draft kept fits J F other =
 
 -- ---- a publication
 
-pub published_together : (m n : OfficeMemory) (new : Publishing) → IsTogether m
-    → HasPublished new m n
+pub published_together : (m n : OfficeMemory) (new : Publishing) (penalty : Penalty)
+    → IsTogether m → HasPublished new penalty m n
     → ((I : Session) (E : Enrolled) → m.kept ≡ Some (I, E) → AreFound I (publication_from (Some new)))
     → IsTogether n
-published_together m n new together has found = record {
+published_together m n new penalty together has found = record {
   exams = subst AreTogether (sym has.kept) together.exams;
   drafts = λ I E kept. subst (AreSuited I) (sym has.drafts)
       (together.drafts I E (sym has.kept ∙ kept));

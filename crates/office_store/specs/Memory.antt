@@ -7,10 +7,11 @@ use Rattle.exam_model.specs.Fits.{Suits}
 use Rattle.exam_model.specs.Instance.{IsInstance, Session}
 use Rattle.exam_model.specs.Timetable.{Placing}
 use Rattle.exam_publish.specs.declared.seat_row.SeatRow.{SeatRow}
+use Rattle.exam_score.specs.Penalty.{Penalty}
 use Rattle.exam_score.specs.Track.{track}
 use Rattle.office_tables.specs.declared.draft.DraftRow.{DraftRow}
 use Rattle.office_tables.specs.declared.slot.SlotRow.{SlotRow}
-use Rattle.office_model.specs.Office.{OfficeState}
+use Rattle.office_model.specs.Office.{OfficeState, Publication, published_enrolments}
 use Rattle.office_records.specs.Found.{AreDrafts}
 use Rattle.office_records.specs.FoundPublications.{AreFound, publication_from}
 use Rattle.office_records.specs.Memory.{AreTogether, memory_of, published_in}
@@ -35,18 +36,29 @@ abbrev pub scored_draft : ℕ → OfficeState → Option Draft
 scored_draft d None = None
 scored_draft d (Some r) = option_map (scored_by r.session r.enrolments) (r.draft d)
 
+-- the penalty of a publication with the enrolments at that time, if there is one
+abbrev pub priced_as : Session → Option Publication → Option Penalty
+priced_as I published =
+    option_map (λ p. track I (published_enrolments I p) p.timetable) published
+
+-- the penalty of an office's publication, if it has one
+abbrev pub priced_in : OfficeState → Option Penalty
+priced_in None = None
+priced_in (Some r) = priced_as r.session r.published
+
 -- ---- what is in memory
 
 -- the draft with a number in memory, if there is one
 abbrev pub draft_at : List (Option Draft) → ℕ → Option Draft
 draft_at drafts d = slice_index_or drafts d None
 
--- the memory has this office's session, number of batches and drafts
+-- the memory has this office's session, number of batches, drafts and publication, with its penalty
 pub record IsMemoryOf (office : OfficeState) (memory : OfficeMemory) : Type 0 where
   pub session : memory_of office ≡ memory.kept
   pub batches : batch_count office ≡ memory.batches
   pub drafts : (d : ℕ) → draft_at memory.drafts d ≡ scored_draft d office
   pub published : published_in office ≡ publication_from memory.published
+  pub priced : priced_in office ≡ memory.priced
 
 -- each of these drafts places the session's exams only at places where they may be
 abbrev pub AreSuited : Session → List (Option Draft) → Type 0
@@ -77,14 +89,16 @@ pub record HasPut (d : ℕ) (draft : Option Draft) (old new : OfficeMemory) : Ty
   pub put : draft_at new.drafts d ≡ draft
   pub others : (e : ℕ) → e ≢ d → draft_at new.drafts e ≡ draft_at old.drafts e
   pub published : new.published ≡ old.published
+  pub priced : new.priced ≡ old.priced
 
--- this publication replaces the one before, and everything else is as it was
-pub record HasPublished (publication : Placing × Vec SeatRow Global) (old new : OfficeMemory)
-    : Type 0 where
+-- this publication with its penalty replaces the one before, and everything else is as it was
+pub record HasPublished (publication : Placing × Vec SeatRow Global) (penalty : Penalty)
+    (old new : OfficeMemory) : Type 0 where
   pub kept : new.kept ≡ old.kept
   pub batches : new.batches ≡ old.batches
   pub drafts : new.drafts ≡ old.drafts
   pub published : new.published ≡ Some publication
+  pub priced : new.priced ≡ Some penalty
 
 -- a draft with its penalty by these enrolments
 abbrev pub rescored_draft : Session → Enrolled → Draft → Draft

@@ -8,6 +8,8 @@ use Rattle.exam_publish.specs.Changed.{changed_students}
 use Rattle.exam_publish.specs.Permit.{publish_refusal}
 use Rattle.exam_publish.specs.Shares.{shares_of, student_shares}
 use Rattle.exam_publish.specs.declared.seat_row.SeatRow.{SeatRow}
+use Rattle.exam_score.specs.Penalty.{Penalty}
+use Rattle.exam_score.specs.Track.{track}
 use Rattle.office_tables.specs.declared.placed.PlacedRow.{PlacedRow}
 use Rattle.office_tables.specs.SharePart.{ArePartAmounts}
 use Rattle.office_tables.specs.ShareStudent.{AreStudentAmounts}
@@ -65,9 +67,10 @@ pub record AreSmallShares (new : NewPublication) : Type 0 where
 
 -- ---- by an office's records
 
--- the command's writes for a draft that fits and may be published, and the new publication
+-- the command's writes for a draft that fits and may be published, and the new publication with its
+-- penalty
 pub record IsInsertedFor (d : ℕ) (r : Records) (new : NewPublication)
-    (published : Placing × Vec SeatRow Global) : Type 0 where
+    (published : Placing × Vec SeatRow Global) (penalty : Penalty) : Type 0 where
   pub timetable : Placing
   pub draft : r.draft d ≡ Some timetable
   pub permitted : publish_refusal r.session r.enrolments timetable ≡ None
@@ -76,22 +79,23 @@ pub record IsInsertedFor (d : ℕ) (r : Records) (new : NewPublication)
   pub put : AreInserted r.session timetable before (publication_rows r.published)
       (published_as r timetable).rows (live_penalty r timetable) new
   pub made : publication_from (Some published) ≡ Some (published_as r timetable)
+  pub priced : track r.session r.enrolments timetable ≡ penalty
 
 -- the writes, or the command's own refusal
 abbrev pub Publishes : ℕ → Records
-    → Result (NewPublication × (Placing × Vec SeatRow Global)) StoreFault → Type 0
-Publishes d r (Ok new) = IsInsertedFor d r new.0 new.1
+    → Result (NewPublication × (Placing × Vec SeatRow Global) × Penalty) StoreFault → Type 0
+Publishes d r (Ok new) = IsInsertedFor d r new.0 new.1 new.2
 Publishes d r (Err fault) = IsFault (draft_published d (Some r)) fault
 
--- the command's writes for an office, and its new publication
+-- the command's writes for an office, and its new publication with its penalty
 pub record IsInserted (d : ℕ) (office : OfficeState) (new : NewPublication)
-    (published : Placing × Vec SeatRow Global) : Type 0 where
+    (published : Placing × Vec SeatRow Global) (penalty : Penalty) : Type 0 where
   pub records : Records
   pub is : office ≡ Some records
-  pub put : IsInsertedFor d records new published
+  pub put : IsInsertedFor d records new published penalty
 
 -- the writes, or the command's own refusal
 abbrev pub InsertsOrRefuses : ℕ → OfficeState
-    → Result (NewPublication × (Placing × Vec SeatRow Global)) StoreFault → Type 0
-InsertsOrRefuses d office (Ok new) = IsInserted d office new.0 new.1
+    → Result (NewPublication × (Placing × Vec SeatRow Global) × Penalty) StoreFault → Type 0
+InsertsOrRefuses d office (Ok new) = IsInserted d office new.0 new.1 new.2
 InsertsOrRefuses d office (Err fault) = IsFault (draft_published d office) fault

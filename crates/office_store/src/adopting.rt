@@ -1,5 +1,5 @@
 // Opening a database that already holds an office.
-ghost use Rattle.std.specs.Prelude.{◌≡◌, ◌⊎◌, false, IfErr, IfOk, IsTrue, OnErr, OnOk};
+ghost use Rattle.std.specs.Prelude.{◌≡◌, ◌⊎◌, false, IfErr, IfOk, IfSome, IsTrue, OnErr, OnOk};
 ghost use Rattle.sqlite.specs.Held.{state};
 ghost use Rattle.sqlite.specs.State.{HasCleanDisk, IsUnchanged};
 ghost use Rattle.office_schema.specs.Schema.{office_schema};
@@ -7,7 +7,9 @@ ghost use Rattle.office_tables.specs.Readers.{LeavesFile};
 ghost use Rattle.office_model.specs.Office.{OfficeState};
 ghost use Rattle.office_store.specs.Faults.{IsOfDatabase};
 ghost use Rattle.office_store.specs.Leaving.{LeavesOpened, MayMigrate};
-ghost use Rattle.office_store.specs.Memory.{IsTogether};
+ghost use Rattle.office_records.specs.FoundPublications.{AreFound, publication_from};
+ghost use Rattle.office_records.specs.Memory.{memory_of, published_in};
+ghost use Rattle.office_store.specs.Memory.{IsTogether, priced_as, priced_in};
 ghost use Rattle.office_store.specs.Opening.{HoldsOffice, IsFoundOffice, DatabaseUpgraded, WeighsNoNight};
 ghost use Rattle.office_store.specs.Transactions.{BroughtUp};
 
@@ -17,9 +19,11 @@ use crate::kept_bytes::check_bytes;
 use crate::memory::OfficeMemory;
 use crate::office::Office;
 use crate::transactions::migrate_tables;
-use exam_model::{Enrolments, Instance};
+use exam_model::{Enrolments, Instance, Timetable};
+use exam_publish::{SeatRow, shares};
+use exam_score::Parts;
 use office_model::StoreFault;
-use office_records::kept_of;
+use office_records::{Kept, kept_of};
 use office_tables::{Found, Version, adopt_tables};
 use sqlite::{Alter, Connection};
 use std::alloc::Global;
@@ -92,13 +96,51 @@ fn found_office<S: Alter>(
     check_weight(found.version, &kept.session)?;
     check_bytes(alloc, conn, &found.batches)?;
     let drafts = drafts_found(alloc, &kept.session, &found)?;
+    let priced = penalty_of(alloc, &kept)?;
     let memory = OfficeMemory {
         kept: kept.session,
         batches: found.batches.len(),
         drafts,
         published: kept.published,
+        priced,
     };
     Ok((found, memory))
+}
+
+// Returns the penalty of the publication that is kept in memory, if there is one.
+fn penalty_of(alloc: Global, kept: &Kept) -> Result<Option<Parts>, StoreFault>
+    requires found { IfSome kept.now.session
+        (λ session. AreFound session.0 (publication_from kept.now.published)) }
+    ensures priced { IfOk result (λ priced. (o : OfficeState) → memory_of o ≡ kept.now.session
+        → published_in o ≡ publication_from kept.now.published → priced_in o ≡ priced) }
+    ensures fault { IfErr result (λ e. e ≡ StoreFault.Store) }
+{
+    match &kept.session {
+        Some((instance, _)) => published_penalty(alloc, instance, &kept.published),
+        None => Ok(None),
+    }
+}
+
+// Returns the penalty of a publication of this session, if there is one, with the enrolments at that
+// time.
+fn published_penalty(
+    alloc: Global,
+    instance: &Instance,
+    published: &Option<(Timetable, Vec<SeatRow>)>,
+) -> Result<Option<Parts>, StoreFault>
+    requires found { AreFound instance.now (publication_from published.now) }
+    ensures priced { IfOk result
+        (λ priced. priced ≡ priced_as instance.now (publication_from published.now)) }
+    ensures fault { IfErr result (λ e. e ≡ StoreFault.Store) }
+{
+    let Some((timetable, rows)) = published else {
+        return Ok(None);
+    };
+    let shares = shares(alloc, instance, rows, timetable)?;
+    let Some(parts) = shares.parts() else {
+        return Err(StoreFault::Store);
+    };
+    Ok(Some(parts))
 }
 
 // Checks that tables of version 1 have weight 0 for exams over night. `BadSchema`: they have

@@ -40,6 +40,8 @@ pub(crate) struct OfficeMemory {
     pub(crate) drafts: Drafts,
     // The published timetable with its seat rows, by exam and then by student, if there is one.
     pub(crate) published: Option<(Timetable, Vec<SeatRow>)>,
+    // Its penalty, with the enrolments at that time.
+    pub(crate) priced: Option<Parts>,
 }
 
 impl OfficeMemory {
@@ -49,12 +51,14 @@ impl OfficeMemory {
         ensures batches { result.batches ≡ 0 }
         ensures drafts { (d : ℕ) → draft_at result.drafts d ≡ None }
         ensures published { result.published ≡ None }
+        ensures priced { result.priced ≡ None }
     {
         OfficeMemory {
             kept: None,
             batches: 0,
             drafts: no_drafts(),
             published: None,
+            priced: None,
         }
     }
 
@@ -64,12 +68,14 @@ impl OfficeMemory {
         ensures batches { result.batches ≡ 0 }
         ensures drafts { (d : ℕ) → draft_at result.drafts d ≡ None }
         ensures published { result.published ≡ None }
+        ensures priced { result.priced ≡ None }
     {
         OfficeMemory {
             kept: Some((instance, enrolments)),
             batches: 0,
             drafts: no_drafts(),
             published: None,
+            priced: None,
         }
     }
 
@@ -111,11 +117,12 @@ impl OfficeMemory {
         }
     }
 
-    // Replaces the publication by a timetable with its seat rows.
-    pub(crate) fn publish(&mut self, published: (Timetable, Vec<SeatRow>))
-        ensures { HasPublished published self.old self.new }
+    // Replaces the publication by a timetable with its seat rows and its penalty.
+    pub(crate) fn publish(&mut self, published: (Timetable, Vec<SeatRow>), penalty: Parts)
+        ensures { HasPublished published penalty self.old self.new }
     {
         self.published = Some(published);
+        self.priced = Some(penalty);
     }
 
     // Returns the seat rows of the publication; none if nothing is published.
@@ -146,6 +153,7 @@ impl OfficeMemory {
         ensures renewed { (I : Session) (E : Enrolled) → self.old.kept ≡ Some (I, E)
             → IsRenewed I E enrolments drafts self.old self.new }
         ensures published { self.new.published ≡ self.old.published }
+        ensures priced { self.new.priced ≡ self.old.priced }
     {
         self.batches += 1;
         let Some(enrolments) = enrolments else {

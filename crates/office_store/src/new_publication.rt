@@ -28,6 +28,7 @@ use crate::memory::{Draft, OfficeMemory};
 use crate::rewritten_places::{mark_text, placements_put, places_gone};
 use exam_model::{Enrolments, Instance, StudentNo, Timetable};
 use exam_publish::{SeatRow, Shares, changed, numbers_identify, permit, seats, shares_among};
+use exam_score::Parts;
 use office_model::{Published, StoreFault};
 use office_records::{
     part_share_rows, placement_rows, retimed_students, seats_beside, student_share_rows,
@@ -56,12 +57,12 @@ pub(crate) struct NewPublication {
     pub(crate) counts: Published,
 }
 
-// Returns the writes of the publication of a draft in memory, and the new publication.
+// Returns the writes of the publication of a draft in memory, the new publication, and its penalty.
 pub(crate) fn new_publication(
     alloc: Global,
     memory: &OfficeMemory,
     number: u32,
-) -> Result<(NewPublication, (Timetable, Vec<SeatRow>)), StoreFault>
+) -> Result<(NewPublication, (Timetable, Vec<SeatRow>), Parts), StoreFault>
     requires together { IsTogether memory.now }
     ensures publishes { (office : OfficeState) → IsMemoryOf office memory.now
         → InsertsOrRefuses number office result }
@@ -82,7 +83,7 @@ pub(crate) fn new_publication(
     let before = memory.published_places(alloc)?;
     let writes = publication_writes(alloc, instance, draft, &before, old, &rows)?;
     let timetable = draft.timetable.copy(alloc)?;
-    Ok((writes, (timetable, rows)))
+    Ok((writes, (timetable, rows), draft.parts))
 }
 
 // Checks that a draft of the session in memory may be published.

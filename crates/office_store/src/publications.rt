@@ -5,6 +5,7 @@ ghost use Rattle.sqlite.specs.State.{HasCleanDisk};
 ghost use Rattle.office_model.specs.Office.{AreRecords, OfficeState, Records};
 ghost use Rattle.office_records.specs.SharesStored.{AreShared};
 ghost use Rattle.office_store.specs.Leaving.{LeavesUnchanged};
+ghost use Rattle.office_store.specs.Memory.{priced_in};
 ghost use Rattle.office_store.specs.Publications.{AddUpIn, plain, publication_shown, shares_in};
 ghost use Rattle.office_store.specs.Publications.{timetable_shown};
 ghost use Rattle.office_store.specs.Running.{Represents, QueryReturned, ReturnsValue};
@@ -13,6 +14,7 @@ use crate::office::Office;
 use crate::share_rows::ShareRows;
 use exam_model::{Instance, Timetable};
 use exam_publish::{SeatRow, Shares};
+use exam_score::Parts;
 use office_model::StoreFault;
 use office_records::shares_of;
 use sqlite::Alter;
@@ -50,6 +52,17 @@ impl<S: Alter> Office<S> {
         };
         let timetable = timetable.copy(alloc)?;
         Ok(Some(timetable))
+    }
+
+    /// Returns the penalty of the publication with the enrolments at that time, from memory. `None`:
+    /// nothing is published.
+    pub fn publication_penalty(&mut self) -> Result<Option<Parts>, StoreFault>
+        ensures reads { QueryReturned S.Store priced_in self.old self.new result }
+        // While it is open, the database is unchanged. On `Ok` memory and the file agree.
+        ensures leaves { LeavesUnchanged S.Store self.old self.new result }
+    {
+        self.look()?;
+        Ok(self.memory.priced)
     }
 
     /// Returns each candidate's, exam's, period's and room's share of the publication's penalty.

@@ -22,9 +22,9 @@ impl<S: Alter> Office<S> {
         ensures leaves { LeavesNext S.Store (draft_published number) self.old self.new result }
     {
         self.look()?;
-        let (writes, published) = new_publication(alloc, &self.memory, number)?;
+        let (writes, published, penalty) = new_publication(alloc, &self.memory, number)?;
         put(&mut self.conn, &writes)?;
-        self.memory.publish(published);
+        self.memory.publish(published, penalty);
         Ok(writes.counts)
     }
 }

@@ -5,12 +5,12 @@ ghost use Rattle.office_tables.specs.ShareStudent.{AreStudentAmounts};
 use crate::given::assert_same;
 use office_tables::{
     Alteration, Both, DeleteDraft, DeleteMeta, DeleteOwner, DeletePartShares, DeletePlacement,
-    DeleteSeat, DeleteSlot, DeleteSlots, DeleteStudentShare, DraftRow, Each, EnrolRow,
-    EnrolsOf, FindEnrolsOf, InsertDraft, InsertEnrol, InsertEnrols, InsertMeta, InsertOwner,
-    InsertPartShare, InsertPlacement, InsertPlacements, InsertSeat, InsertSeats, InsertSlot,
-    InsertSlots, InsertStudentShare, OwnerRow, OwnersOf, PartShareRow, PartShares, PlacedRow,
-    PlacementsOf, Query, SeatRow, SeatsOf, SlotRow, StudentShareRow, StudentShares,
-    StudentSharesOf, adopt_tables, create_tables, is_bare, look, transact,
+    DeleteSeat, DeleteSlot, DeleteSlots, DeleteStudentShare, DraftRow, Each, EnrolRow, EnrolsOf,
+    FindEnrolsOf, InsertDraft, InsertEnrol, InsertEnrols, InsertMeta, InsertOwner, InsertPartShare,
+    InsertPlacement, InsertPlacements, InsertSeat, InsertSeats, InsertSlot, InsertSlots,
+    InsertStudentShare, OwnerRow, OwnersOf, PartShareRow, PartShares, PlacedRow, PlacementsOf,
+    Query, SeatRow, SeatsOf, SlotRow, StudentShareRow, StudentShares, StudentSharesOf,
+    adopt_tables, create_tables, is_bare, look, transact,
 };
 use sqlite::{Connection, Error, MemStore, Transaction};
 use std::alloc::Global;
@@ -269,7 +269,10 @@ fn delete_most(conn: &mut Connection<MemStore>) -> Result<(), Fail> {
     };
     let seats = Both {
         first: DeletePlacement { exam: 0 },
-        second: DeleteSeat { student: 2, exam: 0 },
+        second: DeleteSeat {
+            student: 2,
+            exam: 0,
+        },
     };
     let shares = Both {
         first: DeleteStudentShare { student: 2 },

@@ -126,6 +126,7 @@ returns-clause-kept g c clean =
         drafts = found_drafts t are.0 are.1 are.2 are.3 c.in_ok-kept.kept.session are.4
             c.in_ok-drafts.drafts c.in_ok-drafts.ensures.are c.in_ok-drafts.ensures.none;
         published = are.5;
+        priced = c.in_ok-priced.ensures.priced are.0 are.4 are.5;
       };
     }
 
@@ -194,6 +195,13 @@ returns-in_err-check_bytes-clause-leaves g c =
 
 pub returns-in_err-drafts-clause-leaves : goal.returns-in_err-drafts-clause-leaves
 returns-in_err-drafts-clause-leaves g c =
+    let some : c.in-Ok-Some.field-0 ≡ Some c.in-Ok-Some.found = search rules in
+    file_as (Unit {0}) g.S.Store _ _ (λ P none. search rules)
+    (found_then g.S.Store _ _ _ c.in-Ok-Some.field-0 c.in-Ok-Some.found some
+    c.in-Ok-Some.ensures.found c.in-Ok-Some.ensures.leaves c.check_bytes.ensures.leaves)
+
+pub returns-in_err-priced-clause-leaves : goal.returns-in_err-priced-clause-leaves
+returns-in_err-priced-clause-leaves g c =
     let some : c.in-Ok-Some.field-0 ≡ Some c.in-Ok-Some.found = search rules in
     file_as (Unit {0}) g.S.Store _ _ (λ P none. search rules)
     (found_then g.S.Store _ _ _ c.in-Ok-Some.field-0 c.in-Ok-Some.found some

@@ -70,20 +70,25 @@ returns-clause-publishes c o is =
     let E = c.in-Some.enrolments in
     let T = c.in-Some-draft.draft.now.timetable in
     puts_in_memory m I E c.in-Some.is d
-    (Ok (c.in_ok-writes.writes, (c.in_ok-timetable.timetable, c.in_ok-rows.rows))) o is
+    (Ok (
+      c.in_ok-writes.writes,
+      (c.in_ok-timetable.timetable, c.in_ok-rows.rows),
+      c.in-Some-draft.draft.now.parts,
+    )) o is
     (λ r same here memory.
     let draft = there_of d r c.in-Some-draft.draft.now
     (sym (memory.drafts d) ∙ c.in-Some-draft.ensures.some) in
+    let priced = draft.scored ∙ ap (λ (p : Session × Enrolled). track p.0 p.1 T) (both r I E here) in
     publishes d r I E T here draft.timetable c.deref-2.result.now c.published_rows-old.result.now
     c.in_ok-rows.rows (total_of c.in-Some-draft.draft.now.parts) c.in_ok-writes.writes
-    c.in_ok-timetable.timetable c.in_ok-check_permit.ensures.permitted
+    c.in_ok-timetable.timetable c.in-Some-draft.draft.now.parts
+    c.in_ok-check_permit.ensures.permitted
     (c.deref-2.ensures.value ∙ c.in_ok-before.ensures
     ∙ ap placed_rows (sym memory.published))
     (c.published_rows-old.ensures ∙ ap publication_rows (sym memory.published))
     c.in_ok-rows.ensures.rows
-    (ap total_of (draft.scored
-    ∙ ap (λ (p : Session × Enrolled). track p.0 p.1 T) (both r I E here)))
+    (ap total_of priced)
     (subst (λ l. AreInserted I T c.deref-2.result.now c.published_rows-old.result.now l
     (total_of c.in-Some-draft.draft.now.parts) c.in_ok-writes.writes) c.deref-3.ensures.value
     c.in_ok-writes.ensures.put)
-    c.in_ok-timetable.ensures.same)
+    c.in_ok-timetable.ensures.same priced)

@@ -26,6 +26,7 @@ invariant_of-result g c = (
       batches = sym c.new.ensures.batches;
       drafts = c.new.ensures.drafts;
       published = sym (ap publication_from c.new.ensures.published);
+      priced = sym c.new.ensures.priced;
     },
   ),
   unloaded_together c.new.result c.new.ensures.kept c.new.ensures.drafts

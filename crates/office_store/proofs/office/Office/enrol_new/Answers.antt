@@ -81,7 +81,8 @@ invariant_of-self-2 g c =
           c.batch_leaves_an_office.ensures number text old after counts c.requires.number is gives)
           (state g.S.Store after).now new
           (λ r here is memory. c.in_ok-new.ensures.enrols _ r here is memory)
-          c.renew.new.self c.renew.ensures.batches c.renew.ensures.published renewed
+          c.renew.new.self c.renew.ensures.batches c.renew.ensures.published
+          c.renew.ensures.priced renewed
           c.in_ok-new.ensures.rescored),
       renewed_together c.self.inside.memory c.renew.new.self I E c.in-Some.is c.self.invariant.2
           new.enrolments new.rescored renewed c.renew.ensures.published c.in_ok-new.ensures.exams

@@ -40,7 +40,7 @@ invariant_of-self-2 g c =
           c.self.inside.memory c.of_session.result c.in-Ok.ensures.exact
           c.counts_of-loaded.ensures.counts no c.of_session.ensures.kept
           c.of_session.ensures.batches c.of_session.ensures.drafts
-          c.of_session.ensures.published),
+          c.of_session.ensures.published c.of_session.ensures.priced),
       loaded_together I E c.of_session.result c.of_session.ensures.kept
           (as_many c.args.text.now I E c.in-Ok.ensures.reading) c.of_session.ensures.drafts
           c.of_session.ensures.published,

@@ -31,12 +31,12 @@ invariant_of-self-2 g c = (
       c.in_ok-writes.writes.counts c.self.invariant.1 c.put.ensures.clean
       (λ k. (c.in_ok-put.ensures.done k).was_open)
       (λ k. publication_moves c.args.number _ _ c.self.inside.memory c.in_ok-writes.writes
-      c.in_ok-writes.published c.in_ok-writes.ensures.publishes
+      c.in_ok-writes.published c.in_ok-writes.penalty c.in_ok-writes.ensures.publishes
       (λ t held. ((c.in_ok-put.ensures.done k).related t held).0))
       (λ k. publication_remembers c.args.number _ c.self.inside.memory c.publish.new.self
-      c.in_ok-writes.writes c.in_ok-writes.published c.in_ok-writes.ensures.publishes
+      c.in_ok-writes.writes c.in_ok-writes.published c.in_ok-writes.penalty c.in_ok-writes.ensures.publishes
       c.publish.ensures),
-  published_together c.self.inside.memory c.publish.new.self c.in_ok-writes.published
+  published_together c.self.inside.memory c.publish.new.self c.in_ok-writes.published c.in_ok-writes.penalty
       c.self.invariant.2 c.publish.ensures c.in_ok-writes.ensures.found,
 )
 
@@ -47,7 +47,7 @@ returns g c =
     c.self.invariant.1 c.in_ok-look.ensures.leaves _ c.in_ok-writes.writes.counts
     c.in_ok-put.ensures
     (λ k db makes. publication_moves c.args.number _ _ c.self.inside.memory c.in_ok-writes.writes
-    c.in_ok-writes.published c.in_ok-writes.ensures.publishes makes) in
+    c.in_ok-writes.published c.in_ok-writes.penalty c.in_ok-writes.ensures.publishes makes) in
     record { runs = next.0; leaves = next.1 }
 
 pub returns-in_err-put : goal.returns-in_err-put
@@ -57,7 +57,7 @@ returns-in_err-put g c =
     c.self.view_is c.self.invariant.1 c.in_ok-look.ensures.leaves _ c.in_ok-writes.writes.counts
     c.in_err-put.ensures
     (λ k db makes. publication_moves c.args.number _ _ c.self.inside.memory c.in_ok-writes.writes
-    c.in_ok-writes.published c.in_ok-writes.ensures.publishes makes)
+    c.in_ok-writes.published c.in_ok-writes.penalty c.in_ok-writes.ensures.publishes makes)
     c.from_residual-in_err-put.result c.from_residual-in_err-put.ensures.1
     in
     record { runs = next.0; leaves = next.1 }
