@@ -1,0 +1,15 @@
+//! Why a timetable's penalty is what it is: each summand of each part, with what it counts.
+#![tactic(auto)]
+
+mod durations;
+mod front_reasons;
+mod laws;
+mod pair_reasons;
+mod place_reasons;
+mod reasons;
+
+pub use front_reasons::front_reason;
+pub use laws::reasons_add_up;
+pub use pair_reasons::pair_reason;
+pub use place_reasons::{mixed_reason, period_reason, room_reason};
+pub use reasons::{ExamReason, MixedReason, PairKind, PairReason, PlaceReason};
