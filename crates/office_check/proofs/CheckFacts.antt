@@ -1,6 +1,6 @@
 -- Facts about a run from its parts.
 use Rattle.std.proofs.Common.{◌≡◌, ◌≤◌, ◌∙◌, ℕ, ◌⊎◌, List, length, [], ◌∷◌, Option, Some, None, IfSome}
-use Rattle.std.proofs.Common.{inl, inr, sym, subst}
+use Rattle.std.proofs.Common.{inl, inr, refl, sym, subst}
 use Rattle.std.specs.Io.KnownBytes.{Appends}
 use Rattle.exam_model.specs.Enrolments.{Enrolled}
 use Rattle.exam_model.specs.Instance.{Session}
@@ -10,10 +10,11 @@ use Rattle.office_files.specs.FirstFault.{first_solution_fault}
 use Rattle.office_files.specs.InstanceText.{InstanceText}
 use Rattle.office_files.specs.SolutionText.{SolutionText}
 use Rattle.office_files.specs.Inputs.{RefusesFile}
-use Rattle.office_check.specs.Check.{AreRead, AreReadAs, IsRead, IsJudgement, Reports, report}
-use Rattle.office_check.specs.Listing.{IsPlaceList, LacksExam, ListsPlaces, WritesPlaces}
+use Rattle.office_check.specs.Check.{AreRead, AreReadAs, AreReadFrom, IsInput, IsJudgement, IsJudgementFrom}
+use Rattle.office_check.specs.Check.{IsRead, Reports, WritesReport, WritesReportFrom, exit_status, report, status_of}
+use Rattle.office_check.specs.Listing.{IsPlaceList, LacksExam, ListsPlaces, ListsPlacesFrom, WritesPlaces}
+use Rattle.office_check.specs.Listing.{WritesPlacesFrom, WritesSomePlaces}
 use Rattle.office_check.specs.Refusing.{Refuses, of_solution}
-use Rattle.office_check.specs.Check.{IsSomeJudgement, WritesReport, exit_status, status_of}
 use Rattle.office_check.specs.Verdicts.{IsVerdict, IsVerdictOn}
 use Rattle.office_check.specs.declared.checking.CheckFault.{CheckFault}
 use Rattle.office_check.specs.declared.judging.Verdict.{Verdict}
@@ -74,29 +75,92 @@ pub one_of_two : (breaches : List Breach) (answer : ℕ) → answer ≡ status_o
 one_of_two [] answer is = inl is
 one_of_two (breach ∷ breaches) answer is = inr is
 
--- readings of some two texts have a judgement
-pub some_judged : (a b : List ℕ) (I : Session) (enrolled : Enrolled) (placing : Placing)
-    (text : List ℕ) (answer : ℕ) → AreReadAs a b I enrolled placing
+-- a fact about the text of an input, which is known or not
+known_input : (input : Option (List ℕ)) (P : List ℕ → Type 0) → IfSome input P
+    → (text : List ℕ) × P text → (text : List ℕ) × IsInput input text × P text
+known_input None P known some = (some.0, tt, some.1)
+known_input (Some text) P known some = (text, refl, known)
+
+-- readings of texts of the two inputs
+pub read_from : (a b : Option (List ℕ)) (I : Session) (enrolled : Enrolled) (placing : Placing)
+    → IfSome a (λ instance. InstanceText instance I enrolled)
+    → (instance : List ℕ) × InstanceText instance I enrolled
+    → IfSome b (λ solution. SolutionText solution I placing)
+    → (solution : List ℕ) × SolutionText solution I placing → AreReadFrom a b I enrolled placing
+read_from a b I enrolled placing one some_one two some_two =
+    let first = known_input a (λ text. InstanceText text I enrolled) one some_one in
+    let second = known_input b (λ text. SolutionText text I placing) two some_two in
+    record {
+      instance = first.0;
+      solution = second.0;
+      of_first = first.1;
+      of_second = second.1;
+      read = record { session = first.2; timetable = second.2 };
+    }
+
+-- their judgement
+pub judged_from : (a b : Option (List ℕ)) (I : Session) (enrolled : Enrolled) (placing : Placing)
+    (text : List ℕ) (answer : ℕ) → AreReadFrom a b I enrolled placing
     → text ≡ report I enrolled placing → answer ≡ exit_status I enrolled placing
-    → IsSomeJudgement text answer
-some_judged a b I enrolled placing text answer known same status = record {
-  instance = a;
-  solution = b;
-  judged = record { read = are_read known; spells = same; status = status };
+    → IsJudgementFrom a b text answer
+judged_from a b I enrolled placing text answer known same status = record {
+  instance = known.instance;
+  solution = known.solution;
+  of_first = known.of_first;
+  of_second = known.of_second;
+  judged = record { read = are_read known.read; spells = same; status = status };
 }
 
--- a judgement of some two texts that is written
-pub some_written : (old new : Option (List ℕ)) (text : List ℕ) (answer : ℕ)
-    → IsSomeJudgement text answer → Appends old new text → WritesReport old new answer
-some_written old new text answer some appended = record {
-  instance = some.instance;
-  solution = some.solution;
+-- their judgement that is written
+pub written_from : (a b old new : Option (List ℕ)) (text : List ℕ) (answer : ℕ)
+    → IsJudgementFrom a b text answer → Appends old new text → WritesReportFrom a b old new answer
+written_from a b old new text answer from appended = record {
+  instance = from.instance;
+  solution = from.solution;
+  of_first = from.of_first;
+  of_second = from.of_second;
   reports = record {
-    read = some.judged.read;
-    written = subst (Appends old new) some.judged.spells appended;
-    status = some.judged.status;
+    read = from.judged.read;
+    written = subst (Appends old new) from.judged.spells appended;
+    status = from.judged.status;
   };
 }
+
+-- whatever the inputs were
+pub some_written : (a b old new : Option (List ℕ)) (answer : ℕ)
+    → WritesReportFrom a b old new answer → WritesReport old new answer
+some_written a b old new answer from =
+    record { instance = from.instance; solution = from.solution; reports = from.reports }
+
+-- the list of an exam's places in texts of the two inputs
+pub listed_from : (a b : Option (List ℕ)) (I : Session) (enrolled : Enrolled) (placing : Placing)
+    (exam : ℕ) (text : List ℕ) → AreReadFrom a b I enrolled placing
+    → IsPlaceList I enrolled placing exam text → ListsPlacesFrom a b exam text
+listed_from a b I enrolled placing exam text known lists = record {
+  instance = known.instance;
+  solution = known.solution;
+  of_first = known.of_first;
+  of_second = known.of_second;
+  lists = record { read = are_read known.read; lists = lists };
+}
+
+-- the list that is written
+pub list_written_from : (a b : Option (List ℕ)) (exam : ℕ) (old new : Option (List ℕ))
+    (text : List ℕ) → ListsPlacesFrom a b exam text → Appends old new text
+    → WritesPlacesFrom a b exam old new
+list_written_from a b exam old new text from appended = record {
+  instance = from.instance;
+  solution = from.solution;
+  of_first = from.of_first;
+  of_second = from.of_second;
+  writes = record { text = text; lists = from.lists; written = appended };
+}
+
+-- whatever the inputs were
+pub some_list_written : (a b : Option (List ℕ)) (exam : ℕ) (old new : Option (List ℕ))
+    → WritesPlacesFrom a b exam old new → WritesSomePlaces exam old new
+some_list_written a b exam old new from =
+    record { instance = from.instance; solution = from.solution; writes = from.writes }
 
 -- a fact about the whole text that was read holds for the input
 pub of_input : (P : List ℕ → Type 0) (a : Option (List ℕ)) (text read : List ℕ)

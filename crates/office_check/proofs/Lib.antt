@@ -1,1 +1,3 @@
 mod CheckFacts
+mod NameFacts
+mod WhyFacts

@@ -1,5 +1,5 @@
 -- The output and the exit status of `check`.
-use Rattle.std.specs.Prelude.{◌≡◌, ℕ, ◌++◌, ◌∷◌, [], List, Option}
+use Rattle.std.specs.Prelude.{◌≡◌, ℕ, ◌++◌, ◌∷◌, [], IfSome, List, Option}
 use Rattle.std.specs.Io.KnownBytes.{Appends}
 use Rattle.exam_model.specs.Enrolments.{Enrolled}
 use Rattle.exam_model.specs.Instance.{Session}
@@ -55,13 +55,37 @@ pub record Reports (instance solution : List ℕ) (old new : Option (List ℕ)) 
   pub written : Appends old new (report read.first.session read.first.enrolled read.placing)
   pub status : answer ≡ exit_status read.first.session read.first.enrolled read.placing
 
--- whatever the texts were: some two have a reading, and these are its report and its status
-pub record IsSomeJudgement (text : List ℕ) (answer : ℕ) : Type 0 where
+-- the text is that of the input, if that is known
+abbrev pub IsInput : Option (List ℕ) → List ℕ → Type 0
+IsInput input text = IfSome input (λ known. known ≡ text)
+
+-- texts of the two inputs have this reading
+pub record AreReadFrom (first second : Option (List ℕ)) (I : Session) (E : Enrolled) (T : Placing)
+    : Type 0 where
   pub instance : List ℕ
   pub solution : List ℕ
+  pub of_first : IsInput first instance
+  pub of_second : IsInput second solution
+  pub read : AreReadAs instance solution I E T
+
+-- texts of the two inputs have a reading, and these are its report and its status
+pub record IsJudgementFrom (first second : Option (List ℕ)) (text : List ℕ) (answer : ℕ)
+    : Type 0 where
+  pub instance : List ℕ
+  pub solution : List ℕ
+  pub of_first : IsInput first instance
+  pub of_second : IsInput second solution
   pub judged : IsJudgement instance solution text answer
 
--- some two texts have a reading, its report is written, and its status is answered
+-- texts of the two inputs have a reading, its report is written, and its status is answered
+pub record WritesReportFrom (first second old new : Option (List ℕ)) (answer : ℕ) : Type 0 where
+  pub instance : List ℕ
+  pub solution : List ℕ
+  pub of_first : IsInput first instance
+  pub of_second : IsInput second solution
+  pub reports : Reports instance solution old new answer
+
+-- whatever the texts were: some two have a reading, its report is written, and its status is answered
 pub record WritesReport (old new : Option (List ℕ)) (answer : ℕ) : Type 0 where
   pub instance : List ℕ
   pub solution : List ℕ

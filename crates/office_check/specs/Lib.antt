@@ -2,3 +2,5 @@ pub mod Check
 pub mod Refusing
 pub mod Verdicts
 pub mod Listing
+pub mod Names
+pub mod Why

@@ -6,7 +6,7 @@ use Rattle.exam_model.specs.Instance.{Session}
 use Rattle.exam_model.specs.Timetable.{Placing}
 use Rattle.exam_places.specs.Answers.{answers_of}
 use Rattle.exam_places.specs.Places.{edit_answer, places_of}
-use Rattle.office_check.specs.Check.{AreRead}
+use Rattle.office_check.specs.Check.{AreRead, IsInput}
 use Rattle.office_check.specs.Refusing.{Refuses}
 use Rattle.office_check.specs.declared.listing.PlacesFault.{PlacesFault}
 use Rattle.office_check.specs.declared.listing.PlacesFault.TheVariants as fault
@@ -25,12 +25,30 @@ pub record ListsPlaces (instance solution : List ℕ) (exam : ℕ) (text : List 
   pub read : AreRead instance solution
   pub lists : IsPlaceList read.first.session read.first.enrolled read.placing exam text
 
+-- it is the list of the exam's places in texts of the two inputs
+pub record ListsPlacesFrom (first second : Option (List ℕ)) (exam : ℕ) (text : List ℕ)
+    : Type 0 where
+  pub instance : List ℕ
+  pub solution : List ℕ
+  pub of_first : IsInput first instance
+  pub of_second : IsInput second solution
+  pub lists : ListsPlaces instance solution exam text
+
 -- some text that lists the exam's places in these two is written
 pub record WritesPlaces (instance solution : List ℕ) (exam : ℕ) (old new : Option (List ℕ))
     : Type 0 where
   pub text : List ℕ
   pub lists : ListsPlaces instance solution exam text
   pub written : Appends old new text
+
+-- the list of the exam's places in texts of the two inputs is written
+pub record WritesPlacesFrom (first second : Option (List ℕ)) (exam : ℕ) (old new : Option (List ℕ))
+    : Type 0 where
+  pub instance : List ℕ
+  pub solution : List ℕ
+  pub of_first : IsInput first instance
+  pub of_second : IsInput second solution
+  pub writes : WritesPlaces instance solution exam old new
 
 -- whatever the texts were: the list of some two is written
 pub record WritesSomePlaces (exam : ℕ) (old new : Option (List ℕ)) : Type 0 where

@@ -10,6 +10,7 @@ use Rattle.exam_rules.specs.Breaches.{breaches_of}
 use Rattle.exam_score.specs.Penalty.{total_of}
 use Rattle.exam_score.specs.Track.{track}
 use Rattle.office_files.specs.SolutionText.{SolutionText}
+use Rattle.office_check.specs.Names.{printed_name}
 use Rattle.office_check.specs.declared.judging.LineForm.{LineForm}
 use Rattle.office_check.specs.declared.judging.LineForm.TheVariants.{Json, Plain}
 use Rattle.office_check.specs.declared.judging.Verdict.{Verdict}
@@ -35,9 +36,9 @@ numbers_of v = v.breaches ∷ total_of v.parts ∷ v.parts.row ∷ v.parts.day �
 abbrev pub column : ℕ → List ℕ
 column n = decimal n ++ 32 ∷ []
 
--- these numbers, and the path to the end of the line
+-- these numbers, and the printed path to the end of the line
 abbrev pub plain_line : List ℕ → Verdict → List ℕ
-plain_line path v = flat_map column (numbers_of v) ++ path ++ 10 ∷ []
+plain_line path v = flat_map column (numbers_of v) ++ printed_name path ++ 10 ∷ []
 
 -- a member whose value is a number
 abbrev pub json_number : ℕ → Data

@@ -8,9 +8,10 @@ ghost use Rattle.office_files.specs.FirstFault.{first_fault, first_solution_faul
 ghost use Rattle.office_files.specs.InstanceText.{InstanceText};
 ghost use Rattle.office_files.specs.SolutionText.{SolutionText};
 ghost use Rattle.office_files.specs.Inputs.{RefusesFile, ReadsAtMost};
-ghost use Rattle.office_check.specs.Check.{AreReadAs, IsJudgement, Reports};
+ghost use Rattle.office_check.specs.Check.{AreReadAs, AreReadFrom, IsJudgement, IsJudgementFrom};
 ghost use Rattle.office_check.specs.Refusing.{Refuses, of_instance, of_solution};
-ghost use Rattle.office_check.specs.Check.{IsSomeJudgement, WritesReport, exit_status, report};
+ghost use Rattle.office_check.specs.Check.{Reports, WritesReport, WritesReportFrom, exit_status};
+ghost use Rattle.office_check.specs.Check.{report};
 
 use exam_model::{Enrolments, Instance, Timetable};
 use exam_rules::breaches;
@@ -41,9 +42,9 @@ pub enum CheckFault {
 
 // The printed text for a solution, and the exit status.
 #[derive(Drop)]
-struct Judgement {
-    text: String,
-    status: u8,
+pub(crate) struct Judgement {
+    pub(crate) text: String,
+    pub(crate) status: u8,
 }
 
 /// Judges the solution, and writes its report. Each reader has 5,000,000 reads; an interrupted read
@@ -60,9 +61,12 @@ pub fn check_run<R: Read, Q: Read, W: Write>(
         Reports instance solution (W.contents writer.old) (W.contents writer.new) status))) }
     ensures status { IfOk result (λ status. (status ≡ 0) ⊎ (status ≡ 3)) }
 
-    // Even if the readers' bytes are not known, the report of two texts is written.
+    // Even if the readers' bytes are not known, the report of two texts is written; a text that is
+    // known is one of them.
     ensures reported { IfOk result
         (WritesReport (W.contents writer.old) (W.contents writer.new)) }
+    ensures from { IfOk result (WritesReportFrom (R.remaining instance_reader.old)
+        (Q.remaining solution_reader.old) (W.contents writer.old) (W.contents writer.new)) }
 
     // In the order of the work: the instance, the solution, the report.
     ensures refused { IfErr result (λ fault. IfSome (R.remaining instance_reader.old) (λ instance.
@@ -92,8 +96,8 @@ fn judgement_of<R: Read, Q: Read>(
     ensures ok { IfOk result (λ judged. IfSome (R.remaining instance_reader.old) (λ instance.
         IfSome (Q.remaining solution_reader.old) (λ solution.
         IsJudgement instance solution (string_bytes judged.text) judged.status))) }
-    ensures judged { IfOk result (λ judged.
-        IsSomeJudgement (string_bytes judged.text) judged.status) }
+    ensures from { IfOk result (λ judged. IsJudgementFrom (R.remaining instance_reader.old)
+        (Q.remaining solution_reader.old) (string_bytes judged.text) judged.status) }
     ensures within { IfOk result (λ judged. (judged.status ≡ 0) ⊎ (judged.status ≡ 3)) }
     ensures refused { IfErr result (λ fault. IfSome (R.remaining instance_reader.old) (λ instance.
         IfSome (Q.remaining solution_reader.old) (λ solution. Refuses instance solution fault))) }
@@ -118,8 +122,8 @@ pub(crate) fn files_of<R: Read, Q: Read>(
     ensures reading { IfOk result (λ read. IfSome (R.remaining instance_reader.old) (λ instance.
         IfSome (Q.remaining solution_reader.old) (λ solution.
         AreReadAs instance solution read.0 read.1 read.2))) }
-    ensures spelled { IfOk result (λ read. (instance : List ℕ) × (solution : List ℕ)
-        × AreReadAs instance solution read.0 read.1 read.2) }
+    ensures from { IfOk result (λ read. AreReadFrom (R.remaining instance_reader.old)
+        (Q.remaining solution_reader.old) read.0 read.1 read.2) }
     ensures fits { IfOk result (λ read. Fits read.0 read.1 read.2) }
     ensures refused { IfErr result (λ fault. IfSome (R.remaining instance_reader.old) (λ instance.
         IfSome (Q.remaining solution_reader.old) (λ solution. Refuses instance solution fault))) }
@@ -197,7 +201,7 @@ fn of_solution(fault: InputFault) -> CheckFault
 }
 
 // Returns the text of a solution's breaches and penalty, and the exit status.
-fn judge(
+pub(crate) fn judge(
     alloc: Global,
     instance: &Instance,
     enrolments: &Enrolments,

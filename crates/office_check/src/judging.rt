@@ -12,6 +12,7 @@ ghost use Rattle.office_check.specs.Verdicts.{IsVerdict, IsVerdictOn, column, js
 ghost use Rattle.office_check.specs.Verdicts.{numbers_of, verdict_data, verdict_line};
 
 use crate::checking::{instance_of, solution_of};
+use crate::names::FileName;
 use exam_model::{Enrolments, Instance, Timetable};
 use exam_rules::breaches;
 use exam_score::{Parts, score};
@@ -53,7 +54,8 @@ pub struct Verdict {
     pub parts: Parts,
 }
 
-/// The form of a printed verdict: numbers and the path separated by spaces, or an object of JSON.
+/// The form of a printed verdict: numbers and the printed path separated by spaces, or an object of
+/// JSON.
 #[derive(Clone, Copy, Debug, PartialEq, Eq)]
 pub enum LineForm {
     Plain,
@@ -173,13 +175,14 @@ impl Verdict {
         }
     }
 
-    // Returns the numbers and the path, separated by spaces.
+    // Returns the numbers and the name of the file, separated by spaces.
     fn plain_line(&self, alloc: Global, path: &str) -> Result<String, AllocError>
         ensures { IfOk result (λ text. string_bytes text ≡ plain_line path.now self.now) }
     {
         let mut text = String::new(alloc);
         add_columns(&mut text, &self.numbers())?;
-        write!(text, "{path}\n")?;
+        let name = FileName(path);
+        write!(text, "{name}\n")?;
         Ok(text)
     }
 

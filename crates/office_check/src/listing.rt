@@ -4,8 +4,9 @@ ghost use Rattle.exam_terms.specs.declared.limits.TheConstants.{INSTANCE_BYTES, 
 ghost use Rattle.std.specs.Io.KnownBytes.{Keeps};
 ghost use Rattle.exam_model.specs.Fits.{Fits};
 ghost use Rattle.office_files.specs.Inputs.{ReadsAtMost};
-ghost use Rattle.office_check.specs.Listing.{IsPlaceList, ListsPlaces, RefusesPlaces};
-ghost use Rattle.office_check.specs.Listing.{WritesPlaces, WritesSomePlaces};
+ghost use Rattle.office_check.specs.Listing.{IsPlaceList, ListsPlaces, ListsPlacesFrom};
+ghost use Rattle.office_check.specs.Listing.{RefusesPlaces, WritesPlaces, WritesPlacesFrom};
+ghost use Rattle.office_check.specs.Listing.{WritesSomePlaces};
 
 use crate::checking::{CheckFault, files_of};
 use exam_model::{Enrolments, ExamNo, Instance, Timetable};
@@ -39,9 +40,12 @@ pub fn places_run<R: Read, Q: Read, W: Write>(
         WritesPlaces instance solution exam
         (W.contents writer.old) (W.contents writer.new)))) }
 
-    // Even if the readers' bytes are not known, the list of two texts is written.
+    // Even if the readers' bytes are not known, the list of two texts is written; a text that is
+    // known is one of them.
     ensures listed { IfOk result (λ _.
         WritesSomePlaces exam (W.contents writer.old) (W.contents writer.new)) }
+    ensures from { IfOk result (λ _. WritesPlacesFrom (R.remaining instance_reader.old)
+        (Q.remaining solution_reader.old) exam (W.contents writer.old) (W.contents writer.new)) }
 
     // In the order of the work: the instance, the solution, the exam, the list.
     ensures refused { IfErr result (λ fault. IfSome (R.remaining instance_reader.old) (λ instance.
@@ -73,8 +77,8 @@ fn list_of<R: Read, Q: Read>(
     ensures ok { IfOk result (λ text. IfSome (R.remaining instance_reader.old) (λ instance.
         IfSome (Q.remaining solution_reader.old) (λ solution.
         ListsPlaces instance solution exam (string_bytes text)))) }
-    ensures listed { IfOk result (λ text. (instance : _) × (solution : _)
-        × ListsPlaces instance solution exam (string_bytes text)) }
+    ensures from { IfOk result (λ text. ListsPlacesFrom (R.remaining instance_reader.old)
+        (Q.remaining solution_reader.old) exam (string_bytes text)) }
     ensures refused { IfErr result (λ fault. IfSome (R.remaining instance_reader.old) (λ instance.
         IfSome (Q.remaining solution_reader.old) (λ solution.
         RefusesPlaces instance solution exam fault))) }

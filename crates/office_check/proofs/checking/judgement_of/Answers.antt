@@ -1,4 +1,4 @@
-use Rattle.office_check.proofs.CheckFacts.{judged, one_of_two, some_judged}
+use Rattle.office_check.proofs.CheckFacts.{judged, judged_from, one_of_two}
 use Rattle.office_check.proofs.checking.judgement_of.Goals as goal
 
 pub returns-in-Ok-clause-ok : goal.returns-in-Ok-clause-ok
@@ -6,9 +6,9 @@ returns-in-Ok-clause-ok g c =
     judged _ _ _ _ _ _ _ c.in_ok-instance.ensures.reading
     c.in-Ok.ensures.text c.in-Ok.ensures.status
 
-pub returns-in-Ok-clause-judged : goal.returns-in-Ok-clause-judged
-returns-in-Ok-clause-judged g c =
-    some_judged _ _ _ _ _ _ _ c.in_ok-instance.ensures.spelled.2
+pub returns-in-Ok-clause-from : goal.returns-in-Ok-clause-from
+returns-in-Ok-clause-from g c =
+    judged_from _ _ _ _ _ _ _ c.in_ok-instance.ensures.from
     c.in-Ok.ensures.text c.in-Ok.ensures.status
 
 pub returns-in-Ok-clause-within : goal.returns-in-Ok-clause-within

@@ -1,0 +1,125 @@
+-- Lines that are added to what was written and to the buffer.
+use Rattle.std.proofs.Common.{◌≡◌, ◌⊎◌, ◌∙◌, ◌+◌, ◌++◌, [], IfSome, inl, inr, ℕ, List, None, Option, Some, add-one, ap, append-nil, append_assoc, subst, sym}
+use Rattle.std.specs.Io.KnownBytes.{Appends}
+use Rattle.std.specs.List.{flat_map}
+use Rattle.std.proofs.KnownBytes.{Appends-nil, Appends-trans}
+use Rattle.std.proofs.lemmas.Grind.{flat_map-append}
+use Rattle.exam_reasons.specs.Lists.{all_below, listed}
+use Rattle.exam_model.specs.Enrolments.{Enrolled}
+use Rattle.exam_model.specs.Instance.{Session}
+use Rattle.exam_model.specs.Timetable.{Placing}
+use Rattle.exam_reasons.specs.AddUp.{ReasonsAddUp}
+use Rattle.office_check.specs.Check.{AreReadAs, AreReadFrom, exit_status, report}
+use Rattle.office_check.specs.Refusing.{Refuses}
+use Rattle.office_check.specs.declared.checking.CheckFault.{CheckFault}
+use Rattle.office_check.specs.declared.checking.CheckFault.TheVariants as fault
+use Rattle.office_check.specs.Why.{Adds, Explains, ExplainsFrom, ExplainsSome, why_text}
+use Rattle.office_check.proofs.CheckFacts.{are_read}
+
+-- nothing is added
+pub adds_none : (c : Option (List ℕ)) (x : List ℕ) → Adds c c x x []
+adds_none c x = record { written = []; appends = Appends-nil c; same = sym (append-nil x) }
+
+-- one text after another
+pub adds_then : (a b c : Option (List ℕ)) (x y z s t : List ℕ) → Adds a b x y s → Adds b c y z t
+    → Adds a c x z (s ++ t)
+adds_then a b c x y z s t first next = record {
+  written = first.written ++ next.written;
+  appends = Appends-trans a b c first.written next.written first.appends next.appends;
+  same = append_assoc first.written next.written z ∙ ap (λ l. first.written ++ l) next.same
+      ∙ sym (append_assoc first.written y t) ∙ ap (λ l. l ++ t) first.same
+      ∙ append_assoc x s t;
+}
+
+-- a line that is added to the buffer
+pub adds_line : (c : Option (List ℕ)) (x y line : List ℕ) → y ≡ x ++ line → Adds c c x y line
+adds_line c x y line is = record { written = []; appends = Appends-nil c; same = is }
+
+-- another form of the text
+pub adds_text : (a b : Option (List ℕ)) (x y s t : List ℕ) → s ≡ t → Adds a b x y s → Adds a b x y t
+adds_text a b x y s t same adds = subst (λ text. Adds a b x y text) same adds
+
+-- the lines of one more number
+pub lines_more : {X : Type 0} (line : X → List ℕ) (f : ℕ → List X) (n : ℕ)
+    → flat_map line (all_below n f) ++ flat_map line (f n) ≡ flat_map line (all_below (n + 1) f)
+lines_more line f n =
+    sym (flat_map-append line (all_below n f) (f n))
+    ∙ ap (λ k. flat_map line (all_below k f)) (sym (add-one n))
+
+-- the lines of one more number are added
+pub adds_more : {X : Type 0} (line : X → List ℕ) (f : ℕ → List X) (n m : ℕ)
+    (a b c : Option (List ℕ)) (x y z : List ℕ) → m ≡ n
+    → Adds a b x y (flat_map line (all_below n f)) → Adds b c y z (flat_map line (f m))
+    → Adds a c x z (flat_map line (all_below (n + 1) f))
+adds_more line f n m a b c x y z same so_far next =
+    adds_text a c x z _ _ (lines_more line f n)
+    (adds_then a b c x y z _ _ so_far
+    (subst (λ k. Adds b c y z (flat_map line (f k))) same next))
+
+-- the line of a reason, after room was made for it
+pub adds_listed : {X : Type 0} (line : X → List ℕ) (found result : Option X) (reason : X)
+    (a b : Option (List ℕ)) (x y z : List ℕ) → result ≡ found → result ≡ Some reason
+    → Adds a b x y [] → z ≡ y ++ line reason → Adds a b x z (flat_map line (listed found))
+adds_listed line found result reason a b x y z same is room added =
+    adds_text a b x z _ _
+    (sym (ap (λ o. flat_map line (listed o)) (sym same ∙ is) ∙ append-nil (line reason)))
+    (adds_then a b b x y z [] (line reason) room (adds_line b y z (line reason) added))
+
+-- no line, if there is no reason
+pub adds_unlisted : {X : Type 0} (line : X → List ℕ) (found result : Option X)
+    (a : Option (List ℕ)) (x : List ℕ) → result ≡ found → result ≡ None
+    → Adds a a x x (flat_map line (listed found))
+adds_unlisted line found result a x same is =
+    adds_text a a x x _ _ (ap (λ o. flat_map line (listed o)) (sym is ∙ same)) (adds_none a x)
+
+-- a report, then the lines that are written meanwhile, then those in the buffer
+pub all_written : (a b c d : Option (List ℕ)) (report first last text : List ℕ) → first ≡ []
+    → Appends a b report → Adds b c first last text → Appends c d last
+    → Appends a d (report ++ text)
+all_written a b c d report first last text empty reported adds flushed =
+    Appends-trans a b d report text reported
+    (subst (Appends b d) (adds.same ∙ ap (λ l. l ++ text) empty)
+    (Appends-trans b c d adds.written last adds.appends flushed))
+
+-- a timetable that is explained, in texts of the two inputs
+pub explained_from : (a b old new : Option (List ℕ)) (I : Session) (E : Enrolled) (T : Placing)
+    (answer : ℕ) → AreReadFrom a b I E T → Appends old new (report I E T ++ why_text I E T)
+    → ReasonsAddUp I E T → answer ≡ exit_status I E T → ExplainsFrom a b old new answer
+explained_from a b old new I E T answer known written add_up status = record {
+  instance = known.instance;
+  solution = known.solution;
+  of_first = known.of_first;
+  of_second = known.of_second;
+  explains = record {
+    read = are_read known.read;
+    written = written;
+    add_up = add_up;
+    status = status;
+  };
+}
+
+-- whatever the inputs were
+pub explained_some : (a b old new : Option (List ℕ)) (answer : ℕ)
+    → ExplainsFrom a b old new answer → ExplainsSome old new answer
+explained_some a b old new answer from =
+    record { instance = from.instance; solution = from.solution; explains = from.explains }
+
+-- both inputs are known
+pub explained_both : (a b old new : Option (List ℕ)) (answer : ℕ)
+    → ExplainsFrom a b old new answer
+    → IfSome a (λ instance. IfSome b (λ solution. Explains instance solution old new answer))
+explained_both None b old new answer from = tt
+explained_both (Some instance) None old new answer from = tt
+explained_both (Some instance) (Some solution) old new answer from =
+    subst (λ one. Explains one solution old new answer) (sym from.of_first)
+    (subst (λ two. Explains from.instance two old new answer) (sym from.of_second) from.explains)
+
+-- a fault after both texts were read
+pub refused_late : (a b : Option (List ℕ)) (I : Session) (E : Enrolled) (T : Placing)
+    (f : CheckFault) → IfSome a (λ instance. IfSome b (λ solution. AreReadAs instance solution I E T))
+    → (f ≡ fault.Write) ⊎ (f ≡ fault.NoMemory)
+    → IfSome a (λ instance. IfSome b (λ solution. Refuses instance solution f))
+refused_late None b I E T f known late = tt
+refused_late (Some instance) None I E T f known late = tt
+refused_late (Some instance) (Some solution) I E T f known (inl is) = rw is (are_read known)
+refused_late (Some instance) (Some solution) I E T f known (inr is) = rw is tt

@@ -1,0 +1,14 @@
+use Rattle.std.proofs.Common.{string_bytes}
+use Rattle.std.specs.List.{flat_map}
+use Rattle.exam_reasons.specs.Lists.{all_below, listed}
+use Rattle.exam_reasons.specs.Reasons.{pair_reason}
+use Rattle.office_check.specs.Why.{Adds, pair_line}
+use Rattle.office_check.proofs.explaining.add_pairs.Given as goal
+
+-- the lines so far
+abbrev pub invariant-loop-other : goal.invariant-loop-other
+invariant-loop-other g l =
+    Adds (g.W.Write.contents l.fn.writer) (g.W.Write.contents l.writer)
+    (string_bytes l.fn.lines) (string_bytes l.lines)
+    (flat_map (pair_line l.kind) (all_below l.other (λ f. all_below f (λ e. listed (pair_reason
+    l.subject.instance.now l.subject.enrolments.now l.subject.timetable.now l.kind e f)))))

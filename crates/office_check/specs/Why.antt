@@ -1,0 +1,99 @@
+-- The output of `check --why`: the report, and then a line for each summand of the penalty.
+use Rattle.std.specs.Prelude.{◌≡◌, ℕ, ◌++◌, ◌∷◌, [], List, Option, codes, decimal}
+use Rattle.std.specs.List.{flat_map}
+use Rattle.std.specs.Io.KnownBytes.{Appends}
+use Rattle.exam_model.specs.Enrolments.{Enrolled}
+use Rattle.exam_model.specs.Fits.{Fits}
+use Rattle.exam_model.specs.Instance.{Session}
+use Rattle.exam_model.specs.Timetable.{Placing}
+use Rattle.exam_score.specs.Front.{AreSizes}
+use Rattle.exam_reasons.specs.AddUp.{ReasonsAddUp}
+use Rattle.exam_reasons.specs.Reasons.{front_reasons, mixed_reasons, pair_reasons, period_reasons, room_reasons}
+use Rattle.exam_reasons.specs.declared.reasons.ExamReason.{ExamReason}
+use Rattle.exam_reasons.specs.declared.reasons.MixedReason.{MixedReason}
+use Rattle.exam_reasons.specs.declared.reasons.PairKind.{PairKind}
+use Rattle.exam_reasons.specs.declared.reasons.PairKind.TheVariants.{Day, Night, Row, Spread}
+use Rattle.exam_reasons.specs.declared.reasons.PairReason.{PairReason}
+use Rattle.exam_reasons.specs.declared.reasons.PlaceReason.{PlaceReason}
+use Rattle.office_check.specs.Check.{AreRead, IsInput, exit_status, report}
+use Rattle.office_check.specs.declared.explaining.Subject.{Subject}
+
+-- ---- the lines
+
+-- the name of a kind of pairs
+abbrev pub kind_name : PairKind → List ℕ
+kind_name Row = codes "row"
+kind_name Day = codes "day"
+kind_name Spread = codes "spread"
+kind_name Night = codes "night"
+
+-- a pair of exams: the kind, the exams, the students who sit both, the points
+abbrev pub pair_line : PairKind → PairReason → List ℕ
+pair_line kind r = kind_name kind ++ 32 ∷ decimal r.exam ++ 32 ∷ decimal r.other
+    ++ 32 ∷ decimal r.students ++ 32 ∷ decimal r.points ++ 10 ∷ []
+
+-- a room and period: how many different durations, the points
+abbrev pub mixed_line : MixedReason → List ℕ
+mixed_line r = codes "mixed" ++ 32 ∷ decimal r.room ++ 32 ∷ decimal r.period
+    ++ 32 ∷ decimal r.durations ++ 32 ∷ decimal r.points ++ 10 ∷ []
+
+-- an exam of the front load: its students, the points
+abbrev pub front_line : ExamReason → List ℕ
+front_line r = codes "front" ++ 32 ∷ decimal r.exam ++ 32 ∷ decimal r.students
+    ++ 32 ∷ decimal r.points ++ 10 ∷ []
+
+-- a period or a room: how many exams it has, the points
+abbrev pub place_line : List ℕ → PlaceReason → List ℕ
+place_line name r = name ++ 32 ∷ decimal r.number ++ 32 ∷ decimal r.exams
+    ++ 32 ∷ decimal r.points ++ 10 ∷ []
+
+-- the lines of all pairs of one kind
+abbrev pub pairs_text : Session → Enrolled → Placing → PairKind → List ℕ
+pairs_text I E T kind = flat_map (pair_line kind) (pair_reasons I E T kind)
+
+-- the lines of all summands, in the order of the report's parts
+abbrev pub why_text : Session → Enrolled → Placing → List ℕ
+why_text I E T = pairs_text I E T Row ++ pairs_text I E T Day ++ pairs_text I E T Spread
+    ++ pairs_text I E T Night ++ flat_map mixed_line (mixed_reasons I T)
+    ++ flat_map front_line (front_reasons I E T)
+    ++ flat_map (place_line (codes "period")) (period_reasons I T)
+    ++ flat_map (place_line (codes "room")) (room_reasons I T)
+
+-- ---- the output
+
+-- both texts have a reading; its report and all summands of its penalty, which add up to the
+-- report's numbers, are written, and its status is answered
+pub record Explains (instance solution : List ℕ) (old new : Option (List ℕ)) (answer : ℕ)
+    : Type 0 where
+  pub read : AreRead instance solution
+  pub written : Appends old new (report read.first.session read.first.enrolled read.placing
+      ++ why_text read.first.session read.first.enrolled read.placing)
+  pub add_up : ReasonsAddUp read.first.session read.first.enrolled read.placing
+  pub status : answer ≡ exit_status read.first.session read.first.enrolled read.placing
+
+-- the same of texts of the two inputs
+pub record ExplainsFrom (first second old new : Option (List ℕ)) (answer : ℕ) : Type 0 where
+  pub instance : List ℕ
+  pub solution : List ℕ
+  pub of_first : IsInput first instance
+  pub of_second : IsInput second solution
+  pub explains : Explains instance solution old new answer
+
+-- whatever the texts were: some two have a reading, which is explained
+pub record ExplainsSome (old new : Option (List ℕ)) (answer : ℕ) : Type 0 where
+  pub instance : List ℕ
+  pub solution : List ℕ
+  pub explains : Explains instance solution old new answer
+
+-- ---- the buffer
+
+-- the parts of a timetable's judgement fit each other
+pub record IsSubject (s : Subject) : Type 0 where
+  pub fits : Fits s.instance.now s.enrolments.now s.timetable.now
+  pub sizes : AreSizes s.enrolments.now s.sizes.now
+
+-- a text is added: what was written and what is in the buffer are together as before, and the text
+pub record Adds (old new : Option (List ℕ)) (before after added : List ℕ) : Type 0 where
+  pub written : List ℕ
+  pub appends : Appends old new written
+  pub same : written ++ after ≡ before ++ added

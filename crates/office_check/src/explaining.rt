@@ -1,0 +1,483 @@
+// Judging one solution, and listing each summand of its penalty.
+ghost use Rattle.std.specs.Prelude.{◌≡◌, ◌≢◌, ◌⊎◌, ◌<◌, ◌+◌, ◌++◌, [], IfErr, IfOk, IfSome, OnOk};
+ghost use Rattle.std.specs.Prelude.{codes, length, string_bytes};
+ghost use Rattle.std.specs.Io.KnownBytes.{Appends, Keeps};
+ghost use Rattle.std.specs.List.{flat_map};
+ghost use Rattle.exam_terms.specs.declared.limits.TheConstants.{INSTANCE_BYTES, TEXT_BYTES};
+ghost use Rattle.exam_model.specs.Fits.{Fits};
+ghost use Rattle.office_files.specs.Inputs.{ReadsAtMost};
+ghost use Rattle.exam_reasons.specs.AddUp.{ReasonsAddUp};
+ghost use Rattle.exam_reasons.specs.Lists.{all_below, listed};
+ghost use Rattle.exam_reasons.specs.Reasons.{front_reason, front_reasons, mixed_reason, mixed_reasons};
+ghost use Rattle.exam_reasons.specs.Reasons.{pair_reason, period_reason, period_reasons, room_reason, room_reasons};
+ghost use Rattle.office_check.specs.Check.{exit_status, report};
+ghost use Rattle.office_check.specs.Refusing.{Refuses};
+ghost use Rattle.office_check.specs.Why.{Adds, Explains, ExplainsFrom, ExplainsSome, IsSubject};
+ghost use Rattle.office_check.specs.Why.{front_line, kind_name, mixed_line, pair_line, pairs_text};
+ghost use Rattle.office_check.specs.Why.{place_line, why_text};
+
+use crate::checking::{CheckFault, files_of, judge};
+use exam_model::{Enrolments, ExamNo, Instance, PeriodNo, RoomNo, Timetable};
+use exam_reasons::{
+    ExamReason, MixedReason, PairKind, PairReason, PlaceReason, front_reason, mixed_reason,
+    pair_reason, period_reason, reasons_add_up, room_reason,
+};
+use exam_score::sizes_of;
+use std::alloc::{AllocError, Global};
+use std::io::{self, Read, Write};
+
+// How many bytes of lines are held back before they are written.
+const FULL: usize = 32_768;
+
+// The buffer of the lines has room for as many bytes, and for one more line, so that it never grows.
+const ROOM: usize = FULL + 256;
+
+/// Judges the solution, and writes its report and then each summand of its penalty: pairs of exams,
+/// rooms and periods with mixed durations, exams of the front load, periods and rooms. All memory is
+/// taken before the first byte is written. Each reader has 5,000,000 reads; an interrupted read
+/// counts, and is retried.
+pub fn why_run<R: Read, Q: Read, W: Write>(
+    alloc: Global,
+    instance_reader: &mut R,
+    solution_reader: &mut Q,
+    writer: &mut W,
+) -> Result<u8, CheckFault>
+    // The points of each kind of line add up to the report's number.
+    ensures done { IfOk result (λ status. IfSome (R.remaining instance_reader.old) (λ instance.
+        IfSome (Q.remaining solution_reader.old) (λ solution.
+        Explains instance solution (W.contents writer.old) (W.contents writer.new) status))) }
+    ensures status { IfOk result (λ status. (status ≡ 0) ⊎ (status ≡ 3)) }
+
+    // Even if the readers' bytes are not known, two texts are explained; a text that is known is one
+    // of them.
+    ensures explained { IfOk result (ExplainsSome (W.contents writer.old) (W.contents writer.new)) }
+    ensures from { IfOk result (ExplainsFrom (R.remaining instance_reader.old)
+        (Q.remaining solution_reader.old) (W.contents writer.old) (W.contents writer.new)) }
+
+    // In the order of the work: the instance, the solution, the report.
+    ensures refused { IfErr result (λ fault. IfSome (R.remaining instance_reader.old) (λ instance.
+        IfSome (Q.remaining solution_reader.old) (λ solution. Refuses instance solution fault))) }
+    ensures unwritten { IfErr result (λ fault. fault ≢ CheckFault.Write
+        → Keeps (W.contents writer.old) (W.contents writer.new)) }
+
+    // Each reader is read at most one byte past its limit.
+    ensures instance_taken { ReadsAtMost (INSTANCE_BYTES + 1)
+        (R.remaining instance_reader.old) (R.remaining instance_reader.new) }
+    ensures solution_taken { ReadsAtMost (TEXT_BYTES + 1)
+        (Q.remaining solution_reader.old) (Q.remaining solution_reader.new) }
+{
+    let (instance, enrolments, timetable) = files_of(alloc, instance_reader, solution_reader)?;
+    let status = explain(alloc, &instance, &enrolments, &timetable, writer)?;
+    Ok(status)
+}
+
+// Writes the report on a timetable and the summands of its penalty. Returns the exit status.
+fn explain<W: Write>(
+    alloc: Global,
+    instance: &Instance,
+    enrolments: &Enrolments,
+    timetable: &Timetable,
+    writer: &mut W,
+) -> Result<u8, CheckFault>
+    requires { Fits instance.now enrolments.now timetable.now }
+    ensures status { IfOk result (λ status.
+        status ≡ exit_status instance.now enrolments.now timetable.now) }
+    ensures written { IfOk result (λ _. Appends (W.contents writer.old) (W.contents writer.new)
+        (report instance.now enrolments.now timetable.now
+        ++ why_text instance.now enrolments.now timetable.now)) }
+    ensures add_up { IfOk result (λ _.
+        ReasonsAddUp instance.now enrolments.now timetable.now) }
+    ensures faults { IfErr result (λ fault.
+        (fault ≡ CheckFault.Write) ⊎ (fault ≡ CheckFault.NoMemory)) }
+    ensures unwritten { IfErr result (λ fault. fault ≢ CheckFault.Write
+        → Keeps (W.contents writer.old) (W.contents writer.new)) }
+{
+    reasons_add_up();
+    let Ok(judged) = judge(alloc, instance, enrolments, timetable) else {
+        return Err(CheckFault::NoMemory);
+    };
+    let Ok(sizes) = sizes_of(alloc, enrolments) else {
+        return Err(CheckFault::NoMemory);
+    };
+    let Ok(mut lines) = String::with_capacity(alloc, ROOM) else {
+        return Err(CheckFault::NoMemory);
+    };
+    let subject = Subject {
+        instance,
+        enrolments,
+        timetable,
+        sizes: &sizes,
+    };
+    match write_all(writer, &mut lines, judged.text.as_str(), &subject) {
+        Ok(()) => Ok(judged.status),
+        Err(_) => Err(CheckFault::Write),
+    }
+}
+
+// A timetable with all by which it is judged, and the number of each exam's students.
+#[derive(Clone, Copy)]
+pub(crate) struct Subject<'a> {
+    pub instance: &'a Instance,
+    pub enrolments: &'a Enrolments,
+    pub timetable: &'a Timetable,
+    pub sizes: &'a [u32],
+}
+
+// Writes a report and the summands.
+fn write_all<W: Write>(
+    writer: &mut W,
+    lines: &mut String,
+    report: &str,
+    subject: &Subject,
+) -> io::Result<()>
+    requires subject { IsSubject subject.now }
+    requires empty { string_bytes lines.old ≡ [] }
+    ensures { OnOk result (Appends (W.contents writer.old) (W.contents writer.new) (report.now
+        ++ why_text subject.now.instance.now subject.now.enrolments.now
+        subject.now.timetable.now)) }
+{
+    writer.write_all(report.as_bytes())?;
+    add_all(writer, lines, subject)?;
+    writer.write_all(lines.as_bytes())?;
+    Ok(())
+}
+
+// Adds the lines of all summands.
+fn add_all<W: Write>(writer: &mut W, lines: &mut String, subject: &Subject) -> io::Result<()>
+    requires { IsSubject subject.now }
+    ensures { OnOk result (Adds (W.contents writer.old) (W.contents writer.new)
+        (string_bytes lines.old) (string_bytes lines.new)
+        (why_text subject.now.instance.now subject.now.enrolments.now
+        subject.now.timetable.now)) }
+{
+    add_pairs(writer, lines, subject, PairKind::Row)?;
+    add_pairs(writer, lines, subject, PairKind::Day)?;
+    add_pairs(writer, lines, subject, PairKind::Spread)?;
+    add_pairs(writer, lines, subject, PairKind::Night)?;
+    add_mixed(writer, lines, subject)?;
+    add_front(writer, lines, subject)?;
+    add_periods(writer, lines, subject)?;
+    add_rooms(writer, lines, subject)?;
+    Ok(())
+}
+
+// Adds the lines of the pairs of one kind, by the greater exam and then by the smaller one.
+fn add_pairs<W: Write>(
+    writer: &mut W,
+    lines: &mut String,
+    subject: &Subject,
+    kind: PairKind,
+) -> io::Result<()>
+    requires { IsSubject subject.now }
+    ensures { OnOk result (Adds (W.contents writer.old) (W.contents writer.new)
+        (string_bytes lines.old) (string_bytes lines.new)
+        (pairs_text subject.now.instance.now subject.now.enrolments.now
+        subject.now.timetable.now kind)) }
+{
+    for other in 0..subject.enrolments.exams() {
+        add_pairs_with(writer, lines, subject, kind, ExamNo::new(other))?;
+    }
+    Ok(())
+}
+
+// Adds the lines of an exam with each smaller one.
+fn add_pairs_with<W: Write>(
+    writer: &mut W,
+    lines: &mut String,
+    subject: &Subject,
+    kind: PairKind,
+    other: ExamNo,
+) -> io::Result<()>
+    requires subject { IsSubject subject.now }
+    requires exists { other < length subject.now.enrolments.now }
+    ensures { OnOk result (Adds (W.contents writer.old) (W.contents writer.new)
+        (string_bytes lines.old) (string_bytes lines.new)
+        (flat_map (pair_line kind) (all_below other (λ exam.
+        listed (pair_reason subject.now.instance.now subject.now.enrolments.now
+        subject.now.timetable.now kind exam other))))) }
+{
+    for exam in 0..other.get() {
+        add_pair(writer, lines, subject, kind, ExamNo::new(exam), other)?;
+    }
+    Ok(())
+}
+
+// Adds the line of two exams, if they cost something.
+fn add_pair<W: Write>(
+    writer: &mut W,
+    lines: &mut String,
+    subject: &Subject,
+    kind: PairKind,
+    exam: ExamNo,
+    other: ExamNo,
+) -> io::Result<()>
+    requires subject { IsSubject subject.now }
+    requires exists { exam < length subject.now.enrolments.now }
+    requires other_exists { other < length subject.now.enrolments.now }
+    ensures { OnOk result (Adds (W.contents writer.old) (W.contents writer.new)
+        (string_bytes lines.old) (string_bytes lines.new)
+        (flat_map (pair_line kind) (listed (pair_reason subject.now.instance.now
+        subject.now.enrolments.now subject.now.timetable.now kind exam other)))) }
+{
+    let reason = pair_reason(
+        subject.instance,
+        subject.enrolments,
+        subject.timetable,
+        kind,
+        exam,
+        other,
+    );
+    match reason {
+        Some(reason) => {
+            make_room(writer, lines)?;
+            Ok(add_pair_line(lines, kind, &reason)?)
+        }
+        None => Ok(()),
+    }
+}
+
+// Adds the lines of all rooms and periods with mixed durations, by room and then by period.
+fn add_mixed<W: Write>(writer: &mut W, lines: &mut String, subject: &Subject) -> io::Result<()>
+    requires { IsSubject subject.now }
+    ensures { OnOk result (Adds (W.contents writer.old) (W.contents writer.new)
+        (string_bytes lines.old) (string_bytes lines.new)
+        (flat_map mixed_line
+        (mixed_reasons subject.now.instance.now subject.now.timetable.now))) }
+{
+    for room in 0..subject.instance.rooms() {
+        add_mixed_in(writer, lines, subject, RoomNo::new(room))?;
+    }
+    Ok(())
+}
+
+// Adds the lines of a room with mixed durations.
+fn add_mixed_in<W: Write>(
+    writer: &mut W,
+    lines: &mut String,
+    subject: &Subject,
+    room: RoomNo,
+) -> io::Result<()>
+    requires { IsSubject subject.now }
+    ensures { OnOk result (Adds (W.contents writer.old) (W.contents writer.new)
+        (string_bytes lines.old) (string_bytes lines.new)
+        (flat_map mixed_line (all_below (length subject.now.instance.now.periods) (λ period.
+        listed (mixed_reason subject.now.instance.now subject.now.timetable.now room
+        period))))) }
+{
+    for period in 0..subject.instance.periods() {
+        add_mixed_at(writer, lines, subject, room, PeriodNo::new(period))?;
+    }
+    Ok(())
+}
+
+// Adds the line of a room and period, if it has mixed durations.
+fn add_mixed_at<W: Write>(
+    writer: &mut W,
+    lines: &mut String,
+    subject: &Subject,
+    room: RoomNo,
+    period: PeriodNo,
+) -> io::Result<()>
+    requires { IsSubject subject.now }
+    ensures { OnOk result (Adds (W.contents writer.old) (W.contents writer.new)
+        (string_bytes lines.old) (string_bytes lines.new)
+        (flat_map mixed_line (listed (mixed_reason subject.now.instance.now
+        subject.now.timetable.now room period)))) }
+{
+    match mixed_reason(subject.instance, subject.timetable, room, period) {
+        Some(reason) => {
+            make_room(writer, lines)?;
+            Ok(add_mixed_line(lines, &reason)?)
+        }
+        None => Ok(()),
+    }
+}
+
+// Adds the lines of all exams of the front load.
+fn add_front<W: Write>(writer: &mut W, lines: &mut String, subject: &Subject) -> io::Result<()>
+    requires { IsSubject subject.now }
+    ensures { OnOk result (Adds (W.contents writer.old) (W.contents writer.new)
+        (string_bytes lines.old) (string_bytes lines.new)
+        (flat_map front_line (front_reasons subject.now.instance.now
+        subject.now.enrolments.now subject.now.timetable.now))) }
+{
+    for exam in 0..subject.instance.exams() {
+        add_front_of(writer, lines, subject, ExamNo::new(exam))?;
+    }
+    Ok(())
+}
+
+// Adds the line of an exam, if it adds to the front load.
+fn add_front_of<W: Write>(
+    writer: &mut W,
+    lines: &mut String,
+    subject: &Subject,
+    exam: ExamNo,
+) -> io::Result<()>
+    requires subject { IsSubject subject.now }
+    requires exists { exam < length subject.now.enrolments.now }
+    ensures { OnOk result (Adds (W.contents writer.old) (W.contents writer.new)
+        (string_bytes lines.old) (string_bytes lines.new)
+        (flat_map front_line (listed (front_reason subject.now.instance.now
+        subject.now.enrolments.now subject.now.timetable.now exam)))) }
+{
+    let reason = front_reason(
+        subject.instance,
+        subject.enrolments,
+        subject.timetable,
+        subject.sizes,
+        exam,
+    );
+    match reason {
+        Some(reason) => {
+            make_room(writer, lines)?;
+            Ok(add_front_line(lines, &reason)?)
+        }
+        None => Ok(()),
+    }
+}
+
+// Adds the lines of all periods with a penalty.
+fn add_periods<W: Write>(writer: &mut W, lines: &mut String, subject: &Subject) -> io::Result<()>
+    requires { IsSubject subject.now }
+    ensures { OnOk result (Adds (W.contents writer.old) (W.contents writer.new)
+        (string_bytes lines.old) (string_bytes lines.new)
+        (flat_map (place_line (codes "period"))
+        (period_reasons subject.now.instance.now subject.now.timetable.now))) }
+{
+    for period in 0..subject.instance.periods() {
+        add_period(writer, lines, subject, PeriodNo::new(period))?;
+    }
+    Ok(())
+}
+
+// Adds the line of a period, if its exams cost something.
+fn add_period<W: Write>(
+    writer: &mut W,
+    lines: &mut String,
+    subject: &Subject,
+    period: PeriodNo,
+) -> io::Result<()>
+    requires subject { IsSubject subject.now }
+    requires exists { period < length subject.now.instance.now.periods }
+    ensures { OnOk result (Adds (W.contents writer.old) (W.contents writer.new)
+        (string_bytes lines.old) (string_bytes lines.new)
+        (flat_map (place_line (codes "period")) (listed (period_reason subject.now.instance.now
+        subject.now.timetable.now period)))) }
+{
+    match period_reason(subject.instance, subject.timetable, period) {
+        Some(reason) => {
+            make_room(writer, lines)?;
+            Ok(add_place_line(lines, "period", &reason)?)
+        }
+        None => Ok(()),
+    }
+}
+
+// Adds the lines of all rooms with a penalty.
+fn add_rooms<W: Write>(writer: &mut W, lines: &mut String, subject: &Subject) -> io::Result<()>
+    requires { IsSubject subject.now }
+    ensures { OnOk result (Adds (W.contents writer.old) (W.contents writer.new)
+        (string_bytes lines.old) (string_bytes lines.new)
+        (flat_map (place_line (codes "room"))
+        (room_reasons subject.now.instance.now subject.now.timetable.now))) }
+{
+    for room in 0..subject.instance.rooms() {
+        add_room(writer, lines, subject, RoomNo::new(room))?;
+    }
+    Ok(())
+}
+
+// Adds the line of a room, if its exams cost something.
+fn add_room<W: Write>(
+    writer: &mut W,
+    lines: &mut String,
+    subject: &Subject,
+    room: RoomNo,
+) -> io::Result<()>
+    requires subject { IsSubject subject.now }
+    requires exists { room < length subject.now.instance.now.rooms }
+    ensures { OnOk result (Adds (W.contents writer.old) (W.contents writer.new)
+        (string_bytes lines.old) (string_bytes lines.new)
+        (flat_map (place_line (codes "room")) (listed (room_reason subject.now.instance.now
+        subject.now.timetable.now room)))) }
+{
+    match room_reason(subject.instance, subject.timetable, room) {
+        Some(reason) => {
+            make_room(writer, lines)?;
+            Ok(add_place_line(lines, "room", &reason)?)
+        }
+        None => Ok(()),
+    }
+}
+
+// Writes the lines that are held back, if they are many.
+fn make_room<W: Write>(writer: &mut W, lines: &mut String) -> io::Result<()>
+    ensures { OnOk result (Adds (W.contents writer.old) (W.contents writer.new)
+        (string_bytes lines.old) (string_bytes lines.new) []) }
+{
+    if lines.len() >= FULL {
+        writer.write_all(lines.as_bytes())?;
+        lines.clear();
+    }
+    Ok(())
+}
+
+// Adds the line of a pair.
+fn add_pair_line(lines: &mut String, kind: PairKind, reason: &PairReason) -> Result<(), AllocError>
+    ensures { OnOk result (string_bytes lines.new
+        ≡ string_bytes lines.old ++ pair_line kind reason.now) }
+{
+    let name = kind_name(kind);
+    let exam = reason.exam.get();
+    let other = reason.other.get();
+    let students = reason.students;
+    let points = reason.points;
+    write!(lines, "{name} {exam} {other} {students} {points}\n")
+}
+
+// Returns the name of a kind of pairs.
+fn kind_name(kind: PairKind) -> &'static str
+    ensures { result.now ≡ kind_name kind }
+{
+    match kind {
+        PairKind::Row => "row",
+        PairKind::Day => "day",
+        PairKind::Spread => "spread",
+        PairKind::Night => "night",
+    }
+}
+
+// Adds the line of a room and period.
+fn add_mixed_line(lines: &mut String, reason: &MixedReason) -> Result<(), AllocError>
+    ensures { OnOk result (string_bytes lines.new
+        ≡ string_bytes lines.old ++ mixed_line reason.now) }
+{
+    let room = reason.room.get();
+    let period = reason.period.get();
+    let durations = reason.durations;
+    let points = reason.points;
+    write!(lines, "mixed {room} {period} {durations} {points}\n")
+}
+
+// Adds the line of an exam of the front load.
+fn add_front_line(lines: &mut String, reason: &ExamReason) -> Result<(), AllocError>
+    ensures { OnOk result (string_bytes lines.new
+        ≡ string_bytes lines.old ++ front_line reason.now) }
+{
+    let exam = reason.exam.get();
+    let students = reason.students;
+    let points = reason.points;
+    write!(lines, "front {exam} {students} {points}\n")
+}
+
+// Adds the line of a period or a room.
+fn add_place_line(lines: &mut String, name: &str, reason: &PlaceReason) -> Result<(), AllocError>
+    ensures { OnOk result (string_bytes lines.new
+        ≡ string_bytes lines.old ++ place_line name.now reason.now) }
+{
+    let number = reason.number;
+    let exams = reason.exams;
+    let points = reason.points;
+    write!(lines, "{name} {number} {exams} {points}\n")
+}
