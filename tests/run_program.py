@@ -43,9 +43,11 @@ JUDGED = {"small.sol": (0, GOOD), "together.sol": (0, TOGETHER), "crlf.sol": (0,
           "crowded.sol": (4, CROWDED)}
 
 # `device`: where standard output goes; `terminal`: whether standard error is one; `journal`:
-# whether the environment says that it goes to a journal.
-Case = namedtuple("Case", "name words status stdout stderr device terminal journal",
-                  defaults=(b"", b"", None, False, False))
+# whether the environment says that it goes to a journal; `piped`: the file that is standard input.
+Case = namedtuple("Case", "name words status stdout stderr device terminal journal piped",
+                  defaults=(b"", b"", None, False, False, None))
+# A name that breaks a line, and how it is printed.
+BROKEN, PRINTED = "two\nlines\x7f.sol", b"two\\x0alines\\x7f.sol"
 
 
 class Holding:
@@ -122,6 +124,10 @@ def files():
         "crlf.sol": solution.replace(b"\n", b"\r\n"),
         "a folder/the exam": exam,
         "a folder/the solution": solution,
+        "marked.exam": b"\xef\xbb\xbf" + exam,
+        "marked.sol": b"\xef\xbb\xbf" + solution,
+        "-": b"a file that no case reads",
+        BROKEN: solution,
         "empty.exam": b"",
         "five.exam": exam.replace(b"[Exams:4]", b"[Exams:5]"),
         "april.exam": with_line(exam, 8, b"31:04:2005, 14:00:00, 120, 0"),
@@ -130,6 +136,7 @@ def files():
         "at_limit.exam": exam.ljust(INSTANCE_LIMIT),
         "long.exam": exam.ljust(INSTANCE_LIMIT + 1),
         "many.exam": MANY,
+        "back\\x0a \u00e9.sol": solution,
         "odd.sol": with_line(solution, 2, b"1\x1b\x07[31m\xffx, 0"),
         "three.sol": b"".join(solution.splitlines(True)[:3]),
         "five.sol": solution + b"0, 0\n",
@@ -151,6 +158,17 @@ def report(breaches, penalties):
 def check(name, instance, solution, penalties, *breaches):
     return Case(name, ("check", instance, solution), 3 if breaches else 0,
                 report(breaches, penalties))
+
+
+def why(name, instance, solution, penalties, breaches, *lines):
+    """The report, and then the lines of the summands."""
+    return Case(name, ("check", "--why", instance, solution), 3 if breaches else 0,
+                report(breaches, penalties) + "".join(f"{line}\n" for line in lines).encode())
+
+
+def piped(case, file):
+    """The case with a file as standard input."""
+    return case._replace(name=f"{case.name}, from standard input", piped=file)
 
 
 def check_all(name, solutions, status, faults=b""):
@@ -246,6 +264,63 @@ CASES = [
           TOGETHER, "Exclusion 2 3", "RoomExclusive 2 3"),
     check("over night", "nights.exam", "early.sol", NIGHTLY, "After 1 0"),
     check("over a weekend", "weekend.exam", "early.sol", EARLY, "After 1 0"),
+    why("each summand", "small.exam", "small.sol", GOOD, [], "row 0 1 1 7", "day 0 3 1 5",
+        "spread 0 1 1 1", "spread 1 2 1 1", "spread 0 3 1 1", "period 2 1 10", "period 3 1 5",
+        "room 1 1 7"),
+    why("mixed durations, and two exams in a room", "small.exam", "together.sol", TOGETHER, [],
+        "row 0 1 1 7", "spread 0 1 1 1", "spread 1 2 1 1", "spread 0 3 1 1", "mixed 1 3 2 10",
+        "period 3 2 10", "room 1 2 14"),
+    why("the front load, with a breach", "small.exam", "early.sol", EARLY, ["After 1 0"],
+        "spread 0 1 1 1", "spread 1 2 1 1", "spread 0 3 1 1", "front 0 2 4", "period 2 1 10",
+        "period 3 2 10", "room 1 1 7"),
+    why("a night", "nights.exam", "early.sol", NIGHTLY, ["After 1 0"], "spread 0 1 1 1",
+        "spread 1 2 1 1", "spread 0 3 1 1", "night 0 3 1 6", "front 0 2 4", "period 2 1 10",
+        "period 3 2 10", "room 1 1 7"),
+    why("nothing to explain", "smallest.exam", "smallest.sol", [0] * 8, []),
+    piped(why("the summands of a session", "-", "small.sol", GOOD, [], "row 0 1 1 7",
+              "day 0 3 1 5", "spread 0 1 1 1", "spread 1 2 1 1", "spread 0 3 1 1",
+              "period 2 1 10", "period 3 1 5", "room 1 1 7"), "small.exam"),
+    Case("the summands of a faulty solution", ("check", "--why", "small.exam", "three.sol"), 1,
+         b"", b"examoffice: solution line 4: fault 3\n"),
+    Case("the summands of no solution", ("check", "--why", "small.exam", "none.sol"), 1, b"",
+         b"examoffice: cannot read none.sol\n"),
+    Case("the summands to a full device", ("check", "--why", "small.exam", "small.sol"), 1, b"",
+         b"examoffice: cannot write\n", "/dev/full"),
+    piped(check("a session", "-", "early.sol", EARLY, "After 1 0"), "small.exam"),
+    piped(check("a solution", "small.exam", "-", GOOD), "small.sol"),
+    piped(fault("a faulty session", "-", "small.sol", b"instance line 1: fault 3"), "five.exam"),
+    piped(fault("a solution that ends early", "small.exam", "-", b"solution line 4: fault 3"),
+          "three.sol"),
+    piped(fault("a session, and no solution", "-", "none.sol", b"cannot read none.sol"),
+          "small.exam"),
+    piped(places("the places of an exam by a solution", "small.exam", "-", 3, ",Clash,0,3",
+                 ",Clash,0,3", 39, 36, 37, 44, 27, 44), "small.sol"),
+    piped(places("the places of an exam by a session", "-", "small.sol", 3, ",Clash,0,3",
+                 ",Clash,0,3", 39, 36, 37, 44, 27, 44), "small.exam"),
+    piped(Case("one of many solutions", ("check-all", "small.exam", "early.sol", "-"), 3,
+               b"1 34 0 0 3 0 0 4 20 7 early.sol\n0 37 7 5 3 0 0 0 15 7 -\n"), "small.sol"),
+    piped(Case("the session of many solutions", ("check-all", "-", "early.sol", "none.sol"), 1,
+               b"1 34 0 0 3 0 0 4 20 7 early.sol\n",
+               b"none.sol: examoffice: cannot read none.sol\n"), "small.exam"),
+    fault("a folder as standard input", "small.exam", "-", b"cannot read -")._replace(
+        piped="a folder"),
+    fault("a file named as standard input is", "small.exam", "./-", b"solution line 1: fault 4"),
+    *(usage(f"standard input twice: {words[0]}", *words)._replace(piped="small.sol")
+      for words in (("check", "-", "-"), ("check", "--why", "-", "-"), ("places", "-", "-", "0"),
+                    ("check-all", "-", "-"), ("check-all", "small.exam", "-", "-"),
+                    ("check-all", "-", "small.sol", "-"))),
+    fault("a name of two lines that can't be read", "small.exam", f"no {BROKEN}",
+          b"cannot read no " + PRINTED),
+    Case("names of two lines", ("check-all", "small.exam", BROKEN, f"no {BROKEN}"), 1,
+         b"0 37 7 5 3 0 0 0 15 7 " + PRINTED + b"\n",
+         b"no " + PRINTED + b": examoffice: cannot read no " + PRINTED + b"\n"),
+    Case("a name of two lines, as JSON", ("check-all", "--json", "small.exam", BROKEN), 0,
+         b'{"breaches":0,"day":5,"front":0,"mixed":0,"night":0,"path":"two\\nlines\x7f.sol",'
+         b'"period":15,"room":7,"row":7,"spread":3,"total":37}\n'),
+    check("a name with a backslash and with other letters", "small.exam", "back\\x0a \u00e9.sol",
+          GOOD),
+    fault("such a name that can't be read", "small.exam", "no back\\x0a \u00e9.sol",
+          "cannot read no back\\x0a \u00e9.sol".encode()),
     fault("the weight of nights twice", "twice.exam", "early.sol", b"instance line 24: fault 9"),
     check("the smallest instance", "smallest.exam", "smallest.sol", [0] * 8),
     check("lines that end with CR LF", "crlf.exam", "crlf.sol", GOOD),
@@ -434,6 +509,17 @@ CASES = [
                 b"april.exam line 8: no such date: 31:04:2005, 14:00:00, 120, 0"),
     *with_cause(fault("an instance that is too long", "long.exam", "small.sol",
                       b"instance line 0: fault 1"), b"long.exam: too long"),
+    *with_cause(fault("a byte order mark in front of a session", "marked.exam", "small.sol",
+                      b"instance line 1: fault 2"),
+                b"marked.exam line 1: a byte order mark is in front of the text:    [Exams:4]"),
+    *with_cause(fault("a byte order mark in front of a solution", "small.exam", "marked.sol",
+                      b"solution line 1: fault 4"),
+                b"marked.sol line 1: a byte order mark is in front of the text:    0, 0"),
+    *with_cause(piped(fault("a faulty session", "-", "small.sol", b"instance line 1: fault 3"),
+                      "five.exam"), b"standard input line 1: wrong count"),
+    *with_cause(fault("a name of two lines", "small.exam", f"no {BROKEN}",
+                      b"cannot read no " + PRINTED),
+                b"no " + PRINTED + b": No such file or directory (os error 2)"),
     *with_cause(fault("an empty instance", "empty.exam", "small.sol",
                       b"instance line 1: fault 2"), b"empty.exam line 1: no header"),
     *with_cause(fault("a line too few", "small.exam", "three.sol", b"solution line 4: fault 3"),
@@ -512,11 +598,13 @@ def run(program, case, folder):
     output = open(case.device, "wb") if case.device else subprocess.PIPE
     screen = os.openpty() if case.terminal else None
     journal = {"JOURNAL_STREAM": "8:1"} if case.journal else {}
+    source = (os.open(pathlib.Path(folder, case.piped), os.O_RDONLY) if case.piped
+              else subprocess.DEVNULL)
     if screen:
         tty.setraw(screen[1])
     try:
-        done = subprocess.run([program, *case.words], cwd=folder, stdin=subprocess.DEVNULL,
-                              stdout=output, stderr=screen[1] if screen else subprocess.PIPE,
+        done = subprocess.run([program, *case.words], cwd=folder, stdin=source, stdout=output,
+                              stderr=screen[1] if screen else subprocess.PIPE,
                               env={**os.environ, **journal},
                               timeout=SECONDS, check=False)
         shown = all_shown(screen) if screen else done.stderr
@@ -525,6 +613,8 @@ def run(program, case, folder):
     finally:
         if case.device:
             output.close()
+        if case.piped:
+            os.close(source)
         for end in screen or ():
             os.close(end)
     return done.returncode, done.stdout or b"", shown
@@ -537,6 +627,16 @@ def all_shown(screen):
     while not shown.endswith(b"\0"):
         shown += os.read(screen[0], 65_536)
     return shown[:-1]
+
+
+def logs_of_exports(program, folder):
+    """Returns the names of the logs that exports of files without a database leave."""
+    for name, text in (("note.txt", b"no database\n"), ("long.txt", b"text " * 9000),
+                       ("nothing.db", b"")):
+        pathlib.Path(folder, name).write_bytes(text)
+        subprocess.run([program, "export", "--db", name], cwd=folder, check=False,
+                       capture_output=True, timeout=SECONDS)
+    return sorted(path.name for path in pathlib.Path(folder).glob("[nl]o*-wal"))
 
 
 def main():
@@ -552,6 +652,8 @@ def main():
             judged.judge(case.name, (case.status, case.stdout, case.stderr),
                          run(program, case, folder))
         judged.judge("an export makes no file", False, pathlib.Path(folder, "absent.db").exists())
+        judged.judge("an export makes no log beside a file that is no database", [],
+                     logs_of_exports(program, folder))
     sys.exit(judged.end())
 
 

@@ -11,6 +11,7 @@ use Rattle.std.proofs.lemmas.List.Elements.{All-nil, All-push}
 use Rattle.std.proofs.lemmas.List.Folds.{list_any-append}
 use Rattle.exam_model.specs.Enrolments.{Enrolled}
 use Rattle.exam_model.specs.Instance.{Session}
+use Rattle.office_check.specs.Names.{printed_name}
 use Rattle.office_check.specs.declared.judging.LineForm.{LineForm}
 use Rattle.office_files.specs.declared.inputs.InputFault.{InputFault}
 use Rattle.office_program.specs.CheckAll.{AddsOutcome, HasOutcomes, IsLineOf, IsOutcome, Outcome, TellsAll, TellsOne}
@@ -111,14 +112,14 @@ module _ {W : Type 0} (tells : W → List ℕ → Bool → W → Type 0) (I : Se
 
   -- a line that is printed is an outcome
   pub line_added : (path : List ℕ) (line : VerdictLine) (found : Found)
-      (old new : Option (List ℕ)) (errors : W) → IsLineOf I E form path line
+      (input old new : Option (List ℕ)) (errors : W) → IsLineOf I E form path input line
       → Appends old new (string_bytes line.text)
       → AddsOutcome tells I E form path found old new errors errors (record {
         has_fault = found.has_fault;
         has_breach = found.has_breach || line.has_breach;
         is_err_written = found.is_err_written;
       })
-  line_added path line found old new errors is printed = record {
+  line_added path line found input old new errors is printed = record {
     outcome = record {
       path = path;
       printed = string_bytes line.text;
@@ -148,7 +149,7 @@ module _ {W : Type 0} (tells : W → List ℕ → Bool → W → Type 0) (I : Se
   pub fault_added : (is_err_written : Bool) (path : List ℕ) (fault : InputFault) (found : Found)
       (old : Option (List ℕ)) (errors_old errors_new : W) (shown : ProgramFault)
       → fault_line shown ≡ solution_line path fault
-      → tells errors_old (path ++ codes ": " ++ fault_line shown ++ 10 ∷ []) is_err_written
+      → tells errors_old (printed_name path ++ codes ": " ++ fault_line shown ++ 10 ∷ []) is_err_written
       errors_new
       → AddsOutcome tells I E form path found old old errors_old errors_new (record {
         has_fault = true;
@@ -159,7 +160,7 @@ module _ {W : Type 0} (tells : W → List ℕ → Bool → W → Type 0) (I : Se
     outcome = record {
       path = path;
       printed = [];
-      said = path ++ codes ": " ++ solution_line path fault ++ 10 ∷ [];
+      said = printed_name path ++ codes ": " ++ solution_line path fault ++ 10 ∷ [];
       is_faulty = true;
       has_breach = false;
     };
@@ -173,7 +174,7 @@ module _ {W : Type 0} (tells : W → List ℕ → Bool → W → Type 0) (I : Se
     });
     printed = Appends-nil old;
     is_written = is_err_written;
-    told = subst (λ line. tells errors_old (path ++ codes ": " ++ line ++ 10 ∷ []) is_err_written
+    told = subst (λ line. tells errors_old (printed_name path ++ codes ": " ++ line ++ 10 ∷ []) is_err_written
         errors_new) is told;
     said = refl;
     fault = sym (or_true found.has_fault);

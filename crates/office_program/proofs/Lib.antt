@@ -3,4 +3,5 @@ pub mod NumberLemmas
 mod ServeFacts
 mod EndingFacts
 pub mod WordFacts
+mod SourceFacts
 mod CheckAllFacts

@@ -4,10 +4,10 @@ use Rattle.std.proofs.Common.{inl, inr, refl}
 use Rattle.clap.specs.Kinds.{FailsBy, HasKind, Kinds, or_else}
 use Rattle.clap.specs.Words.{Row, Text}
 use Rattle.clap.specs.declared.error.Error.{Error}
-use Rattle.office_program.specs.Explaining.{unexplained_in}
+use Rattle.office_program.specs.Mistakes.{mistakes_in}
 use Rattle.office_program.specs.Program.{IsTaskOf}
 use Rattle.office_program.specs.declared.words.Task.{Task}
-use Rattle.office_program.specs.declared.words.Task.TheVariants.{Check, CheckAll, Explain, Export, Load, Places, Serve}
+use Rattle.office_program.specs.declared.words.Task.TheVariants.{Check, CheckAll, Explain, Export, Load, Places, Serve, Why}
 
 -- an error with a kind of `first` has one of `or_else first next`
 pub comes_first : (first next : Kinds) (e : Error) → HasKind first e
@@ -16,22 +16,27 @@ comes_first [] next e (inl memory) = inl memory
 comes_first [] next e (inr none) = absurd none
 comes_first (k ∷ ks) next e has = has
 
--- words that give a task name no unknown fault
-pub task_explained : (found : Option (Text × List Row)) (task : Task) → IsTaskOf found task
-    → unexplained_in found ≡ []
-task_explained found (Check instance solution) (rows, is, values) = rw is refl
-task_explained found (CheckAll session solutions form) (rows, is, values) = rw is refl
-task_explained found (Places instance solution exam) (rows, is, values) = rw is refl
-task_explained found (Load database instance) (rows, is, values) = rw is refl
-task_explained found (Serve database terms) (rows, is, values) = rw is refl
-task_explained found (Export database) (rows, is, values) = rw is refl
-task_explained found (Explain words) (rows, is, values) = rw (is, values) refl
+-- words that give a task have no such mistake
+pub task_stands : (found : Option (Text × List Row)) (task : Task) → IsTaskOf found task
+    → mistakes_in found ≡ []
+task_stands found (Check instance solution) (rows, is, values) =
+    rw (is, values.0, values.1, values.2) refl
+task_stands found (Why instance solution) (rows, is, values) =
+    rw (is, values.0, values.1, values.2) refl
+task_stands found (CheckAll session solutions form) (rows, is, values) =
+    rw (is, values.0, values.1, values.3) refl
+task_stands found (Places instance solution exam) (rows, is, values) =
+    rw (is, values.0, values.1, values.4) refl
+task_stands found (Load database instance) (rows, is, values) = rw is refl
+task_stands found (Serve database terms) (rows, is, values) = rw is refl
+task_stands found (Export database) (rows, is, values) = rw is refl
+task_stands found (Explain words) (rows, is, values) = rw (is, values) refl
 
 -- words without a mistake that clap finds fail only because they ask for help or the version
 pub found_fails : (first : Kinds) (found there : Option (Text × List Row))
     (r : Result Task Error) → first ≡ [] → found ≡ there → IfOk r (IsTaskOf found)
-    → IfErr r (HasKind (unexplained_in found))
-    → FailsBy (or_else first (unexplained_in there)) r
+    → IfErr r (HasKind (mistakes_in found))
+    → FailsBy (or_else first (mistakes_in there)) r
 found_fails first found there (Ok task) none same gives fails =
-    rw (none, ← same) (task_explained found task gives)
+    rw (none, ← same) (task_stands found task gives)
 found_fails first found there (Err e) none same gives fails = rw (none, ← same) fails

@@ -7,6 +7,8 @@ use Rattle.exam_model.specs.Enrolments.{Enrolled}
 use Rattle.exam_model.specs.Instance.{Session}
 use Rattle.office_files.specs.InstanceText.{InstanceText}
 use Rattle.office_files.specs.declared.inputs.InputFault.{InputFault}
+use Rattle.office_check.specs.Check.{IsInput}
+use Rattle.office_check.specs.Names.{printed_name}
 use Rattle.office_check.specs.Verdicts.{IsVerdictOn, verdict_line}
 use Rattle.office_check.specs.declared.judging.LineForm.{LineForm}
 use Rattle.office_check.specs.declared.judging.Verdict.{Verdict}
@@ -36,7 +38,7 @@ pub record IsJudged (I : Session) (E : Enrolled) (form : LineForm) (o : Outcome)
 pub record IsFaulty (o : Outcome) : Type 0 where
   pub fault : InputFault
   pub printed : o.printed ≡ []
-  pub said : o.said ≡ o.path ++ codes ": " ++ solution_line o.path fault ++ 10 ∷ []
+  pub said : o.said ≡ printed_name o.path ++ codes ": " ++ solution_line o.path fault ++ 10 ∷ []
   pub faulty : o.is_faulty ≡ true
   pub breach : o.has_breach ≡ false
 
@@ -96,10 +98,11 @@ pub record JudgesAll {W : Type 0} (tells : W → List ℕ → Bool → W → Typ
 
 -- ---- one solution after another
 
--- the line of the verdict on some text
+-- the line of the verdict on a text of the input
 pub record IsLineOf (I : Session) (E : Enrolled) (form : LineForm) (path : List ℕ)
-    (line : VerdictLine) : Type 0 where
+    (input : Option (List ℕ)) (line : VerdictLine) : Type 0 where
   pub solution : List ℕ
+  pub of_input : IsInput input solution
   pub verdict : Verdict
   pub judged : IsVerdictOn I E solution verdict
   pub text : string_bytes line.text ≡ verdict_line form path verdict

@@ -12,12 +12,13 @@ use Rattle.office_program.specs.Tasks.{IsOfTask}
 use Rattle.office_program.specs.declared.faults.ProgramFault.{ProgramFault}
 use Rattle.office_program.specs.declared.faults.ProgramFault.TheVariants.{CannotWrite, NoMemory}
 use Rattle.office_program.specs.declared.words.Task.{Task}
-use Rattle.office_program.specs.declared.words.Task.TheVariants.{Check, CheckAll, Explain, Export, Load, Places, Serve}
+use Rattle.office_program.specs.declared.words.Task.TheVariants.{Check, CheckAll, Explain, Export, Load, Places, Serve, Why}
 
 -- until its own fault a task leaves `err` unchanged, except `serve`, which writes the faults of
 -- connections there, and `check-all`, which writes those of solutions
 abbrev pub IsSilent : {W : Type 0} → Task → W → W → Type 0
 IsSilent (Check instance solution) old new = new ≡ old
+IsSilent (Why instance solution) old new = new ≡ old
 IsSilent (CheckAll session solutions form) old new = Unit {0}
 IsSilent (Places instance solution exam) old new = new ≡ old
 IsSilent (Load database instance) old new = new ≡ old
@@ -29,6 +30,7 @@ IsSilent (Explain words) old new = new ≡ old
 -- connections, at most one for each connection of its terms
 abbrev pub WritesConnectionFaults : {W : Type 0} → (W → Option (List ℕ)) → Task → W → W → Type 0
 WritesConnectionFaults contents (Check instance solution) old new = new ≡ old
+WritesConnectionFaults contents (Why instance solution) old new = new ≡ old
 WritesConnectionFaults contents (CheckAll session solutions form) old new = new ≡ old
 WritesConnectionFaults contents (Places instance solution exam) old new = new ≡ old
 WritesConnectionFaults contents (Load database instance) old new = new ≡ old
@@ -46,6 +48,7 @@ IsQuiet contents words old new =
 -- on a fault other than of writing, `out` is unchanged, or `serve` printed its port
 abbrev pub LeavesPrinted : Task → Option (List ℕ) → Option (List ℕ) → Type 0
 LeavesPrinted (Check instance solution) old new = Keeps old new
+LeavesPrinted (Why instance solution) old new = Keeps old new
 LeavesPrinted (CheckAll session solutions form) old new = Keeps old new
 LeavesPrinted (Places instance solution exam) old new = Keeps old new
 LeavesPrinted (Load database instance) old new = Keeps old new
@@ -83,6 +86,8 @@ AskForHelp words =
 abbrev pub WritesSolutionFaults : {W : Type 0} → (W → List ℕ → Bool → W → Type 0) → Task
     → (old new : W) → (printed_old printed_new : Option (List ℕ)) → Bool → Type 0
 WritesSolutionFaults tells (Check instance solution) old new printed_old printed_new
+    is_err_written = ⊥
+WritesSolutionFaults tells (Why instance solution) old new printed_old printed_new
     is_err_written = ⊥
 WritesSolutionFaults tells (CheckAll session solutions form) old new printed_old printed_new
     is_err_written =

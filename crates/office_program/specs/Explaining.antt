@@ -10,7 +10,7 @@ use Rattle.office_program.specs.CommandLine.{required_rule}
 use Rattle.office_program.specs.ServeLine.{number_option}
 use Rattle.office_program.specs.declared.explaining.TheConstants.{CONNECTION, FILE, MAX_NUMBER, STORE}
 use Rattle.office_program.specs.declared.words.Task.{Task}
-use Rattle.office_program.specs.declared.words.Task.TheVariants.{Check, CheckAll, Explain, Export, Load, Places, Serve}
+use Rattle.office_program.specs.declared.words.Task.TheVariants.{Check, CheckAll, Explain, Export, Load, Places, Serve, Why}
 
 -- the text of this number, from 1
 abbrev pub numbered_text : List Text → ℕ → Option Text
@@ -42,6 +42,7 @@ explain_words rows = option_and_then (λ kind. option_and_then (λ number.
 -- the values found for `explain` are those of the task
 abbrev pub HasExplainValues : List Row → Task → Type 0
 HasExplainValues rows (Check instance solution) = ⊥
+HasExplainValues rows (Why instance solution) = ⊥
 HasExplainValues rows (CheckAll session solutions form) = ⊥
 HasExplainValues rows (Places instance solution exam) = ⊥
 HasExplainValues rows (Load database instance) = ⊥
@@ -52,8 +53,3 @@ HasExplainValues rows (Explain words) = explain_words rows ≡ Some words.now
 -- the kind of the error if the values of `explain` name no fault
 abbrev pub explain_errors : List Row → Kinds
 explain_errors rows = option_map_or (λ words. []) (explain_words rows) (InvalidValue ∷ [])
-
--- the same for a command and its values; another command has no such error
-abbrev pub unexplained_in : Option (Text × List Row) → Kinds
-unexplained_in found = option_map_or (λ p.
-    if bytes_eq p.0 (codes "explain") then explain_errors p.1 else []) found []

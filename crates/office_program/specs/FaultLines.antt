@@ -7,6 +7,7 @@ use Rattle.office_model.specs.Numbers.{kind_number, store_number}
 use Rattle.sqlite.specs.declared.error.Error.{Error}
 use Rattle.sqlite.specs.declared.error.Error.TheVariants.{SqliteFailure}
 use Rattle.sqlite.specs.declared.error.ErrorCode.TheVariants.{OutOfMemory}
+use Rattle.office_check.specs.Names.{printed_name}
 use Rattle.office_files.specs.declared.inputs.InputFault.{InputFault}
 use Rattle.office_files.specs.declared.inputs.InputFault.TheVariants as input
 use Rattle.office_program.specs.declared.faults.ProgramFault.{ProgramFault}
@@ -14,7 +15,7 @@ use Rattle.office_program.specs.declared.faults.ProgramFault.TheVariants as faul
 
 -- the line of a fault, without its end
 abbrev pub fault_line : ProgramFault → List ℕ
-fault_line (fault.CannotRead path) = codes "examoffice: cannot read " ++ path.now
+fault_line (fault.CannotRead path) = codes "examoffice: cannot read " ++ printed_name path.now
 fault_line (fault.Instance f) = codes "examoffice: instance line " ++ decimal f.line
     ++ codes ": fault " ++ decimal (kind_number f.what)
 fault_line (fault.Solution f) = codes "examoffice: solution line " ++ decimal f.line
@@ -29,13 +30,13 @@ fault_line fault.NoMemory = codes "examoffice: no memory"
 
 -- the line of a fault in reading an instance of this path, without its end
 abbrev pub input_line : List ℕ → InputFault → List ℕ
-input_line path input.Read = codes "examoffice: cannot read " ++ path
+input_line path input.Read = codes "examoffice: cannot read " ++ printed_name path
 input_line path (input.File f) = fault_line (fault.Instance f)
 input_line path input.NoMemory = fault_line fault.NoMemory
 
 -- the line of a fault in reading a solution of this path, without its end
 abbrev pub solution_line : List ℕ → InputFault → List ℕ
-solution_line path input.Read = codes "examoffice: cannot read " ++ path
+solution_line path input.Read = codes "examoffice: cannot read " ++ printed_name path
 solution_line path (input.File f) = fault_line (fault.Solution f)
 solution_line path input.NoMemory = fault_line fault.NoMemory
 

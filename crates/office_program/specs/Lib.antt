@@ -13,3 +13,5 @@ pub mod Endings
 pub mod CheckAllLine
 pub mod CheckAll
 pub mod PlacesLine
+pub mod Sources
+pub mod Mistakes

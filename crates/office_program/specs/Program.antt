@@ -8,12 +8,13 @@ use Rattle.clap.specs.declared.builder.command.Command.{Command}
 use Rattle.clap.specs.declared.error.kind.ErrorKind.{ErrorKind}
 use Rattle.clap.specs.declared.error.kind.ErrorKind.TheVariants as kind
 use Rattle.office_program.specs.declared.words.Task.{Task}
-use Rattle.office_program.specs.declared.words.Task.TheVariants.{Check, CheckAll, Explain, Export, Load, Places, Serve}
+use Rattle.office_program.specs.declared.words.Task.TheVariants.{Check, CheckAll, Explain, Export, Load, Places, Serve, Why}
 use Rattle.office_program.specs.CheckAllLine.{check_all_app, HasCheckAllValues}
 use Rattle.office_program.specs.CommandLine.{check_app, HasCheckValues, load_app, HasLoadValues, export_app, HasExportValues}
 use Rattle.office_program.specs.PlacesLine.{places_app, HasPlacesValues}
 use Rattle.office_program.specs.ServeLine.{serve_app, HasServeValues}
-use Rattle.office_program.specs.Explaining.{HasExplainValues, explain_app, unexplained_in}
+use Rattle.office_program.specs.Explaining.{HasExplainValues, explain_app}
+use Rattle.office_program.specs.Mistakes.{mistakes_in}
 
 -- adding the command as a subcommand adds this shape
 abbrev pub AddsShape : Command → Shape → Type 0
@@ -40,6 +41,9 @@ abbrev pub IsTaskOf : Option (Text × List Row) → Task → Type 0
 IsTaskOf found (Check instance solution) =
     (rows : List Row) × (found ≡ Some (codes "check", rows))
     × HasCheckValues rows (Check instance solution)
+IsTaskOf found (Why instance solution) =
+    (rows : List Row) × (found ≡ Some (codes "check", rows))
+    × HasCheckValues rows (Why instance solution)
 IsTaskOf found (CheckAll session solutions form) =
     (rows : List Row) × (found ≡ Some (codes "check-all", rows))
     × HasCheckAllValues rows (CheckAll session solutions form)
@@ -63,10 +67,11 @@ IsTaskOf found (Explain words) =
 abbrev pub IsTask : List Text → Task → Type 0
 IsTask words = IsTaskOf (subcommand_of program words)
 
--- the kinds of error that the words may give: what clap finds, or that they name no fault
+-- the kinds of error that the words may give: what clap finds, or that they name no fault or standard
+-- input twice
 abbrev pub fault_of_words : List Text → Kinds
 fault_of_words words =
-    or_else (fault_of program words) (unexplained_in (subcommand_of program words))
+    or_else (fault_of program words) (mistakes_in (subcommand_of program words))
 
 -- an error of clap is a mistake in the words, neither a call for help nor out of memory
 abbrev pub IsMistake : ErrorKind → Type 0

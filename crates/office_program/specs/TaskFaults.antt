@@ -3,6 +3,7 @@ use Rattle.std.specs.Prelude.{◌≡◌, ◌⊎◌, ℕ, ◌++◌, List, codes}
 use Rattle.office_model.specs.declared.fault.StoreFault.{StoreFault}
 use Rattle.office_model.specs.declared.fault.StoreFault.TheVariants.{Store}
 use Rattle.sqlite.specs.declared.error.Error.{Error}
+use Rattle.office_check.specs.Names.{printed_name}
 use Rattle.office_check.specs.declared.checking.CheckFault.{CheckFault}
 use Rattle.office_check.specs.declared.checking.CheckFault.TheVariants as check
 use Rattle.office_check.specs.declared.listing.PlacesFault.{PlacesFault}
@@ -21,8 +22,10 @@ use Rattle.office_program.specs.FaultLines.{fault_line, input_line, open_line, s
 
 -- the line of a fault of `check` on the files of two paths, without its end
 abbrev pub check_line : List ℕ → List ℕ → CheckFault → List ℕ
-check_line instance solution check.ReadInstance = codes "examoffice: cannot read " ++ instance
-check_line instance solution check.ReadSolution = codes "examoffice: cannot read " ++ solution
+check_line instance solution check.ReadInstance =
+    codes "examoffice: cannot read " ++ printed_name instance
+check_line instance solution check.ReadSolution =
+    codes "examoffice: cannot read " ++ printed_name solution
 check_line instance solution (check.Instance f) = fault_line (fault.Instance f)
 check_line instance solution (check.Solution f) = fault_line (fault.Solution f)
 check_line instance solution check.Write = fault_line fault.CannotWrite

@@ -1,7 +1,9 @@
 // What is printed about the cause of a fault, after its line, on a terminal or to a journal.
 use crate::explaining::fault_words;
 use crate::faults::ProgramFault;
+use crate::sources::is_stdin;
 use crate::words::Task;
+use office_check::FileName;
 use office_files::{FaultKind, FileFault, instance_text};
 use office_http::StoreFault;
 use office_model::kind_number;
@@ -26,9 +28,13 @@ fn print_cause<W: Write>(
     out: &mut W,
 ) -> io::Result<()> {
     match fault {
-        ProgramFault::CannotRead(path) => print_unread(rt, path, out),
-        ProgramFault::Instance(fault) => print_faulty(rt, instance_of(task), *fault, out),
-        ProgramFault::Solution(fault) => print_faulty(rt, solution_of(task), *fault, out),
+        ProgramFault::CannotRead(path) => print_unread(rt, input_of(task, path), out),
+        ProgramFault::Instance(fault) => {
+            print_faulty(rt, input_of(task, instance_of(task)), *fault, out)
+        }
+        ProgramFault::Solution(fault) => {
+            print_faulty(rt, input_of(task, solution_of(task)), *fault, out)
+        }
         ProgramFault::CannotOpen(error) => print_unopened(rt, database_of(task), *error, out),
         ProgramFault::Store(fault) => print_refused(database_of(task), *fault, out),
         ProgramFault::CannotWrite => writeln!(out, "standard output: closed, or its disk is full"),
@@ -39,11 +45,50 @@ fn print_cause<W: Write>(
     }
 }
 
-// Prints why a file can't be read.
-fn print_unread<W: Write>(rt: &HostRuntime, path: &str, out: &mut W) -> io::Result<()> {
-    match try_reading(rt, path) {
-        Ok(()) => writeln!(out, "{path}: reading failed, or didn't end"),
-        Err(reason) => writeln!(out, "{path}: {reason}"),
+// What a task reads.
+#[derive(Clone, Copy)]
+enum Input<'a> {
+    Stdin,
+    File(&'a str),
+}
+
+impl fmt::Display for Input<'_> {
+    fn fmt<W: fmt::Write>(&self, f: &mut fmt::Formatter<W>) -> fmt::Result {
+        match self {
+            Input::Stdin => write!(f, "standard input"),
+            Input::File(path) => {
+                let name = FileName(path);
+                write!(f, "{name}")
+            }
+        }
+    }
+}
+
+// Returns what a task reads by this path.
+fn input_of<'a>(task: &Task, path: &'a str) -> Input<'a> {
+    match task {
+        Task::Check(..) | Task::Why(..) | Task::CheckAll(..) | Task::Places(..)
+            if is_stdin(path) =>
+        {
+            Input::Stdin
+        }
+        _ => Input::File(path),
+    }
+}
+
+// Prints why an input can't be read.
+fn print_unread<W: Write>(rt: &HostRuntime, input: Input<'_>, out: &mut W) -> io::Result<()> {
+    match try_input(rt, input) {
+        Ok(()) => writeln!(out, "{input}: reading failed, or didn't end"),
+        Err(reason) => writeln!(out, "{input}: {reason}"),
+    }
+}
+
+// Reads a byte of an input, if that is a file.
+fn try_input(rt: &HostRuntime, input: Input<'_>) -> io::Result<()> {
+    match input {
+        Input::Stdin => Ok(()),
+        Input::File(path) => try_reading(rt, path),
     }
 }
 
@@ -61,6 +106,7 @@ fn try_reading(rt: &HostRuntime, path: &str) -> io::Result<()> {
 fn instance_of(task: &Task) -> &str {
     match task {
         Task::Check(instance, _)
+        | Task::Why(instance, _)
         | Task::CheckAll(instance, _, _)
         | Task::Places(instance, _, _)
         | Task::Load(_, instance) => instance,
@@ -71,7 +117,9 @@ fn instance_of(task: &Task) -> &str {
 // Returns the path of the solution's file.
 fn solution_of(task: &Task) -> &str {
     match task {
-        Task::Check(_, solution) | Task::Places(_, solution, _) => solution,
+        Task::Check(_, solution) | Task::Why(_, solution) | Task::Places(_, solution, _) => {
+            solution
+        }
         _ => "",
     }
 }
@@ -87,25 +135,25 @@ fn database_of(task: &Task) -> &str {
 // Prints a fault of a file in words, with the text of its line if the file can be read again.
 fn print_faulty<W: Write>(
     rt: &HostRuntime,
-    path: &str,
+    input: Input<'_>,
     fault: FileFault,
     out: &mut W,
 ) -> io::Result<()> {
     let FileFault { line, what } = fault;
     if line == 0 {
         let words = words_in_short(what);
-        return writeln!(out, "{path}: {words}");
+        return writeln!(out, "{input}: {words}");
     }
-    let text = text_again(rt, path);
+    let text = text_again(rt, input);
     match line_of(&text, line) {
         Some(found) => {
             let words = words_with(what, found);
             let shown = Shown { line: found };
-            writeln!(out, "{path} line {line}: {words}: {shown}")
+            writeln!(out, "{input} line {line}: {words}: {shown}")
         }
         None => {
             let words = words_in_short(what);
-            writeln!(out, "{path} line {line}: {words}")
+            writeln!(out, "{input} line {line}: {words}")
         }
     }
 }
@@ -121,9 +169,13 @@ fn words_in_short(what: FaultKind) -> &'static str {
     }
 }
 
-// Returns the text of a file; empty if it can't be read again.
-fn text_again(rt: &HostRuntime, path: &str) -> Vec<u8> {
-    read_again(rt, path).unwrap_or(Vec::new(rt.alloc()))
+// Returns the text of an input; empty if it can't be read again.
+fn text_again(rt: &HostRuntime, input: Input<'_>) -> Vec<u8> {
+    let again = match input {
+        Input::Stdin => None,
+        Input::File(path) => read_again(rt, path),
+    };
+    again.unwrap_or(Vec::new(rt.alloc()))
 }
 
 // Returns the text of a file, if it can be read again.
@@ -146,8 +198,12 @@ fn line_of(text: &[u8], number: u32) -> Option<&[u8]> {
     }
 }
 
-// Returns the short words for a fault of a file, or says that a session and a solution are swapped.
+// Returns the short words for a fault of a file, or says that it begins with a byte order mark, or
+// that a session and a solution are swapped.
 fn words_with(what: FaultKind, line: &[u8]) -> &'static str {
+    if line.starts_with(BYTE_ORDER_MARK) {
+        return "a byte order mark is in front of the text";
+    }
     if what == FaultKind::MissingSection && is_place(line) {
         return "a solution, not a session";
     }
@@ -182,6 +238,9 @@ impl fmt::Display for Shown<'_> {
     }
 }
 
+// What some programs put in front of a text in UTF-8.
+const BYTE_ORDER_MARK: &[u8] = b"\xef\xbb\xbf";
+
 // How much of a line is shown.
 const SHOWN_BYTES: usize = 200;
 
@@ -192,16 +251,18 @@ fn print_unopened<W: Write>(
     error: Error,
     out: &mut W,
 ) -> io::Result<()> {
+    let name = FileName(path);
     match try_reading(rt, path) {
-        Ok(()) => writeln!(out, "{path}: {error}"),
-        Err(reason) => writeln!(out, "{path}: {reason}"),
+        Ok(()) => writeln!(out, "{name}: {error}"),
+        Err(reason) => writeln!(out, "{name}: {reason}"),
     }
 }
 
 // Prints why an office refuses.
 fn print_refused<W: Write>(path: &str, fault: StoreFault, out: &mut W) -> io::Result<()> {
+    let name = FileName(path);
     match fault_words("store", u32::from(fault.number())) {
-        Some(words) => writeln!(out, "{path}: {words}"),
+        Some(words) => writeln!(out, "{name}: {words}"),
         None => Ok(()),
     }
 }

@@ -1,10 +1,10 @@
 // The commands of the command line, as clap defines them.
-ghost use Rattle.std.specs.Prelude.{◌≡◌, IfOk, Some, false};
+ghost use Rattle.std.specs.Prelude.{◌≡◌, IfOk, Some, codes, false};
 ghost use Rattle.clap.specs.Words.{rule_of};
 ghost use Rattle.clap.specs.declared.builder.texts.Texts.TheVariants.{One};
-ghost use Rattle.office_program.specs.CheckAllLine.{check_all_app, json_rule, solutions_rule};
-ghost use Rattle.office_program.specs.CommandLine.{check_app, export_app, load_app, named_rule};
-ghost use Rattle.office_program.specs.CommandLine.{required_rule};
+ghost use Rattle.office_program.specs.CheckAllLine.{check_all_app, solutions_rule};
+ghost use Rattle.office_program.specs.CommandLine.{check_app, export_app, flag_rule, load_app};
+ghost use Rattle.office_program.specs.CommandLine.{named_rule, required_rule};
 ghost use Rattle.office_program.specs.Explaining.{explain_app, fault_rule};
 ghost use Rattle.office_program.specs.PlacesLine.{exam_rule, places_app};
 ghost use Rattle.office_program.specs.Program.{AddsShape};
@@ -27,8 +27,20 @@ pub(crate) fn check_command<'a>(alloc: Global) -> Result<Command<'a>, AllocError
     Command::new(alloc, "check")
         .about("Judge a solution by the rules of ITC 2007, examination track")
         .after_help(helps::CHECK)
+        .arg(why_flag(alloc))?
         .arg(instance)?
         .arg(solution)
+}
+
+// Returns the flag that asks for the summands of the penalty.
+fn why_flag<'a>(alloc: Global) -> Arg<'a>
+    ensures rule { rule_of result ≡ flag_rule (codes "why") }
+    ensures local { result.global ≡ false }
+{
+    Arg::new(alloc, "why")
+        .long("why")
+        .help("List each summand of the penalty after the report")
+        .action(ArgAction::SetTrue)
 }
 
 // Returns a required argument.
@@ -58,7 +70,7 @@ pub(crate) fn check_all_command<'a>(alloc: Global) -> Result<Command<'a>, AllocE
 
 // Returns the flag that requests lines of JSON.
 fn json_flag<'a>(alloc: Global) -> Arg<'a>
-    ensures rule { rule_of result ≡ json_rule }
+    ensures rule { rule_of result ≡ flag_rule (codes "json") }
     ensures local { result.global ≡ false }
 {
     Arg::new(alloc, "json")

@@ -21,7 +21,7 @@ use office_http::{Alter, Connection, Office, StoreFault};
 use sqlite::{Error, ErrorCode};
 use std::alloc::Global;
 use std::fs;
-use std::io::Write;
+use std::io::{ErrorKind, Read, Write};
 
 /// Why the publication is not written.
 #[derive(Clone, Copy, Debug, PartialEq, Eq)]
@@ -48,8 +48,17 @@ pub(crate) fn export<'a, W: Write>(
     ensures unwritten { IfErr result (λ fault. fault ≢ ProgramFault.CannotWrite
         → Keeps (W.contents out.old) (W.contents out.new)) }
 {
-    if fs::metadata(rt, database).is_err() {
+    let Ok(found) = fs::metadata(rt, database) else {
         return Err(fault_of_open(Error::SqliteFailure(ErrorCode::CannotOpen)));
+    };
+    if !has_log(rt, database) {
+        // Opening would leave a log beside the file.
+        if found.len() == 0 {
+            return Err(fault_of_export(ExportFault::Store(StoreFault::BadSchema)));
+        }
+        if !begins_as_database(rt, database) {
+            return Err(fault_of_open(Error::SqliteFailure(ErrorCode::NotADatabase)));
+        }
     }
     announce(rt, LongWork::Opening(database));
     let conn = match office_database::open(rt, database) {
@@ -67,6 +76,29 @@ pub(crate) fn export<'a, W: Write>(
             let _ = conn.close();
             Err(fault_of_export(fault))
         }
+    }
+}
+
+// Returns whether a log with content is beside a database's file: the file alone says nothing then.
+fn has_log(rt: &HostRuntime, database: &str) -> bool {
+    let Ok(log) = format!(in rt.alloc(); "{database}-wal") else {
+        return true;
+    };
+    match fs::metadata(rt, log.as_str()) {
+        Ok(found) => found.len() != 0,
+        Err(_) => false,
+    }
+}
+
+// Returns whether a file begins as those of databases do. One that can't be read may be a database.
+fn begins_as_database(rt: &HostRuntime, path: &str) -> bool {
+    let Ok(mut file) = fs::open(rt, path) else {
+        return true;
+    };
+    let mut bytes = [0u8; 16];
+    match file.read_exact(&mut bytes) {
+        Ok(()) => bytes == *b"SQLite format 3\0",
+        Err(error) => error.kind() != ErrorKind::UnexpectedEof,
     }
 }
 

@@ -6,7 +6,7 @@ ghost use Rattle.office_program.specs.TaskFaults.{check_line, export_line, load_
 use crate::exporting::ExportFault;
 use crate::loading::LoadFault;
 use exam_model::ExamNo;
-use office_check::{CheckFault, PlacesFault};
+use office_check::{CheckFault, FileName, PlacesFault};
 use office_connections::RunFault;
 use office_files::{FileFault, InputFault};
 use office_http::{Refusal, StoreFault};
@@ -37,7 +37,10 @@ impl fmt::Display for ProgramFault<'_> {
 
     fn fmt<W: fmt::Write>(&self, f: &mut fmt::Formatter<W>) -> fmt::Result {
         match self {
-            ProgramFault::CannotRead(path) => write!(f, "examoffice: cannot read {path}"),
+            ProgramFault::CannotRead(path) => {
+                let name = FileName(path);
+                write!(f, "examoffice: cannot read {name}")
+            }
             ProgramFault::Instance(FileFault { line, what }) => {
                 let number = kind_number(*what);
                 write!(f, "examoffice: instance line {line}: fault {number}")

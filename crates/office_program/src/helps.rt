@@ -7,6 +7,14 @@ pub(crate) const CHECK: &str = "\
 Example:
   examoffice check term.exam term.sol
 
+One of the files can be -, which is standard input. With --why the report is
+followed by a line for each summand of the penalty:
+  row 0 1 5 35    exams 0 and 1 in a row for 5 students: 35 points; likewise
+                  day, spread and night, by the greater exam
+  mixed 2 7 3 20  room 2 in period 7: 3 different durations
+  front 4 60 10   exam 4 with 60 students, large and late
+  period 7 3 15   period 7 with 3 exams; likewise room
+
 Exit status:
   0  judged: no hard rule is broken
   1  not judged: a line on standard error says why
@@ -36,6 +44,7 @@ Example:
 A line for each solution: its breaches, its penalty, the eight parts in the
 order in which check prints them, and its path. With --json the same numbers
 have names. A solution with a fault has a line on standard error instead.
+One of the files can be -, which is standard input.
 
 Exit status:
   0  all judged: no solution breaks a hard rule
@@ -51,7 +60,8 @@ Example:
 A line for each place, by period and then by room. 3,0,27,,, says that the
 solution's penalty is 27 with the exam in period 3 and room 0. In the line
 3,1,,Clash,0,1 the rule and the two exams say why the exam can't be there.
-What the solution breaks without the exam doesn't matter.
+What the solution breaks without the exam doesn't matter. One of the files can
+be -, which is standard input.
 
 Exit status:
   0  listed

@@ -1,18 +1,21 @@
 // `check-all`: judges many solutions of one session by the files of their paths.
-ghost use Rattle.std.specs.Prelude.{◌≡◌, ◌≢◌, ◌==◌, ℕ, IfErr, IfOk, List};
+ghost use Rattle.std.specs.Prelude.{◌≡◌, ◌≢◌, ◌==◌, ℕ, IfErr, IfOk, IfSome, List};
 ghost use Rattle.std.specs.Prelude.{◌&&◌, ◌||◌, false, map, string_bytes, true};
 ghost use Rattle.std.specs.Io.KnownBytes.{Keeps};
 ghost use Rattle.office_files.specs.InstanceText.{InstanceText};
 ghost use Rattle.office_program.specs.CheckAll.{AddsOutcome, HasOutcomes, IsLineOf, JudgesAll};
 ghost use Rattle.office_program.specs.CheckAll.{status_of_all};
+ghost use Rattle.office_program.specs.Sources.{input_at};
 ghost use Rattle.office_program.specs.TaskFaults.{IsOfCheckAll};
 
 use crate::ending::Ending;
 use crate::faults::{ProgramFault, fault_of_input, fault_of_solution};
 use crate::lines::Lines;
+use crate::sources::is_stdin;
 use office_check::{Judge, LineForm};
 use office_files::InputFault;
-use std::io::Write;
+use std::alloc::Global;
+use std::io::{Read, Write};
 use std::rt::Files;
 use std::{fs, io};
 
@@ -33,8 +36,9 @@ pub(crate) struct VerdictLine {
 }
 
 // Runs `check-all`. It opens one solution after another; a fault of one doesn't affect the others.
-pub(crate) fn check_all<'a, R: Files + AllocGlobal, W: Write, E: Lines>(
+pub(crate) fn check_all<'a, R: Files + AllocGlobal, I: Read, W: Write, E: Lines>(
     rt: &R,
+    stdin: &mut I,
     session: &'a str,
     solutions: &[String],
     form: LineForm,
@@ -51,11 +55,11 @@ pub(crate) fn check_all<'a, R: Files + AllocGlobal, W: Write, E: Lines>(
     ensures unwritten { IfErr result (λ fault. fault ≢ ProgramFault.CannotWrite
         → Keeps (W.contents out.old) (W.contents out.new)) }
 {
-    let judge = match judge_at(rt, session, solutions.len()) {
+    let judge = match judge_at(rt, stdin, session, solutions.len()) {
         Ok(judge) => judge,
         Err(fault) => return Err(fault_of_input(fault, session)),
     };
-    match judge_each(rt, &judge, solutions, form, out, err) {
+    match judge_each(rt, stdin, &judge, solutions, form, out, err) {
         Ok(found) => Ok(Ending {
             status: status_of(found),
             is_err_written: found.is_err_written,
@@ -64,14 +68,21 @@ pub(crate) fn check_all<'a, R: Files + AllocGlobal, W: Write, E: Lines>(
     }
 }
 
-// Reads the session of this path, for this many solutions.
-fn judge_at<R: Files + AllocGlobal>(
+// Reads the session of this path, for this many solutions; `-` is standard input.
+fn judge_at<R: Files + AllocGlobal, I: Read>(
     rt: &R,
+    stdin: &mut I,
     path: &str,
     solutions: usize,
 ) -> Result<Judge, InputFault>
-    ensures { IfOk result (λ judge. (text : List ℕ) × InstanceText text judge.0 judge.1) }
+    ensures spelled { IfOk result (λ judge.
+        (text : List ℕ) × InstanceText text judge.0 judge.1) }
+    ensures from { IfOk result (λ judge. IfSome (input_at (I.remaining stdin.old) path.now)
+        (λ text. InstanceText text judge.0 judge.1)) }
 {
+    if is_stdin(path) {
+        return Judge::new(rt.alloc(), stdin, solutions);
+    }
     let Ok(mut file) = fs::open(rt, path) else {
         return Err(InputFault::Read);
     };
@@ -92,8 +103,9 @@ fn status_of(found: Found) -> u8
 }
 
 // Judges solutions, one after another. Fails if a line can't be printed.
-fn judge_each<R: Files + AllocGlobal, W: Write, E: Lines>(
+fn judge_each<R: Files + AllocGlobal, I: Read, W: Write, E: Lines>(
     rt: &R,
+    stdin: &mut I,
     judge: &Judge,
     solutions: &[String],
     form: LineForm,
@@ -111,14 +123,15 @@ fn judge_each<R: Files + AllocGlobal, W: Write, E: Lines>(
         is_err_written: true,
     };
     for path in solutions {
-        found = judge_one(rt, judge, path, form, found, out, err)?;
+        found = judge_one(rt, stdin, judge, path, form, found, out, err)?;
     }
     Ok(found)
 }
 
 // Judges one more solution.
-fn judge_one<R: Files + AllocGlobal, W: Write, E: Lines>(
+fn judge_one<R: Files + AllocGlobal, I: Read, W: Write, E: Lines>(
     rt: &R,
+    stdin: &mut I,
     judge: &Judge,
     path: &str,
     form: LineForm,
@@ -131,7 +144,7 @@ fn judge_one<R: Files + AllocGlobal, W: Write, E: Lines>(
     ensures quiet { IfOk result (λ now. now.has_fault ≡ false
         → (found.has_fault ≡ false) × (err.new ≡ err.old)) }
 {
-    match line_at(rt, judge, path, form) {
+    match line_at(rt, stdin, judge, path, form) {
         Ok(line) => {
             out.write_all(line.text.as_bytes())?;
             Ok(with_verdict(found, line.has_breach))
@@ -172,21 +185,40 @@ fn with_fault(found: Found, is_err_written: bool) -> Found
     }
 }
 
-// Returns the line of the solution of this path.
-fn line_at<R: Files + AllocGlobal>(
+// Returns the line of the solution of this path; `-` is standard input.
+fn line_at<R: Files + AllocGlobal, I: Read>(
     rt: &R,
+    stdin: &mut I,
     judge: &Judge,
     path: &str,
     form: LineForm,
 ) -> Result<VerdictLine, InputFault>
-    ensures { IfOk result (IsLineOf judge.now.0 judge.now.1 form path.now) }
+    ensures { IfOk result (IsLineOf judge.now.0 judge.now.1 form path.now
+        (input_at (I.remaining stdin.old) path.now)) }
 {
+    if is_stdin(path) {
+        return line_by(rt.alloc(), stdin, judge, path, form);
+    }
     let Ok(mut file) = fs::open(rt, path) else {
         return Err(InputFault::Read);
     };
-    let verdict = judge.judge(rt.alloc(), &mut file)?;
+    line_by(rt.alloc(), &mut file, judge, path, form)
+}
+
+// Returns the line of the solution of a reader.
+fn line_by<Q: Read>(
+    alloc: Global,
+    reader: &mut Q,
+    judge: &Judge,
+    path: &str,
+    form: LineForm,
+) -> Result<VerdictLine, InputFault>
+    ensures { IfOk result (IsLineOf judge.now.0 judge.now.1 form path.now
+        (Q.remaining reader.old)) }
+{
+    let verdict = judge.judge(alloc, reader)?;
     Ok(VerdictLine {
-        text: verdict.line(rt.alloc(), path, form)?,
+        text: verdict.line(alloc, path, form)?,
         has_breach: verdict.has_breach(),
     })
 }

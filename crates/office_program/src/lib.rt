@@ -20,6 +20,8 @@ mod notices;
 mod places_words;
 mod program;
 mod serving;
+mod sources;
+mod why;
 mod words;
 
 pub use ending::Ending;

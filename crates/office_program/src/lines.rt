@@ -1,8 +1,10 @@
 // Lines of faults, and whether each was written.
 ghost use Rattle.std.specs.Prelude.{◌++◌, ◌∷◌, [], ℕ, Bool, List, codes};
+ghost use Rattle.office_check.specs.Names.{printed_name};
 ghost use Rattle.office_program.specs.FaultLines.{fault_line};
 
 use crate::faults::ProgramFault;
+use office_check::FileName;
 use std::io::{Stderr, Write};
 
 /// A writer of lines of faults, which says whether each was written.
@@ -17,7 +19,8 @@ pub trait Lines {
 
     /// Tries to write the line of a fault after a path. Returns whether it was written whole.
     fn tell_of(&mut self, path: &str, fault: &ProgramFault<'_>) -> bool
-        ensures { tells self.old (path.now ++ codes ": " ++ fault_line fault.now ++ 10 ∷ [])
+        ensures { tells self.old
+            (printed_name path.now ++ codes ": " ++ fault_line fault.now ++ 10 ∷ [])
             result self.new };
 }
 
@@ -30,6 +33,7 @@ impl Lines for Stderr {
     }
 
     fn tell_of(&mut self, path: &str, fault: &ProgramFault<'_>) -> bool {
-        writeln!(self, "{path}: {fault}").is_ok()
+        let name = FileName(path);
+        writeln!(self, "{name}: {fault}").is_ok()
     }
 }

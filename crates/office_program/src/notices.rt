@@ -3,6 +3,7 @@ ghost use Rattle.std.specs.Prelude.{◌++◌, ◌∷◌, [], OnOk};
 ghost use Rattle.std.specs.Io.KnownBytes.{Appends};
 ghost use Rattle.office_program.specs.LongWork.{work_line};
 
+use office_check::FileName;
 use office_store::is_of_version_1;
 use sqlite::{Alter, Connection};
 use std::io::{IsTerminal, Write};
@@ -33,21 +34,26 @@ impl fmt::Display for LongWork<'_> {
     fn fmt<W: fmt::Write>(&self, f: &mut fmt::Formatter<W>) -> fmt::Result {
         match self {
             LongWork::Loading(path) => {
-                write!(f, "examoffice: loading {path}, which takes a while")
+                let name = FileName(path);
+                write!(f, "examoffice: loading {name}, which takes a while")
             }
             LongWork::Opening(path) => {
-                write!(f, "examoffice: opening {path}, which takes a while")
+                let name = FileName(path);
+                write!(f, "examoffice: opening {name}, which takes a while")
             }
             LongWork::Publishing(path) => {
-                write!(f, "examoffice: publishing in {path}, which takes a while")
+                let name = FileName(path);
+                write!(f, "examoffice: publishing in {name}, which takes a while")
             }
             LongWork::Making(path) => {
-                write!(f, "examoffice: {path} is new: an office without a session")
+                let name = FileName(path);
+                write!(f, "examoffice: {name} is new: an office without a session")
             }
             LongWork::Upgrading(path) => {
+                let name = FileName(path);
                 write!(
                     f,
-                    "examoffice: {path} becomes version 2, which no older program opens"
+                    "examoffice: {name} becomes version 2, which no older program opens"
                 )
             }
         }

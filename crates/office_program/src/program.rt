@@ -29,6 +29,7 @@ use crate::listing::list_places;
 use crate::loading::load_run;
 use crate::notices::{LongWork, announce, announce_upgrade};
 use crate::serving::open_and_serve;
+use crate::why::why;
 use crate::words::{Task, read_words};
 use clap::Error;
 use clap::error::ErrorKind;
@@ -48,7 +49,7 @@ pub fn run_program<O: Write, E: Write + Lines>(
     ensures within { result.status ≤ 3 }
 
     // Status 0 is a command that is done, or a call for help or the version. Status 2 is a mistake
-    // in the words: one that clap finds, or an unknown fault to explain.
+    // in the words: one that clap finds, an unknown fault to explain, or standard input twice.
     ensures answered { result.status ≡ 0 → AreAnswered (map string_bytes words.now) }
     ensures mistake { result.status ≡ 2 → fault_of_words (map string_bytes words.now) ≢ [] }
     // Status 3, a breach, comes only for words without a mistake.
@@ -122,11 +123,14 @@ fn run_task<'a, W: Write, E: Write + Lines>(
         → LeavesPrinted task.now (W.contents out.old) (W.contents out.new)) }
 {
     match task {
-        Task::Check(instance, solution) => check(rt, instance, solution, out),
+        Task::Check(instance, solution) => check(rt, &mut rt.stdin(), instance, solution, out),
+        Task::Why(instance, solution) => why(rt, &mut rt.stdin(), instance, solution, out),
         Task::CheckAll(session, solutions, form) => {
-            check_all(rt, session, solutions, *form, out, err)
+            check_all(rt, &mut rt.stdin(), session, solutions, *form, out, err)
         }
-        Task::Places(instance, solution, exam) => list_places(rt, instance, solution, *exam, out),
+        Task::Places(instance, solution, exam) => {
+            list_places(rt, &mut rt.stdin(), instance, solution, *exam, out)
+        }
         Task::Load(database, instance) => load(rt, database, instance, out),
         Task::Serve(database, terms) => open_and_serve(rt, rt, database, *terms, out, err),
         Task::Export(database) => export(rt, database, out),

@@ -8,9 +8,11 @@ ghost use Rattle.clap.specs.Words.{FailsBy, HasKind, found_of, kind_of, rows_of}
 ghost use Rattle.clap.specs.Words.{subcommand_of, subcommand_rows_of};
 ghost use Rattle.clap.specs.Faults.{fault_of};
 ghost use Rattle.clap.specs.declared.error.kind.ErrorKind.TheVariants.{InvalidValue, OutOfMemory};
-ghost use Rattle.clap.specs.Words.{first_of};
+ghost use Rattle.clap.specs.Words.{first_of, one_of};
 ghost use Rattle.office_program.specs.CommandLine.{HasCheckValues, HasExportValues, HasLoadValues};
-ghost use Rattle.office_program.specs.Explaining.{HasExplainValues, explain_errors, unexplained_in};
+ghost use Rattle.office_program.specs.CommandLine.{IsFlag};
+ghost use Rattle.office_program.specs.Explaining.{HasExplainValues, explain_errors};
+ghost use Rattle.office_program.specs.Mistakes.{check_paths, mistakes_in, sharing_errors};
 ghost use Rattle.office_program.specs.Program.{IsTask, IsTaskOf, fault_of_words, program};
 ghost use Rattle.office_program.specs.ServeLine.{HasNumber, HasServeValues, HasTerms};
 
@@ -22,6 +24,7 @@ use crate::commands::{
 use crate::explaining::{MAX_NUMBER, fault_words};
 use crate::helps;
 use crate::places_words::places_task;
+use crate::sources::{are_both_stdin, shared_stdin};
 use clap::error::ErrorKind;
 use clap::{ArgMatches, Command, Error};
 use exam_model::ExamNo;
@@ -36,6 +39,9 @@ use std::io;
 pub enum Task {
     /// Judges a solution: the instance's file, then the solution's.
     Check(String, String),
+    /// Judges a solution, and lists the summands of its penalty: the instance's file, then the
+    /// solution's.
+    Why(String, String),
     /// Judges solutions of one session: the session's file, the solutions', and the form of the
     /// lines.
     CheckAll(String, Vec<String>, LineForm),
@@ -86,8 +92,8 @@ pub fn read_words(alloc: Global, words: &[String]) -> Result<Task, Error>
     // to 1,000,000 connections, a timeout of 1 to 86,400 seconds, or 30 if there is none, an exam of
     // 0 to 1999. The words of `explain` are those of the fault of this kind and number.
     ensures task { IfOk result (IsTask (map string_bytes words.now)) }
-    // An error is a mistake that clap finds, a fault to explain that doesn't exist, or out of
-    // memory. An `Ok` comes only without such a mistake.
+    // An error is a mistake that clap finds, a fault to explain that doesn't exist, standard input
+    // for two files, or out of memory. An `Ok` comes only without such a mistake.
     ensures kinds { FailsBy (fault_of_words (map string_bytes words.now)) result }
 {
     let found = matches(alloc, words)?;
@@ -97,7 +103,7 @@ pub fn read_words(alloc: Global, words: &[String]) -> Result<Task, Error>
 // Returns the task of what clap found.
 fn task_of(alloc: Global, found: &ArgMatches<'_>) -> Result<Task, Error>
     ensures task { IfOk result (IsTaskOf (subcommand_rows_of found.now)) }
-    ensures err { IfErr result (HasKind (unexplained_in (subcommand_rows_of found.now))) }
+    ensures err { IfErr result (HasKind (mistakes_in (subcommand_rows_of found.now))) }
 {
     if let Some(values) = found.subcommand_matches("check") {
         return check_task(alloc, values);
@@ -151,13 +157,28 @@ fn matches(alloc: Global, words: &[String]) -> Result<ArgMatches<'_>, Error>
     whole.try_get_matches_from(words)
 }
 
+// Returns the task of `check` with these values; both may name standard input.
 fn check_task(alloc: Global, values: &ArgMatches<'_>) -> Result<Task, Error>
     ensures ok { IfOk result (HasCheckValues (rows_of (found_of values.now))) }
-    ensures err { IfErr result (λ e. kind_of e ≡ OutOfMemory) }
+    ensures err { IfErr result
+        (HasKind (sharing_errors (check_paths (rows_of (found_of values.now))))) }
 {
     let instance = value_of(alloc, values, "instance")?;
     let solution = value_of(alloc, values, "solution")?;
+    if are_both_stdin(&instance, &solution) {
+        return Err(shared_stdin(check_command(alloc)?, "examoffice check")?);
+    }
+    if flag_of(values, "why") {
+        return Ok(Task::Why(instance, solution));
+    }
     Ok(Task::Check(instance, solution))
+}
+
+// Returns whether a flag was given.
+fn flag_of(values: &ArgMatches<'_>, id: &str) -> bool
+    ensures { IsFlag (one_of id.now (rows_of (found_of values.now))) result }
+{
+    values.get_flag(id)
 }
 
 // Returns the value that was found. Clap makes sure that there is one, but its contract doesn't say

@@ -13,6 +13,7 @@ complete -c examoffice -n __fish_use_subcommand -a explain -d 'Explain the numbe
 complete -c examoffice -n '__fish_seen_subcommand_from explain' -f -a 'file store connection'
 complete -c examoffice -n __fish_use_subcommand -a help -d 'Print the help of a command'
 complete -c examoffice -n '__fish_seen_subcommand_from help' -f -a "$commands"
+complete -c examoffice -n '__fish_seen_subcommand_from check' -l why -d 'List each summand of the penalty after the report'
 complete -c examoffice -n '__fish_seen_subcommand_from check-all' -l json -d 'Print an object of JSON in each line'
 complete -c examoffice -n '__fish_seen_subcommand_from load serve export' -l db -r -d 'The file of the office\'s database'
 complete -c examoffice -n '__fish_seen_subcommand_from serve' -l port -x -d 'The port of 127.0.0.1; 0 takes any'

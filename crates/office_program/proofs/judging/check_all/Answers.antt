@@ -10,10 +10,10 @@ returns-in-Ok-judge_each-clause-judged g c =
       prints = record {
         outcomes = all.outcomes;
         judged = record {
-          text = c.in-Ok.ensures.0;
+          text = c.in-Ok.ensures.spelled.0;
           session = c.in-Ok.judge.0;
           enrolled = c.in-Ok.judge.1;
-          read = c.in-Ok.ensures.1;
+          read = c.in-Ok.ensures.spelled.1;
           judged = all.judged;
         };
         printed = all.printed;

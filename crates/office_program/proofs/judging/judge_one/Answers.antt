@@ -8,7 +8,7 @@ use Rattle.office_program.proofs.judging.judge_one.Goals as goal
 pub returns-in_ok-write_all-in-Ok-clause-ok : goal.returns-in_ok-write_all-in-Ok-clause-ok
 returns-in_ok-write_all-in-Ok-clause-ok g c =
     subst (AddsOutcome _ _ _ _ _ _ _ _ _ _) (sym c.with_verdict.ensures)
-    (line_added _ _ _ _ _ c.in-Ok.line _ _ _ _ c.in-Ok.ensures
+    (line_added _ _ _ _ _ c.in-Ok.line _ _ _ _ _ c.in-Ok.ensures
     (subst (Appends _ _) c.as_bytes.ensures.value c.in_ok-write_all-in-Ok.ensures.bytes))
 
 -- the line of a fault

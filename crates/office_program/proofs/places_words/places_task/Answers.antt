@@ -1,4 +1,4 @@
-use Rattle.std.proofs.Common.{ℕ, arith, codes, subst, sym}
+use Rattle.std.proofs.Common.{ℕ, arith, codes, rules, subst, sym}
 use Rattle.clap.specs.Words.{found_of, rows_of}
 use Rattle.office_program.specs.ServeLine.{HasNumber}
 use Rattle.office_program.proofs.places_words.places_task.Goals as goal
@@ -12,4 +12,5 @@ returns-clause-ok c =
       subst (λ (n : ℕ). HasNumber (codes "exam") (rows_of (found_of c.args.values.now)) n)
           (sym c.new.ensures) number.0,
       omega (arith, number.2, c.new.ensures),
+      search rules,
     )
