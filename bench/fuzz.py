@@ -2,8 +2,8 @@
 """fuzz.py [--program PATH] [--rounds N] [--seed N]: the same answers on files made at random.
 
 Every second round damages the small files with known answers; the others make small well-formed
-instances, on some of which the slow oracle is asked too. The first two files on which answers
-differ are kept and named.
+instances, on some of which the slow oracle is asked too. Each round asks for the summands as well.
+The first two files on which answers differ are kept and named.
 """
 import argparse
 import datetime
@@ -115,7 +115,8 @@ def main():
             pathlib.Path(file).write_bytes(text.encode("latin-1"))
         asked = {**commands, "oracle": ORACLE} if turn % 10 == 0 else commands
         answers = {name: ask(command, *files) for name, command in asked.items()}
-        told = difference(answers)
+        told = difference(answers) or difference({name: ask([*command, "--why"], *files)
+                                                  for name, command in commands.items()})
         if told:
             sys.exit(f"fuzz: round {turn}, {' '.join(files)}: {told}")
         refused += answers["examoffice"].status == 1
