@@ -67,11 +67,8 @@ impl fmt::Display for Input<'_> {
 // Returns what a task reads by this path.
 fn input_of<'a>(task: &Task, path: &'a str) -> Input<'a> {
     match task {
-        Task::Check(..) | Task::Why(..) | Task::CheckAll(..) | Task::Places(..)
-            if is_stdin(path) =>
-        {
-            Input::Stdin
-        }
+        Task::Check(..) | Task::Why(..) | Task::CheckAll(..) | Task::Places(..) if is_stdin(path) =>
+            { Input::Stdin }
         _ => Input::File(path),
     }
 }
