@@ -311,8 +311,8 @@ fn rows_go(rt: HostRuntime) -> Result<(), Fail> {
         places.as_slice(),
         "places",
     );
-    let seats = found.seats.as_slice();
-    assert_same(&rt, seats, [seated(1, 0, 1)].as_slice(), "seats");
+    let wanted = [seated(2, 2, 1), seated(1, 0, 1)];
+    assert_same(&rt, found.seats.as_slice(), wanted.as_slice(), "seats");
     let students = ALL_SHARES.ask(alloc, &mut conn)?;
     assert_same(
         &rt,
