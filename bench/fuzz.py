@@ -30,7 +30,7 @@ FIRST_DAYS = [datetime.date(*day) for day in ((2005, 1, 1), (2004, 12, 30), (200
 
 
 def damaged_lines(rng, text):
-    """The text with one line taken away, or written a second time at another place."""
+    """The text with one line removed, or written a second time at another place."""
     lines = text.splitlines(True)
     if not lines:
         return text
@@ -115,10 +115,10 @@ def main():
             pathlib.Path(file).write_bytes(text.encode("latin-1"))
         asked = {**commands, "oracle": ORACLE} if turn % 10 == 0 else commands
         answers = {name: ask(command, *files) for name, command in asked.items()}
-        told = difference(answers) or difference({name: ask([*command, "--why"], *files)
-                                                  for name, command in commands.items()})
-        if told:
-            sys.exit(f"fuzz: round {turn}, {' '.join(files)}: {told}")
+        differs = difference(answers) or difference({
+            name: ask([*command, "--why"], *files) for name, command in commands.items()})
+        if differs:
+            sys.exit(f"fuzz: round {turn}, {' '.join(files)}: {differs}")
         refused += answers["examoffice"].status == 1
     shutil.rmtree(folder)
     print(f"fuzz: {given.rounds} rounds agree, {refused} of them on faulty files")

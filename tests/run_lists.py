@@ -189,7 +189,7 @@ def some_of_them(run, it):
 
 
 def on_letter(run, it):
-    """On US Letter everything stands on the page; labels stay on A4."""
+    """On US Letter everything is on the page; labels stay on A4."""
     it.lists("--paper", "letter")
     sizes = {kind: set(re.findall(r'<page width="(.+?)" height="(.+?)"', it.text(kind, "-bbox")))
              for kind in FILES}

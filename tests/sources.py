@@ -22,7 +22,7 @@ def listed():
 
 
 def below(crate):
-    """The crates of the repository on which a crate stands."""
+    """The crates of the repository that a crate uses, directly or not."""
     found, left = set(), [crate]
     while left:
         new = set(listed().get(left.pop(), ())) & set(listed()) - found

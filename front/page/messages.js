@@ -79,10 +79,10 @@ function showFault(fault) {
 }
 
 /**
- * Says what is done, and after a second for how long; who hears the page isn't told the seconds.
+ * Says what is done, and after a second for how long. A screen reader doesn't read the seconds.
  * @param {string} words
  */
-function telling(words) {
+function progressLine(words) {
   const began = Date.now();
   const seconds = element('span', { 'aria-hidden': 'true' });
   /** @param {string} next */
@@ -102,17 +102,17 @@ function telling(words) {
  */
 export async function showProgress(words, work, at = null) {
   placeMessages(at);
-  const told = telling(words);
+  const line = progressLine(words);
   byId('error').replaceChildren();
   clearFieldErrors();
   document.body.setAttribute('aria-busy', 'true');
   try {
-    byId('status').textContent = await work(told.say);
+    byId('status').textContent = await work(line.say);
     byId('as-of').replaceChildren('As of ', moment(new Date()));
   } catch (fault) {
     byId('status').textContent = '';
     showFault(fault);
   }
-  told.stop();
+  line.stop();
   document.body.removeAttribute('aria-busy');
 }

@@ -77,7 +77,7 @@ function stopAt(made, button) {
   if (beside?.matches('.rooms')) beside.setAttribute('tabindex', '0');
 }
 
-// Digits that come later than this begin anew, in milliseconds.
+// Digits that come later than this begin again, in milliseconds.
 const TYPING = 3_000;
 
 function listen(made, { dates }) {

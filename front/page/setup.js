@@ -40,7 +40,7 @@ export function faultOfChoice({ missing, twice, others }) {
 // Browsers have it since 2023.
 const Packing = /** @type {any} */ (globalThis).CompressionStream;
 
-/** A file, compressed, as the front takes only so many bytes. */
+/** A file, compressed, because the front takes only MOST_BYTES. */
 function packed(file) {
   if (!Packing || file.name.endsWith('.gz')) return file;
   return new Response(file.stream().pipeThrough(new Packing('gzip'))).blob();
@@ -60,8 +60,8 @@ async function bodyOf(found, checked = null) {
   return body;
 }
 
-/** What the service says of these files; it is asked again as long as it works at them. */
-async function told(words, body) {
+/** Returns the service's reply on these files; asks again as long as it works on them. */
+async function replyOn(words, body) {
   let said = await change(words, PATH, 'POST', body);
   while (said.working) said = await change(words, `${PATH}/${said.working}`);
   return said;
@@ -82,7 +82,7 @@ async function check() {
   const { found, ...choice } = filesByKind([...byId('csv-files').files]);
   const fault = faultOfChoice(choice);
   if (fault) throw new FormFault(fault, 'csv-files');
-  const said = await told('Nothing was checked.', await bodyOf(found));
+  const said = await replyOn('Nothing was checked.', await bodyOf(found));
   if (!said.faults.length) return showFound(said, found);
   throw new FormFault(`Nothing can be loaded: ${count(said.faults.length, 'fault')}.`, 'csv-files',
     faultList(said.faults));
@@ -95,7 +95,7 @@ function hidePreview() {
 
 /** Loads what was checked, shows it, and gives each exam to its department. */
 async function loadChecked(load) {
-  const { loaded } = await told('The session was not loaded.', await bodyOf(last.found, last.digest));
+  const { loaded } = await replyOn('The session was not loaded.', await bodyOf(last.found, last.digest));
   hidePreview();
   byId('csv-session').reset();
   await load();

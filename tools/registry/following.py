@@ -71,7 +71,7 @@ def time_of(period: Period) -> str:
 
 def followed_periods(known: list[Period], found: list[Period], moved: Mapping[str, str],
                      faults: Faults) -> dict[int, int | None]:
-    """The new number of each old period; None if it is gone. Periods are told apart by date and
+    """The new number of each old period; None if it is gone. Periods differ by date and
     start, and `moved` says which day another one has become."""
     places: dict[str, list[int]] = {}
     for number, period in enumerate(found):

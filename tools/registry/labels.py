@@ -27,7 +27,7 @@ class Grid:
 
 
 # How many labels there are in a column, and both kinds that are sold: with margins and gaps, and
-# over the whole page. What is printed stands where both have the same label.
+# over the whole page. What is printed is where both have the same label.
 STOCKS = {"3x7": (7, (Grid(63.5, 38.1, 7.2, 15.1, 2.5), Grid(70, 42.4, 0, 0, 0))),
           "3x8": (8, (Grid(63.5, 33.9, 7.2, 12.9, 2.5), Grid(70, 37, 0, 0.5, 0)))}
 ACROSS, INSIDE, GAP = 3, 2, 1.5 * MM

@@ -95,7 +95,7 @@ class Table:
     columns: Sequence[Column]
     rows: Sequence[Cells]
     padding: float
-    # Whether it may stand in two columns, if it isn't on one page in one.
+    # Whether it may be in two columns, if it isn't on one page in one.
     may_halve: bool = False
 
     def filled(self, pdf: Pdf, beside: int) -> list[list[Block]]:

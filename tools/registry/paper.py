@@ -15,7 +15,7 @@ FONTS = "Noto Sans, DejaVu Sans, Sans"
 STYLES = {"room": (18, True), "head": (12, True), "when": (12, False), "strong": (9, True),
           "row": (9, False), "small": (8, False), "seat": (20, True), "name": (12, True),
           "tiny": (6.5, False), "tight": (7, True), "tighter": (5, True), "tightest": (3.2, True)}
-# The distance of lines, and where the first one stands below its top, by the size of the letters.
+# The distance of lines, and where the first one is below its top, by the size of the letters.
 PITCH, ASCENT = 1.35, 1.05
 # How wide a line is, and how black; a rule between rows is fainter.
 LINE, RULE = (0.5, 0.0), (0.3, 0.6)
