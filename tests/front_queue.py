@@ -14,7 +14,7 @@ import time
 import browser
 from front_cases import CANDIDATE, FIRST_VIEW, ask, parted, told_error
 from run_serve import Run
-from serve_cases import SMALL, SOLUTION, reply
+from serve_cases import SMALL, SOLUTION, message, reply
 
 TOP = pathlib.Path(__file__).resolve().parent.parent
 HAPROXY = shutil.which("haproxy") or shutil.which("haproxy", path="/usr/sbin")
@@ -133,6 +133,30 @@ def a_crowd(run, front):
     came, longest = crowd(front.port, [closing(CANDIDATE)] * CROWD)
     run.judge("a thousand candidates at once", {FIRST_VIEW: CROWD}, collections.Counter(came))
     run.judge("how long the last one waits", True, longest < 15)
+
+
+def four_clients(run, queue):
+    """No question is forgotten in the queue: four clients ask one after another, and nobody else
+    does, who would wake it."""
+    waits, end = [], time.monotonic() + 3
+
+    def asks():
+        while time.monotonic() < end:
+            began = time.monotonic()
+            with socket.socket(socket.AF_UNIX) as client, contextlib.suppress(TimeoutError):
+                client.settimeout(SECONDS)
+                client.connect(str(queue.folder / "term.sock"))
+                client.sendall(closing(message("GET", "/me", caller="cand:1")))
+                while client.recv(65_536):
+                    pass
+            waits.append(time.monotonic() - began)
+
+    threads = [threading.Thread(target=asks) for _ in range(4)]
+    for thread in threads:
+        thread.start()
+    for thread in threads:
+        thread.join()
+    run.judge("the longest wait of four clients", True, max(waits) < 5)
 
 
 class Clients:
@@ -258,6 +282,7 @@ def judge_all(run, make_front):
                                  (ask("registry", "POST", "/drafts/1/publish"), 200)):
             run.judge("the start", status, front.told(question)[0])
         a_crowd(run, front)
+        four_clients(run, queue)
         metrics(run, front)
         queue.stop()
         queue.start()

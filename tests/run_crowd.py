@@ -8,7 +8,9 @@ prints its lines of the table in docs/OPERATING.md. `day` and `attack` take N mi
 import argparse
 import asyncio
 import collections
+import concurrent.futures
 import contextlib
+import http.client
 import multiprocessing
 import os
 import pathlib
@@ -24,7 +26,7 @@ import time
 import browser
 import front_queue
 import front_sign_in
-from front_sign_in import jwt
+from front_sign_in import jwt, processor_seconds
 from run_front import Front
 from run_serve import Run
 
@@ -34,6 +36,8 @@ UNIVERSITY = TOP / "examples" / "university"
 RATE = 84
 CANDIDATES, ATTACKERS, SLOW, SIGN_INS = 300, 100, 17_500, 2_000
 KILL_SECONDS = 8
+# How often the cost of a request is measured, with how many requests, by how many clients.
+ROUNDS, REQUESTS, CLIENTS = 32, 400, 4
 SECONDS = 60
 
 
@@ -300,6 +304,51 @@ async def attack(university, minutes):
     print(f"{CANDIDATES} signed-in candidates at such an address: {waits}", flush=True)
 
 
+# In place of how users sign in: everybody is this candidate.
+NOBODY_ASKED = """set $user s%d;
+    set $is_exact ""; set $often ""; set $limit_key ""; set $limit_address "";
+    set $signed_out /-/signed-out; set $sign_out \"\""""
+
+
+def cost_of(front, queue, host, cookies):
+    """What front and queue used of the processors for requests with these cookies."""
+    def client(number):
+        connection = http.client.HTTPConnection("127.0.0.1", front.port, SECONDS)
+        for cookie in cookies[number::CLIENTS]:
+            connection.request("GET", "/me", headers={"Host": host, "Cookie": cookie})
+            reply = connection.getresponse()
+            reply.read()
+            if reply.status != 200:
+                raise ValueError(f"a candidate's reply has status {reply.status}")
+
+    before = sum(map(processor_seconds, (front.process, queue.process)))
+    with concurrent.futures.ThreadPoolExecutor(CLIENTS) as pool:
+        list(pool.map(client, range(CLIENTS)))
+    return sum(map(processor_seconds, (front.process, queue.process))) - before
+
+
+async def cost(university):
+    """What a candidate's request needs at front and queue, and how much of it to know who asks:
+    beside a front at which everybody is the same candidate, in turn."""
+    folder = university.run.folder / "open"
+    folder.mkdir()
+    subprocess.run(["cp", "-r", TOP / "front", folder], check=True)
+    (folder / "front" / "callers").write_text((university.front.folder / "callers").read_text())
+    everybody = Front(folder, university.queue.address, (
+        ("include password.conf", NOBODY_ASKED % university.students[0]),))
+    # So many users that none asks too often.
+    cookies = [university.cookie(f"s{number}").partition(": ")[2]
+               for number in university.students[:ROUNDS * REQUESTS]]
+    try:
+        whole, rest = (1e6 * sum(seconds) / len(cookies) for seconds in zip(*(
+            [cost_of(front, university.queue, university.host, cookies[turn::ROUNDS])
+             for front in (university.front, everybody)] for turn in range(ROUNDS))))
+    finally:
+        everybody.stop()
+    print(f"a candidate's request at front and queue: {whole:.0f} us of processor,"
+          f" {whole - rest:.0f} of them to know who asks", flush=True)
+
+
 def main():
     words = argparse.ArgumentParser(description=__doc__.partition("\n")[0])
     words.add_argument("program")
@@ -322,7 +371,7 @@ def main():
 
 
 PARTS = {"day": day, "at_once": at_once, "sign_ins": sign_ins, "restarts": restarts,
-         "attack": attack}
+         "attack": attack, "cost": cost}
 
 if __name__ == "__main__":
     sys.exit(main())
