@@ -49,6 +49,7 @@ LOOKS = {
 FORMATTED = ("return new Intl.DateTimeFormat(arguments[0], {%s, timeZone: 'UTC'})"
              ".format(new Date(arguments[1]))")
 DAY = FORMATTED % "dateStyle: 'full'"
+MOMENT = FORMATTED.replace(", timeZone: 'UTC'", "") % "dateStyle: 'long', timeStyle: 'short'"
 SHORT_DAY = FORMATTED % "weekday: 'short', day: 'numeric', month: 'short'"
 START = FORMATTED % "timeStyle: 'short'"
 
@@ -155,6 +156,10 @@ class Page:
         """A date and a time as pages show them."""
         return (f"{self.reader.run(SHORT_DAY, language, f'{date}T00:00:00Z')}, "
                 f"{self.reader.run(START, language, f'2000-01-01T{start}Z')}")
+
+    def at(self, moment, language="en-GB"):
+        """A moment as pages show it, in the browser's own zone."""
+        return self.reader.run(MOMENT, language, moment)
 
     def downloaded(self, name, selector):
         """The bytes of a file that a click on this downloads."""

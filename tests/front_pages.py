@@ -14,7 +14,8 @@ from pages_candidate import (
     calendar_file, candidates_page, moved_exam, next_exam_first, overlapping_exams, signing_on,
     states_of_exams)
 from pages_conflicts import conflicts
-from pages_department import departments_page, departments_places, pages_of_others
+from pages_department import (
+    departments_files, departments_page, departments_places, pages_of_others)
 from pages_editing import editing
 from pages_late import late_changes
 from pages_registry import (
@@ -42,6 +43,7 @@ def judge(run, started, front, wide, sso, many, office, program, edited, folder)
     with edited() as office_with_places:
         editing(run, chromium, office_with_places)
         departments_places(run, chromium, office_with_places.front)
+        departments_files(run, chromium, office_with_places.front)
     signing_on(run, chromium, front, sso)
     list_of_sessions(run, chromium, many)
     calendar_file(run, chromium, wide)

@@ -307,7 +307,28 @@ def history(run, stack):
     for path in ("publications/9", "differences?from=1&to=9", "differences?from=1",
                  "differences?from=x&to=2"):
         run.judge(path, (404, {"error": "publication"}), asked(ada, "GET", path))
+    seen_by_departments(run, stack)
     kept_in_spite(run, stack, ada)
+
+
+def seen_by_departments(run, stack):
+    """A department reads when and where exams are published, and how large they are; a candidate
+    doesn't."""
+    physics, ben = signed_in(stack, "physics"), signed_in(stack, "ben")
+
+    def read(client, name):
+        return json.loads(client.ask("GET", f"/labels/{name}.json")[2])
+
+    browser.until("the second publication is shown",
+                  lambda: (read(physics, "published") or {}).get("publication") == 2)
+    shown = read(physics, "published")
+    run.judge("what is published", (44, [[0, 0], [1, 0], [3, 1], [3, 1]]),
+              (shown["points"], shown["places"]))
+    run.judge("when", asked(signed_in(stack, "registry"), "GET", "history")[1]["publications"][0][
+        "at"], shown["at"])
+    run.judge("how large exams are", [2, 2, 1, 1], read(physics, "sizes")["sizes"])
+    run.judge("for a candidate", [None, None], [read(ben, name)
+                                                for name in ("published", "sizes")])
 
 
 def kept_in_spite(run, stack, ada):

@@ -205,7 +205,7 @@ def other_labels(run, chromium, wide):
                 "Room 0, Mon 6 Jun, 09:00: Exam 0, 1 of 20 seats"]}),
             ("ada", None, "", {".exams tbody th": "Exam 0"}),
             ("physics", None, "",
-             {"#places tr:last-child": "Exam 39\t\tPeriod 6\tRoom 39\tChange …"}),
+             {"#places tr:last-child": "Exam 39\t\tPeriod 6\tRoom 39\t\tChange …"}),
             ("physics", right, "", {
                 "#status": "No exam is listed for your department. Please tell the registry."})):
         path.unlink(missing_ok=True)

@@ -1,5 +1,7 @@
 """The page of a department: exams are moved, swapped and taken out by keyboard, and each edit can
 be undone."""
+import json
+
 from front_cases import ask
 from front_page import opened
 
@@ -59,8 +61,9 @@ def what_a_department_sees(page, friday, monday):
     page.judge("what a department sees", {
         "#department": "Physics", "#status": "2 exams",
         "#draft-points": "37 points. Breaks no rule.",
-        "rows #places tr": [["PHYS101\nMechanics", "120", monday, f"{ROOM}\n2 seats", "Change …"],
-                            ["PHYS102\nOptics", "60", friday, f"{HALL}\n3 seats", "Change …"]],
+        "rows #places tr": [
+            ["PHYS101\nMechanics", "120", monday, f"{ROOM}\n2 seats", "", "Change …"],
+            ["PHYS102\nOptics", "60", friday, f"{HALL}\n3 seats", "", "Change …"]],
         "texts #draft-number option": ["Draft 1", "Draft 2"],
         "texts #edit-room option": [f"{HALL} (3 seats)", f"{ROOM} (2 seats)"],
         "texts #edit-period option:nth-child(4)": [monday]})
@@ -143,6 +146,39 @@ def departments_places(run, chromium, front):
             ("and made again", "click #redo", {
                 "said": f"PHYS102: {at[1]}, {ROOM}. 36 points now, 37 before.",
                 "hidden #redo": True}))
+
+
+def departments_files(run, chromium, front):
+    """How large exams are, and where they are published, are read from the files that the
+    registry's tools write, with their time; the published timetable can't be changed."""
+    labels = front.folder / "labels"
+    counted, made = "2005-03-29T09:00:00Z", "2005-04-01T10:30:00Z"
+    ledger = json.loads((labels / "labels.json").read_text())["ledger"]
+    texts = {"sizes": {"at": counted, "sizes": [2, 2, 1, 1_234], "ledger": ledger},
+             "published": {"publication": 3, "at": made, "points": 27,
+                           "places": [[0, 0], [1, 0], [3, 1], [3, 0]]}}
+    for name, text in texts.items():
+        (labels / f"{name}.json").write_text(json.dumps(text))
+    for name, text in texts.items():
+        run.judge(f"who may read {name}.json", (text, text, None, None), tuple(
+            json.loads(front.told(ask(user, "GET", f"/labels/{name}.json"))[1])
+            for user in ("registry", "physics", "ada", "nobody")))
+    with opened(run, chromium, front, "physics") as page:
+        monday = page.moment(*MONDAY)
+        page.steps(
+            ("sizes", ("set", "#own-order", "size"), {ROWS: ["PHYS102", "PHYS101"],
+             "texts #places td:nth-child(5)": ["1,234", "1"],
+             "#sizes-at": f"Candidates were counted on {page.at(counted)}."}),
+            ("what is published", ("set", "#draft-number", "0"), {
+                "said": "Published timetable is shown.", "hidden #change": True,
+                "#draft-points": f"27 points. Published on {page.at(made)}.",
+                "rows #places tr": [
+                    ["PHYS102\nOptics", "60", monday, f"{HALL}\n3 seats", "1,234", ""],
+                    ["PHYS101\nMechanics", "120", monday, f"{ROOM}\n2 seats", "1", ""]]}),
+            ("a draft again", ("set", "#draft-number", "1"), {
+                "said": "Draft 1 is shown.", "hidden #change": False}))
+    for name in texts:
+        (labels / f"{name}.json").unlink()
 
 
 def pages_of_others(run, chromium, front):

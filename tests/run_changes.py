@@ -89,6 +89,8 @@ class Session:
         self.run.judge(f"{name}: the enrolments of students.json", {
             (number, exam) for exam, taking in enumerate(self.candidates()) for number in taking}, {
             (student["number"], exam) for student in students for exam in student["exams"]})
+        self.run.judge(f"{name}: how large exams are", [len(one) for one in self.candidates()],
+                       json.loads((self.made / "now" / "sizes.json").read_text())["sizes"])
 
 
 @contextlib.contextmanager

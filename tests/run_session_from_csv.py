@@ -24,7 +24,7 @@ TOP = pathlib.Path(__file__).resolve().parent.parent
 TOOL, EXAMPLES = TOP / "tools" / "session_from_csv", TOP / "examples"
 LABELS = TOP / "front" / "labels"
 UNIVERSITY = EXAMPLES / "university"
-FILES = ["labels.json", "session.exam", "students.json"]
+FILES = ["labels.json", "session.exam", "sizes.json", "students.json"]
 SIZES = "4 exams, 3 students, 6 enrolments, 4 periods, 2 rooms\n"
 ALL_EXAMS = ("MATH101,Calculus,120,Mathematics\nMATH102,Linear algebra,90,Mathematics\n"
              "PHYS101,Mechanics,120,Physics\nPHYS102,Optics,60,Physics\n")
@@ -125,13 +125,16 @@ class Run(Cases):
         self.folder = pathlib.Path(folder)
 
     def made(self, source, *more):
-        """The status, the faults, the summary and the files that the tool makes."""
+        """The status, the faults, the summary and the files that the tool makes; of sizes.json,
+        which says when it was made, only the sizes."""
         out = self.folder / "out"
         shutil.rmtree(out, ignore_errors=True)
         ended = subprocess.run([TOOL, source, out, *more], capture_output=True, timeout=180)
         files = {path.name: path.read_bytes() for path in out.glob("now/*.*")}
         if ended.returncode:
             files = {path.name: path.read_bytes() for path in out.rglob("*") if path.is_file()}
+        if "sizes.json" in files:
+            files["sizes.json"] = json.loads(files["sizes.json"])["sizes"]
         return ended.returncode, ended.stderr.decode(), ended.stdout.decode(), files
 
     def edited(self, *edits):
@@ -177,6 +180,7 @@ def examples(run, program):
     status, faults, summary, small = run.made(EXAMPLES / "small")
     run.judge("the small example", (0, "", SIZES, FILES), (status, faults, summary, sorted(small)))
     run.judge("its session", (EXAMPLES / "small.exam").read_bytes(), small["session.exam"])
+    run.judge("how large its exams are", [2, 2, 1, 1], small["sizes.json"])
     for name in ("labels.json", "students.json"):
         run.judge(f"front/labels/{name}", (LABELS / name).read_bytes(), small[name])
     for path in sorted((run.folder / "out" / "now" / "names").iterdir()):

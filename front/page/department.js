@@ -1,5 +1,6 @@
 // A department's page: its exams in a draft, and changes of their places.
 import { readUser, Refusal } from './asking.js';
+import { moment } from './dates.js';
 import { readAgain, readDrafts, verdict } from './drafts.js';
 import { makeAgain, makeEdit, stepText } from './edits.js';
 import { byId, cell, element, row } from './elements.js';
@@ -9,19 +10,25 @@ import { showProgress } from './messages.js';
 import { count, numeral } from './numbers.js';
 import { focusPlaceList, showPlaceList } from './placelist.js';
 import { forbidText, periodsOf, readOptions } from './places.js';
+import { PUBLISHED, readPublished, readSizes } from './published.js';
 import { ruleText } from './refusals.js';
 import { office } from './state.js';
 
-// What was last read and shown: the department's number, all drafts, and the open one.
+/** @typedef {import('./drafts.js').Draft & { at?: Date }} Timetable */
+
+// What was last read and shown: the department's number, all drafts and the published timetable, the open
+// one of them, and how large exams are.
 const page = {
   department: 0,
-  /** @type {import('./drafts.js').Draft[]} */
+  /** @type {Timetable[]} */
   drafts: [],
-  /** @type {import('./drafts.js').Draft | null} */
+  /** @type {Timetable | null} */
   draft: null,
+  /** @type {number[]} */
+  sizes: [],
 };
 
-/** The open draft; the page shows nothing that needs one while there is none. */
+/** The open timetable; the page shows nothing that needs one while there is none. */
 function openDraft() {
   if (!page.draft) throw new Error('no draft is open');
   return page.draft;
@@ -32,22 +39,33 @@ function openDraft() {
 async function load() {
   const caller = await readUser();
   if (caller === 'office') throw new Refusal(403, { error: 'forbidden', rule: 'department' });
-  page.drafts = await readDrafts();
+  const drafts = await readDrafts();
+  const published = await readPublished();
+  const isOfThem = published && (!drafts.length || drafts[0].places.length === published.places.length);
+  page.drafts = isOfThem ? [...drafts, published] : drafts;
   page.department = Number(caller.replace('dept:', ''));
   const labels = await readLabels();
   const [first] = page.drafts;
   applyLabels(labels, labels && first ? differencesForDepartment(labels, first) : []);
   byId('department').textContent = office.names.labels?.departments[page.department]
     ?? `Department ${page.department}`;
+  await showSizes();
   const open = page.drafts.find(({ number }) => number === page.draft?.number) ?? first;
   page.draft = open ?? null;
   byId('own').hidden = !open;
-  byId('change').hidden = !open || !ownExams().length;
+  byId('change').hidden = true;
   if (!open) return 'There is no draft yet. The examination office makes drafts.';
   showDraft();
   if (ownExams().length) fillForm();
   return ownExams().length ? count(ownExams().length, 'exam')
     : 'No exam is listed for your department. Please tell the registry.';
+}
+
+/** Reads how large exams are, if the names are those of the same ledger. */
+async function showSizes() {
+  const found = await readSizes(office.names.labels);
+  page.sizes = found?.sizes ?? [];
+  byId('sizes-at').replaceChildren(...(found ? ['Candidates were counted on ', moment(found.at), '.'] : []));
 }
 
 /** The department's exams as the labels have them; without labels all exams. */
@@ -58,6 +76,11 @@ function ownExams() {
 
 // ---- One draft
 
+/** Whether the published timetable is open, which is only shown. */
+const isPublished = () => openDraft().number === PUBLISHED;
+
+const numeralOrNone = (number) => (number === undefined ? '' : numeral(number));
+
 const below = (words) => element('span', { class: 'below' }, words);
 
 /** A cell with its column's head, which a phone shows before it. */
@@ -67,6 +90,7 @@ const { compare } = new Intl.Collator();
 /** @type {Record<string, (one: any, other: any) => number>} */
 const ORDERS = {
   exam: (one, other) => one.exam - other.exam,
+  size: (one, other) => (page.sizes[other.exam] ?? 0) - (page.sizes[one.exam] ?? 0) || one.exam - other.exam,
   code: (one, other) => compare(office.names.exam(one.exam), office.names.exam(other.exam)),
   period: (one, other) => (one.period ?? -1) - (other.period ?? -1) || one.room - other.room,
   room: (one, other) => (one.room ?? -1) - (other.room ?? -1) || one.period - other.period,
@@ -100,7 +124,8 @@ function placeRow({ exam, period, room }) {
   headedCell('Period', period === null ? 'not placed' : names.period(period)),
   headedCell('Room', room === null ? '' : names.roomInBuilding(room),
     room !== null && seats !== undefined && below(count(seats, 'seat'))),
-  cell(choose));
+  headedCell('Candidates', numeralOrNone(page.sizes[exam])),
+  cell(isPublished() ? '' : choose));
 }
 
 function showPlaces() {
@@ -115,7 +140,9 @@ function showDraft() {
   const draft = openDraft();
   const own = new Set(ownExams());
   byId('draft-title').textContent = draft.name;
-  byId('draft-points').textContent = `${count(draft.penalty.total, 'point')}. ${verdict(draft)}.`;
+  byId('draft-points').replaceChildren(`${count(draft.penalty.total, 'point')}. `,
+    ...(draft.at ? ['Published on ', moment(draft.at), '.'] : [`${verdict(draft)}.`]));
+  byId('change').hidden = isPublished() || !own.size;
   byId('violations').replaceChildren(...draft.breaches
     .filter(({ exam, other }) => own.has(exam) || own.has(other))
     .map(({ rule, exam, other }) => element('li', {}, element('b', {}, rule), ' ',
@@ -257,8 +284,10 @@ for (const way of /** @type {('undo' | 'redo')[]} */ (['undo', 'redo'])) {
 for (const field of ['edit-exam', 'edit-kind']) byId(field).addEventListener('change', chooseExam);
 byId('own-words').addEventListener('input', showPlaces);
 byId('own-order').addEventListener('change', showPlaces);
-byId('draft-number').addEventListener('change', () => showProgress('Opening the draft …', async () => {
-  const chosen = await readAgain(Number(byId('draft-number').value));
+byId('draft-number').addEventListener('change', () => showProgress('Opening the timetable …', async () => {
+  const number = Number(byId('draft-number').value);
+  const chosen = number === PUBLISHED ? await readPublished() : await readAgain(number);
+  if (!chosen) throw new Refusal(404, { error: 'publication' });
   page.draft = chosen;
   showDraft();
   chooseExam();

@@ -32,7 +32,7 @@ export async function isSealed(text) {
  * Reads a file of names: its content, and whether its lines have their digest. Null if there is none,
  * or if it can't be read.
  */
-async function readSealed(path) {
+export async function readSealed(path) {
   try {
     const reply = await fetch(path, { cache: 'no-cache' });
     if (!reply.ok) return null;

@@ -8,10 +8,10 @@ import shutil
 from collections.abc import Iterable
 
 from .ledger import NAME, Ledger
-from .made_files import files_of, is_sealed, state_in, students_text
+from .made_files import files_of, is_sealed, sizes_text, state_in, students_text
 from .office import are_of_another_session
 
-NOW, STATES, STUDENTS = "now", "states", "students.json"
+NOW, STATES, STUDENTS, SIZES = "now", "states", "students.json", "sizes.json"
 SEALED = ("labels.json", STUDENTS, "callers")
 OLD = ("session.exam", "labels.json", "students.json")
 
@@ -21,6 +21,15 @@ def write_file(path: pathlib.Path, text: str, mode: int = 0o640) -> None:
     flags = os.O_WRONLY | os.O_CREAT | os.O_EXCL | os.O_NOFOLLOW
     with open(os.open(path, flags, mode), "w", encoding="utf-8", newline="\n") as file:
         file.write(text)
+
+
+def exchange(path: pathlib.Path, text: str) -> None:
+    """Writes a file, or writes it again, in one step."""
+    part = path.with_name(f".{path.name}.part")
+    part.unlink(missing_ok=True)
+    write_file(part, text)
+    sync(part)
+    part.replace(path)
 
 
 def sync(path: pathlib.Path) -> None:
@@ -68,19 +77,16 @@ class Folder:
         self.remove_but(number, number - 1)
 
     def refresh(self, ledger: Ledger, by: str) -> None:
-        """Brings the files up to date after a batch. If nobody is new, only students.json differs,
-        and it is exchanged in one step."""
+        """Brings the files up to date after a batch. If nobody is new, only students.json and
+        sizes.json differ, and each is exchanged in one step."""
         last, digest = ledger.last_state(), ledger.digest()
         if not last or last != (self.current(), digest):
             state = ledger.add_state(by)
             ledger.keep()
             self.make_files(ledger, *state)
             return
-        part = self.path / NOW / f".{STUDENTS}.part"
-        part.unlink(missing_ok=True)
-        write_file(part, students_text(ledger, digest))
-        sync(part)
-        part.replace(self.path / NOW / STUDENTS)
+        exchange(self.path / NOW / SIZES, sizes_text(ledger, digest))
+        exchange(self.path / NOW / STUDENTS, students_text(ledger, digest))
 
     def switch(self, number: int) -> None:
         """Lets `now` lead to a state."""

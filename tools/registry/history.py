@@ -15,10 +15,11 @@ import sqlite3
 from collections.abc import Iterator
 from typing import Any
 
+from .folder import NOW, exchange
 from .ledger import now
 from .office import Office, Refused
 
-NAME = "history.db"
+NAME, SHOWN = "history.db", "published.json"
 TABLES = """
 CREATE TABLE IF NOT EXISTS about (key TEXT PRIMARY KEY, value TEXT NOT NULL);
 CREATE TABLE IF NOT EXISTS publications (number INTEGER PRIMARY KEY, at TEXT NOT NULL,
@@ -257,13 +258,18 @@ def follow(db: sqlite3.Connection, log: pathlib.Path, session: str, is_only: boo
 
 def look(history: History, office: Office, log: pathlib.Path | None, session: str, is_only: bool,
          most: int) -> None:
-    """Notes what happened since the last look, and keeps a new publication."""
+    """Notes what happened since the last look, keeps a new publication, and shows the last one."""
     with history.opened() as db:
         if log:
             follow(db, log, session, is_only)
         pending, is_first = noted(db, "pending"), noted(db, "begun") is None
-    if not pending and not is_first:
-        return
+    if pending or is_first:
+        keep_new(history, office, pending, most)
+    show_last(history)
+
+
+def keep_new(history: History, office: Office, pending: dict[str, Any] | None, most: int) -> None:
+    """Keeps the office's publication, if it has one."""
     try:
         found = steady_publication(office)
     except Refused as refusal:
@@ -277,3 +283,18 @@ def look(history: History, office: Office, log: pathlib.Path | None, session: st
         if noted(db, "pending") == pending:
             note(db, "pending", None)
         note(db, "begun", True)
+
+
+def show_last(history: History) -> None:
+    """Writes when and where exams are published, without people, for departments; if that is
+    another publication than the one that is there."""
+    path = history.path.parent / NOW / SHOWN
+    with history.reading() as db:
+        number = last_number(db)
+        if not number or path.exists() and json.loads(path.read_text())["publication"] == number:
+            return
+        at, points, solution = db.execute(
+            "SELECT at, points, solution FROM publications WHERE number = ?", (number,)).fetchone()
+    exchange(path, json.dumps({
+        "publication": number, "at": at, "points": points,
+        "places": [numbers_in(line) for line in solution.splitlines()]}))

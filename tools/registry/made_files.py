@@ -8,7 +8,7 @@ from collections.abc import Collection, Iterator, Mapping
 from typing import Any
 
 from .changes import base_pairs, changes_here
-from .ledger import Ledger
+from .ledger import Ledger, now
 from .session import TEXTS, WEIGHTS, Session
 
 MOST_BYTES = 4_194_304
@@ -134,6 +134,15 @@ def changed_here(ledger: Ledger) -> list[dict[str, Any]]:
              "by": made.by} for pair, made in changes_here(ledger).items() if pair in differing]
 
 
+def sizes_text(ledger: Ledger, state: str) -> str:
+    """For the office and departments: how many candidates each exam has, and when they were
+    counted."""
+    sizes = [0] * len(ledger.session().exams)
+    for _, exam in ledger.expected_pairs():
+        sizes[exam] += 1
+    return sealed_json({"at": now(), "sizes": sizes}, state)
+
+
 def session_file(ledger: Ledger, session: Session) -> str:
     """The session's file as it was made, for the office to load."""
     return session_text(session, candidates_of(ledger.loaded_pairs()), session.weights)
@@ -149,6 +158,7 @@ def files_of(ledger: Ledger, state: str) -> Iterator[tuple[str, str]]:
     yield "session.exam", session_file(ledger, session)
     yield "labels.json", sealed_json(labels_of(session), state)
     yield "students.json", students_text(ledger, state)
+    yield "sizes.json", sizes_text(ledger, state)
     for student in ledger.students():
         yield f"names/{student.number}.json", sealed_json(
             {"number": student.number, "id": student.id, "name": student.name}, state)
