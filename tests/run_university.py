@@ -266,28 +266,31 @@ def published_twice(run, stack):
 def places_beside_edits(run, times, office):
     """Ten places of each of ten exams, chosen by a fixed seed: the edit that moves the exam there
     answers what its line says."""
-    chosen = random.Random(2027)
-    with office.connect() as client:
-        def told(method, path, body=b""):
+    chosen, took = random.Random(2027), []
+
+    def told(method, path, body=b""):
+        # A connection ends after 100 messages.
+        with office.connect() as client:
             client.sendall(message(method, f"/drafts/2{path}", body))
             return one_reply(client)
 
-        told("PUT", "", (UNIVERSITY / "timetable.sol").read_bytes())
-        draft = json.loads(told("GET", "")[1])["exams"]
-        for one in chosen.sample(draft, 10):
-            path = f"/exams/{one['exam']}"
-            with times.of(f"every place of exam {one['exam']}"):
-                listed = told("GET", f"{path}/places")[1].decode().splitlines()[1:]
-            for line in chosen.sample(listed, 10):
-                period, room, *said = line.split(",")
-                status, reply = told("POST", f"{path}/move",
-                                     at(int(period), int(room)))
-                reply = json.loads(reply)
-                run.judge(f"exam {one['exam']} at {period}, {room}", said,
-                          [str(reply["penalty"]), "", "", ""] if status == 200 else
-                          ["", reply["rule"], str(reply["exam"]), str(reply["other"])])
-                if status == 200:
-                    told("POST", f"{path}/move", at(one["period"], one["room"]))
+    told("PUT", "", (UNIVERSITY / "timetable.sol").read_bytes())
+    draft = json.loads(told("GET", "")[1])["exams"]
+    for one in chosen.sample(draft, 10):
+        path = f"/exams/{one['exam']}"
+        began = time.monotonic()
+        listed = told("GET", f"{path}/places")[1].decode().splitlines()[1:]
+        took.append(time.monotonic() - began)
+        for line in chosen.sample(listed, 10):
+            period, room, *said = line.split(",")
+            status, reply = told("POST", f"{path}/move", at(int(period), int(room)))
+            reply = json.loads(reply)
+            run.judge(f"exam {one['exam']} at {period}, {room}", said,
+                      [str(reply["penalty"]), "", "", ""] if status == 200 else
+                      ["", reply["rule"], str(reply["exam"]), str(reply["other"])])
+            if status == 200:
+                told("POST", f"{path}/move", at(one["period"], one["room"]))
+    times.lines.append(f"{'every place of an exam, the longest of ten':45} {max(took):6.3f} s")
 
 
 def many_candidates(run, times, front):
