@@ -1,5 +1,5 @@
 #!/usr/bin/env python3
-"""run_ledger.py PROGRAM [--no-browser]: numbers that are given stay, names keep to their session.
+"""run_ledger.py PROGRAM [--no-browser] [--sequences N]: given numbers and their names stay.
 
 A thousand made-up sequences of exports, in other orders, longer, shorter, with other titles and
 with zeros lost: no number of a student, an exam or a room ever moves, and none is given twice. Then
@@ -8,6 +8,7 @@ version. Then, at the size of a university, names that belong to somebody else: 
 them, and the registry's page notices them. A failing case is printed with what was expected and
 what came, and the last line counts the cases.
 """
+import argparse
 import contextlib
 import functools
 import json
@@ -151,11 +152,11 @@ def sequence_fault(seed, folder):
     return None
 
 
-def sequences(first, run):
+def sequences(first, count, run):
     """Each fourth sequence of exports, from one on."""
     base = "/dev/shm" if os.access("/dev/shm", os.W_OK) else None
     with tempfile.TemporaryDirectory(dir=base) as folder:
-        for seed in range(SEED + first, SEED + SEQUENCES, 4):
+        for seed in range(SEED + first, SEED + count, 4):
             run.judge(f"exports of seed {seed}", None, sequence_fault(seed, pathlib.Path(folder)))
 
 
@@ -560,17 +561,18 @@ def noticed(run, office, made, notes):
 
 
 def main():
-    words = [word for word in sys.argv[1:] if word != "--no-browser"]
-    if len(words) != 1:
-        print(__doc__.partition(":")[0], file=sys.stderr)
-        return 2
-    pages = "--no-browser" not in sys.argv
+    words = argparse.ArgumentParser(description=__doc__.partition("\n")[0])
+    words.add_argument("program", type=pathlib.Path)
+    words.add_argument("--no-browser", action="store_true")
+    words.add_argument("--sequences", type=int, default=SEQUENCES)
+    given = words.parse_args()
+    pages = not given.no_browser
     lacking = [*([] if NGINX else ["nginx-light"]), *browser.missing()]
     if pages and lacking:
         print(f"ledger: the page is left out without {' and '.join(lacking)}")
     with tempfile.TemporaryDirectory() as name:
-        run = Run(pathlib.Path(words[0]).resolve(), name, "ledger")
-        run.run_side_by_side({f"{first}": functools.partial(sequences, first)
+        run = Run(given.program.resolve(), name, "ledger")
+        run.run_side_by_side({f"{first}": functools.partial(sequences, first, given.sequences)
                               for first in range(4)}, counted)
         for test in (further_exports, files_are_safe, older_version, users):
             with tempfile.TemporaryDirectory() as folder:
