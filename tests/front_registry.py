@@ -450,6 +450,11 @@ def new_session_on_the_page(run, page, folder):
 
 
 LATE = "student,exam,action\ns3,MATH101,add"
+# How many publications the service has kept.
+KEPT = """const asked = new XMLHttpRequest();
+asked.open('GET', '/-/registry/history', false);
+asked.send();
+return JSON.parse(asked.responseText).publications.length;"""
 
 
 def week_on_the_page(page):
@@ -479,13 +484,14 @@ def week_on_the_page(page):
             "click #menu [data-to=timetable] a", "click #cards li:nth-child(2) a", *publish], {
             "said": "Draft 1 is published; the seats of 1 candidate have changed."}),
         ("everybody has a seat", ["click #menu [data-to=seats] a", "click #seatless"], {
-            "texts #seat-found tbody tr": []}),
-        ("what happened", "click #menu [data-to=history] a", {
-            "texts #history-found td:nth-child(2)": ["registry"] * 6,
-            "texts #history-found tr:nth-child(4) td:nth-child(3)": [
-                f"PHYS102 moved to {hall}, in draft 1"],
-            "texts #history-found tr:last-child td:nth-child(3)": [
-                "Exams given to their owners, PHYS102 the last one"]}))
+            "texts #seat-found tbody tr": []}))
+    browser.until("the service has looked", lambda: page.reader.run(KEPT) == 2)
+    page.steps(("what happened", "click #menu [data-to=history] a", {
+        "texts #history-found td:nth-child(2)": ["registry"] * 6,
+        "texts #history-found tr:nth-child(4) td:nth-child(3)": [
+            f"PHYS102 moved to {hall}, in draft 1"],
+        "texts #history-found tr:last-child td:nth-child(3)": [
+            "Exams given to their owners, PHYS102 the last one"]}))
 
 
 # ---- Lists to print

@@ -243,6 +243,10 @@ def pages_in_error(run, chromium, front, office):
 def pictures(chromium, front, folder):
     """Pictures of the pages, for docs/."""
     folder.mkdir(parents=True, exist_ok=True)
+    labels = front.folder / "labels"
+    (labels / "sizes.json").write_text(json.dumps({
+        "at": "2005-04-01T12:00:00Z", "sizes": [2, 2, 1, 1],
+        "ledger": json.loads((labels / "labels.json").read_text())["ledger"]}))
     for name, user, more in (("candidate-phone", "cleo", {"width": 390, "height": 700}),
                              ("candidate-desktop", "ben", {"width": 900, "height": 700}),
                              ("department-desktop", "physics", {"width": 900, "height": 800}),
