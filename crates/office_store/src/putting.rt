@@ -9,7 +9,7 @@ ghost use Rattle.office_store.specs.NewPublications.{AreSmallShares};
 use crate::new_publication::NewPublication;
 use office_tables::{
     Alteration, Both, DeleteMeta, DeletePartShares, Each, InsertMeta, InsertPartShares,
-    InsertPlacements, InsertSeats,
+    InsertPlacements, InsertSeats, InsertStudentShares,
 };
 use sqlite::{Alter, Error, Transaction};
 
@@ -80,8 +80,8 @@ fn put_shares<S: Alter>(tx: &mut Transaction<'_, S>, new: &NewPublication) -> Re
         first: Each {
             alterations: &new.deleted_shares,
         },
-        second: Each {
-            alterations: &new.students,
+        second: InsertStudentShares {
+            rows: &new.students,
         },
     };
     let parts = Both {

@@ -1,5 +1,5 @@
 -- The statements on the tables share_student and night_share, and their effects.
-use Rattle.std.proofs.Common.{ℕ, pos, List, [], ◌∷◌, filter, not, ◌==◌, codes, Ok, arith, refl}
+use Rattle.std.proofs.Common.{◌≡◌, ℕ, pos, List, [], ◌∷◌, ◌++◌, filter, flat_map, length, not, reverse, ◌==◌, codes, Ok, arith, refl}
 use Rattle.sqlite_value.specs.declared.value.Value.TheVariants.{Int}
 use Rattle.sqlite.specs.Listing.{understood}
 use Rattle.sqlite.specs.State.{State, Executes}
@@ -13,7 +13,7 @@ use Rattle.office_tables.specs.Tables.{Tables}
 use Rattle.office_tables.specs.TablesHeld.{HoldsTables, all_columns}
 use Rattle.office_tables.proofs.DeleteLemmas.{IsDelete, delete_sound, deleted}
 use Rattle.office_tables.proofs.Frames.{all_shown, tables_held}
-use Rattle.office_tables.proofs.InsertLemmas.{insert_sound, row_added}
+use Rattle.office_tables.proofs.InsertLemmas.{insert_sound, row_added, rows_added}
 use Rattle.office_tables.proofs.Rows.{student_shares, share_nights}
 
 -- ---- INSERT
@@ -42,6 +42,38 @@ added old mid new row first second t represents h k =
       tables_held new.now (record t { share_student = row ∷ t.share_student })
           (row_added share_nights _ insert_night_means mid new row t.share_student second _ refl one k),
       λ _. insert_sound insert_night_means _ mid new second one.schema k,
+    )
+
+-- ---- INSERT of sixteen rows
+
+abbrev pub sixteen_text : List ℕ
+sixteen_text =
+    codes "INSERT INTO share_student (student, in_row, in_day, spread) VALUES (?, ?, ?, ?), (?, ?, ?, ?), (?, ?, ?, ?), (?, ?, ?, ?), (?, ?, ?, ?), (?, ?, ?, ?), (?, ?, ?, ?), (?, ?, ?, ?), (?, ?, ?, ?), (?, ?, ?, ?), (?, ?, ?, ?), (?, ?, ?, ?), (?, ?, ?, ?), (?, ?, ?, ?), (?, ?, ?, ?), (?, ?, ?, ?)"
+
+sixteen_means : IsInsert 7 share_student_table.key 4 16 sixteen_text
+unfolding understood everything
+sixteen_means = record { is = refl; plain = (refl, refl); many = refl }
+
+abbrev pub sixteen_nights_text : List ℕ
+sixteen_nights_text =
+    codes "INSERT INTO night_share (student, night) VALUES (?, ?), (?, ?), (?, ?), (?, ?), (?, ?), (?, ?), (?, ?), (?, ?), (?, ?), (?, ?), (?, ?), (?, ?), (?, ?), (?, ?), (?, ?), (?, ?)"
+
+sixteen_nights_means : IsInsert 11 night_share_table.key 2 16 sixteen_nights_text
+unfolding understood everything
+sixteen_nights_means = record { is = refl; plain = (refl, refl); many = refl }
+
+pub sixteen_added : (old mid new : State) (rows : List StudentShareRow) (first second : ℕ)
+    (t : Tables) → length rows ≡ 16 → HoldsTables old.now t
+    → Executes sixteen_text (flat_map share_student_columns rows) old mid (Ok first)
+    → Executes sixteen_nights_text (flat_map night_share_columns rows) mid new (Ok second)
+    → IsWritten (record t { share_student = reverse rows ++ t.share_student }) old.now new.now
+sixteen_added old mid new rows first second t long represents h k =
+    let one = rows_added student_shares 16 _ sixteen_means old mid rows t.share_student long first
+    (all_columns t) refl (all_shown old.now t represents) h in (
+      tables_held new.now (record t { share_student = reverse rows ++ t.share_student })
+          (rows_added share_nights 16 _ sixteen_nights_means mid new rows t.share_student long
+          second _ refl one k),
+      λ _. insert_sound sixteen_nights_means _ mid new second one.schema k,
     )
 
 -- ---- DELETE WHERE student = ?1

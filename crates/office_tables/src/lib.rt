@@ -48,7 +48,9 @@ pub use query::Query;
 pub use seat::{DeleteSeat, InsertSeat, InsertSeats, SeatRow};
 pub use share_part::{DeletePartShares, InsertPartShare, InsertPartShares, PartShareRow};
 pub use share_queries::{PartShares, StudentShares, StudentSharesOf};
-pub use share_student::{DeleteStudentShare, InsertStudentShare, StudentShareRow};
+pub use share_student::{
+    DeleteStudentShare, InsertStudentShare, InsertStudentShares, StudentShareRow,
+};
 pub use slot::{DeleteSlot, DeleteSlots, InsertSlot, InsertSlots, SlotRow};
 pub use table::{Insert, InsertAll};
 pub use version::Version;

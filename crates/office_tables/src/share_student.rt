@@ -1,22 +1,24 @@
 // Shares of students in the penalty of the publication. The part over night is in a table of its
 // own.
-ghost use Rattle.std.specs.Prelude.{◌≡◌};
+ghost use Rattle.std.specs.Prelude.{◌≡◌, ◌<◌, All, length, map, slice_index_or};
 ghost use Rattle.sqlite.specs.Held.{state};
-ghost use Rattle.sqlite.specs.Values.{bound};
+ghost use Rattle.sqlite_value.specs.declared.value.Value.TheVariants.{Int};
 ghost use Rattle.office_tables.specs.Adopting.{HaveShares};
+ghost use Rattle.office_tables.specs.Alterations.{after_all};
 ghost use Rattle.office_tables.specs.Finders.{Adopts};
 ghost use Rattle.office_tables.specs.Joining.{AreFound};
+ghost use Rattle.office_tables.specs.Steps.{Changes, Within};
 ghost use Rattle.office_tables.specs.ShareStudent.{bare_share_columns, night_share_columns, share_student_columns, with_student_share, without_student_share, AreStudentAmounts, FitsStudentShare};
 
-use crate::altering::Alteration;
+use crate::altering::{Alteration, Each};
 use crate::amounts::signed_amount;
 use crate::nights::{HasNight, adopt_with_nights};
 use crate::records::Record;
-use crate::running::run;
+use crate::running::{run, run_with};
 use crate::version::Version;
-use sqlite::types::ValueRef;
 use sqlite::{Alter, Connection, Error, Row, Transaction, params};
 use std::alloc::Global;
+use std::array;
 
 /// A candidate's share of the penalty.
 #[derive(Clone, Copy, Debug, PartialEq, Eq)]
@@ -82,41 +84,103 @@ impl Alteration for InsertStudentShare {
     ghost fits = { λ it. AreStudentAmounts it.row };
 
     fn apply<S: Alter>(&self, tx: &mut Transaction<'_, S>) -> Result<(), Error> {
-        run(
+        run_with(
             tx,
             "INSERT INTO share_student (student, in_row, in_day, spread) VALUES (?1, ?2, ?3, ?4)",
-            &student_columns(self.row),
+            &student_numbers(self.row),
         )?;
-        run(
+        run_with(
             tx,
             "INSERT INTO night_share (student, night) VALUES (?1, ?2)",
-            &night_columns(self.row),
+            &night_numbers(self.row),
         )
     }
 }
 
+/// Adds students' shares in their order: sixteen with each two statements, and the rest one by one.
+#[derive(Clone, Copy)]
+pub struct InsertStudentShares<'a> {
+    pub rows: &'a [InsertStudentShare],
+}
+
+impl Alteration for InsertStudentShares<'_> {
+    ghost alteration = { λ it t. after_all (λ it. with_student_share it.row) it.rows.now t };
+
+    ghost fits = { λ it. All (λ it. AreStudentAmounts it.row) it.rows.now };
+
+    fn apply<S: Alter>(&self, tx: &mut Transaction<'_, S>) -> Result<(), Error> {
+        let mut left = self.rows;
+        'chunks: while let Some((chunk, rest)) = left.split_at_checked(16) {
+            insert_sixteen(tx, chunk)?;
+            left = rest;
+        }
+        Each { alterations: left }.apply(tx)
+    }
+}
+
+// Adds sixteen shares with one statement for each table.
+fn insert_sixteen<S: Alter>(
+    tx: &mut Transaction<'_, S>,
+    rows: &[InsertStudentShare],
+) -> Result<(), Error>
+    requires count { length rows.now ≡ 16 }
+    requires fits { All (λ it. AreStudentAmounts it.row) rows.now }
+    ensures same_reference { tx.new.conn.ghost_name ≡ tx.old.conn.ghost_name }
+    ensures makes { Changes S.Store (after_all (λ it. with_student_share it.row) rows.now)
+        tx.old.conn.now tx.new.conn.now result }
+    ensures within { Within (state S.Store tx.old.conn.now) (state S.Store tx.new.conn.now) }
+{
+    let students = array::from_fn::<_, 16, _>(
+        |i| -> [i64; 4]
+            requires { (i < length rows.now) × All (λ it. AreStudentAmounts it.row) rows.now }
+            ensures { (d : _) → map Int result
+                ≡ share_student_columns (slice_index_or rows.entry.now i d).row }
+        { student_numbers(rows[i].row) },
+    );
+    let nights = array::from_fn::<_, 16, _>(
+        |i| -> [i64; 2]
+            requires { (i < length rows.now) × All (λ it. AreStudentAmounts it.row) rows.now }
+            ensures { (d : _) → map Int result
+                ≡ night_share_columns (slice_index_or rows.entry.now i d).row }
+        { night_numbers(rows[i].row) },
+    );
+    run_with(
+        tx,
+        "INSERT INTO share_student (student, in_row, in_day, spread) VALUES \
+         (?, ?, ?, ?), (?, ?, ?, ?), (?, ?, ?, ?), (?, ?, ?, ?), \
+         (?, ?, ?, ?), (?, ?, ?, ?), (?, ?, ?, ?), (?, ?, ?, ?), \
+         (?, ?, ?, ?), (?, ?, ?, ?), (?, ?, ?, ?), (?, ?, ?, ?), \
+         (?, ?, ?, ?), (?, ?, ?, ?), (?, ?, ?, ?), (?, ?, ?, ?)",
+        students.as_flattened(),
+    )?;
+    run_with(
+        tx,
+        "INSERT INTO night_share (student, night) VALUES \
+         (?, ?), (?, ?), (?, ?), (?, ?), (?, ?), (?, ?), (?, ?), (?, ?), \
+         (?, ?), (?, ?), (?, ?), (?, ?), (?, ?), (?, ?), (?, ?), (?, ?)",
+        nights.as_flattened(),
+    )
+}
+
 // Returns the columns of a share in the first table.
-fn student_columns(row: StudentShareRow) -> [ValueRef<'static>; 4]
+fn student_numbers(row: StudentShareRow) -> [i64; 4]
     requires amounts { AreStudentAmounts row }
-    ensures { bound result ≡ share_student_columns row }
+    ensures { map Int result ≡ share_student_columns row }
 {
     [
-        ValueRef::Int(i64::from(row.student)),
-        ValueRef::Int(signed_amount(row.in_row)),
-        ValueRef::Int(signed_amount(row.in_day)),
-        ValueRef::Int(signed_amount(row.spread)),
+        i64::from(row.student),
+        signed_amount(row.in_row),
+        signed_amount(row.in_day),
+        signed_amount(row.spread),
     ]
 }
 
 // Returns the columns of a share in the second table.
-fn night_columns(row: StudentShareRow) -> [ValueRef<'static>; 2]
+fn night_numbers(row: StudentShareRow) -> [i64; 2]
     requires amounts { AreStudentAmounts row }
-    ensures { bound result ≡ night_share_columns row }
+    ensures { map Int result ≡ night_share_columns row }
 {
-    [
-        ValueRef::Int(i64::from(row.student)),
-        ValueRef::Int(signed_amount(row.night)),
-    ]
+    [i64::from(row.student), signed_amount(row.night)]
 }
 
 /// Deletes a student's share.

@@ -6,10 +6,10 @@ use Rattle.office_tables.proofs.share_student.InsertStudentShareAlteration.apply
 pub returns-clause-makes : goal.returns-clause-makes
 returns-clause-makes g c clean inside =
     let old = state g.S.Store c.args.tx.now.conn.now in
-    let mid = state g.S.Store c.run.new.tx.conn.now in
-    let new = state g.S.Store c.run-2.new.tx.conn.now in
-    let clean_1 = clean_before mid new c.run-2.ensures.within clean in
-    let first = rw c.student_columns.ensures at (c.in_ok-run.ensures.ran clean_1 inside) in
-    changes_by_two _ _ _ _ _ old mid new c.run-2.result
+    let mid = state g.S.Store c.run_with.new.tx.conn.now in
+    let new = state g.S.Store c.run_with-2.new.tx.conn.now in
+    let clean_1 = clean_before mid new c.run_with-2.ensures.within clean in
+    let first = rw c.student_numbers.ensures at (c.in_ok-run_with.ensures.ran clean_1 inside) in
+    changes_by_two _ _ _ _ _ old mid new c.run_with-2.result
     (added old mid new c.args.self.now.row)
-    first (rw c.night_columns.ensures at (c.run-2.ensures.ran clean first.inside))
+    first (rw c.night_numbers.ensures at (c.run_with-2.ensures.ran clean first.inside))
