@@ -1,13 +1,18 @@
 """Further cases of the office over sockets, which run_serve.py sends and no sweep does: streams
 that are no plain requests, edits and owners, and the texts of batches."""
 from serve_cases import (
-    COINCIDING, EMPTY, FROM_SOLUTION, NIGHTLY, NIGHTS, PENALTY, SHOWN, SMALL, SMALLEST, VIOLATIONS,
-    asked_by, bad_file, batch, broken, case, clear, cost, drafted, enrolled, error, forbidden,
-    me, message, move, place, publish, published, reply, report, swap, text)
+    COINCIDING, EMPTY, FROM_SOLUTION, NIGHTLY, NIGHTS, PENALTY, SHOWN, SMALL, SMALLEST,
+    SOLUTION, VIOLATIONS, asked_by, bad_file, batch, broken, case, clear, cost, drafted,
+    enrolled, error, forbidden, me, message, move, place, publish, published, reply, report,
+    swap, text)
 
 ASKED = asked_by(99), me(99, 0)
 REQUEST, LENGTH = error(400, "request"), error(413, "length")
 DRAFT = message("GET", "/drafts/1")
+# Questions for the violations of drafts 1 and 2, and replies.
+NO_BREACH, OTHERS = ((message("GET", f"/drafts/{draft}/violations"), text("breaches 0\n"))
+                     for draft in (1, 2))
+AFTER, CAPACITY = (VIOLATIONS, text("breaches 1\nAfter 1 0\n")), text("breaches 1\nCapacity 0 0\n")
 LOADED = reply(201, '{"exams":4,"pairs":6,"periods":4,"rooms":2}')
 
 
@@ -190,6 +195,22 @@ EDITS = [
          (place(0, 0, 0, "dept:999"), error(409, "already-placed")),
          (owner(0, 0), owned(0, 0)),
          (place(0, 0, 0, "dept:999"), forbidden("P3"))),
+    case("violations, asked again after each change", SMALL,
+         (message("PUT", "/drafts/1", b"3, 0\n1, 0\n3, 1\n2, 0\n"), drafted(201, 34)),
+         (message("PUT", "/drafts/2", SOLUTION), reply(201, '{"draft":2,"penalty":37}')),
+         *[AFTER] * 2, *[OTHERS] * 2, AFTER,
+         # Its students' row, 7, for a period of 5 and a room of 7.
+         (move(2, 0, 0), drafted(200, 29)), AFTER,
+         # The row is student 1's, not student 3's, and the largest exam is not late.
+         (swap(0, 1), drafted(200, 25)), *[NO_BREACH] * 2,
+         # Four sit exam 0, in the room of three.
+         (batch(1, "7,0,add", "8,0,add"), enrolled(1, 2, 0, 0)),
+         *[(VIOLATIONS, CAPACITY)] * 2, (OTHERS[0], CAPACITY),
+         (batch(2, "9,0,drop"), enrolled(2, 0, 0, 1)), (VIOLATIONS, CAPACITY),
+         (clear(0), drafted(200, 16)), *[NO_BREACH] * 2, (OTHERS[0], CAPACITY),
+         (message("DELETE", "/drafts/1"), reply(200, '{"draft":1}')),
+         (VIOLATIONS, error(404, "draft")), (OTHERS[0], CAPACITY),
+         (EMPTY, drafted(201, 0)), NO_BREACH),
 ]
 
 HEADER = b"student,exam,action\n"

@@ -5,7 +5,7 @@ import subprocess
 from refusing import (
     COMMANDS, MEMORY, NO_MEMORY, SECONDS, STORE_FAULT, UNAVAILABLE, Office, connection_fault,
     copy_database, filled_log, is_change, read_rows)
-from serve_cases import CASES, EXAMPLES
+from serve_cases import CASES, EXAMPLES, VIOLATIONS
 
 SMALL = EXAMPLES / "small.exam"
 REFUSALS = {(1, b"", NO_MEMORY): "no memory", (1, b"", STORE_FAULT): "store fault 8"}
@@ -48,6 +48,10 @@ def message_in_turn(run, office, name, question, answer):
     it, until a run meets no refusal; returns how many got no reply. A run that isn't answered
     changes nothing that the office shows; one that is answered does what ample memory does."""
     before, after, unanswered = office.shown(), [], 0
+    # A server keeps violations that it has shown, so a second look needs less memory.
+    is_first_look = question == VIOLATIONS
+    if is_first_look:
+        office.reset()
     for k in itertools.count(1):
         for is_for_good in False, True:
             came, refused = office.reply_under(question, MEMORY, k, is_for_good)
@@ -65,7 +69,7 @@ def message_in_turn(run, office, name, question, answer):
             else:
                 run.record("answered", this, answer, came)
                 after.append(shown)
-            if office.first or shown != before or is_change(question, came):
+            if office.first or shown != before or is_first_look or is_change(question, came):
                 office.reset()
 
 

@@ -183,6 +183,16 @@ def sent_message(rng, text, size, sent):
         "load": lambda: message("PUT", "/instance", text)}[kind]()
 
 
+def with_violations(rng, messages):
+    """The messages, with questions for a draft's violations between them, some twice in a row: the
+    office keeps the violations until the draft changes."""
+    for one in messages:
+        yield one
+        if rng.random() < 0.3:
+            path = f"/drafts/{rng.choice('1123')}/violations"
+            yield from [message("GET", path)] * rng.randint(1, 2)
+
+
 def script(seed):
     """The connections of a script: what is done before each, and the messages over it."""
     rng, sent = random.Random(seed), {}
@@ -193,8 +203,8 @@ def script(seed):
     connections = []
     for index in range(rng.randint(2, 7)):
         messages = [sent_message(rng, text, size, sent) for _ in range(rng.randint(1, 25))]
-        connections.append((rng.choice(BETWEEN) if index else "", [*(first if not index else []),
-                                                                   *messages]))
+        messages = [*(first if not index else []), *with_violations(rng, messages)]
+        connections.append((rng.choice(BETWEEN) if index else "", messages))
     return connections
 
 

@@ -7,7 +7,8 @@ use Rattle.office_records.specs.Found.{AreDrafts}
 use Rattle.office_records.specs.FoundPublications.{AreFound, publication_from}
 use Rattle.office_records.specs.Memory.{AreTogether, Memory, memory_of}
 use Rattle.office_records.specs.Representation.{IsSound, TablesRepresentOffice, TablesRepresentRecords}
-use Rattle.office_store.specs.Memory.{AreNoDrafts, AreSuited, IsDraftOf, IsTogether, draft_at, scored_draft}
+use Rattle.office_store.proofs.TogetherLemmas.{no_one}
+use Rattle.office_store.specs.Memory.{AreNoDrafts, AreSuited, AreUnjudged, IsDraftOf, IsTogether, draft_at, scored_draft}
 use Rattle.office_store.specs.declared.memory.Draft.{Draft}
 use Rattle.office_store.specs.declared.memory.OfficeMemory.{OfficeMemory}
 
@@ -47,11 +48,13 @@ drafts_represent t (Some r) represents sound is kept memory none loaded =
 
 pub found_together : (n : OfficeMemory) → AreTogether n.kept
     → IfSome n.kept (λ k. AreSuited k.0 n.drafts)
-    → IfSome n.kept (λ k. AreFound k.0 (publication_from n.published)) → IsTogether n
-found_together n exams suited found = record {
+    → IfSome n.kept (λ k. AreFound k.0 (publication_from n.published)) → AreUnjudged n.judged
+    → IsTogether n
+found_together n exams suited found unjudged = record {
   exams = exams;
   drafts = λ I E kept.
       subst (λ (k : Memory). IfSome k (λ k. AreSuited k.0 n.drafts)) kept suited;
   published = λ I E kept.
       subst (λ (k : Memory). IfSome k (λ k. AreFound k.0 (publication_from n.published))) kept found;
+  judged = λ I E kept d v there draft at. absurd (no_one (unjudged d) there);
 }

@@ -1,6 +1,9 @@
 -- The breaches of a draft that the office shows.
-use Rattle.std.proofs.Common.{◌≡◌, ℕ, List, Option, Some, None, Ok, Err, refl, sym, ◌∙◌, ap, subst}
-use Rattle.std.specs.Prelude.{is_some, unwrap_or}
+use Rattle.std.proofs.Common.{◌≡◌, ◌<◌, ◌≤◌, ℕ, Bool, true, false, List, Option, Some, None, Ok, Err}
+use Rattle.std.proofs.Common.{refl, sym, ◌∙◌, ap, subst, arith}
+use Rattle.std.specs.Prelude.{IfSome, Vec, is_some, nat_le, unwrap_or}
+use Rattle.std.specs.declared.alloc.Global.{Global}
+use Rattle.std.proofs.lemmas.Bool.Decides.{nat_tests}
 use Rattle.exam_model.specs.Enrolments.{Enrolled}
 use Rattle.exam_model.specs.Instance.{Session}
 use Rattle.exam_model.specs.Timetable.{Placing}
@@ -10,10 +13,11 @@ use Rattle.exam_score.specs.Penalty.{Penalty}
 use Rattle.office_model.specs.Commands.{CommandResult}
 use Rattle.office_model.specs.DraftCommands.{draft_shown}
 use Rattle.office_model.specs.Office.{OfficeState, Records}
+use Rattle.office_records.specs.FoundPublications.{publication_from}
 use Rattle.office_records.specs.Memory.{memory_of}
 use Rattle.office_model.specs.declared.fault.StoreFault.TheVariants.{NoDraft}
 use Rattle.office_store.specs.Judging.{draft_judged}
-use Rattle.office_store.specs.Memory.{IsMemoryOf, draft_at}
+use Rattle.office_store.specs.Memory.{HasJudged, IsMemoryOf, draft_at}
 use Rattle.office_store.specs.Running.{CommandOutcome}
 use Rattle.office_store.specs.declared.memory.Draft.{Draft}
 use Rattle.office_store.specs.declared.memory.OfficeMemory.{OfficeMemory}
@@ -67,3 +71,41 @@ none_in_memory_judged m d o is I E kept none =
     judges d o (I, E) (is.session ∙ kept)
     ∙ ap (judgement (I, E))
     (none_in_memory_shown m d o is (ap is_some kept) none)
+
+-- ---- breaches in memory
+
+some_is : {X : Type 0} {x y : X} → Some x ≡ Some y → x ≡ y
+some_is e = cc
+
+-- the breaches of a draft are its breaches, if they are kept
+pub few_right : (m : OfficeMemory) (d : ℕ) (I : Session) (E : Enrolled) → m.kept ≡ Some (I, E)
+    → (draft : Draft) → draft_at m.drafts d ≡ Some draft → (list : List Breach)
+    → list ≡ breaches_of I E draft.timetable → (few : Option (Vec Breach Global))
+    → IfSome few (λ v. v.items ≡ list) → (J : Session) (F : Enrolled) → m.kept ≡ Some (J, F)
+    → IfSome few (λ v. (other : Draft) → draft_at m.drafts d ≡ Some other
+    → v.items ≡ breaches_of J F other.timetable)
+few_right m d I E kept draft at list is None same J F also = tt
+few_right m d I E kept draft at list is (Some v) same J F also =
+    λ other there.
+    let both : ◌≡◌ {A = Session × Enrolled} (I, E) (J, F) = some_is (sym kept ∙ also) in
+    let one : draft ≡ other = some_is (sym at ∙ there) in
+    same ∙ is ∙ (λ i. breaches_of (both i).0 (both i).1 (one i).timetable)
+
+-- the memory is of the same office, whatever breaches are kept
+pub still_memory : (o : OfficeState) (d : ℕ) (found : Option (Vec Breach Global))
+    (m n : OfficeMemory) → IsMemoryOf o m → (d ≤ 8 → HasJudged d found m n) → (8 < d → n ≡ m)
+    → IsMemoryOf o n
+still_memory o d found m n is within beyond = go (nat_le d 8) refl
+  where
+    same : HasJudged d found m n → IsMemoryOf o n
+    same has = record {
+      session = is.session ∙ sym has.kept;
+      batches = is.batches ∙ sym has.batches;
+      drafts = λ e. ap (λ l. draft_at l e) has.drafts ∙ is.drafts e;
+      published = is.published ∙ ap publication_from (sym has.published);
+      priced = is.priced ∙ sym has.priced;
+    }
+
+    go : (b : Bool) → nat_le d 8 ≡ b → IsMemoryOf o n
+    go true there = same (within (grind (arith, nat_tests, there)))
+    go false there = subst (IsMemoryOf o) (sym (beyond (grind (arith, nat_tests, there)))) is

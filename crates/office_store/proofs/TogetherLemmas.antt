@@ -1,5 +1,5 @@
 -- What is in memory fits together, whatever the disk returns.
-use Rattle.std.proofs.Common.{◌≡◌, ℕ, ◌<◌, ◌≤◌, Bool, true, false, eqb, List, length, set, Option, Some, None, refl, sym, ◌∙◌, ap, subst, arith}
+use Rattle.std.proofs.Common.{◌≡◌, ◌≢◌, ℕ, ◌<◌, ◌≤◌, Bool, true, false, eqb, List, length, set, Option, Some, None, refl, sym, ◌∙◌, ap, subst, arith}
 use Rattle.std.specs.Prelude.{IfSome, Vec, nat_le}
 use Rattle.std.specs.declared.alloc.Global.{Global}
 use Rattle.std.proofs.lemmas.Bool.Decides.{nat_tests}
@@ -8,6 +8,8 @@ use Rattle.exam_model.specs.Enrolments.{Enrolled}
 use Rattle.exam_model.specs.Fits.{Fits, Suits}
 use Rattle.exam_model.specs.Instance.{Session}
 use Rattle.exam_model.specs.Timetable.{Placing}
+use Rattle.exam_rules.specs.Breaches.{breaches_of}
+use Rattle.exam_rules.specs.declared.breach.Breach.{Breach}
 use Rattle.exam_score.specs.Penalty.{Penalty}
 use Rattle.exam_publish.specs.Seats.{AreSeated}
 use Rattle.exam_publish.specs.declared.seat_row.SeatRow.{SeatRow}
@@ -15,7 +17,8 @@ use Rattle.office_model.specs.Office.{Publication}
 use Rattle.office_model.specs.Publishing.{publication_rows}
 use Rattle.office_records.specs.FoundPublications.{AreFound, publication_from}
 use Rattle.office_records.specs.Memory.{AreTogether}
-use Rattle.office_store.specs.Memory.{AreSuited, HasPublished, HasPut, IsRenewed, IsTogether, draft_at}
+use Rattle.office_store.specs.Memory.{AreSuited, HasJudged, HasPublished, HasPut, IsRenewed}
+use Rattle.office_store.specs.Memory.{IsTogether, draft_at, judged_at}
 use Rattle.office_store.specs.declared.memory.Draft.{Draft}
 use Rattle.office_store.specs.declared.memory.OfficeMemory.{OfficeMemory}
 
@@ -26,7 +29,7 @@ Publishing = Placing × Vec SeatRow Global
 some_is : {X : Type 0} {x y : X} → Some x ≡ Some y → x ≡ y
 some_is e = cc
 
-no_one : {X : Type 0} {x : X} {o : Option X} → o ≡ None → o ≡ Some x → ⊥
+pub no_one : {X : Type 0} {x : X} {o : Option X} → o ≡ None → o ≡ Some x → ⊥
 no_one none some = cc
 
 -- ---- there is no draft
@@ -55,6 +58,7 @@ pub loaded_together : (I : Session) (E : Enrolled) (n : OfficeMemory) → n.kept
     → length E ≡ length I.exams → ((d : ℕ) → draft_at n.drafts d ≡ None) → n.published ≡ None
     → IsTogether n
 loaded_together I E n kept exams none unpublished = record {
+  judged = λ J F is d found there draft at. absurd (no_one (none d) at);
   exams = subst AreTogether (sym kept) exams;
   drafts = λ J F is d draft at. absurd (no_one (none d) at);
   published = λ J F is.
@@ -64,6 +68,7 @@ loaded_together I E n kept exams none unpublished = record {
 pub unloaded_together : (n : OfficeMemory) → n.kept ≡ None
     → ((d : ℕ) → draft_at n.drafts d ≡ None) → n.published ≡ None → IsTogether n
 unloaded_together n kept none unpublished = record {
+  judged = λ J F is d found there draft at. absurd (no_one (none d) at);
   exams = subst AreTogether (sym kept) tt;
   drafts = λ J F is d draft at. absurd (no_one (none d) at);
   published = λ J F is.
@@ -88,8 +93,23 @@ module _ (d : ℕ) (m n : OfficeMemory) (x : Option Draft) (together : IsTogethe
       (sym (put.others e
       (λ here. let there : eqb e d ≡ true = grind (arith, nat_tests, here) in cc)) ∙ at)
 
+  judged_there : (put : HasPut d x m n) (I : Session) (E : Enrolled) → n.kept ≡ Some (I, E)
+      → (e : ℕ) (b : Bool) → eqb e d ≡ b → (found : Vec Breach Global)
+      → judged_at n.judged e ≡ Some found → (draft : Draft) → draft_at n.drafts e ≡ Some draft
+      → found.items ≡ breaches_of I E draft.timetable
+  judged_there put I E kept e true same found there draft at =
+      let here : e ≡ d = grind (arith, nat_tests, same) in
+      absurd (no_one put.judged (ap (judged_at n.judged) (sym here) ∙ there))
+  judged_there put I E kept e false same found there draft at =
+      let other : e ≢ d
+      = λ here. let there : eqb e d ≡ true = grind (arith, nat_tests, here) in cc in
+      together.judged I E (sym put.kept ∙ kept) e found (sym (put.others_judged e other) ∙ there)
+      draft (sym (put.others e other) ∙ at)
+
   put_in : HasPut d x m n → IsTogether n
   put_in put = record {
+    judged = λ I E kept e found there draft at.
+        judged_there put I E kept e (eqb e d) refl found there draft at;
     exams = subst AreTogether (sym put.kept) together.exams;
     drafts = λ I E kept e draft at. at_number put I E kept e (eqb e d) refl draft at;
     published = λ I E kept.
@@ -131,6 +151,10 @@ pub published_together : (m n : OfficeMemory) (new : Publishing) (penalty : Pena
     → ((I : Session) (E : Enrolled) → m.kept ≡ Some (I, E) → AreFound I (publication_from (Some new)))
     → IsTogether n
 published_together m n new penalty together has found = record {
+  judged = λ I E kept d v there draft at.
+      together.judged I E (sym has.kept ∙ kept) d v
+      (ap (λ l. judged_at l d) (sym has.judged) ∙ there) draft
+      (ap (λ l. draft_at l d) (sym has.drafts) ∙ at);
   exams = subst AreTogether (sym has.kept) together.exams;
   drafts = λ I E kept. subst (AreSuited I) (sym has.drafts)
       (together.drafts I E (sym has.kept ∙ kept));
@@ -148,6 +172,50 @@ published_seats I None found = record {
   own = λ j k row before no. absurd (omega (arith, no));
 }
 published_seats I (Some p) found = found.seated
+
+-- ---- the breaches of a draft
+
+-- breaches of a draft are kept
+pub judged_together : (d : ℕ) (found : Option (Vec Breach Global)) (m n : OfficeMemory)
+    → IsTogether m
+    → ((I : Session) (E : Enrolled) → m.kept ≡ Some (I, E) → IfSome found (λ v. (draft : Draft)
+    → draft_at m.drafts d ≡ Some draft → v.items ≡ breaches_of I E draft.timetable))
+    → (d ≤ 8 → HasJudged d found m n) → (8 < d → n ≡ m) → IsTogether n
+judged_together d found m n together right within beyond = go (nat_le d 8) refl
+  where
+    at_number : HasJudged d found m n → (I : Session) (E : Enrolled) → m.kept ≡ Some (I, E)
+        → (e : ℕ) (b : Bool) → eqb e d ≡ b → (v : Vec Breach Global)
+        → judged_at n.judged e ≡ Some v → (draft : Draft) → draft_at m.drafts e ≡ Some draft
+        → v.items ≡ breaches_of I E draft.timetable
+    at_number has I E kept e true same v there draft at =
+        let here : e ≡ d = grind (arith, nat_tests, same) in
+        let is : found ≡ Some v
+        = sym has.judged ∙ ap (judged_at n.judged) (sym here) ∙ there in
+        subst (λ o. IfSome o (λ v. (draft : Draft) → draft_at m.drafts d ≡ Some draft
+        → v.items ≡ breaches_of I E draft.timetable)) is (right I E kept) draft
+        (ap (draft_at m.drafts) (sym here) ∙ at)
+    at_number has I E kept e false same v there draft at =
+        together.judged I E kept e v
+        (sym (has.others_judged e
+        (λ here. let there : eqb e d ≡ true = grind (arith, nat_tests, here) in cc)) ∙ there)
+        draft at
+
+    put_in : HasJudged d found m n → IsTogether n
+    put_in has = record {
+      exams = subst AreTogether (sym has.kept) together.exams;
+      drafts = λ I E kept. subst (AreSuited I) (sym has.drafts)
+          (together.drafts I E (sym has.kept ∙ kept));
+      published = λ I E kept.
+          subst (λ (p : Option Publishing). AreFound I (publication_from p)) (sym has.published)
+          (together.published I E (sym has.kept ∙ kept));
+      judged = λ I E kept e v there draft at.
+          at_number has I E (sym has.kept ∙ kept) e (eqb e d) refl v there draft
+          (ap (λ l. draft_at l e) (sym has.drafts) ∙ at);
+    }
+
+    go : (b : Bool) → nat_le d 8 ≡ b → IsTogether n
+    go true is = put_in (within (grind (arith, nat_tests, is)))
+    go false is = subst IsTogether (sym (beyond (grind (arith, nat_tests, is)))) together
 
 -- ---- a draft in memory
 
@@ -170,6 +238,10 @@ pub renewed_together : (m n : OfficeMemory) (I : Session) (E : Enrolled) → m.k
     → IfSome F (λ F. length F ≡ length I.exams)
     → AreSuited I drafts → IsTogether n
 renewed_together m n I E kept together None drafts renewed stays exams suited = record {
+  judged = λ J G is d found there draft at.
+      together.judged J G (kept ∙ sym renewed.0 ∙ is) d found
+      (ap (λ l. judged_at l d) (sym renewed.2) ∙ there) draft
+      (ap (λ l. draft_at l d) (sym renewed.1) ∙ at);
   exams = subst AreTogether (kept ∙ sym renewed.0) together.exams;
   drafts = λ J G is. subst (AreSuited J) (sym renewed.1)
       (together.drafts J G (kept ∙ sym renewed.0 ∙ is));
@@ -178,6 +250,7 @@ renewed_together m n I E kept together None drafts renewed stays exams suited = 
       (together.published J G (kept ∙ sym renewed.0 ∙ is));
 }
 renewed_together m n I E kept together (Some F) drafts renewed stays exams suited = record {
+  judged = λ J G is d found there draft at. absurd (no_one (renewed.2 d) there);
   exams = subst AreTogether (sym renewed.0) exams;
   drafts = λ J G is.
       let session : I ≡ J

@@ -7,6 +7,8 @@ use Rattle.exam_model.specs.Fits.{Suits}
 use Rattle.exam_model.specs.Instance.{IsInstance, Session}
 use Rattle.exam_model.specs.Timetable.{Placing}
 use Rattle.exam_publish.specs.declared.seat_row.SeatRow.{SeatRow}
+use Rattle.exam_rules.specs.Breaches.{breaches_of}
+use Rattle.exam_rules.specs.declared.breach.Breach.{Breach}
 use Rattle.exam_score.specs.Penalty.{Penalty}
 use Rattle.exam_score.specs.Track.{track}
 use Rattle.office_tables.specs.declared.draft.DraftRow.{DraftRow}
@@ -52,6 +54,22 @@ priced_in (Some r) = priced_as r.session r.published
 abbrev pub draft_at : List (Option Draft) → ℕ → Option Draft
 draft_at drafts d = slice_index_or drafts d None
 
+-- the breaches in memory of the draft with a number, if they are there
+abbrev pub judged_at : List (Option (Vec Breach Global)) → ℕ → Option (Vec Breach Global)
+judged_at judged d = slice_index_or judged d None
+
+-- the breaches in memory are those of these drafts by these enrolments
+abbrev pub AreJudged : Session → Enrolled → List (Option Draft)
+    → List (Option (Vec Breach Global)) → Type 0
+AreJudged I E drafts judged =
+    (d : ℕ) (found : Vec Breach Global) → judged_at judged d ≡ Some found
+    → (draft : Draft) → draft_at drafts d ≡ Some draft
+    → found.items ≡ breaches_of I E draft.timetable
+
+-- no breaches are in memory
+abbrev pub AreUnjudged : List (Option (Vec Breach Global)) → Type 0
+AreUnjudged judged = (d : ℕ) → judged_at judged d ≡ None
+
 -- the memory has this office's session, number of batches, drafts and publication, with its penalty
 pub record IsMemoryOf (office : OfficeState) (memory : OfficeMemory) : Type 0 where
   pub session : memory_of office ≡ memory.kept
@@ -71,14 +89,16 @@ AreScored I E drafts =
     (d : ℕ) (draft : Draft) → draft_at drafts d ≡ Some draft
     → draft.parts ≡ track I E draft.timetable
 
--- the enrolments, the drafts and the publication are of the session's exams, whatever the disk
--- returns
+-- the enrolments, the drafts and the publication are of the session's exams, and the breaches are
+-- those of the drafts, whatever the disk returns
 pub record IsTogether (memory : OfficeMemory) : Type 0 where
   pub exams : AreTogether memory.kept
   pub drafts : (I : Session) (E : Enrolled) → memory.kept ≡ Some (I, E)
       → AreSuited I memory.drafts
   pub published : (I : Session) (E : Enrolled) → memory.kept ≡ Some (I, E)
       → AreFound I (publication_from memory.published)
+  pub judged : (I : Session) (E : Enrolled) → memory.kept ≡ Some (I, E)
+      → AreJudged I E memory.drafts memory.judged
 
 -- ---- what changes in memory
 
@@ -90,6 +110,19 @@ pub record HasPut (d : ℕ) (draft : Option Draft) (old new : OfficeMemory) : Ty
   pub others : (e : ℕ) → e ≢ d → draft_at new.drafts e ≡ draft_at old.drafts e
   pub published : new.published ≡ old.published
   pub priced : new.priced ≡ old.priced
+  pub judged : judged_at new.judged d ≡ None
+  pub others_judged : (e : ℕ) → e ≢ d → judged_at new.judged e ≡ judged_at old.judged e
+
+-- breaches of the draft with a number are in memory, or none, and everything else is as it was
+pub record HasJudged (d : ℕ) (found : Option (Vec Breach Global)) (old new : OfficeMemory)
+    : Type 0 where
+  pub kept : new.kept ≡ old.kept
+  pub batches : new.batches ≡ old.batches
+  pub drafts : new.drafts ≡ old.drafts
+  pub published : new.published ≡ old.published
+  pub priced : new.priced ≡ old.priced
+  pub judged : judged_at new.judged d ≡ found
+  pub others_judged : (e : ℕ) → e ≢ d → judged_at new.judged e ≡ judged_at old.judged e
 
 -- this publication with its penalty replaces the one before, and everything else is as it was
 pub record HasPublished (publication : Placing × Vec SeatRow Global) (penalty : Penalty)
@@ -99,6 +132,7 @@ pub record HasPublished (publication : Placing × Vec SeatRow Global) (penalty :
   pub drafts : new.drafts ≡ old.drafts
   pub published : new.published ≡ Some publication
   pub priced : new.priced ≡ Some penalty
+  pub judged : new.judged ≡ old.judged
 
 -- a draft with its penalty by these enrolments
 abbrev pub rescored_draft : Session → Enrolled → Draft → Draft
@@ -109,11 +143,14 @@ abbrev pub AreRescored : Session → Enrolled → List (Option Draft) → List (
 AreRescored I E old new =
     (d : ℕ) → draft_at new d ≡ option_map (rescored_draft I E) (draft_at old d)
 
--- after a batch the memory has the new enrolments and drafts, or, if it made none, the old ones
+-- after a batch the memory has the new enrolments and drafts, and no breaches; or, if it made none,
+-- all that it had
 abbrev pub IsRenewed : Session → Enrolled → Option Enrolled → List (Option Draft)
     → OfficeMemory → OfficeMemory → Type 0
-IsRenewed I E None drafts old new = (new.kept ≡ Some (I, E)) × (new.drafts ≡ old.drafts)
-IsRenewed I E (Some F) drafts old new = (new.kept ≡ Some (I, F)) × (new.drafts ≡ drafts)
+IsRenewed I E None drafts old new =
+    (new.kept ≡ Some (I, E)) × (new.drafts ≡ old.drafts) × (new.judged ≡ old.judged)
+IsRenewed I E (Some F) drafts old new =
+    (new.kept ≡ Some (I, F)) × (new.drafts ≡ drafts) × AreUnjudged new.judged
 
 -- ---- rows of drafts
 

@@ -16,7 +16,7 @@ ghost use Rattle.office_store.specs.Transactions.{BroughtUp};
 use crate::fault::Failed;
 use crate::found_drafts::drafts_found;
 use crate::kept_bytes::check_bytes;
-use crate::memory::OfficeMemory;
+use crate::memory::{OfficeMemory, no_breaches};
 use crate::office::Office;
 use crate::transactions::migrate_tables;
 use exam_model::{Enrolments, Instance, Timetable};
@@ -103,6 +103,7 @@ fn found_office<S: Alter>(
         drafts,
         published: kept.published,
         priced,
+        judged: no_breaches(),
     };
     Ok((found, memory))
 }

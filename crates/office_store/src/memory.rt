@@ -7,10 +7,12 @@ ghost use Rattle.office_model.specs.Publishing.{publication_rows};
 ghost use Rattle.office_records.specs.FoundPublications.{publication_from};
 ghost use Rattle.office_records.specs.Memory.{HasNoNightWeight};
 ghost use Rattle.office_records.specs.Publications.{placed_rows};
-ghost use Rattle.office_store.specs.Memory.{HasPublished, HasPut, IsRenewed, draft_at};
+ghost use Rattle.office_store.specs.Memory.{AreUnjudged, HasJudged, HasPublished, HasPut, IsRenewed};
+ghost use Rattle.office_store.specs.Memory.{draft_at, judged_at};
 
 use exam_model::{Enrolments, Instance, Timetable};
 use exam_publish::SeatRow;
+use exam_rules::Breach;
 use exam_score::Parts;
 use exam_terms::limits::MAX_DRAFTS;
 use office_records::placement_rows;
@@ -30,6 +32,12 @@ pub(crate) const NUMBERS: usize = MAX_DRAFTS as usize + 1;
 // The drafts, each at its number's index.
 pub(crate) type Drafts = [Option<Draft>; NUMBERS];
 
+// Breaches of drafts, likewise.
+pub(crate) type Judged = [Option<Vec<Breach>>; NUMBERS];
+
+// More breaches of a draft aren't kept.
+const MOST_BREACHES: usize = 10_000;
+
 // What the tables hold of the session, the batches, the drafts and the publication.
 #[derive(Drop)]
 pub(crate) struct OfficeMemory {
@@ -42,6 +50,8 @@ pub(crate) struct OfficeMemory {
     pub(crate) published: Option<(Timetable, Vec<SeatRow>)>,
     // Its penalty, with the enrolments at that time.
     pub(crate) priced: Option<Parts>,
+    // The breaches of the drafts that were asked for, until the draft or the enrolments change.
+    pub(crate) judged: Judged,
 }
 
 impl OfficeMemory {
@@ -52,6 +62,7 @@ impl OfficeMemory {
         ensures drafts { (d : ℕ) → draft_at result.drafts d ≡ None }
         ensures published { result.published ≡ None }
         ensures priced { result.priced ≡ None }
+        ensures judged { AreUnjudged result.judged }
     {
         OfficeMemory {
             kept: None,
@@ -59,6 +70,7 @@ impl OfficeMemory {
             drafts: no_drafts(),
             published: None,
             priced: None,
+            judged: no_breaches(),
         }
     }
 
@@ -69,6 +81,7 @@ impl OfficeMemory {
         ensures drafts { (d : ℕ) → draft_at result.drafts d ≡ None }
         ensures published { result.published ≡ None }
         ensures priced { result.priced ≡ None }
+        ensures judged { AreUnjudged result.judged }
     {
         OfficeMemory {
             kept: Some((instance, enrolments)),
@@ -76,6 +89,7 @@ impl OfficeMemory {
             drafts: no_drafts(),
             published: None,
             priced: None,
+            judged: no_breaches(),
         }
     }
 
@@ -114,6 +128,27 @@ impl OfficeMemory {
     {
         if number <= MAX_DRAFTS {
             self.drafts[number as usize] = draft;
+            self.judged[number as usize] = None;
+        }
+    }
+
+    // Returns the breaches of the draft of a number, if they are in memory.
+    pub(crate) fn judged(&self, number: u32) -> Option<&Vec<Breach>>
+        ensures { IfSome result (λ found. judged_at self.now.judged number ≡ Some found.now) }
+    {
+        match self.judged.get(number as usize) {
+            Some(Some(found)) => Some(found),
+            _ => None,
+        }
+    }
+
+    // Keeps the breaches of the draft of a number, or none.
+    pub(crate) fn keep_breaches(&mut self, number: u32, found: Option<Vec<Breach>>)
+        ensures put { number ≤ MAX_DRAFTS → HasJudged number found self.old self.new }
+        ensures beyond { MAX_DRAFTS < number → self.new ≡ self.old }
+    {
+        if number <= MAX_DRAFTS {
+            self.judged[number as usize] = found;
         }
     }
 
@@ -162,6 +197,7 @@ impl OfficeMemory {
         if let Some((instance, _)) = self.kept.take() {
             self.kept = Some((instance, enrolments));
             self.drafts = drafts;
+            self.judged = no_breaches();
         }
     }
 }
@@ -172,4 +208,24 @@ pub(crate) fn no_drafts() -> Drafts
     ensures size { length result ≡ 9 }
 {
     [None, None, None, None, None, None, None, None, None]
+}
+
+// Returns no breaches under any number.
+pub(crate) fn no_breaches() -> Judged
+    ensures { AreUnjudged result }
+{
+    [None, None, None, None, None, None, None, None, None]
+}
+
+// Returns a copy of breaches. `None`: they are many, or memory is short.
+pub(crate) fn few_breaches(alloc: Global, found: &[Breach]) -> Option<Vec<Breach>>
+    ensures { IfSome result (λ few. few.items ≡ found.now) }
+{
+    if found.len() > MOST_BREACHES {
+        return None;
+    }
+    match Vec::from_slice(alloc, found) {
+        Ok(few) => Some(few),
+        Err(_) => None,
+    }
 }

@@ -13,6 +13,7 @@ ghost use Rattle.office_store.specs.OfficeRows.{pair_values};
 ghost use Rattle.office_store.specs.Pricing.{draft_priced};
 ghost use Rattle.office_store.specs.Running.{CommandOutcome, CommandRan};
 
+use crate::memory::few_breaches;
 use crate::office::Office;
 use exam_draft::EditFault;
 use exam_model::{Enrolments, ExamNo, Instance, Timetable};
@@ -77,8 +78,8 @@ impl<S: Alter> Office<S> {
         Ok(draft.parts)
     }
 
-    /// Returns all breaches of a draft, in their order. `NotLoaded`, then `NoDraft`: no draft has
-    /// this number.
+    /// Returns all breaches of a draft, in their order. They are kept in memory until the draft or the
+    /// enrolments change, unless they are many. `NotLoaded`, then `NoDraft`: no draft has this number.
     pub fn breaches(&mut self, alloc: Global, number: u32) -> Result<Vec<Breach>, StoreFault>
         ensures runs { CommandRan S.Store (draft_judged number)
             self.old self.new (plain_list result) }
@@ -93,7 +94,13 @@ impl<S: Alter> Office<S> {
         let Some(draft) = memory.draft(number) else {
             return Err(StoreFault::NoDraft);
         };
+        if let Some(found) = memory.judged(number) {
+            let copy = Vec::from_slice(alloc, found)?;
+            return Ok(copy);
+        }
         let breaches = breaches(alloc, instance, enrolments, &draft.timetable)?;
+        let few = few_breaches(alloc, &breaches);
+        self.memory.keep_breaches(number, few);
         Ok(breaches)
     }
 

@@ -155,7 +155,7 @@ returns-in_err-drafts-clause-none g c clean =
 pub returns-clause-together : goal.returns-clause-together
 returns-clause-together g c =
     found_together _ c.in_ok-kept.ensures.together c.in_ok-drafts.ensures.suited
-    c.in_ok-kept.ensures.published
+    c.in_ok-kept.ensures.published c.no_breaches.ensures
 
 of_database : {X : Type 0} (r : Result X StoreFault) (fault : RecordFault)
     → IsErrAnd r (λ e. e ≡ store_fault fault) → IfErr r IsOfDatabase
