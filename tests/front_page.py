@@ -28,6 +28,7 @@ LOOKS = {
     "labels": "all.map(e => e.getAttribute('aria-label'))",
     "widths": "all.map(bar => bar.firstChild.offsetWidth / bar.offsetWidth)",
     "hrefs": "all.map(e => e.href)",
+    "tips": "all.map(e => e.title)",
     "value": "one?.value",
     "hidden": "one?.hidden",
     "open": "one?.open",

@@ -605,6 +605,9 @@ NEW = "student,name,exam,action\nr9,Zoë Zander,MATH101,new\nr9,,PHYS102,add\nq1
 WHOLE = ("student,exam,name\ns1,MATH101,\ns1,PHYS102,\ns2,MATH101,\ns2,MATH102,\ns3,MATH102,\n"
          "s3,PHYS101,\nr9,MATH101,\nr9,PHYS102,\nx1,PHYS101,Xi\n")
 SEND, LISTS = "click #batch-send", "rows #batch-lists tr"
+# The digests of the batches that become of them: the new students get numbers 4, 5 and 6.
+DIGEST = {number: hashlib.sha256(b"student,exam,action\n" + lines).hexdigest()
+          for number, lines in ((20, b"4,0,add\n4,3,add\n"), (21, b"6,2,add\n"))}
 
 
 def on_the_page(page):
@@ -641,13 +644,20 @@ def history_on_the_page(page):
             "texts #history-found td:nth-child(2)": ["registry"] * 5,
             "texts #history-found td:nth-child(3)": [
                 "Draft 1 published: publication 2, 43 points, 3 seats changed",
-                "Batch 21, from this page: 1 added, 0 dropped",
-                "Batch 20, from this page: 2 added, 0 dropped. draft 1: 37 to 43 points",
+                f"Batch 21, from this page: 1 added, 0 dropped\nSHA-256 {DIGEST[21][:12]}",
+                "Batch 20, from this page: 2 added, 0 dropped. draft 1: 37 to 43 points\n"
+                f"SHA-256 {DIGEST[20][:12]}",
                 "Draft 1 published: publication 1, 37 points, 6 seats changed", "Draft 1 made"]}),
         ("a candidate", [("type", "#history-words", "ada"), "click #history-find button"], {
             "said": "2 entries about Ada Archer."}),
         ("an exam", [("set", "#history-words", "math101"), "click #history-find button"], {
             "said": "2 entries about MATH101."}),
+        ("a batch, by its digest", [("set", "#history-words", DIGEST[20][:12]),
+                                    "click #history-find button"], {
+            "said": "1 batch with this digest.",
+            "tips #history-found td .below": [DIGEST[20]]}),
+        ("no batch", [("set", "#history-words", DIGEST[20][1:13]), "click #history-find button"], {
+            "said": "No exam, candidate or batch has this code, ID, name or digest."}),
         ("two publications", "click #history-compare button", {
             "said": "0 exams and 3 seats differ.",
             "texts #history-differences td:nth-child(1)": ["Zoë Zander", "Zoë Zander", "Xi"]}),

@@ -27,7 +27,7 @@ const {
   differences, differencesForCandidate, differencesForDepartment, faultsOfNames, isSealed,
 } = await import('../front/page/labels.js');
 const { Names } = await import('../front/page/names.js');
-const { changesIn, eventsOf } = await import('../front/page/history.js');
+const { batchesWith, changesIn, eventsOf } = await import('../front/page/history.js');
 const { kindsText, sizeText, wantedIn } = await import('../front/page/lists.js');
 const { People } = await import('../front/page/seats.js');
 const { faultOfChoice, filesByKind } = await import('../front/page/setup.js');
@@ -435,6 +435,8 @@ const HAPPENED = {
 };
 const told = (more, names = new Names()) => eventsOf({ ...HAPPENED, ...more }, names, new People(STUDENTS))
   .map(({ by, words }) => `${by}: ${words}`);
+// The SHA-256 of no bytes.
+const DIGEST = 'e3b0c44298fc1c149afbf4c8996fb92427ae41e4649b934ca495991b7852b855';
 const ONE_SEAT = { exam: 0, period: 0, room: 0, seat: 3 };
 
 cases('what happened', [
@@ -457,6 +459,9 @@ cases('what happened', [
       { publication, period: 1, room: 1 })) })],
   ['changed seats', [{ student: 1, exam: 3, was: { period: 2, room: 0, seat: 1 }, is: null }],
     () => changesIn({ seats: [{ student: 1, exam: 3, from: [2, 0, 1], to: null }] })],
+  ['batches by the first digits of their digest', [[2], [2], [], []], () => [
+    DIGEST, 'E3B0C44298FC', 'e3b0c44298f', '3b0c44298fc1'].map((words) => batchesWith(
+    [{ number: 1, digest: null }, { number: 2, digest: DIGEST }], words).map(({ number }) => number))],
 ]);
 
 const ALL_KINDS = ['door', 'attendance', 'labels-3x7', 'labels-3x8', 'exams', 'days'];

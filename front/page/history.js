@@ -14,6 +14,7 @@ import { office } from './state.js';
 
 const PATH = '/-/registry';
 const DRAFTS = [1, 2, 3, 4, 5, 6, 7, 8];
+const DIGITS_SHOWN = 12;
 
 /**
  * @typedef {{ number: number, at: string, by: string, draft: number | null, points: number,
@@ -22,7 +23,8 @@ const DRAFTS = [1, 2, 3, 4, 5, 6, 7, 8];
  *   other: number | null, body: string }} Edit
  * @typedef {{ number: number, at: string, by: string, source: string, added: number | null,
  *   dropped: number | null, unchanged: number | null, points: Record<string, number[]>,
- *   has_opposite: boolean, lines?: { student: number, exam: number, action: string }[] }} Batch
+ *   digest: string | null, has_opposite: boolean,
+ *   lines?: { student: number, exam: number, action: string }[] }} Batch
  * @typedef {{ exam: number, period: number, room: number, seat: number, first: number,
  *   last: number | null }} Kept
  * @typedef {{ publications: Publication[], edits: Edit[], batches: Batch[], trouble: string,
@@ -143,6 +145,12 @@ export function eventsOf(found, names, people) {
   ].sort((a, b) => Date.parse(b.at) - Date.parse(a.at));
 }
 
+/** The batches whose digest begins with these digits: as many as are shown, or more. */
+export function batchesWith(batches, words) {
+  const digits = words.toLowerCase();
+  return digits.length >= DIGITS_SHOWN ? batches.filter(({ digest }) => digest?.startsWith(digits)) : [];
+}
+
 /** The difference of two publications in the form of changed seats. */
 export function changesIn({ seats }) {
   const seatOf = (place) => place && { period: place[0], room: place[1], seat: place[2] };
@@ -165,9 +173,13 @@ function waysBack({ publication, batch }) {
   return batch?.has_opposite ? [button('Reverse …', () => reverse(batch))] : [];
 }
 
+/** The first digits of the digest of a batch's bytes, below its line; all are in its title. */
+const digestBelow = ({ batch }) => batch?.digest && element('span', {
+  class: 'below', title: batch.digest }, `SHA-256 ${batch.digest.slice(0, DIGITS_SHOWN)}`);
+
 function showEvents(events) {
   const rows = events.map((event) => [cell(moment(new Date(event.at))), cell(event.by || 'unknown'),
-    cell(event.words), cell(...waysBack(event))]);
+    cell(event.words, digestBelow(event)), cell(...waysBack(event))]);
   byId('history-found').replaceChildren(...(rows.length
     ? listTable('What happened, the last one first', ['When', 'By', 'What', 'Way back'], rows)
     : [element('p', {}, 'Nothing is noted.')]));
@@ -202,7 +214,15 @@ export async function showHistory() {
   await find('');
 }
 
-// ---- Looking for an exam or a candidate
+// ---- Looking for an exam, a candidate or a batch
+
+/** Shows the batches with this digest, and returns how many there are. */
+async function findBatches(words) {
+  const { batches } = await ask(`${PATH}/batches`);
+  const found = { publications: [], edits: [], batches: batchesWith(batches, words), trouble: '' };
+  if (found.batches.length) showEvents(eventsOf(found, office.names, peopleOf()));
+  return found.batches.length;
+}
 
 async function search() {
   const words = byId('history-words').value.trim();
@@ -216,7 +236,11 @@ async function search() {
   }
   const people = peopleOf();
   const [student, ...others] = people.found(words);
-  if (student === undefined) return 'No exam and no candidate has this code, ID or name.';
+  if (student === undefined) {
+    const batches = await findBatches(words);
+    return batches ? `${count(batches, 'batch', 'batches')} with this digest.`
+      : 'No exam, candidate or batch has this code, ID, name or digest.';
+  }
   if (others.length) {
     const named = [student, ...others].slice(0, 5).map((one) => `${people.name(one)} (${people.id(one)})`);
     return `${count(others.length + 1, 'candidate')} found: ${named.join(', ')}${
