@@ -18,7 +18,7 @@ import browser
 import front_sign_in
 import sign_on
 from front_cases import told_error
-from front_page import Page, is_read
+from front_page import Page, csv_file, is_read
 from front_sign_in import GUNICORN, TOP, Client
 from run_serve import Run
 from serve_cases import SOLUTION, batch_text
@@ -648,6 +648,12 @@ def history_on_the_page(page):
                 "Batch 20, from this page: 2 added, 0 dropped. draft 1: 37 to 43 points\n"
                 f"SHA-256 {DIGEST[20][:12]}",
                 "Draft 1 published: publication 1, 37 points, 6 seats changed", "Draft 1 made"]}),
+        ("a batch's lines", [], {"texts #history-found tr:nth-child(3) button": [
+            "Reverse …", "Lines as CSV"]}))
+    page.judge_file("batch-20.csv", "#history-found tr:nth-child(3) button:last-child", csv_file(
+        "student,id,name,exam,title,action,changed", "4,r9,Zoë Zander,MATH101,Calculus,add,yes",
+        "4,r9,Zoë Zander,PHYS102,Optics,add,yes"))
+    page.steps(
         ("a candidate", [("type", "#history-words", "ada"), "click #history-find button"], {
             "said": "2 entries about Ada Archer."}),
         ("an exam", [("set", "#history-words", "math101"), "click #history-find button"], {

@@ -9,7 +9,7 @@ import { byId, cell, download, element, listTable } from './elements.js';
 import { examIdentities } from './identities.js';
 import { showProgress } from './messages.js';
 import { count, numeral } from './numbers.js';
-import { changedRows, People } from './seats.js';
+import { changedRows, People, WHOSE, whose } from './seats.js';
 import { office } from './state.js';
 
 const PATH = '/-/registry';
@@ -151,6 +151,10 @@ export function batchesWith(batches, words) {
   return digits.length >= DIGITS_SHOWN ? batches.filter(({ digest }) => digest?.startsWith(digits)) : [];
 }
 
+/** The rows of a batch's lines with names, and whether each changed something. */
+export const batchRows = (changes, names, people) => [[...WHOSE, 'action', 'changed'],
+  ...changes.map((line) => [...whose(line, { names }, people), line.action, line.acted ? 'yes' : 'no'])];
+
 /** The difference of two publications in the form of changed seats. */
 export function changesIn({ seats }) {
   const seatOf = (place) => place && { period: place[0], room: place[1], seat: place[2] };
@@ -167,10 +171,12 @@ function button(words, act) {
   return made;
 }
 
-/** The buttons of a line: the way back. */
-function waysBack({ publication, batch }) {
+/** The buttons of a line: the way back, and a batch's lines. */
+function buttonsOf({ publication, batch }) {
   if (publication) return [button('Make a draft of it …', () => askForDraft(publication))];
-  return batch?.has_opposite ? [button('Reverse …', () => reverse(batch))] : [];
+  if (!batch) return [];
+  const lines = button('Lines as CSV', () => downloadLines(batch));
+  return batch.has_opposite ? [button('Reverse …', () => reverse(batch)), ' ', lines] : [lines];
 }
 
 /** The first digits of the digest of a batch's bytes, below its line; all are in its title. */
@@ -179,9 +185,9 @@ const digestBelow = ({ batch }) => batch?.digest && element('span', {
 
 function showEvents(events) {
   const rows = events.map((event) => [cell(moment(new Date(event.at))), cell(event.by || 'unknown'),
-    cell(event.words, digestBelow(event)), cell(...waysBack(event))]);
+    cell(event.words, digestBelow(event)), cell(...buttonsOf(event))]);
   byId('history-found').replaceChildren(...(rows.length
-    ? listTable('What happened, the last one first', ['When', 'By', 'What', 'Way back'], rows)
+    ? listTable('What happened, the last one first', ['When', 'By', 'What', 'More'], rows)
     : [element('p', {}, 'Nothing is noted.')]));
 }
 
@@ -269,6 +275,16 @@ async function compare() {
       cell(seatText(one.from)), cell(seatText(one.to))])),
     ...(found.seats.length ? [element('p', { class: 'buttons' }, csv)] : []));
   return `${count(found.exams.length, 'exam')} and ${count(found.seats.length, 'seat')} differ.`;
+}
+
+// ---- A batch's lines
+
+function downloadLines({ number }) {
+  showProgress('Reading the batch …', async () => {
+    const { changes } = await ask(`${PATH}/batches/${number}`);
+    download(`batch-${number}.csv`, 'text/csv', csvText(batchRows(changes, office.names, peopleOf())));
+    return `${count(changes.length, 'line is', 'lines are')} in the file.`;
+  }, byId('history-found'));
 }
 
 // ---- The way back

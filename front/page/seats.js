@@ -94,10 +94,10 @@ export function changesBetween(before, now) {
 
 // ---- Files
 
-const WHOSE = ['student', 'id', 'name', 'exam', 'title'];
+export const WHOSE = ['student', 'id', 'name', 'exam', 'title'];
 const WHERE = ['date', 'start', 'room', 'building', 'seat'];
 
-const whose = ({ student, exam }, { names }, people) => [
+export const whose = ({ student, exam }, { names }, people) => [
   student, people.id(student), people.name(student), names.exam(exam), names.examTitle(exam)];
 
 function where(seat, { names, session }) {
