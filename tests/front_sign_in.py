@@ -187,6 +187,7 @@ def ends(run, stack):
     people = {user: Client(stack.front) for user in ("ada", "ben", "cleo", "physics", "registry")}
     for user, client in people.items():
         run.judge(f"{user} signs in", 303, client.sign_in(user)[0])
+        run.judge(f"{user} is somebody", 200, client.view("/-/user")[0])
     old = dict(people["ada"].cookies)
     run.judge("signing out by a link", 403, people["ada"].ask("GET", "/-/sign-out")[0])
     run.judge("signing out by another site", 403, people["ada"].ask(
@@ -245,6 +246,19 @@ def forged(run, stack):
             ada.cookies = {}
             run.judge(f"a bearer's token {name}", 401,
                       ada.ask("GET", "/-/user", Authorization=f"Bearer {token}")[0])
+    verified(run, stack, right, made(exp=int(time.time()) + 3))
+
+
+def verified(run, stack, right, short):
+    """A session that was just verified is one only as a cookie of its host, until its end."""
+    here, there = Client(stack.front), Client(stack.front, host="elsewhere.example")
+    for cookie in (right, short):
+        here.cookies = there.cookies = {"session": cookie}
+        run.judge("verified, and at another host", [200, 200, 401], [
+            client.view("/-/user")[0] for client in (here, here, there)])
+        run.judge("verified, and as a bearer's token", 401, Client(stack.front).ask(
+            "GET", "/-/user", Authorization=f"Bearer {cookie}")[0])
+    browser.until("it ends", lambda: here.view("/-/user")[0] == 401)
 
 
 def by_link(run, stack):

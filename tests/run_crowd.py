@@ -36,8 +36,9 @@ UNIVERSITY = TOP / "examples" / "university"
 RATE = 84
 CANDIDATES, ATTACKERS, SLOW, SIGN_INS = 300, 100, 17_500, 2_000
 KILL_SECONDS = 8
-# How often the cost of a request is measured, with how many requests, by how many clients.
-ROUNDS, REQUESTS, CLIENTS = 32, 400, 4
+# How often the cost of a request is measured, for how many candidates, by how many clients; how
+# often each candidate asks, on a kept connection, as their page does.
+ROUNDS, PEOPLE, CLIENTS, OF_A_PAGE = 50, 80, 4, 5
 SECONDS = 60
 
 
@@ -310,26 +311,28 @@ NOBODY_ASKED = """set $user s%d;
     set $signed_out /-/signed-out; set $sign_out \"\""""
 
 
-def cost_of(front, queue, host, cookies):
-    """What front and queue used of the processors for requests with these cookies."""
+def cost_of(processes, port, host, cookies):
+    """The microseconds of processor that each process used for a request with these cookies."""
     def client(number):
-        connection = http.client.HTTPConnection("127.0.0.1", front.port, SECONDS)
+        connection = http.client.HTTPConnection("127.0.0.1", port, SECONDS)
         for cookie in cookies[number::CLIENTS]:
-            connection.request("GET", "/me", headers={"Host": host, "Cookie": cookie})
-            reply = connection.getresponse()
-            reply.read()
-            if reply.status != 200:
-                raise ValueError(f"a candidate's reply has status {reply.status}")
+            for _ in range(OF_A_PAGE):
+                connection.request("GET", "/me", headers={"Host": host, "Cookie": cookie})
+                reply = connection.getresponse()
+                reply.read()
+                if reply.status != 200:
+                    raise ValueError(f"a candidate's reply has status {reply.status}")
 
-    before = sum(map(processor_seconds, (front.process, queue.process)))
+    before = [*map(processor_seconds, processes)]
     with concurrent.futures.ThreadPoolExecutor(CLIENTS) as pool:
         list(pool.map(client, range(CLIENTS)))
-    return sum(map(processor_seconds, (front.process, queue.process))) - before
+    return [1e6 * (processor_seconds(process) - was) / len(cookies) / OF_A_PAGE
+            for process, was in zip(processes, before)]
 
 
 async def cost(university):
-    """What a candidate's request needs at front and queue, and how much of it to know who asks:
-    beside a front at which everybody is the same candidate, in turn."""
+    """What a candidate's request needs of each process, and how much of it to know who asks: beside
+    a front at which everybody is the same candidate, in turn."""
     folder = university.run.folder / "open"
     folder.mkdir()
     subprocess.run(["cp", "-r", TOP / "front", folder], check=True)
@@ -338,15 +341,19 @@ async def cost(university):
         ("include password.conf", NOBODY_ASKED % university.students[0]),))
     # So many users that none asks too often.
     cookies = [university.cookie(f"s{number}").partition(": ")[2]
-               for number in university.students[:ROUNDS * REQUESTS]]
+               for number in university.students[:ROUNDS * PEOPLE]]
     try:
-        whole, rest = (1e6 * sum(seconds) / len(cookies) for seconds in zip(*(
-            [cost_of(front, university.queue, university.host, cookies[turn::ROUNDS])
+        whole, rest = ([statistics.mean(found) for found in zip(*costs)] for costs in zip(*(
+            [cost_of((front.process, university.queue.process, university.agent.process),
+                     front.port, university.host, cookies[turn::ROUNDS])
              for front in (university.front, everybody)] for turn in range(ROUNDS))))
     finally:
         everybody.stop()
-    print(f"a candidate's request at front and queue: {whole:.0f} us of processor,"
-          f" {whole - rest:.0f} of them to know who asks", flush=True)
+    print(f"{len(cookies) * OF_A_PAGE} requests, each in microseconds of processor:")
+    for name, all_of_it, without in zip(("nginx", "HAProxy", "the agent", "all"),
+                                        [*whole, sum(whole)], [*rest, sum(rest)]):
+        print(f"{name}: {all_of_it:.0f}, {all_of_it - without:.0f} of them to know who asks",
+              flush=True)
 
 
 def main():
