@@ -14,7 +14,7 @@ import time
 import browser
 from front_cases import CANDIDATE, FIRST_VIEW, ask, parted, told_error
 from run_serve import Run
-from serve_cases import SMALL, SOLUTION, message, reply
+from serve_cases import SMALL, SOLUTION, batch_text, message, reply
 
 TOP = pathlib.Path(__file__).resolve().parent.parent
 HAPROXY = shutil.which("haproxy") or shutil.which("haproxy", path="/usr/sbin")
@@ -133,6 +133,23 @@ def a_crowd(run, front):
     came, longest = crowd(front.port, [closing(CANDIDATE)] * CROWD)
     run.judge("a thousand candidates at once", {FIRST_VIEW: CROWD}, collections.Counter(came))
     run.judge("how long the last one waits", True, longest < 15)
+
+
+def a_short_day(run, front):
+    """Candidates ask all the time, and nobody is refused while the office edits, takes a batch and
+    publishes."""
+    clients = Clients(front, CANDIDATE, 12, 4)
+    came = collections.Counter()
+    for number, place in enumerate((b'{"period":3,"room":1}', b'{"period":2,"room":0}') * 3):
+        for method, path, body in (
+                ("POST", "/drafts/1/exams/3/move", place),
+                ("PUT", f"/batches/{number}", batch_text(f"3,0,{('add', 'drop')[number % 2]}")),
+                ("POST", "/drafts/1/publish", b"")):
+            came[front.told(ask("registry", method, path, body))[0]] += 1
+        time.sleep(0.3)
+    run.judge("edits, batches and publications of a day", {200: 18}, came)
+    statuses = clients.result()
+    run.judge("candidates meanwhile", ({200}, True), (set(statuses), statuses[200] > 20))
 
 
 def four_clients(run, queue):
@@ -287,6 +304,7 @@ def judge_all(run, make_front):
         queue.stop()
         queue.start()
         run.judge("a queue that was killed and started", FIRST_VIEW, front.told(CANDIDATE))
+        a_short_day(run, front)
     finally:
         for thread in others:
             thread.join()

@@ -329,6 +329,20 @@ def guesses(run, stack):
     run.judge("another account from there", 303, nobody.sign_in("ada")[0])
 
 
+def as_long(run, stack):
+    """A name that nobody has takes the agent as long as one that somebody has."""
+    def took(network, users):
+        before = processor_seconds(stack.agent.process)
+        came = [Client(stack.front, f"{network}.{number}.1").sign_in(user, "guess")[0]
+                for number, user in enumerate(users)]
+        run.judge(f"guesses of {users[0]}", [401] * len(users), came)
+        return processor_seconds(stack.agent.process) - before
+
+    known = took("127.40", ["physics"] * 4)
+    unknown = took("127.41", [f"nobody-{number}" for number in range(4)])
+    run.judge("what both take", True, known < 2 * unknown and unknown < 2 * known)
+
+
 def old_hashes(run, stack):
     """Hashes of htpasswd sign in, and are argon2id afterwards in the agent's file."""
     users = stack.front.folder / "users"
@@ -539,7 +553,7 @@ def judge_stack(run, make_front):
             run.judge("the start", status, office.ask(method, path, body)[0])
         for part in (sessions, asked_too_often, forged, old_hashes, users_of_a_file, programs,
                      basic, networks,
-                     a_crowd, first_sign_ins, ends, guesses):
+                     a_crowd, first_sign_ins, ends, guesses, as_long):
             part(run, stack)
     finally:
         stack.stop()
