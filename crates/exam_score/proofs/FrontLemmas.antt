@@ -1,18 +1,19 @@
 -- How many exams are larger, by the list of their sizes.
-use Rattle.std.proofs.Common.{◌≡◌, ℕ, zero, suc, ◌+◌, ◌-◌, ◌<◌, ◌≤◌, take_all, Bool, true, false, cond, List, length, take, drop, count_by, refl, sym, ◌∙◌, ap, ap₂, arith, add-one, [], ◌∷◌, ◌++◌, subst}
+use Rattle.std.proofs.Common.{◌≡◌, ℕ, zero, suc, ◌+◌, ◌-◌, ◌<◌, ◌≤◌, take_all, Bool, true, false, cond, List, Some, length, take, drop, count_by, refl, sym, ◌∙◌, ap, ap₂, arith, add-one, [], ◌∷◌, ◌++◌, subst}
 use Rattle.std.specs.Prelude.{slice_index, nat_lt, nat_le, ◌==◌, ◌&&◌, ◌||◌, if◌then◌else◌}
 use Rattle.std.proofs.lemmas.Bool.{false≢true}
 use Rattle.std.proofs.lemmas.Bool.Decides.{nat_tests}
 use Rattle.std.proofs.lemmas.Grind.{common_steps}
 use Rattle.std.proofs.lemmas.List.{length_push}
-use Rattle.std.proofs.lemmas.List.Sums.{count_by_more_no, count_by_more_yes, sum_by_more, sum_by-take-drop, sum_by-le-sum_by}
+use Rattle.std.proofs.lemmas.List.Sums.{count_by_more_no, count_by_more_yes, sum_by-cons, sum_by_more, sum_by-take-drop, sum_by-le-sum_by}
 use Rattle.exam_model.specs.Enrolments.{Enrolled, size_of}
 use Rattle.exam_model.specs.Instance.{Session}
 use Rattle.exam_model.specs.Sums.{count_below}
 use Rattle.exam_model.specs.Timetable.{Placing, place_of}
 use Rattle.exam_model.proofs.SumLemmas.{sum_below-within, sum_below_more}
-use Rattle.exam_score.specs.Front.{AreSizes, IsBar, is_larger_by, front_by}
+use Rattle.exam_score.specs.Front.{AreSizes, AreTies, IsBar, is_larger_by, front_by}
 use Rattle.exam_score.specs.FrontLoad.{is_larger, is_late, exam_front}
+use Rattle.exam_score.specs.declared.front.Bar.{Bar}
 
 -- a count over the first elements, by their indexes
 counted : (p : ℕ → Bool) (xs : List ℕ) (n : ℕ) → n ≤ length xs
@@ -98,10 +99,11 @@ is_no_lt : (a b : ℕ) → b ≤ a → nat_lt a b ≡ false
 is_no_lt a b le = grind (arith, nat_tests)
 
 -- an exam above the bar is among the largest
-pub above_bar : (sizes : List ℕ) (most t e : ℕ) → IsBar sizes most t → e < length sizes
-    → t < slice_index sizes e
+pub above_bar : (sizes : List ℕ) (most e : ℕ) (b : Bar) → IsBar sizes most b → e < length sizes
+    → b.size < slice_index sizes e
     → nat_lt (count_below (length sizes) (λ f. is_larger_by sizes f e)) most ≡ true
-above_bar sizes most t e bar within less =
+above_bar sizes most e b bar within less =
+    let t = b.size in
     let a = slice_index sizes e in
     let count = larger_count sizes e within in
     let first = count_le (λ x. nat_le a x) (λ x. nat_lt t x) (take e sizes)
@@ -113,13 +115,14 @@ above_bar sizes most t e bar within less =
     let parts = sum_by-take-drop (λ x. cond (nat_lt t x) 1 0) sizes (e + 1) in
     let own = count_by_more_no (λ x. nat_lt a x) sizes e 0 within (is_no_lt a a (omega arith)) in
     let one = count_by_more_yes (λ x. nat_lt t x) sizes e 0 within (is_lt t a less) in
-    is_lt _ most (omega (arith, bar.above))
+    is_lt _ most (omega (arith, bar.above, bar.counted))
 
 -- one below it is not
-pub below_bar : (sizes : List ℕ) (most t e : ℕ) → IsBar sizes most t → e < length sizes
-    → slice_index sizes e < t
+pub below_bar : (sizes : List ℕ) (most e : ℕ) (b : Bar) → IsBar sizes most b → e < length sizes
+    → slice_index sizes e < b.size
     → nat_lt (count_below (length sizes) (λ f. is_larger_by sizes f e)) most ≡ false
-below_bar sizes most t e bar within less =
+below_bar sizes most e b bar within less =
+    let t = b.size in
     let a = slice_index sizes e in
     let count = larger_count sizes e within in
     let first = count_le (λ x. nat_le t x) (λ x. nat_le a x) (take e sizes)
@@ -128,6 +131,39 @@ below_bar sizes most t e bar within less =
     (λ x h. lt_by_bar t a x less h) in
     let parts = sum_by-take-drop (λ x. cond (nat_le t x) 1 0) sizes e in
     is_no_lt _ most (omega (arith, bar.reached))
+
+le_parts : (t x : ℕ) → ◌≡◌ {A = ℕ} (cond (nat_le t x) 1 0) (cond (nat_lt t x) 1 0 + cond (x == t) 1 0)
+le_parts t x = grind (arith, nat_tests)
+
+-- those that reach a size are above it or of it
+reached_parts : (t : ℕ) (xs : List ℕ)
+    → count_by (λ x. nat_le t x) xs ≡ count_by (λ x. nat_lt t x) xs + count_by (λ x. x == t) xs
+reached_parts t [] = refl
+reached_parts t (x ∷ xs) =
+    let rest = reached_parts t xs in
+    let here = le_parts t x in
+    let le = sum_by-cons (λ y. cond (nat_le t y) 1 0) x xs in
+    let lt = sum_by-cons (λ y. cond (nat_lt t y) 1 0) x xs in
+    let equal = sum_by-cons (λ y. cond (y == t) 1 0) x xs in
+    omega (arith, rest, here, le, lt, equal)
+
+-- one of the bar's size comes after those above the bar and the ties before it
+pub at_bar : (sizes : List ℕ) (most ties e : ℕ) (b : Bar) → IsBar sizes most b
+    → AreTies sizes (Some b) ties e → e < length sizes → slice_index sizes e ≡ b.size
+    → nat_lt (count_below (length sizes) (λ f. is_larger_by sizes f e)) most
+    ≡ nat_lt (b.above + ties) most
+at_bar sizes most ties e b bar tied within same =
+    let t = b.size in
+    let count : count_below (length sizes) (λ f. is_larger_by sizes f e)
+    ≡ count_by (λ x. nat_le t x) (take e sizes) + count_by (λ x. nat_lt t x) (drop e sizes) =
+    subst (λ a. count_below (length sizes) (λ f. is_larger_by sizes f e)
+    ≡ count_by (λ x. nat_le a x) (take e sizes) + count_by (λ x. nat_lt a x) (drop e sizes))
+    same (larger_count sizes e within) in
+    let reached = reached_parts t (take e sizes) in
+    let parts = sum_by-take-drop (λ x. cond (nat_lt t x) 1 0) sizes e in
+    let counted = bar.counted in
+    let before = tied.count in
+    ap (λ n. nat_lt n most) (omega (arith, count, reached, parts, counted, before))
 
 -- by the sizes or by the enrolments
 pub front_by_sizes : (I : Session) (E : Enrolled) (T : Placing) (sizes : List ℕ) (e : ℕ)

@@ -1,10 +1,11 @@
 -- The sizes of exams as a list.
-use Rattle.std.specs.Prelude.{◌≡◌, ℕ, ◌<◌, ◌≤◌, Bool, ◌&&◌, ◌||◌, ◌==◌, nat_lt, nat_le, count_by, if◌then◌else◌, List, Option, length, slice_index}
+use Rattle.std.specs.Prelude.{◌≡◌, ℕ, ◌<◌, ◌≤◌, Bool, ◌&&◌, ◌||◌, ◌==◌, nat_lt, nat_le, count_by, if◌then◌else◌, IfSome, List, Option, length, slice_index, take}
 use Rattle.exam_model.specs.Enrolments.{Enrolled, size_of}
 use Rattle.exam_model.specs.Instance.{Session}
 use Rattle.exam_model.specs.Sums.{count_below}
 use Rattle.exam_terms.specs.declared.place.Place.{Place}
 use Rattle.exam_score.specs.FrontLoad.{is_late}
+use Rattle.exam_score.specs.declared.front.Bar.{Bar}
 
 -- the number of students of each exam, in the order of the exams
 pub record AreSizes (E : Enrolled) (sizes : List ℕ) : Type 0 where
@@ -17,10 +18,17 @@ is_larger_by sizes f e =
     nat_lt (slice_index sizes e) (slice_index sizes f)
     || ((slice_index sizes f == slice_index sizes e) && nat_lt f e)
 
--- at most n exams have more than t students, and at least n have t or more
-pub record IsBar (sizes : List ℕ) (most t : ℕ) : Type 0 where
-  pub above : count_by (λ x. nat_lt t x) sizes ≤ most
-  pub reached : most ≤ count_by (λ x. nat_le t x) sizes
+-- the bar of the n largest exams: it counts those above it, at most n, and at least n reach it
+pub record IsBar (sizes : List ℕ) (most : ℕ) (bar : Bar) : Type 0 where
+  pub counted : bar.above ≡ count_by (λ x. nat_lt bar.size x) sizes
+  pub few : bar.above ≤ length sizes
+  pub above : bar.above ≤ most
+  pub reached : most ≤ count_by (λ x. nat_le bar.size x) sizes
+
+-- so many exams before this one are of the bar's size, if there is a bar
+pub record AreTies (sizes : List ℕ) (bar : Option Bar) (ties e : ℕ) : Type 0 where
+  pub count : IfSome bar (λ b. ties ≡ count_by (λ x. x == b.size) (take e sizes))
+  pub few : ties ≤ e
 
 -- what an exam makes of the front load, by the sizes
 abbrev pub front_by : Session → List ℕ → Option Place → ℕ → ℕ

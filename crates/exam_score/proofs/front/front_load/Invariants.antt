@@ -1,5 +1,6 @@
 use Rattle.std.proofs.Common.{◌≡◌, ◌≤◌, ◌*◌}
 use Rattle.exam_model.specs.Sums.{sum_below}
+use Rattle.exam_score.specs.Front.{AreTies}
 use Rattle.exam_score.specs.FrontLoad.{exam_front}
 use Rattle.exam_score.proofs.front.front_load.Given as goal
 
@@ -8,4 +9,5 @@ abbrev pub invariant-loop-exam : goal.invariant-loop-exam
 invariant-loop-exam l = record {
   total : l.total ≡ sum_below l.exam (exam_front l.instance l.enrolments l.timetable);
   small : l.total ≤ l.exam * 100000;
+  tied : AreTies l.sizes.items l.bar l.ties l.exam;
 }
