@@ -13,6 +13,7 @@ pub mod MixedLemmas
 pub mod SmallLemmas
 pub mod LineLemmas
 pub mod EditedLemmas
+pub mod EditedSumLemmas
 pub mod FoldLemmas
 pub mod TouchedLemmas
 pub mod ExchangeLemmas

@@ -25,7 +25,7 @@ use Rattle.exam_score.proofs.CostLemmas.{cost_in-small}
 use Rattle.exam_score.proofs.KindLemmas.{each_kind}
 use Rattle.exam_score.proofs.PairsLemmas.{part_small}
 
-picked : (b : Bool) (w : ℕ) → w ≤ 100000 → cond b w 0 ≤ 100000
+pub picked : (b : Bool) (w : ℕ) → w ≤ 100000 → cond b w 0 ≤ 100000
 picked true w h = h
 picked false w h = omega arith
 
@@ -45,12 +45,12 @@ of_room [] h i = omega arith
 of_room (x ∷ xs) h zero = h.0.1
 of_room (x ∷ xs) h (suc i) = of_room xs h.1 i
 
-period_small : (I : Session) → IsInstance I → (o : Option Place) → exam_period I o ≤ 100000
+pub period_small : (I : Session) → IsInstance I → (o : Option Place) → exam_period I o ≤ 100000
 period_small I known None = omega arith
 period_small I known (Some at) =
     of_period I.periods (recursion_from_All PeriodInLimits I.periods known.limits.periods) at.period
 
-room_small : (I : Session) → IsInstance I → (o : Option Place) → exam_room I o ≤ 100000
+pub room_small : (I : Session) → IsInstance I → (o : Option Place) → exam_room I o ≤ 100000
 room_small I known None = omega arith
 room_small I known (Some at) =
     of_room I.rooms (recursion_from_All RoomInLimits I.rooms known.limits.rooms) at.room

@@ -1,5 +1,5 @@
 // The share of the edited exams in the penalty of one of the timetables, each exam once.
-ghost use Rattle.std.specs.Prelude.{◌≡◌, ◌≤◌, ◌*◌, length};
+ghost use Rattle.std.specs.Prelude.{◌≡◌, ◌≤◌, ◌*◌, ◌&&◌, not, nat_lt, length};
 ghost use Rattle.exam_terms.specs.declared.limits.TheConstants.{MAX_AMOUNT, MAX_EXAMS};
 ghost use Rattle.exam_model.specs.Timetable.{place_of};
 ghost use Rattle.exam_model.specs.Enrolments.{has_number};
@@ -13,7 +13,7 @@ use crate::sat_exams::place_in;
 use exam_model::{ExamNo, Instance, Place, Timetable};
 
 // Returns the penalties of their periods and rooms.
-#[tactic(auto, using(exam_model::proofs::SumLemmas::sum_below_more))]
+#[tactic(auto, using(crate::proofs::EditedSumLemmas::sum_more))]
 pub(crate) fn edited_places(
     instance: &Instance,
     timetable: &Timetable,
@@ -26,22 +26,24 @@ pub(crate) fn edited_places(
     ensures small_periods { result.periods ≤ MAX_EXAMS * MAX_AMOUNT }
     ensures small_rooms { result.rooms ≤ MAX_EXAMS * MAX_AMOUNT }
 {
+    instance.lemma_limits();
     let mut sums = PlaceSums {
         periods: 0,
         rooms: 0,
     };
-    for exam in 0..instance.exams() {
-        let exam = ExamNo::new(exam);
-        if is_among(edited, exam) {
-            sums.periods += cost_of_period(instance, place_in(timetable, exam));
-            sums.rooms += cost_of_room(instance, place_in(timetable, exam));
+    let mut left = edited;
+    while let Some((exam, others)) = left.split_first() {
+        if is_further(instance, others, *exam) {
+            sums.periods += cost_of_period(instance, place_in(timetable, *exam));
+            sums.rooms += cost_of_room(instance, place_in(timetable, *exam));
         }
+        left = others;
     }
     sums
 }
 
 // Returns their front load, by the number of each exam's students.
-#[tactic(auto, using(exam_model::proofs::SumLemmas::sum_below_more))]
+#[tactic(auto, using(crate::proofs::EditedSumLemmas::sum_more))]
 pub(crate) fn edited_front(
     instance: &Instance,
     sizes: &[u32],
@@ -53,14 +55,24 @@ pub(crate) fn edited_front(
         (λ e. front_by instance.now sizes.now (place_of timetable.now e) e) }
     ensures small { result ≤ MAX_EXAMS * MAX_AMOUNT }
 {
+    instance.lemma_limits();
     let mut total = 0;
-    for exam in 0..instance.exams() {
-        let exam = ExamNo::new(exam);
-        if is_among(edited, exam) {
-            total += front_share(instance, sizes, exam, place_in(timetable, exam));
+    let mut left = edited;
+    while let Some((exam, others)) = left.split_first() {
+        if is_further(instance, others, *exam) {
+            total += front_share(instance, sizes, *exam, place_in(timetable, *exam));
         }
+        left = others;
     }
     total
+}
+
+// Returns whether the exam exists and is none of the others.
+fn is_further(instance: &Instance, others: &[ExamNo], exam: ExamNo) -> bool
+    ensures { result ≡ (nat_lt exam (length instance.now.exams)
+        && not (has_number others.now exam)) }
+{
+    exam.get() < instance.exams() && !is_among(others, exam)
 }
 
 pub(crate) fn is_among(exams: &[ExamNo], exam: ExamNo) -> bool
