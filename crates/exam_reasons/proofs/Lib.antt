@@ -1,1 +1,2 @@
 pub mod SumLemmas
+pub mod StudentLemmas

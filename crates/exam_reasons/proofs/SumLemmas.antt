@@ -112,7 +112,7 @@ rooms_sum I T same =
 -- ---- all of it
 
 -- the pairs of one kind
-pairs_sum : (I : Session) (E : Enrolled) (T : Placing) (kind : PairKind)
+pub pairs_sum : (I : Session) (E : Enrolled) (T : Placing) (kind : PairKind)
     → sum_by (λ reason. reason.points)
     (all_below (length E) (λ f. all_below f (λ e. listed (pair_reason I E T kind e f))))
     ≡ sum_below (length E) (λ f. sum_below f (λ e. pair_points I E T kind e f))

@@ -1,3 +1,4 @@
 pub mod Lists
 pub mod Reasons
 pub mod AddUp
+pub mod Students

@@ -7,9 +7,11 @@ mod laws;
 mod pair_reasons;
 mod place_reasons;
 mod reasons;
+mod students;
 
 pub use front_reasons::front_reason;
-pub use laws::reasons_add_up;
+pub use laws::{own_reasons_add_up, reasons_add_up};
 pub use pair_reasons::pair_reason;
 pub use place_reasons::{mixed_reason, period_reason, room_reason};
 pub use reasons::{ExamReason, MixedReason, PairKind, PairReason, PlaceReason};
+pub use students::own_enrolments;
