@@ -1,0 +1,2 @@
+mod MoveLemmas
+mod SearchLemmas
