@@ -1,3 +1,6 @@
-mod CheckFacts
+pub mod CheckFacts
+mod CompareFacts
 mod NameFacts
 mod WhyFacts
+mod JsonFacts
+mod StudentFacts

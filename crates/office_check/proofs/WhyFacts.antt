@@ -1,20 +1,11 @@
 -- Lines that are added to what was written and to the buffer.
-use Rattle.std.proofs.Common.{◌≡◌, ◌⊎◌, ◌∙◌, ◌+◌, ◌++◌, [], IfSome, inl, inr, ℕ, List, None, Option, Some, add-one, ap, append-nil, append_assoc, subst, sym}
+use Rattle.std.proofs.Common.{◌≡◌, ◌∙◌, ◌+◌, ◌++◌, [], ℕ, List, None, Option, Some, add-one, ap, append-nil, append_assoc, subst, sym}
 use Rattle.std.specs.Io.KnownBytes.{Appends}
 use Rattle.std.specs.List.{flat_map}
 use Rattle.std.proofs.KnownBytes.{Appends-nil, Appends-trans}
 use Rattle.std.proofs.lemmas.Grind.{flat_map-append}
 use Rattle.exam_reasons.specs.Lists.{all_below, listed}
-use Rattle.exam_model.specs.Enrolments.{Enrolled}
-use Rattle.exam_model.specs.Instance.{Session}
-use Rattle.exam_model.specs.Timetable.{Placing}
-use Rattle.exam_reasons.specs.AddUp.{ReasonsAddUp}
-use Rattle.office_check.specs.Check.{AreReadAs, AreReadFrom, exit_status, report}
-use Rattle.office_check.specs.Refusing.{Refuses}
-use Rattle.office_check.specs.declared.checking.CheckFault.{CheckFault}
-use Rattle.office_check.specs.declared.checking.CheckFault.TheVariants as fault
-use Rattle.office_check.specs.Why.{Adds, Explains, ExplainsFrom, ExplainsSome, why_text}
-use Rattle.office_check.proofs.CheckFacts.{are_read}
+use Rattle.office_check.specs.Why.{Adds}
 
 -- nothing is added
 pub adds_none : (c : Option (List ℕ)) (x : List ℕ) → Adds c c x x []
@@ -81,45 +72,11 @@ all_written a b c d report first last text empty reported adds flushed =
     (subst (Appends b d) (adds.same ∙ ap (λ l. l ++ text) empty)
     (Appends-trans b c d adds.written last adds.appends flushed))
 
--- a timetable that is explained, in texts of the two inputs
-pub explained_from : (a b old new : Option (List ℕ)) (I : Session) (E : Enrolled) (T : Placing)
-    (answer : ℕ) → AreReadFrom a b I E T → Appends old new (report I E T ++ why_text I E T)
-    → ReasonsAddUp I E T → answer ≡ exit_status I E T → ExplainsFrom a b old new answer
-explained_from a b old new I E T answer known written add_up status = record {
-  instance = known.instance;
-  solution = known.solution;
-  of_first = known.of_first;
-  of_second = known.of_second;
-  explains = record {
-    read = are_read known.read;
-    written = written;
-    add_up = add_up;
-    status = status;
-  };
-}
-
--- whatever the inputs were
-pub explained_some : (a b old new : Option (List ℕ)) (answer : ℕ)
-    → ExplainsFrom a b old new answer → ExplainsSome old new answer
-explained_some a b old new answer from =
-    record { instance = from.instance; solution = from.solution; explains = from.explains }
-
--- both inputs are known
-pub explained_both : (a b old new : Option (List ℕ)) (answer : ℕ)
-    → ExplainsFrom a b old new answer
-    → IfSome a (λ instance. IfSome b (λ solution. Explains instance solution old new answer))
-explained_both None b old new answer from = tt
-explained_both (Some instance) None old new answer from = tt
-explained_both (Some instance) (Some solution) old new answer from =
-    subst (λ one. Explains one solution old new answer) (sym from.of_first)
-    (subst (λ two. Explains from.instance two old new answer) (sym from.of_second) from.explains)
-
--- a fault after both texts were read
-pub refused_late : (a b : Option (List ℕ)) (I : Session) (E : Enrolled) (T : Placing)
-    (f : CheckFault) → IfSome a (λ instance. IfSome b (λ solution. AreReadAs instance solution I E T))
-    → (f ≡ fault.Write) ⊎ (f ≡ fault.NoMemory)
-    → IfSome a (λ instance. IfSome b (λ solution. Refuses instance solution f))
-refused_late None b I E T f known late = tt
-refused_late (Some instance) None I E T f known late = tt
-refused_late (Some instance) (Some solution) I E T f known (inl is) = rw is (are_read known)
-refused_late (Some instance) (Some solution) I E T f known (inr is) = rw is tt
+-- a report, then the lines that are written meanwhile, then those in the buffer with one more
+pub own_written : (a b c d : Option (List ℕ)) (report first last more text line : List ℕ)
+    → first ≡ [] → Appends a b report → Adds b c first last text → more ≡ last ++ line
+    → Appends c d more → Appends a d (report ++ text ++ line)
+own_written a b c d report first last more text line empty reported adds added flushed =
+    subst (Appends a d) (sym (append_assoc report text line))
+    (all_written a b c d report first more (text ++ line) empty reported
+    (adds_then b c c first last more text line adds (adds_line c last more line added)) flushed)

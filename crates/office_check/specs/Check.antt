@@ -42,19 +42,6 @@ pub record AreReadAs (instance solution : List ℕ) (I : Session) (E : Enrolled)
   pub session : InstanceText instance I E
   pub timetable : SolutionText solution I T
 
--- both texts have a reading, and these are its report and its status
-pub record IsJudgement (instance solution text : List ℕ) (answer : ℕ) : Type 0 where
-  pub read : AreRead instance solution
-  pub spells : text ≡ report read.first.session read.first.enrolled read.placing
-  pub status : answer ≡ exit_status read.first.session read.first.enrolled read.placing
-
--- both texts have a reading, its report is written, and its status is answered
-pub record Reports (instance solution : List ℕ) (old new : Option (List ℕ)) (answer : ℕ)
-    : Type 0 where
-  pub read : AreRead instance solution
-  pub written : Appends old new (report read.first.session read.first.enrolled read.placing)
-  pub status : answer ≡ exit_status read.first.session read.first.enrolled read.placing
-
 -- the text is that of the input, if that is known
 abbrev pub IsInput : Option (List ℕ) → List ℕ → Type 0
 IsInput input text = IfSome input (λ known. known ≡ text)
@@ -68,25 +55,33 @@ pub record AreReadFrom (first second : Option (List ℕ)) (I : Session) (E : Enr
   pub of_second : IsInput second solution
   pub read : AreReadAs instance solution I E T
 
--- texts of the two inputs have a reading, and these are its report and its status
-pub record IsJudgementFrom (first second : Option (List ℕ)) (text : List ℕ) (answer : ℕ)
+-- both texts have a reading, of which this holds
+pub record OfTexts (instance solution : List ℕ) (P : Session → Enrolled → Placing → Type 0)
+    : Type 0 where
+  pub read : AreRead instance solution
+  pub holds : P read.first.session read.first.enrolled read.placing
+
+-- texts of the two inputs have a reading, of which this holds
+pub record OfInputs (first second : Option (List ℕ)) (P : Session → Enrolled → Placing → Type 0)
     : Type 0 where
   pub instance : List ℕ
   pub solution : List ℕ
   pub of_first : IsInput first instance
   pub of_second : IsInput second solution
-  pub judged : IsJudgement instance solution text answer
+  pub texts : OfTexts instance solution P
 
--- texts of the two inputs have a reading, its report is written, and its status is answered
-pub record WritesReportFrom (first second old new : Option (List ℕ)) (answer : ℕ) : Type 0 where
+-- whatever the texts were: some two have a reading, of which this holds
+pub record OfSome (P : Session → Enrolled → Placing → Type 0) : Type 0 where
   pub instance : List ℕ
   pub solution : List ℕ
-  pub of_first : IsInput first instance
-  pub of_second : IsInput second solution
-  pub reports : Reports instance solution old new answer
+  pub texts : OfTexts instance solution P
 
--- whatever the texts were: some two have a reading, its report is written, and its status is answered
-pub record WritesReport (old new : Option (List ℕ)) (answer : ℕ) : Type 0 where
-  pub instance : List ℕ
-  pub solution : List ℕ
-  pub reports : Reports instance solution old new answer
+-- the report is written, and its status is answered
+pub record IsReported (I : Session) (E : Enrolled) (T : Placing) (old new : Option (List ℕ))
+    (answer : ℕ) : Type 0 where
+  pub written : Appends old new (report I E T)
+  pub status : answer ≡ exit_status I E T
+
+-- some two texts have a reading, its report is written, and its status is answered
+abbrev pub WritesReport : Option (List ℕ) → Option (List ℕ) → ℕ → Type 0
+WritesReport old new answer = OfSome (λ I E T. IsReported I E T old new answer)

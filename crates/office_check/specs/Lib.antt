@@ -4,3 +4,5 @@ pub mod Verdicts
 pub mod Listing
 pub mod Names
 pub mod Why
+pub mod Compare
+pub mod Student

@@ -15,7 +15,7 @@ use Rattle.exam_reasons.specs.declared.reasons.PairKind.{PairKind}
 use Rattle.exam_reasons.specs.declared.reasons.PairKind.TheVariants.{Day, Night, Row, Spread}
 use Rattle.exam_reasons.specs.declared.reasons.PairReason.{PairReason}
 use Rattle.exam_reasons.specs.declared.reasons.PlaceReason.{PlaceReason}
-use Rattle.office_check.specs.Check.{AreRead, IsInput, exit_status, report}
+use Rattle.office_check.specs.Check.{OfSome, exit_status, report}
 use Rattle.office_check.specs.declared.explaining.Subject.{Subject}
 
 -- ---- the lines
@@ -51,39 +51,31 @@ place_line name r = name ++ 32 ∷ decimal r.number ++ 32 ∷ decimal r.exams
 abbrev pub pairs_text : Session → Enrolled → Placing → PairKind → List ℕ
 pairs_text I E T kind = flat_map (pair_line kind) (pair_reasons I E T kind)
 
+-- the lines of all pairs, kind by kind
+abbrev pub all_pairs_text : Session → Enrolled → Placing → List ℕ
+all_pairs_text I E T = pairs_text I E T Row ++ pairs_text I E T Day ++ pairs_text I E T Spread
+    ++ pairs_text I E T Night
+
 -- the lines of all summands, in the order of the report's parts
 abbrev pub why_text : Session → Enrolled → Placing → List ℕ
-why_text I E T = pairs_text I E T Row ++ pairs_text I E T Day ++ pairs_text I E T Spread
-    ++ pairs_text I E T Night ++ flat_map mixed_line (mixed_reasons I T)
+why_text I E T = all_pairs_text I E T ++ flat_map mixed_line (mixed_reasons I T)
     ++ flat_map front_line (front_reasons I E T)
     ++ flat_map (place_line (codes "period")) (period_reasons I T)
     ++ flat_map (place_line (codes "room")) (room_reasons I T)
 
 -- ---- the output
 
--- both texts have a reading; its report and all summands of its penalty, which add up to the
--- report's numbers, are written, and its status is answered
-pub record Explains (instance solution : List ℕ) (old new : Option (List ℕ)) (answer : ℕ)
-    : Type 0 where
-  pub read : AreRead instance solution
-  pub written : Appends old new (report read.first.session read.first.enrolled read.placing
-      ++ why_text read.first.session read.first.enrolled read.placing)
-  pub add_up : ReasonsAddUp read.first.session read.first.enrolled read.placing
-  pub status : answer ≡ exit_status read.first.session read.first.enrolled read.placing
+-- the report and all summands of the penalty, which add up to the report's numbers, are written, and
+-- the status is answered
+pub record IsExplained (I : Session) (E : Enrolled) (T : Placing) (old new : Option (List ℕ))
+    (answer : ℕ) : Type 0 where
+  pub written : Appends old new (report I E T ++ why_text I E T)
+  pub add_up : ReasonsAddUp I E T
+  pub status : answer ≡ exit_status I E T
 
--- the same of texts of the two inputs
-pub record ExplainsFrom (first second old new : Option (List ℕ)) (answer : ℕ) : Type 0 where
-  pub instance : List ℕ
-  pub solution : List ℕ
-  pub of_first : IsInput first instance
-  pub of_second : IsInput second solution
-  pub explains : Explains instance solution old new answer
-
--- whatever the texts were: some two have a reading, which is explained
-pub record ExplainsSome (old new : Option (List ℕ)) (answer : ℕ) : Type 0 where
-  pub instance : List ℕ
-  pub solution : List ℕ
-  pub explains : Explains instance solution old new answer
+-- some two texts have a reading, which is explained
+abbrev pub ExplainsSome : Option (List ℕ) → Option (List ℕ) → ℕ → Type 0
+ExplainsSome old new answer = OfSome (λ I E T. IsExplained I E T old new answer)
 
 -- ---- the buffer
 

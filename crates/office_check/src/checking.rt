@@ -1,26 +1,24 @@
-// Judging one solution.
-ghost use Rattle.std.specs.Prelude.{◌≡◌, ◌≢◌, ◌⊎◌, ◌+◌, ℕ, List, All, length, string_bytes};
+// Tasks on one solution, by the texts of two readers.
+ghost use Rattle.std.specs.Prelude.{◌≡◌, ◌≢◌, ◌⊎◌, ◌+◌, ℕ, List, Option, All, length};
 ghost use Rattle.std.specs.Prelude.{IfErr, IfOk, IfSome};
 ghost use Rattle.exam_terms.specs.declared.limits.TheConstants.{INSTANCE_BYTES, TEXT_BYTES};
 ghost use Rattle.std.specs.Io.KnownBytes.{Keeps};
+ghost use Rattle.exam_model.specs.Enrolments.{Enrolled};
 ghost use Rattle.exam_model.specs.Fits.{Fits, PlaceExists};
+ghost use Rattle.exam_model.specs.Instance.{Session};
+ghost use Rattle.exam_model.specs.Timetable.{Placing};
 ghost use Rattle.office_files.specs.FirstFault.{first_fault, first_solution_fault};
 ghost use Rattle.office_files.specs.InstanceText.{InstanceText};
 ghost use Rattle.office_files.specs.SolutionText.{SolutionText};
 ghost use Rattle.office_files.specs.Inputs.{RefusesFile, ReadsAtMost};
-ghost use Rattle.office_check.specs.Check.{AreReadAs, AreReadFrom, IsJudgement, IsJudgementFrom};
+ghost use Rattle.office_check.specs.Check.{AreReadAs, AreReadFrom, OfInputs, OfSome, OfTexts};
 ghost use Rattle.office_check.specs.Refusing.{Refuses, of_instance, of_solution};
-ghost use Rattle.office_check.specs.Check.{Reports, WritesReport, WritesReportFrom, exit_status};
-ghost use Rattle.office_check.specs.Check.{report};
 
 use exam_model::{Enrolments, Instance, Timetable};
-use exam_rules::breaches;
-use exam_score::score;
 use office_files::{
     FileFault, InputFault, instance_text, read_instance, read_solution, solution_text,
 };
-use office_reports::{penalty_report, violation_report};
-use std::alloc::{AllocError, Global};
+use std::alloc::Global;
 use std::io::{Read, Write};
 
 /// Why a solution is not judged, in the order of the work.
@@ -40,35 +38,58 @@ pub enum CheckFault {
     NoMemory,
 }
 
-// The printed text for a solution, and the exit status.
-#[derive(Drop)]
-pub(crate) struct Judgement {
-    pub(crate) text: String,
-    pub(crate) status: u8,
+/// A task on a solution whose session and timetable are read.
+pub trait SolutionTask {
+    type Answer;
+
+    // This is written, by what the writer had before and has now, and answered.
+    ghost writes: { Self → Session → Enrolled → Placing → Option (List ℕ) → Option (List ℕ)
+        → Self.Answer → Type 0 };
+
+    /// Does the task. All memory is taken before the first byte is written.
+    fn write<W: Write>(
+        &self,
+        alloc: Global,
+        instance: &Instance,
+        enrolments: &Enrolments,
+        timetable: &Timetable,
+        writer: &mut W,
+    ) -> Result<Self::Answer, CheckFault>
+        requires fits { Fits instance.now enrolments.now timetable.now }
+        ensures written { IfOk result (writes self.now instance.now enrolments.now timetable.now
+            (W.contents writer.old) (W.contents writer.new)) }
+        ensures faults { IfErr result (λ fault.
+            (fault ≡ CheckFault.Write) ⊎ (fault ≡ CheckFault.NoMemory)) }
+        ensures unwritten { IfErr result (λ fault. fault ≢ CheckFault.Write
+            → Keeps (W.contents writer.old) (W.contents writer.new)) };
 }
 
-/// Judges the solution, and writes its report. Each reader has 5,000,000 reads; an interrupted read
-/// counts, and is retried.
-pub fn check_run<R: Read, Q: Read, W: Write>(
+/// Does the task on the solution of two readers. Each reader has 5,000,000 reads; an interrupted
+/// read counts, and is retried.
+pub fn task_run<K: SolutionTask, R: Read, Q: Read, W: Write>(
     alloc: Global,
+    task: &K,
     instance_reader: &mut R,
     solution_reader: &mut Q,
     writer: &mut W,
-) -> Result<u8, CheckFault>
-    // The status is 3 exactly if the reported solution breaks a hard rule.
-    ensures done { IfOk result (λ status. IfSome (R.remaining instance_reader.old) (λ instance.
+) -> Result<K::Answer, CheckFault>
+    ensures done { IfOk result (λ answer. IfSome (R.remaining instance_reader.old) (λ instance.
         IfSome (Q.remaining solution_reader.old) (λ solution.
-        Reports instance solution (W.contents writer.old) (W.contents writer.new) status))) }
-    ensures status { IfOk result (λ status. (status ≡ 0) ⊎ (status ≡ 3)) }
+        OfTexts instance solution (λ session enrolled placing.
+        K.writes task.now session enrolled placing
+        (W.contents writer.old) (W.contents writer.new) answer)))) }
 
-    // Even if the readers' bytes are not known, the report of two texts is written; a text that is
-    // known is one of them.
-    ensures reported { IfOk result
-        (WritesReport (W.contents writer.old) (W.contents writer.new)) }
-    ensures from { IfOk result (WritesReportFrom (R.remaining instance_reader.old)
-        (Q.remaining solution_reader.old) (W.contents writer.old) (W.contents writer.new)) }
+    // Even if the readers' bytes are not known, the task is done on two texts; a text that is known
+    // is one of them.
+    ensures some { IfOk result (λ answer. OfSome (λ session enrolled placing.
+        K.writes task.now session enrolled placing
+        (W.contents writer.old) (W.contents writer.new) answer)) }
+    ensures from { IfOk result (λ answer. OfInputs (R.remaining instance_reader.old)
+        (Q.remaining solution_reader.old) (λ session enrolled placing.
+        K.writes task.now session enrolled placing
+        (W.contents writer.old) (W.contents writer.new) answer)) }
 
-    // In the order of the work: the instance, the solution, the report.
+    // In the order of the work: the instance, the solution, the output.
     ensures refused { IfErr result (λ fault. IfSome (R.remaining instance_reader.old) (λ instance.
         IfSome (Q.remaining solution_reader.old) (λ solution. Refuses instance solution fault))) }
     ensures unwritten { IfErr result (λ fault. fault ≢ CheckFault.Write
@@ -80,37 +101,9 @@ pub fn check_run<R: Read, Q: Read, W: Write>(
     ensures solution_taken { ReadsAtMost (TEXT_BYTES + 1)
         (Q.remaining solution_reader.old) (Q.remaining solution_reader.new) }
 {
-    let judged = judgement_of(alloc, instance_reader, solution_reader)?;
-    match writer.write_all(judged.text.as_bytes()) {
-        Ok(()) => Ok(judged.status),
-        Err(_) => Err(CheckFault::Write),
-    }
-}
-
-// Returns the judgement on the two readers' texts.
-fn judgement_of<R: Read, Q: Read>(
-    alloc: Global,
-    instance_reader: &mut R,
-    solution_reader: &mut Q,
-) -> Result<Judgement, CheckFault>
-    ensures ok { IfOk result (λ judged. IfSome (R.remaining instance_reader.old) (λ instance.
-        IfSome (Q.remaining solution_reader.old) (λ solution.
-        IsJudgement instance solution (string_bytes judged.text) judged.status))) }
-    ensures from { IfOk result (λ judged. IsJudgementFrom (R.remaining instance_reader.old)
-        (Q.remaining solution_reader.old) (string_bytes judged.text) judged.status) }
-    ensures within { IfOk result (λ judged. (judged.status ≡ 0) ⊎ (judged.status ≡ 3)) }
-    ensures refused { IfErr result (λ fault. IfSome (R.remaining instance_reader.old) (λ instance.
-        IfSome (Q.remaining solution_reader.old) (λ solution. Refuses instance solution fault))) }
-    ensures instance_taken { ReadsAtMost (INSTANCE_BYTES + 1)
-        (R.remaining instance_reader.old) (R.remaining instance_reader.new) }
-    ensures solution_taken { ReadsAtMost (TEXT_BYTES + 1)
-        (Q.remaining solution_reader.old) (Q.remaining solution_reader.new) }
-{
     let (instance, enrolments, timetable) = files_of(alloc, instance_reader, solution_reader)?;
-    match judge(alloc, &instance, &enrolments, &timetable) {
-        Ok(judged) => Ok(judged),
-        Err(_) => Err(CheckFault::NoMemory),
-    }
+    let answer = task.write(alloc, &instance, &enrolments, &timetable, writer)?;
+    Ok(answer)
 }
 
 // Returns the session and the timetable that the two readers' texts describe.
@@ -198,25 +191,4 @@ fn of_solution(fault: InputFault) -> CheckFault
         InputFault::File(fault) => CheckFault::Solution(fault),
         InputFault::NoMemory => CheckFault::NoMemory,
     }
-}
-
-// Returns the text of a solution's breaches and penalty, and the exit status.
-pub(crate) fn judge(
-    alloc: Global,
-    instance: &Instance,
-    enrolments: &Enrolments,
-    timetable: &Timetable,
-) -> Result<Judgement, AllocError>
-    requires { Fits instance.now enrolments.now timetable.now }
-    ensures text { IfOk result (λ judged.
-        string_bytes judged.text ≡ report instance.now enrolments.now timetable.now) }
-    ensures status { IfOk result (λ judged.
-        judged.status ≡ exit_status instance.now enrolments.now timetable.now) }
-{
-    let found = breaches(alloc, instance, enrolments, timetable)?;
-    let parts = score(alloc, instance, enrolments, timetable)?;
-    let mut text = violation_report(alloc, &found)?;
-    text.push_str(penalty_report(alloc, parts)?.as_str())?;
-    let status = if found.is_empty() { 0 } else { 3 };
-    Ok(Judgement { text, status })
 }

@@ -1,22 +1,15 @@
-// Judging one solution, and listing each summand of its penalty.
-ghost use Rattle.std.specs.Prelude.{◌≡◌, ◌≢◌, ◌⊎◌, ◌<◌, ◌+◌, ◌++◌, [], IfErr, IfOk, IfSome, OnOk};
-ghost use Rattle.std.specs.Prelude.{codes, length, string_bytes};
-ghost use Rattle.std.specs.Io.KnownBytes.{Appends, Keeps};
+// The report on one solution, and each summand of its penalty.
+ghost use Rattle.std.specs.Prelude.{◌≡◌, ◌<◌, ◌++◌, [], OnOk, codes, length, string_bytes};
+ghost use Rattle.std.specs.Io.KnownBytes.{Appends};
 ghost use Rattle.std.specs.List.{flat_map};
-ghost use Rattle.exam_terms.specs.declared.limits.TheConstants.{INSTANCE_BYTES, TEXT_BYTES};
-ghost use Rattle.exam_model.specs.Fits.{Fits};
-ghost use Rattle.office_files.specs.Inputs.{ReadsAtMost};
-ghost use Rattle.exam_reasons.specs.AddUp.{ReasonsAddUp};
 ghost use Rattle.exam_reasons.specs.Lists.{all_below, listed};
 ghost use Rattle.exam_reasons.specs.Reasons.{front_reason, front_reasons, mixed_reason, mixed_reasons};
 ghost use Rattle.exam_reasons.specs.Reasons.{pair_reason, period_reason, period_reasons, room_reason, room_reasons};
-ghost use Rattle.office_check.specs.Check.{exit_status, report};
-ghost use Rattle.office_check.specs.Refusing.{Refuses};
-ghost use Rattle.office_check.specs.Why.{Adds, Explains, ExplainsFrom, ExplainsSome, IsSubject};
-ghost use Rattle.office_check.specs.Why.{front_line, kind_name, mixed_line, pair_line, pairs_text};
-ghost use Rattle.office_check.specs.Why.{place_line, why_text};
+ghost use Rattle.office_check.specs.Why.{Adds, IsSubject, all_pairs_text, front_line, kind_name};
+ghost use Rattle.office_check.specs.Why.{mixed_line, pair_line, pairs_text, place_line, why_text};
 
-use crate::checking::{CheckFault, files_of, judge};
+use crate::checking::{CheckFault, SolutionTask};
+use crate::reporting::judge;
 use exam_model::{Enrolments, ExamNo, Instance, PeriodNo, RoomNo, Timetable};
 use exam_reasons::{
     ExamReason, MixedReason, PairKind, PairReason, PlaceReason, front_reason, mixed_reason,
@@ -24,93 +17,55 @@ use exam_reasons::{
 };
 use exam_score::sizes_of;
 use std::alloc::{AllocError, Global};
-use std::io::{self, Read, Write};
+use std::io::{self, Write};
 
 // How many bytes of lines are held back before they are written.
 const FULL: usize = 32_768;
 
 // The buffer of the lines has room for as many bytes, and for one more line, so that it never grows.
-const ROOM: usize = FULL + 256;
+pub(crate) const ROOM: usize = FULL + 256;
 
-/// Judges the solution, and writes its report and then each summand of its penalty: pairs of exams,
-/// rooms and periods with mixed durations, exams of the front load, periods and rooms. All memory is
-/// taken before the first byte is written. Each reader has 5,000,000 reads; an interrupted read
-/// counts, and is retried.
-pub fn why_run<R: Read, Q: Read, W: Write>(
-    alloc: Global,
-    instance_reader: &mut R,
-    solution_reader: &mut Q,
-    writer: &mut W,
-) -> Result<u8, CheckFault>
-    // The points of each kind of line add up to the report's number.
-    ensures done { IfOk result (λ status. IfSome (R.remaining instance_reader.old) (λ instance.
-        IfSome (Q.remaining solution_reader.old) (λ solution.
-        Explains instance solution (W.contents writer.old) (W.contents writer.new) status))) }
-    ensures status { IfOk result (λ status. (status ≡ 0) ⊎ (status ≡ 3)) }
+/// Writes the report and then each summand of the penalty: pairs of exams, rooms and periods with
+/// mixed durations, exams of the front load, periods and rooms. The answer is the exit status.
+#[derive(Clone, Copy)]
+pub struct Why;
 
-    // Even if the readers' bytes are not known, two texts are explained; a text that is known is one
-    // of them.
-    ensures explained { IfOk result (ExplainsSome (W.contents writer.old) (W.contents writer.new)) }
-    ensures from { IfOk result (ExplainsFrom (R.remaining instance_reader.old)
-        (Q.remaining solution_reader.old) (W.contents writer.old) (W.contents writer.new)) }
+impl SolutionTask for Why {
+    type Answer = u8;
 
-    // In the order of the work: the instance, the solution, the report.
-    ensures refused { IfErr result (λ fault. IfSome (R.remaining instance_reader.old) (λ instance.
-        IfSome (Q.remaining solution_reader.old) (λ solution. Refuses instance solution fault))) }
-    ensures unwritten { IfErr result (λ fault. fault ≢ CheckFault.Write
-        → Keeps (W.contents writer.old) (W.contents writer.new)) }
+    ghost use Rattle.office_check.specs.Why.{IsExplained};
 
-    // Each reader is read at most one byte past its limit.
-    ensures instance_taken { ReadsAtMost (INSTANCE_BYTES + 1)
-        (R.remaining instance_reader.old) (R.remaining instance_reader.new) }
-    ensures solution_taken { ReadsAtMost (TEXT_BYTES + 1)
-        (Q.remaining solution_reader.old) (Q.remaining solution_reader.new) }
-{
-    let (instance, enrolments, timetable) = files_of(alloc, instance_reader, solution_reader)?;
-    let status = explain(alloc, &instance, &enrolments, &timetable, writer)?;
-    Ok(status)
-}
+    ghost writes = { λ _ session enrolled placing old new status.
+        IsExplained session enrolled placing old new status };
 
-// Writes the report on a timetable and the summands of its penalty. Returns the exit status.
-fn explain<W: Write>(
-    alloc: Global,
-    instance: &Instance,
-    enrolments: &Enrolments,
-    timetable: &Timetable,
-    writer: &mut W,
-) -> Result<u8, CheckFault>
-    requires { Fits instance.now enrolments.now timetable.now }
-    ensures status { IfOk result (λ status.
-        status ≡ exit_status instance.now enrolments.now timetable.now) }
-    ensures written { IfOk result (λ _. Appends (W.contents writer.old) (W.contents writer.new)
-        (report instance.now enrolments.now timetable.now
-        ++ why_text instance.now enrolments.now timetable.now)) }
-    ensures add_up { IfOk result (λ _.
-        ReasonsAddUp instance.now enrolments.now timetable.now) }
-    ensures faults { IfErr result (λ fault.
-        (fault ≡ CheckFault.Write) ⊎ (fault ≡ CheckFault.NoMemory)) }
-    ensures unwritten { IfErr result (λ fault. fault ≢ CheckFault.Write
-        → Keeps (W.contents writer.old) (W.contents writer.new)) }
-{
-    reasons_add_up();
-    let Ok(judged) = judge(alloc, instance, enrolments, timetable) else {
-        return Err(CheckFault::NoMemory);
-    };
-    let Ok(sizes) = sizes_of(alloc, enrolments) else {
-        return Err(CheckFault::NoMemory);
-    };
-    let Ok(mut lines) = String::with_capacity(alloc, ROOM) else {
-        return Err(CheckFault::NoMemory);
-    };
-    let subject = Subject {
-        instance,
-        enrolments,
-        timetable,
-        sizes: &sizes,
-    };
-    match write_all(writer, &mut lines, judged.text.as_str(), &subject) {
-        Ok(()) => Ok(judged.status),
-        Err(_) => Err(CheckFault::Write),
+    fn write<W: Write>(
+        &self,
+        alloc: Global,
+        instance: &Instance,
+        enrolments: &Enrolments,
+        timetable: &Timetable,
+        writer: &mut W,
+    ) -> Result<u8, CheckFault> {
+        reasons_add_up();
+        let Ok(judged) = judge(alloc, instance, enrolments, timetable) else {
+            return Err(CheckFault::NoMemory);
+        };
+        let Ok(sizes) = sizes_of(alloc, enrolments) else {
+            return Err(CheckFault::NoMemory);
+        };
+        let Ok(mut lines) = String::with_capacity(alloc, ROOM) else {
+            return Err(CheckFault::NoMemory);
+        };
+        let subject = Subject {
+            instance,
+            enrolments,
+            timetable,
+            sizes: &sizes,
+        };
+        match write_all(writer, &mut lines, judged.text.as_str(), &subject) {
+            Ok(()) => Ok(judged.status),
+            Err(_) => Err(CheckFault::Write),
+        }
     }
 }
 
@@ -150,14 +105,30 @@ fn add_all<W: Write>(writer: &mut W, lines: &mut String, subject: &Subject) -> i
         (why_text subject.now.instance.now subject.now.enrolments.now
         subject.now.timetable.now)) }
 {
-    add_pairs(writer, lines, subject, PairKind::Row)?;
-    add_pairs(writer, lines, subject, PairKind::Day)?;
-    add_pairs(writer, lines, subject, PairKind::Spread)?;
-    add_pairs(writer, lines, subject, PairKind::Night)?;
+    add_all_pairs(writer, lines, subject)?;
     add_mixed(writer, lines, subject)?;
     add_front(writer, lines, subject)?;
     add_periods(writer, lines, subject)?;
     add_rooms(writer, lines, subject)?;
+    Ok(())
+}
+
+// Adds the lines of all pairs, kind by kind.
+pub(crate) fn add_all_pairs<W: Write>(
+    writer: &mut W,
+    lines: &mut String,
+    subject: &Subject,
+) -> io::Result<()>
+    requires { IsSubject subject.now }
+    ensures { OnOk result (Adds (W.contents writer.old) (W.contents writer.new)
+        (string_bytes lines.old) (string_bytes lines.new)
+        (all_pairs_text subject.now.instance.now subject.now.enrolments.now
+        subject.now.timetable.now)) }
+{
+    add_pairs(writer, lines, subject, PairKind::Row)?;
+    add_pairs(writer, lines, subject, PairKind::Day)?;
+    add_pairs(writer, lines, subject, PairKind::Spread)?;
+    add_pairs(writer, lines, subject, PairKind::Night)?;
     Ok(())
 }
 

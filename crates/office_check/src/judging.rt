@@ -1,6 +1,6 @@
 // Judging many solutions of one session, each with its own line.
 ghost use Rattle.std.specs.Prelude.{◌≡◌, ◌==◌, ◌+◌, ◌++◌, ℕ, List, IfErr, IfOk, IfSome};
-ghost use Rattle.std.specs.Prelude.{OnOk, length, not, string_bytes};
+ghost use Rattle.std.specs.Prelude.{OnOk, length, map, not, string_bytes};
 ghost use Rattle.std.specs.List.{flat_map};
 ghost use Rattle.serde_json.specs.View.{view};
 ghost use Rattle.exam_terms.specs.declared.limits.TheConstants.{INSTANCE_BYTES, TEXT_BYTES};
@@ -8,15 +8,17 @@ ghost use Rattle.exam_model.specs.Fits.{Fits};
 ghost use Rattle.office_files.specs.FirstFault.{first_fault, first_solution_fault};
 ghost use Rattle.office_files.specs.InstanceText.{InstanceText};
 ghost use Rattle.office_files.specs.Inputs.{RefusesFile, ReadsAtMost};
-ghost use Rattle.office_check.specs.Verdicts.{IsVerdict, IsVerdictOn, column, json_line, plain_line};
-ghost use Rattle.office_check.specs.Verdicts.{numbers_of, verdict_data, verdict_line};
+ghost use Rattle.office_check.specs.Check.{status_of};
+ghost use Rattle.office_check.specs.Verdicts.{IsVerdict, IsVerdictOn, breach_data, column, json_line};
+ghost use Rattle.office_check.specs.Verdicts.{numbers_of, plain_line, verdict_data, verdict_line};
 
 use crate::checking::{instance_of, solution_of};
 use crate::names::FileName;
 use exam_model::{Enrolments, Instance, Timetable};
-use exam_rules::breaches;
+use exam_rules::{Breach, breaches};
 use exam_score::{Parts, score};
 use office_files::InputFault;
+use office_reports::rule_name;
 use serde_json::{Value, json};
 use std::alloc::{AllocError, Global};
 use std::io::Read;
@@ -46,10 +48,10 @@ impl Model for Judge {
 }
 
 /// The result of judging a solution.
-#[derive(Clone, Copy)]
+#[derive(Drop)]
 pub struct Verdict {
-    /// How many breaches of hard rules it has.
-    pub breaches: usize,
+    /// Its breaches of hard rules.
+    pub breaches: Vec<Breach>,
     /// Its penalty.
     pub parts: Parts,
 }
@@ -139,7 +141,7 @@ fn judge_by<R: Read>(
 }
 
 // Returns the breaches and the penalty of a timetable.
-fn verdict_on(
+pub(crate) fn verdict_on(
     alloc: Global,
     instance: &Instance,
     enrolments: &Enrolments,
@@ -151,7 +153,7 @@ fn verdict_on(
     let found = breaches(alloc, instance, enrolments, timetable)?;
     let parts = score(alloc, instance, enrolments, timetable)?;
     Ok(Verdict {
-        breaches: found.len(),
+        breaches: found,
         parts,
     })
 }
@@ -159,9 +161,16 @@ fn verdict_on(
 impl Verdict {
     /// Returns whether the solution breaks a hard rule.
     pub fn has_breach(&self) -> bool
-        ensures { result ≡ not (self.now.breaches == 0) }
+        ensures { result ≡ not (length self.now.breaches.items == 0) }
     {
-        self.breaches != 0
+        !self.breaches.is_empty()
+    }
+
+    // Returns the exit status.
+    pub(crate) fn status(&self) -> u8
+        ensures { result ≡ status_of self.now.breaches.items }
+    {
+        if self.breaches.is_empty() { 0 } else { 3 }
     }
 
     /// Returns the line of a verdict on the solution at this path.
@@ -192,7 +201,7 @@ impl Verdict {
     {
         let parts = self.parts;
         [
-            self.breaches as u64,
+            self.breaches.len() as u64,
             parts.total(),
             parts.row(),
             parts.day(),
@@ -217,8 +226,10 @@ impl Verdict {
     fn json_value(&self, alloc: Global, path: &str) -> Result<Value, AllocError>
         ensures { IfOk result (λ value. view value ≡ verdict_data path.now self.now) }
     {
+        let broken = Value::Array(breach_values(alloc, &self.breaches)?);
         json!(in alloc; {
-            "breaches": self.breaches as u64,
+            "breaches": self.breaches.len() as u64,
+            "broken": broken,
             "day": self.parts.day(),
             "front": self.parts.front(),
             "mixed": self.parts.mixed(),
@@ -231,6 +242,28 @@ impl Verdict {
             "total": self.parts.total()
         })
     }
+}
+
+// Returns breaches as objects of JSON.
+fn breach_values(alloc: Global, breaches: &[Breach]) -> Result<Vec<Value>, AllocError>
+    ensures { IfOk result (λ values. map view values.items ≡ map breach_data breaches.now) }
+{
+    let mut values = Vec::with_capacity(alloc, breaches.len())?;
+    for breach in breaches {
+        values.push(breach_value(alloc, breach)?)?;
+    }
+    Ok(values)
+}
+
+// Returns a breach as an object of JSON.
+fn breach_value(alloc: Global, breach: &Breach) -> Result<Value, AllocError>
+    ensures { IfOk result (λ value. view value ≡ breach_data breach.now) }
+{
+    json!(in alloc; {
+        "exam": breach.exam.get(),
+        "other": breach.other.get(),
+        "rule": rule_name(breach.rule)
+    })
 }
 
 // Adds numbers, with a space after each.

@@ -1,6 +1,6 @@
 // Checks over devices that fail or are interrupted.
 use crate::given::assert_same;
-use office_check::{CheckFault, check_run};
+use office_check::{CheckFault, Report, task_run};
 use office_files::{FaultKind, FileFault, InputFault, instance_text, solution_text};
 use std::io::{self, ErrorKind, Read, Write};
 use std::test::Fail;
@@ -69,7 +69,13 @@ fn a_failed_device_is_named(rt: HostRuntime) {
             bytes: solution,
         };
         let mut printed: Vec<u8> = Vec::new(rt.alloc());
-        let found = check_run(rt.alloc(), &mut instance, &mut timetable, &mut printed);
+        let found = task_run(
+            rt.alloc(),
+            &Report,
+            &mut instance,
+            &mut timetable,
+            &mut printed,
+        );
         assert_same(&rt, found, wanted, row);
     }
 }
@@ -81,7 +87,7 @@ fn a_writer_that_fails_is_named(rt: HostRuntime) {
         bytes: None,
     };
     let (mut exam, mut solution) = (SMALL_EXAM.as_bytes(), SMALL_SOLUTION.as_bytes());
-    let found = check_run(rt.alloc(), &mut exam, &mut solution, &mut broken);
+    let found = task_run(rt.alloc(), &Report, &mut exam, &mut solution, &mut broken);
     assert_same(&rt, found, Err(CheckFault::Write), "writer");
 }
 

@@ -5,7 +5,5 @@ use Rattle.office_check.proofs.explaining.add_all.Goals as goal
 pub returns : goal.returns
 returns g c =
     adds_then _ _ _ _ _ _ _ _ (adds_then _ _ _ _ _ _ _ _ (adds_then _ _ _ _ _ _ _ _
-    (adds_then _ _ _ _ _ _ _ _ (adds_then _ _ _ _ _ _ _ _ (adds_then _ _ _ _ _ _ _ _
-    (adds_then _ _ _ _ _ _ _ _ c.in_ok-add_pairs.ensures c.in_ok-add_pairs-2.ensures)
-    c.in_ok-add_pairs-3.ensures) c.in_ok-add_pairs-4.ensures) c.in_ok-add_mixed.ensures)
+    (adds_then _ _ _ _ _ _ _ _ c.in_ok-add_all_pairs.ensures c.in_ok-add_mixed.ensures)
     c.in_ok-add_front.ensures) c.in_ok-add_periods.ensures) c.in_ok-add_rooms.ensures
