@@ -49,6 +49,8 @@ STREAMS = {
     "the older HTTP, and no answer to what follows":
         (b"GET /me HTTP/1.0\r\nX-Caller: cand:99\r\n\r\nGET", ASKED[1]),
     "HEAD": (message("HEAD", "/me"), b"HTTP/1.1 405 Method Not Allowed\r\nAllow: GET\r\n\r\n"),
+    "HEAD where an exam can go": (message("HEAD", "/drafts/1/exams/3/places"),
+                                  b"HTTP/1.1 405 Method Not Allowed\r\nAllow: GET\r\n\r\n"),
     "HEAD with a transfer encoding":
         (message("HEAD", "/me", caller=None, fields=["Transfer-Encoding: gzip"]),
          b"HTTP/1.1 501 Not Implemented\r\n\r\n"),

@@ -3,8 +3,9 @@
 
 Each case compares standard output, standard error and the exit status byte for byte; some have a
 terminal as standard error. What docs/generated/FAULTS.md says of the numbers of faults is asked
-too: its words of the help, its lines of the small instance. A failing case is printed with what was
-expected and what came, and the last line counts the cases.
+too: its words of the help, its lines of the small instance. Lines of JSON are judged by
+docs/verdict.schema.json, if Debian's python3-jsonschema is there. A failing case is printed with
+what was expected and what came, and the last line counts the cases.
 """
 import json
 import os
@@ -16,8 +17,11 @@ import tempfile
 import tty
 from collections import namedtuple
 
+import debian
 from cases import Cases
 from serve_cases import MANY
+
+jsonschema = debian.module("jsonschema")
 
 TOP = pathlib.Path(__file__).resolve().parent.parent
 EXAMPLES = TOP / "examples"
@@ -37,10 +41,13 @@ TOGETHER = [7, 0, 3, 0, 10, 0, 10, 14]
 EARLY = [0, 0, 3, 0, 0, 4, 20, 7]
 CROWDED = [0, 5, 2, 0, 10, 0, 15, 7]
 NIGHTLY = [0, 0, 3, 6, 0, 4, 20, 7]
-# Solutions of the small instance: how many breaches each has, and its penalties.
-JUDGED = {"small.sol": (0, GOOD), "together.sol": (0, TOGETHER), "crlf.sol": (0, GOOD),
-          "./a folder/the solution": (0, GOOD), "early.sol": (1, EARLY),
-          "crowded.sol": (4, CROWDED)}
+# Solutions of the small instance: the breaches of each, and its penalties.
+JUDGED: dict[str, tuple[list[str], list[int]]] = {
+    "small.sol": ([], GOOD), "together.sol": ([], TOGETHER), "crlf.sol": ([], GOOD),
+    "./a folder/the solution": ([], GOOD), "early.sol": (["After 1 0"], EARLY),
+    "crowded.sol": (["Clash 0 1", "Capacity 0 0", "Capacity 1 1", "After 1 0"], CROWDED)}
+
+SMALL = "small.exam", "small.sol", GOOD
 
 # `device`: where standard output goes; `terminal`: whether standard error is one; `journal`:
 # whether the environment says that it goes to a journal; `piped`: the file that is standard input.
@@ -48,6 +55,8 @@ Case = namedtuple("Case", "name words status stdout stderr device terminal journ
                   defaults=(b"", b"", None, False, False, None))
 # A name that breaks a line, and how it is printed.
 BROKEN, PRINTED = "two\nlines\x7f.sol", b"two\\x0alines\\x7f.sol"
+# Another one, of a solution with a line too few.
+SHORT = "three\nlines.sol"
 
 
 class Holding:
@@ -112,6 +121,7 @@ def files():
         **made,
         "together.sol": with_line(solution, 4, b"3, 1"),
         "early.sol": with_line(solution, 1, b"3, 0"),
+        "room.sol": with_line(solution, 4, b"2, 1"),
         "crowded.sol": with_line(solution, 2, b"0, 0"),
         "no_seats.exam": with_line(with_line(exam, 5, b"60"), 13, b"0, 7"),
         "nights.exam": with_line(exam, 10, b"16:04:2005, 09:30:00, 120, 5") + night,
@@ -139,6 +149,7 @@ def files():
         "back\\x0a \u00e9.sol": solution,
         "odd.sol": with_line(solution, 2, b"1\x1b\x07[31m\xffx, 0"),
         "three.sol": b"".join(solution.splitlines(True)[:3]),
+        SHORT: b"".join(solution.splitlines(True)[:3]),
         "five.sol": solution + b"0, 0\n",
         "beyond.sol": with_line(solution, 2, b"4, 0"),
         "at_limit.sol": solution.ljust(SOLUTION_LIMIT),
@@ -166,6 +177,28 @@ def why(name, instance, solution, penalties, breaches, *lines):
                 report(breaches, penalties) + "".join(f"{line}\n" for line in lines).encode())
 
 
+def why_for(name, files, student, *lines):
+    """The report, and then the lines of a student's summands and of their sum."""
+    session, solution, penalties, *breaches = files
+    asked = why(name, session, solution, penalties, breaches, *lines)
+    return asked._replace(words=("check", "--why", "--student", student, *asked.words[2:]))
+
+
+def verdict(path, breaches, penalties):
+    """The object of a solution, with its breaches as they are in the report."""
+    names = ["row", "day", "spread", "night", "mixed", "front", "period", "room"]
+    broken = [{"exam": int(exam), "other": int(other), "rule": rule}
+              for rule, exam, other in map(str.split, breaches)]
+    return json.dumps({**dict(zip(names, penalties, strict=True)), "breaches": len(breaches),
+                       "broken": broken, "path": path, "total": sum(penalties)},
+                      sort_keys=True, separators=(",", ":"))
+
+
+def check_json(name, session, solution, penalties, *breaches):
+    return Case(name, ("check", "--json", session, solution), 3 if breaches else 0,
+                f"{verdict(solution, breaches, penalties)}\n".encode())
+
+
 def piped(case, file):
     """The case with a file as standard input."""
     return case._replace(name=f"{case.name}, from standard input", piped=file)
@@ -174,12 +207,9 @@ def piped(case, file):
 def check_all(name, solutions, status, faults=b""):
     """The lines of those solutions that have no fault, plain and as JSON."""
     plain = [(path, *JUDGED[path]) for path in solutions if path in JUDGED]
-    lines = [" ".join(map(str, [breaches, sum(parts), *parts, path]))
+    lines = [" ".join(map(str, [len(breaches), sum(parts), *parts, path]))
              for path, breaches, parts in plain]
-    names = ["row", "day", "spread", "night", "mixed", "front", "period", "room"]
-    objects = [json.dumps({**dict(zip(names, parts, strict=True)), "breaches": breaches,
-                           "path": path, "total": sum(parts)}, sort_keys=True,
-                          separators=(",", ":")) for path, breaches, parts in plain]
+    objects = [verdict(*row) for row in plain]
     return [Case(f"{name}{form}", ("check-all", *flag, "small.exam", *solutions), status,
                  "".join(f"{line}\n" for line in shown).encode(), faults)
             for form, flag, shown in (("", (), lines), (", as JSON", ("--json",), objects))]
@@ -193,6 +223,19 @@ def places(name, instance, solution, exam, *ends):
               for place, end in enumerate(ends)]
     return Case(name, ("places", instance, solution, str(exam)), 0,
                 "".join(f"{line}\n" for line in lines).encode())
+
+
+def compare(name, files, moved, candidates, before, after, gained=(), lost=()):
+    """What differs between two solutions: `files` are the session and both."""
+    lines = [f"moved {len(moved)}", *moved, f"candidates {candidates}"]
+    lines += [f"{part} {old} {new}" for part, old, new in zip(
+        [*PENALTIES, "total"], [*before, sum(before)], [*after, sum(after)], strict=True)]
+    lines += [f"gained breaches {len(gained)}", *gained, f"lost breaches {len(lost)}", *lost]
+    return Case(name, ("compare", *files), 0, "".join(f"{line}\n" for line in lines).encode())
+
+
+def uncompared(name, files, line):
+    return Case(name, ("compare", *files), 1, b"", line + b"\n")
 
 
 def unlisted(name, instance, solution, exam, text):
@@ -286,6 +329,96 @@ CASES = [
          b"examoffice: cannot read none.sol\n"),
     Case("the summands to a full device", ("check", "--why", "small.exam", "small.sol"), 1, b"",
          b"examoffice: cannot write\n", "/dev/full"),
+    why_for("the summands of student 1", SMALL, "1", "day 0 3 1 5", "spread 0 3 1 1",
+            "student 1 6"),
+    why_for("the summands of student 2", SMALL, "2", "row 0 1 1 7", "spread 0 1 1 1",
+            "student 2 8"),
+    why_for("the summands of student 3", SMALL, "3", "spread 1 2 1 1", "student 3 1"),
+    why_for("the summands of a student of no exam", SMALL, "4", "student 4 0"),
+    why_for("the summands of the greatest number of a student", SMALL, "999999999",
+            "student 999999999 0"),
+    why_for("a student's night, with a breach", ("nights.exam", "early.sol", NIGHTLY, "After 1 0"),
+            "1", "spread 0 3 1 1", "night 0 3 1 6", "student 1 7"),
+    why_for("a student whose exams clash", ("small.exam", "crowded.sol", CROWDED,
+                                            *JUDGED["crowded.sol"][0]), "2", "student 2 0"),
+    why_for("a student of the smallest session", ("smallest.exam", "smallest.sol", [0] * 8), "0",
+            "student 0 0"),
+    piped(why_for("a student of a session", ("-", "small.sol", GOOD), "3", "spread 1 2 1 1",
+                  "student 3 1"), "small.exam"),
+    Case("a student in a faulty solution", ("check", "--why", "--student", "1", "small.exam",
+                                            "three.sol"), 1, b"",
+         b"examoffice: solution line 4: fault 3\n"),
+    Case("a student to a full device", ("check", "--why", "--student", "1", "small.exam",
+                                        "small.sol"), 1, b"",
+         b"examoffice: cannot write\n", "/dev/full"),
+    check_json("a solution as JSON", "small.exam", "small.sol", GOOD),
+    *(check_json(f"breaches as JSON: {path}", "small.exam", path, penalties, *breaches)
+      for path, (breaches, penalties) in JUDGED.items() if breaches),
+    check_json("breaches of further rules as JSON", "alone.exam", "together.sol", TOGETHER,
+               "Exclusion 2 3", "RoomExclusive 2 3"),
+    check_json("a night as JSON", "nights.exam", "early.sol", NIGHTLY, "After 1 0"),
+    check_json("the smallest instance as JSON", "smallest.exam", "smallest.sol", [0] * 8),
+    piped(check_json("a solution as JSON", "small.exam", "-", GOOD), "small.sol"),
+    Case("a name of two lines, as JSON", ("check", "--json", "small.exam", BROKEN), 0,
+         b'{"breaches":0,"broken":[],"day":5,"front":0,"mixed":0,"night":0,'
+         b'"path":"two\\nlines\x7f.sol","period":15,"room":7,"row":7,"spread":3,"total":37}\n'),
+    Case("a faulty solution as JSON", ("check", "--json", "small.exam", "three.sol"), 1, b"",
+         b"examoffice: solution line 4: fault 3\n"),
+    Case("JSON to a full device", ("check", "--json", "small.exam", "small.sol"), 1, b"",
+         b"examoffice: cannot write\n", "/dev/full"),
+    *(usage(f"forms of a check: {' '.join(words)}", "check", *words, "small.exam", "small.sol")
+      for words in (("--student", "1"), ("--why", "--json"), ("--json", "--student", "1"),
+                    ("--why", "--student", "1", "--json"), ("--why", "--student", "1000000000"),
+                    ("--why", "--student", "4294967297"), ("--why", "--student", "one"),
+                    ("--why", "--student", ""), ("--why", "--student", "-1"),
+                    ("--why", "--student"), ("--why", "--student", "1", "--student", "2"))),
+    compare("one exam moved", ("small.exam", "small.sol", "together.sol"), ["3 2 0 3 1"], 1, GOOD,
+            TOGETHER),
+    compare("two exams moved, and a student of both",
+            ("small.exam", "early.sol", "crowded.sol"), ["0 3 0 0 0", "1 1 0 0 0"], 3, EARLY,
+            CROWDED, ["Clash 0 1", "Capacity 0 0", "Capacity 1 1"]),
+    compare("two exams moved back", ("small.exam", "crowded.sol", "early.sol"),
+            ["0 0 0 3 0", "1 0 0 1 0"], 3, CROWDED, EARLY,
+            lost=["Clash 0 1", "Capacity 0 0", "Capacity 1 1"]),
+    compare("another breach in the place of one", ("alone.exam", "early.sol", "together.sol"),
+            ["0 3 0 0 0", "3 2 0 3 1"], 2, EARLY, TOGETHER,
+            ["Exclusion 2 3", "RoomExclusive 2 3"], ["After 1 0"]),
+    compare("another room only", ("small.exam", "small.sol", "room.sol"), ["3 2 0 2 1"], 1, GOOD,
+            [7, 5, 3, 0, 0, 0, 15, 14]),
+    compare("a solution and itself", ("small.exam", "crowded.sol", "crowded.sol"), [], 0, CROWDED,
+            CROWDED),
+    *(piped(compare(f"a comparison with {name}", files, ["3 2 0 3 1"], 1, GOOD, TOGETHER), file)
+      for name, file, files in (
+          ("its session", "small.exam", ("-", "small.sol", "together.sol")),
+          ("its first solution", "small.sol", ("small.exam", "-", "together.sol")),
+          ("its second solution", "together.sol", ("small.exam", "small.sol", "-")))),
+    uncompared("a comparison of a faulty session", ("five.exam", "three.sol", "five.sol"),
+               b"examoffice: instance line 1: fault 3"),
+    uncompared("a comparison of two faulty solutions", ("small.exam", "three.sol", "five.sol"),
+               b"three.sol: examoffice: solution line 4: fault 3"),
+    uncompared("a comparison of a faulty second solution", ("small.exam", "small.sol", "five.sol"),
+               b"five.sol: examoffice: solution line 5: fault 3"),
+    uncompared("a comparison without its session", ("none.exam", "none.sol", "none.sol"),
+               b"examoffice: cannot read none.exam"),
+    uncompared("a comparison without its first solution", ("five.exam", "no.sol", "none.sol"),
+               b"examoffice: cannot read no.sol"),
+    uncompared("a comparison without its second solution", ("five.exam", "small.sol", "none.sol"),
+               b"examoffice: cannot read none.sol"),
+    *with_cause(uncompared("a comparison of a solution that ends early",
+                           ("small.exam", "small.sol", "three.sol"),
+                           b"three.sol: examoffice: solution line 4: fault 3"),
+                b"three.sol line 4: wrong count"),
+    *with_cause(piped(uncompared("a comparison of a faulty solution",
+                                 ("small.exam", "small.sol", "-"),
+                                 b"-: examoffice: solution line 4: fault 3"), "three.sol"),
+                b"standard input line 4: wrong count"),
+    uncompared("a comparison of a name of two lines", ("small.exam", "small.sol", f"no {BROKEN}"),
+               b"examoffice: cannot read no " + PRINTED),
+    uncompared("a comparison of a faulty solution with a name of two lines",
+               ("small.exam", SHORT, "small.sol"),
+               b"three\\x0alines.sol: examoffice: solution line 4: fault 3"),
+    Case("a comparison to a full device", ("compare", "small.exam", "small.sol", "early.sol"), 1,
+         b"", b"examoffice: cannot write\n", "/dev/full"),
     piped(check("a session", "-", "early.sol", EARLY, "After 1 0"), "small.exam"),
     piped(check("a solution", "small.exam", "-", GOOD), "small.sol"),
     piped(fault("a faulty session", "-", "small.sol", b"instance line 1: fault 3"), "five.exam"),
@@ -306,8 +439,12 @@ CASES = [
         piped="a folder"),
     fault("a file named as standard input is", "small.exam", "./-", b"solution line 1: fault 4"),
     *(usage(f"standard input twice: {words[0]}", *words)._replace(piped="small.sol")
-      for words in (("check", "-", "-"), ("check", "--why", "-", "-"), ("places", "-", "-", "0"),
+      for words in (("check", "-", "-"), ("check", "--why", "-", "-"),
+                    ("check", "--why", "--student", "1", "-", "-"), ("check", "--json", "-", "-"),
+                    ("check", "--json", "--why", "-", "-"), ("places", "-", "-", "0"),
                     ("check-all", "-", "-"), ("check-all", "small.exam", "-", "-"),
+                    ("compare", "-", "-", "small.sol"), ("compare", "-", "small.sol", "-"),
+                    ("compare", "small.exam", "-", "-"), ("compare", "-", "-", "-"),
                     ("check-all", "-", "small.sol", "-"))),
     fault("a name of two lines that can't be read", "small.exam", f"no {BROKEN}",
           b"cannot read no " + PRINTED),
@@ -315,8 +452,8 @@ CASES = [
          b"0 37 7 5 3 0 0 0 15 7 " + PRINTED + b"\n",
          b"no " + PRINTED + b": examoffice: cannot read no " + PRINTED + b"\n"),
     Case("a name of two lines, as JSON", ("check-all", "--json", "small.exam", BROKEN), 0,
-         b'{"breaches":0,"day":5,"front":0,"mixed":0,"night":0,"path":"two\\nlines\x7f.sol",'
-         b'"period":15,"room":7,"row":7,"spread":3,"total":37}\n'),
+         b'{"breaches":0,"broken":[],"day":5,"front":0,"mixed":0,"night":0,'
+         b'"path":"two\\nlines\x7f.sol","period":15,"room":7,"row":7,"spread":3,"total":37}\n'),
     check("a name with a backslash and with other letters", "small.exam", "back\\x0a \u00e9.sol",
           GOOD),
     fault("such a name that can't be read", "small.exam", "no back\\x0a \u00e9.sol",
@@ -370,8 +507,9 @@ CASES = [
     Case("a solution over night", ("check-all", "nights.exam", "early.sol"), 3,
          b"1 40 0 0 3 6 0 4 20 7 early.sol\n"),
     Case("a solution over night, as JSON", ("check-all", "--json", "nights.exam", "early.sol"), 3,
-         b'{"breaches":1,"day":0,"front":4,"mixed":0,"night":6,"path":"early.sol","period":20,'
-         b'"room":7,"row":0,"spread":3,"total":40}\n'),
+         b'{"breaches":1,"broken":[{"exam":1,"other":0,"rule":"After"}],"day":0,"front":4,'
+         b'"mixed":0,"night":6,"path":"early.sol","period":20,"room":7,"row":0,"spread":3,'
+         b'"total":40}\n'),
     Case("many solutions over night", ("check-all", "nights.exam", *["early.sol"] * 20), 3,
          b"1 40 0 0 3 6 0 4 20 7 early.sol\n" * 20),
     Case("solutions of a faulty session", ("check-all", "five.exam", "small.sol", "none.sol"), 1,
@@ -473,18 +611,20 @@ CASES = [
       for number, _, line, _ in FAULTS if line),
     *(Case(f"help with an example and statuses: {name}", (name, "--help"), 0,
            Holding(f"\nExample:\n  examoffice {name} ".encode()), b"")
-      for name in ("check", "check-all", "places", "load", "serve", "export", "explain")),
+      for name in ("check", "check-all", "places", "compare", "load", "serve", "export",
+                   "explain")),
     *(Case(f"help with statuses: {name}", (name, "--help"), 0,
            Holding(b"\nExit status:\n  0  "), b"")
-      for name in ("check", "check-all", "places", "load", "serve", "export", "explain")),
+      for name in ("check", "check-all", "places", "compare", "load", "serve", "export",
+                   "explain")),
     *(Case(f"help for {kind} fault {number}: {name}", (name, "--help"), 0,
            Holding(f"\n  {number}  {words}\n".encode()), b"")
       for name, kind, numbers in (("load", "store", "189"), ("export", "store", "89"),
                                   ("serve", "store", "89"), ("serve", "connection", "1234"))
       for number, words in KINDS[kind] if number in numbers),
     *(Case(f"help within 80 columns: {name}", (*name, "--help"), 0, Within(80), b"")
-      for name in ((), ("check",), ("check-all",), ("places",), ("load",), ("serve",),
-                   ("export",), ("explain",))),
+      for name in ((), ("check",), ("check-all",), ("places",), ("compare",), ("load",),
+                   ("serve",), ("export",), ("explain",))),
     on_terminal(load("a small instance", "small.db", "small.exam", 4, 6, 4, 2)),
     on_terminal(load("a large instance", "padded.db", "at_limit.exam", 4, 6, 4, 2),
                 b"loading at_limit.exam"),
@@ -562,6 +702,8 @@ CASES = [
     usage("an unknown option", "--frobnicate"),
     usage("no solution of a session", "check-all", "small.exam"),
     usage("no exam to place", "places", "small.exam", "small.sol"),
+    usage("one solution to compare", "compare", "small.exam", "small.sol"),
+    usage("three solutions to compare", "compare", "small.exam", *["small.sol"] * 3),
     usage("an exam that is no number", "places", "small.exam", "small.sol", "MATH101"),
     usage("an exam beyond every session", "places", "small.exam", "small.sol", "2000"),
     usage("an exam below 0", "places", "small.exam", "small.sol", "-1"),
@@ -639,6 +781,14 @@ def logs_of_exports(program, folder):
     return sorted(path.name for path in pathlib.Path(folder).glob("[nl]o*-wal"))
 
 
+def schema_faults(output):
+    """Returns how lines of JSON differ from the schema of the docs."""
+    schema = json.loads((TOP / "docs" / "verdict.schema.json").read_text(encoding="utf-8"))
+    validator = jsonschema.Draft202012Validator(schema)
+    return [fault.message for line in output.decode().splitlines()
+            for fault in validator.iter_errors(json.loads(line))]
+
+
 def main():
     if len(sys.argv) != 2:
         sys.exit("usage: run_program.py PROGRAM")
@@ -649,8 +799,10 @@ def main():
             path.parent.mkdir(exist_ok=True)
             path.write_bytes(text)
         for case in CASES:
-            judged.judge(case.name, (case.status, case.stdout, case.stderr),
-                         run(program, case, folder))
+            came = run(program, case, folder)
+            judged.judge(case.name, (case.status, case.stdout, case.stderr), came)
+            if jsonschema and "--json" in case.words and came[1]:
+                judged.judge(f"{case.name}: the schema", [], schema_faults(came[1]))
         judged.judge("an export makes no file", False, pathlib.Path(folder, "absent.db").exists())
         judged.judge("an export makes no log beside a file that is no database", [],
                      logs_of_exports(program, folder))

@@ -82,6 +82,8 @@ def sweeps(states, folder):
     """Yields all sweeps, the longest first."""
     memory, devices = refused_memory, refused_devices
     small, solution = EXAMPLES / "small.exam", EXAMPLES / "small.sol"
+    crowded = folder / "crowded.sol"
+    crowded.write_bytes(b"0, 0\n0, 0\n3, 1\n2, 0\n")
     faulty = folder / "faulty.exam"
     faulty.write_bytes(SMALL.replace(b"15:04", b"31:04"))
     adopted = [(name, states[name]) for name in ADOPTED]
@@ -110,7 +112,12 @@ def sweeps(states, folder):
                 (1, 20))
     yield from sliced("a session, writes of seven bytes", devices.writes)
     for words in (("check", small, solution), ("check", faulty, solution),
-                  ("places", small, solution, "3"), ("places", small, solution, "4"), ("--help",),
+                  ("check", "--why", small, solution), ("check", "--json", small, solution),
+                  ("check", "--why", "--student", "1", small, solution),
+                  ("check", "--why", faulty, solution), ("check", "--json", "--why", "-", "-"),
+                  ("places", small, solution, "3"), ("places", small, solution, "4"),
+                  ("compare", small, solution, crowded), ("compare", small, crowded, small),
+                  ("--help",),
                   ("check", "--frobnicate")):
         yield Sweep("words without a database, allocations", memory.without_database, (words,))
 

@@ -14,8 +14,9 @@ use Rattle.exam_model.specs.Instance.{Session}
 use Rattle.office_check.specs.Names.{printed_name}
 use Rattle.office_check.specs.declared.judging.LineForm.{LineForm}
 use Rattle.office_files.specs.declared.inputs.InputFault.{InputFault}
-use Rattle.office_program.specs.CheckAll.{AddsOutcome, HasOutcomes, IsLineOf, IsOutcome, Outcome, TellsAll, TellsOne}
+use Rattle.office_program.specs.CheckAll.{AddsOutcome, HasOutcomes, IsLineOf, IsOutcome, IsSolutionCause, Outcome, TellsAll, TellsOne}
 use Rattle.office_program.specs.FaultLines.{fault_line, solution_line}
+use Rattle.office_program.specs.Sources.{Known}
 use Rattle.office_program.specs.declared.faults.ProgramFault.{ProgramFault}
 use Rattle.office_program.specs.declared.judging.Found.{Found}
 use Rattle.office_program.specs.declared.judging.VerdictLine.{VerdictLine}
@@ -69,10 +70,10 @@ any_more p os o =
     ap (λ b. list_any p os || b) (sym (or_false (p o))) ∙ sym (list_any-append p os (o ∷ []))
 
 module _ {W : Type 0} (tells : W → List ℕ → Bool → W → Type 0) (I : Session) (E : Enrolled)
-    (form : LineForm) where
+    (files : List ℕ → Known) (form : LineForm) where
   -- no outcome
   pub no_outcome : (printed : Option (List ℕ)) (errors : W)
-      → HasOutcomes tells I E form [] printed printed errors errors
+      → HasOutcomes tells I E files form [] printed printed errors errors
       (record { has_fault = false; has_breach = false; is_err_written = true })
   no_outcome printed errors = record {
     outcomes = [];
@@ -86,9 +87,9 @@ module _ {W : Type 0} (tells : W → List ℕ → Bool → W → Type 0) (I : Se
   -- one more outcome
   pub outcome_more : (paths : List (List ℕ)) (path : List ℕ) (old mid new : Option (List ℕ))
       (errors_old errors_mid errors_new : W) (before after : Found)
-      → HasOutcomes tells I E form paths old mid errors_old errors_mid before
-      → AddsOutcome tells I E form path before mid new errors_mid errors_new after
-      → HasOutcomes tells I E form (paths ++ path ∷ []) old new errors_old errors_new after
+      → HasOutcomes tells I E files form paths old mid errors_old errors_mid before
+      → AddsOutcome tells I E files form path before mid new errors_mid errors_new after
+      → HasOutcomes tells I E files form (paths ++ path ∷ []) old new errors_old errors_new after
   outcome_more paths path old mid new errors_old errors_mid errors_new before after so_far next =
       let os = so_far.outcomes in
       let o = next.outcome in
@@ -97,7 +98,7 @@ module _ {W : Type 0} (tells : W → List ℕ → Bool → W → Type 0) (I : Se
         judged = record {
           are = map-append (λ o. o.path) os (o ∷ [])
               ∙ ap₂ (λ (a : List (List ℕ)) (b : List ℕ). a ++ b ∷ []) so_far.judged.are next.is;
-          each = All-push (IsOutcome I E form) os o so_far.judged.each next.of;
+          each = All-push (IsOutcome I E files form) os o so_far.judged.each next.of;
         };
         printed = subst (Appends old new) (sym (flat_more (λ o. o.printed) os o))
             (Appends-trans old mid new _ _ so_far.printed next.printed);
@@ -112,14 +113,14 @@ module _ {W : Type 0} (tells : W → List ℕ → Bool → W → Type 0) (I : Se
 
   -- a line that is printed is an outcome
   pub line_added : (path : List ℕ) (line : VerdictLine) (found : Found)
-      (input old new : Option (List ℕ)) (errors : W) → IsLineOf I E form path input line
+      (old new : Option (List ℕ)) (errors : W) → IsLineOf I E form path (files path) line
       → Appends old new (string_bytes line.text)
-      → AddsOutcome tells I E form path found old new errors errors (record {
+      → AddsOutcome tells I E files form path found old new errors errors (record {
         has_fault = found.has_fault;
         has_breach = found.has_breach || line.has_breach;
         is_err_written = found.is_err_written;
       })
-  line_added path line found input old new errors is printed = record {
+  line_added path line found old new errors is printed = record {
     outcome = record {
       path = path;
       printed = string_bytes line.text;
@@ -130,6 +131,7 @@ module _ {W : Type 0} (tells : W → List ℕ → Bool → W → Type 0) (I : Se
     is = refl;
     of = inl (record {
       solution = is.solution;
+      of = is.of;
       verdict = is.verdict;
       judged = is.judged;
       printed = is.text;
@@ -148,15 +150,15 @@ module _ {W : Type 0} (tells : W → List ℕ → Bool → W → Type 0) (I : Se
   -- so is a fault
   pub fault_added : (is_err_written : Bool) (path : List ℕ) (fault : InputFault) (found : Found)
       (old : Option (List ℕ)) (errors_old errors_new : W) (shown : ProgramFault)
-      → fault_line shown ≡ solution_line path fault
+      → IsSolutionCause I (files path) fault → fault_line shown ≡ solution_line path fault
       → tells errors_old (printed_name path ++ codes ": " ++ fault_line shown ++ 10 ∷ []) is_err_written
       errors_new
-      → AddsOutcome tells I E form path found old old errors_old errors_new (record {
+      → AddsOutcome tells I E files form path found old old errors_old errors_new (record {
         has_fault = true;
         has_breach = found.has_breach;
         is_err_written = found.is_err_written && is_err_written;
       })
-  fault_added is_err_written path fault found old errors_old errors_new shown is told = record {
+  fault_added is_err_written path fault found old errors_old errors_new shown cause is told = record {
     outcome = record {
       path = path;
       printed = [];
@@ -167,6 +169,7 @@ module _ {W : Type 0} (tells : W → List ℕ → Bool → W → Type 0) (I : Se
     is = refl;
     of = inr (record {
       fault = fault;
+      cause = cause;
       printed = refl;
       said = refl;
       faulty = refl;

@@ -4,4 +4,5 @@ mod ServeFacts
 mod EndingFacts
 pub mod WordFacts
 mod SourceFacts
+mod CompareSources
 mod CheckAllFacts

@@ -1,20 +1,36 @@
 -- The output of `check-all`: a line for each solution that is judged, and one for each fault.
 use Rattle.std.specs.Prelude.{◌≡◌, ◌⊎◌, ◌++◌, ◌∷◌, [], ℕ, ◌==◌, Bool, true, false, not, All, IsTrue, List}
-use Rattle.std.specs.Prelude.{MatchBool, Option, codes, if◌then◌else◌, map, string_bytes, ◌&&◌, ◌||◌}
+use Rattle.std.specs.Prelude.{MatchBool, None, Option, Some, codes, if◌then◌else◌, length, map, string_bytes, ◌&&◌, ◌||◌}
 use Rattle.std.specs.List.{flat_map, list_any}
 use Rattle.std.specs.Io.KnownBytes.{Appends}
 use Rattle.exam_model.specs.Enrolments.{Enrolled}
 use Rattle.exam_model.specs.Instance.{Session}
+use Rattle.office_files.specs.FirstFault.{first_fault, first_solution_fault}
+use Rattle.office_files.specs.Inputs.{RefusesFile}
 use Rattle.office_files.specs.InstanceText.{InstanceText}
 use Rattle.office_files.specs.declared.inputs.InputFault.{InputFault}
-use Rattle.office_check.specs.Check.{IsInput}
+use Rattle.office_files.specs.declared.inputs.InputFault.TheVariants as input
 use Rattle.office_check.specs.Names.{printed_name}
 use Rattle.office_check.specs.Verdicts.{IsVerdictOn, verdict_line}
 use Rattle.office_check.specs.declared.judging.LineForm.{LineForm}
 use Rattle.office_check.specs.declared.judging.Verdict.{Verdict}
 use Rattle.office_program.specs.FaultLines.{solution_line}
+use Rattle.office_program.specs.Sources.{IsTextOf, Known}
 use Rattle.office_program.specs.declared.judging.Found.{Found}
 use Rattle.office_program.specs.declared.judging.VerdictLine.{VerdictLine}
+
+-- why the file of a session can't be read: it can't be opened, or its text has this first fault, as
+-- far as is known
+abbrev pub IsInstanceCause : Known → InputFault → Type 0
+IsInstanceCause None fault = Unit {0}
+IsInstanceCause (Some None) fault = fault ≡ input.Read
+IsInstanceCause (Some (Some text)) fault = RefusesFile (first_fault text) fault
+
+-- the same for the file of a solution of a session
+abbrev pub IsSolutionCause : Session → Known → InputFault → Type 0
+IsSolutionCause I None fault = Unit {0}
+IsSolutionCause I (Some None) fault = fault ≡ input.Read
+IsSolutionCause I (Some (Some text)) fault = RefusesFile (first_solution_fault I text) fault
 
 -- the outcome of one solution: the text that is printed on `out`, and the text written to `err`
 pub record Outcome : Type 0 where
@@ -24,27 +40,30 @@ pub record Outcome : Type 0 where
   pub is_faulty : Bool
   pub has_breach : Bool
 
--- the solution was judged by the session: the line of the verdict on some text is printed
-pub record IsJudged (I : Session) (E : Enrolled) (form : LineForm) (o : Outcome) : Type 0 where
+-- the solution was judged by the session: the line of the verdict on the text of its file is printed
+pub record IsJudged (I : Session) (E : Enrolled) (files : List ℕ → Known) (form : LineForm)
+    (o : Outcome) : Type 0 where
   pub solution : List ℕ
+  pub of : IsTextOf (files o.path) solution
   pub verdict : Verdict
   pub judged : IsVerdictOn I E solution verdict
   pub printed : o.printed ≡ verdict_line form o.path verdict
   pub said : o.said ≡ []
   pub sound : o.is_faulty ≡ false
-  pub breach : o.has_breach ≡ not (verdict.breaches == 0)
+  pub breach : o.has_breach ≡ not (length verdict.breaches.items == 0)
 
--- the solution has a fault: the fault's line is written to `err`, after the path
-pub record IsFaulty (o : Outcome) : Type 0 where
+-- the file of the solution has a fault: the fault's line is written to `err`, after the path
+pub record IsFaulty (I : Session) (files : List ℕ → Known) (o : Outcome) : Type 0 where
   pub fault : InputFault
+  pub cause : IsSolutionCause I (files o.path) fault
   pub printed : o.printed ≡ []
   pub said : o.said ≡ printed_name o.path ++ codes ": " ++ solution_line o.path fault ++ 10 ∷ []
   pub faulty : o.is_faulty ≡ true
   pub breach : o.has_breach ≡ false
 
 -- the solution was judged, or has a fault
-abbrev pub IsOutcome : Session → Enrolled → LineForm → Outcome → Type 0
-IsOutcome I E form o = IsJudged I E form o ⊎ IsFaulty o
+abbrev pub IsOutcome : Session → Enrolled → (List ℕ → Known) → LineForm → Outcome → Type 0
+IsOutcome I E files form o = IsJudged I E files form o ⊎ IsFaulty I files o
 
 -- 1 if a solution has a fault, else 3 if one has a breach, else 0
 abbrev pub status_of_all : Bool → Bool → ℕ
@@ -52,25 +71,26 @@ status_of_all has_fault has_breach =
     if has_fault then 1 else (if has_breach then 3 else 0)
 
 -- each solution has its outcome, in order
-pub record AreJudged (I : Session) (E : Enrolled) (form : LineForm) (paths : List (List ℕ))
-    (outcomes : List Outcome) : Type 0 where
+pub record AreJudged (I : Session) (E : Enrolled) (files : List ℕ → Known) (form : LineForm)
+    (paths : List (List ℕ)) (outcomes : List Outcome) : Type 0 where
   pub are : map (λ o. o.path) outcomes ≡ paths
-  pub each : All (IsOutcome I E form) outcomes
+  pub each : All (IsOutcome I E files form) outcomes
 
--- some text is that of a session, and the solutions of these paths have these outcomes by it
-pub record AreBySession (form : LineForm) (paths : List (List ℕ)) (outcomes : List Outcome)
-    : Type 0 where
+-- the text of a file is that of a session, and the solutions of these paths have these outcomes by it
+pub record AreBySession (first : Known) (files : List ℕ → Known) (form : LineForm)
+    (paths : List (List ℕ)) (outcomes : List Outcome) : Type 0 where
   pub text : List ℕ
+  pub of : IsTextOf first text
   pub session : Session
   pub enrolled : Enrolled
   pub read : InstanceText text session enrolled
-  pub judged : AreJudged session enrolled form paths outcomes
+  pub judged : AreJudged session enrolled files form paths outcomes
 
 -- the line of each solution without a fault is printed, and this is the status
-pub record PrintsVerdicts (form : LineForm) (paths : List (List ℕ)) (old new : Option (List ℕ))
-    (status : ℕ) : Type 0 where
+pub record PrintsVerdicts (first : Known) (files : List ℕ → Known) (form : LineForm)
+    (paths : List (List ℕ)) (old new : Option (List ℕ)) (status : ℕ) : Type 0 where
   pub outcomes : List Outcome
-  pub judged : AreBySession form paths outcomes
+  pub judged : AreBySession first files form paths outcomes
   pub printed : Appends old new (flat_map (λ o. o.printed) outcomes)
   pub ended : status ≡ status_of_all (list_any (λ o. o.is_faulty) outcomes)
       (list_any (λ o. o.has_breach) outcomes)
@@ -90,31 +110,31 @@ TellsAll {W} tells (o ∷ os) old are_written new =
     × TellsAll tells os mid others new × (are_written ≡ (first && others))
 
 -- and the line of each fault is written, unless its writer failed
-pub record JudgesAll {W : Type 0} (tells : W → List ℕ → Bool → W → Type 0) (form : LineForm)
-    (paths : List (List ℕ)) (old new : Option (List ℕ)) (errors_old errors_new : W)
-    (is_err_written : Bool) (status : ℕ) : Type 0 where
-  pub prints : PrintsVerdicts form paths old new status
+pub record JudgesAll {W : Type 0} (tells : W → List ℕ → Bool → W → Type 0) (first : Known)
+    (files : List ℕ → Known) (form : LineForm) (paths : List (List ℕ)) (old new : Option (List ℕ))
+    (errors_old errors_new : W) (is_err_written : Bool) (status : ℕ) : Type 0 where
+  pub prints : PrintsVerdicts first files form paths old new status
   pub told : TellsAll tells prints.outcomes errors_old is_err_written errors_new
 
 -- ---- one solution after another
 
--- the line of the verdict on a text of the input
-pub record IsLineOf (I : Session) (E : Enrolled) (form : LineForm) (path : List ℕ)
-    (input : Option (List ℕ)) (line : VerdictLine) : Type 0 where
+-- the line of the verdict on the text of a file
+pub record IsLineOf (I : Session) (E : Enrolled) (form : LineForm) (path : List ℕ) (file : Known)
+    (line : VerdictLine) : Type 0 where
   pub solution : List ℕ
-  pub of_input : IsInput input solution
+  pub of : IsTextOf file solution
   pub verdict : Verdict
   pub judged : IsVerdictOn I E solution verdict
   pub text : string_bytes line.text ≡ verdict_line form path verdict
-  pub breach : line.has_breach ≡ not (verdict.breaches == 0)
+  pub breach : line.has_breach ≡ not (length verdict.breaches.items == 0)
 
 -- the solution of this path has an outcome, which is counted
 pub record AddsOutcome {W : Type 0} (tells : W → List ℕ → Bool → W → Type 0) (I : Session)
-    (E : Enrolled) (form : LineForm) (path : List ℕ) (before : Found) (old new : Option (List ℕ))
-    (errors_old errors_new : W) (after : Found) : Type 0 where
+    (E : Enrolled) (files : List ℕ → Known) (form : LineForm) (path : List ℕ) (before : Found)
+    (old new : Option (List ℕ)) (errors_old errors_new : W) (after : Found) : Type 0 where
   pub outcome : Outcome
   pub is : outcome.path ≡ path
-  pub of : IsOutcome I E form outcome
+  pub of : IsOutcome I E files form outcome
   pub printed : Appends old new outcome.printed
   pub is_written : Bool
   pub told : TellsOne tells outcome errors_old is_written errors_new
@@ -124,10 +144,10 @@ pub record AddsOutcome {W : Type 0} (tells : W → List ℕ → Bool → W → T
 
 -- the solutions of these paths have outcomes, which are counted
 pub record HasOutcomes {W : Type 0} (tells : W → List ℕ → Bool → W → Type 0) (I : Session)
-    (E : Enrolled) (form : LineForm) (paths : List (List ℕ)) (old new : Option (List ℕ))
-    (errors_old errors_new : W) (found : Found) : Type 0 where
+    (E : Enrolled) (files : List ℕ → Known) (form : LineForm) (paths : List (List ℕ))
+    (old new : Option (List ℕ)) (errors_old errors_new : W) (found : Found) : Type 0 where
   pub outcomes : List Outcome
-  pub judged : AreJudged I E form paths outcomes
+  pub judged : AreJudged I E files form paths outcomes
   pub printed : Appends old new (flat_map (λ o. o.printed) outcomes)
   pub told : TellsAll tells outcomes errors_old found.is_err_written errors_new
   pub fault : found.has_fault ≡ list_any (λ o. o.is_faulty) outcomes

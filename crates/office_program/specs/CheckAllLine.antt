@@ -7,7 +7,7 @@ use Rattle.office_check.specs.declared.judging.LineForm.TheVariants.{Json, Plain
 use Rattle.office_program.specs.CommandLine.{flag_rule, required_rule}
 use Rattle.office_program.specs.Sources.{is_stdin_shared}
 use Rattle.office_program.specs.declared.words.Task.{Task}
-use Rattle.office_program.specs.declared.words.Task.TheVariants.{Check, CheckAll, Explain, Export, Load, Places, Serve, Why}
+use Rattle.office_program.specs.declared.words.Task.TheVariants.{Check, CheckAll, CheckAs, Compare, Explain, Export, Load, Places, Serve}
 
 -- the solutions: one or more, at the end of the words
 abbrev pub solutions_rule : Rule
@@ -30,13 +30,14 @@ pub record RequestsForm (value : Option Text) (form : LineForm) : Type 0 where
 -- the values found for `check-all` are those of the task; one file at most is standard input
 abbrev pub HasCheckAllValues : List Row → Task → Type 0
 HasCheckAllValues rows (Check instance solution) = ⊥
-HasCheckAllValues rows (Why instance solution) = ⊥
+HasCheckAllValues rows (CheckAs instance solution form) = ⊥
 HasCheckAllValues rows (CheckAll session solutions form) =
     (first_of (codes "session") rows ≡ Some (string_bytes session))
     × (all_of (codes "solutions") rows ≡ Some (map string_bytes solutions.items))
     × RequestsForm (one_of (codes "json") rows) form
     × (is_stdin_shared (string_bytes session ∷ map string_bytes solutions.items) ≡ false)
 HasCheckAllValues rows (Places instance solution exam) = ⊥
+HasCheckAllValues rows (Compare session before after) = ⊥
 HasCheckAllValues rows (Load database instance) = ⊥
 HasCheckAllValues rows (Serve database terms) = ⊥
 HasCheckAllValues rows (Export database) = ⊥

@@ -10,7 +10,7 @@ use Rattle.office_program.specs.CommandLine.{required_rule}
 use Rattle.office_program.specs.ServeLine.{number_option}
 use Rattle.office_program.specs.declared.explaining.TheConstants.{CONNECTION, FILE, MAX_NUMBER, STORE}
 use Rattle.office_program.specs.declared.words.Task.{Task}
-use Rattle.office_program.specs.declared.words.Task.TheVariants.{Check, CheckAll, Explain, Export, Load, Places, Serve, Why}
+use Rattle.office_program.specs.declared.words.Task.TheVariants.{Check, CheckAll, CheckAs, Compare, Explain, Export, Load, Places, Serve}
 
 -- the text of this number, from 1
 abbrev pub numbered_text : List Text → ℕ → Option Text
@@ -42,9 +42,10 @@ explain_words rows = option_and_then (λ kind. option_and_then (λ number.
 -- the values found for `explain` are those of the task
 abbrev pub HasExplainValues : List Row → Task → Type 0
 HasExplainValues rows (Check instance solution) = ⊥
-HasExplainValues rows (Why instance solution) = ⊥
+HasExplainValues rows (CheckAs instance solution form) = ⊥
 HasExplainValues rows (CheckAll session solutions form) = ⊥
 HasExplainValues rows (Places instance solution exam) = ⊥
+HasExplainValues rows (Compare session before after) = ⊥
 HasExplainValues rows (Load database instance) = ⊥
 HasExplainValues rows (Serve database terms) = ⊥
 HasExplainValues rows (Export database) = ⊥

@@ -8,18 +8,24 @@ use Rattle.sqlite.specs.declared.error.Error.{Error}
 use Rattle.sqlite.specs.declared.error.Error.TheVariants.{SqliteFailure}
 use Rattle.sqlite.specs.declared.error.ErrorCode.TheVariants.{OutOfMemory}
 use Rattle.office_check.specs.Names.{printed_name}
+use Rattle.office_files.specs.declared.fault.FileFault.{FileFault}
 use Rattle.office_files.specs.declared.inputs.InputFault.{InputFault}
 use Rattle.office_files.specs.declared.inputs.InputFault.TheVariants as input
 use Rattle.office_program.specs.declared.faults.ProgramFault.{ProgramFault}
 use Rattle.office_program.specs.declared.faults.ProgramFault.TheVariants as fault
+
+-- the line of a fault of a solution, without its end
+abbrev pub of_solution : FileFault → List ℕ
+of_solution f = codes "examoffice: solution line " ++ decimal f.line
+    ++ codes ": fault " ++ decimal (kind_number f.what)
 
 -- the line of a fault, without its end
 abbrev pub fault_line : ProgramFault → List ℕ
 fault_line (fault.CannotRead path) = codes "examoffice: cannot read " ++ printed_name path.now
 fault_line (fault.Instance f) = codes "examoffice: instance line " ++ decimal f.line
     ++ codes ": fault " ++ decimal (kind_number f.what)
-fault_line (fault.Solution f) = codes "examoffice: solution line " ++ decimal f.line
-    ++ codes ": fault " ++ decimal (kind_number f.what)
+fault_line (fault.Solution f) = of_solution f
+fault_line (fault.SolutionAt path f) = printed_name path.now ++ (codes ": " ++ of_solution f)
 fault_line (fault.CannotOpen why) = codes "examoffice: cannot open database"
 fault_line (fault.Store f) = codes "examoffice: store fault " ++ decimal (store_number f)
 fault_line (fault.NoExam exam) = codes "examoffice: no exam " ++ decimal exam

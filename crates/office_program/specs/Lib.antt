@@ -1,4 +1,6 @@
 pub mod CommandLine
+pub mod CheckForms
+pub mod CheckLine
 pub mod ServeLine
 pub mod Explaining
 pub mod Program
@@ -13,5 +15,7 @@ pub mod Endings
 pub mod CheckAllLine
 pub mod CheckAll
 pub mod PlacesLine
+pub mod CompareLine
 pub mod Sources
+pub mod Folders
 pub mod Mistakes

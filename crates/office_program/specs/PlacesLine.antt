@@ -6,7 +6,7 @@ use Rattle.office_program.specs.ServeLine.{HasNumber, number_option}
 use Rattle.office_program.specs.Sources.{is_stdin_shared}
 use Rattle.office_program.specs.declared.places_words.TheConstants.{MAX_EXAM}
 use Rattle.office_program.specs.declared.words.Task.{Task}
-use Rattle.office_program.specs.declared.words.Task.TheVariants.{Check, CheckAll, Explain, Export, Load, Places, Serve, Why}
+use Rattle.office_program.specs.declared.words.Task.TheVariants.{Check, CheckAll, CheckAs, Compare, Explain, Export, Load, Places, Serve}
 
 -- the argument with the number of an exam
 abbrev pub exam_rule : Rule
@@ -20,13 +20,14 @@ places_app = with_rule (with_rule (with_rule (new_app (codes "places"))
 -- the values found for `places` are those of the task; one file at most is standard input
 abbrev pub HasPlacesValues : List Row → Task → Type 0
 HasPlacesValues rows (Check instance solution) = ⊥
-HasPlacesValues rows (Why instance solution) = ⊥
+HasPlacesValues rows (CheckAs instance solution form) = ⊥
 HasPlacesValues rows (CheckAll session solutions form) = ⊥
 HasPlacesValues rows (Places instance solution exam) =
     (first_of (codes "session") rows ≡ Some (string_bytes instance))
     × (first_of (codes "solution") rows ≡ Some (string_bytes solution))
     × HasNumber (codes "exam") rows exam × (exam ≤ MAX_EXAM)
     × (is_stdin_shared (string_bytes instance ∷ string_bytes solution ∷ []) ≡ false)
+HasPlacesValues rows (Compare session before after) = ⊥
 HasPlacesValues rows (Load database instance) = ⊥
 HasPlacesValues rows (Serve database terms) = ⊥
 HasPlacesValues rows (Export database) = ⊥

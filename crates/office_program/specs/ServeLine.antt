@@ -6,7 +6,7 @@ use Rattle.clap.specs.Words.{new_app, new_rule, one_of, with_rule}
 use Rattle.clap.specs.declared.builder.value_parser.ValueParser.TheVariants.{Signed}
 use Rattle.office_connections.specs.declared.listening.TheConstants.{MAX_PORT}
 use Rattle.office_program.specs.declared.words.Task.{Task}
-use Rattle.office_program.specs.declared.words.Task.TheVariants.{Check, CheckAll, Explain, Export, Load, Places, Serve, Why}
+use Rattle.office_program.specs.declared.words.Task.TheVariants.{Check, CheckAll, CheckAs, Compare, Explain, Export, Load, Places, Serve}
 use Rattle.office_program.specs.declared.words.Terms.{Terms}
 use Rattle.office_program.specs.declared.words.TheConstants.{MAX_CONNECTIONS, MAX_PATIENCE}
 use Rattle.office_program.specs.CommandLine.{named_rule}
@@ -54,9 +54,10 @@ HasTerms rows terms =
 -- the values found for `serve` are those of the task
 abbrev pub HasServeValues : List Row → Task → Type 0
 HasServeValues rows (Check instance solution) = ⊥
-HasServeValues rows (Why instance solution) = ⊥
+HasServeValues rows (CheckAs instance solution form) = ⊥
 HasServeValues rows (CheckAll session solutions form) = ⊥
 HasServeValues rows (Places instance solution exam) = ⊥
+HasServeValues rows (Compare session before after) = ⊥
 HasServeValues rows (Load database instance) = ⊥
 HasServeValues rows (Serve database terms) =
     (first_of (codes "db") rows ≡ Some (string_bytes database)) × HasTerms rows terms

@@ -35,6 +35,9 @@ fn print_cause<W: Write>(
         ProgramFault::Solution(fault) => {
             print_faulty(rt, input_of(task, solution_of(task)), *fault, out)
         }
+        ProgramFault::SolutionAt(path, fault) => {
+            print_faulty(rt, input_of(task, path), *fault, out)
+        }
         ProgramFault::CannotOpen(error) => print_unopened(rt, database_of(task), *error, out),
         ProgramFault::Store(fault) => print_refused(database_of(task), *fault, out),
         ProgramFault::CannotWrite => writeln!(out, "standard output: closed, or its disk is full"),
@@ -67,8 +70,8 @@ impl fmt::Display for Input<'_> {
 // Returns what a task reads by this path.
 fn input_of<'a>(task: &Task, path: &'a str) -> Input<'a> {
     match task {
-        Task::Check(..) | Task::Why(..) | Task::CheckAll(..) | Task::Places(..) if is_stdin(path) =>
-            { Input::Stdin }
+        Task::Load(..) => Input::File(path),
+        _ if is_stdin(path) => Input::Stdin,
         _ => Input::File(path),
     }
 }
@@ -103,9 +106,10 @@ fn try_reading(rt: &HostRuntime, path: &str) -> io::Result<()> {
 fn instance_of(task: &Task) -> &str {
     match task {
         Task::Check(instance, _)
-        | Task::Why(instance, _)
+        | Task::CheckAs(instance, _, _)
         | Task::CheckAll(instance, _, _)
         | Task::Places(instance, _, _)
+        | Task::Compare(instance, _, _)
         | Task::Load(_, instance) => instance,
         _ => "",
     }
@@ -114,7 +118,7 @@ fn instance_of(task: &Task) -> &str {
 // Returns the path of the solution's file.
 fn solution_of(task: &Task) -> &str {
     match task {
-        Task::Check(_, solution) | Task::Why(_, solution) | Task::Places(_, solution, _) => {
+        Task::Check(_, solution) | Task::CheckAs(_, solution, _) | Task::Places(_, solution, _) => {
             solution
         }
         _ => "",

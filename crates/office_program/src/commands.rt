@@ -3,7 +3,8 @@ ghost use Rattle.std.specs.Prelude.{◌≡◌, IfOk, Some, codes, false};
 ghost use Rattle.clap.specs.Words.{rule_of};
 ghost use Rattle.clap.specs.declared.builder.texts.Texts.TheVariants.{One};
 ghost use Rattle.office_program.specs.CheckAllLine.{check_all_app, solutions_rule};
-ghost use Rattle.office_program.specs.CommandLine.{check_app, export_app, flag_rule, load_app};
+ghost use Rattle.office_program.specs.CheckLine.{check_app, student_rule};
+ghost use Rattle.office_program.specs.CommandLine.{export_app, flag_rule, load_app};
 ghost use Rattle.office_program.specs.CommandLine.{named_rule, required_rule};
 ghost use Rattle.office_program.specs.Explaining.{explain_app, fault_rule};
 ghost use Rattle.office_program.specs.PlacesLine.{exam_rule, places_app};
@@ -16,6 +17,7 @@ use crate::helps;
 use crate::places_words::MAX_EXAM;
 use crate::words::{MAX_CONNECTIONS, MAX_PATIENCE};
 use clap::{Arg, ArgAction, Command, value_parser};
+use exam_terms::limits::MAX_STUDENT;
 use office_connections::MAX_PORT;
 use std::alloc::{AllocError, Global};
 
@@ -28,6 +30,8 @@ pub(crate) fn check_command<'a>(alloc: Global) -> Result<Command<'a>, AllocError
         .about("Judge a solution by the rules of ITC 2007, examination track")
         .after_help(helps::CHECK)
         .arg(why_flag(alloc))?
+        .arg(student_option(alloc))?
+        .arg(json_flag(alloc))?
         .arg(instance)?
         .arg(solution)
 }
@@ -43,8 +47,20 @@ fn why_flag<'a>(alloc: Global) -> Arg<'a>
         .action(ArgAction::SetTrue)
 }
 
+// Returns the option for the number of a student.
+fn student_option<'a>(alloc: Global) -> Arg<'a>
+    ensures rule { rule_of result ≡ student_rule }
+    ensures local { result.global ≡ false }
+{
+    Arg::new(alloc, "student")
+        .long("student")
+        .value_name("N")
+        .help("With --why: list only the summands of this student")
+        .value_parser(value_parser!(u32).range(0..=i64::from(MAX_STUDENT)))
+}
+
 // Returns a required argument.
-fn required<'a>(alloc: Global, id: &'a str, name: &'a str, help: &'a str) -> Arg<'a>
+pub(crate) fn required<'a>(alloc: Global, id: &'a str, name: &'a str, help: &'a str) -> Arg<'a>
     ensures rule { rule_of result ≡ required_rule id.now }
     ensures local { result.global ≡ false }
     ensures name { result.val_names ≡ One name.entry }
@@ -75,7 +91,7 @@ fn json_flag<'a>(alloc: Global) -> Arg<'a>
 {
     Arg::new(alloc, "json")
         .long("json")
-        .help("Print an object of JSON in each line")
+        .help("Print an object of JSON for each solution")
         .action(ArgAction::SetTrue)
 }
 

@@ -1,12 +1,12 @@
 // The faults that end the program with status 1, and their lines.
 ghost use Rattle.std.specs.Prelude.{◌≡◌, ◌≢◌};
 ghost use Rattle.office_program.specs.FaultLines.{fault_line, input_line, open_line, solution_line};
-ghost use Rattle.office_program.specs.TaskFaults.{check_line, export_line, load_line, places_line, run_line};
+ghost use Rattle.office_program.specs.TaskFaults.{check_line, export_line, load_line, run_line};
 
 use crate::exporting::ExportFault;
 use crate::loading::LoadFault;
 use exam_model::ExamNo;
-use office_check::{CheckFault, FileName, PlacesFault};
+use office_check::{CheckFault, FileName};
 use office_connections::RunFault;
 use office_files::{FileFault, InputFault};
 use office_http::{Refusal, StoreFault};
@@ -20,6 +20,8 @@ pub enum ProgramFault<'a> {
     CannotRead(&'a str),
     Instance(FileFault),
     Solution(FileFault),
+    /// A fault of one of the solutions that a task names, with its path.
+    SolutionAt(&'a str, FileFault),
     CannotOpen(Error),
     Store(StoreFault),
     NoExam(ExamNo),
@@ -45,9 +47,14 @@ impl fmt::Display for ProgramFault<'_> {
                 let number = kind_number(*what);
                 write!(f, "examoffice: instance line {line}: fault {number}")
             }
-            ProgramFault::Solution(FileFault { line, what }) => {
-                let number = kind_number(*what);
-                write!(f, "examoffice: solution line {line}: fault {number}")
+            ProgramFault::Solution(fault) => {
+                let line = SolutionLine(*fault);
+                write!(f, "{line}")
+            }
+            ProgramFault::SolutionAt(path, fault) => {
+                let name = FileName(path);
+                let line = SolutionLine(*fault);
+                write!(f, "{name}: {line}")
             }
             ProgramFault::CannotOpen(_) => write!(f, "examoffice: cannot open database"),
             ProgramFault::Store(fault) => {
@@ -63,6 +70,23 @@ impl fmt::Display for ProgramFault<'_> {
             ProgramFault::CannotWrite => write!(f, "examoffice: cannot write"),
             ProgramFault::NoMemory => write!(f, "examoffice: no memory"),
         }
+    }
+}
+
+// The line of a fault of a solution, for `Display`.
+#[derive(Clone, Copy)]
+struct SolutionLine(FileFault);
+
+impl fmt::Display for SolutionLine {
+    ghost use Rattle.std.specs.Prelude.{Some};
+    ghost use Rattle.office_program.specs.FaultLines.{of_solution};
+
+    ghost output = { λ line. Some (of_solution line.0) };
+
+    fn fmt<W: fmt::Write>(&self, f: &mut fmt::Formatter<W>) -> fmt::Result {
+        let FileFault { line, what } = self.0;
+        let number = kind_number(what);
+        write!(f, "examoffice: solution line {line}: fault {number}")
     }
 }
 
@@ -82,23 +106,6 @@ pub(crate) fn fault_on<'a>(
         CheckFault::Solution(fault) => ProgramFault::Solution(fault),
         CheckFault::Write => ProgramFault::CannotWrite,
         CheckFault::NoMemory => ProgramFault::NoMemory,
-    }
-}
-
-// Returns the program's fault for a fault of `places` on two files and an exam.
-pub(crate) fn fault_of_places<'a>(
-    fault: PlacesFault,
-    instance: &'a str,
-    solution: &'a str,
-    exam: ExamNo,
-) -> ProgramFault<'a>
-    ensures line { fault_line result ≡ places_line instance.now solution.now exam fault }
-    ensures write { fault ≡ PlacesFault.Check CheckFault.Write
-        → result ≡ ProgramFault.CannotWrite }
-{
-    match fault {
-        PlacesFault::Check(fault) => fault_on(fault, instance, solution),
-        PlacesFault::NoExam => ProgramFault::NoExam(exam),
     }
 }
 

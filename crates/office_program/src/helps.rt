@@ -14,6 +14,9 @@ followed by a line for each summand of the penalty:
   mixed 2 7 3 20  room 2 in period 7: 3 different durations
   front 4 60 10   exam 4 with 60 students, large and late
   period 7 3 15   period 7 with 3 exams; likewise room
+With --student N only that student's pairs follow, each for one student, and
+their sum: student 7 42. With --json an object has the report, its breaches in
+a list.
 
 Exit status:
   0  judged: no hard rule is broken
@@ -43,8 +46,8 @@ Example:
 
 A line for each solution: its breaches, its penalty, the eight parts in the
 order in which check prints them, and its path. With --json the same numbers
-have names. A solution with a fault has a line on standard error instead.
-One of the files can be -, which is standard input.
+have names, and the breaches are in a list. A solution with a fault has a line
+on standard error instead. One of the files can be -, which is standard input.
 
 Exit status:
   0  all judged: no solution breaks a hard rule
@@ -70,6 +73,30 @@ Exit status:
 
 The line 'examoffice: instance line 8: fault 5' names the first fault of a
 file; examoffice check --help has the numbers.";
+
+// The end of the help of `compare`.
+pub(crate) const COMPARE: &str = "\
+Example:
+  examoffice compare term.exam old.sol new.sol
+
+What differs between two solutions of one session:
+  moved 2                one line for each exam whose place differs: 3 2 0 0 1
+                         says that exam 3 was in period 2 and room 0, and is in
+                         period 0 and room 1
+  candidates 40          how many students sit a moved exam
+  two in a row 7 0       each part of the penalty before and after; the last is
+                         the total
+  gained breaches 1      the breaches that only the second solution has
+  lost breaches 0        the breaches that only the first solution has
+One of the files can be -, which is standard input.
+
+Exit status:
+  0  compared, also if hard rules are broken
+  1  not compared: a line on standard error says why
+  2  the command line is wrong
+
+The line 'new.sol: examoffice: solution line 8: fault 4' names the first fault
+of a file; examoffice check --help has the numbers.";
 
 // The end of the help of `load`.
 pub(crate) const LOAD: &str = "\

@@ -1,23 +1,22 @@
 // `check-all`: judges many solutions of one session by the files of their paths.
-ghost use Rattle.std.specs.Prelude.{◌≡◌, ◌≢◌, ◌==◌, ℕ, IfErr, IfOk, IfSome, List};
-ghost use Rattle.std.specs.Prelude.{◌&&◌, ◌||◌, false, map, string_bytes, true};
+ghost use Rattle.std.specs.Prelude.{◌≡◌, ◌≢◌, ℕ, IfErr, IfOk, List};
+ghost use Rattle.std.specs.Prelude.{◌&&◌, ◌||◌, Some, false, map, option_map, string_bytes, true};
 ghost use Rattle.std.specs.Io.KnownBytes.{Keeps};
 ghost use Rattle.office_files.specs.InstanceText.{InstanceText};
 ghost use Rattle.office_program.specs.CheckAll.{AddsOutcome, HasOutcomes, IsLineOf, JudgesAll};
-ghost use Rattle.office_program.specs.CheckAll.{status_of_all};
-ghost use Rattle.office_program.specs.Sources.{input_at};
+ghost use Rattle.office_program.specs.CheckAll.{IsInstanceCause, IsSolutionCause, status_of_all};
+ghost use Rattle.office_program.specs.Sources.{IsTextOf, file_at, source_at};
 ghost use Rattle.office_program.specs.TaskFaults.{IsOfCheckAll};
 
 use crate::ending::Ending;
 use crate::faults::{ProgramFault, fault_of_input, fault_of_solution};
 use crate::lines::Lines;
 use crate::sources::is_stdin;
+use crate::texts::Texts;
 use office_check::{Judge, LineForm};
 use office_files::InputFault;
 use std::alloc::Global;
-use std::io::{Read, Write};
-use std::rt::Files;
-use std::{fs, io};
+use std::io::{self, Read, Write};
 
 // The outcome of the solutions so far.
 #[derive(Clone, Copy)]
@@ -36,8 +35,9 @@ pub(crate) struct VerdictLine {
 }
 
 // Runs `check-all`. It opens one solution after another; a fault of one doesn't affect the others.
-pub(crate) fn check_all<'a, R: Files + AllocGlobal, I: Read, W: Write, E: Lines>(
-    rt: &R,
+pub(crate) fn check_all<'a, T: Texts, I: Read, W: Write, E: Lines>(
+    alloc: Global,
+    files: &T,
     stdin: &mut I,
     session: &'a str,
     solutions: &[String],
@@ -45,21 +45,24 @@ pub(crate) fn check_all<'a, R: Files + AllocGlobal, I: Read, W: Write, E: Lines>
     out: &mut W,
     err: &mut E,
 ) -> Result<Ending, ProgramFault<'a>>
-    ensures judged { IfOk result (λ ending. JudgesAll E.tells form (map string_bytes solutions.now)
+    ensures judged { IfOk result (λ ending. JudgesAll E.tells
+        (source_at (I.remaining stdin.old) (T.known files.now) session.now)
+        (file_at (T.known files.now)) form (map string_bytes solutions.now)
         (W.contents out.old) (W.contents out.new) err.old err.new
         ending.is_err_written ending.status) }
     ensures quiet { IfOk result (λ ending. ending.status ≢ 1 → err.new ≡ err.old) }
 
     // A line that names a file names the session's.
-    ensures fault { IfErr result (IsOfCheckAll session.now) }
+    ensures fault { IfErr result (IsOfCheckAll session.now
+        (source_at (I.remaining stdin.old) (T.known files.now))) }
     ensures unwritten { IfErr result (λ fault. fault ≢ ProgramFault.CannotWrite
         → Keeps (W.contents out.old) (W.contents out.new)) }
 {
-    let judge = match judge_at(rt, stdin, session, solutions.len()) {
+    let judge = match judge_at(alloc, files, stdin, session, solutions.len()) {
         Ok(judge) => judge,
         Err(fault) => return Err(fault_of_input(fault, session)),
     };
-    match judge_each(rt, stdin, &judge, solutions, form, out, err) {
+    match judge_each(alloc, files, stdin, &judge, solutions, form, out, err) {
         Ok(found) => Ok(Ending {
             status: status_of(found),
             is_err_written: found.is_err_written,
@@ -69,24 +72,26 @@ pub(crate) fn check_all<'a, R: Files + AllocGlobal, I: Read, W: Write, E: Lines>
 }
 
 // Reads the session of this path, for this many solutions; `-` is standard input.
-fn judge_at<R: Files + AllocGlobal, I: Read>(
-    rt: &R,
+fn judge_at<T: Texts, I: Read>(
+    alloc: Global,
+    files: &T,
     stdin: &mut I,
     path: &str,
     solutions: usize,
 ) -> Result<Judge, InputFault>
-    ensures spelled { IfOk result (λ judge.
-        (text : List ℕ) × InstanceText text judge.0 judge.1) }
-    ensures from { IfOk result (λ judge. IfSome (input_at (I.remaining stdin.old) path.now)
-        (λ text. InstanceText text judge.0 judge.1)) }
+    ensures spelled { IfOk result (λ judge. (text : List ℕ)
+        × IsTextOf (source_at (I.remaining stdin.old) (T.known files.now) path.now) text
+        × InstanceText text judge.0 judge.1) }
+    ensures refused { IfErr result (IsInstanceCause
+        (source_at (I.remaining stdin.old) (T.known files.now) path.now)) }
 {
     if is_stdin(path) {
-        return Judge::new(rt.alloc(), stdin, solutions);
+        return Judge::new(alloc, stdin, solutions);
     }
-    let Ok(mut file) = fs::open(rt, path) else {
+    let Ok(mut file) = files.open_text(path) else {
         return Err(InputFault::Read);
     };
-    Judge::new(rt.alloc(), &mut file, solutions)
+    Judge::new(alloc, &mut file, solutions)
 }
 
 // Returns the exit status.
@@ -103,8 +108,9 @@ fn status_of(found: Found) -> u8
 }
 
 // Judges solutions, one after another. Fails if a line can't be printed.
-fn judge_each<R: Files + AllocGlobal, I: Read, W: Write, E: Lines>(
-    rt: &R,
+fn judge_each<T: Texts, I: Read, W: Write, E: Lines>(
+    alloc: Global,
+    files: &T,
     stdin: &mut I,
     judge: &Judge,
     solutions: &[String],
@@ -112,9 +118,9 @@ fn judge_each<R: Files + AllocGlobal, I: Read, W: Write, E: Lines>(
     out: &mut W,
     err: &mut E,
 ) -> io::Result<Found>
-    ensures ok { IfOk result (HasOutcomes E.tells judge.now.0 judge.now.1 form
-        (map string_bytes solutions.now) (W.contents out.old) (W.contents out.new)
-        err.old err.new) }
+    ensures ok { IfOk result (HasOutcomes E.tells judge.now.0 judge.now.1
+        (file_at (T.known files.now)) form (map string_bytes solutions.now)
+        (W.contents out.old) (W.contents out.new) err.old err.new) }
     ensures quiet { IfOk result (λ found. found.has_fault ≡ false → err.new ≡ err.old) }
 {
     let mut found = Found {
@@ -123,14 +129,15 @@ fn judge_each<R: Files + AllocGlobal, I: Read, W: Write, E: Lines>(
         is_err_written: true,
     };
     for path in solutions {
-        found = judge_one(rt, stdin, judge, path, form, found, out, err)?;
+        found = judge_one(alloc, files, stdin, judge, path, form, found, out, err)?;
     }
     Ok(found)
 }
 
 // Judges one more solution.
-fn judge_one<R: Files + AllocGlobal, I: Read, W: Write, E: Lines>(
-    rt: &R,
+fn judge_one<T: Texts, I: Read, W: Write, E: Lines>(
+    alloc: Global,
+    files: &T,
     stdin: &mut I,
     judge: &Judge,
     path: &str,
@@ -139,12 +146,13 @@ fn judge_one<R: Files + AllocGlobal, I: Read, W: Write, E: Lines>(
     out: &mut W,
     err: &mut E,
 ) -> io::Result<Found>
-    ensures ok { IfOk result (AddsOutcome E.tells judge.now.0 judge.now.1 form path.now found
+    ensures ok { IfOk result (AddsOutcome E.tells judge.now.0 judge.now.1
+        (file_at (T.known files.now)) form path.now found
         (W.contents out.old) (W.contents out.new) err.old err.new) }
     ensures quiet { IfOk result (λ now. now.has_fault ≡ false
         → (found.has_fault ≡ false) × (err.new ≡ err.old)) }
 {
-    match line_at(rt, stdin, judge, path, form) {
+    match line_at(alloc, files, stdin, judge, path, form) {
         Ok(line) => {
             out.write_all(line.text.as_bytes())?;
             Ok(with_verdict(found, line.has_breach))
@@ -186,23 +194,26 @@ fn with_fault(found: Found, is_err_written: bool) -> Found
 }
 
 // Returns the line of the solution of this path; `-` is standard input.
-fn line_at<R: Files + AllocGlobal, I: Read>(
-    rt: &R,
+fn line_at<T: Texts, I: Read>(
+    alloc: Global,
+    files: &T,
     stdin: &mut I,
     judge: &Judge,
     path: &str,
     form: LineForm,
 ) -> Result<VerdictLine, InputFault>
-    ensures { IfOk result (IsLineOf judge.now.0 judge.now.1 form path.now
-        (input_at (I.remaining stdin.old) path.now)) }
+    ensures ok { IfOk result (IsLineOf judge.now.0 judge.now.1 form path.now
+        (file_at (T.known files.now) path.now)) }
+    ensures refused { IfErr result (IsSolutionCause judge.now.0
+        (file_at (T.known files.now) path.now)) }
 {
     if is_stdin(path) {
-        return line_by(rt.alloc(), stdin, judge, path, form);
+        return line_by(alloc, stdin, judge, path, form);
     }
-    let Ok(mut file) = fs::open(rt, path) else {
+    let Ok(mut file) = files.open_text(path) else {
         return Err(InputFault::Read);
     };
-    line_by(rt.alloc(), &mut file, judge, path, form)
+    line_by(alloc, &mut file, judge, path, form)
 }
 
 // Returns the line of the solution of a reader.
@@ -213,8 +224,10 @@ fn line_by<Q: Read>(
     path: &str,
     form: LineForm,
 ) -> Result<VerdictLine, InputFault>
-    ensures { IfOk result (IsLineOf judge.now.0 judge.now.1 form path.now
-        (Q.remaining reader.old)) }
+    ensures ok { IfOk result (IsLineOf judge.now.0 judge.now.1 form path.now
+        (option_map Some (Q.remaining reader.old))) }
+    ensures refused { IfErr result (IsSolutionCause judge.now.0
+        (option_map Some (Q.remaining reader.old))) }
 {
     let verdict = judge.judge(alloc, reader)?;
     Ok(VerdictLine {

@@ -1,6 +1,6 @@
 // The whole program, over a file system and two writers.
 ghost use Rattle.std.specs.Prelude.{◌≡◌, ◌≢◌, ◌≤◌, ◌↔◌, ◌⊎◌, ◌++◌, ◌∷◌, [], IfErr, IfOk, OnOk};
-ghost use Rattle.std.specs.Prelude.{ℕ, IsTrue, List, length, map, string_bytes};
+ghost use Rattle.std.specs.Prelude.{ℕ, IsTrue, List, None, length, map, string_bytes};
 ghost use Rattle.std.specs.Io.KnownBytes.{Appends, Keeps};
 ghost use Rattle.std.specs.IoError.{error_kind};
 ghost use Rattle.std.specs.declared.io.ErrorKind.TheVariants as failure;
@@ -13,12 +13,14 @@ ghost use Rattle.office_program.specs.Endings.{WritesSolutionFaults};
 ghost use Rattle.office_program.specs.FaultLines.{fault_line, not_text_line};
 ghost use Rattle.office_program.specs.Load.{PrintsCounts};
 ghost use Rattle.office_program.specs.Program.{AreAnswered, IsMistake, IsTask, fault_of_words};
-ghost use Rattle.office_program.specs.TaskFaults.{IsOfLoad, IsOfOffice};
+ghost use Rattle.office_program.specs.Sources.{IsTextOf};
+ghost use Rattle.office_program.specs.TaskFaults.{IsOfLoad, IsOfOffice, IsTextCause};
 ghost use Rattle.office_program.specs.Tasks.{IsOfTask, Prints, PrintsBroken};
 ghost use Rattle.office_program.specs.declared.words.Task.{Task};
 
 use crate::causes::announce_cause;
-use crate::checking::check;
+use crate::checking::{check, check_as};
+use crate::comparing::compare;
 use crate::ending::Ending;
 use crate::explaining::explain;
 use crate::exporting::export;
@@ -29,19 +31,51 @@ use crate::listing::list_places;
 use crate::loading::load_run;
 use crate::notices::{LongWork, announce, announce_upgrade};
 use crate::serving::open_and_serve;
-use crate::why::why;
+use crate::texts::Texts;
 use crate::words::{Task, read_words};
 use clap::Error;
 use clap::error::ErrorKind;
+use office_check::Report;
 use office_files::{InputFault, instance_text};
-use std::io::Write;
-use std::rt::Files;
-use std::{fs, io};
+use std::alloc::Global;
+use std::io::{self, Read, Write};
 
 /// Does what the words say; the first word is the program's name. The lines of faults, including
 /// those of connections, and the text of a mistake are written to `err`, everything else to `out`.
+/// The files are those of the system, of which no clause says what they hold.
 pub fn run_program<O: Write, E: Write + Lines>(
     rt: &HostRuntime,
+    words: &[String],
+    out: &mut O,
+    err: &mut E,
+) -> Ending
+    // As for `run_words`, with nothing known of files and standard input.
+    ensures within { result.status ≤ 3 }
+    ensures answered { result.status ≡ 0 → AreAnswered (map string_bytes words.now) }
+    ensures mistake { result.status ≡ 2 → fault_of_words (map string_bytes words.now) ≢ [] }
+    ensures broken { result.status ≡ 3 → fault_of_words (map string_bytes words.now) ≡ [] }
+    ensures reported { result.status ≡ 3
+        → (task : Task) × IsTask (map string_bytes words.now) task
+        × PrintsBroken None (λ path. None) task (O.contents out.old) (O.contents out.new) }
+    ensures quiet { (result.status ≡ 0) ⊎ (result.status ≡ 3) → IsTrue result.is_err_written
+        → IsQuiet E.contents (map string_bytes words.now) err.old err.new }
+    ensures unprinted { result.status ≡ 2 → out.new ≡ out.old }
+    ensures done { result.status ≡ 0 → fault_of_words (map string_bytes words.now) ≡ []
+        → (task : Task) × IsTask (map string_bytes words.now) task
+        × Prints None (λ path. None) task (O.contents out.old) (O.contents out.new) }
+    ensures err_line { result.status ≡ 1
+        → WritesFault E.tells None (λ path. None) (map string_bytes words.now) err.old err.new
+        (O.contents out.old) (O.contents out.new) result.is_err_written }
+{
+    run_words(rt, rt, &mut rt.stdin(), words, out, err)
+}
+
+/// Does what the words say, with these files and this standard input; databases and the port are
+/// those of the system.
+pub fn run_words<T: Texts, I: Read, O: Write, E: Write + Lines>(
+    rt: &HostRuntime,
+    files: &T,
+    stdin: &mut I,
     words: &[String],
     out: &mut O,
     err: &mut E,
@@ -49,17 +83,19 @@ pub fn run_program<O: Write, E: Write + Lines>(
     ensures within { result.status ≤ 3 }
 
     // Status 0 is a command that is done, or a call for help or the version. Status 2 is a mistake
-    // in the words: one that clap finds, an unknown fault to explain, or standard input twice.
+    // in the words: one that clap finds, an unknown fault to explain, standard input twice, or forms
+    // of `check` that don't go together.
     ensures answered { result.status ≡ 0 → AreAnswered (map string_bytes words.now) }
     ensures mistake { result.status ≡ 2 → fault_of_words (map string_bytes words.now) ≢ [] }
     // Status 3, a breach, comes only for words without a mistake.
     ensures broken { result.status ≡ 3 → fault_of_words (map string_bytes words.now) ≡ [] }
 
-    // Status 3 comes with the whole report on two valid texts; or with a line for each of some
-    // solutions, of which none has a fault and at least one has a breach.
+    // Status 3 comes with the whole report on the two files that the words name; or with a line for
+    // each of the solutions that they name, of which none has a fault and at least one has a breach.
     ensures reported { result.status ≡ 3
         → (task : Task) × IsTask (map string_bytes words.now) task
-        × PrintsBroken task (O.contents out.old) (O.contents out.new) }
+        × PrintsBroken (I.remaining stdin.old) (T.known files.now) task
+        (O.contents out.old) (O.contents out.new) }
 
     // Help, and the output of a task that is done, are written only to `out`, except that `serve`
     // writes the faults of connections to `err`. A mistake leaves `out` unchanged.
@@ -67,27 +103,31 @@ pub fn run_program<O: Write, E: Write + Lines>(
         → IsQuiet E.contents (map string_bytes words.now) err.old err.new }
     ensures unprinted { result.status ≡ 2 → out.new ≡ out.old }
 
-    // The task of the words is done, and its output is written whole. The output of `serve` is the
-    // line of the port, of `places` the list of the exam's places, of `export` the solution of a
+    // The task of the words is done, by the texts of the files that it names, and its output is
+    // written whole. The output of `serve` is the line of the port, of `places` the list of the
+    // exam's places, of `compare` what differs between two solutions, of `export` the solution of a
     // whole timetable, of `explain` the words of the fault.
     ensures done { result.status ≡ 0 → fault_of_words (map string_bytes words.now) ≡ []
         → (task : Task) × IsTask (map string_bytes words.now) task
-        × Prints task (O.contents out.old) (O.contents out.new) }
+        × Prints (I.remaining stdin.old) (T.known files.now) task
+        (O.contents out.old) (O.contents out.new) }
 
     // Status 1 comes with a try to write the line of a fault of the words to `err`, and
-    // `is_err_written` says whether it was written whole; it is false only if `err` failed. Unless
-    // the fault is one of writing, `out` is unchanged, or has the line of the port. `check`,
-    // `places`, `load`, `export` and `explain` write nothing else to `err`; for `serve` this is the
-    // last line there; `check-all` writes a line for each solution with a fault, with its path.
+    // `is_err_written` says whether it was written whole; it is false only if `err` failed. A fault
+    // of a file is one that it has. Unless the fault is one of writing, `out` is unchanged, or has the
+    // line of the port. `check`, `places`, `compare`, `load`, `export` and `explain` write nothing else
+    // to `err`; for `serve` this is the last line there; `check-all` writes a line for each solution
+    // with a fault, with its path.
     ensures err_line { result.status ≡ 1
-        → WritesFault E.tells (map string_bytes words.now) err.old err.new
+        → WritesFault E.tells (I.remaining stdin.old) (T.known files.now)
+        (map string_bytes words.now) err.old err.new
         (O.contents out.old) (O.contents out.new) result.is_err_written }
 {
     let task = match read_words(rt.alloc(), words) {
         Ok(task) => task,
         Err(error) => return refuse_words(&error, out, err),
     };
-    match run_task(rt, &task, out, err) {
+    match run_task(rt, files, stdin, &task, out, err) {
         Ok(ending) => ending,
         Err(fault) => {
             let ending = complain(&fault, err);
@@ -97,41 +137,54 @@ pub fn run_program<O: Write, E: Write + Lines>(
     }
 }
 
-fn run_task<'a, W: Write, E: Write + Lines>(
+fn run_task<'a, T: Texts, I: Read, W: Write, E: Write + Lines>(
     rt: &HostRuntime,
+    files: &T,
+    stdin: &mut I,
     task: &'a Task,
     out: &mut W,
     err: &mut E,
 ) -> Result<Ending, ProgramFault<'a>>
     ensures status { IfOk result (λ ending. (ending.status ≤ 3) × (ending.status ≢ 2)) }
     ensures broken { IfOk result (λ ending. ending.status ≡ 3
-        → PrintsBroken task.now (W.contents out.old) (W.contents out.new)) }
+        → PrintsBroken (I.remaining stdin.old) (T.known files.now) task.now
+        (W.contents out.old) (W.contents out.new)) }
     ensures done { IfOk result (λ ending. ending.status ≡ 0
-        → Prints task.now (W.contents out.old) (W.contents out.new)) }
+        → Prints (I.remaining stdin.old) (T.known files.now) task.now
+        (W.contents out.old) (W.contents out.new)) }
     ensures quiet { IfOk result (λ ending. ending.status ≢ 1 → IsTrue ending.is_err_written
         → WritesConnectionFaults E.contents task.now err.old err.new) }
 
     // An `Ok` has status 1 only if solutions have faults.
     ensures faulty { IfOk result (λ ending. ending.status ≡ 1
-        → WritesSolutionFaults E.tells task.now err.old err.new
-        (W.contents out.old) (W.contents out.new) ending.is_err_written) }
+        → WritesSolutionFaults E.tells (I.remaining stdin.old) (T.known files.now) task.now
+        err.old err.new (W.contents out.old) (W.contents out.new) ending.is_err_written) }
 
     // A line that names a file names one of the task's.
-    ensures fault { IfErr result (IsOfTask task.now) }
+    ensures fault { IfErr result
+        (IsOfTask (I.remaining stdin.old) (T.known files.now) task.now) }
     ensures silent { IsSilent task.now err.old err.new }
     ensures unwritten { IfErr result (λ fault. fault ≢ ProgramFault.CannotWrite
         → LeavesPrinted task.now (W.contents out.old) (W.contents out.new)) }
 {
+    let alloc = rt.alloc();
     match task {
-        Task::Check(instance, solution) => check(rt, &mut rt.stdin(), instance, solution, out),
-        Task::Why(instance, solution) => why(rt, &mut rt.stdin(), instance, solution, out),
+        Task::Check(instance, solution) => {
+            check(alloc, files, stdin, &Report, instance, solution, out)
+        }
+        Task::CheckAs(instance, solution, form) => {
+            check_as(alloc, files, stdin, instance, solution, *form, out)
+        }
         Task::CheckAll(session, solutions, form) => {
-            check_all(rt, &mut rt.stdin(), session, solutions, *form, out, err)
+            check_all(alloc, files, stdin, session, solutions, *form, out, err)
         }
         Task::Places(instance, solution, exam) => {
-            list_places(rt, &mut rt.stdin(), instance, solution, *exam, out)
+            list_places(alloc, files, stdin, instance, solution, *exam, out)
         }
-        Task::Load(database, instance) => load(rt, database, instance, out),
+        Task::Compare(session, before, after) => {
+            compare(alloc, files, stdin, session, before, after, out)
+        }
+        Task::Load(database, instance) => load(rt, files, database, instance, out),
         Task::Serve(database, terms) => open_and_serve(rt, rt, database, *terms, out, err),
         Task::Export(database) => export(rt, database, out),
         Task::Explain(words) => explain(words, out),
@@ -139,36 +192,40 @@ fn run_task<'a, W: Write, E: Write + Lines>(
 }
 
 // Runs `load`. The instance's file is read before the database is opened.
-fn load<'a, W: Write>(
+fn load<'a, T: Texts, W: Write>(
     rt: &HostRuntime,
+    files: &T,
     database: &str,
     instance: &'a str,
     out: &mut W,
 ) -> Result<Ending, ProgramFault<'a>>
     ensures status { IfOk result (λ ending. ending.status ≡ 0) }
     ensures printed { IfOk result (λ _. (text : List ℕ)
+        × IsTextOf (T.known files.now instance.now) text
         × PrintsCounts text (W.contents out.old) (W.contents out.new)) }
 
     // A line that names a file names the instance's.
-    ensures fault { IfErr result (IsOfLoad instance.now) }
+    ensures fault { IfErr result (IsOfLoad instance.now (T.known files.now)) }
     ensures unwritten { IfErr result (λ fault. fault ≢ ProgramFault.CannotWrite
         → Keeps (W.contents out.old) (W.contents out.new)) }
 {
     announce(rt, LongWork::Loading(instance));
-    match text_at(rt, instance) {
+    match text_at(rt.alloc(), files, instance) {
         Ok(text) => load_text(rt, database, &text, out),
         Err(fault) => Err(fault_of_input(fault, instance)),
     }
 }
 
 // Returns the whole text of an instance's file.
-fn text_at<R: Files + AllocGlobal>(rt: &R, path: &str) -> Result<Vec<u8>, InputFault>
+fn text_at<T: Texts>(alloc: Global, files: &T, path: &str) -> Result<Vec<u8>, InputFault>
     ensures short { IfOk result (λ text. length text.items ≤ INSTANCE_BYTES) }
+    ensures of { IfOk result (λ text. IsTextOf (T.known files.now path.now) text.items) }
+    ensures refused { IfErr result (IsTextCause (T.known files.now path.now)) }
 {
-    let Ok(mut file) = fs::open(rt, path) else {
+    let Ok(mut file) = files.open_text(path) else {
         return Err(InputFault::Read);
     };
-    instance_text(rt.alloc(), &mut file)
+    instance_text(alloc, &mut file)
 }
 
 // Loads an instance's text into the office of a database's file.

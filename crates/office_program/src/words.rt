@@ -8,23 +8,24 @@ ghost use Rattle.clap.specs.Words.{FailsBy, HasKind, found_of, kind_of, rows_of}
 ghost use Rattle.clap.specs.Words.{subcommand_of, subcommand_rows_of};
 ghost use Rattle.clap.specs.Faults.{fault_of};
 ghost use Rattle.clap.specs.declared.error.kind.ErrorKind.TheVariants.{InvalidValue, OutOfMemory};
-ghost use Rattle.clap.specs.Words.{first_of, one_of};
-ghost use Rattle.office_program.specs.CommandLine.{HasCheckValues, HasExportValues, HasLoadValues};
-ghost use Rattle.office_program.specs.CommandLine.{IsFlag};
+ghost use Rattle.clap.specs.Words.{first_of};
+ghost use Rattle.office_program.specs.CommandLine.{HasExportValues, HasLoadValues};
 ghost use Rattle.office_program.specs.Explaining.{HasExplainValues, explain_errors};
-ghost use Rattle.office_program.specs.Mistakes.{check_paths, mistakes_in, sharing_errors};
+ghost use Rattle.office_program.specs.Mistakes.{mistakes_in};
 ghost use Rattle.office_program.specs.Program.{IsTask, IsTaskOf, fault_of_words, program};
 ghost use Rattle.office_program.specs.ServeLine.{HasNumber, HasServeValues, HasTerms};
 
 use crate::check_all_words::check_all_task;
+use crate::check_words::check_task;
+use crate::checking::CheckForm;
 use crate::commands::{
     check_all_command, check_command, explain_command, export_command, load_command,
     places_command, serve_command,
 };
+use crate::compare_words::{compare_command, compare_task};
 use crate::explaining::{MAX_NUMBER, fault_words};
 use crate::helps;
 use crate::places_words::places_task;
-use crate::sources::{are_both_stdin, shared_stdin};
 use clap::error::ErrorKind;
 use clap::{ArgMatches, Command, Error};
 use exam_model::ExamNo;
@@ -39,14 +40,15 @@ use std::io;
 pub enum Task {
     /// Judges a solution: the instance's file, then the solution's.
     Check(String, String),
-    /// Judges a solution, and lists the summands of its penalty: the instance's file, then the
-    /// solution's.
-    Why(String, String),
+    /// Judges a solution in another form: the instance's file, then the solution's.
+    CheckAs(String, String, CheckForm),
     /// Judges solutions of one session: the session's file, the solutions', and the form of the
     /// lines.
     CheckAll(String, Vec<String>, LineForm),
     /// Lists the places of an exam: the instance's file, the solution's, and the exam.
     Places(String, String, ExamNo),
+    /// Compares two solutions: the session's file, the first solution's, the second one's.
+    Compare(String, String, String),
     /// Loads an office: its database's file, then the instance's.
     Load(String, String),
     /// Serves an office: its database's file, and the terms.
@@ -90,10 +92,12 @@ pub fn words_of(alloc: Global, args: Args) -> io::Result<Vec<String>>
 pub fn read_words(alloc: Global, words: &[String]) -> Result<Task, Error>
     // The values are those that clap finds. A number is the one in its text: a port up to 65,535, 1
     // to 1,000,000 connections, a timeout of 1 to 86,400 seconds, or 30 if there is none, an exam of
-    // 0 to 1999. The words of `explain` are those of the fault of this kind and number.
+    // 0 to 1999, a student up to 999,999,999. The words of `explain` are those of the fault of this
+    // kind and number.
     ensures task { IfOk result (IsTask (map string_bytes words.now)) }
     // An error is a mistake that clap finds, a fault to explain that doesn't exist, standard input
-    // for two files, or out of memory. An `Ok` comes only without such a mistake.
+    // for two files, forms of `check` that don't go together, or out of memory. An `Ok` comes only
+    // without such a mistake.
     ensures kinds { FailsBy (fault_of_words (map string_bytes words.now)) result }
 {
     let found = matches(alloc, words)?;
@@ -113,6 +117,9 @@ fn task_of(alloc: Global, found: &ArgMatches<'_>) -> Result<Task, Error>
     }
     if let Some(values) = found.subcommand_matches("places") {
         return places_task(alloc, values);
+    }
+    if let Some(values) = found.subcommand_matches("compare") {
+        return compare_task(alloc, values);
     }
     if let Some(values) = found.subcommand_matches("load") {
         return load_task(alloc, values);
@@ -138,6 +145,7 @@ fn matches(alloc: Global, words: &[String]) -> Result<ArgMatches<'_>, Error>
     let check = check_command(alloc)?;
     let check_all = check_all_command(alloc)?;
     let places = places_command(alloc)?;
+    let compare = compare_command(alloc)?;
     let load = load_command(alloc)?;
     let serve = serve_command(alloc)?;
     let export = export_command(alloc)?;
@@ -150,35 +158,12 @@ fn matches(alloc: Global, words: &[String]) -> Result<ArgMatches<'_>, Error>
         .subcommand(check)?
         .subcommand(check_all)?
         .subcommand(places)?
+        .subcommand(compare)?
         .subcommand(load)?
         .subcommand(serve)?
         .subcommand(export)?
         .subcommand(explain)?;
     whole.try_get_matches_from(words)
-}
-
-// Returns the task of `check` with these values; both may name standard input.
-fn check_task(alloc: Global, values: &ArgMatches<'_>) -> Result<Task, Error>
-    ensures ok { IfOk result (HasCheckValues (rows_of (found_of values.now))) }
-    ensures err { IfErr result
-        (HasKind (sharing_errors (check_paths (rows_of (found_of values.now))))) }
-{
-    let instance = value_of(alloc, values, "instance")?;
-    let solution = value_of(alloc, values, "solution")?;
-    if are_both_stdin(&instance, &solution) {
-        return Err(shared_stdin(check_command(alloc)?, "examoffice check")?);
-    }
-    if flag_of(values, "why") {
-        return Ok(Task::Why(instance, solution));
-    }
-    Ok(Task::Check(instance, solution))
-}
-
-// Returns whether a flag was given.
-fn flag_of(values: &ArgMatches<'_>, id: &str) -> bool
-    ensures { IsFlag (one_of id.now (rows_of (found_of values.now))) result }
-{
-    values.get_flag(id)
 }
 
 // Returns the value that was found. Clap makes sure that there is one, but its contract doesn't say

@@ -11,9 +11,10 @@ returns-in-Ok-judge_each-clause-judged g c =
         outcomes = all.outcomes;
         judged = record {
           text = c.in-Ok.ensures.spelled.0;
+          of = c.in-Ok.ensures.spelled.1;
           session = c.in-Ok.judge.0;
           enrolled = c.in-Ok.judge.1;
-          read = c.in-Ok.ensures.spelled.1;
+          read = c.in-Ok.ensures.spelled.2;
           judged = all.judged;
         };
         printed = all.printed;

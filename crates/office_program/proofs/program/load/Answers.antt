@@ -1,4 +1,4 @@
-use Rattle.std.proofs.Common.{inr}
+use Rattle.std.proofs.Common.{inr, rules}
 use Rattle.office_program.proofs.LoadFacts.{if_err}
 use Rattle.office_program.proofs.program.load.Goals as goal
 
@@ -6,4 +6,5 @@ use Rattle.office_program.proofs.program.load.Goals as goal
 pub returns-in-Ok-clause-fault : goal.returns-in-Ok-clause-fault
 returns-in-Ok-clause-fault g c =
     let of = c.load_text.ensures.fault in
-    if_err c.load_text.result _ _ _ (λ fault of again. inr (c.deref.result.now, of)) of of
+    if_err c.load_text.result _ _ _ (λ fault of again.
+    inr (c.deref.result.now, search rules, of)) of of

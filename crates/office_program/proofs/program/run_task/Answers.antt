@@ -1,3 +1,4 @@
+use Rattle.std.proofs.Common.{◌∙◌, rules, sym}
 use Rattle.office_program.proofs.EndingFacts.{if_ok}
 use Rattle.office_program.proofs.LoadFacts.{if_err}
 use Rattle.office_program.proofs.program.run_task.Goals as goal
@@ -15,3 +16,74 @@ returns-in-Serve-clause-unwritten g c =
     if_err c.open_and_serve.result _ _ _ (λ fault err_line again other. rw c.in-Serve.is
     (err_line other)) port
     port
+
+-- the report with its status
+pub returns-in-Check-clause-done : goal.returns-in-Check-clause-done
+returns-in-Check-clause-done g c =
+    if_ok c.check.result _ _ (λ ending done zero. rw c.in-Check.is (record {
+      instance = done.instance;
+      solution = done.solution;
+      of_first = search rules;
+      of_second = search rules;
+      texts = record {
+        read = done.texts.read;
+        holds = record {
+          written = done.texts.holds.written;
+          status = sym zero ∙ done.texts.holds.status;
+        };
+      };
+    })) c.check.ensures.done
+
+pub returns-in-Check-clause-broken : goal.returns-in-Check-clause-broken
+returns-in-Check-clause-broken g c =
+    if_ok c.check.result _ _ (λ ending done three. rw c.in-Check.is (record {
+      instance = done.instance;
+      solution = done.solution;
+      of_first = search rules;
+      of_second = search rules;
+      texts = record {
+        read = done.texts.read;
+        holds = record {
+          written = done.texts.holds.written;
+          status = sym three ∙ done.texts.holds.status;
+        };
+      };
+    })) c.check.ensures.done
+
+-- and in another form
+pub returns-in-CheckAs-clause-done : goal.returns-in-CheckAs-clause-done
+returns-in-CheckAs-clause-done g c =
+    if_ok c.check_as.result _ _ (λ ending done zero. rw c.in-CheckAs.is (record {
+      instance = done.instance;
+      solution = done.solution;
+      of_first = search rules;
+      of_second = search rules;
+      texts = record {
+        read = done.texts.read;
+        holds = search rules;
+      };
+    })) c.check_as.ensures.printed
+
+pub returns-in-CheckAs-clause-broken : goal.returns-in-CheckAs-clause-broken
+returns-in-CheckAs-clause-broken g c =
+    if_ok c.check_as.result _ _ (λ ending done three. rw c.in-CheckAs.is (record {
+      instance = done.instance;
+      solution = done.solution;
+      of_first = search rules;
+      of_second = search rules;
+      texts = record {
+        read = done.texts.read;
+        holds = search rules;
+      };
+    })) c.check_as.ensures.printed
+
+-- the list of an exam's places
+pub returns-in-Places-clause-done : goal.returns-in-Places-clause-done
+returns-in-Places-clause-done g c =
+    if_ok c.list_places.result _ _ (λ ending done zero. rw c.in-Places.is (record {
+      instance = done.instance;
+      solution = done.solution;
+      of_first = search rules;
+      of_second = search rules;
+      texts = done.texts;
+    })) c.list_places.ensures.listed

@@ -1,6 +1,6 @@
 use Rattle.std.proofs.Common.{inl, inr}
 use Rattle.office_program.proofs.EndingFacts.{not_one}
-use Rattle.office_program.proofs.program.run_program.Goals as goal
+use Rattle.office_program.proofs.program.run_words.Goals as goal
 
 -- the task of the words prints its text
 pub returns-in-Ok-run_task-clause-done : goal.returns-in-Ok-run_task-clause-done

@@ -1,0 +1,10 @@
+use Rattle.office_program.proofs.checking.check_as.Goals as goal
+
+pub returns-in-Why-clause-printed : goal.returns-in-Why-clause-printed
+returns-in-Why-clause-printed g c = rw c.in-Why.is c.check.ensures.done
+
+pub returns-in-WhyFor-clause-printed : goal.returns-in-WhyFor-clause-printed
+returns-in-WhyFor-clause-printed g c = rw c.in-WhyFor.is c.check-in-WhyFor.ensures.done
+
+pub returns-in-Json-clause-printed : goal.returns-in-Json-clause-printed
+returns-in-Json-clause-printed g c = rw c.in-Json.is c.check-in-Json.ensures.done

@@ -1,0 +1,21 @@
+use Rattle.std.proofs.Common.{◌∙◌, sym}
+use Rattle.office_program.proofs.SourceFacts.{file_reader, if_ok_both, some_text, stdin_reader}
+use Rattle.office_program.proofs.judging.judge_at.Goals as goal
+
+-- the session is that of standard input
+pub returns-then-is_stdin-clause-spelled : goal.returns-then-is_stdin-clause-spelled
+returns-then-is_stdin-clause-spelled g c =
+    let stdin = g.I.Read.remaining c.args.stdin.now in
+    let files = g.T.Texts.known c.args.files.now in
+    if_ok_both c.new.result _ _ _ (λ judge known some. some_text _ stdin
+    (stdin_reader stdin files c.args.path.now (sym c.is_stdin.ensures ∙ c.if-is_stdin.true))
+    _ known some) c.new.ensures.reading c.new.ensures.spelled
+
+-- or that of a file
+pub returns-clause-spelled : goal.returns-clause-spelled
+returns-clause-spelled g c =
+    let stdin = g.I.Read.remaining c.args.stdin.now in
+    let files = g.T.Texts.known c.args.files.now in
+    if_ok_both c.new-2.result _ _ _ (λ judge known some. some_text _ _
+    (file_reader stdin files c.args.path.now (sym c.is_stdin.ensures ∙ c.if-is_stdin.false) _
+    c.in-Ok.ensures.opened) _ known some) c.new-2.ensures.reading c.new-2.ensures.spelled
