@@ -71,10 +71,15 @@ def caption(path=None):
             f" load {os.getloadavg()[0]:.0f}")
 
 
-def ask(command, instance, solution):
-    done = subprocess.run([*command, instance, solution], stdin=subprocess.DEVNULL,
-                          capture_output=True, check=False)
+def ask(command, *files):
+    done = subprocess.run([*command, *files], stdin=subprocess.DEVNULL, capture_output=True,
+                          check=False)
     return Answer(done.returncode, done.stdout, done.stderr)
+
+
+def comparing(command):
+    """The checker's command that compares two solutions, by the one that judges one."""
+    return [*(word for word in command if word != "check"), "compare"]
 
 
 def instructions(command, folder, text=subprocess.DEVNULL):

@@ -2,8 +2,9 @@
 """fuzz.py [--program PATH] [--rounds N] [--seed N]: the same answers on files made at random.
 
 Every second round damages the small files with known answers; the others make small well-formed
-instances, on some of which the slow oracle is asked too. Each round asks for the summands as well.
-The first two files on which answers differ are kept and named.
+instances, on some of which the slow oracle is asked too, also for one student's summands and for an
+object of JSON. Each round asks for all summands as well, and compares the solution with one that
+has other places, either of them first. The first files on which answers differ are kept and named.
 """
 import argparse
 import datetime
@@ -13,7 +14,7 @@ import shutil
 import sys
 import tempfile
 
-from checkers import ORACLE, ask, baselines, difference, program
+from checkers import ORACLE, ask, baselines, comparing, difference, program
 from known import FAULTS, REPORTS
 
 PIECES = ["\r", "\n", "\r\n", ",", " ", "\t", "[", "]", ":", "0", "00", "-", "1441", "100001", "4",
@@ -24,6 +25,8 @@ PIECES = ["\r", "\n", "\r\n", ",", " ", "\t", "[", "]", ":", "0", "00", "-", "14
           "9:5:0",
           "\x00", "\xe9"]
 LONGEST = 5_000
+# The students of a made instance have smaller numbers.
+MOST_STUDENTS = 40
 # The periods of an instance are on four days from one of these.
 FIRST_DAYS = [datetime.date(*day) for day in ((2005, 1, 1), (2004, 12, 30), (2004, 2, 27),
                                               (2005, 2, 27))]
@@ -60,7 +63,7 @@ def damaged(rng, text):
 def made(rng):
     """A small well-formed instance and a solution of it."""
     exams, periods, rooms = rng.randrange(1, 60), rng.randrange(1, 12), rng.randrange(1, 4)
-    students, first = rng.randrange(1, 40), rng.choice(FIRST_DAYS)
+    students, first = rng.randrange(1, MOST_STUDENTS), rng.choice(FIRST_DAYS)
     lines = [f"[Exams:{exams}]"]
     for _ in range(exams):
         names = [rng.randrange(students) for _ in range(rng.randrange(0, students + 5))]
@@ -85,11 +88,41 @@ def made(rng):
     return "\n".join(lines) + "\n", "\n".join(solution) + "\n"
 
 
+def moved(rng, solution):
+    """The solution with some lines in the place of others."""
+    lines = solution.splitlines(True)
+    for _ in range(rng.randrange(4) if lines else 0):
+        lines[rng.randrange(len(lines))] = rng.choice(lines)
+    return "".join(lines)
+
+
 def texts_of(rng, turn, pool):
-    if turn % 2 == 0:
-        return made(rng)
-    return [damaged(rng, text) if rng.random() < chance else text
-            for text, chance in zip(rng.choice(pool), (0.8, 0.4))]
+    """A session, a solution, and another solution."""
+    instance, solution = made(rng) if turn % 2 == 0 else [
+        damaged(rng, text) if rng.random() < chance else text
+        for text, chance in zip(rng.choice(pool), (0.8, 0.4))]
+    other = moved(rng, solution)
+    return instance, solution, damaged(rng, other) if turn % 16 == 1 else other
+
+
+def questions(commands, with_oracle, student, instance, solution, other):
+    """What the checkers are asked, each time those that can answer it: commands by name, files,
+    flags."""
+    one, slow = (instance, solution), {"examoffice": commands["examoffice"], "oracle": ORACLE}
+    every = {**commands, **slow} if with_oracle else commands
+    yield every, one
+    yield commands, one, "--why"
+    if with_oracle:
+        yield slow, one, "--why", "--student", student
+        yield slow, one, "--json"
+    comparers = {name: comparing(command) for name, command in every.items()}
+    yield comparers, (instance, solution, other)
+    yield comparers, (instance, other, solution)
+
+
+def answers_in(commands, files, *flags):
+    """What commands with these flags answer to the files, by name."""
+    return {name: ask([*command, *flags], *files) for name, command in commands.items()}
 
 
 def words():
@@ -108,18 +141,18 @@ def main():
         sys.exit("fuzz: no baseline to compare with")
     pool = [case[:2] for case in [*REPORTS.values(), *FAULTS.values()] if len(case[0]) < LONGEST]
     folder = tempfile.mkdtemp()
-    files = [str(pathlib.Path(folder, name)) for name in ("fuzz.exam", "fuzz.sol")]
+    files = [str(pathlib.Path(folder, name)) for name in ("fuzz.exam", "fuzz.sol", "other.sol")]
     refused = 0
     for turn in range(given.rounds):
         for file, text in zip(files, texts_of(rng, turn, pool)):
             pathlib.Path(file).write_bytes(text.encode("latin-1"))
-        asked = {**commands, "oracle": ORACLE} if turn % 10 == 0 else commands
-        answers = {name: ask(command, *files) for name, command in asked.items()}
-        differs = difference(answers) or difference({
-            name: ask([*command, "--why"], *files) for name, command in commands.items()})
+        student = str(rng.randrange(MOST_STUDENTS + 1))
+        asked = questions(commands, turn % 10 == 0, student, *files)
+        answers = [answers_in(*question) for question in asked]
+        differs = next(filter(None, map(difference, answers)), None)
         if differs:
             sys.exit(f"fuzz: round {turn}, {' '.join(files)}: {differs}")
-        refused += answers["examoffice"].status == 1
+        refused += answers[0]["examoffice"].status == 1
     shutil.rmtree(folder)
     print(f"fuzz: {given.rounds} rounds agree, {refused} of them on faulty files")
 
