@@ -9,6 +9,7 @@ package that isn't installed is left out, and a line says so. A failing case is 
 was expected and what came, and the last line counts the cases.
 """
 import argparse
+import concurrent.futures
 import contextlib
 import grp
 import gzip
@@ -226,11 +227,19 @@ def slow_ones(run, front):
         run.judge("a client that stays", FIRST_VIEW, one_reply(idle))
         run.judge("a client beside slow ones", SECOND_VIEW, front.told(ask("ben", "GET", "/me")))
         run.judge("it is served at once", True, time.monotonic() - began < 4)
-    yield
-    for client in held:
+
+    def left(client):
+        """What a client still reads, and whether its connection ended in time."""
+        said = b""
         with client, contextlib.suppress(ConnectionResetError):
-            run.judge("a slow client is left", b"", rest(client))
-    run.judge("they are left in time", True, time.monotonic() - began < 60)
+            said = rest(client)
+        return said, time.monotonic() - began < 60
+
+    with concurrent.futures.ThreadPoolExecutor(len(held)) as pool:
+        leaving = [pool.submit(left, client) for client in held]
+        yield
+    run.judge("slow clients are left, in time", [(b"", True)] * len(held),
+              [one.result() for one in leaving])
 
 
 def no_office(run):
