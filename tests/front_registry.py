@@ -87,7 +87,7 @@ class Stack(front_sign_in.Stack):
                 "REGISTRY_FRONT": f"{front}/run/front.sock", "REGISTRY_TOKEN": self.token,
                 "REGISTRY_LOG": f"{front}/run/changes.log", "REGISTRY_PUBLICATIONS": "4",
                 # A new session is asked for more than once.
-                "REGISTRY_HELD": "0.01"})
+                "REGISTRY_HELD": "0.01", "EXAMOFFICE": str(run.program)})
             begun.callback(self.service.stop)
             (front / "labels").rename(front / "labels.small")
             if is_new:
@@ -144,7 +144,7 @@ def strangers(run, stack):
     questions = (("GET", "about"), ("GET", "batches"), ("PUT", "batches/1"), ("POST", "students"),
                  ("GET", "history"), ("GET", "publications/1"), ("GET", "lists"),
                  ("POST", "lists"), ("GET", "lists/1/door-lists.pdf"), ("POST", "session"),
-                 ("GET", "session/1"),
+                 ("GET", "session/1"), ("GET", "breaches"), ("POST", "breaches"),
                  ("GET", "anything"))
     for running in (True, False):
         for name, client in people.items():
@@ -494,6 +494,61 @@ def week_on_the_page(page):
             "Exams given to their owners, PHYS102 the last one"]}))
 
 
+# ---- What breaks a rule
+
+# Exam 3 is beside exam 2 then, in a room of 2 seats, and nobody takes both.
+BESIDE = SOLUTION.replace(b"2, 0", b"3, 1")
+# Candidate 1, who takes exam 3, is added to exam 2 too.
+BROKEN_THEN = [["Clash", 2, 3], ["Capacity", 2, 2], ["Capacity", 3, 3]]
+# What may be asked: a query, the lines of a batch, and the breaches after it.
+JUDGED = [
+    ("today", "", None, []),
+    ("after two exams at one time", "", ("1,2,add",), BROKEN_THEN),
+    ("after a room that is too small", "", ("2,2,add",), BROKEN_THEN[1:]),
+    ("after one who comes and goes", "", ("1,2,add", "1,2,drop"), []),
+    ("after no line", "", (), []),
+    # Exams 0 and 2 are at one time in draft 2, and the others have no place.
+    ("a draft", "?draft=2", None, []),
+    ("a draft, after two exams at one time", "?draft=2", ("3,0,add", "3,1,add", "1,1,add"),
+     [["Clash", 0, 2]]),
+]
+
+
+def judging(run, stack):
+    """The service says which rules the publication breaks with today's enrolments, and what late
+    changes would break; the office isn't changed."""
+    office = signed_in(stack, "registry")
+
+    def told(query, lines=None):
+        status, found = asked(office, *(("GET", f"breaches{query}") if lines is None else (
+            "POST", f"breaches{query}", batch_text(*lines))))
+        return [[one[name] for name in ("rule", "exam", "other")] for one in found["breaches"]] \
+            if status == 200 else (status, found["error"])
+
+    run.judge("nothing is published", (404, "publication"), told(""))
+    for method, path, body, status in (
+            ("PUT", "/drafts/1", BESIDE, 201), ("POST", "/drafts/1/publish", b"", 200),
+            ("PUT", "/drafts/2", b"", 201),
+            ("POST", "/drafts/2/exams/0/place", b'{"period":0,"room":0}', 200),
+            ("POST", "/drafts/2/exams/2/place", b'{"period":0,"room":1}', 200)):
+        run.judge(f"{method} {path}", status, office.ask(method, path, body)[0])
+    for name, query, lines, breaches in JUDGED:
+        run.judge(f"breaches {name}", breaches, told(query, lines))
+    for name, query, lines, refusal in (
+            ("no lines", "", ("x",), (400, "body")),
+            ("no such exam", "", ("1,4,add",), (404, "number")),
+            ("no such draft", "?draft=3", None, (404, "draft"))):
+        run.judge(name, refusal, told(query, lines))
+    run.judge("candidate 1 is added", 200, office.ask(
+        "PUT", "/batches/5", batch_text("1,2,add"))[0])
+    run.judge("breaches then", BROKEN_THEN, told(""))
+    run.judge("breaches after they are dropped", [], told("", ("1,2,drop",)))
+    stack.service.stop()
+    stack.service.environment["EXAMOFFICE"] = "/no/such/program"
+    stack.service.start()
+    run.judge("a program that doesn't run", (503, "unavailable"), told(""))
+
+
 # ---- Lists to print
 
 def ended(stack, client, number):
@@ -637,6 +692,42 @@ def on_the_page(page):
             "value #batch-lines": "student,exam,action\nx1,PHYS101,drop\n"}))
 
 
+def conflicts_on_the_page(run, page, stack, office):
+    """Late changes are shown with what they would break, and conflicts of the publication with whom
+    they concern; without the service the page says that it doesn't know."""
+    monday = page.moment("2005-04-18", "09:30:00")
+    room = "Room 2.14, Physics building"
+    no_seat = ["No seat", "Ada Archer\ns1", "PHYS101", monday, room]
+    for path, body in (("exams/3/move", b'{"period":3,"room":0}'), ("publish", b"")):
+        run.judge("PHYS102 beside PHYS101", 200, office.ask("POST", f"/drafts/1/{path}", body)[0])
+    page.steps(("what late changes would break", [
+        "click #refresh", "click #menu [data-to=late-changes] a", "reset #batch",
+        ("type", "#batch-lines", "student,exam,action\ns1,PHYS101,add"), "click #batch button"], {
+            "hidden #batch-note": True, LISTS: [
+                ["Candidate", "Exam"], ["Ada Archer\ns1", "PHYS101\nMechanics"],
+                ["Candidate", "Exam", "Exam"],
+                ["Ada Archer\ns1", "PHYS101\nMechanics", "PHYS102\nOptics"],
+                ["Room", "Period", "Candidates"], [room, monday, "3 candidates, 2 seats"]]}))
+    run.judge("another registrar sends them", 200, office.ask(
+        "PUT", "/batches/30", batch_text("1,2,add"))[0])
+    page.steps(
+        ("what the card says", "click #refresh", {"texts #cards li:first-child .verdict": [
+            "Candidates see this timetable",
+            "1 enrolment without a seat, 1 overlap of two exams, 1 room too small"]}),
+        ("whom it concerns", [
+            "click #menu [data-to=timetable] a", "click #cards li:first-child a",
+            "click #menu [data-to=conflicts] a"], {
+            "hidden #conflict-note": True, "rows #conflict-list tr": [
+                ["Conflict", "Candidate", "Exams", "When", "Room or remark"],
+                ["Two exams at one time", "Ada Archer\ns1", "PHYS101 PHYS102", monday, ""], no_seat,
+                ["Room too small", "", "PHYS101", monday, f"{room}: 3 candidates, 2 seats"]]}))
+    stack.service.stop()
+    page.steps(("without the service", "click #refresh", {
+        "hidden #conflict-note": False, "rows #conflict-list tbody tr": [no_seat],
+        "#conflict-count": "1 conflict."}))
+    stack.service.start()
+
+
 def history_on_the_page(page):
     """What happened, with who and when; the difference of two publications; the way back."""
     page.steps(
@@ -718,6 +809,7 @@ def in_browser(run, chromium, make_front):
         kept(run, stack, office, "both are kept", (2, "registry", 1, 43), FIRST)
         history_on_the_page(Page(run, chromium))
         lists_on_the_page(run, Page(run, chromium), stack, office)
+        conflicts_on_the_page(run, Page(run, chromium), stack, office)
         run.judge("what the page sent, in the ledger", [
             (20, "page", "registry", 2), (21, "page", "registry", 1)], stack.service.rows(
             "SELECT number, source, prepared_by, added FROM batches JOIN effects ON batch = number"
@@ -742,6 +834,7 @@ def judge_new(run, make_front):
     stack = Stack(run, make_front, "registry_new", is_new=True)
     try:
         new_session(run, stack)
+        judging(run, stack)
     finally:
         stack.stop()
 

@@ -8,13 +8,13 @@ import test from 'node:test';
 globalThis.navigator ??= { languages: ['en-GB'] };
 globalThis.crypto ??= webcrypto;
 const {
-  batchTexts, changesOfList, effectOf, inverseText, linesIn,
+  batchTexts, changesOfList, effectOf, inverseText, linesIn, textOfAll,
 } = await import('../front/page/changes.js');
 const { calendarText } = await import('../front/page/calendar.js');
 const { columnsOf, csvText, recordsOf } = await import('../front/page/csv.js');
 const { overlapsOf, pointsInWords } = await import('../front/page/conflicts.js');
 const {
-  countsOf, findingsOfDraft, findingsOfPublication,
+  countsOf, findingsIn,
 } = await import('../front/page/findings.js');
 const { addressed } = await import('../front/page/sections.js');
 const {
@@ -179,11 +179,16 @@ const read = (text) => text.split(' ').map((line) => line.split(','))
   .map(([student, exam, action]) => ({ student: Number(student), exam: Number(exam), action }));
 // Candidates 1 and 3 take exam 0, candidate 2 takes exam 1.
 const effect = effectOf(read('1,0,add 5,0,add 1,1,add 2,1,drop 2,1,drop 7,1,drop'), [[1, 3], [2]]);
+// Candidates 5 and -1, who is new, are added to exam 0, and -2 to exam 1, from which 2 is dropped.
+const NEW = read('5,0,add -1,0,add -2,1,add -1,1,add 2,1,drop');
 
-// Exams 0 and 1 are at one time; exam 0 is in a room of 3 seats, exam 1 in one of 2.
-const TIMETABLE = { places: [{ exam: 0, period: 0, room: 0 }, { exam: 1, period: 0, room: 1 }] };
+// Exams 0 and 1 are in one room; or each in a room of its own.
 const USED = { uses: [{ period: 0, room: 0, exams: [0, 1] }] };
-const PLACED = { candidates: [[1, 3], [2]], capacities: [3, 2] };
+const APART = { places: [{ exam: 0, period: 0, room: 0 }, { exam: 1, period: 0, room: 1 }] };
+const ENROLLED = [[1, 3], [2]];
+const breachOf = (rule, exam, other) => ({ rule, exam, other });
+const TOGETHER = [breachOf('Clash', 0, 1)];
+const CROWDED = [breachOf('Capacity', 0, 0), breachOf('Capacity', 1, 1)];
 
 const ALIKE = new Names({ ...LABELS, exams: ['ENG 101.2 of MA 101', 'Élan', 'MA 101']
   .map((code) => ({ code, title: "O’Neill's", minutes: 60, department: null })) });
@@ -205,12 +210,20 @@ cases('what changes do', [
   ['their opposite, by IDs and codes', `${HEADER}0000002,PHYS102,add\n1,PHYS102,drop\n5,MATH101,drop\n`,
     () => inverseText(effect.acting, KNOWN)],
   ['two exams at one time', [{ student: 1, exams: [0, 1] }],
-    () => clashesOf(effect.acting, PLACED.candidates, TIMETABLE)],
-  ['no timetable', [], () => clashesOf(effect.acting, PLACED.candidates, undefined)],
+    () => clashesOf(effect.acting, ENROLLED, [...CROWDED, ...TOGETHER])],
+  ['a new candidate in two exams at one time, once', [{ student: -1, exams: [0, 1] }],
+    () => clashesOf(NEW, ENROLLED, TOGETHER)],
+  ['two exams at one time of somebody else', [], () => clashesOf(read('5,0,add'), ENROLLED, TOGETHER)],
+  ['other breaches', [], () => clashesOf(effect.acting, ENROLLED, CROWDED)],
   // Exam 0 has three candidates then, exam 1 one.
-  ['rooms with enough seats', [], () => fullRoomsOf(effect.acting, PLACED, TIMETABLE)],
-  ['a room that is too small', [4], () => fullRoomsOf(effect.acting, PLACED, USED)
+  ['rooms with enough seats', [], () => fullRoomsOf(effect.acting, ENROLLED, USED, TOGETHER)],
+  ['a room that is too small', [4], () => fullRoomsOf(effect.acting, ENROLLED, USED, CROWDED)
     .map(({ needed }) => needed)],
+  ['a room that was too small before', [[0, 3]], () => fullRoomsOf(effect.acting.slice(0, 1), ENROLLED, APART,
+    CROWDED).map(({ room, needed }) => [room, needed])],
+  // 0 and 4 are free: 1 to 3 and 5 are candidates.
+  ['their lines, with numbers for who is new',
+    `${HEADER}5,0,add\n0,0,add\n4,1,add\n0,1,add\n2,1,drop\n`, () => textOfAll(NEW, ENROLLED)],
 ]);
 
 cases('CSV', [
@@ -259,25 +272,28 @@ const WITHOUT = [{ student: 5, exam: 1 }];
 const DAY_OF_1 = [['three', [0, 1, 2, 3], 1]];
 const inShort = (findings) => findings.map(({ kind, exams, student, needed }) => (
   [kind, exams, ...(student === undefined ? [] : [student]), ...(needed === undefined ? [] : [needed])]));
-const breachOf = (rule, exam, other) => ({ rule, exam, other });
 const draftOf = (...breaches) => ({ breaches, unplaced: [4] });
+const FOUND = [...TOGETHER, breachOf('Capacity', 0, 0), breachOf('Capacity', 1, 1)];
+const ofPublication = (breaches) => findingsIn({ breaches, unplaced: [] }, WHERE, BUSY, () => '', WITHOUT);
 const ACROSS = [['overlap', [0, 2], 1], ['overlap', [1, 2], 1], ['overlap', [0, 2], 2]];
 
 cases('conflicts', [
   ['of the publication, with today\'s enrolments', [
     ['overlap', [0, 1], 1], ...ACROSS, ['seatless', [1], 5], ['small', [0, 1], 4], ...DAY_OF_1],
-  () => inShort(findingsOfPublication(WHERE, BUSY, WITHOUT))],
+  () => inShort(ofPublication(FOUND))],
+  ['of a publication of which no breach is found', [...ACROSS, ['seatless', [1], 5], ...DAY_OF_1],
+    () => inShort(ofPublication([]))],
   ['of a draft: what the office finds', [['overlap', [0, 1], 1], ...ACROSS, ['small', [0, 1], 4],
     ['unplaced', [4]], ['rule', [3, 0]], ['rule', [2]], ...DAY_OF_1],
-  () => inShort(findingsOfDraft(draftOf(breachOf('Clash', 0, 1), breachOf('Capacity', 0, 0),
+  () => inShort(findingsIn(draftOf(breachOf('Clash', 0, 1), breachOf('Capacity', 0, 0),
     breachOf('After', 3, 0), breachOf('Duration', 2, 2)), WHERE, BUSY, () => ''))],
   ['of a draft of which the office finds nothing', [...ACROSS, ['unplaced', [4]], ...DAY_OF_1],
-    () => inShort(findingsOfDraft(draftOf(), WHERE, BUSY, () => ''))],
-  ['a clash of which nobody is left', [['overlap', [1, 4]]], () => inShort(findingsOfDraft(
+    () => inShort(findingsIn(draftOf(), WHERE, BUSY, () => ''))],
+  ['a clash of which nobody is left', [['overlap', [1, 4]]], () => inShort(findingsIn(
     { breaches: [breachOf('Clash', 1, 4)], unplaced: [] }, new Map(),
     { ...BUSY, candidates: [[], [5], [], [], [1]] }, () => ''))],
   ['how many of a kind', { overlap: 4, seatless: 1, small: 1, unplaced: 0, rule: 0, three: 1 },
-    () => countsOf(findingsOfPublication(WHERE, BUSY, WITHOUT))],
+    () => countsOf(ofPublication(FOUND))],
 ]);
 
 const SMALL = readFileSync(new URL('../examples/small.exam', import.meta.url), 'utf8')

@@ -29,7 +29,8 @@ def registrys_page(run, chromium, front):
         run.judge("errors in the console", [], page.reader.complaints("network", "javascript"))
         page.judge("the timetables", {
             "titles #cards a": [
-                "Published 37 points Candidates see this timetable",
+                "Published 37 points Candidates see this timetable Rules not checked with today's "
+                "enrolments",
                 "Draft 1 37 points as many as published Breaks no rule",
                 "Draft 2 34 points 3 fewer than published Breaks rules: 1 violation"],
             "rows #parts tr": [["Part", "Published", "Draft 1", "Draft 2"], *(

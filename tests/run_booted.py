@@ -158,6 +158,11 @@ def registry(judged, machine):
                  wait(machine, f"{ask} {front}/-/registry/about", '{"ledger":true}'))
     judged.judge("a batch", '{"added":1,"batch":5,"dropped":0,"unchanged":0}', machine.types(
         f"printf '{batch}' | {ask} -X PUT --data-binary @- {front}/-/registry/batches/5"))
+    # Exam 2 is alone in a room of 2 seats.
+    judged.judge("what the program judges for it", '{"breaches":[]}\n{"breaches":[{"exam":2,"other"'
+                 ':2,"rule":"Capacity"}]}', machine.types(
+                     f"{ask} {front}/-/registry/breaches\nprintf 'student,exam,action\\n1,2,add\\n"
+                     f"2,2,add\\n' | {ask} --data-binary @- {front}/-/registry/breaches"))
     judged.judge("it is in the ledger", "5|page|registry", machine.types(
         "sqlite3 /var/lib/examoffice-registry/term/ledger.db"
         " 'SELECT number, source, prepared_by FROM batches'"))

@@ -236,6 +236,20 @@ export function batchTexts(changes) {
   return [...texts, lines];
 }
 
+/** All of some changes as one text. New students, whose numbers are below zero, have others that are free. */
+export function textOfAll(changes, candidates) {
+  const taken = new Set([...candidates.flat(), ...changes.map(({ student }) => student)]);
+  const free = new Map();
+  let next = 0;
+  for (const student of new Set(changes.map((one) => one.student).filter((number) => number < 0))) {
+    while (taken.has(next)) next += 1;
+    taken.add(next);
+    free.set(student, next);
+  }
+  return HEADER + changes.map((one) => (
+    lineOf({ ...one, student: free.get(one.student) ?? one.student }))).join('');
+}
+
 const quoted = (field) => (/[",;\r\n]/.test(field) ? `"${field.replaceAll('"', '""')}"` : field);
 
 /** The lines that take changes back, the last one first: by IDs and codes, if there are names. */

@@ -2,7 +2,7 @@
 import { csvText } from './csv.js';
 import { dayInShort, time } from './dates.js';
 import { byId, cell, download, element, listTable, rowHead } from './elements.js';
-import { countsOf, findingsOfDraft, findingsOfPublication, KINDS } from './findings.js';
+import { countsOf, findingsIn, KINDS } from './findings.js';
 import { fold } from './identities.js';
 import { count } from './numbers.js';
 import { placesIn } from './preview.js';
@@ -14,10 +14,9 @@ import { office, openTimetable } from './state.js';
 /** @typedef {import('./findings.js').Finding} Finding */
 
 function found(timetable, session, seats) {
-  const places = placesIn(timetable);
-  return timetable.number ? findingsOfDraft(timetable, places, session,
-    (rule, exam, other) => ruleText(rule, exam, other, office.names))
-    : findingsOfPublication(places, session, withoutSeat(seats ?? [], session));
+  return findingsIn(timetable, placesIn(timetable), session,
+    (rule, exam, other) => ruleText(rule, exam, other, office.names),
+    timetable.number ? [] : withoutSeat(seats ?? [], session));
 }
 
 // The findings of a timetable, with what they were found in.
@@ -37,14 +36,18 @@ export function findingsOf(timetable) {
   return findings;
 }
 
+/** Whether it is known which rules a timetable breaks. */
+export const isJudged = (timetable) => Boolean(timetable.number) || timetable.isJudged;
+
 /** What a registrar has to do something about in the publication, in words; an empty text if nothing. */
 export function concernText() {
   const published = office.timetables.find(({ number }) => !number);
   if (!published) return '';
-  const { seatless, overlap, small } = countsOf(findingsOf(published));
+  const { seatless, overlap, small, rule } = countsOf(findingsOf(published));
   return [seatless && count(seatless, 'enrolment without a seat', 'enrolments without a seat'),
     overlap && count(overlap, 'overlap of two exams', 'overlaps of two exams'),
-    small && count(small, 'room too small', 'rooms too small')].filter(Boolean).join(', ');
+    small && count(small, 'room too small', 'rooms too small'),
+    rule && count(rule, 'breach of another rule', 'breaches of other rules')].filter(Boolean).join(', ');
 }
 
 // ---- One finding
@@ -125,6 +128,7 @@ export function showConflicts(exam = null) {
   const findings = findingsOf(timetable);
   byId('conflicts-title').textContent = timetable.number ? `Conflicts of ${timetable.name}`
     : 'Conflicts of the published timetable with today\'s enrolments';
+  byId('conflict-note').hidden = isJudged(timetable);
   showKinds(findings);
   if (exam !== null) {
     byId('conflict-kind').value = '';
@@ -132,7 +136,8 @@ export function showConflicts(exam = null) {
   }
   const show = () => {
     const those = chosen(findings, people);
-    const none = findings.length ? 'No conflict has these words.' : 'There is no conflict.';
+    const no = isJudged(timetable) ? 'There is no conflict.' : 'No other conflict is known.';
+    const none = findings.length ? 'No conflict has these words.' : no;
     byId('conflict-count').textContent = those.length ? `${count(those.length, 'conflict')}.` : none;
     byId('conflict-list').replaceChildren(...(those.length ? listTable('Conflicts',
       ['Conflict', 'Candidate', 'Exams', 'When', 'Room or remark'],

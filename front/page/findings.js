@@ -1,5 +1,5 @@
-// What is wrong with a timetable, with names of whom it concerns. For a draft the office says which rules
-// it breaks; the publication is compared with today's enrolments, of which the office has no report.
+// What is wrong with a timetable, with names of whom it concerns. Which rules it breaks is read; only what
+// no rule forbids is found here.
 import { areAtOnce } from './conflicts.js';
 
 /**
@@ -43,13 +43,13 @@ export function examsByStudent(candidates) {
 const pairsOf = (exams) => exams.flatMap((one, place) => exams.slice(place + 1).map((other) => [one, other]));
 
 /**
- * The pairs of a student's exams in two periods that overlap; in one period too, if that counts.
+ * The pairs of a student's exams in two periods that overlap in time.
  * @param {Places} places
  * @returns {Finding[]}
  */
-function overlapsIn(places, { candidates, periods }, isOnePeriodToo) {
+function overlapsIn(places, { candidates, periods }) {
   const together = periods.map((one, at) => periods.map((other, place) => (
-    at === place ? isOnePeriodToo : areAtOnce(one, other))));
+    at !== place && areAtOnce(one, other))));
   const periodOf = (exam) => places.get(exam)?.period ?? -1;
   return [...examsByStudent(candidates)].flatMap(([student, exams]) => (
     pairsOf(exams.filter((exam) => places.has(exam)))
@@ -57,39 +57,46 @@ function overlapsIn(places, { candidates, periods }, isOnePeriodToo) {
       .map((pair) => ({ kind: 'overlap', exams: pair, student, period: periodOf(pair[0]) }))));
 }
 
-/** The clashes that the office found in a draft, with the candidates who take both exams. */
-function clashesOf({ breaches }, places, { candidates }) {
+/** The clashes among breaches, with the candidates who take both exams. */
+function clashesOf(breaches, places, { candidates }) {
   return breaches.filter(({ rule }) => rule === 'Clash').flatMap(({ exam, other }) => {
     const taking = new Set(candidates[exam]);
     const both = candidates[other].filter((student) => taking.has(student));
     const period = places.get(exam)?.period;
-    // Without anybody the enrolments have changed between two answers of the office.
+    // Without anybody the enrolments have changed between two answers.
     return (both.length ? both : [undefined]).map((student) => (
       { kind: 'overlap', exams: [exam, other], student, period }));
   });
 }
 
+/** The exams among breaches that are in a room which is too small. */
+export const crowdedExams = (breaches) => new Set(breaches.filter(({ rule }) => rule === 'Capacity')
+  .map(({ exam }) => exam));
+
 /**
- * The exams in each room and period, and how many candidates these have.
+ * The rooms and periods of those exams, with all exams in them, and how many candidates these have.
+ * @param {Set<number>} crowded
  * @param {Places} places
+ * @param {(exam: number) => number} sizeOf
  */
-function usesOf(places, { candidates }) {
+export function roomsOf(crowded, places, sizeOf) {
   const uses = new Map();
   for (const [exam, { period, room }] of places) {
     const use = uses.get(`${period} ${room}`) ?? { period, room, exams: [], needed: 0 };
     use.exams.push(exam);
-    use.needed += candidates[exam].length;
+    use.needed += sizeOf(exam);
     uses.set(`${period} ${room}`, use);
   }
-  return [...uses.values()];
+  return [...uses.values()].filter(({ exams }) => exams.some((exam) => crowded.has(exam)));
 }
 
-/** The rooms of a period that are too small: those of a draft's exams that the office named, or all. */
-function smallRooms(places, session, isNamed) {
-  return usesOf(places, session)
-    .filter(({ room, needed, exams }) => (isNamed ? exams.some(isNamed) : needed > session.capacities[room]))
-    .map((use) => ({ kind: 'small', ...use, seats: session.capacities[use.room] }));
-}
+/**
+ * The rooms of a period that are too small.
+ * @returns {Finding[]}
+ */
+const smallRooms = (breaches, places, { candidates, capacities }) => (
+  roomsOf(crowdedExams(breaches), places, (exam) => candidates[exam].length)
+    .map((use) => ({ kind: 'small', ...use, seats: capacities[use.room] })));
 
 /** The students who have three exams or more on one day. */
 function crowdedDays(places, { candidates, periods }) {
@@ -106,32 +113,20 @@ function crowdedDays(places, { candidates, periods }) {
 }
 
 /**
- * The findings of a draft; `say` has words for a breach.
+ * The findings of a timetable; `say` has words for a breach, `seatless` are the enrolments without a seat.
  * @returns {Finding[]}
  */
-export function findingsOfDraft(draft, places, session, say) {
-  const full = new Set(draft.breaches.filter(({ rule }) => rule === 'Capacity').map(({ exam }) => exam));
-  const others = draft.breaches.filter(({ rule }) => rule !== 'Clash' && rule !== 'Capacity');
+export function findingsIn({ breaches, unplaced }, places, session, say, seatless = []) {
+  const others = breaches.filter(({ rule }) => rule !== 'Clash' && rule !== 'Capacity');
   return [
-    ...clashesOf(draft, places, session), ...overlapsIn(places, session, false),
-    ...smallRooms(places, session, (exam) => full.has(exam)),
-    ...draft.unplaced.map((exam) => ({ kind: 'unplaced', exams: [exam] })),
+    ...clashesOf(breaches, places, session), ...overlapsIn(places, session),
+    ...seatless.map(({ student, exam }) => ({ kind: 'seatless', exams: [exam], student,
+      ...places.get(exam) })),
+    ...smallRooms(breaches, places, session),
+    ...unplaced.map((exam) => ({ kind: 'unplaced', exams: [exam] })),
     ...others.map(({ rule, exam, other }) => ({ kind: 'rule', exams: [...new Set([exam, other])],
       period: places.get(exam)?.period, text: say(rule, exam, other) })),
     ...crowdedDays(places, session),
-  ];
-}
-
-/**
- * The findings of the publication with today's enrolments; `seatless` are the enrolments without a seat.
- * @returns {Finding[]}
- */
-export function findingsOfPublication(places, session, seatless) {
-  return [
-    ...overlapsIn(places, session, true),
-    ...seatless.map(({ student, exam }) => ({ kind: 'seatless', exams: [exam], student,
-      ...places.get(exam) })),
-    ...smallRooms(places, session, null), ...crowdedDays(places, session),
   ];
 }
 

@@ -1,13 +1,15 @@
 // The form for late changes: a CSV file of the university's own, checked and shown before it is sent.
 import { change } from './asking.js';
-import { batchTexts, changesOfList, effectOf, inverseText, linesIn } from './changes.js';
+import {
+  batchTexts, changesOfList, effectOf, inverseText, linesIn, textOfAll,
+} from './changes.js';
 import { confirmFirst } from './confirm.js';
 import { byId, element, faultList } from './elements.js';
 import { atField, FormFault, showProgress } from './messages.js';
 import { count, numeral } from './numbers.js';
 import { showPreview } from './preview.js';
 import { refusalText } from './refusals.js';
-import { batchPath, numbersOf } from './service.js';
+import { batchPath, breachesAfter, numbersOf } from './service.js';
 import { office } from './state.js';
 
 // A list that drops more than one in so many enrolments, or has so many new students, is asked about.
@@ -65,7 +67,7 @@ async function givenLines() {
 /** What lines would do, if they have no fault, and the bodies of their batches. */
 function checkedLines({ file, text }) {
   const { isList, changes: listed, fresh, faults } = linesIn(text, office.names, office.session,
-    { takesNew: Boolean(office.service), isWhole: byId('batch-whole').checked });
+    { takesNew: Boolean(office.service?.ledger), isWhole: byId('batch-whole').checked });
   if (faults.length) {
     throw new FormFault(`Nothing was sent: ${count(faults.length, 'fault')}.`, fieldOfLines(),
       faultList(faults));
@@ -82,13 +84,21 @@ function checkedLines({ file, text }) {
     bodies: isPlain ? [file ?? text] : bodies };
 }
 
+/** Which rules the first timetable would break after some changes; null if nobody says it. */
+async function breachesOf({ effect: { acting } }) {
+  const [timetable] = office.timetables;
+  if (!timetable || !acting.length) return [];
+  return breachesAfter(office.service, textOfAll(acting, office.session?.candidates ?? []), timetable.number);
+}
+
 async function check(load) {
   const lines = await givenLines();
   await load();
   const checked = checkedLines(lines);
   const { effect, bodies, isList } = checked;
+  const breaches = await breachesOf(checked);
   office.batch.checked = checked;
-  showPreview(checked, office);
+  showPreview(checked, breaches, office);
   byId('batch-effect').textContent = `${effectText(checked)}.`;
   byId('batch-preview').hidden = false;
   byId('batch-send').hidden = isList && !effect.acting.length && !checked.fresh.length;

@@ -147,7 +147,7 @@ function showChoices() {
 /** Shows the form and what was made, if there is a service and a published timetable. */
 export function showLists() {
   clearTimeout(timer);
-  const isThere = Boolean(office.service && office.seats);
+  const isThere = Boolean(office.service?.ledger && office.seats);
   byId('lists').hidden = !isThere;
   byId('lists-made').hidden = !isThere;
   if (!isThere) return;

@@ -1,5 +1,5 @@
 // All timetables at a glance: a card for each, which opens it, and their penalties by part.
-import { concernText } from './conflictlist.js';
+import { concernText, isJudged } from './conflictlist.js';
 import { verdict } from './drafts.js';
 import { byId, cell, element, listTable, rowHead } from './elements.js';
 import { count, numeral } from './numbers.js';
@@ -24,9 +24,11 @@ function card(timetable) {
   const link = element('a', { href: addressOf(office.section, name), 'data-of': name },
     element('b', {}, name), ' ', element('span', { class: 'points' }, count(penalty.total, 'point')),
     difference && element('span', { class: 'below' }, difference),
-    element('span', { class: breaches.length ? 'verdict broken' : 'verdict' },
+    element('span', { class: number && breaches.length ? 'verdict broken' : 'verdict' },
       number ? verdict(timetable) : 'Candidates see this timetable'),
-    concerns && element('span', { class: 'verdict broken' }, concerns));
+    concerns && element('span', { class: 'verdict broken' }, concerns),
+    !isJudged(timetable) && element('span', { class: 'below' },
+      'Rules not checked with today\'s enrolments'));
   return element('li', { class: 'card' }, link);
 }
 

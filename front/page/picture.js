@@ -17,7 +17,7 @@ import { office } from './state.js';
  *   choose: (period: number, room: number) => void,
  *   pick: (period: number, room: number) => void }} Acts
  * @typedef {{ name: string, uses: Use[], rooms: number[], most: number, differing: Set<string> | null,
- *   acts: Acts }} Picture
+ *   crowded: Set<number>, acts: Acts }} Picture `crowded` are the exams in rooms that are too small
  */
 
 // The classes of cells, the darker the more seats are taken.
@@ -52,9 +52,9 @@ function cellText(use, room, period, isOther, texts) {
   return `${where}: ${what}${isOther ? ', differs' : ''}`;
 }
 
-function cellOf(use, { room, period, isFirst, isOther, texts }) {
+function cellOf(use, { room, period, isFirst, isOther, texts, crowded }) {
   const classes = [SHADES[use ? shadeOf(use.used, use.capacity) : 0], isFirst && 'day', isOther && 'differs',
-    use && use.used > use.capacity && 'over'];
+    use && use.exams.some((exam) => crowded.has(exam)) && 'over'];
   return labelled('td', { role: 'gridcell', tabindex: -1, class: classes.filter(Boolean).join(' ') },
     cellText(use, room, period, isOther, texts));
 }
@@ -118,7 +118,7 @@ function listen(table, { rooms, acts }, periods) {
  * @param {Picture} picture
  */
 export function pictureOf(picture) {
-  const { name, uses, rooms, most, differing } = picture;
+  const { name, uses, rooms, most, differing, crowded } = picture;
   const periods = office.session?.periods ?? [];
   const [days, texts, there] = [daysOfPeriods(periods), periodTexts(periods), usesByPlace(uses)];
   const firsts = new Set(days.map(({ first }) => first));
@@ -126,7 +126,8 @@ export function pictureOf(picture) {
     element('th', { scope: 'row' }, office.names.room(room), element('span', {}, ` ${
       numeral(office.session?.capacities[room] ?? 0)}`)),
     periods.map((_, period) => cellOf(there.get(`${period} ${room}`), { room, period,
-      isFirst: firsts.has(period), isOther: Boolean(differing?.has(`${period} ${room}`)), texts })));
+      isFirst: firsts.has(period), isOther: Boolean(differing?.has(`${period} ${room}`)), texts,
+      crowded })));
   const table = element('table', { class: 'picture', role: 'grid' },
     element('caption', {}, `${name}: rooms by period, darker the more seats are taken`),
     element('thead', {}, row(element('th', { scope: 'col', rowspan: 2 }, 'Room, seats'), days.map(dayHead)),

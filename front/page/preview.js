@@ -1,6 +1,7 @@
 // What late changes would do, with names: shown before they are sent.
 import { dayInShort, time } from './dates.js';
 import { byId, cell, element, listTable, rowHead } from './elements.js';
+import { crowdedExams, roomsOf } from './findings.js';
 import { count } from './numbers.js';
 
 /** Where each exam of a timetable is: its period and its room. */
@@ -23,42 +24,32 @@ function candidatesAfter(acting, candidates) {
   return (exam) => after.get(exam) ?? candidates[exam];
 }
 
-/** The pairs of exams at one time that some changes give a student, in a timetable. */
-export function clashesOf(acting, candidates, timetable) {
-  const places = placesIn(timetable);
+/** The pairs of exams at one time that some changes give a student, by the breaches after them. */
+export function clashesOf(acting, candidates, breaches) {
   const taking = candidatesAfter(acting, candidates);
-  const together = new Map();
-  for (const [exam, { period }] of places) {
-    together.set(period, [...(together.get(period) ?? []), exam]);
-  }
   const sets = new Map();
   const takes = (exam, student) => {
     if (!sets.has(exam)) sets.set(exam, new Set(taking(exam)));
     return sets.get(exam).has(student);
   };
-  return acting.filter(({ action, exam }) => action === 'add' && places.has(exam))
-    .flatMap(({ student, exam }) => (together.get(places.get(exam)?.period) ?? [])
-      .filter((other) => other !== exam && takes(exam, student) && takes(other, student))
-      .map((other) => ({ student, exams: [exam, other].sort((a, b) => a - b) })))
-    .filter(({ student, exams }, place, all) => place === all.findIndex((one) => (
-      one.student === student && `${one.exams}` === `${exams}`)));
+  const clashes = new Map();
+  for (const { rule, exam, other } of breaches) {
+    for (const one of rule === 'Clash' ? [exam, other] : []) {
+      clashes.set(one, [...(clashes.get(one) ?? []), [exam, other]]);
+    }
+  }
+  const found = acting.filter(({ action }) => action === 'add').flatMap(({ student, exam }) => (
+    (clashes.get(exam) ?? []).filter((exams) => exams.every((one) => takes(one, student)))
+      .map((exams) => ({ student, exams }))));
+  return [...new Map(found.map((one) => [`${one.student} ${one.exams}`, one])).values()];
 }
 
-/** The rooms that would have more candidates than seats after some changes, in a timetable. */
-export function fullRoomsOf(acting, { candidates, capacities }, timetable) {
-  const places = placesIn(timetable);
+/** The rooms that are too small after some changes, by the breaches after them, if an exam there grows. */
+export function fullRoomsOf(acting, candidates, timetable, breaches) {
   const taking = candidatesAfter(acting, candidates);
-  const size = (exam) => [...taking(exam)].length;
-  const uses = new Map();
-  for (const [exam, { period, room }] of places) {
-    const use = uses.get(`${period} ${room}`) ?? { period, room, exams: [], needed: 0 };
-    use.exams.push(exam);
-    use.needed += size(exam);
-    uses.set(`${period} ${room}`, use);
-  }
   const grown = new Set(acting.filter(({ action }) => action === 'add').map(({ exam }) => exam));
-  return [...uses.values()].filter(({ room, exams, needed }) => (
-    needed > capacities[room] && exams.some((exam) => grown.has(exam))));
+  return roomsOf(crowdedExams(breaches), placesIn(timetable), (exam) => [...taking(exam)].length)
+    .filter(({ exams }) => exams.some((exam) => grown.has(exam)));
 }
 
 const below = (words) => words && element('span', { class: 'below' }, words);
@@ -82,8 +73,8 @@ function madeText({ at, by }) {
   return at ? `changed here on ${dayInShort(at.slice(0, 10)).textContent} by ${by}` : 'changed here';
 }
 
-/** Shows whom changes add and drop, and what else they would do. */
-export function showPreview({ effect, kept, fresh }, office) {
+/** Shows whom changes add and drop, and what of the first timetable breaks rules then, if that is known. */
+export function showPreview({ effect, kept, fresh }, breaches, office) {
   const { names, session, timetables } = office;
   const head = peopleOf(office, fresh);
   const exam = (number) => cell(names.exam(number), below(names.examTitle(number)));
@@ -94,15 +85,16 @@ export function showPreview({ effect, kept, fresh }, office) {
     const { date, start } = session.periods[period];
     return [cell(dayInShort(date), ', ', time(start)), cell(names.roomInBuilding(room))];
   };
+  byId('batch-note').hidden = breaches !== null;
   byId('batch-lists').replaceChildren(
     ...table('New students', ['Candidate'], fresh.map(({ number }) => [head(number)])),
     ...table('Added', ['Candidate', 'Exam'], lines(of('add'))),
     ...table('Dropped', ['Candidate', 'Exam'], lines(of('drop'))),
     ...table(`Two exams at one time, in ${timetable?.name}`, ['Candidate', 'Exam', 'Exam'],
-      clashesOf(effect.acting, session.candidates, timetable).map(({ student, exams }) => (
+      clashesOf(effect.acting, session.candidates, breaches ?? []).map(({ student, exams }) => (
         [head(student), ...exams.map(exam)]))),
     ...table(`Rooms that are too small, in ${timetable?.name}`, ['Room', 'Period', 'Candidates'],
-      fullRoomsOf(effect.acting, session, timetable).map((use) => [
+      fullRoomsOf(effect.acting, session.candidates, timetable, breaches ?? []).map((use) => [
         rowHead(names.roomInBuilding(use.room)), place(use)[0],
         cell(`${count(use.needed, 'candidate')}, ${count(session.capacities[use.room], 'seat')}`)])),
     ...table('Kept as they were changed here', ['Candidate', 'Exam', 'Why'], kept.map((one) => [

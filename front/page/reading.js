@@ -2,6 +2,7 @@
 import { ask, askOrNull } from './asking.js';
 import { penaltyIn, readAgain } from './drafts.js';
 import { readSeats } from './seats.js';
+import { readBreaches } from './service.js';
 import { sessionIn, usesIn } from './session.js';
 import { office } from './state.js';
 
@@ -13,15 +14,19 @@ export async function readSession() {
 }
 
 /**
- * Reads the published timetable and its seats; returns the timetable, or null.
+ * Reads the published timetable and its seats, while the service has it judged; returns the timetable, or
+ * null.
  * @returns {Promise<import('./state.js').Published | null>}
  */
 export async function readPublished() {
   const report = await ask('/-/publication/penalty');
   const isThere = report.publication !== null;
+  const judging = isThere ? readBreaches(office.service) : null;
   const uses = isThere ? usesIn(await ask('/publication/rooms')) : [];
   office.seats = isThere ? await readSeats() : null;
-  return isThere ? { name: 'Published', penalty: penaltyIn(report), breaches: [], uses, unplaced: [] } : null;
+  const breaches = await judging;
+  return isThere ? { name: 'Published', penalty: penaltyIn(report), breaches: breaches ?? [],
+    isJudged: breaches !== null, uses, unplaced: [] } : null;
 }
 
 /** Keeps a draft as it was read last. */

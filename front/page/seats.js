@@ -247,7 +247,7 @@ export function setUpSeats(office, readSession) {
     if (printed > MOST_PRINTED) {
       throw new FormFault(`These are ${numeral(printed)} seats, and a browser can print ${
         numeral(MOST_PRINTED)} at once. Choose a period or a room${
-        office.service ? ', or make PDF files' : ''}.`, 'print-period');
+        office.service?.ledger ? ', or make PDF files' : ''}.`, 'print-period');
     }
     printSheets(byId('print-kind').value, sheets, office, people);
     return `${count(sheets.length, 'sheet')} with ${count(printed, 'seat')}.`;

@@ -1,14 +1,49 @@
-// The registry's service, which runs beside the office and keeps the session's ledger.
-import { ask, change } from './asking.js';
+// The registry's service, which runs beside the office: it keeps the session's ledger, and has the program
+// judge what the office doesn't.
+import { ask, change, Refusal } from './asking.js';
 
 /**
- * What the service says of itself; null if there is none, or if it has no ledger of this session.
- * @returns {Promise<{ledger: boolean} | null>}
+ * The service, and whether it has a ledger of this session.
+ * @typedef {{ ledger: boolean }} Service
+ *
+ * A rule, and the two exams that break it.
+ * @typedef {{ rule: string, exam: number, other: number }} Breach
  */
-export async function readService() {
-  const service = await ask('/-/registry/about');
-  return service?.ledger ? service : null;
+
+/**
+ * What the service says of itself; null if it doesn't run.
+ * @returns {Promise<Service | null>}
+ */
+export const readService = () => ask('/-/registry/about');
+
+/**
+ * The breaches that the service replies; null if it doesn't run, or fails.
+ * @param {Service | null} service
+ * @param {string} query
+ * @param {[] | ['POST', any]} more
+ * @returns {Promise<Breach[] | null>}
+ */
+async function breachesIn(service, query, ...more) {
+  if (!service) return null;
+  try {
+    return (await ask(`/-/registry/breaches${query}`, ...more)).breaches;
+  } catch (refusal) {
+    if (refusal instanceof Refusal) return null;
+    throw refusal;
+  }
 }
+
+/** Which rules the publication breaks with today's enrolments, or null. */
+export const readBreaches = (service) => breachesIn(service, '');
+
+/**
+ * Which rules a timetable would break after a batch, or null.
+ * @param {Service | null} service
+ * @param {string} batch
+ * @param {number | undefined} draft without one it is the publication
+ */
+export const breachesAfter = (service, batch, draft) => (
+  breachesIn(service, draft ? `?draft=${draft}` : '', 'POST', batch));
 
 /**
  * The numbers of new students, by their IDs.
@@ -22,7 +57,7 @@ export async function numbersOf(students) {
 }
 
 /**
- * Where a batch is sent: to the service, which notes it in the ledger and passes it on; without one
+ * Where a batch is sent: to the service, which notes it in the ledger and passes it on; without a ledger
  * to the office.
  */
-export const batchPath = (service, number) => `${service ? '/-/registry' : ''}/batches/${number}`;
+export const batchPath = (service, number) => `${service?.ledger ? '/-/registry' : ''}/batches/${number}`;

@@ -7,7 +7,8 @@ import { Steps } from './steps.js';
  *   penalties: { periods: number[], rooms: number[] }, weights: Record<string, number[]>,
  *   periods: { date: string, start: string, minutes: number }[], frame: string[] }} Session
  * @typedef {{ period: number, room: number, used: number, capacity: number, exams: number[] }} Use
- * @typedef {import('./drafts.js').Judged & { number?: undefined, places?: undefined, uses: Use[] }} Published
+ * @typedef {import('./drafts.js').Judged & { number?: undefined, places?: undefined, uses: Use[],
+ *   isJudged: boolean }} Published its breaches are those with today's enrolments, if they are judged
  * @typedef {import('./drafts.js').Draft | Published} Timetable
  * @typedef {{ student: number, exam: number, period: number, room: number, seat: number }} Seat
  */
@@ -24,8 +25,8 @@ export const office = {
    */
   seats: null,
   /**
-   * The registry's service, if there is one with a ledger of this session.
-   * @type {{ ledger: boolean } | null}
+   * The registry's service, if it runs.
+   * @type {import('./service.js').Service | null}
    */
   service: null,
   /**

@@ -2,6 +2,7 @@
 import { findingsOf, showConflicts } from './conflictlist.js';
 import { dayInShort, time } from './dates.js';
 import { byId, element, fill } from './elements.js';
+import { crowdedExams } from './findings.js';
 import { histogramOf } from './histogram.js';
 import { differingPlaces, loadOf, roomsInOrder, usesByPlace } from './layout.js';
 import {
@@ -72,7 +73,8 @@ export function showPictures() {
   const differing = other ? differingPlaces(uses[0], uses[1]) : null;
   const rooms = order();
   byId('pictures').replaceChildren(...shown.map((timetable, place) => element('div', {}, pictureOf({
-    name: timetable.name, uses: uses[place], rooms, most, differing, acts: actsOf(timetable) }))));
+    name: timetable.name, uses: uses[place], rooms, most, differing,
+    crowded: crowdedExams(timetable.breaches), acts: actsOf(timetable) }))));
   byId('gaps').replaceChildren(...histogramOf(shown));
   showCell(open, { period: 0, room: rooms[0] }, false);
   if (office.section === 'timetable' && office.exam !== null) showExam(office.exam);
@@ -141,10 +143,11 @@ function showCell(timetable, place, isEntered, chosen = null) {
   const when = session?.periods[place.period];
   const use = usesByPlace(usesIn(timetable)).get(`${place.period} ${place.room}`);
   const capacity = session?.capacities[place.room] ?? 0;
+  const crowded = crowdedExams(timetable.breaches);
   fill(byId('cell-body'),
     element('h3', { id: 'cell-title', tabindex: -1 }, names.roomInBuilding(place.room)),
     element('p', {}, ...(when ? [dayInShort(when.date), ', ', time(when.start), ', '] : []), timetable.name),
-    element('p', { class: use && use.used > capacity ? 'verdict broken' : 'quiet' },
+    element('p', { class: use?.exams.some((exam) => crowded.has(exam)) ? 'verdict broken' : 'quiet' },
       `${numeral(use?.used ?? 0)} of ${count(capacity, 'seat')} taken`),
     element('ul', { class: 'exams-there' }, (use?.exams ?? []).map(
       (exam) => examItem(exam, timetable, chosen))),

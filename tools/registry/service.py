@@ -1,8 +1,9 @@
 """The registry's service: what the registry's page asks for beside the office.
 
 It keeps a session's ledger, so that batches of the page are in it when they are sent, and new
-students get their numbers; it makes a session of CSV files, and lists to print. Only nginx asks it,
-and only for those who are the office (front/):
+students get their numbers; it makes a session of CSV files, and lists to print; and it has the
+program judge what the office doesn't. Only nginx asks it, and only for those who are the office
+(front/):
 
     gunicorn --workers 1 --threads 8 --bind unix:registry.sock registry.service:app
 
@@ -10,6 +11,7 @@ REGISTRY_FOLDER has a folder with a ledger for each session, by its name. The of
 through the front, as a program with a token of its own: by the Unix socket REGISTRY_FRONT with
 REGISTRY_TOKEN, or at the URL REGISTRY_FRONT. REGISTRY_LOG is the front's log of changes, by which
 it knows who changed what, and when a publication is to be kept: REGISTRY_PUBLICATIONS of them.
+EXAMOFFICE is the program, by default examoffice.
 """
 from __future__ import annotations
 
@@ -33,6 +35,7 @@ from .changes import PAGE, Change, add_batch, forget_unsent, note_changes_of_oth
 from .csv_tables import Faults, Known, Row
 from .folder import Folder
 from .history import History, Unsteady, difference, look, places_of
+from .judging import judged
 from .ledger import Ledger, NotALedger, locked
 from .list_jobs import Busy, Jobs, wanted_in
 from .office import TOKEN as TOKEN_NAME
@@ -118,8 +121,8 @@ def refused(refusal: Refused) -> flask.Response | tuple[dict[str, Any], int]:
 @app.errorhandler(OSError)
 @app.errorhandler(sqlite3.Error)
 def broken(_: Exception) -> tuple[dict[str, Any], int]:
-    """A disk that is full, or a ledger that may not be read."""
-    app.logger.exception("the registry's folder")
+    """A disk that is full, a ledger that may not be read, or a program that doesn't run."""
+    app.logger.exception("the registry's service")
     return {"error": "unavailable"}, 503
 
 
@@ -256,6 +259,19 @@ def batch(number: str) -> tuple[dict[str, Any], int]:
     return {"number": int(number), "changes": [
         {"student": student, "exam": exam, "action": action, "acted": bool(acted)}
         for student, exam, action, acted in rows]}, 200
+
+
+# ---- What breaks a rule
+
+@app.route("/-/registry/breaches", methods=["GET", "POST"])
+def breaches() -> tuple[dict[str, Any], int]:
+    """What the publication breaks with today's enrolments, or a draft of the query does; of POST,
+    what it would break after the batch in the body."""
+    body = flask.request.get_data()
+    changes = lines_in(body) if flask.request.method == "POST" else []
+    if changes is None:
+        return {"error": "body"}, 400
+    return {"breaches": judged(office_of(session()), number_asked("draft"), changes)}, 200
 
 
 # ---- History
