@@ -10,6 +10,7 @@ best total known. FILE has these: a line `NAME TOTAL` for each session; # begins
 import argparse
 import json
 import pathlib
+import re
 import subprocess
 import sys
 import tempfile
@@ -42,8 +43,19 @@ HEADING = f"{'timetable':<40} {'breaches':>8} {'total':>9} {'best':>9} {'above':
 
 def best_totals(file):
     """The best total of each session that a file names."""
-    rows = (line.partition("#")[0].split() for line in file.read_text().splitlines())
-    return {row[0]: int(row[1]) for row in rows if row}
+    best = {}
+    for number, line in enumerate(file.read_text().splitlines(), 1):
+        row = line.partition("#")[0].rsplit(maxsplit=1)
+        if len(row) == 2 and row[1].isdecimal():
+            best[row[0].strip()] = int(row[1])
+        elif row:
+            sys.exit(f"{shown(file)}: line {number} is not NAME TOTAL")
+    return best
+
+
+def shown(path):
+    """A path in one line, as the program prints it."""
+    return re.sub(r"[\x00-\x1f\x7f]", lambda it: f"\\x{ord(it[0]):02x}", str(path))
 
 
 def timetables(session):
@@ -60,15 +72,15 @@ def folder_lines(path, folder, best):
     for session in sorted(folder.glob("*.exam")):
         solutions = [*timetables(session)]
         if not solutions:
-            yield f"{session.name}: no timetable"
+            yield f"{shown(session.name)}: no timetable"
             continue
         done = subprocess.run([path, "check-all", "--json", session, *solutions], check=False,
                               capture_output=True, text=True, stdin=subprocess.DEVNULL)
         for found in map(json.loads, done.stdout.splitlines()):
             known = best.get(session.stem)
             above = "" if not known else f"{100 * (found['total'] / known - 1):+.2f} %"
-            yield (f"{pathlib.Path(found['path']).name:<40} {found['breaches']:>8} "
-                   f"{found['total']:>9} {known or '':>9} {above:>8}").rstrip()
+            yield (f"{shown(pathlib.Path(found['path']).name):<40} {found['breaches']:>8} "
+                   f"{found['total']:>9} {'' if known is None else known:>9} {above:>8}").rstrip()
         yield from done.stderr.splitlines()
 
 
@@ -81,10 +93,12 @@ def try_a_folder(judged, path):
             (folder / f"{session}.exam").write_text(small)
         (folder / "set_1_first.sln").write_text(solution)
         (folder / "set_1_worse.sol").write_text("0, 0\n")
+        (folder / "set_1_two\nlines.sol").write_text(solution)
         (folder / "best").write_text("# known to us\nset_1 20\n")
         lines = [*folder_lines(path, folder, best_totals(folder / "best"))]
         judged.judge("a folder", [
             f"{'set_1_first.sln':<40} {0:>8} {sum(parts):>9} {20:>9} +85.00 %",
+            f"{'set_1_two' + chr(92) + 'x0alines.sol':<40} {0:>8} {sum(parts):>9} {20:>9} +85.00 %",
             f"{folder}/set_1_worse.sol: examoffice: solution line 2: fault 3",
             "set_10.exam: no timetable"], lines)
 
@@ -97,9 +111,13 @@ def main():
     parser.add_argument("--best", type=pathlib.Path, help="a file with the best totals known")
     given = parser.parse_args()
     if given.folder:
+        if not any(given.folder.glob("*.exam")):
+            parser.error(f"{shown(given.folder)} has no session, NAME.exam")
+        if given.best and not given.best.is_file():
+            parser.error(f"there is no file {shown(given.best)}")
+        best = best_totals(given.best) if given.best else {}
         print(HEADING)
-        for line in folder_lines(program(given.program)[0], given.folder,
-                                 best_totals(given.best) if given.best else {}):
+        for line in folder_lines(program(given.program)[0], given.folder, best):
             print(line)
         return 0
     commands = {"examoffice": program(given.program), **baselines()}
