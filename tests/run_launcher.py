@@ -233,7 +233,8 @@ def released_calls(repository, banned):
         yield f"what is installed runs: {words[0]}", shown, done.stdout
         for folder in ("bin", "share"):
             shutil.rmtree(repository.caller / folder)
-    for words in (("here",), ("--prefix", ""), ("--prefix=",), ("--prefix",)):
+    for words in (("here",), ("--prefix", ""), ("--prefix=",), ("--prefix",),
+                  ("--prefix", f"{repository.caller}/two\nlines")):
         yield f"no folder to install to: {words}", 2, repository.call("install", *words).returncode
 
 
