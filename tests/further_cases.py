@@ -51,6 +51,8 @@ STREAMS = {
     "HEAD": (message("HEAD", "/me"), b"HTTP/1.1 405 Method Not Allowed\r\nAllow: GET\r\n\r\n"),
     "HEAD where an exam can go": (message("HEAD", "/drafts/1/exams/3/places"),
                                   b"HTTP/1.1 405 Method Not Allowed\r\nAllow: GET\r\n\r\n"),
+    "an edit's path, to look": (message("GET", "/drafts/1/exams/3/place"),
+                                error(405, "method", "POST")),
     "HEAD with a transfer encoding":
         (message("HEAD", "/me", caller=None, fields=["Transfer-Encoding: gzip"]),
          b"HTTP/1.1 501 Not Implemented\r\n\r\n"),

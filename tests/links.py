@@ -2,7 +2,8 @@
 """links.py [FOLDER]: whether each link of a page leads to a file, and each anchor to a heading.
 
 Reads the pages that git knows, those of the front too, or all pages below a folder. The walks of
-docs/MAP.md have to name functions of the crate beside them.
+docs/MAP.md have to name functions of the crate beside them, and its table of statements every
+command.
 """
 import collections
 import functools
@@ -110,6 +111,20 @@ def functions(crate):
     return set(re.findall(r"\b(?:fn|struct|enum|trait|type) (\w+)", text))
 
 
+def commands():
+    """The names of the office's commands."""
+    source = TOP / "crates" / "office_policy" / "src" / "command.rt"
+    listed = re.search(r"^pub enum Command.*?^}", source.read_text(), re.M | re.S)
+    return re.findall(r"^    (\w+)", listed[0], re.M)
+
+
+def explained(page):
+    """The names in the first cells of a page's table of what each command takes."""
+    section = page.read_text().partition("\n## Statements that a command takes\n")[2]
+    cells = re.findall(r"^\| ([^|]*) \|", section.partition("\n## ")[0], re.M)
+    return {name for cell in cells for name in re.findall(r"`(\w+)`", cell)}
+
+
 def judge(judged, folder):
     """Judges each link of the pages below a folder."""
     for page in pages(folder):
@@ -126,6 +141,9 @@ def main(folder=TOP):
         for number, name, crate in walked(TOP / "docs" / "MAP.md"):
             judged.judge(f"docs/MAP.md:{number}: {name} is in {crate}", True,
                          set(name.split("::")) <= functions(crate))
+        judged.judge("docs/MAP.md: the commands whose statements it doesn't have", [],
+                     [name for name in commands()
+                      if name not in explained(TOP / "docs" / "MAP.md")])
     return judged.end("links, and names of walks")
 
 
