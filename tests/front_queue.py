@@ -3,6 +3,7 @@ import collections
 import contextlib
 import os
 import pathlib
+import re
 import resource
 import selectors
 import shutil
@@ -267,6 +268,26 @@ def never_twice(run, make_front):
             queue.stop()
 
 
+def left_out(run):
+    """A session with a name or a port that can't be is left out, and takes no other one along."""
+    folder = run.folder / "named"
+    folder.mkdir()
+    files = [TOP / "front" / name for name in ("queue.cfg", "sign_in.cfg")]
+    taken = {name for file in files for name in re.findall(
+        r"^(?:frontend|backend) (\S+)|/([a-z_]+)\.sock mode", file.read_text(), re.M) for name in
+        name if name} | {"list"}
+    ports = {**dict.fromkeys(taken | {"-x", "_x", "X", "x y", "x" * 41}, "8080"), "nought": "0",
+             "far": "65536", "none": "", "words": "8080 8081", "term": "8080", "2-b_c": "65535"}
+    for name, port in ports.items():
+        (folder / f"{name}.env").write_text(f"PORT={port}\n")
+    made = subprocess.run([TOP / "front" / "offices", folder], capture_output=True, text=True,
+                          check=True)
+    run.judge("sessions that have a queue", ["2-b_c", "term"],
+              re.findall(r"^listen (\S+)", made.stdout, re.M))
+    run.judge("sessions that are left out", sorted(set(ports) - {"2-b_c", "term"}),
+              sorted(re.findall(r"^offices: .*/(.*)\.env: it", made.stderr, re.M)))
+
+
 def metrics(run, front):
     """The numbers of the queue, on this machine only."""
     front.told(CANDIDATE)
@@ -301,6 +322,7 @@ def judge_all(run, make_front):
         a_crowd(run, front)
         four_clients(run, queue)
         metrics(run, front)
+        left_out(run)
         queue.stop()
         queue.start()
         run.judge("a queue that was killed and started", FIRST_VIEW, front.told(CANDIDATE))
