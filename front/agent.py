@@ -9,7 +9,6 @@ FRONT_FOLDER has the files `users` (NAME:HASH, or NAME:{PLAIN}WORD), `callers` a
 FRONT_STATE is a folder of its own, with `sessions.map` for HAProxy. FRONT_KEY signs.
 """
 import base64
-import binascii
 import collections
 import contextlib
 import hashlib
@@ -49,6 +48,7 @@ NOBODY = HASHES.hash(secrets.token_hex())
 PAGES = {
     None: (200, ""),
     "out": (200, "You have signed out."),
+    "offered": (200, "With this link a browser may sign in, whatever others try. It works once."),
     "link": (200, "This browser may sign in now, whatever others try. The link has been used up."),
     "used": (200, "This link was used already, or is too old. Ask your registry for another one."),
     "wrong": (401, "This name and password don't belong together."),
@@ -337,10 +337,10 @@ def place_of(text):
     return text if re.fullmatch(r"/([A-Za-z0-9_][A-Za-z0-9_./-]{0,199})?", text) else "/"
 
 
-def shown(what, user="", place="/"):
+def shown(what, user="", place="/", link=""):
     status, words = PAGES[what]
     if wants_page() or status == 200:
-        page = flask.render_template("sign-in.html", words=words, user=user, place=place)
+        page = flask.render_template("sign-in.html", words=words, user=user, place=place, link=link)
         reply = flask.make_response(page, status)
     else:
         error = {401: "signed-out", 429: "often"}.get(status, "forbidden")
@@ -357,14 +357,20 @@ def shown(what, user="", place="/"):
 @app.get("/-/sign-in")
 def page():
     if "link" in flask.request.args:
-        return by_link(claims_of(flask.request.args["link"], "link"))
+        # It is used by a click, because programs that check mail open every link.
+        link = flask.request.args["link"]
+        return shown("used") if is_used(claims_of(link, "link")) else shown("offered", link=link)
     return shown("out" if "out" in flask.request.args else None,
                  place=place_of(flask.request.args.get("to", "/")))
 
 
+def is_used(link):
+    return not link or bool(kept.ask("SELECT 1 FROM gone WHERE token = ?", link["j"]))
+
+
 def by_link(link):
     """Makes this browser one that signed in before, once for each link (tools/token link)."""
-    if not link or kept.ask("SELECT 1 FROM gone WHERE token = ?", link["j"]):
+    if is_used(link):
         return shown("used")
     kept.ask("INSERT INTO gone VALUES (?, ?)", link["j"], link["exp"])
     reply = shown("link", link["u"])
@@ -388,6 +394,8 @@ def sign_in():
     place = place_of(form.get("to", "/"))
     if not is_secure() and not is_loopback():
         return shown("tls")
+    if "link" in flask.request.args:
+        return by_link(claims_of(flask.request.args["link"], "link"))
     if len(word) > LONGEST_PASSWORD:
         return shown("wrong", user, place)
     session, device = cookie_names()
@@ -416,13 +424,19 @@ def sign_out():
     return reply
 
 
+@app.errorhandler(405)
+def wrong_method(fault):
+    allowed = ", ".join(sorted({*fault.valid_methods} - {"OPTIONS"}))
+    return flask.jsonify(error="method"), 405, {"Allow": allowed}
+
+
 @app.get("/who")
 def who():
     """Basic, for programs on this machine; a right password is remembered until files change."""
     text = flask.request.headers.get("Authorization", "").partition(" ")[2]
     try:
         user, _, word = base64.b64decode(text, validate=True).decode().partition(":")
-    except (binascii.Error, UnicodeDecodeError):
+    except ValueError:
         return "", 401
     found, seal = users.find(user), sealed("basic", user, word)
     if not is_loopback() or len(word) > LONGEST_PASSWORD:

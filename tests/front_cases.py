@@ -111,6 +111,8 @@ TARGETS = [
     ("a host without a path", ask("ada", "GET", "http://office"), REQUEST),
     ("a target *", ask("ada", "OPTIONS", "*"), REQUEST),
     ("no path", ask("ada", "GET", "me"), REQUEST),
+    ("a byte that no path has", ask("ada", "GET", "/me?\xe9"), REQUEST),
+    ("a fragment", ask("ada", "GET", "/me#x"), REQUEST),
     ("a query", ask("registry", "GET", "/publication?x=1"), PATH),
     ("an encoded letter", ask("registry", "GET", "/%70ublication"), PATH),
     ("a slash at the end", ask("registry", "GET", "/publication/"), PATH),

@@ -269,12 +269,22 @@ def by_link(run, stack):
          f"127.0.0.1:{stack.front.port}"], capture_output=True, text=True, check=True).stdout
     path = made.strip().partition(str(stack.front.port))[2]
     new, second = Client(stack.front, "127.9.0.3"), Client(stack.front, "127.9.0.3")
-    run.judge("a link", (200, True),
-              (new.ask("GET", path)[0], made.startswith("http://127.0.0.1")))
+    words = {b"It works once", b"has been used up", b"was used already"}
+
+    def shown(client, method, path=path):
+        page = client.ask(method, path, Origin=f"http://{client.host}", Accept="text/html")[2]
+        return {it for it in words if it in page}
+
+    run.judge("a link", True, made.startswith("http://127.0.0.1"))
+    run.judge("looked at, by a program that checks mail too", [{b"It works once"}] * 2,
+              [shown(client, "GET") for client in (second, new)])
+    run.judge("its button", {b"has been used up"}, shown(new, "POST"))
     run.judge("signing in after it", 303, new.sign_in("registry")[0])
-    run.judge("the link again", True, b"was used already" in second.ask("GET", path)[2])
+    run.judge("the link again", [{b"was used already"}] * 2,
+              [shown(second, method) for method in ("GET", "POST")])
     run.judge("signing in after that", 429, second.sign_in("registry")[0])
-    run.judge("a changed link", True, b"was used already" in second.ask("GET", path[:-3])[2])
+    run.judge("a changed link", [{b"was used already"}] * 2,
+              [shown(second, method, path[:-3]) for method in ("GET", "POST")])
 
 
 def guesses(run, stack):
@@ -419,6 +429,13 @@ def basic(run, stack):
         client.ask("GET", "/drafts/1", Authorization=field)[0] for client in (here, there)))
     reply = agent_asked(stack, "GET", "/who", Authorization=field, X_Real_IP="192.0.2.1")
     run.judge("Basic from elsewhere", 401, reply)
+    run.judge("Basic that is none", 401, here.ask("GET", "/me", Authorization="Basic \xe9")[0])
+    told = [here.ask(*question) for question in (
+        ("PUT", "/-/sign-in"), ("GET", "/drafts/1#"), ("GET", "/-/sign-in#"))]
+    run.judge("refusals of the queue and the agent", [
+        (405, "application/json", b'{"error":"method"}'),
+        *[(400, "application/json", b'{"error":"request"}')] * 2,
+    ], [(status, header["Content-Type"], body.strip()) for status, header, body in told])
 
 
 def agent_asked(stack, method, path, body=None, **fields):
