@@ -265,8 +265,9 @@ def by_link(run, stack):
     """A new device signs in amid guesses, by a link that the registry gives; it works once."""
     key = stack.run.folder / "front.key"
     made = subprocess.run(
-        ["/usr/bin/python3", TOP / "tools" / "token", "--key", key, "link", "registry",
-         f"127.0.0.1:{stack.front.port}"], capture_output=True, text=True, check=True).stdout
+        ["/usr/bin/python3", TOP / "tools" / "token", "--front", stack.front.folder, "--key", key,
+         "link", "registry", f"127.0.0.1:{stack.front.port}"],
+        capture_output=True, text=True, check=True).stdout
     path = made.strip().partition(str(stack.front.port))[2]
     new, second = Client(stack.front, "127.9.0.3"), Client(stack.front, "127.9.0.3")
     words = {b"It works once", b"has been used up", b"was used already"}
@@ -410,6 +411,12 @@ def programs(run, stack):
     run.judge("added twice", (1, "token: there is a program nightly; remove it first"),
               ended("add", "nightly", "office"))
     run.judge("an odd caller", 1, ended("add", "other", "cand:1; x office")[0])
+    run.judge("no day", 2, ended("add", "other", "office", "--days", "0")[0])
+    run.judge("links for nobody, and for an address in place of a host", [
+        (1, "token: there is no user 'stranger'"),
+        (1, "token: a host such as exams.example is expected, not 'https://exams.example/'"),
+    ], [ended("link", *words) for words in (
+        ("stranger", "exams.example"), ("registry", "https://exams.example/"))])
     run.judge("the list", ["nightly", "office"], ended("list")[1].split()[:2])
     run.judge("removed", (0, ""), ended("remove", "nightly"))
     browser.until("the program is nobody", lambda: asks("/drafts/1") == 401)
