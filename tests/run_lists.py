@@ -329,6 +329,22 @@ def letters_without_font(run, it):
         it.lists("--kind", "door")[::2])
 
 
+def read_while_kept(run):
+    """Others read the history while a publication of many seats is written."""
+    folder = run.folder / "history"
+    folder.mkdir()
+    history = History(folder)
+    with history.opened():
+        pass
+    with history.opened() as db:
+        # More than SQLite has in memory by itself.
+        db.executemany("INSERT INTO seats VALUES (?, 0, 0, 0, 1, 1, NULL)", (
+            (student,) for student in range(100_000)))
+        with history.reading() as other:
+            run.judge("read while a publication is kept", (0,), other.execute(
+                "SELECT count(*) FROM seats").fetchone())
+
+
 def what_is_missing(run):
     """Without a package the tool says what to install."""
     with session(run, "missing") as it:
@@ -362,7 +378,7 @@ def main():
         return 0
     with tempfile.TemporaryDirectory() as folder:
         run = Run(pathlib.Path(sys.argv[1]).resolve(), folder, "lists")
-        for part in (small_example, publications, many_names, what_is_missing):
+        for part in (read_while_kept, small_example, publications, many_names, what_is_missing):
             part(run)
     return run.end()
 

@@ -102,6 +102,8 @@ class History:
             os.close(os.open(self.path, os.O_WRONLY | os.O_CREAT | os.O_EXCL | os.O_NOFOLLOW,
                              0o640))
         with contextlib.closing(sqlite3.connect(self.path, isolation_level=None)) as db:
+            # Others read until it is kept, however large it is.
+            db.execute("PRAGMA cache_spill = OFF")
             db.execute("BEGIN IMMEDIATE")
             for statement in TABLES.split(";\n"):
                 db.execute(statement)
