@@ -27,7 +27,7 @@ from front_page import KEYS, is_read, reading, sheets_printed
 from front_cases import ask, password
 from run_front import NGINX, TOP, Front
 from run_serve import Office, Run, one_reply
-from serve_cases import at, message
+from serve_cases import at, batch_text, message
 
 UNIVERSITY = TOP / "examples" / "university"
 # They sign in with their student ID.
@@ -237,8 +237,44 @@ def by_the_service(run, times, chromium):
             chromium.click("#history-compare button")
             is_read(chromium)
         run.judge("exams that moved", True, chromium.text("#status").startswith("1 exam and "))
+        judged_by_the_service(run, times, chromium, stack)
     finally:
         stack.stop()
+
+
+def clashing_line(office):
+    """A line of a batch that gives a candidate of exam 0 another exam in its period."""
+    places, exams = ([line.split(", ") for line in office.ask("GET", path)[2].decode().splitlines()]
+                     for path in ("/publication", "/instance"))
+    other = next(exam for exam, place in enumerate(places) if exam and place[0] == places[0][0])
+    student = next(one for one in exams[1][1:] if one not in exams[1 + other])
+    return f"{student},{other},add"
+
+
+def judged_by_the_service(run, times, reader, stack):
+    """A late change is shown with what it would break, and what the publication breaks then."""
+    office = front_registry.signed_in(stack, "registry")
+    line = clashing_line(office)
+    go_to(reader, "late-changes")
+    reader.run("document.querySelector('#batch-lines').value = arguments[0]",
+               f"office student,office exam,action\n{line}")
+    with times.of("check a late change, by the service"):
+        reader.click("#batch button")
+        reader.waits("return !document.querySelector('#batch-preview').hidden")
+        is_read(reader)
+    run.judge("two exams at one time", "Two exams at one time, in Published (1)",
+              reader.text("#batch-lists h3:nth-of-type(2)"))
+    run.judge("it is sent", 200, office.ask("PUT", "/batches/1", batch_text(line))[0])
+    with times.of("the page reads all again, with the service"):
+        reader.click("#refresh")
+        is_read(reader)
+    go_to(reader, "timetable")
+    reader.click("#cards li:first-child a")
+    is_read(reader)
+    with times.of("conflicts of the publication, by the service"):
+        go_to(reader, "conflicts")
+    run.judge("an overlap of the publication", "Two exams at one time (1)",
+              reader.text("#conflict-kind option:nth-child(2)"))
 
 
 def published_twice(run, stack):
