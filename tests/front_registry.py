@@ -414,17 +414,48 @@ def new_session(run, stack):
     run.judge("the session is loaded", (201, SIZES, {"exams": 4, "pairs": 6, "periods": 4,
                                                      "rooms": 2}),
               (status, loaded["summary"][0], loaded["loaded"]))
-    run.judge("no other one", (409, {"error": "loaded"}), sent_files(office, CSV))
+    further_export(run, stack, office)
     run.judge("what nobody asked for", (503, {"error": "unavailable"}),
               asked(office, "GET", "session/99"))
     ada = signed_in(stack, "ada")
     run.judge("its names, without a link of labels", (
-        "MATH101", 3, "Ada Archer", None, told_error(403, "forbidden", rule="P2")), (
+        "MATH101", 4, "Ada Archer", None, told_error(403, "forbidden", rule="P2")), (
         json.loads(ada.ask("GET", "/labels/labels.json")[2])["exams"][0]["code"],
         len(json.loads(office.ask("GET", "/labels/students.json")[2])["students"]),
         *(it and it["name"] for it in (json.loads(one.ask("GET", "/labels/name.json")[2])
                                        for one in (ada, office))),
         ada.ask("GET", "/labels/students.json")[::2]))
+
+
+def further_export(run, stack, office):
+    """Further CSV files of the session that is loaded bring titles and names, after they were
+    checked; without a ledger there is no other session."""
+    further = {**CSV, "exams": CSV["exams"].replace(b"Calculus", b"Calculus I"),
+               "enrolments": CSV["enrolments"] + b"r9,Zoe Zander,MATH101\n"}
+    lines = ["4 exams, 4 students, 7 enrolments, 4 periods, 2 rooms",
+             "1 title and 0 names brought up to date, 1 new student",
+             "1 enrolment more and 0 fewer than the office should have: send them as late changes "
+             "(tools/changes_from_csv)"]
+
+    def title():
+        return json.loads(office.ask("GET", "/labels/labels.json")[2])["exams"][0]["title"]
+
+    status, found = sent_files(office, further)
+    run.judge("a further export is checked", (200, lines, [], "Calculus"), (
+        status, found["summary"], found["faults"], title()))
+    run.judge("it is taken", (200, found, "Calculus I"), (
+        *sent_files(office, further, checked=found["digest"]), title()))
+    run.judge("the new student", (4, "r9"), tuple(json.loads(office.ask(
+        "GET", "/labels/students.json")[2])["students"][3][name] for name in ("number", "id")))
+    another = {**CSV, "rooms": CSV["rooms"] + b"Room 3.01,Main building,4,1\n"}
+    run.judge("no further room", (200, [], [
+        "rooms.csv: room Room 3.01 is new: a session that is made can't change so; "
+        "tools/next_session makes the next one"]), (
+        lambda status, it: (status, it["summary"], it["faults"]))(*sent_files(office, another)))
+    aside = stack.service.made / "aside"
+    (stack.service.made / "ledger.db").rename(aside)
+    run.judge("no other session", (409, {"error": "loaded"}), sent_files(office, CSV))
+    aside.rename(stack.service.made / "ledger.db")
 
 
 def new_session_on_the_page(run, page, folder):
@@ -492,6 +523,34 @@ def week_on_the_page(page):
             f"PHYS102 moved to {hall}, in draft 1"],
         "texts #history-found tr:last-child td:nth-child(3)": [
             "Exams given to their owners, PHYS102 the last one"]}))
+
+
+def further_export_on_the_page(page, csv):
+    """A further export brings a title and a new student; as late changes, their enrolment."""
+    for name, old, new in (("exams", "Calculus", "Calculus I"),
+                           ("enrolments", "s1,", "r9,Zoe Zander,MATH101\ns1,")):
+        path = csv / f"{name}.csv"
+        path.write_text(path.read_text().replace(old, new, 1))
+    files = "\n".join(f"{path}" for path in sorted(csv.glob("*.csv")))
+    # One candidate of MATH101 was added by a late change.
+    done = ("1 title and 0 names brought up to date, 1 new student. 1 enrolment more and 1 fewer "
+            "than the office should have: send them as late changes (tools/changes_from_csv)")
+    page.steps(
+        ("a further export", ["click #menu [data-to=set-up] a", ("type", "#csv-files", files),
+                              "click #csv-session button"], {
+            "said": "Nothing is changed yet. Read what is in the files.",
+            "texts #csv-summary p": ["4 exams, 4 students, 7 enrolments, 4 periods, 2 rooms",
+                                     *done.split(". ")]}),
+        ("its names", "click #csv-load", {"said": f"{done}.", "#csv-title":
+                                          "Further export of the CSV files"}),
+        ("its enrolments", [
+            "click #menu [data-to=late-changes] a",
+            ("type", "#batch-file", csv / "enrolments.csv"), "click #batch button"], {
+            "#batch-effect": "1 to add, 0 to drop, 1 kept.",
+            "titles #batch-lists h3": ["Added (1)", "Rooms that are too small, in Published (1)",
+                                       "Kept as they were changed here (1)"],
+            "titles #batch-lists tbody th": [
+                "Zoe Zander r9", "Great Hall, Main building", "Cleo Carter s3"]}))
 
 
 # ---- What breaks a rule
@@ -721,6 +780,12 @@ def conflicts_on_the_page(run, page, stack, office):
                 ["Conflict", "Candidate", "Exams", "When", "Room or remark"],
                 ["Two exams at one time", "Ada Archer\ns1", "PHYS101 PHYS102", monday, ""], no_seat,
                 ["Room too small", "", "PHYS101", monday, f"{room}: 3 candidates, 2 seats"]]}))
+    ledger = stack.service.made / "ledger.db"
+    ledger.rename(ledger.with_name("aside"))
+    page.steps(("without a ledger", "click #refresh", {
+        "hidden #conflict-note": True, "#conflict-count": "3 conflicts.",
+        "hidden #menu [data-to=history]": True}))
+    ledger.with_name("aside").rename(ledger)
     stack.service.stop()
     page.steps(("without the service", "click #refresh", {
         "hidden #conflict-note": False, "rows #conflict-list tbody tr": [no_seat],
@@ -788,6 +853,7 @@ def new_in_browser(run, chromium, make_front):
         page = Page(run, chromium)
         new_session_on_the_page(run, page, stack.run.folder)
         week_on_the_page(page)
+        further_export_on_the_page(page, stack.run.folder / "csv")
         run.judge("complaints about a week on the page", [], chromium.complaints())
     finally:
         stack.stop()

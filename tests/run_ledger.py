@@ -205,7 +205,7 @@ FURTHER = [
      f"{SIZES}1 title and 0 names brought up to date, 0 new students\n"),
     ("a new student in front", [A_NEW_STUDENT], 0, SIZES.replace("3 students, 6", "4 students, 7")
      + "0 titles and 0 names brought up to date, 1 new student\n1 enrolment more and 0 fewer than "
-     "the office should have: tools/changes_from_csv sends them\n"),
+     "the office should have: send them as late changes (tools/changes_from_csv)\n"),
     ("a name", [("enrolments", "Ada Archer", "Ada Adams")], 0,
      f"{SIZES}0 titles and 1 name brought up to date, 0 new students\n"),
     ("another building and another title of the session", [

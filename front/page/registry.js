@@ -26,7 +26,7 @@ import { reread, setUpPictures, showTimetable } from './timetable.js';
 async function load() {
   await readUser();
   const text = await readSession();
-  office.service = text ? await readService() : null;
+  office.service = await readService();
   office.names = await applyOfficeNames(text && await readLabels(), office.session);
   const published = text ? await readPublished() : null;
   if (!text) office.seats = null;
@@ -40,7 +40,7 @@ async function load() {
   showSeats(office);
   showLists();
   byId('session').hidden = office.session !== null;
-  await showSetUp();
+  showSetUp();
   showDraftForm();
   showOwnersForm();
   if (section === 'history') await showHistory();

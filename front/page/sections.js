@@ -39,7 +39,7 @@ function allowed() {
   const { session, timetables, seats, service } = office;
   if (!session) return ['set-up'];
   return [...(timetables.length ? ['timetable', 'conflicts'] : ['set-up']), ...(seats ? ['seats'] : []),
-    'late-changes', ...(service ? ['history'] : []), ...(timetables.length ? ['set-up'] : [])];
+    'late-changes', ...(service?.ledger ? ['history'] : []), ...(timetables.length ? ['set-up'] : [])];
 }
 
 /** The section, the timetable and the exam that are to be shown. */

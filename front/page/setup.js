@@ -1,6 +1,6 @@
-// A new session from five CSV files: the registry's service checks them as the tools do and says what is
-// in them; then they are loaded, and each exam is given to its department.
-import { ask, change } from './asking.js';
+// A session from five CSV files: the registry's service checks them as the tools do and says what is in
+// them; then they are loaded, and each exam is given to its department. A further export brings names.
+import { change } from './asking.js';
 import { confirmFirst } from './confirm.js';
 import { byId, element, faultList } from './elements.js';
 import { atField, FormFault, showProgress } from './messages.js';
@@ -11,6 +11,28 @@ import { office } from './state.js';
 const PATH = '/-/registry/session';
 const FILES = ['exams', 'rooms', 'periods', 'enrolments', 'rules'];
 const MOST_BYTES = 4_000_000;
+
+// What the form says while there is no session, and of a further export of one.
+const NEW = {
+  title: 'New session from CSV files',
+  about: 'Choose all five files, or drop them here. Nothing is loaded before you have read what is in them.',
+  checked: 'Nothing is loaded yet. Read what is in the files, then load them.',
+  refused: 'Nothing can be loaded',
+  act: 'Load this session …',
+  doing: 'Loading the session …',
+  failed: 'The session was not loaded.',
+};
+const FURTHER = {
+  title: 'Further export of the CSV files',
+  about: 'Titles, names and buildings are brought up to date, and new students get their numbers. Enrolments '
+    + 'are sent as late changes. Exams, rooms, periods and rules stay as they are.',
+  checked: 'Nothing is changed yet. Read what is in the files.',
+  refused: 'Nothing can be brought up to date',
+  act: 'Bring names up to date',
+  doing: 'Bringing names up to date …',
+  failed: 'Nothing was brought up to date.',
+};
+const wording = () => (office.session ? FURTHER : NEW);
 
 /**
  * The file of each kind by its name, such as exams.csv or Exams-2027.csv.gz, the kinds that are missing or
@@ -75,7 +97,7 @@ function showFound({ summary, warnings, digest }, found) {
   byId('csv-summary').replaceChildren(...summary.map((line) => element('p', {}, line)),
     ...(warnings.length ? [element('h4', {}, 'Warnings'), ...faultList(warnings)] : []));
   byId('csv-preview').hidden = false;
-  return 'Nothing is loaded yet. Read what is in the files, then load them.';
+  return wording().checked;
 }
 
 async function check() {
@@ -84,7 +106,7 @@ async function check() {
   if (fault) throw new FormFault(fault, 'csv-files');
   const said = await replyOn('Nothing was checked.', await bodyOf(found));
   if (!said.faults.length) return showFound(said, found);
-  throw new FormFault(`Nothing can be loaded: ${count(said.faults.length, 'fault')}.`, 'csv-files',
+  throw new FormFault(`${wording().refused}: ${count(said.faults.length, 'fault')}.`, 'csv-files',
     faultList(said.faults));
 }
 
@@ -93,23 +115,26 @@ function hidePreview() {
   last = null;
 }
 
-/** Loads what was checked, shows it, and gives each exam to its department. */
+/** Loads what was checked, shows it, and gives each exam to its department; or brings names up to date. */
 async function loadChecked(load) {
-  const { loaded } = await replyOn('The session was not loaded.', await bodyOf(last.found, last.digest));
+  const { loaded, summary } = await replyOn(wording().failed, await bodyOf(last.found, last.digest));
   hidePreview();
   byId('csv-session').reset();
   await load();
+  if (!loaded) return `${summary.slice(1).join('. ')}.`;
   const owners = office.names.labels?.exams.some(({ department }) => department)
     ? ` ${await setOwnersOfNames()}` : '';
   return `The session is loaded: ${count(loaded.exams, 'exam')}, ${count(loaded.pairs, 'enrolment')}, ${
     count(loaded.periods, 'period')}, ${count(loaded.rooms, 'room')}.${owners}`;
 }
 
-/** Shows the form while there is no session, if the registry's service is there. */
-export async function showSetUp() {
-  byId('csv-session').hidden = true;
+/** Shows the form if the registry's service is there; with a session, if it has its ledger. */
+export function showSetUp() {
   hidePreview();
-  if (!office.session) byId('csv-session').hidden = !(await ask('/-/registry/about'));
+  byId('csv-session').hidden = !(office.session ? office.service?.ledger : office.service);
+  byId('csv-title').textContent = wording().title;
+  byId('csv-about').textContent = wording().about;
+  byId('csv-load').textContent = wording().act;
 }
 
 /** Sets up the form; `load` reads everything again. */
@@ -120,7 +145,8 @@ export function setUpSetUp(load) {
     showProgress('Checking the files …', () => atField('csv-files', check), event.submitter);
   });
   byId('csv-files').addEventListener('change', hidePreview);
-  byId('csv-load').addEventListener('click', () => confirmFirst('Load this session?', [
-    element('p', {}, 'It can be loaded only once: exams, rooms and periods stay as they are.')], 'Load',
-  () => showProgress('Loading the session …', () => loadChecked(load), byId('csv-session'))));
+  const loading = () => showProgress(wording().doing, () => loadChecked(load), byId('csv-session'));
+  byId('csv-load').addEventListener('click', () => (office.session ? loading() : confirmFirst(
+    'Load this session?', [element('p', {},
+      'It can be loaded only once: exams, rooms and periods stay as they are.')], 'Load', loading)));
 }

@@ -131,9 +131,9 @@ def about() -> dict[str, Any]:
     return {"ledger": folder().ledger.exists()}
 
 
-# ---- A new session
+# ---- A session of CSV files
 
-# Whoever asks for a new session waits at most so long, in seconds, and asks again then what came of
+# Whoever sends CSV files waits at most so long, in seconds, and asks again then what came of
 # it: on a machine that does much else, the files of 25,000 names take minutes.
 HELD = float(os.environ.get("REGISTRY_HELD", "20"))
 MOST_ASKED = 8
@@ -144,7 +144,8 @@ question = itertools.count(1)
 
 @app.post("/-/registry/session")
 def new_session() -> tuple[dict[str, Any], int]:
-    """Checks the CSV files of a new session; with the digest of what was checked, loads it."""
+    """Checks the CSV files of a session; with the digest of what was checked, loads it, or brings
+    the names of one that is loaded up to date."""
     files = {name: flask.request.files[name].read() for name in FILES
              if name in flask.request.files}
     number = next(question)
@@ -156,7 +157,7 @@ def new_session() -> tuple[dict[str, Any], int]:
 
 @app.get("/-/registry/session/<int:number>")
 def came_of(number: int) -> tuple[dict[str, Any], int]:
-    """What came of a question for a new session, or that it is still worked at."""
+    """What came of CSV files, or that they are still worked at."""
     if number not in asked_for:
         return {"error": "unavailable"}, 503
     concurrent.futures.wait([asked_for[number]], HELD)

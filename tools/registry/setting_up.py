@@ -1,4 +1,5 @@
-"""A new session that the registry's page makes of five CSV files: checked, then loaded."""
+"""Five CSV files of the registry's page: a new session, checked and then loaded; or a further
+export of the session that is loaded."""
 from __future__ import annotations
 
 import contextlib
@@ -12,9 +13,9 @@ from typing import Any
 
 from .csv_tables import MOST_BYTES, Faults, Wanted, first_lines
 from .folder import NOW, Folder
-from .ledger import locked
-from .making import make
-from .office import Office, Refused
+from .ledger import Ledger, locked
+from .making import Said, make
+from .office import Instance, Office, Refused, faults_of_office
 
 FILES = ("exams", "rooms", "periods", "enrolments", "rules")
 PACKED = b"\x1f\x8b"
@@ -25,17 +26,26 @@ class Changed(Exception):
 
 
 class Loaded(Exception):
-    """An office that has a session."""
+    """An office that has a session, without a ledger."""
 
 
-def has_session(office: Office) -> bool:
+def session_of(office: Office) -> Instance | None:
+    """The session of an office, if it has one."""
     try:
-        office.ask("GET", "/instance")
+        return office.instance()
     except Refused as refusal:
         if refusal.error != "not-loaded":
             raise
-        return False
-    return True
+        return None
+
+
+def faults_of(folder: Folder, instance: Instance) -> list[str]:
+    """Why the office doesn't have the session of the ledger."""
+    ledger = Ledger.opened_at(folder.ledger)
+    try:
+        return faults_of_office(ledger, instance)
+    finally:
+        ledger.close()
 
 
 def digest_of(files: Mapping[str, bytes]) -> str:
@@ -58,21 +68,25 @@ def write_into(folder: pathlib.Path, files: Mapping[str, bytes]) -> None:
 def set_up(path: pathlib.Path, office: Office, files: Mapping[str, bytes], by: str,
            checked: str | None) -> dict[str, Any]:
     """What is in the files and what is wrong with them. If they were checked, the ledger is made,
-    with its files, and the session is loaded. What a run that was cut off made is taken up."""
+    with its files, and the session is loaded; what a run that was cut off made is taken up. The
+    ledger of a session that is loaded is brought up to date."""
     digest, faults, folder = digest_of(files), Faults(), Folder(path)
     if checked not in (None, digest):
         raise Changed
-    if has_session(office):
+    instance = session_of(office)
+    if instance and not folder.ledger.exists():
         raise Loaded
     path.mkdir(mode=0o750, exist_ok=True)
     with locked(path), tempfile.TemporaryDirectory() as csv:
         write_into(pathlib.Path(csv), files)
-        said = make(folder, pathlib.Path(csv), Wanted([]), by, faults, checked is not None)
+        faults.lines += faults_of(folder, instance) if instance else []
+        said = Said() if faults.lines else make(
+            folder, pathlib.Path(csv), Wanted([]), by, faults, checked is not None)
         found = {"summary": said.lines, "warnings": first_lines(said.warnings, "warnings"),
                  "faults": first_lines(faults.lines, "faults"), "digest": digest}
         if not any(path.iterdir()):
             path.rmdir()
-        if checked is None or faults.lines:
+        if checked is None or faults.lines or instance:
             return found
         session = (path / NOW / "session.exam").read_bytes()
         return {**found, "loaded": json.loads(office.ask("PUT", "/instance", session))}

@@ -31,7 +31,8 @@ class Update:
             done.append(f"IDs that were known with other leading zeros: {self.mended:,}")
         if self.added or self.dropped:
             done.append(f"{count(self.added, 'enrolment')} more and {self.dropped:,} fewer than "
-                        "the office should have: tools/changes_from_csv sends them")
+                        "the office should have: send them as late changes "
+                        "(tools/changes_from_csv)")
         return done
 
 
