@@ -740,9 +740,17 @@ def one_reply(client):
     return int(head.split(b" ")[1]), body
 
 
-def change_until_killed(office, rng, drafts):
-    """Makes changes until the office is gone. Returns what is stored, and what else may be."""
-    asked_for, wrong = drafts, 0
+def kill_after(office, begin, seconds):
+    """Kills the office some seconds after an event, for which it doesn't wait for ever."""
+    begin.wait(SECONDS)
+    time.sleep(seconds)
+    office.process.kill()
+
+
+def change_until_killed(office, rng, drafts, begin):
+    """Makes changes until the office is gone, and sets the event when the first one is answered.
+    Returns what is stored, what else may be, and how many answers came, and how many wrong ones."""
+    asked_for, answered, wrong = drafts, 0, 0
     with contextlib.suppress(OSError):
         while True:
             with office.connect() as client:
@@ -752,7 +760,9 @@ def change_until_killed(office, rng, drafts):
                     client.sendall(step.question)
                     wrong += one_reply(client)[0] != step.status
                     drafts = step.drafts
-    return drafts, asked_for, wrong
+                    answered += 1
+                    begin.set()
+    return drafts, asked_for, answered, wrong
 
 
 def drafts_of(office):
@@ -818,15 +828,20 @@ def killed_amid_batch(run, count):
 
 
 def kills(run, count):
+    """Each fourth kill may come before any change is answered. The others wait for an answer, so
+    that they are amid changes on a slow machine too."""
     rng, database, drafts, made = random.Random(27), run.database(SMALL), {}, 0
     for number in range(count):
-        office = Office(run.program, database)
-        killer = threading.Timer(rng.uniform(0.0, 0.25), office.process.kill)
+        office, begin = Office(run.program, database), threading.Event()
+        if number % 4 == 3:
+            begin.set()
+        killer = threading.Thread(target=kill_after, args=(office, begin, rng.uniform(0.0, 0.25)))
         killer.start()
-        stands, asked_for, wrong = change_until_killed(office, rng, drafts)
+        stands, asked_for, answered, wrong = change_until_killed(office, rng, drafts, begin)
+        begin.set()
         killer.join()
         office.killed()
-        made += stands != drafts
+        made += answered > 0
         office = Office(run.program, database)
         found = drafts_of(office)
         office.killed()
