@@ -79,6 +79,7 @@ def set_up_old(judged, machine):
         examoffice load --db /var/lib/examoffice/term.db /small.exam
         echo PORT=8080 > /etc/examoffice/term.env; cd {FRONT}
         sed -i 's/127.0.0.1:8000;/127.0.0.1:8123;/; s/rate=300r/rate=301r/' nginx.conf
+        sed -i 's/rotate 24/rotate 25/' /etc/logrotate.d/examoffice
         printf 'registry:%s\\n' "$(openssl passwd -apr1 own-word)" > {FRONT}/users
         chgrp www-data {FRONT}/users
         systemctl enable --now {' '.join(UNITS)}
@@ -104,6 +105,8 @@ def upgrade(judged, machine):
         f"grep -c 301r {FRONT}/local.conf; ls {FRONT}/nginx.conf.dpkg-old | wc -l"))
     judged.judge("its units", ["active"] * 3, machine.types(
         f"systemctl is-active {' '.join(UNITS)}").split())
+    judged.judge("what was changed in the file of logrotate", "/etc/examoffice/logrotate.conf",
+                 machine.types("grep -ls 'rotate 25' /etc/logrotate.d/* /etc/examoffice/*"))
     status = "the office of term answers\npublished, total penalty 37"
     judged.judge("status", status, machine.types("examoffice-status 2>&1 | grep -v 'space\\|copy'"))
     said = machine.types("systemctl set-property --runtime examoffice@term MemoryMax=8M"
@@ -182,7 +185,8 @@ def backups(judged, machine):
         "cp /var/backups/examoffice/term-*.db /copy.db; examoffice export --db /copy.db | wc -l"))
     for unit, most in (
             ("examoffice@term", 1.5), ("examoffice-backup@term", 1.5), ("examoffice-front", 3.0),
-            ("examoffice-queue", 1.5), ("examoffice-agent", 1.5), ("examoffice-registry", 1.5)):
+            ("examoffice-queue", 1.5), ("examoffice-agent", 1.5), ("examoffice-registry", 1.5),
+            ("examoffice-logs", 1.5)):
         said = machine.types(f"systemd-analyze security --no-pager {unit} | tail -1")
         found = re.search(r": ([\d.]+) ", said)
         judged.judge(f"the sandbox of {unit}", True,
@@ -190,18 +194,30 @@ def backups(judged, machine):
 
 
 def logs(judged, machine):
-    judged.judge("the log, rotated", "640 root examoffice-registry\n1", machine.types("""
+    """The log is rotated beyond 50 MB, as often as the package looks, and only by the package."""
+    begin = """log=/var/lib/examoffice-front/changes.log
         publish() { curl -s -u registry:own-word -X POST http://127.0.0.1:8123/drafts/1/publish; }
-        publish > /dev/null; logrotate --force /etc/logrotate.d/examoffice; sleep 1
-        publish > /dev/null; sleep 0.5
-        stat -c '%a %U %G' /var/lib/examoffice-front/changes.log
-        grep -c publish /var/lib/examoffice-front/changes.log"""))
+        look() { publish > /dev/null; sleep 0.5; "$@"; cd ${log%/*}; echo $(ls -v changes.log*); }
+        """
+    judged.judge("what looks at the log, and how often", "active\nhourly", machine.types(
+        "systemctl is-active examoffice-logs.timer\nsystemctl cat examoffice-logs.timer"
+        " | sed -n s/OnCalendar=//p"))
+    judged.judge("a short log", "changes.log",
+                 machine.types(begin + "look systemctl start examoffice-logs"))
+    judged.judge("a long log", "changes.log\nchanges.log changes.log.1", machine.types(
+        begin + "truncate -s 60000000 $log; look logrotate /etc/logrotate.conf\n"
+        "look systemctl start examoffice-logs"))
+    judged.judge("the log, rotated", "640 root examoffice-registry\n1", machine.types(
+        begin + "sleep 1; publish > /dev/null; sleep 0.5; stat -c '%a %U %G' $log\n"
+        "grep -c publish $log"))
+    judged.judge("again on this day", "changes.log changes.log.1 changes.log.2.gz", machine.types(
+        begin + "truncate -s 60000000 $log; look systemctl start examoffice-logs"))
 
 
 def removal(judged, machine):
     machine.types("dpkg -r examoffice")
-    judged.judge("removed", ["inactive"] * 3, machine.types(
-        f"systemctl is-active {' '.join(UNITS)}").split())
+    judged.judge("removed", ["inactive"] * 4, machine.types(
+        f"systemctl is-active {' '.join(UNITS)} examoffice-logs.timer").split())
     machine.types("dpkg -P examoffice")
     kept = "/etc/examoffice/ship\n/etc/examoffice/term.env\nterm.db\nlabels.json\nnames\n0"
     judged.judge("purged", kept, machine.types(

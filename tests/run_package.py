@@ -150,7 +150,7 @@ def of_the_package(judged, folder):
     if shutil.which("logrotate"):
         # The package's group isn't there.
         rotated = folder / "logrotate"
-        rotated.write_text((root / "etc/logrotate.d/examoffice").read_text().replace(
+        rotated.write_text((root / "etc/examoffice/logrotate.conf").read_text().replace(
             "root examoffice-registry", "root root"))
         rotated.chmod(0o644)
         status, said = ran("logrotate", "--debug", "--state", folder / "state", rotated)
@@ -173,7 +173,7 @@ def of_the_front(judged, root):
     judged.judge("no known password", [], [
         str(it) for folder in ("etc", "usr/share/examoffice") for it in (root / folder).rglob("*")
         if it.is_file() and b"try-reg" in it.read_bytes()])
-    judged.judge("no question at an upgrade", ["logrotate.d/examoffice"], [
+    judged.judge("no question at an upgrade", ["examoffice/logrotate.conf"], [
         str(it.relative_to(root / "etc")) for it in (root / "etc").rglob("*") if it.is_file()])
 
 
