@@ -1,12 +1,13 @@
 // The whole text of a reader, within a limit of bytes and a number of reads.
-ghost use Rattle.std.specs.Prelude.{◌≡◌, ◌<◌, ◌≤◌, ◌+◌, ◌++◌, ℕ, length, IfErr, IfOk, IfSome, OnOk};
+ghost use Rattle.std.specs.Prelude.{◌≡◌, ◌≢◌, ◌<◌, ◌≤◌, ◌+◌, ◌++◌, ℕ, length, IfErr, IfOk, IfSome, OnOk};
+ghost use Rattle.std.specs.IoError.{error_kind};
 ghost use Rattle.exam_terms.specs.declared.limits.TheConstants.{INSTANCE_BYTES, TEXT_BYTES};
 ghost use Rattle.office_files.specs.Inputs.{RefusesText, StaysUnread, ReadsAtMost};
 
 use crate::fault::{FaultKind, FileFault};
 use exam_terms::limits::{INSTANCE_BYTES, TEXT_BYTES};
 use std::alloc::{AllocError, Global};
-use std::io::{ErrorKind, Read};
+use std::io::{Error, ErrorKind, Read};
 
 /// Why an input can't be read.
 #[derive(Clone, Copy, Debug, PartialEq, Eq)]
@@ -156,17 +157,25 @@ fn text_in<R: Read>(
         match reader.read(&mut piece[..most]) {
             Ok(0) => return Ok(text),
             Ok(n) => append(&mut text, &piece[..n])?,
-            Err(fault) => {
-                if fault.kind() != ErrorKind::Interrupted {
-                    return Err(Unread::Failed);
-                }
-            }
+            Err(fault) => retry(&fault)?,
         }
         if text.len() > limit {
             return Err(Unread::TooLong);
         }
     }
     Err(Unread::Spent)
+}
+
+// Lets an interrupted read be made again. Any other fault of a reader is that it failed.
+fn retry(fault: &Error) -> Result<(), Unread>
+    ensures again { OnOk result (error_kind fault.now ≡ ErrorKind.Interrupted) }
+    ensures failed { IfErr result (λ why. (why ≡ Unread.Failed)
+        × (error_kind fault.now ≢ ErrorKind.Interrupted)) }
+{
+    match fault.kind() {
+        ErrorKind::Interrupted => Ok(()),
+        _ => Err(Unread::Failed),
+    }
 }
 
 fn append(text: &mut Vec<u8>, piece: &[u8]) -> Result<(), AllocError>

@@ -1,5 +1,5 @@
 // The office, and how its file is created and read.
-ghost use Rattle.std.specs.Prelude.{◌≡◌, ◌≢◌, IfErr, IfOk, None};
+ghost use Rattle.std.specs.Prelude.{◌≡◌, ◌≢◌, false, IfErr, IfOk, None};
 ghost use Rattle.sqlite.specs.Held.{state};
 ghost use Rattle.sqlite.specs.State.{HasCleanDisk};
 ghost use Rattle.office_tables.specs.Schema.{no_schema};
@@ -55,6 +55,9 @@ impl<S: Alter> Office<S> {
         // The database had a table, and the connection is returned as it was.
         ensures not_bare { IfErr result (λ e. e.0 ≡ StoreFault.BadSchema
             → ((state S.Store conn).now.schema ≢ no_schema) × (e.1 ≡ conn)) }
+        // Tables that are there are never called a failed statement.
+        ensures foreign { IfErr result (λ e. (state S.Store conn).in_transaction ≡ false
+            → (state S.Store conn).now.schema ≢ no_schema → e.0 ≡ StoreFault.BadSchema) }
         // Only `Store` or `BadSchema`.
         ensures fault { IfErr result (λ e. IsOfDatabase e.0) }
         // On `Ok` the database is open, and all is committed; on `Err` the tables are as they were.
