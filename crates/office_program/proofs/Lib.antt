@@ -6,3 +6,4 @@ pub mod WordFacts
 mod SourceFacts
 mod CompareSources
 mod CheckAllFacts
+mod DatabaseFacts

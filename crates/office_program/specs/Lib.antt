@@ -19,3 +19,5 @@ pub mod CompareLine
 pub mod Sources
 pub mod Folders
 pub mod Mistakes
+pub mod Databases
+pub mod Shelves

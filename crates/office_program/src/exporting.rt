@@ -8,20 +8,20 @@ ghost use Rattle.office_files.specs.CanonicalSolution.{canonical_solution};
 ghost use Rattle.office_model.specs.Office.{OfficeState};
 ghost use Rattle.office_store.specs.Opening.{HoldsOffice};
 ghost use Rattle.office_store.specs.Running.{CallRan};
+ghost use Rattle.office_program.specs.Databases.{ExportsIn, UsesDatabase};
 ghost use Rattle.office_program.specs.Export.{ExportRan, Exports, IsWhole, PrintsSolution, RefusesExport};
 ghost use Rattle.office_program.specs.Export.{published_solution};
 ghost use Rattle.office_program.specs.Load.{MayUpgrade, connection_after};
 ghost use Rattle.office_program.specs.TaskFaults.{IsOfExport};
 
+use crate::databases::Databases;
 use crate::ending::Ending;
 use crate::faults::{ProgramFault, fault_of_export, fault_of_open};
-use crate::notices::{LongWork, announce, announce_upgrade};
+use crate::notices::announce_upgrade;
 use office_files::{FaultKind, write_solution};
 use office_http::{Alter, Connection, Office, StoreFault};
-use sqlite::{Error, ErrorCode};
 use std::alloc::Global;
-use std::fs;
-use std::io::{ErrorKind, Read, Write};
+use std::io::Write;
 
 /// Why the publication is not written.
 #[derive(Clone, Copy, Debug, PartialEq, Eq)]
@@ -37,68 +37,36 @@ pub enum ExportFault {
 }
 
 // Runs `export`. The database's file must exist and hold an office: none is created.
-pub(crate) fn export<'a, W: Write>(
+pub(crate) fn export<'a, S: Alter, D: Databases<Opened = Connection<S>>, W: Write>(
     rt: &HostRuntime,
+    databases: &mut D,
     database: &str,
     out: &mut W,
 ) -> Result<Ending, ProgramFault<'a>>
     ensures status { IfOk result (λ ending. ending.status ≡ 0) }
     ensures printed { IfOk result (λ _. PrintsSolution (W.contents out.old) (W.contents out.new)) }
+    ensures uses { IfOk result (λ _. UsesDatabase (D.known databases.old database.now)
+        (D.known databases.new database.now)
+        (ExportsIn S.Store (W.contents out.old) (W.contents out.new))) }
     ensures fault { IfErr result IsOfExport }
     ensures unwritten { IfErr result (λ fault. fault ≢ ProgramFault.CannotWrite
         → Keeps (W.contents out.old) (W.contents out.new)) }
 {
-    let Ok(found) = fs::metadata(rt, database) else {
-        return Err(fault_of_open(Error::SqliteFailure(ErrorCode::CannotOpen)));
-    };
-    if !has_log(rt, database) {
-        // Opening would leave a log beside the file.
-        if found.len() == 0 {
-            return Err(fault_of_export(ExportFault::Store(StoreFault::BadSchema)));
-        }
-        if !begins_as_database(rt, database) {
-            return Err(fault_of_open(Error::SqliteFailure(ErrorCode::NotADatabase)));
-        }
-    }
-    announce(rt, LongWork::Opening(database));
-    let conn = match office_database::open(rt, database) {
-        Ok(conn) => conn,
+    let conn = match databases.find_database(database) {
+        Ok(Some(conn)) => conn,
+        Ok(None) => return Err(fault_of_export(ExportFault::Store(StoreFault::BadSchema))),
         Err(error) => return Err(fault_of_open(error)),
     };
     announce_upgrade(rt, database, &conn);
-    // A log that can't be copied into the file stays next to it, and is read there.
     match export_run(rt.alloc(), conn, out) {
         Ok(conn) => {
-            let _ = conn.close();
+            databases.take_back(database, conn);
             Ok(Ending::quiet(0))
         }
         Err((fault, conn)) => {
-            let _ = conn.close();
+            databases.take_back(database, conn);
             Err(fault_of_export(fault))
         }
-    }
-}
-
-// Returns whether a log with content is beside a database's file: the file alone says nothing then.
-fn has_log(rt: &HostRuntime, database: &str) -> bool {
-    let Ok(log) = format!(in rt.alloc(); "{database}-wal") else {
-        return true;
-    };
-    match fs::metadata(rt, log.as_str()) {
-        Ok(found) => found.len() != 0,
-        Err(_) => false,
-    }
-}
-
-// Returns whether a file begins as those of databases do. One that can't be read may be a database.
-fn begins_as_database(rt: &HostRuntime, path: &str) -> bool {
-    let Ok(mut file) = fs::open(rt, path) else {
-        return true;
-    };
-    let mut bytes = [0u8; 16];
-    match file.read_exact(&mut bytes) {
-        Ok(()) => bytes == *b"SQLite format 3\0",
-        Err(error) => error.kind() != ErrorKind::UnexpectedEof,
     }
 }
 

@@ -7,6 +7,7 @@ ghost use Rattle.std.specs.declared.io.ErrorKind.TheVariants as failure;
 ghost use Rattle.clap.specs.Words.{kind_of};
 ghost use Rattle.clap.specs.declared.error.kind.ErrorKind.TheVariants as kind;
 ghost use Rattle.exam_terms.specs.declared.limits.TheConstants.{INSTANCE_BYTES};
+ghost use Rattle.office_program.specs.Databases.{LoadsIn, UsesDatabase, UsesNamedDatabase};
 ghost use Rattle.office_program.specs.Endings.{IsQuiet, IsSilent, LeavesPrinted};
 ghost use Rattle.office_program.specs.Endings.{WritesConnectionFaults, WritesFault, WritesNoTaskFault};
 ghost use Rattle.office_program.specs.Endings.{WritesSolutionFaults};
@@ -21,6 +22,7 @@ ghost use Rattle.office_program.specs.declared.words.Task.{Task};
 use crate::causes::announce_cause;
 use crate::checking::{check, check_as};
 use crate::comparing::compare;
+use crate::databases::{Databases, SystemDatabases};
 use crate::ending::Ending;
 use crate::explaining::explain;
 use crate::exporting::export;
@@ -37,19 +39,20 @@ use clap::Error;
 use clap::error::ErrorKind;
 use office_check::Report;
 use office_files::{InputFault, instance_text};
+use sqlite::{Alter, Connection};
 use std::alloc::Global;
 use std::io::{self, Read, Write};
 
 /// Does what the words say; the first word is the program's name. The lines of faults, including
 /// those of connections, and the text of a mistake are written to `err`, everything else to `out`.
-/// The files are those of the system, of which no clause says what they hold.
+/// The files and databases are those of the system, of which no clause says what they hold.
 pub fn run_program<O: Write, E: Write + Lines>(
     rt: &HostRuntime,
     words: &[String],
     out: &mut O,
     err: &mut E,
 ) -> Ending
-    // As for `run_words`, with nothing known of files and standard input.
+    // As for `run_words`, with nothing known of files, databases and standard input.
     ensures within { result.status ≤ 3 }
     ensures answered { result.status ≡ 0 → AreAnswered (map string_bytes words.now) }
     ensures mistake { result.status ≡ 2 → fault_of_words (map string_bytes words.now) ≢ [] }
@@ -67,14 +70,23 @@ pub fn run_program<O: Write, E: Write + Lines>(
         → WritesFault E.tells None (λ path. None) (map string_bytes words.now) err.old err.new
         (O.contents out.old) (O.contents out.new) result.is_err_written }
 {
-    run_words(rt, rt, &mut rt.stdin(), words, out, err)
+    let mut databases = SystemDatabases { rt };
+    run_words(rt, rt, &mut databases, &mut rt.stdin(), words, out, err)
 }
 
-/// Does what the words say, with these files and this standard input; databases and the port are
-/// those of the system.
-pub fn run_words<T: Texts, I: Read, O: Write, E: Write + Lines>(
+/// Does what the words say, with these files, these databases and this standard input; the port is
+/// one of the system.
+pub fn run_words<
+    S: Alter,
+    T: Texts,
+    D: Databases<Opened = Connection<S>>,
+    I: Read,
+    O: Write,
+    E: Write + Lines,
+>(
     rt: &HostRuntime,
     files: &T,
+    databases: &mut D,
     stdin: &mut I,
     words: &[String],
     out: &mut O,
@@ -112,6 +124,16 @@ pub fn run_words<T: Texts, I: Read, O: Write, E: Write + Lines>(
         × Prints (I.remaining stdin.old) (T.known files.now) task
         (O.contents out.old) (O.contents out.new) }
 
+    // After `load`, `serve` and `export` the database at the path that the words name was opened and
+    // given back. Assuming the disk returns what was written: `load` has loaded the text of the file
+    // that the words name into its office, and all is committed; its office has served as many
+    // connections as the words say, and it holds the office that they led to; or what is printed is
+    // the publication of its office.
+    ensures uses { result.status ≡ 0 → fault_of_words (map string_bytes words.now) ≡ []
+        → (task : Task) × IsTask (map string_bytes words.now) task
+        × UsesNamedDatabase S.Store (D.known databases.old) (D.known databases.new)
+        (T.known files.now) task (O.contents out.old) (O.contents out.new) }
+
     // Status 1 comes with a try to write the line of a fault of the words to `err`, and
     // `is_err_written` says whether it was written whole; it is false only if `err` failed. A fault
     // of a file is one that it has. Unless the fault is one of writing, `out` is unchanged, or has the
@@ -127,7 +149,7 @@ pub fn run_words<T: Texts, I: Read, O: Write, E: Write + Lines>(
         Ok(task) => task,
         Err(error) => return refuse_words(&error, out, err),
     };
-    match run_task(rt, files, stdin, &task, out, err) {
+    match run_task(rt, files, databases, stdin, &task, out, err) {
         Ok(ending) => ending,
         Err(fault) => {
             let ending = complain(&fault, err);
@@ -137,9 +159,18 @@ pub fn run_words<T: Texts, I: Read, O: Write, E: Write + Lines>(
     }
 }
 
-fn run_task<'a, T: Texts, I: Read, W: Write, E: Write + Lines>(
+fn run_task<
+    'a,
+    S: Alter,
+    T: Texts,
+    D: Databases<Opened = Connection<S>>,
+    I: Read,
+    W: Write,
+    E: Write + Lines,
+>(
     rt: &HostRuntime,
     files: &T,
+    databases: &mut D,
     stdin: &mut I,
     task: &'a Task,
     out: &mut W,
@@ -152,6 +183,9 @@ fn run_task<'a, T: Texts, I: Read, W: Write, E: Write + Lines>(
     ensures done { IfOk result (λ ending. ending.status ≡ 0
         → Prints (I.remaining stdin.old) (T.known files.now) task.now
         (W.contents out.old) (W.contents out.new)) }
+    ensures uses { IfOk result (λ ending. ending.status ≡ 0
+        → UsesNamedDatabase S.Store (D.known databases.old) (D.known databases.new)
+        (T.known files.now) task.now (W.contents out.old) (W.contents out.new)) }
     ensures quiet { IfOk result (λ ending. ending.status ≢ 1 → IsTrue ending.is_err_written
         → WritesConnectionFaults E.contents task.now err.old err.new) }
 
@@ -184,17 +218,20 @@ fn run_task<'a, T: Texts, I: Read, W: Write, E: Write + Lines>(
         Task::Compare(session, before, after) => {
             compare(alloc, files, stdin, session, before, after, out)
         }
-        Task::Load(database, instance) => load(rt, files, database, instance, out),
-        Task::Serve(database, terms) => open_and_serve(rt, rt, database, *terms, out, err),
-        Task::Export(database) => export(rt, database, out),
+        Task::Load(database, instance) => load(rt, files, databases, database, instance, out),
+        Task::Serve(database, terms) => {
+            open_and_serve(rt, rt, databases, database, *terms, out, err)
+        }
+        Task::Export(database) => export(rt, databases, database, out),
         Task::Explain(words) => explain(words, out),
     }
 }
 
 // Runs `load`. The instance's file is read before the database is opened.
-fn load<'a, T: Texts, W: Write>(
+fn load<'a, S: Alter, T: Texts, D: Databases<Opened = Connection<S>>, W: Write>(
     rt: &HostRuntime,
     files: &T,
+    databases: &mut D,
     database: &str,
     instance: &'a str,
     out: &mut W,
@@ -203,6 +240,10 @@ fn load<'a, T: Texts, W: Write>(
     ensures printed { IfOk result (λ _. (text : List ℕ)
         × IsTextOf (T.known files.now instance.now) text
         × PrintsCounts text (W.contents out.old) (W.contents out.new)) }
+    ensures uses { IfOk result (λ _. (text : List ℕ)
+        × IsTextOf (T.known files.now instance.now) text
+        × UsesDatabase (D.known databases.old database.now) (D.known databases.new database.now)
+        (LoadsIn S.Store text (W.contents out.old) (W.contents out.new))) }
 
     // A line that names a file names the instance's.
     ensures fault { IfErr result (IsOfLoad instance.now (T.known files.now)) }
@@ -211,7 +252,7 @@ fn load<'a, T: Texts, W: Write>(
 {
     announce(rt, LongWork::Loading(instance));
     match text_at(rt.alloc(), files, instance) {
-        Ok(text) => load_text(rt, database, &text, out),
+        Ok(text) => load_text(rt, databases, database, &text, out),
         Err(fault) => Err(fault_of_input(fault, instance)),
     }
 }
@@ -228,9 +269,10 @@ fn text_at<T: Texts>(alloc: Global, files: &T, path: &str) -> Result<Vec<u8>, In
     instance_text(alloc, &mut file)
 }
 
-// Loads an instance's text into the office of a database's file.
-fn load_text<'a, W: Write>(
+// Loads an instance's text into the office of the database at a path.
+fn load_text<'a, S: Alter, D: Databases<Opened = Connection<S>>, W: Write>(
     rt: &HostRuntime,
+    databases: &mut D,
     database: &str,
     text: &[u8],
     out: &mut W,
@@ -238,24 +280,25 @@ fn load_text<'a, W: Write>(
     ensures status { IfOk result (λ ending. ending.status ≡ 0) }
     ensures printed { IfOk result (λ _.
         PrintsCounts text.now (W.contents out.old) (W.contents out.new)) }
+    ensures uses { IfOk result (λ _. UsesDatabase (D.known databases.old database.now)
+        (D.known databases.new database.now)
+        (LoadsIn S.Store text.now (W.contents out.old) (W.contents out.new))) }
     ensures fault { IfErr result (IsOfOffice text.now) }
     ensures unwritten { IfErr result (λ fault. fault ≢ ProgramFault.CannotWrite
         → Keeps (W.contents out.old) (W.contents out.new)) }
 {
-    announce(rt, LongWork::Opening(database));
-    let conn = match office_database::open(rt, database) {
+    let conn = match databases.open_database(database) {
         Ok(conn) => conn,
         Err(error) => return Err(fault_of_open(error)),
     };
     announce_upgrade(rt, database, &conn);
-    // A log that can't be copied into the file stays next to it, and is read there.
     match load_run(rt.alloc(), conn, text, out) {
         Ok(conn) => {
-            let _ = conn.close();
+            databases.take_back(database, conn);
             Ok(Ending::quiet(0))
         }
         Err((fault, conn)) => {
-            let _ = conn.close();
+            databases.take_back(database, conn);
             Err(fault_of_load(fault))
         }
     }

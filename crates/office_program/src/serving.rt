@@ -4,14 +4,16 @@ ghost use Rattle.std.specs.Duration.{as_nanos};
 ghost use Rattle.std.specs.Io.KnownBytes.{Appends, Keeps};
 ghost use Rattle.office_connections.specs.Clients.{AreOfClients};
 ghost use Rattle.office_connections.specs.Lines.{listening_line};
+ghost use Rattle.office_program.specs.Databases.{UsesDatabase, ServesIn};
 ghost use Rattle.office_program.specs.Serve.{AreOfPort, FileServes, IsStoreShut, LeavesPort};
 ghost use Rattle.office_program.specs.Serve.{OfficeServes, PrintsServed, ServesTerms};
 ghost use Rattle.office_program.specs.TaskFaults.{IsOfServe};
 
 use crate::answering::ServingDesk;
+use crate::databases::Databases;
 use crate::ending::Ending;
 use crate::faults::{ProgramFault, fault_of_open, fault_of_run};
-use crate::notices::{LongWork, announce, announce_new, announce_upgrade};
+use crate::notices::{announce_new, announce_upgrade};
 use crate::words::Terms;
 use office_connections::{Clients, Plan, Ports, Timed, announce_and_accept};
 use office_http::{Alter, Connection, Desk, Office, Routes};
@@ -22,6 +24,8 @@ use std::time::Duration;
 // Runs `serve`. It opens the database, and finds or creates its office, before it opens the port.
 pub(crate) fn open_and_serve<
     'a,
+    S: Alter,
+    D: Databases<Opened = Connection<S>>,
     R: Read + Timed + Drop,
     W: Write + Timed + Drop,
     I: Clients<Reader = R, Writer = W> + Drop,
@@ -31,11 +35,16 @@ pub(crate) fn open_and_serve<
 >(
     rt: &HostRuntime,
     net: &N,
+    databases: &mut D,
     database: &str,
     terms: Terms,
     out: &mut O,
     err: &mut E,
 ) -> Result<Ending, ProgramFault<'a>>
+    // As many connections as the terms say were served by the office of the database at the path,
+    // and it holds the office that they led to.
+    ensures uses { IfOk result (λ _. UsesDatabase (D.known databases.old database.now)
+        (D.known databases.new database.now) (ServesIn S.Store terms)) }
     // As for `serve_office`, but for the office: as many clients of the port are served as the terms
     // say, or the fault says why not.
     ensures reached { ServesTerms
@@ -49,8 +58,7 @@ pub(crate) fn open_and_serve<
         (LeavesPort terms (O.contents out.old) (O.contents out.new)) }
 {
     let is_new = fs::metadata(rt, database).is_err();
-    announce(rt, LongWork::Opening(database));
-    let conn = match office_database::open(rt, database) {
+    let conn = match databases.open_database(database) {
         Ok(conn) => conn,
         Err(error) => return Err(fault_of_open(error)),
     };
@@ -59,8 +67,7 @@ pub(crate) fn open_and_serve<
     }
     announce_upgrade(rt, database, &conn);
     let (conn, done) = serve_office(rt, net, database, conn, terms, out, err);
-    // A log that can't be copied into the file stays next to it, and is read there.
-    let _ = conn.close();
+    databases.take_back(database, conn);
     done
 }
 

@@ -87,3 +87,23 @@ returns-in-Places-clause-done g c =
       of_second = search rules;
       texts = done.texts;
     })) c.list_places.ensures.listed
+
+-- the database that a task names
+pub returns-in-Load-clause-uses : goal.returns-in-Load-clause-uses
+returns-in-Load-clause-uses g c =
+    if_ok c.load.result _ _
+    (λ ending used zero.
+    rw (c.in-Load.is, ← c.deref-in-Load.ensures, ← c.deref-in-Load-2.ensures) used)
+    c.load.ensures.uses
+
+pub returns-in-Serve-clause-uses : goal.returns-in-Serve-clause-uses
+returns-in-Serve-clause-uses g c =
+    if_ok c.open_and_serve.result _ _
+    (λ ending used zero. rw (c.in-Serve.is, ← c.deref-in-Serve.ensures) used)
+    c.open_and_serve.ensures.uses
+
+pub returns-in-Export-clause-uses : goal.returns-in-Export-clause-uses
+returns-in-Export-clause-uses g c =
+    if_ok c.export.result _ _
+    (λ ending used zero. rw (c.in-Export.is, ← c.deref-in-Export.ensures) used)
+    c.export.ensures.uses

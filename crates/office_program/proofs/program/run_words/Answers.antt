@@ -29,3 +29,8 @@ returns-clause-err_line g c = λ one. inl (
     printed = c.in-Err-run_task.ensures.unwritten;
   },
 )
+
+-- and moves the database that it names
+pub returns-in-Ok-run_task-clause-uses : goal.returns-in-Ok-run_task-clause-uses
+returns-in-Ok-run_task-clause-uses g c = λ zero valid.
+    (c.in-Ok.task, c.in-Ok.ensures.task, c.in-Ok-run_task.ensures.uses zero)

@@ -1,0 +1,118 @@
+// Databases by their paths.
+ghost use Rattle.std.specs.Prelude.{ℕ, IfErr, IfOk, IfSome, List, Option, ⊤};
+ghost use Rattle.office_program.specs.Databases.{IsAt, MayFailToOpen};
+
+use crate::notices::{LongWork, announce};
+use sqlite::{Connection, Error, ErrorCode, File, FileStore};
+use std::fs;
+use std::io::{ErrorKind, Read};
+
+/// Databases by their paths.
+pub trait Databases {
+    /// The connection to a database.
+    type Opened;
+
+    // What is known of the database at a path: nothing; that it can't be opened; or its connection.
+    ghost known: { Self → List ℕ → Option (Option Self.Opened) };
+
+    // The connection to the database at a path may be given back.
+    ghost has_place: { Self → List ℕ → Type 0 };
+
+    /// Opens the database at a path, or makes one.
+    fn open_database(&mut self, path: &str) -> Result<Self::Opened, Error>
+        ensures opened { IfOk result (λ conn. IsAt (known self.old path.now) conn) }
+        ensures place { IfOk result (λ _. has_place self.new path.now) }
+        ensures failed { IfErr result (λ _. MayFailToOpen (known self.old path.now)) };
+
+    /// Opens the database at a path, and makes none. `None`: the file is empty.
+    fn find_database(&mut self, path: &str) -> Result<Option<Self::Opened>, Error>
+        ensures opened { IfOk result (λ found. IfSome found (λ conn.
+            IsAt (known self.old path.now) conn)) }
+        ensures place { IfOk result (λ found. IfSome found (λ _. has_place self.new path.now)) }
+        ensures failed { IfErr result (λ _. MayFailToOpen (known self.old path.now)) };
+
+    /// Takes back the connection to the database at a path.
+    fn take_back(&mut self, path: &str, conn: Self::Opened)
+        requires place { has_place self.old path.now }
+        ensures back { IsAt (known self.new path.now) conn };
+}
+
+/// The databases in the files of the system.
+#[derive(Drop)]
+pub struct SystemDatabases<'a> {
+    pub rt: &'a HostRuntime,
+}
+
+impl Databases for SystemDatabases<'_> {
+    ghost use Rattle.std.specs.Prelude.{⊤, None};
+
+    type Opened = Connection<FileStore<File>>;
+
+    // No clause of the system says what a file holds.
+    ghost known = { λ databases path. None };
+
+    ghost has_place = { λ databases path. ⊤ };
+
+    fn open_database(&mut self, path: &str) -> Result<Connection<FileStore<File>>, Error> {
+        announce(self.rt, LongWork::Opening(path));
+        office_database::open(self.rt, path)
+    }
+
+    fn find_database(&mut self, path: &str) -> Result<Option<Connection<FileStore<File>>>, Error> {
+        if !is_database(self.rt, path)? {
+            return Ok(None);
+        }
+        announce(self.rt, LongWork::Opening(path));
+        let conn = office_database::open(self.rt, path)?;
+        Ok(Some(conn))
+    }
+
+    fn take_back(&mut self, path: &str, conn: Connection<FileStore<File>>)
+        ensures back { ⊤ }
+    {
+        // A log that can't be copied into the file stays next to it, and is read there.
+        let _ = conn.close();
+    }
+}
+
+// Returns whether the file of a path may be a database; an empty one is none. Opening another file
+// would leave a log beside it.
+fn is_database(rt: &HostRuntime, path: &str) -> Result<bool, Error> {
+    let Ok(found) = fs::metadata(rt, path) else {
+        return Err(Error::SqliteFailure(ErrorCode::CannotOpen));
+    };
+    if has_log(rt, path) {
+        return Ok(true);
+    }
+    if found.len() == 0 {
+        return Ok(false);
+    }
+    if begins_as_database(rt, path) {
+        Ok(true)
+    } else {
+        Err(Error::SqliteFailure(ErrorCode::NotADatabase))
+    }
+}
+
+// Returns whether a log with content is beside a database's file: the file alone says nothing then.
+fn has_log(rt: &HostRuntime, database: &str) -> bool {
+    let Ok(log) = format!(in rt.alloc(); "{database}-wal") else {
+        return true;
+    };
+    match fs::metadata(rt, log.as_str()) {
+        Ok(found) => found.len() != 0,
+        Err(_) => false,
+    }
+}
+
+// Returns whether a file begins as those of databases do. One that can't be read may be a database.
+fn begins_as_database(rt: &HostRuntime, path: &str) -> bool {
+    let Ok(mut file) = fs::open(rt, path) else {
+        return true;
+    };
+    let mut bytes = [0u8; 16];
+    match file.read_exact(&mut bytes) {
+        Ok(()) => bytes == *b"SQLite format 3\0",
+        Err(error) => error.kind() != ErrorKind::UnexpectedEof,
+    }
+}
