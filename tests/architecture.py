@@ -23,6 +23,7 @@ SQLITE_NAMERS = SQL_CRATES | {
     "office_program",
     "worked_offices",
     "worked_desks",
+    "worked_runs",
 }
 
 STATEMENT = re.compile(
