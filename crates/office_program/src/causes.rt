@@ -153,9 +153,20 @@ fn print_faulty<W: Write>(
             writeln!(out, "{input} line {line}: {words}: {shown}")
         }
         None => {
-            let words = words_in_short(what);
-            writeln!(out, "{input} line {line}: {words}")
+            let (words, mark) = (words_in_short(what), mark_before(input, fault));
+            writeln!(out, "{input} line {line}: {words}{mark}")
         }
+    }
+}
+
+// Says that a byte order mark may be what is wrong with the first line of standard input, which
+// isn't kept.
+fn mark_before(input: Input<'_>, fault: FileFault) -> &'static str {
+    match (input, fault.line, fault.what) {
+        (Input::Stdin, 1, FaultKind::MissingSection | FaultKind::BadNumber) => {
+            ", or a byte order mark is in front of the text"
+        }
+        _ => "",
     }
 }
 
