@@ -7,6 +7,9 @@ use exam_rules::{Breach, BreachRule};
 use exam_score::Parts;
 use std::alloc::{AllocError, Global};
 
+// The bytes that a penalty report has room for at first: more than those of most reports.
+const PENALTY_ROOM: usize = 192;
+
 /// Returns the violation report: the number of breaches, then a line for each.
 pub fn violation_report(alloc: Global, breaches: &[Breach]) -> Result<String, AllocError>
     ensures { IfOk result (λ text. string_bytes text ≡ violation_text breaches.now) }
@@ -48,7 +51,7 @@ pub fn rule_name(rule: BreachRule) -> &'static str
 pub fn penalty_report(alloc: Global, parts: Parts) -> Result<String, AllocError>
     ensures { IfOk result (λ text. string_bytes text ≡ penalty_text parts) }
 {
-    let mut text = String::new(alloc);
+    let mut text = String::with_capacity(alloc, PENALTY_ROOM)?;
     add_number(&mut text, "two in a row", parts.row())?;
     add_number(&mut text, "two in a day", parts.day())?;
     add_number(&mut text, "period spread", parts.spread())?;

@@ -23,7 +23,7 @@ all_lines p row day spread night mixed front period room total t0 t1 t2 t3 t4 t5
 
 pub returns : goal.returns
 returns c =
-    all_lines c.args.parts _ _ _ _ _ _ _ _ _ _ _ _ _ _ _ _ _ _ _ c.new-text.ensures.bytes
+    all_lines c.args.parts _ _ _ _ _ _ _ _ _ _ _ _ _ _ _ _ _ _ _ c.in_ok-text.ensures.bytes
     c.in_ok-add_number.ensures c.row.ensures c.in_ok-add_number-2.ensures c.day.ensures
     c.in_ok-add_number-3.ensures c.spread.ensures c.in_ok-add_number-4.ensures c.night.ensures
     c.in_ok-add_number-5.ensures c.mixed.ensures c.in_ok-add_number-6.ensures c.front.ensures
