@@ -13,6 +13,7 @@ use Rattle.sqlite_schema.specs.declared.schema.Kind.{Kind}
 use Rattle.sqlite_schema.specs.declared.schema.Kind.TheVariants.{Integer, Blob}
 use Rattle.sqlite_schema.specs.declared.schema.Schema.{Schema}
 use Rattle.sqlite_schema.specs.declared.schema.Table.{Table}
+use Rattle.office_schema.specs.declared.parts.Declared.{Declared}
 use Rattle.office_schema.specs.declared.parts.TableKey.{TableKey}
 use Rattle.office_schema.specs.declared.parts.TableKey.TheVariants.{Number, Pair, PairAndTriple}
 
@@ -80,6 +81,10 @@ abbrev pub table_by : TableKey → List ℕ → ℕ → List Column → Table
 table_by Number = keyed_table
 table_by Pair = paired_table
 table_by PairAndTriple = seated_table
+
+-- the table that the code declares
+abbrev pub declared_table : Declared → Table
+declared_table d = table_by d.key d.name.now d.tree (columns_of d.columns.now)
 
 -- a table has this key, and no other
 abbrev pub HasKey : TableKey → Table → Type 0

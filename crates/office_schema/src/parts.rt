@@ -11,7 +11,18 @@ use sqlite_value::keys::{Collation, Order};
 use sqlite_value::value::Value;
 use std::alloc::{AllocError, Global};
 
+// A table of an office: its name, the tree of its rows, its key, and the names and kinds of its
+// columns.
+#[derive(Clone, Copy)]
+pub(crate) struct Declared {
+    pub name: &'static str,
+    pub tree: u32,
+    pub key: TableKey,
+    pub columns: &'static [(&'static str, Kind)],
+}
+
 // The columns of a table that are its key.
+#[derive(Clone, Copy)]
 pub(crate) enum TableKey {
     // The first column, which is the row's number.
     Number,

@@ -1,11 +1,134 @@
 // Whether a schema is that of an office: it has its tables, their five indexes, and nothing else.
-ghost use Rattle.std.specs.Prelude.{◌≡◌, ◌↔◌, [], ◌∷◌, drop, IfOk, IsTrue};
-ghost use Rattle.office_schema.specs.Schema.{office_schema, schema_before};
-ghost use Rattle.office_schema.specs.Schema.{meta_table, owner_table, enrol_table, draft_table, slot_table, placed_table, seat_table, share_student_table, share_part_table, batch_table, night_draft_table, night_share_table};
+ghost use Rattle.std.specs.Prelude.{◌≡◌, ◌↔◌, [], ◌∷◌, drop, map, IfOk, IsTrue};
+ghost use Rattle.office_schema.specs.Schema.{declared_table, office_schema, schema_before};
 
-use crate::parts::{TableKey, is_pair_index, is_seat_index, is_table};
+use crate::parts::{Declared, TableKey, is_pair_index, is_seat_index, is_table};
 use sqlite_schema::schema::{Index, Kind, Schema, Table};
 use std::alloc::{AllocError, Global};
+
+// The tables of version 2 in their order: those of version 1, and then those of amounts over night.
+const TABLES: [Declared; 12] = [
+    Declared {
+        name: "meta",
+        tree: 0,
+        key: TableKey::Number,
+        columns: &[
+            ("id", Kind::Integer),
+            ("version", Kind::Integer),
+            ("published", Kind::Integer),
+            ("instance", Kind::Blob),
+        ],
+    },
+    Declared {
+        name: "owner",
+        tree: 1,
+        key: TableKey::Number,
+        columns: &[("exam", Kind::Integer), ("dept", Kind::Integer)],
+    },
+    Declared {
+        name: "enrol",
+        tree: 2,
+        key: TableKey::Pair,
+        columns: &[("student", Kind::Integer), ("exam", Kind::Integer)],
+    },
+    Declared {
+        name: "draft",
+        tree: 4,
+        key: TableKey::Number,
+        columns: &[
+            ("no", Kind::Integer),
+            ("in_row", Kind::Integer),
+            ("in_day", Kind::Integer),
+            ("spread", Kind::Integer),
+            ("mixed", Kind::Integer),
+            ("front", Kind::Integer),
+            ("period", Kind::Integer),
+            ("room", Kind::Integer),
+        ],
+    },
+    Declared {
+        name: "slot",
+        tree: 5,
+        key: TableKey::Pair,
+        columns: &[
+            ("draft", Kind::Integer),
+            ("exam", Kind::Integer),
+            ("period", Kind::Integer),
+            ("room", Kind::Integer),
+        ],
+    },
+    Declared {
+        name: "placed",
+        tree: 7,
+        key: TableKey::Number,
+        columns: &[
+            ("exam", Kind::Integer),
+            ("period", Kind::Integer),
+            ("room", Kind::Integer),
+        ],
+    },
+    Declared {
+        name: "seat",
+        tree: 8,
+        key: TableKey::PairAndTriple,
+        columns: &[
+            ("student", Kind::Integer),
+            ("exam", Kind::Integer),
+            ("period", Kind::Integer),
+            ("room", Kind::Integer),
+            ("seat", Kind::Integer),
+        ],
+    },
+    Declared {
+        name: "share_student",
+        tree: 11,
+        key: TableKey::Number,
+        columns: &[
+            ("student", Kind::Integer),
+            ("in_row", Kind::Integer),
+            ("in_day", Kind::Integer),
+            ("spread", Kind::Integer),
+        ],
+    },
+    Declared {
+        name: "share_part",
+        tree: 12,
+        key: TableKey::Pair,
+        columns: &[
+            ("kind", Kind::Integer),
+            ("no", Kind::Integer),
+            ("penalty", Kind::Integer),
+            ("mixed", Kind::Integer),
+        ],
+    },
+    Declared {
+        name: "batch",
+        tree: 14,
+        key: TableKey::Number,
+        columns: &[
+            ("no", Kind::Integer),
+            ("bytes", Kind::Blob),
+            ("added", Kind::Integer),
+            ("dropped", Kind::Integer),
+            ("unchanged", Kind::Integer),
+        ],
+    },
+    Declared {
+        name: "night_draft",
+        tree: 15,
+        key: TableKey::Number,
+        columns: &[("no", Kind::Integer), ("night", Kind::Integer)],
+    },
+    Declared {
+        name: "night_share",
+        tree: 16,
+        key: TableKey::Number,
+        columns: &[("student", Kind::Integer), ("night", Kind::Integer)],
+    },
+];
+
+// The number of tables of version 1.
+const TABLES_BEFORE: usize = 10;
 
 /// Returns whether this is the schema of an office's file, version 2: the twelve tables in their
 /// order and trees, their indexes, and no other table, view, index or trigger.
@@ -13,7 +136,7 @@ pub fn is_office_schema(alloc: Global, schema: &Schema) -> Result<bool, AllocErr
     ensures { IfOk result (λ is. IsTrue is ↔ (schema.now ≡ office_schema)) }
 {
     Ok(
-        has_tables(alloc, schema.tables.as_slice())?
+        are_tables(alloc, schema.tables.as_slice(), &TABLES)?
             && has_indexes(schema.indexes.as_slice())
             && schema.views.is_empty(),
     )
@@ -24,106 +147,30 @@ pub fn is_schema_before(alloc: Global, schema: &Schema) -> Result<bool, AllocErr
     ensures { IfOk result (λ is. IsTrue is ↔ (schema.now ≡ schema_before)) }
 {
     Ok(
-        has_tables_before(alloc, schema.tables.as_slice())?
+        are_tables(alloc, schema.tables.as_slice(), &TABLES[..TABLES_BEFORE])?
             && has_indexes(schema.indexes.as_slice())
             && schema.views.is_empty(),
     )
 }
 
-fn has_tables(alloc: Global, tables: &[Table]) -> Result<bool, AllocError>
-    ensures { IfOk result (λ is. IsTrue is ↔ (tables.now ≡ office_schema.tables)) }
+// Returns whether these are the declared tables, in their order.
+fn are_tables(alloc: Global, tables: &[Table], wanted: &[Declared]) -> Result<bool, AllocError>
+    ensures { IfOk result (λ is. IsTrue is ↔ (tables.now ≡ map declared_table wanted.now)) }
 {
-    let [meta, owner, enrol, draft, slot, rest @ ..] = tables else {
-        return Ok(false);
-    };
-    Ok(
-        has_session_tables(alloc, meta, owner, enrol)?
-            && is_draft(alloc, draft)?
-            && is_slot(alloc, slot)?
-            && has_later_tables(alloc, rest)?,
-    )
-}
-
-fn has_tables_before(alloc: Global, tables: &[Table]) -> Result<bool, AllocError>
-    ensures { IfOk result (λ is. IsTrue is ↔ (tables.now ≡ schema_before.tables)) }
-{
-    let [meta, owner, enrol, draft, slot, rest @ ..] = tables else {
-        return Ok(false);
-    };
-    Ok(
-        has_session_tables(alloc, meta, owner, enrol)?
-            && is_draft(alloc, draft)?
-            && is_slot(alloc, slot)?
-            && has_later_tables_before(alloc, rest)?,
-    )
-}
-
-fn has_session_tables(
-    alloc: Global,
-    meta: &Table,
-    owner: &Table,
-    enrol: &Table,
-) -> Result<bool, AllocError>
-    ensures { IfOk result (λ is. IsTrue is ↔ ((meta.now ≡ meta_table)
-        × (owner.now ≡ owner_table) × (enrol.now ≡ enrol_table))) }
-{
-    Ok(is_meta(alloc, meta)? && is_owner(alloc, owner)? && is_enrol(alloc, enrol)?)
-}
-
-// Returns whether these are the tables of the publication, of batches and of amounts over night.
-fn has_later_tables(alloc: Global, tables: &[Table]) -> Result<bool, AllocError>
-    ensures { IfOk result (λ is. IsTrue is ↔ (tables.now ≡ drop 5 office_schema.tables)) }
-{
-    let [
-        placed,
-        seat,
-        share_student,
-        share_part,
-        batch,
-        night_draft,
-        night_share,
-    ] = tables
-    else {
-        return Ok(false);
-    };
-    Ok(
-        has_publication_tables(alloc, placed, seat, share_student, share_part)?
-            && is_batch(alloc, batch)?
-            && is_night_draft(alloc, night_draft)?
-            && is_night_share(alloc, night_share)?,
-    )
-}
-
-// Returns whether these are the tables of the publication and of batches.
-fn has_later_tables_before(alloc: Global, tables: &[Table]) -> Result<bool, AllocError>
-    ensures { IfOk result (λ is. IsTrue is ↔ (tables.now ≡ drop 5 schema_before.tables)) }
-{
-    let [placed, seat, share_student, share_part, batch] = tables else {
-        return Ok(false);
-    };
-    Ok(
-        has_publication_tables(alloc, placed, seat, share_student, share_part)?
-            && is_batch(alloc, batch)?,
-    )
-}
-
-fn has_publication_tables(
-    alloc: Global,
-    placed: &Table,
-    seat: &Table,
-    share_student: &Table,
-    share_part: &Table,
-) -> Result<bool, AllocError>
-    ensures { IfOk result (λ is. IsTrue is ↔ ((placed.now ≡ placed_table)
-        × (seat.now ≡ seat_table) × (share_student.now ≡ share_student_table)
-        × (share_part.now ≡ share_part_table))) }
-{
-    Ok(
-        is_placed(alloc, placed)?
-            && is_seat(alloc, seat)?
-            && is_share_student(alloc, share_student)?
-            && is_share_part(alloc, share_part)?,
-    )
+    match (tables, wanted) {
+        ([], []) => Ok(true),
+        ([table, tables @ ..], [first, wanted @ ..]) => Ok(
+            is_table(
+                alloc,
+                table,
+                first.name,
+                first.tree,
+                first.key,
+                first.columns,
+            )? && are_tables(alloc, tables, wanted)?,
+        ),
+        _ => Ok(false),
+    }
 }
 
 fn has_indexes(indexes: &[Index]) -> bool
@@ -151,140 +198,4 @@ fn has_publication_indexes(indexes: &[Index]) -> bool
             13,
             12,
         )
-}
-
-fn is_meta(alloc: Global, table: &Table) -> Result<bool, AllocError>
-    ensures { IfOk result (λ is. IsTrue is ↔ (table.now ≡ meta_table)) }
-{
-    let columns = [
-        ("id", Kind::Integer),
-        ("version", Kind::Integer),
-        ("published", Kind::Integer),
-        ("instance", Kind::Blob),
-    ];
-    is_table(alloc, table, "meta", 0, TableKey::Number, &columns)
-}
-
-fn is_owner(alloc: Global, table: &Table) -> Result<bool, AllocError>
-    ensures { IfOk result (λ is. IsTrue is ↔ (table.now ≡ owner_table)) }
-{
-    let columns = [("exam", Kind::Integer), ("dept", Kind::Integer)];
-    is_table(alloc, table, "owner", 1, TableKey::Number, &columns)
-}
-
-fn is_enrol(alloc: Global, table: &Table) -> Result<bool, AllocError>
-    ensures { IfOk result (λ is. IsTrue is ↔ (table.now ≡ enrol_table)) }
-{
-    let columns = [("student", Kind::Integer), ("exam", Kind::Integer)];
-    is_table(alloc, table, "enrol", 2, TableKey::Pair, &columns)
-}
-
-fn is_draft(alloc: Global, table: &Table) -> Result<bool, AllocError>
-    ensures { IfOk result (λ is. IsTrue is ↔ (table.now ≡ draft_table)) }
-{
-    let columns = [
-        ("no", Kind::Integer),
-        ("in_row", Kind::Integer),
-        ("in_day", Kind::Integer),
-        ("spread", Kind::Integer),
-        ("mixed", Kind::Integer),
-        ("front", Kind::Integer),
-        ("period", Kind::Integer),
-        ("room", Kind::Integer),
-    ];
-    is_table(alloc, table, "draft", 4, TableKey::Number, &columns)
-}
-
-fn is_slot(alloc: Global, table: &Table) -> Result<bool, AllocError>
-    ensures { IfOk result (λ is. IsTrue is ↔ (table.now ≡ slot_table)) }
-{
-    let columns = [
-        ("draft", Kind::Integer),
-        ("exam", Kind::Integer),
-        ("period", Kind::Integer),
-        ("room", Kind::Integer),
-    ];
-    is_table(alloc, table, "slot", 5, TableKey::Pair, &columns)
-}
-
-fn is_placed(alloc: Global, table: &Table) -> Result<bool, AllocError>
-    ensures { IfOk result (λ is. IsTrue is ↔ (table.now ≡ placed_table)) }
-{
-    let columns = [
-        ("exam", Kind::Integer),
-        ("period", Kind::Integer),
-        ("room", Kind::Integer),
-    ];
-    is_table(alloc, table, "placed", 7, TableKey::Number, &columns)
-}
-
-fn is_seat(alloc: Global, table: &Table) -> Result<bool, AllocError>
-    ensures { IfOk result (λ is. IsTrue is ↔ (table.now ≡ seat_table)) }
-{
-    let columns = [
-        ("student", Kind::Integer),
-        ("exam", Kind::Integer),
-        ("period", Kind::Integer),
-        ("room", Kind::Integer),
-        ("seat", Kind::Integer),
-    ];
-    is_table(alloc, table, "seat", 8, TableKey::PairAndTriple, &columns)
-}
-
-fn is_share_student(alloc: Global, table: &Table) -> Result<bool, AllocError>
-    ensures { IfOk result (λ is. IsTrue is ↔ (table.now ≡ share_student_table)) }
-{
-    let columns = [
-        ("student", Kind::Integer),
-        ("in_row", Kind::Integer),
-        ("in_day", Kind::Integer),
-        ("spread", Kind::Integer),
-    ];
-    is_table(
-        alloc,
-        table,
-        "share_student",
-        11,
-        TableKey::Number,
-        &columns,
-    )
-}
-
-fn is_share_part(alloc: Global, table: &Table) -> Result<bool, AllocError>
-    ensures { IfOk result (λ is. IsTrue is ↔ (table.now ≡ share_part_table)) }
-{
-    let columns = [
-        ("kind", Kind::Integer),
-        ("no", Kind::Integer),
-        ("penalty", Kind::Integer),
-        ("mixed", Kind::Integer),
-    ];
-    is_table(alloc, table, "share_part", 12, TableKey::Pair, &columns)
-}
-
-fn is_batch(alloc: Global, table: &Table) -> Result<bool, AllocError>
-    ensures { IfOk result (λ is. IsTrue is ↔ (table.now ≡ batch_table)) }
-{
-    let columns = [
-        ("no", Kind::Integer),
-        ("bytes", Kind::Blob),
-        ("added", Kind::Integer),
-        ("dropped", Kind::Integer),
-        ("unchanged", Kind::Integer),
-    ];
-    is_table(alloc, table, "batch", 14, TableKey::Number, &columns)
-}
-
-fn is_night_draft(alloc: Global, table: &Table) -> Result<bool, AllocError>
-    ensures { IfOk result (λ is. IsTrue is ↔ (table.now ≡ night_draft_table)) }
-{
-    let columns = [("no", Kind::Integer), ("night", Kind::Integer)];
-    is_table(alloc, table, "night_draft", 15, TableKey::Number, &columns)
-}
-
-fn is_night_share(alloc: Global, table: &Table) -> Result<bool, AllocError>
-    ensures { IfOk result (λ is. IsTrue is ↔ (table.now ≡ night_share_table)) }
-{
-    let columns = [("student", Kind::Integer), ("night", Kind::Integer)];
-    is_table(alloc, table, "night_share", 16, TableKey::Number, &columns)
 }
