@@ -2,6 +2,7 @@
 #![tactic(auto)]
 
 mod parts;
+mod tables;
 mod whole;
 
 pub use whole::{is_office_schema, is_schema_before};

@@ -3,129 +3,33 @@ ghost use Rattle.std.specs.Prelude.{◌≡◌, ◌↔◌, [], ◌∷◌, drop, m
 ghost use Rattle.office_schema.specs.Schema.{declared_table, office_schema, schema_before};
 
 use crate::parts::{Declared, TableKey, is_pair_index, is_seat_index, is_table};
+use crate::tables;
 use sqlite_schema::schema::{Index, Kind, Schema, Table};
 use std::alloc::{AllocError, Global};
 
-// The tables of version 2 in their order: those of version 1, and then those of amounts over night.
-const TABLES: [Declared; 12] = [
-    Declared {
-        name: "meta",
-        tree: 0,
-        key: TableKey::Number,
-        columns: &[
-            ("id", Kind::Integer),
-            ("version", Kind::Integer),
-            ("published", Kind::Integer),
-            ("instance", Kind::Blob),
-        ],
-    },
-    Declared {
-        name: "owner",
-        tree: 1,
-        key: TableKey::Number,
-        columns: &[("exam", Kind::Integer), ("dept", Kind::Integer)],
-    },
-    Declared {
-        name: "enrol",
-        tree: 2,
-        key: TableKey::Pair,
-        columns: &[("student", Kind::Integer), ("exam", Kind::Integer)],
-    },
-    Declared {
-        name: "draft",
-        tree: 4,
-        key: TableKey::Number,
-        columns: &[
-            ("no", Kind::Integer),
-            ("in_row", Kind::Integer),
-            ("in_day", Kind::Integer),
-            ("spread", Kind::Integer),
-            ("mixed", Kind::Integer),
-            ("front", Kind::Integer),
-            ("period", Kind::Integer),
-            ("room", Kind::Integer),
-        ],
-    },
-    Declared {
-        name: "slot",
-        tree: 5,
-        key: TableKey::Pair,
-        columns: &[
-            ("draft", Kind::Integer),
-            ("exam", Kind::Integer),
-            ("period", Kind::Integer),
-            ("room", Kind::Integer),
-        ],
-    },
-    Declared {
-        name: "placed",
-        tree: 7,
-        key: TableKey::Number,
-        columns: &[
-            ("exam", Kind::Integer),
-            ("period", Kind::Integer),
-            ("room", Kind::Integer),
-        ],
-    },
-    Declared {
-        name: "seat",
-        tree: 8,
-        key: TableKey::PairAndTriple,
-        columns: &[
-            ("student", Kind::Integer),
-            ("exam", Kind::Integer),
-            ("period", Kind::Integer),
-            ("room", Kind::Integer),
-            ("seat", Kind::Integer),
-        ],
-    },
-    Declared {
-        name: "share_student",
-        tree: 11,
-        key: TableKey::Number,
-        columns: &[
-            ("student", Kind::Integer),
-            ("in_row", Kind::Integer),
-            ("in_day", Kind::Integer),
-            ("spread", Kind::Integer),
-        ],
-    },
-    Declared {
-        name: "share_part",
-        tree: 12,
-        key: TableKey::Pair,
-        columns: &[
-            ("kind", Kind::Integer),
-            ("no", Kind::Integer),
-            ("penalty", Kind::Integer),
-            ("mixed", Kind::Integer),
-        ],
-    },
-    Declared {
-        name: "batch",
-        tree: 14,
-        key: TableKey::Number,
-        columns: &[
-            ("no", Kind::Integer),
-            ("bytes", Kind::Blob),
-            ("added", Kind::Integer),
-            ("dropped", Kind::Integer),
-            ("unchanged", Kind::Integer),
-        ],
-    },
-    Declared {
-        name: "night_draft",
-        tree: 15,
-        key: TableKey::Number,
-        columns: &[("no", Kind::Integer), ("night", Kind::Integer)],
-    },
-    Declared {
-        name: "night_share",
-        tree: 16,
-        key: TableKey::Number,
-        columns: &[("student", Kind::Integer), ("night", Kind::Integer)],
-    },
-];
+// Returns the declaration of a table.
+macro_rules! declared {
+    ($name:ident $tree:literal $key:ident [$($column:ident $kind:ident),*]) => {
+        Declared {
+            name: stringify!($name),
+            tree: $tree,
+            key: TableKey::$key,
+            columns: &[$((stringify!($column), kind_of!($kind))),*],
+        }
+    };
+}
+
+// Returns the kind that a word of SQL names.
+macro_rules! kind_of {
+    (INTEGER) => {
+        Kind::Integer
+    };
+    (BLOB) => {
+        Kind::Blob
+    };
+}
+
+const TABLES: [Declared; 12] = tables!(declared);
 
 // The number of tables of version 1.
 const TABLES_BEFORE: usize = 10;
