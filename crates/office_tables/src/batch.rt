@@ -10,6 +10,8 @@ use crate::listing::read_table;
 use crate::records::Record;
 use crate::running::run;
 use crate::streaming::stream;
+use crate::texts::{insert, record, select};
+use office_schema::table;
 use sqlite::{Alter, Connection, Error, Row, Transaction, params};
 use std::alloc::Global;
 
@@ -42,13 +44,7 @@ impl Record for BatchRow {
     const WIDTH: usize = 5;
 
     fn read(row: &Row) -> Result<BatchRow, Error> {
-        Ok(BatchRow {
-            no: row.get(0)?,
-            bytes: row.get(1)?,
-            added: row.get(2)?,
-            dropped: row.get(3)?,
-            unchanged: row.get(4)?,
-        })
+        Ok(table!(batch record BatchRow row))
     }
 }
 
@@ -95,7 +91,7 @@ impl Alteration for InsertBatch<'_> {
     fn apply<S: Alter>(&self, tx: &mut Transaction<'_, S>) -> Result<(), Error> {
         run(
             tx,
-            "INSERT INTO batch (no, bytes, added, dropped, unchanged) VALUES (?1, ?2, ?3, ?4, ?5)",
+            table!(batch insert),
             params![
                 self.no,
                 self.bytes,
@@ -122,7 +118,7 @@ pub fn batch_of<S: Alter>(
     let mut found: Vec<BatchRow> = stream(
         alloc,
         conn,
-        "SELECT no, bytes, added, dropped, unchanged FROM batch WHERE no = ?1 ORDER BY no",
+        table!(batch select " WHERE no = ?1 ORDER BY no"),
         params![no],
     )?;
     Ok(found.pop())

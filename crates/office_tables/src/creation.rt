@@ -13,39 +13,15 @@ ghost use Rattle.office_tables.specs.Tables.{empty_tables};
 use crate::altering::Alteration;
 use crate::meta::InsertMeta;
 use crate::running::run;
+use crate::texts::create_text;
+use office_schema::tables;
 use sqlite::{Alter, Connection, Error, Transaction};
 
-// The tables of version 1, in the order of the schema.
-const TABLES: [&str; 10] = [
-    "CREATE TABLE meta (id INTEGER NOT NULL PRIMARY KEY, version INTEGER NOT NULL, published \
-     INTEGER NOT NULL, instance BLOB NOT NULL) STRICT",
-    "CREATE TABLE owner (exam INTEGER NOT NULL PRIMARY KEY, dept INTEGER NOT NULL) STRICT",
-    "CREATE TABLE enrol (student INTEGER NOT NULL, exam INTEGER NOT NULL, PRIMARY KEY (student, \
-     exam)) STRICT",
-    "CREATE TABLE draft (no INTEGER NOT NULL PRIMARY KEY, in_row INTEGER NOT NULL, in_day INTEGER \
-     NOT NULL, spread INTEGER NOT NULL, mixed INTEGER NOT NULL, front INTEGER NOT NULL, period \
-     INTEGER NOT NULL, room INTEGER NOT NULL) STRICT",
-    "CREATE TABLE slot (draft INTEGER NOT NULL, exam INTEGER NOT NULL, period INTEGER NOT NULL, \
-     room INTEGER NOT NULL, PRIMARY KEY (draft, exam)) STRICT",
-    "CREATE TABLE placed (exam INTEGER NOT NULL PRIMARY KEY, period INTEGER NOT NULL, room \
-     INTEGER NOT NULL) STRICT",
-    "CREATE TABLE seat (student INTEGER NOT NULL, exam INTEGER NOT NULL, period INTEGER NOT NULL, \
-     room INTEGER NOT NULL, seat INTEGER NOT NULL, PRIMARY KEY (student, exam), UNIQUE (period, \
-     room, seat)) STRICT",
-    "CREATE TABLE share_student (student INTEGER NOT NULL PRIMARY KEY, in_row INTEGER NOT NULL, \
-     in_day INTEGER NOT NULL, spread INTEGER NOT NULL) STRICT",
-    "CREATE TABLE share_part (kind INTEGER NOT NULL, no INTEGER NOT NULL, penalty INTEGER NOT \
-     NULL, mixed INTEGER NOT NULL, PRIMARY KEY (kind, no)) STRICT",
-    "CREATE TABLE batch (no INTEGER NOT NULL PRIMARY KEY, bytes BLOB NOT NULL, added INTEGER NOT \
-     NULL, dropped INTEGER NOT NULL, unchanged INTEGER NOT NULL) STRICT",
-];
+// The tables of version 2: those of version 1, and then two of amounts over night.
+const TABLES: [&str; 12] = tables!(create_text);
 
-// The tables that version 2 adds.
-const NIGHT_TABLES: [&str; 2] = [
-    "CREATE TABLE night_draft (no INTEGER NOT NULL PRIMARY KEY, night INTEGER NOT NULL) STRICT",
-    "CREATE TABLE night_share (student INTEGER NOT NULL PRIMARY KEY, night INTEGER NOT NULL) \
-     STRICT",
-];
+// The number of tables of version 1.
+const TABLES_BEFORE: usize = 10;
 
 /// Returns whether the database has no table, no index and no view.
 pub fn is_bare<S: Alter>(conn: &Connection<S>) -> bool
@@ -78,7 +54,7 @@ fn create_old_tables<S: Alter>(tx: &mut Transaction<'_, S>) -> Result<(), Error>
         tx.old.conn.now tx.new.conn.now result }
     ensures within { Within (state S.Store tx.old.conn.now) (state S.Store tx.new.conn.now) }
 {
-    create(tx, &TABLES)
+    create(tx, &TABLES[..TABLES_BEFORE])
 }
 
 // Creates the tables that version 2 adds: the amounts over night of drafts and of candidates'
@@ -90,7 +66,7 @@ pub(crate) fn create_night_tables<S: Alter>(tx: &mut Transaction<'_, S>) -> Resu
         tx.old.conn.now tx.new.conn.now result }
     ensures within { Within (state S.Store tx.old.conn.now) (state S.Store tx.new.conn.now) }
 {
-    create(tx, &NIGHT_TABLES)
+    create(tx, &TABLES[TABLES_BEFORE..])
 }
 
 // Creates a table by each text; the rows of the tables before them stay.

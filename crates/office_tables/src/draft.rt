@@ -11,7 +11,9 @@ use crate::amounts::signed_amount;
 use crate::nights::{HasNight, adopt_with_nights};
 use crate::records::Record;
 use crate::running::run;
+use crate::texts::{insert, listing, record};
 use crate::version::Version;
+use office_schema::table;
 use sqlite::types::ValueRef;
 use sqlite::{Alter, Connection, Error, Row, Transaction, params};
 use std::alloc::Global;
@@ -41,17 +43,7 @@ impl Record for DraftRow {
 
     // Returns the draft in a row of the first table, with an amount over night of 0.
     fn read(row: &Row) -> Result<DraftRow, Error> {
-        Ok(DraftRow {
-            no: row.get(0)?,
-            in_row: row.get(1)?,
-            in_day: row.get(2)?,
-            spread: row.get(3)?,
-            mixed: row.get(4)?,
-            front: row.get(5)?,
-            period: row.get(6)?,
-            room: row.get(7)?,
-            night: 0,
-        })
+        Ok(table!(draft record DraftRow row night: 0))
     }
 }
 
@@ -87,17 +79,8 @@ impl Alteration for InsertDraft {
     ghost fits = { λ it. AreAmounts it.row };
 
     fn apply<S: Alter>(&self, tx: &mut Transaction<'_, S>) -> Result<(), Error> {
-        run(
-            tx,
-            "INSERT INTO draft (no, in_row, in_day, spread, mixed, front, period, room) VALUES \
-             (?1, ?2, ?3, ?4, ?5, ?6, ?7, ?8)",
-            &stored_columns(self.row),
-        )?;
-        run(
-            tx,
-            "INSERT INTO night_draft (no, night) VALUES (?1, ?2)",
-            &night_columns(self.row),
-        )
+        run(tx, table!(draft insert), &stored_columns(self.row))?;
+        run(tx, table!(night_draft insert), &night_columns(self.row))
     }
 }
 
@@ -178,8 +161,7 @@ pub(crate) fn adopt_drafts<S: Alter>(
         alloc,
         conn,
         version,
-        "SELECT no, in_row, in_day, spread, mixed, front, period, room, rowid FROM draft ORDER BY \
-         rowid",
-        "SELECT no, night, rowid FROM night_draft ORDER BY rowid",
+        table!(draft listing),
+        table!(night_draft listing),
     )
 }

@@ -7,6 +7,8 @@ use crate::listing::Listed;
 use crate::records::Record;
 use crate::running::run;
 use crate::table::{Insert, InsertAll, InsertTexts, Table};
+use crate::texts::{inserts, listing, record, values};
+use office_schema::table;
 use sqlite::{Alter, Error, Row, Transaction, params};
 
 /// The enrolment of a student in an exam.
@@ -26,10 +28,7 @@ impl Record for EnrolRow {
     const WIDTH: usize = 2;
 
     fn read(row: &Row) -> Result<EnrolRow, Error> {
-        Ok(EnrolRow {
-            student: row.get(0)?,
-            exam: row.get(1)?,
-        })
+        Ok(table!(enrol record EnrolRow row))
     }
 }
 
@@ -39,7 +38,7 @@ impl Listed for EnrolRow {
     ghost table = { enrol_table };
 
     fn whole() -> &'static str {
-        "SELECT student, exam, rowid FROM enrol ORDER BY rowid"
+        table!(enrol listing)
     }
 }
 
@@ -60,18 +59,11 @@ impl Table<2, 32> for EnrolRow {
     ghost fits = { λ _. Unit {0} };
 
     fn values(&self) -> [i64; 2] {
-        [self.student, self.exam].map(i64::from)
+        table!(enrol values self)
     }
 
     fn inserts() -> InsertTexts {
-        InsertTexts {
-            one: "INSERT INTO enrol (student, exam) VALUES (?1, ?2)",
-            many: "INSERT INTO enrol (student, exam) VALUES \
-                   (?, ?), (?, ?), (?, ?), (?, ?), (?, ?), (?, ?), (?, ?), (?, ?), \
-                   (?, ?), (?, ?), (?, ?), (?, ?), (?, ?), (?, ?), (?, ?), (?, ?), \
-                   (?, ?), (?, ?), (?, ?), (?, ?), (?, ?), (?, ?), (?, ?), (?, ?), \
-                   (?, ?), (?, ?), (?, ?), (?, ?), (?, ?), (?, ?), (?, ?), (?, ?)",
-        }
+        table!(enrol inserts 32)
     }
 
     ghost narrow = { Prim.omega arith };

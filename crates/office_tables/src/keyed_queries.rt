@@ -13,6 +13,8 @@ use crate::placed::PlacedRow;
 use crate::query::Query;
 use crate::seat::SeatRow;
 use crate::streaming::{stream, stream_found};
+use crate::texts::select;
+use office_schema::table;
 use sqlite::{Alter, Connection, Error, params};
 use std::alloc::Global;
 
@@ -32,7 +34,7 @@ impl Query for OwnersOf {
         stream(
             alloc,
             conn,
-            "SELECT exam, dept FROM owner WHERE exam = ?1 ORDER BY exam",
+            table!(owner select " WHERE exam = ?1 ORDER BY exam"),
             params![self.exam],
         )
     }
@@ -77,7 +79,7 @@ impl Query for FindEnrolsOf {
         stream_found(
             alloc,
             conn,
-            "SELECT student, exam FROM enrol WHERE student = ?1 ORDER BY exam",
+            table!(enrol select " WHERE student = ?1 ORDER BY exam"),
             params![self.student],
         )
     }
@@ -122,7 +124,7 @@ impl Query for SeatsOf {
         stream(
             alloc,
             conn,
-            "SELECT student, exam, period, room, seat FROM seat WHERE student = ?1 ORDER BY exam",
+            table!(seat select " WHERE student = ?1 ORDER BY exam"),
             params![self.student],
         )
     }

@@ -29,6 +29,7 @@ mod share_student;
 mod slot;
 mod streaming;
 mod table;
+mod texts;
 mod version;
 
 pub use adopting::adopt_tables;

@@ -9,7 +9,9 @@ ghost use Rattle.office_tables.specs.Finders.{Adopts};
 use crate::altering::Alteration;
 use crate::listing::{is_out_of_memory, list_rows};
 use crate::running::run;
+use crate::texts::select;
 use crate::version::Version;
+use office_schema::table;
 use sqlite::{Alter, Connection, Error, ErrorCode, Row, Transaction, params};
 
 /// The row about the office: whether there is a publication, and the canonical text of the
@@ -70,7 +72,7 @@ pub(crate) fn adopt_meta<S: Alter>(
     ensures { Adopts version S.Store (λ db. IsFoundMeta version (db.trees 0))
         conn.old conn.new result }
 {
-    let rows = list_rows(conn, "SELECT id, version, published, instance FROM meta")?;
+    let rows = list_rows(conn, table!(meta select ""))?;
     if rows.len() != 1 {
         return Ok(None);
     }

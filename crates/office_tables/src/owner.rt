@@ -6,6 +6,8 @@ use crate::listing::Listed;
 use crate::records::Record;
 use crate::running::run;
 use crate::table::{Insert, InsertTexts, Table};
+use crate::texts::{inserts, listing, record, values};
+use office_schema::table;
 use sqlite::{Alter, Error, Row, Transaction, params};
 
 /// The owner of an exam: a department, 1 to 999.
@@ -25,10 +27,7 @@ impl Record for OwnerRow {
     const WIDTH: usize = 2;
 
     fn read(row: &Row) -> Result<OwnerRow, Error> {
-        Ok(OwnerRow {
-            exam: row.get(0)?,
-            dept: row.get(1)?,
-        })
+        Ok(table!(owner record OwnerRow row))
     }
 }
 
@@ -38,7 +37,7 @@ impl Listed for OwnerRow {
     ghost table = { owner_table };
 
     fn whole() -> &'static str {
-        "SELECT exam, dept, rowid FROM owner ORDER BY rowid"
+        table!(owner listing)
     }
 }
 
@@ -60,15 +59,12 @@ impl Table<2, 1> for OwnerRow {
     ghost fits = { λ _. Unit {0} };
 
     fn values(&self) -> [i64; 2] {
-        [self.exam, self.dept].map(i64::from)
+        table!(owner values self)
     }
 
     // Owners are added one by one.
     fn inserts() -> InsertTexts {
-        InsertTexts {
-            one: "INSERT INTO owner (exam, dept) VALUES (?1, ?2)",
-            many: "INSERT INTO owner (exam, dept) VALUES (?1, ?2)",
-        }
+        table!(owner inserts 1)
     }
 
     ghost narrow = { Prim.omega arith };

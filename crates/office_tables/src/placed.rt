@@ -7,6 +7,8 @@ use crate::listing::Listed;
 use crate::records::Record;
 use crate::running::run;
 use crate::table::{Insert, InsertAll, InsertTexts, Table};
+use crate::texts::{inserts, listing, record, values};
+use office_schema::table;
 use sqlite::{Alter, Error, Row, Transaction, params};
 
 /// The placement of an exam in the publication.
@@ -27,11 +29,7 @@ impl Record for PlacedRow {
     const WIDTH: usize = 3;
 
     fn read(row: &Row) -> Result<PlacedRow, Error> {
-        Ok(PlacedRow {
-            exam: row.get(0)?,
-            period: row.get(1)?,
-            room: row.get(2)?,
-        })
+        Ok(table!(placed record PlacedRow row))
     }
 }
 
@@ -41,7 +39,7 @@ impl Listed for PlacedRow {
     ghost table = { placed_table };
 
     fn whole() -> &'static str {
-        "SELECT exam, period, room, rowid FROM placed ORDER BY rowid"
+        table!(placed listing)
     }
 }
 
@@ -62,18 +60,11 @@ impl Table<3, 16> for PlacedRow {
     ghost fits = { λ _. Unit {0} };
 
     fn values(&self) -> [i64; 3] {
-        [self.exam, self.period, self.room].map(i64::from)
+        table!(placed values self)
     }
 
     fn inserts() -> InsertTexts {
-        InsertTexts {
-            one: "INSERT INTO placed (exam, period, room) VALUES (?1, ?2, ?3)",
-            many: "INSERT INTO placed (exam, period, room) VALUES \
-                   (?, ?, ?), (?, ?, ?), (?, ?, ?), (?, ?, ?), \
-                   (?, ?, ?), (?, ?, ?), (?, ?, ?), (?, ?, ?), \
-                   (?, ?, ?), (?, ?, ?), (?, ?, ?), (?, ?, ?), \
-                   (?, ?, ?), (?, ?, ?), (?, ?, ?), (?, ?, ?)",
-        }
+        table!(placed inserts 16)
     }
 
     ghost narrow = { Prim.omega arith };

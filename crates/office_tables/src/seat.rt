@@ -7,6 +7,8 @@ use crate::listing::Listed;
 use crate::records::Record;
 use crate::running::run;
 use crate::table::{Insert, InsertAll, InsertTexts, Table};
+use crate::texts::{inserts, listing, record, values};
+use office_schema::table;
 use sqlite::{Alter, Error, Row, Transaction, params};
 
 /// A published seat; seats are numbered from 1 in each room and period.
@@ -29,13 +31,7 @@ impl Record for SeatRow {
     const WIDTH: usize = 5;
 
     fn read(row: &Row) -> Result<SeatRow, Error> {
-        Ok(SeatRow {
-            student: row.get(0)?,
-            exam: row.get(1)?,
-            period: row.get(2)?,
-            room: row.get(3)?,
-            seat: row.get(4)?,
-        })
+        Ok(table!(seat record SeatRow row))
     }
 }
 
@@ -45,7 +41,7 @@ impl Listed for SeatRow {
     ghost table = { seat_table };
 
     fn whole() -> &'static str {
-        "SELECT student, exam, period, room, seat, rowid FROM seat ORDER BY rowid"
+        table!(seat listing)
     }
 }
 
@@ -66,18 +62,11 @@ impl Table<5, 16> for SeatRow {
     ghost fits = { λ _. Unit {0} };
 
     fn values(&self) -> [i64; 5] {
-        [self.student, self.exam, self.period, self.room, self.seat].map(i64::from)
+        table!(seat values self)
     }
 
     fn inserts() -> InsertTexts {
-        InsertTexts {
-            one: "INSERT INTO seat (student, exam, period, room, seat) VALUES (?1, ?2, ?3, ?4, ?5)",
-            many: "INSERT INTO seat (student, exam, period, room, seat) VALUES \
-                   (?, ?, ?, ?, ?), (?, ?, ?, ?, ?), (?, ?, ?, ?, ?), (?, ?, ?, ?, ?), \
-                   (?, ?, ?, ?, ?), (?, ?, ?, ?, ?), (?, ?, ?, ?, ?), (?, ?, ?, ?, ?), \
-                   (?, ?, ?, ?, ?), (?, ?, ?, ?, ?), (?, ?, ?, ?, ?), (?, ?, ?, ?, ?), \
-                   (?, ?, ?, ?, ?), (?, ?, ?, ?, ?), (?, ?, ?, ?, ?), (?, ?, ?, ?, ?)",
-        }
+        table!(seat inserts 16)
     }
 
     ghost narrow = { Prim.omega arith };

@@ -7,6 +7,8 @@ use crate::listing::Listed;
 use crate::records::Record;
 use crate::running::run;
 use crate::table::{Insert, InsertAll, InsertTexts, Table};
+use crate::texts::{inserts, listing, record};
+use office_schema::table;
 use sqlite::{Alter, Error, Row, Transaction};
 
 /// The share of an exam (kind 0), a period (1) or a room (2); only a room has a mixed part.
@@ -28,12 +30,7 @@ impl Record for PartShareRow {
     const WIDTH: usize = 4;
 
     fn read(row: &Row) -> Result<PartShareRow, Error> {
-        Ok(PartShareRow {
-            kind: row.get(0)?,
-            no: row.get(1)?,
-            penalty: row.get(2)?,
-            mixed: row.get(3)?,
-        })
+        Ok(table!(share_part record PartShareRow row))
     }
 }
 
@@ -43,7 +40,7 @@ impl Listed for PartShareRow {
     ghost table = { share_part_table };
 
     fn whole() -> &'static str {
-        "SELECT kind, no, penalty, mixed, rowid FROM share_part ORDER BY rowid"
+        table!(share_part listing)
     }
 }
 
@@ -74,14 +71,7 @@ impl Table<4, 16> for PartShareRow {
     }
 
     fn inserts() -> InsertTexts {
-        InsertTexts {
-            one: "INSERT INTO share_part (kind, no, penalty, mixed) VALUES (?1, ?2, ?3, ?4)",
-            many: "INSERT INTO share_part (kind, no, penalty, mixed) VALUES \
-                   (?, ?, ?, ?), (?, ?, ?, ?), (?, ?, ?, ?), (?, ?, ?, ?), \
-                   (?, ?, ?, ?), (?, ?, ?, ?), (?, ?, ?, ?), (?, ?, ?, ?), \
-                   (?, ?, ?, ?), (?, ?, ?, ?), (?, ?, ?, ?), (?, ?, ?, ?), \
-                   (?, ?, ?, ?), (?, ?, ?, ?), (?, ?, ?, ?), (?, ?, ?, ?)",
-        }
+        table!(share_part inserts 16)
     }
 
     ghost narrow = { Prim.omega arith };

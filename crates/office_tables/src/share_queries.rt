@@ -9,12 +9,13 @@ use crate::query::Query;
 use crate::share_part::PartShareRow;
 use crate::share_student::StudentShareRow;
 use crate::streaming::stream;
+use crate::texts::select;
+use office_schema::table;
 use sqlite::{Alter, Connection, Error, params};
 use std::alloc::Global;
 
 // Lists all rows of the first table of students' shares, by student.
-const BARE_SHARES: &str =
-    "SELECT student, in_row, in_day, spread FROM share_student ORDER BY student";
+const BARE_SHARES: &str = table!(share_student select " ORDER BY student");
 
 /// All students' shares, by student.
 #[derive(Clone, Copy)]
@@ -37,7 +38,7 @@ impl Query for StudentShares {
             alloc,
             conn,
             BARE_SHARES,
-            "SELECT student, night FROM night_share ORDER BY student",
+            table!(night_share select " ORDER BY student"),
         )
     }
 }
@@ -77,11 +78,6 @@ impl Query for PartShares {
     ghost answers = { λ _ t rows. IsPermutation t.share_part rows.items };
 
     fn ask<S: Alter>(&self, alloc: Global, conn: &mut Connection<S>) -> Result<Self::Rows, Error> {
-        stream(
-            alloc,
-            conn,
-            "SELECT kind, no, penalty, mixed FROM share_part",
-            &[],
-        )
+        stream(alloc, conn, table!(share_part select ""), &[])
     }
 }

@@ -15,7 +15,9 @@ use crate::amounts::signed_amount;
 use crate::nights::{HasNight, adopt_with_nights};
 use crate::records::Record;
 use crate::running::{run, run_with};
+use crate::texts::{insert, listing, record};
 use crate::version::Version;
+use office_schema::table;
 use sqlite::{Alter, Connection, Error, Row, Transaction, params};
 use std::alloc::Global;
 use std::array;
@@ -42,13 +44,7 @@ impl Record for StudentShareRow {
     // Returns the share in a row of the first table, with an amount over night of 0.
     #[inline]
     fn read(row: &Row) -> Result<StudentShareRow, Error> {
-        Ok(StudentShareRow {
-            student: row.get(0)?,
-            in_row: row.get(1)?,
-            in_day: row.get(2)?,
-            spread: row.get(3)?,
-            night: 0,
-        })
+        Ok(table!(share_student record StudentShareRow row night: 0))
     }
 }
 
@@ -84,16 +80,8 @@ impl Alteration for InsertStudentShare {
     ghost fits = { λ it. AreStudentAmounts it.row };
 
     fn apply<S: Alter>(&self, tx: &mut Transaction<'_, S>) -> Result<(), Error> {
-        run_with(
-            tx,
-            "INSERT INTO share_student (student, in_row, in_day, spread) VALUES (?1, ?2, ?3, ?4)",
-            &student_numbers(self.row),
-        )?;
-        run_with(
-            tx,
-            "INSERT INTO night_share (student, night) VALUES (?1, ?2)",
-            &night_numbers(self.row),
-        )
+        run_with(tx, table!(share_student insert), &student_numbers(self.row))?;
+        run_with(tx, table!(night_share insert), &night_numbers(self.row))
     }
 }
 
@@ -144,22 +132,8 @@ fn insert_sixteen<S: Alter>(
                 ≡ night_share_columns (slice_index_or rows.entry.now i d).row }
         { night_numbers(rows[i].row) },
     );
-    run_with(
-        tx,
-        "INSERT INTO share_student (student, in_row, in_day, spread) VALUES \
-         (?, ?, ?, ?), (?, ?, ?, ?), (?, ?, ?, ?), (?, ?, ?, ?), \
-         (?, ?, ?, ?), (?, ?, ?, ?), (?, ?, ?, ?), (?, ?, ?, ?), \
-         (?, ?, ?, ?), (?, ?, ?, ?), (?, ?, ?, ?), (?, ?, ?, ?), \
-         (?, ?, ?, ?), (?, ?, ?, ?), (?, ?, ?, ?), (?, ?, ?, ?)",
-        students.as_flattened(),
-    )?;
-    run_with(
-        tx,
-        "INSERT INTO night_share (student, night) VALUES \
-         (?, ?), (?, ?), (?, ?), (?, ?), (?, ?), (?, ?), (?, ?), (?, ?), \
-         (?, ?), (?, ?), (?, ?), (?, ?), (?, ?), (?, ?), (?, ?), (?, ?)",
-        nights.as_flattened(),
-    )
+    run_with(tx, table!(share_student insert 16), students.as_flattened())?;
+    run_with(tx, table!(night_share insert 16), nights.as_flattened())
 }
 
 // Returns the columns of a share in the first table.
@@ -221,7 +195,7 @@ pub(crate) fn adopt_student_shares<S: Alter>(
         alloc,
         conn,
         version,
-        "SELECT student, in_row, in_day, spread, rowid FROM share_student ORDER BY rowid",
-        "SELECT student, night, rowid FROM night_share ORDER BY rowid",
+        table!(share_student listing),
+        table!(night_share listing),
     )
 }

@@ -6,6 +6,8 @@ use crate::listing::Listed;
 use crate::records::Record;
 use crate::running::run;
 use crate::table::{Insert, InsertAll, InsertTexts, Table};
+use crate::texts::{inserts, listing, record, values};
+use office_schema::table;
 use sqlite::{Alter, Connection, Error, Row, Transaction, params};
 use std::alloc::Global;
 
@@ -28,12 +30,7 @@ impl Record for SlotRow {
     const WIDTH: usize = 4;
 
     fn read(row: &Row) -> Result<SlotRow, Error> {
-        Ok(SlotRow {
-            draft: row.get(0)?,
-            exam: row.get(1)?,
-            period: row.get(2)?,
-            room: row.get(3)?,
-        })
+        Ok(table!(slot record SlotRow row))
     }
 }
 
@@ -43,7 +40,7 @@ impl Listed for SlotRow {
     ghost table = { slot_table };
 
     fn whole() -> &'static str {
-        "SELECT draft, exam, period, room, rowid FROM slot ORDER BY rowid"
+        table!(slot listing)
     }
 }
 
@@ -65,18 +62,11 @@ impl Table<4, 16> for SlotRow {
     ghost fits = { λ _. Unit {0} };
 
     fn values(&self) -> [i64; 4] {
-        [self.draft, self.exam, self.period, self.room].map(i64::from)
+        table!(slot values self)
     }
 
     fn inserts() -> InsertTexts {
-        InsertTexts {
-            one: "INSERT INTO slot (draft, exam, period, room) VALUES (?1, ?2, ?3, ?4)",
-            many: "INSERT INTO slot (draft, exam, period, room) VALUES \
-                   (?, ?, ?, ?), (?, ?, ?, ?), (?, ?, ?, ?), (?, ?, ?, ?), \
-                   (?, ?, ?, ?), (?, ?, ?, ?), (?, ?, ?, ?), (?, ?, ?, ?), \
-                   (?, ?, ?, ?), (?, ?, ?, ?), (?, ?, ?, ?), (?, ?, ?, ?), \
-                   (?, ?, ?, ?), (?, ?, ?, ?), (?, ?, ?, ?), (?, ?, ?, ?)",
-        }
+        table!(slot inserts 16)
     }
 
     ghost narrow = { Prim.omega arith };
