@@ -7,6 +7,7 @@ ghost use Rattle.office_tables.specs.Readers.{LeavesTablesIn, ReadsIn};
 
 use crate::altering::Alteration;
 use crate::listing::read_table;
+use crate::query::Query;
 use crate::records::Record;
 use crate::running::run;
 use crate::streaming::stream;
@@ -137,4 +138,21 @@ pub(crate) fn adopt_batches<S: Alter>(
         conn,
         "SELECT no, added, dropped, unchanged, rowid FROM batch ORDER BY rowid",
     )
+}
+
+/// The kept batch of a number, if there is one.
+#[derive(Clone, Copy)]
+pub struct BatchOf {
+    pub no: u32,
+}
+
+impl Query for BatchOf {
+    type Rows = Option<BatchRow>;
+
+    ghost answers = { λ it t found.
+        filter (λ r. r.no == it.no) t.batch ≡ map batch_from (option_to_list found) };
+
+    fn ask<S: Alter>(&self, alloc: Global, conn: &mut Connection<S>) -> Result<Self::Rows, Error> {
+        batch_of(alloc, conn, self.no)
+    }
 }

@@ -1,15 +1,19 @@
 // Enrolments of students in exams.
-ghost use Rattle.std.specs.Prelude.{false};
-ghost use Rattle.office_tables.specs.Enrol.{enrol_columns, without_enrol, FitsEnrol};
+ghost use Rattle.std.specs.Prelude.{◌==◌, false, filter};
+ghost use Rattle.office_tables.specs.Enrol.{enrol_columns, without_enrol, FitsEnrol, StudentEnrolsRise};
+ghost use Rattle.office_tables.specs.Selections.{AreListed, AreListedIfFit};
 
 use crate::altering::Alteration;
 use crate::listing::Listed;
+use crate::query::Query;
 use crate::records::Record;
 use crate::running::run;
+use crate::streaming::stream_found;
 use crate::table::{Insert, InsertAll, InsertTexts, Table};
-use crate::texts::{inserts, listing, record, values};
+use crate::texts::{inserts, listing, record, select, values};
 use office_schema::table;
-use sqlite::{Alter, Error, Row, Transaction, params};
+use sqlite::{Alter, Connection, Error, Row, Transaction, params};
+use std::alloc::Global;
 
 /// The enrolment of a student in an exam.
 #[derive(Clone, Copy, Debug, PartialEq, Eq)]
@@ -96,6 +100,51 @@ impl Alteration for DeleteEnrol {
             tx,
             "DELETE FROM enrol WHERE student = ?1 AND exam = ?2",
             params![self.student, self.exam],
+        )
+    }
+}
+
+/// A student's enrolments, by exam.
+#[derive(Clone, Copy)]
+pub struct EnrolsOf {
+    pub student: u32,
+}
+
+impl Query for EnrolsOf {
+    type Rows = Vec<EnrolRow>;
+
+    ghost answers = { λ it t rows.
+        AreListed StudentEnrolsRise (filter (λ r. r.student == it.student) t.enrol) rows.items };
+
+    fn ask<S: Alter>(&self, alloc: Global, conn: &mut Connection<S>) -> Result<Self::Rows, Error> {
+        let query = FindEnrolsOf {
+            student: self.student,
+        };
+        match query.ask(alloc, conn)? {
+            Some(rows) => Ok(rows),
+            None => Err(Error::InvalidQuery),
+        }
+    }
+}
+
+/// A student's enrolments, by exam. `None`: an exam's number has more than 32 bits.
+#[derive(Clone, Copy)]
+pub struct FindEnrolsOf {
+    pub student: u32,
+}
+
+impl Query for FindEnrolsOf {
+    type Rows = Option<Vec<EnrolRow>>;
+
+    ghost answers = { λ it t found. AreListedIfFit FitsEnrol StudentEnrolsRise
+        (filter (λ r. r.student == it.student) t.enrol) found };
+
+    fn ask<S: Alter>(&self, alloc: Global, conn: &mut Connection<S>) -> Result<Self::Rows, Error> {
+        stream_found(
+            alloc,
+            conn,
+            table!(enrol select " WHERE student = ?1 ORDER BY exam"),
+            params![self.student],
         )
     }
 }

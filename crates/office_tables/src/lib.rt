@@ -11,7 +11,6 @@ mod draft;
 mod enrol;
 mod found;
 mod joined_share;
-mod keyed_queries;
 mod listing;
 mod looking;
 mod meta;
@@ -24,7 +23,6 @@ mod records;
 mod running;
 mod seat;
 mod share_part;
-mod share_queries;
 mod share_student;
 mod slot;
 mod streaming;
@@ -34,23 +32,24 @@ mod version;
 
 pub use adopting::adopt_tables;
 pub use altering::{Alteration, Both, Each, transact};
-pub use batch::{BatchCountsRow, BatchRow, InsertBatch, batch_of};
+pub use batch::{BatchCountsRow, BatchOf, BatchRow, InsertBatch, batch_of};
 pub use creation::{create_tables, is_bare};
 pub use draft::{DeleteDraft, DeleteDrafts, DraftRow, InsertDraft};
-pub use enrol::{DeleteEnrol, EnrolRow, InsertEnrol, InsertEnrols};
+pub use enrol::{DeleteEnrol, EnrolRow, EnrolsOf, FindEnrolsOf, InsertEnrol, InsertEnrols};
 pub use found::Found;
-pub use keyed_queries::{BatchOf, EnrolsOf, FindEnrolsOf, OwnersOf, PlacementsOf, SeatsOf};
 pub use looking::look;
 pub use meta::{DeleteMeta, InsertMeta, MetaRow};
 pub use migrating::migrate;
-pub use owner::{DeleteOwner, InsertOwner, OwnerRow};
-pub use placed::{DeletePlacement, InsertPlacement, InsertPlacements, PlacedRow};
+pub use owner::{DeleteOwner, InsertOwner, OwnerRow, OwnersOf};
+pub use placed::{DeletePlacement, InsertPlacement, InsertPlacements, PlacedRow, PlacementsOf};
 pub use query::Query;
-pub use seat::{DeleteSeat, InsertSeat, InsertSeats, SeatRow};
-pub use share_part::{DeletePartShares, InsertPartShare, InsertPartShares, PartShareRow};
-pub use share_queries::{PartShares, StudentShares, StudentSharesOf};
+pub use seat::{DeleteSeat, InsertSeat, InsertSeats, SeatRow, SeatsOf};
+pub use share_part::{
+    DeletePartShares, InsertPartShare, InsertPartShares, PartShareRow, PartShares,
+};
 pub use share_student::{
-    DeleteStudentShare, InsertStudentShare, InsertStudentShares, StudentShareRow,
+    DeleteStudentShare, InsertStudentShare, InsertStudentShares, StudentShareRow, StudentShares,
+    StudentSharesOf,
 };
 pub use slot::{DeleteSlot, DeleteSlots, InsertSlot, InsertSlots, SlotRow};
 pub use table::{Insert, InsertAll};

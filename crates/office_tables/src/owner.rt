@@ -1,14 +1,18 @@
 // Owners of exams.
+ghost use Rattle.std.specs.Prelude.{◌==◌, filter, IsPermutation};
 ghost use Rattle.office_tables.specs.Owner.{owner_columns, without_owner, FitsOwner};
 
 use crate::altering::Alteration;
 use crate::listing::Listed;
+use crate::query::Query;
 use crate::records::Record;
 use crate::running::run;
+use crate::streaming::stream;
 use crate::table::{Insert, InsertTexts, Table};
-use crate::texts::{inserts, listing, record, values};
+use crate::texts::{inserts, listing, record, select, values};
 use office_schema::table;
-use sqlite::{Alter, Error, Row, Transaction, params};
+use sqlite::{Alter, Connection, Error, Row, Transaction, params};
+use std::alloc::Global;
 
 /// The owner of an exam: a department, 1 to 999.
 #[derive(Clone, Copy, Debug, PartialEq, Eq)]
@@ -90,5 +94,27 @@ impl Alteration for DeleteOwner {
 
     fn apply<S: Alter>(&self, tx: &mut Transaction<'_, S>) -> Result<(), Error> {
         run(tx, "DELETE FROM owner WHERE exam = ?1", params![self.exam])
+    }
+}
+
+/// An exam's owner: one row, or none.
+#[derive(Clone, Copy)]
+pub struct OwnersOf {
+    pub exam: u32,
+}
+
+impl Query for OwnersOf {
+    type Rows = Vec<OwnerRow>;
+
+    ghost answers = { λ it t rows.
+        IsPermutation (filter (λ r. r.exam == it.exam) t.owner) rows.items };
+
+    fn ask<S: Alter>(&self, alloc: Global, conn: &mut Connection<S>) -> Result<Self::Rows, Error> {
+        stream(
+            alloc,
+            conn,
+            table!(owner select " WHERE exam = ?1 ORDER BY exam"),
+            params![self.exam],
+        )
     }
 }

@@ -1,15 +1,19 @@
 // Placements of exams in the publication.
 ghost use Rattle.std.specs.Prelude.{false};
-ghost use Rattle.office_tables.specs.Placed.{placed_columns, without_placement, FitsPlacement};
+ghost use Rattle.office_tables.specs.Placed.{placed_columns, placed_of, without_placement, FitsPlacement, PlacementsRise};
+ghost use Rattle.office_tables.specs.Selections.{AreListed};
 
 use crate::altering::Alteration;
 use crate::listing::Listed;
+use crate::query::Query;
 use crate::records::Record;
 use crate::running::run;
+use crate::streaming::stream;
 use crate::table::{Insert, InsertAll, InsertTexts, Table};
 use crate::texts::{inserts, listing, record, values};
 use office_schema::table;
-use sqlite::{Alter, Error, Row, Transaction, params};
+use sqlite::{Alter, Connection, Error, Row, Transaction, params};
+use std::alloc::Global;
 
 /// The placement of an exam in the publication.
 #[derive(Clone, Copy, Debug, PartialEq, Eq)]
@@ -93,5 +97,28 @@ impl Alteration for DeletePlacement {
 
     fn apply<S: Alter>(&self, tx: &mut Transaction<'_, S>) -> Result<(), Error> {
         run(tx, "DELETE FROM placed WHERE exam = ?1", params![self.exam])
+    }
+}
+
+/// The published placements of the exams that a student is enrolled in, by exam.
+#[derive(Clone, Copy)]
+pub struct PlacementsOf {
+    pub student: u32,
+}
+
+impl Query for PlacementsOf {
+    type Rows = Vec<PlacedRow>;
+
+    ghost answers = { λ it t rows.
+        AreListed PlacementsRise (placed_of it.student t) rows.items };
+
+    fn ask<S: Alter>(&self, alloc: Global, conn: &mut Connection<S>) -> Result<Self::Rows, Error> {
+        stream(
+            alloc,
+            conn,
+            "SELECT placed.exam, placed.period, placed.room FROM enrol, placed WHERE enrol.student \
+             = ?1 AND placed.exam = enrol.exam ORDER BY placed.exam",
+            params![self.student],
+        )
     }
 }

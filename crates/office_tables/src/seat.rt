@@ -1,15 +1,19 @@
 // Seats of students.
-ghost use Rattle.std.specs.Prelude.{false};
-ghost use Rattle.office_tables.specs.Seat.{seat_columns, without_seat, FitsSeat};
+ghost use Rattle.std.specs.Prelude.{◌==◌, false, filter};
+ghost use Rattle.office_tables.specs.Seat.{seat_columns, without_seat, FitsSeat, StudentSeatsRise};
+ghost use Rattle.office_tables.specs.Selections.{AreListed};
 
 use crate::altering::Alteration;
 use crate::listing::Listed;
+use crate::query::Query;
 use crate::records::Record;
 use crate::running::run;
+use crate::streaming::stream;
 use crate::table::{Insert, InsertAll, InsertTexts, Table};
-use crate::texts::{inserts, listing, record, values};
+use crate::texts::{inserts, listing, record, select, values};
 use office_schema::table;
-use sqlite::{Alter, Error, Row, Transaction, params};
+use sqlite::{Alter, Connection, Error, Row, Transaction, params};
+use std::alloc::Global;
 
 /// A published seat; seats are numbered from 1 in each room and period.
 #[derive(Clone, Copy, Debug, PartialEq, Eq)]
@@ -99,6 +103,28 @@ impl Alteration for DeleteSeat {
             tx,
             "DELETE FROM seat WHERE student = ?1 AND exam = ?2",
             params![self.student, self.exam],
+        )
+    }
+}
+
+/// A student's seats, by exam.
+#[derive(Clone, Copy)]
+pub struct SeatsOf {
+    pub student: u32,
+}
+
+impl Query for SeatsOf {
+    type Rows = Vec<SeatRow>;
+
+    ghost answers = { λ it t rows.
+        AreListed StudentSeatsRise (filter (λ r. r.student == it.student) t.seat) rows.items };
+
+    fn ask<S: Alter>(&self, alloc: Global, conn: &mut Connection<S>) -> Result<Self::Rows, Error> {
+        stream(
+            alloc,
+            conn,
+            table!(seat select " WHERE student = ?1 ORDER BY exam"),
+            params![self.student],
         )
     }
 }

@@ -1,15 +1,19 @@
 // Shares of exams, periods and rooms in the penalty of the publication.
+ghost use Rattle.std.specs.Prelude.{IsPermutation};
 ghost use Rattle.office_tables.specs.SharePart.{no_part_shares, share_part_columns, ArePartAmounts, FitsPartShare};
 
 use crate::altering::Alteration;
 use crate::amounts::signed_amount;
 use crate::listing::Listed;
+use crate::query::Query;
 use crate::records::Record;
 use crate::running::run;
+use crate::streaming::stream;
 use crate::table::{Insert, InsertAll, InsertTexts, Table};
-use crate::texts::{inserts, listing, record};
+use crate::texts::{inserts, listing, record, select};
 use office_schema::table;
-use sqlite::{Alter, Error, Row, Transaction};
+use sqlite::{Alter, Connection, Error, Row, Transaction};
+use std::alloc::Global;
 
 /// The share of an exam (kind 0), a period (1) or a room (2); only a room has a mixed part.
 #[derive(Clone, Copy, Debug, PartialEq, Eq)]
@@ -98,5 +102,19 @@ impl Alteration for DeletePartShares {
 
     fn apply<S: Alter>(&self, tx: &mut Transaction<'_, S>) -> Result<(), Error> {
         run(tx, "DELETE FROM share_part", &[])
+    }
+}
+
+/// All shares of exams, periods and rooms, in any order.
+#[derive(Clone, Copy)]
+pub struct PartShares;
+
+impl Query for PartShares {
+    type Rows = Vec<PartShareRow>;
+
+    ghost answers = { λ _ t rows. IsPermutation t.share_part rows.items };
+
+    fn ask<S: Alter>(&self, alloc: Global, conn: &mut Connection<S>) -> Result<Self::Rows, Error> {
+        stream(alloc, conn, table!(share_part select ""), &[])
     }
 }

@@ -1,6 +1,6 @@
 // Shares of students in the penalty of the publication. The part over night is in a table of its
 // own.
-ghost use Rattle.std.specs.Prelude.{◌≡◌, ◌<◌, All, length, map, slice_index_or};
+ghost use Rattle.std.specs.Prelude.{◌≡◌, ◌<◌, ◌==◌, filter, length, map, slice_index_or, All, IsPermutation, IsTrue};
 ghost use Rattle.sqlite.specs.Held.{state};
 ghost use Rattle.sqlite_value.specs.declared.value.Value.TheVariants.{Int};
 ghost use Rattle.office_tables.specs.Adopting.{HaveShares};
@@ -8,14 +8,18 @@ ghost use Rattle.office_tables.specs.Alterations.{after_all};
 ghost use Rattle.office_tables.specs.Finders.{Adopts};
 ghost use Rattle.office_tables.specs.Joining.{AreFound};
 ghost use Rattle.office_tables.specs.Steps.{Changes, Within};
-ghost use Rattle.office_tables.specs.ShareStudent.{bare_share_columns, night_share_columns, share_student_columns, with_student_share, without_student_share, AreStudentAmounts, FitsStudentShare};
+ghost use Rattle.office_tables.specs.ShareStudent.{bare_share_columns, night_share_columns, share_student_columns, with_student_share, without_student_share, AreStudentAmounts, FitsStudentShare, HaveNoNight, StudentSharesRise};
+ghost use Rattle.office_tables.specs.Selections.{AreListed};
 
 use crate::altering::{Alteration, Each};
 use crate::amounts::signed_amount;
-use crate::nights::{HasNight, adopt_with_nights};
+use crate::joined_share::joined_rows;
+use crate::nights::{HasNight, adopt_with_nights, stream_with_nights};
+use crate::query::Query;
 use crate::records::Record;
 use crate::running::{run, run_with};
-use crate::texts::{insert, listing, record};
+use crate::streaming::stream;
+use crate::texts::{insert, listing, record, select};
 use crate::version::Version;
 use office_schema::table;
 use sqlite::{Alter, Connection, Error, Row, Transaction, params};
@@ -198,4 +202,58 @@ pub(crate) fn adopt_student_shares<S: Alter>(
         table!(share_student listing),
         table!(night_share listing),
     )
+}
+
+// Lists all rows of the first table of students' shares, by student.
+const BARE_SHARES: &str = table!(share_student select " ORDER BY student");
+
+/// All students' shares, by student.
+#[derive(Clone, Copy)]
+pub struct StudentShares {
+    /// No share has an amount over night, so only the first of the two tables is read.
+    pub without_nights: bool,
+}
+
+impl Query for StudentShares {
+    type Rows = Vec<StudentShareRow>;
+
+    ghost answers = { λ it t rows. (IsTrue it.without_nights → HaveNoNight t.share_student)
+        → AreListed StudentSharesRise t.share_student rows.items };
+
+    fn ask<S: Alter>(&self, alloc: Global, conn: &mut Connection<S>) -> Result<Self::Rows, Error> {
+        if self.without_nights {
+            return stream(alloc, conn, BARE_SHARES, &[]);
+        }
+        stream_with_nights(
+            alloc,
+            conn,
+            BARE_SHARES,
+            table!(night_share select " ORDER BY student"),
+        )
+    }
+}
+
+/// A student's share: one row, or none.
+#[derive(Clone, Copy)]
+pub struct StudentSharesOf {
+    pub student: u32,
+}
+
+impl Query for StudentSharesOf {
+    type Rows = Vec<StudentShareRow>;
+
+    ghost answers = { λ it t rows.
+        IsPermutation (filter (λ r. r.student == it.student) t.share_student) rows.items };
+
+    fn ask<S: Alter>(&self, alloc: Global, conn: &mut Connection<S>) -> Result<Self::Rows, Error> {
+        let joined = stream(
+            alloc,
+            conn,
+            "SELECT night, share_student.student, in_row, in_day, spread FROM share_student, \
+             night_share WHERE share_student.student = ?1 AND night_share.student = \
+             share_student.student ORDER BY share_student.student",
+            params![self.student],
+        )?;
+        Ok(joined_rows(alloc, &joined)?)
+    }
 }

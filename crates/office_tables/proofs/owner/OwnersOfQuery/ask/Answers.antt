@@ -1,6 +1,6 @@
 use Rattle.office_tables.proofs.AskLemmas.{leaves_tables, reads_rows}
 use Rattle.office_tables.proofs.OwnerTexts.{owners_of_query, owners_of_text, owners_of_means, owners_of_read}
-use Rattle.office_tables.proofs.keyed_queries.OwnersOfQuery.ask.Goals as goal
+use Rattle.office_tables.proofs.owner.OwnersOfQuery.ask.Goals as goal
 
 pub returns-clause-rows : goal.returns-clause-rows
 returns-clause-rows g c =

@@ -2,7 +2,7 @@ use Rattle.std.proofs.lemmas.Result.{IfOk-weaker}
 use Rattle.sqlite.specs.Held.{state}
 use Rattle.office_tables.proofs.AskLemmas.{leaves_tables, means_in}
 use Rattle.office_tables.proofs.EnrolTexts.{enrols_of_query, enrols_of_text, enrols_of_means, enrols_found}
-use Rattle.office_tables.proofs.keyed_queries.FindEnrolsOfQuery.ask.Goals as goal
+use Rattle.office_tables.proofs.enrol.FindEnrolsOfQuery.ask.Goals as goal
 
 pub returns-clause-rows : goal.returns-clause-rows
 returns-clause-rows g c clean t holds =

@@ -1,6 +1,6 @@
 use Rattle.office_tables.proofs.AskLemmas.{leaves_tables, reads_rows}
 use Rattle.office_tables.proofs.SeatTexts.{seats_of_query, seats_of_text, seats_of_means, seats_of_read}
-use Rattle.office_tables.proofs.keyed_queries.SeatsOfQuery.ask.Goals as goal
+use Rattle.office_tables.proofs.seat.SeatsOfQuery.ask.Goals as goal
 
 pub returns-clause-rows : goal.returns-clause-rows
 returns-clause-rows g c =

@@ -1,6 +1,6 @@
 use Rattle.office_tables.proofs.AskLemmas.{leaves_tables, reads_rows}
 use Rattle.office_tables.proofs.JoinedTexts.{placements_of_query, placements_of_text, placements_of_means, placements_of_read}
-use Rattle.office_tables.proofs.keyed_queries.PlacementsOfQuery.ask.Goals as goal
+use Rattle.office_tables.proofs.placed.PlacementsOfQuery.ask.Goals as goal
 
 pub returns-clause-rows : goal.returns-clause-rows
 returns-clause-rows g c =

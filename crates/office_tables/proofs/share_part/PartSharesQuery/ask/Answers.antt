@@ -1,6 +1,6 @@
 use Rattle.office_tables.proofs.AskLemmas.{leaves_tables, reads_rows}
 use Rattle.office_tables.proofs.ShareTexts.{part_shares_query, part_shares_text, part_shares_means, part_shares_read}
-use Rattle.office_tables.proofs.share_queries.PartSharesQuery.ask.Goals as goal
+use Rattle.office_tables.proofs.share_part.PartSharesQuery.ask.Goals as goal
 
 pub returns-clause-rows : goal.returns-clause-rows
 returns-clause-rows g c =

@@ -6,7 +6,7 @@ use Rattle.office_tables.specs.ShareStudent.{share_shown}
 use Rattle.office_tables.proofs.AskLemmas.{leaves_after, means_in}
 use Rattle.office_tables.proofs.OrderLemmas.{typed}
 use Rattle.office_tables.proofs.ShareTexts.{student_shares_of_query, student_shares_of_text, student_shares_of_means, student_shares_of_read}
-use Rattle.office_tables.proofs.share_queries.StudentSharesOfQuery.ask.Goals as goal
+use Rattle.office_tables.proofs.share_student.StudentSharesOfQuery.ask.Goals as goal
 
 abbrev row_in : JoinedShare → StudentShareRow
 row_in j = j.row

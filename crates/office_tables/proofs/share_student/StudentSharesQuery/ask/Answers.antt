@@ -2,7 +2,7 @@ use Rattle.std.proofs.lemmas.Result.{IfOk-weaker}
 use Rattle.sqlite.specs.Held.{state}
 use Rattle.office_tables.proofs.AskLemmas.{leaves_tables, means_in}
 use Rattle.office_tables.proofs.ShareTexts.{bare_shares_read, share_nights_query, share_nights_means, student_shares_query, student_shares_text, student_shares_means, student_shares_read}
-use Rattle.office_tables.proofs.share_queries.StudentSharesQuery.ask.Goals as goal
+use Rattle.office_tables.proofs.share_student.StudentSharesQuery.ask.Goals as goal
 
 pub returns-then-self-clause-rows : goal.returns-then-self-clause-rows
 returns-then-self-clause-rows g c clean t holds =
