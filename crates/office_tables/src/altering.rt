@@ -11,8 +11,8 @@ use sqlite::{Alter, Connection, Error, Transaction};
 pub trait Alteration {
     ghost alteration: { Self → Tables → Tables };
 
-    // The file can hold its numbers.
-    ghost fits: { Self → Type 0 };
+    // The file can hold its numbers; it always can, unless an impl says more.
+    ghost fits: { Self → Type 0 } = { λ _. Unit {0} };
 
     /// Makes the change inside a transaction.
     fn apply<S: Alter>(&self, tx: &mut Transaction<'_, S>) -> Result<(), Error>

@@ -87,8 +87,6 @@ impl Alteration for InsertBatch<'_> {
       unchanged = it.unchanged;
     }) t };
 
-    ghost fits = { λ _. Unit {0} };
-
     fn apply<S: Alter>(&self, tx: &mut Transaction<'_, S>) -> Result<(), Error> {
         run(
             tx,

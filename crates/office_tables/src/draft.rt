@@ -121,8 +121,6 @@ pub struct DeleteDraft {
 impl Alteration for DeleteDraft {
     ghost alteration = { λ it t. without_draft it.no t };
 
-    ghost fits = { λ _. Unit {0} };
-
     fn apply<S: Alter>(&self, tx: &mut Transaction<'_, S>) -> Result<(), Error> {
         run(tx, "DELETE FROM draft WHERE no = ?1", params![self.no])?;
         run(
@@ -139,8 +137,6 @@ pub struct DeleteDrafts;
 
 impl Alteration for DeleteDrafts {
     ghost alteration = { λ _ t. no_drafts t };
-
-    ghost fits = { λ _. Unit {0} };
 
     fn apply<S: Alter>(&self, tx: &mut Transaction<'_, S>) -> Result<(), Error> {
         run(tx, "DELETE FROM draft", &[])?;

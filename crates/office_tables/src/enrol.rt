@@ -1,5 +1,5 @@
 // Enrolments of students in exams.
-ghost use Rattle.std.specs.Prelude.{◌==◌, false, filter};
+ghost use Rattle.std.specs.Prelude.{◌==◌, filter};
 ghost use Rattle.office_tables.specs.Enrol.{enrol_columns, without_enrol, FitsEnrol, StudentEnrolsRise};
 ghost use Rattle.office_tables.specs.Selections.{AreListed, AreListedIfFit};
 
@@ -58,10 +58,6 @@ impl Table<2, 32> for EnrolRow {
       with_rows = λ rows t. record t { enrol = rows };
     } };
 
-    ghost limited = { false };
-
-    ghost fits = { λ _. Unit {0} };
-
     fn values(&self) -> [i64; 2] {
         table!(enrol values self)
     }
@@ -92,8 +88,6 @@ pub struct DeleteEnrol {
 
 impl Alteration for DeleteEnrol {
     ghost alteration = { λ it t. without_enrol it.student it.exam t };
-
-    ghost fits = { λ _. Unit {0} };
 
     fn apply<S: Alter>(&self, tx: &mut Transaction<'_, S>) -> Result<(), Error> {
         run(

@@ -32,8 +32,6 @@ pub struct InsertMeta<'a> {
 impl Alteration for InsertMeta<'_> {
     ghost alteration = { λ it t. with_meta it.published it.instance.now t };
 
-    ghost fits = { λ _. Unit {0} };
-
     fn apply<S: Alter>(&self, tx: &mut Transaction<'_, S>) -> Result<(), Error> {
         run(
             tx,
@@ -56,8 +54,6 @@ pub struct DeleteMeta;
 
 impl Alteration for DeleteMeta {
     ghost alteration = { λ _ t. no_meta t };
-
-    ghost fits = { λ _. Unit {0} };
 
     fn apply<S: Alter>(&self, tx: &mut Transaction<'_, S>) -> Result<(), Error> {
         run(tx, "DELETE FROM meta", &[])

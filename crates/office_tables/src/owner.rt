@@ -46,7 +46,6 @@ impl Listed for OwnerRow {
 }
 
 impl Table<2, 1> for OwnerRow {
-    ghost use Rattle.std.specs.Prelude.{false};
     ghost use Rattle.std.proofs.Common.{arith};
     ghost use Rattle.office_schema.specs.Schema.{owner_table};
 
@@ -57,10 +56,6 @@ impl Table<2, 1> for OwnerRow {
       rows = λ t. t.owner;
       with_rows = λ rows t. record t { owner = rows };
     } };
-
-    ghost limited = { false };
-
-    ghost fits = { λ _. Unit {0} };
 
     fn values(&self) -> [i64; 2] {
         table!(owner values self)
@@ -89,8 +84,6 @@ pub struct DeleteOwner {
 
 impl Alteration for DeleteOwner {
     ghost alteration = { λ it t. without_owner it.exam t };
-
-    ghost fits = { λ _. Unit {0} };
 
     fn apply<S: Alter>(&self, tx: &mut Transaction<'_, S>) -> Result<(), Error> {
         run(tx, "DELETE FROM owner WHERE exam = ?1", params![self.exam])

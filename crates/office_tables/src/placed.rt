@@ -1,5 +1,4 @@
 // Placements of exams in the publication.
-ghost use Rattle.std.specs.Prelude.{false};
 ghost use Rattle.office_tables.specs.Placed.{placed_columns, placed_of, without_placement, FitsPlacement, PlacementsRise};
 ghost use Rattle.office_tables.specs.Selections.{AreListed};
 
@@ -59,10 +58,6 @@ impl Table<3, 16> for PlacedRow {
       with_rows = λ rows t. record t { placed = rows };
     } };
 
-    ghost limited = { false };
-
-    ghost fits = { λ _. Unit {0} };
-
     fn values(&self) -> [i64; 3] {
         table!(placed values self)
     }
@@ -92,8 +87,6 @@ pub struct DeletePlacement {
 
 impl Alteration for DeletePlacement {
     ghost alteration = { λ it t. without_placement it.exam t };
-
-    ghost fits = { λ _. Unit {0} };
 
     fn apply<S: Alter>(&self, tx: &mut Transaction<'_, S>) -> Result<(), Error> {
         run(tx, "DELETE FROM placed WHERE exam = ?1", params![self.exam])

@@ -1,5 +1,5 @@
 // Seats of students.
-ghost use Rattle.std.specs.Prelude.{◌==◌, false, filter};
+ghost use Rattle.std.specs.Prelude.{◌==◌, filter};
 ghost use Rattle.office_tables.specs.Seat.{seat_columns, without_seat, FitsSeat, StudentSeatsRise};
 ghost use Rattle.office_tables.specs.Selections.{AreListed};
 
@@ -61,10 +61,6 @@ impl Table<5, 16> for SeatRow {
       with_rows = λ rows t. record t { seat = rows };
     } };
 
-    ghost limited = { false };
-
-    ghost fits = { λ _. Unit {0} };
-
     fn values(&self) -> [i64; 5] {
         table!(seat values self)
     }
@@ -95,8 +91,6 @@ pub struct DeleteSeat {
 
 impl Alteration for DeleteSeat {
     ghost alteration = { λ it t. without_seat it.student it.exam t };
-
-    ghost fits = { λ _. Unit {0} };
 
     fn apply<S: Alter>(&self, tx: &mut Transaction<'_, S>) -> Result<(), Error> {
         run(

@@ -98,8 +98,6 @@ pub struct DeletePartShares;
 impl Alteration for DeletePartShares {
     ghost alteration = { λ _ t. no_part_shares t };
 
-    ghost fits = { λ _. Unit {0} };
-
     fn apply<S: Alter>(&self, tx: &mut Transaction<'_, S>) -> Result<(), Error> {
         run(tx, "DELETE FROM share_part", &[])
     }

@@ -170,8 +170,6 @@ pub struct DeleteStudentShare {
 impl Alteration for DeleteStudentShare {
     ghost alteration = { λ it t. without_student_share it.student t };
 
-    ghost fits = { λ _. Unit {0} };
-
     fn apply<S: Alter>(&self, tx: &mut Transaction<'_, S>) -> Result<(), Error> {
         run(
             tx,

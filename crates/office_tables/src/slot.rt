@@ -45,7 +45,6 @@ impl Listed for SlotRow {
 }
 
 impl Table<4, 16> for SlotRow {
-    ghost use Rattle.std.specs.Prelude.{false};
     ghost use Rattle.std.proofs.Common.{arith};
     ghost use Rattle.office_schema.specs.Schema.{slot_table};
 
@@ -56,10 +55,6 @@ impl Table<4, 16> for SlotRow {
       rows = λ t. t.slot;
       with_rows = λ rows t. record t { slot = rows };
     } };
-
-    ghost limited = { false };
-
-    ghost fits = { λ _. Unit {0} };
 
     fn values(&self) -> [i64; 4] {
         table!(slot values self)
@@ -91,8 +86,6 @@ pub struct DeleteSlots {
 impl Alteration for DeleteSlots {
     ghost alteration = { λ it t. without_slots it.draft t };
 
-    ghost fits = { λ _. Unit {0} };
-
     fn apply<S: Alter>(&self, tx: &mut Transaction<'_, S>) -> Result<(), Error> {
         run(tx, "DELETE FROM slot WHERE draft = ?1", params![self.draft])
     }
@@ -107,8 +100,6 @@ pub struct DeleteSlot {
 
 impl Alteration for DeleteSlot {
     ghost alteration = { λ it t. without_slot it.draft it.exam t };
-
-    ghost fits = { λ _. Unit {0} };
 
     fn apply<S: Alter>(&self, tx: &mut Transaction<'_, S>) -> Result<(), Error> {
         run(

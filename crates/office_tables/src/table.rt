@@ -1,5 +1,5 @@
 // Rows of a table, and the statements that insert them.
-ghost use Rattle.std.specs.Prelude.{◌≡◌, ◌≢◌, ◌<◌, ◌≤◌, ◌*◌, Bool, length, map, slice_index_or};
+ghost use Rattle.std.specs.Prelude.{◌≡◌, ◌≢◌, ◌<◌, ◌≤◌, ◌*◌, Bool, false, length, map, slice_index_or};
 ghost use Rattle.sqlite.specs.Held.{state};
 ghost use Rattle.sqlite_value.specs.declared.value.Value.TheVariants.{Int};
 ghost use Rattle.office_tables.specs.Alterations.{after_all};
@@ -17,10 +17,10 @@ pub trait Table<const W: usize, const N: usize>: Copy {
     ghost shape: { Shape Self };
 
     // Whether `fits` has to hold before a row is stored.
-    ghost limited: { Bool };
+    ghost limited: { Bool } = { false };
 
     // What the numbers of a row have to obey.
-    ghost fits: { Self → Type 0 };
+    ghost fits: { Self → Type 0 } = { λ _. Unit {0} };
 
     /// Returns its columns.
     fn values(&self) -> [i64; W]
