@@ -5,4 +5,5 @@ mod parts;
 mod tables;
 mod whole;
 
+pub use tables::TABLES_BEFORE;
 pub use whole::{is_office_schema, is_schema_before};

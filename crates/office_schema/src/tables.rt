@@ -1,6 +1,9 @@
 // The tables of an office's file, in the order of version 2: those of version 1, and then those of
 // amounts over night.
 
+/// The number of tables of version 1.
+pub const TABLES_BEFORE: usize = 10;
+
 /// Passes a table to a macro of the caller: its name, its tree, its key, and its columns, each with
 /// the word of SQL for its kind; then what follows the macro's name. The key is the first column
 /// (`Number`), the first two (`Pair`), or these two, and no two rows agree in the next three

@@ -4,6 +4,7 @@ ghost use Rattle.office_schema.specs.Schema.{declared_table, office_schema, sche
 
 use crate::parts::{Declared, TableKey, is_pair_index, is_seat_index, is_table};
 use crate::tables;
+use crate::tables::TABLES_BEFORE;
 use sqlite_schema::schema::{Index, Kind, Schema, Table};
 use std::alloc::{AllocError, Global};
 
@@ -30,9 +31,6 @@ macro_rules! kind_of {
 }
 
 const TABLES: [Declared; 12] = tables!(declared);
-
-// The number of tables of version 1.
-const TABLES_BEFORE: usize = 10;
 
 /// Returns whether this is the schema of an office's file, version 2: the twelve tables in their
 /// order and trees, their indexes, and no other table, view, index or trigger.

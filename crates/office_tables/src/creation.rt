@@ -14,14 +14,11 @@ use crate::altering::Alteration;
 use crate::meta::InsertMeta;
 use crate::running::run;
 use crate::texts::create_text;
-use office_schema::tables;
+use office_schema::{TABLES_BEFORE, tables};
 use sqlite::{Alter, Connection, Error, Transaction};
 
 // The tables of version 2: those of version 1, and then two of amounts over night.
 const TABLES: [&str; 12] = tables!(create_text);
-
-// The number of tables of version 1.
-const TABLES_BEFORE: usize = 10;
 
 /// Returns whether the database has no table, no index and no view.
 pub fn is_bare<S: Alter>(conn: &Connection<S>) -> bool
