@@ -1,12 +1,12 @@
 -- Texts of standard input and of files, of three paths.
-use Rattle.std.proofs.Common.{IfSome, List, None, Option, Some, refl, subst, ℕ}
+use Rattle.std.proofs.Common.{IfSome, List, None, Option, Some, subst, ℕ}
+use Rattle.std.specs.Prelude.{option_map}
 use Rattle.office_check.specs.Compare.{Compares, ComparesFrom, RefusesComparison}
-use Rattle.office_check.specs.declared.checking.CheckFault.TheVariants as check
 use Rattle.office_check.specs.declared.comparing.CompareFault.{CompareFault}
 use Rattle.office_check.specs.declared.comparing.CompareFault.TheVariants as compare
-use Rattle.office_program.proofs.SourceFacts.{read_text}
-use Rattle.office_program.specs.Sources.{IsReaderOf, Known, MayNotOpen, OfThreeFiles}
-use Rattle.office_program.specs.TaskFaults.{IsCompareCause}
+use Rattle.office_program.proofs.SourceFacts.{may_not_read, read_text, reader_may_fail}
+use Rattle.office_program.specs.Sources.{IsReaderOf, Known, OfThreeFiles}
+use Rattle.office_program.specs.TaskFaults.{IsCompareCause, IsFirstOfThree, MayNotReadOne}
 
 -- the comparison of texts of the readers is that of texts of their files
 pub of_three : (first second third : Known) (one two three old new : Option (List ℕ))
@@ -23,21 +23,21 @@ of_three first second third one two three old new reads also too from = record {
   are = from.compares;
 }
 
--- the fault of three readers is that of their files
-pub three_refused : (first second third : Known) (one two three : Option (List ℕ))
+-- the first fault of three readers is that of their files
+first_of_three : (first second third : Known) (one two three : Option (List ℕ))
     → IsReaderOf first one → IsReaderOf second two → IsReaderOf third three
     → (fault : CompareFault) → IfSome one (λ a. IfSome two (λ b. IfSome three (λ c.
     RefusesComparison a b c fault)))
-    → IsCompareCause first second third fault
-three_refused None second third one two three reads also too fault refuses = tt
-three_refused (Some None) second third one two three reads also too fault refuses = absurd reads
-three_refused (Some (Some a)) None third one two three reads also too fault refuses = tt
-three_refused (Some (Some a)) (Some None) third one two three reads also too fault refuses =
+    → IsFirstOfThree first second third fault
+first_of_three None second third one two three reads also too fault refuses = tt
+first_of_three (Some None) second third one two three reads also too fault refuses = absurd reads
+first_of_three (Some (Some a)) None third one two three reads also too fault refuses = tt
+first_of_three (Some (Some a)) (Some None) third one two three reads also too fault refuses =
     absurd also
-three_refused (Some (Some a)) (Some (Some b)) None one two three reads also too fault refuses = tt
-three_refused (Some (Some a)) (Some (Some b)) (Some None) one two three reads also too fault refuses =
+first_of_three (Some (Some a)) (Some (Some b)) None one two three reads also too fault refuses = tt
+first_of_three (Some (Some a)) (Some (Some b)) (Some None) one two three reads also too fault refuses =
     absurd too
-three_refused (Some (Some a)) (Some (Some b)) (Some (Some c)) one two three reads also too fault
+first_of_three (Some (Some a)) (Some (Some b)) (Some (Some c)) one two three reads also too fault
     refuses =
     let one_known = subst (λ o. IfSome o (λ a. IfSome two (λ b. IfSome three (λ c.
     RefusesComparison a b c fault)))) reads refuses in
@@ -45,31 +45,26 @@ three_refused (Some (Some a)) (Some (Some b)) (Some (Some c)) one two three read
     also one_known in
     subst (λ o. IfSome o (λ c. RefusesComparison a b c fault)) too two_known
 
--- the session can't be opened
-pub session_unopened : (first second third : Known) → MayNotOpen first
-    → IsCompareCause first second third (compare.Check check.ReadInstance)
-session_unopened None second third may = tt
-session_unopened (Some None) second third may = refl
-session_unopened (Some (Some text)) second third may = absurd may
+-- a file that can't be read is one of a reader that failed
+may_not_read_one : (first second third : Known) (one two three : Option (List ℕ))
+    → IsReaderOf first one → IsReaderOf second two → IsReaderOf third three
+    → (fault : CompareFault)
+    → MayNotReadOne (option_map Some one) (option_map Some two) (option_map Some three) fault
+    → MayNotReadOne first second third fault
+may_not_read_one first second third one two three reads also too (compare.Check of) may =
+    may_not_read first second one two reads also of may
+may_not_read_one first second third one two three reads also too compare.ReadAfter may =
+    reader_may_fail third three too may
+may_not_read_one first second third one two three reads also too (compare.After f) may = tt
 
--- the session is read, and the first solution can't be opened
-pub before_unopened : (first second third : Known) (one : Option (List ℕ)) → IsReaderOf first one
-    → MayNotOpen second → IsCompareCause first second third (compare.Check check.ReadSolution)
-before_unopened None second third one reads may = tt
-before_unopened (Some None) second third one reads may = absurd reads
-before_unopened (Some (Some text)) None third one reads may = tt
-before_unopened (Some (Some text)) (Some None) third one reads may = refl
-before_unopened (Some (Some text)) (Some (Some other)) third one reads may = absurd may
-
--- both are read, and the second solution can't be opened
-pub after_unopened : (first second third : Known) (one two : Option (List ℕ))
-    → IsReaderOf first one → IsReaderOf second two → MayNotOpen third
-    → IsCompareCause first second third compare.ReadAfter
-after_unopened None second third one two reads also may = tt
-after_unopened (Some None) second third one two reads also may = absurd reads
-after_unopened (Some (Some text)) None third one two reads also may = tt
-after_unopened (Some (Some text)) (Some None) third one two reads also may = absurd also
-after_unopened (Some (Some text)) (Some (Some other)) None one two reads also may = tt
-after_unopened (Some (Some text)) (Some (Some other)) (Some None) one two reads also may = refl
-after_unopened (Some (Some text)) (Some (Some other)) (Some (Some last)) one two reads also may =
-    absurd may
+-- the fault of three readers is that of their files
+pub three_refused : (first second third : Known) (one two three : Option (List ℕ))
+    → IsReaderOf first one → IsReaderOf second two → IsReaderOf third three
+    → (fault : CompareFault) → IfSome one (λ a. IfSome two (λ b. IfSome three (λ c.
+    RefusesComparison a b c fault)))
+    → MayNotReadOne (option_map Some one) (option_map Some two) (option_map Some three) fault
+    → IsCompareCause first second third fault
+three_refused first second third one two three reads also too fault refuses may = (
+  first_of_three first second third one two three reads also too fault refuses,
+  may_not_read_one first second third one two three reads also too fault may,
+)

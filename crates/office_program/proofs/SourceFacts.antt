@@ -1,5 +1,5 @@
 -- Texts of standard input and of files.
-use Rattle.std.proofs.Common.{◌≡◌, ◌⊎◌, Bool, List, [], ◌∷◌, None, Option, Some, IfSome, ap, false, inl, inr, refl, subst, sym, ◌∙◌, true, ℕ, Err, Ok, Result}
+use Rattle.std.proofs.Common.{◌≡◌, Bool, List, None, Option, Some, IfSome, ap, false, refl, subst, sym, ◌∙◌, true, ℕ, Err, Ok, Result}
 use Rattle.std.specs.Prelude.{◌≤◌, IfOk, if◌then◌else◌, length, option_map}
 use Rattle.exam_model.specs.Enrolments.{Enrolled}
 use Rattle.exam_model.specs.Instance.{Session}
@@ -8,17 +8,12 @@ use Rattle.office_check.specs.Check.{IsInput, OfInputs}
 use Rattle.office_check.specs.Listing.{AnswersPlaces, WritesPlaces}
 use Rattle.office_check.specs.declared.listing.PlacesAnswer.{PlacesAnswer}
 use Rattle.office_check.specs.declared.listing.PlacesAnswer.TheVariants.{Listed, NoExam}
-use Rattle.office_check.specs.Refusing.{Refuses}
 use Rattle.office_check.specs.declared.checking.CheckFault.{CheckFault}
-use Rattle.office_check.specs.declared.checking.CheckFault.TheVariants.{ReadInstance, ReadSolution}
-use Rattle.office_files.specs.FirstFault.{first_fault, first_solution_fault}
-use Rattle.office_files.specs.Inputs.{RefusesFile}
-use Rattle.office_files.specs.declared.inputs.InputFault.{InputFault}
-use Rattle.office_files.specs.declared.inputs.InputFault.TheVariants.{Read}
+use Rattle.office_check.specs.declared.checking.CheckFault.TheVariants as check
 use Rattle.office_check.specs.declared.judging.LineForm.{LineForm}
-use Rattle.office_program.specs.CheckAll.{IsInstanceCause, IsLineOf, IsSolutionCause}
-use Rattle.office_program.specs.Sources.{IsReaderOf, IsTextOf, Known, MayNotOpen, OfFiles, file_at, is_stdin, is_stdin_shared, source_at}
-use Rattle.office_program.specs.TaskFaults.{IsCheckCause}
+use Rattle.office_program.specs.CheckAll.{IsLineOf}
+use Rattle.office_program.specs.Sources.{IsReaderOf, IsTextOf, Known, MayNotOpen, OfFiles, file_at, is_stdin, source_at}
+use Rattle.office_program.specs.TaskFaults.{MayNotRead}
 use Rattle.office_program.specs.declared.judging.VerdictLine.{VerdictLine}
 
 -- ---- readers
@@ -105,7 +100,20 @@ line_less I E form path a b line less of = record {
   breach = of.breach;
 }
 
+-- a watched reader that hasn't failed has left what its reader has
+watched : (has_failed : Bool) (left : Option (List ℕ)) → has_failed ≡ false
+    → (if has_failed then None else left) ≡ left
+watched has_failed left is = ap (λ (b : Bool). if b then None else left) is
+
 -- ---- two readers
+
+-- what holds of texts of watched readers that haven't failed holds of those of their readers
+pub of_watched : (one two left right : Option (List ℕ)) (a b : Bool)
+    (P : Session → Enrolled → Placing → Type 0) → a ≡ false → b ≡ false → left ≡ one → right ≡ two
+    → OfInputs (if a then None else left) (if b then None else right) P → OfInputs one two P
+of_watched one two left right a b P a_is b_is first second of =
+    subst (λ o. OfInputs one o P) (watched b right b_is ∙ second)
+    (subst (λ o. OfInputs o (if b then None else right) P) (watched a left a_is ∙ first) of)
 
 -- what holds of texts of the readers holds of texts of their files
 pub of_files : (first second : Known) (one two : Option (List ℕ)) → IsReaderOf first one
@@ -118,6 +126,27 @@ of_files first second one two reads also P of = record {
   of_second = read_text second two also of.solution of.of_second;
   texts = of.texts;
 }
+
+-- a file is no more known than its reader
+pub reader_may_fail : (known : Known) (left : Option (List ℕ)) → IsReaderOf known left
+    → MayNotOpen (option_map Some left) → MayNotOpen known
+reader_may_fail None left reads may = tt
+reader_may_fail (Some None) left reads may = tt
+reader_may_fail (Some (Some bytes)) left reads may =
+    absurd (subst (λ o. MayNotOpen (option_map Some o)) reads may)
+
+-- a file that can't be read is one of a reader that failed
+pub may_not_read : (first second : Known) (one two : Option (List ℕ)) → IsReaderOf first one
+    → IsReaderOf second two → (fault : CheckFault)
+    → MayNotRead (option_map Some one) (option_map Some two) fault → MayNotRead first second fault
+may_not_read first second one two reads also check.ReadInstance may =
+    reader_may_fail first one reads may
+may_not_read first second one two reads also check.ReadSolution may =
+    reader_may_fail second two also may
+may_not_read first second one two reads also (check.Instance f) may = tt
+may_not_read first second one two reads also (check.Solution f) may = tt
+may_not_read first second one two reads also check.Write may = tt
+may_not_read first second one two reads also check.NoMemory may = tt
 
 -- what the list of places answers
 pub listed : (first second : Known) (exam : ℕ) (old new : Option (List ℕ))
@@ -143,85 +172,3 @@ not_listed first second exam old new result done is =
       of_second = of.of_second;
       texts = record { read = of.texts.read; holds = of.texts.holds.0 };
     }
-
--- the fault of two readers is that of their files
-pub of_readers : (first second : Known) (one two : Option (List ℕ)) → IsReaderOf first one
-    → IsReaderOf second two → (fault : CheckFault)
-    → IfSome one (λ instance. IfSome two (λ solution. Refuses instance solution fault))
-    → IsCheckCause first second fault
-of_readers None second one two reads also fault refuses = tt
-of_readers (Some None) second one two reads also fault refuses = absurd reads
-of_readers (Some (Some a)) None one two reads also fault refuses = tt
-of_readers (Some (Some a)) (Some None) one two reads also fault refuses = absurd also
-of_readers (Some (Some a)) (Some (Some b)) one two reads also fault refuses =
-    let is : one ≡ Some a = reads in let too : two ≡ Some b = also in
-    subst (λ o. IfSome o (λ solution. Refuses a solution fault)) too
-    (subst (λ o. IfSome o (λ instance. IfSome two (λ solution. Refuses instance solution fault))) is
-    refuses)
-
--- the first file can't be opened
-pub first_unopened : (first second : Known) → MayNotOpen first
-    → IsCheckCause first second ReadInstance
-first_unopened None second may = tt
-first_unopened (Some None) second may = refl
-first_unopened (Some (Some text)) second may = absurd may
-
--- the first one is read, and the second one can't be opened
-pub second_unopened : (first second : Known) (one : Option (List ℕ)) → IsReaderOf first one
-    → MayNotOpen second → IsCheckCause first second ReadSolution
-second_unopened None second one reads may = tt
-second_unopened (Some None) second one reads may = absurd reads
-second_unopened (Some (Some text)) None one reads may = tt
-second_unopened (Some (Some text)) (Some None) one reads may = refl
-second_unopened (Some (Some text)) (Some (Some other)) one reads may = absurd may
-
--- ---- paths
-
--- a path that isn't standard input names a file that may not open, if opening it failed
-pub unopened : (stdin : Option (List ℕ)) (files : List ℕ → Known) (path : List ℕ)
-    → is_stdin path ≡ false → (is_stdin path ≡ true) ⊎ MayNotOpen (files path)
-    → MayNotOpen (source_at stdin files path)
-unopened stdin files path is (inl other) = let never : true ≡ false = sym other ∙ is in cc
-unopened stdin files path is (inr may) =
-    subst MayNotOpen (sym (source_of_file stdin files path is)) may
-
--- the other of two paths isn't standard input, if the one is and they don't share it
-pub not_shared : (path other : List ℕ) → is_stdin path ≡ true
-    → is_stdin_shared (path ∷ other ∷ []) ≡ false → is_stdin other ≡ false
-not_shared path other is shared = go (is_stdin other) refl
-  where
-    go : (b : _) → is_stdin other ≡ b → is_stdin other ≡ false
-    go false other_is = other_is
-    go true other_is =
-        let both : is_stdin_shared (path ∷ other ∷ []) ≡ true = rw (is, other_is) refl in
-        let never : true ≡ false = sym both ∙ shared in cc
-
--- ---- one reader
-
--- the fault of a reader is that of its file
-pub instance_cause : (known : Known) (left : Option (List ℕ)) → IsReaderOf known left
-    → (fault : InputFault) → IfSome left (λ text. RefusesFile (first_fault text) fault)
-    → IsInstanceCause known fault
-instance_cause None left reads fault refuses = tt
-instance_cause (Some None) left reads fault refuses = absurd reads
-instance_cause (Some (Some text)) left reads fault refuses =
-    subst (λ o. IfSome o (λ text. RefusesFile (first_fault text) fault)) reads refuses
-
-pub instance_unopened : (known : Known) → MayNotOpen known → IsInstanceCause known Read
-instance_unopened None may = tt
-instance_unopened (Some None) may = refl
-instance_unopened (Some (Some text)) may = absurd may
-
-pub solution_cause : (I : Session) (known : Known) (left : Option (List ℕ)) → IsReaderOf known left
-    → (fault : InputFault) → IfSome left (λ text. RefusesFile (first_solution_fault I text) fault)
-    → IsSolutionCause I known fault
-solution_cause I None left reads fault refuses = tt
-solution_cause I (Some None) left reads fault refuses = absurd reads
-solution_cause I (Some (Some text)) left reads fault refuses =
-    subst (λ o. IfSome o (λ text. RefusesFile (first_solution_fault I text) fault)) reads refuses
-
-pub solution_unopened : (I : Session) (known : Known) → MayNotOpen known
-    → IsSolutionCause I known Read
-solution_unopened I None may = tt
-solution_unopened I (Some None) may = refl
-solution_unopened I (Some (Some text)) may = absurd may

@@ -1,5 +1,5 @@
 -- The output of `check-all`: a line for each solution that is judged, and one for each fault.
-use Rattle.std.specs.Prelude.{◌≡◌, ◌⊎◌, ◌++◌, ◌∷◌, [], ℕ, ◌==◌, Bool, true, false, not, All, IsTrue, List}
+use Rattle.std.specs.Prelude.{◌≡◌, ◌≢◌, ◌⊎◌, ◌++◌, ◌∷◌, [], ℕ, ◌==◌, Bool, true, false, not, All, IsTrue, List}
 use Rattle.std.specs.Prelude.{MatchBool, None, Option, Some, codes, if◌then◌else◌, length, map, string_bytes, ◌&&◌, ◌||◌}
 use Rattle.std.specs.List.{flat_map, list_any}
 use Rattle.std.specs.Io.KnownBytes.{Appends}
@@ -19,18 +19,20 @@ use Rattle.office_program.specs.Sources.{IsTextOf, Known}
 use Rattle.office_program.specs.declared.judging.Found.{Found}
 use Rattle.office_program.specs.declared.judging.VerdictLine.{VerdictLine}
 
--- why the file of a session can't be read: it can't be opened, or its text has this first fault, as
--- far as is known
+-- why the file of a session isn't taken: it can't be opened, or its text has this first fault, as
+-- far as is known; a file whose bytes are known can be read
 abbrev pub IsInstanceCause : Known → InputFault → Type 0
 IsInstanceCause None fault = Unit {0}
 IsInstanceCause (Some None) fault = fault ≡ input.Read
-IsInstanceCause (Some (Some text)) fault = RefusesFile (first_fault text) fault
+IsInstanceCause (Some (Some text)) fault =
+    RefusesFile (first_fault text) fault × (fault ≢ input.Read)
 
 -- the same for the file of a solution of a session
 abbrev pub IsSolutionCause : Session → Known → InputFault → Type 0
 IsSolutionCause I None fault = Unit {0}
 IsSolutionCause I (Some None) fault = fault ≡ input.Read
-IsSolutionCause I (Some (Some text)) fault = RefusesFile (first_solution_fault I text) fault
+IsSolutionCause I (Some (Some text)) fault =
+    RefusesFile (first_solution_fault I text) fault × (fault ≢ input.Read)
 
 -- the outcome of one solution: the text that is printed on `out`, and the text written to `err`
 pub record Outcome : Type 0 where

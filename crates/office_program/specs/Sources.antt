@@ -34,7 +34,7 @@ IsReaderOf None left = Unit {0}
 IsReaderOf (Some None) left = ⊥
 IsReaderOf (Some (Some known)) left = left ≡ Some known
 
--- it isn't known that the file can be opened
+-- the file's bytes aren't known: it may not open, or a read of it may fail
 abbrev pub MayNotOpen : Known → Type 0
 MayNotOpen None = Unit {0}
 MayNotOpen (Some None) = Unit {0}

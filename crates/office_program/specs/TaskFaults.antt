@@ -1,5 +1,5 @@
 -- How the faults of each task are shown: their lines, and which faults a task has.
-use Rattle.std.specs.Prelude.{◌≡◌, ◌≤◌, ◌⊎◌, ℕ, ◌++◌, ◌∷◌, [], List, None, Some, codes, false, length}
+use Rattle.std.specs.Prelude.{◌≡◌, ◌≢◌, ◌≤◌, ◌⊎◌, ℕ, ◌++◌, ◌∷◌, [], List, None, Some, codes, false, length}
 use Rattle.office_model.specs.declared.fault.StoreFault.{StoreFault}
 use Rattle.office_model.specs.declared.fault.StoreFault.TheVariants.{Store}
 use Rattle.sqlite.specs.declared.error.Error.{Error}
@@ -25,7 +25,7 @@ use Rattle.office_program.specs.declared.faults.ProgramFault.{ProgramFault}
 use Rattle.office_program.specs.declared.faults.ProgramFault.TheVariants as fault
 use Rattle.office_program.specs.CheckAll.{IsInstanceCause}
 use Rattle.office_program.specs.Load.{NamesTextFault}
-use Rattle.office_program.specs.Sources.{IsTextOf, Known, OfFiles, is_stdin_shared}
+use Rattle.office_program.specs.Sources.{IsTextOf, Known, MayNotOpen, OfFiles, is_stdin_shared}
 use Rattle.office_program.specs.FaultLines.{fault_line, input_line, open_line, store_line}
 
 -- the line of a fault of `check` on the files of two paths, without its end
@@ -39,14 +39,24 @@ check_line instance solution (check.Solution f) = fault_line (fault.Solution f)
 check_line instance solution check.Write = fault_line fault.CannotWrite
 check_line instance solution check.NoMemory = fault_line fault.NoMemory
 
--- why two files aren't judged: in this order, the one can't be opened, the other can't be opened, or
--- the first fault of their texts, as far as is known
+-- of two files, the one that the fault says can't be read isn't one whose bytes are known
+abbrev pub MayNotRead : Known → Known → CheckFault → Type 0
+MayNotRead first second check.ReadInstance = MayNotOpen first
+MayNotRead first second check.ReadSolution = MayNotOpen second
+MayNotRead first second of = Unit {0}
+
+-- the first reason not to judge two files: in this order, the one can't be opened, the other can't
+-- be opened, or the first fault of their texts, as far as is known
+abbrev pub IsFirstCause : Known → Known → CheckFault → Type 0
+IsFirstCause (Some None) second of = of ≡ check.ReadInstance
+IsFirstCause (Some (Some instance)) (Some None) of = of ≡ check.ReadSolution
+IsFirstCause (Some (Some instance)) (Some (Some solution)) of = Refuses instance solution of
+IsFirstCause (Some (Some instance)) None of = Unit {0}
+IsFirstCause None second of = Unit {0}
+
+-- why two files aren't judged
 abbrev pub IsCheckCause : Known → Known → CheckFault → Type 0
-IsCheckCause (Some None) second of = of ≡ check.ReadInstance
-IsCheckCause (Some (Some instance)) (Some None) of = of ≡ check.ReadSolution
-IsCheckCause (Some (Some instance)) (Some (Some solution)) of = Refuses instance solution of
-IsCheckCause (Some (Some instance)) None of = Unit {0}
-IsCheckCause None second of = Unit {0}
+IsCheckCause first second of = IsFirstCause first second of × MayNotRead first second of
 
 -- the fault is shown as one of `check` on the files of two paths, and is theirs; of these one at most
 -- is standard input
@@ -77,17 +87,28 @@ compare_line session before after compare.ReadAfter =
     codes "examoffice: cannot read " ++ printed_name after
 compare_line session before after (compare.After f) = solution_line_at after f
 
--- why three files aren't compared: in this order, the session can't be opened, the first solution, the
--- second one, or the first fault of their texts, as far as is known
-abbrev pub IsCompareCause : Known → Known → Known → CompareFault → Type 0
-IsCompareCause (Some None) second third of = of ≡ compare.Check check.ReadInstance
-IsCompareCause (Some (Some one)) (Some None) third of = of ≡ compare.Check check.ReadSolution
-IsCompareCause (Some (Some one)) (Some (Some two)) (Some None) of = of ≡ compare.ReadAfter
-IsCompareCause (Some (Some one)) (Some (Some two)) (Some (Some three)) of =
+-- of three files, the one that the fault says can't be read isn't one whose bytes are known
+abbrev pub MayNotReadOne : Known → Known → Known → CompareFault → Type 0
+MayNotReadOne first second third (compare.Check of) = MayNotRead first second of
+MayNotReadOne first second third compare.ReadAfter = MayNotOpen third
+MayNotReadOne first second third (compare.After f) = Unit {0}
+
+-- the first reason not to compare three files: in this order, the session can't be opened, the
+-- first solution, the second one, or the first fault of their texts, as far as is known
+abbrev pub IsFirstOfThree : Known → Known → Known → CompareFault → Type 0
+IsFirstOfThree (Some None) second third of = of ≡ compare.Check check.ReadInstance
+IsFirstOfThree (Some (Some one)) (Some None) third of = of ≡ compare.Check check.ReadSolution
+IsFirstOfThree (Some (Some one)) (Some (Some two)) (Some None) of = of ≡ compare.ReadAfter
+IsFirstOfThree (Some (Some one)) (Some (Some two)) (Some (Some three)) of =
     RefusesComparison one two three of
-IsCompareCause (Some (Some one)) (Some (Some two)) None of = Unit {0}
-IsCompareCause (Some (Some one)) None third of = Unit {0}
-IsCompareCause None second third of = Unit {0}
+IsFirstOfThree (Some (Some one)) (Some (Some two)) None of = Unit {0}
+IsFirstOfThree (Some (Some one)) None third of = Unit {0}
+IsFirstOfThree None second third of = Unit {0}
+
+-- why three files aren't compared
+abbrev pub IsCompareCause : Known → Known → Known → CompareFault → Type 0
+IsCompareCause first second third of =
+    IsFirstOfThree first second third of × MayNotReadOne first second third of
 
 -- the fault is shown as one of `compare` on the files of three paths, and is theirs; of these one at
 -- most is standard input
@@ -117,11 +138,12 @@ IsOfOffice text shown =
     ((of : Error) × (fault_line shown ≡ open_line of))
     ⊎ ((of : LoadFault) × NamesTextFault text of × (fault_line shown ≡ load_line of))
 
--- why the text of a file can't be read: it can't be opened, or is too long, as far as is known
+-- why the text of a file isn't taken: it can't be opened, or is too long, as far as is known; a
+-- file whose bytes are known can be read
 abbrev pub IsTextCause : Known → InputFault → Type 0
 IsTextCause None of = Unit {0}
 IsTextCause (Some None) of = of ≡ input.Read
-IsTextCause (Some (Some text)) of = RefusesText INSTANCE_BYTES text of
+IsTextCause (Some (Some text)) of = RefusesText INSTANCE_BYTES text of × (of ≢ input.Read)
 
 -- the fault is shown as one of the file of this path, and is that of its text; or it is one of the
 -- office that its text is loaded into

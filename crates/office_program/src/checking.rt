@@ -7,12 +7,13 @@ ghost use Rattle.office_program.specs.TaskFaults.{IsOfCheck};
 
 use crate::ending::Ending;
 use crate::faults::{ProgramFault, fault_on};
+use crate::readers::TextReader;
 use crate::sources::run_by_paths;
 use crate::texts::Texts;
 use exam_model::StudentNo;
 use office_check::{JsonReport, SolutionTask, Why, WhyFor};
 use std::alloc::Global;
-use std::io::{Read, Write};
+use std::io::Write;
 
 /// A form in which `check` prints more or other than the report.
 #[derive(Clone, Copy, Debug, PartialEq, Eq)]
@@ -26,7 +27,7 @@ pub enum CheckForm {
 }
 
 // Runs `check` in another form.
-pub(crate) fn check_as<'a, T: Texts, I: Read, W: Write>(
+pub(crate) fn check_as<'a, T: Texts, I: TextReader, W: Write>(
     alloc: Global,
     files: &T,
     stdin: &mut I,
@@ -67,7 +68,7 @@ pub(crate) fn check_as<'a, T: Texts, I: Read, W: Write>(
 }
 
 // Runs a task of `check`, whose answer is the exit status.
-pub(crate) fn check<'a, K: SolutionTask<Answer = u8>, T: Texts, I: Read, W: Write>(
+pub(crate) fn check<'a, K: SolutionTask<Answer = u8>, T: Texts, I: TextReader, W: Write>(
     alloc: Global,
     files: &T,
     stdin: &mut I,

@@ -9,14 +9,16 @@ ghost use Rattle.office_program.specs.TaskFaults.{IsCompareCause, IsOfCompare, c
 
 use crate::ending::Ending;
 use crate::faults::{ProgramFault, fault_on};
+use crate::inputs::compare_readers;
+use crate::readers::TextReader;
 use crate::sources::{file_at, is_stdin};
 use crate::texts::Texts;
-use office_check::{CheckFault, CompareFault, compare_run};
+use office_check::{CheckFault, CompareFault};
 use std::alloc::Global;
-use std::io::{Read, Write};
+use std::io::Write;
 
 // Runs `compare`.
-pub(crate) fn compare<'a, T: Texts, I: Read, W: Write>(
+pub(crate) fn compare<'a, T: Texts, I: TextReader, W: Write>(
     alloc: Global,
     files: &T,
     stdin: &mut I,
@@ -64,7 +66,7 @@ fn fault_of_compare<'a>(
 
 // Compares two solutions by the files of three paths, of which one may be standard input. It chooses
 // the readers, and opens what is a file, before it reads.
-fn compare_sources<T: Texts, I: Read, W: Write>(
+fn compare_sources<T: Texts, I: TextReader, W: Write>(
     alloc: Global,
     files: &T,
     stdin: &mut I,
@@ -90,7 +92,7 @@ fn compare_sources<T: Texts, I: Read, W: Write>(
     if is_stdin(session) {
         let mut before_file = opened(files, before, CompareFault::Check(CheckFault::ReadSolution))?;
         let mut after_file = opened(files, after, CompareFault::ReadAfter)?;
-        return compare_run(alloc, stdin, &mut before_file, &mut after_file, out);
+        return compare_readers(alloc, stdin, &mut before_file, &mut after_file, out);
     }
     let mut session_file = opened(
         files,
@@ -99,14 +101,14 @@ fn compare_sources<T: Texts, I: Read, W: Write>(
     )?;
     if is_stdin(before) {
         let mut after_file = opened(files, after, CompareFault::ReadAfter)?;
-        return compare_run(alloc, &mut session_file, stdin, &mut after_file, out);
+        return compare_readers(alloc, &mut session_file, stdin, &mut after_file, out);
     }
     let mut before_file = opened(files, before, CompareFault::Check(CheckFault::ReadSolution))?;
     if is_stdin(after) {
-        return compare_run(alloc, &mut session_file, &mut before_file, stdin, out);
+        return compare_readers(alloc, &mut session_file, &mut before_file, stdin, out);
     }
     let mut after_file = opened(files, after, CompareFault::ReadAfter)?;
-    compare_run(
+    compare_readers(
         alloc,
         &mut session_file,
         &mut before_file,

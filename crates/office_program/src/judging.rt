@@ -10,13 +10,15 @@ ghost use Rattle.office_program.specs.TaskFaults.{IsOfCheckAll};
 
 use crate::ending::Ending;
 use crate::faults::{ProgramFault, fault_of_input, fault_of_solution};
+use crate::inputs::{judge_of, verdict_of};
 use crate::lines::Lines;
+use crate::readers::TextReader;
 use crate::sources::is_stdin;
 use crate::texts::Texts;
 use office_check::{Judge, LineForm};
 use office_files::InputFault;
 use std::alloc::Global;
-use std::io::{self, Read, Write};
+use std::io::{self, Write};
 
 // The outcome of the solutions so far.
 #[derive(Clone, Copy)]
@@ -35,7 +37,7 @@ pub(crate) struct VerdictLine {
 }
 
 // Runs `check-all`. It opens one solution after another; a fault of one doesn't affect the others.
-pub(crate) fn check_all<'a, T: Texts, I: Read, W: Write, E: Lines>(
+pub(crate) fn check_all<'a, T: Texts, I: TextReader, W: Write, E: Lines>(
     alloc: Global,
     files: &T,
     stdin: &mut I,
@@ -72,7 +74,7 @@ pub(crate) fn check_all<'a, T: Texts, I: Read, W: Write, E: Lines>(
 }
 
 // Reads the session of this path, for this many solutions; `-` is standard input.
-fn judge_at<T: Texts, I: Read>(
+fn judge_at<T: Texts, I: TextReader>(
     alloc: Global,
     files: &T,
     stdin: &mut I,
@@ -86,12 +88,12 @@ fn judge_at<T: Texts, I: Read>(
         (source_at (I.remaining stdin.old) (T.known files.now) path.now)) }
 {
     if is_stdin(path) {
-        return Judge::new(alloc, stdin, solutions);
+        return judge_of(alloc, stdin, solutions);
     }
     let Ok(mut file) = files.open_text(path) else {
         return Err(InputFault::Read);
     };
-    Judge::new(alloc, &mut file, solutions)
+    judge_of(alloc, &mut file, solutions)
 }
 
 // Returns the exit status.
@@ -108,7 +110,7 @@ fn status_of(found: Found) -> u8
 }
 
 // Judges solutions, one after another. Fails if a line can't be printed.
-fn judge_each<T: Texts, I: Read, W: Write, E: Lines>(
+fn judge_each<T: Texts, I: TextReader, W: Write, E: Lines>(
     alloc: Global,
     files: &T,
     stdin: &mut I,
@@ -135,7 +137,7 @@ fn judge_each<T: Texts, I: Read, W: Write, E: Lines>(
 }
 
 // Judges one more solution.
-fn judge_one<T: Texts, I: Read, W: Write, E: Lines>(
+fn judge_one<T: Texts, I: TextReader, W: Write, E: Lines>(
     alloc: Global,
     files: &T,
     stdin: &mut I,
@@ -194,7 +196,7 @@ fn with_fault(found: Found, is_err_written: bool) -> Found
 }
 
 // Returns the line of the solution of this path; `-` is standard input.
-fn line_at<T: Texts, I: Read>(
+fn line_at<T: Texts, I: TextReader>(
     alloc: Global,
     files: &T,
     stdin: &mut I,
@@ -217,7 +219,7 @@ fn line_at<T: Texts, I: Read>(
 }
 
 // Returns the line of the solution of a reader.
-fn line_by<Q: Read>(
+fn line_by<Q: TextReader>(
     alloc: Global,
     reader: &mut Q,
     judge: &Judge,
@@ -229,7 +231,7 @@ fn line_by<Q: Read>(
     ensures refused { IfErr result (IsSolutionCause judge.now.0
         (option_map Some (Q.remaining reader.old))) }
 {
-    let verdict = judge.judge(alloc, reader)?;
+    let verdict = verdict_of(alloc, judge, reader)?;
     Ok(VerdictLine {
         text: verdict.line(alloc, path, form)?,
         has_breach: verdict.has_breach(),

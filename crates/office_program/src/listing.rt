@@ -7,15 +7,16 @@ ghost use Rattle.office_program.specs.TaskFaults.{IsOfPlaces};
 
 use crate::ending::Ending;
 use crate::faults::{ProgramFault, fault_on};
+use crate::readers::TextReader;
 use crate::sources::run_by_paths;
 use crate::texts::Texts;
 use exam_model::ExamNo;
 use office_check::{Places, PlacesAnswer};
 use std::alloc::Global;
-use std::io::{Read, Write};
+use std::io::Write;
 
 // Runs `places`.
-pub(crate) fn list_places<'a, T: Texts, I: Read, W: Write>(
+pub(crate) fn list_places<'a, T: Texts, I: TextReader, W: Write>(
     alloc: Global,
     files: &T,
     stdin: &mut I,

@@ -27,21 +27,23 @@ use crate::ending::Ending;
 use crate::explaining::explain;
 use crate::exporting::export;
 use crate::faults::{ProgramFault, fault_of_input, fault_of_load, fault_of_open};
+use crate::inputs::text_of;
 use crate::judging::check_all;
 use crate::lines::Lines;
 use crate::listing::list_places;
 use crate::loading::load_run;
 use crate::notices::{LongWork, announce, announce_upgrade};
+use crate::readers::TextReader;
 use crate::serving::open_and_serve;
 use crate::texts::Texts;
 use crate::words::{Task, read_words};
 use clap::Error;
 use clap::error::ErrorKind;
 use office_check::Report;
-use office_files::{InputFault, instance_text};
+use office_files::InputFault;
 use sqlite::{Alter, Connection};
 use std::alloc::Global;
-use std::io::{self, Read, Write};
+use std::io::{self, Write};
 
 /// Does what the words say; the first word is the program's name. The lines of faults, including
 /// those of connections, and the text of a mistake are written to `err`, everything else to `out`.
@@ -80,7 +82,7 @@ pub fn run_words<
     S: Alter,
     T: Texts,
     D: Databases<Opened = Connection<S>>,
-    I: Read,
+    I: TextReader,
     O: Write,
     E: Write + Lines,
 >(
@@ -136,10 +138,10 @@ pub fn run_words<
 
     // Status 1 comes with a try to write the line of a fault of the words to `err`, and
     // `is_err_written` says whether it was written whole; it is false only if `err` failed. A fault
-    // of a file is one that it has. Unless the fault is one of writing, `out` is unchanged, or has the
-    // line of the port. `check`, `places`, `compare`, `load`, `export` and `explain` write nothing else
-    // to `err`; for `serve` this is the last line there; `check-all` writes a line for each solution
-    // with a fault, with its path.
+    // of a file is one that it has: none says that a file whose bytes are known can't be read. Unless
+    // the fault is one of writing, `out` is unchanged, or has the line of the port. `check`, `places`,
+    // `compare`, `load`, `export` and `explain` write nothing else to `err`; for `serve` this is the
+    // last line there; `check-all` writes a line for each solution with a fault, with its path.
     ensures err_line { result.status ≡ 1
         → WritesFault E.tells (I.remaining stdin.old) (T.known files.now)
         (map string_bytes words.now) err.old err.new
@@ -164,7 +166,7 @@ fn run_task<
     S: Alter,
     T: Texts,
     D: Databases<Opened = Connection<S>>,
-    I: Read,
+    I: TextReader,
     W: Write,
     E: Write + Lines,
 >(
@@ -266,7 +268,7 @@ fn text_at<T: Texts>(alloc: Global, files: &T, path: &str) -> Result<Vec<u8>, In
     let Ok(mut file) = files.open_text(path) else {
         return Err(InputFault::Read);
     };
-    instance_text(alloc, &mut file)
+    text_of(alloc, &mut file)
 }
 
 // Loads an instance's text into the office of the database at a path.

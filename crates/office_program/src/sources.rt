@@ -8,12 +8,14 @@ ghost use Rattle.office_program.specs.Sources.{IsReaderOf, MayNotOpen, OfFiles, 
 ghost use Rattle.office_program.specs.Sources.{is_stdin_shared, source_at};
 ghost use Rattle.office_program.specs.TaskFaults.{IsCheckCause};
 
+use crate::inputs::answer_of;
+use crate::readers::TextReader;
 use crate::texts::Texts;
 use clap::error::ErrorKind;
 use clap::{Command, Error};
-use office_check::{CheckFault, SolutionTask, task_run};
+use office_check::{CheckFault, SolutionTask};
 use std::alloc::{AllocError, Global};
-use std::io::{Read, Write};
+use std::io::Write;
 
 // Returns whether a path means standard input. A file of this name is `./-`.
 pub(crate) fn is_stdin(path: &str) -> bool
@@ -49,7 +51,7 @@ pub(crate) fn shared_stdin(command: Command<'_>, name: &str) -> Result<Error, Al
 
 // Does a task on a solution by the files of two paths, of which one may be standard input. It
 // chooses the readers, and opens what is a file, before it reads.
-pub(crate) fn run_by_paths<K: SolutionTask, T: Texts, I: Read, W: Write>(
+pub(crate) fn run_by_paths<K: SolutionTask, T: Texts, I: TextReader, W: Write>(
     alloc: Global,
     files: &T,
     stdin: &mut I,
@@ -72,14 +74,14 @@ pub(crate) fn run_by_paths<K: SolutionTask, T: Texts, I: Read, W: Write>(
 {
     if is_stdin(instance) {
         let mut solution_file = file_at(files, solution, CheckFault::ReadSolution)?;
-        return task_run(alloc, task, stdin, &mut solution_file, out);
+        return answer_of(alloc, task, stdin, &mut solution_file, out);
     }
     let mut instance_file = file_at(files, instance, CheckFault::ReadInstance)?;
     if is_stdin(solution) {
-        return task_run(alloc, task, &mut instance_file, stdin, out);
+        return answer_of(alloc, task, &mut instance_file, stdin, out);
     }
     let mut solution_file = file_at(files, solution, CheckFault::ReadSolution)?;
-    task_run(alloc, task, &mut instance_file, &mut solution_file, out)
+    answer_of(alloc, task, &mut instance_file, &mut solution_file, out)
 }
 
 // Opens the file of a path. Standard input, which is read once, is none.

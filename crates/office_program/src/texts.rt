@@ -2,13 +2,14 @@
 ghost use Rattle.std.specs.Prelude.{ℕ, IfErr, IfOk, List, Option};
 ghost use Rattle.office_program.specs.Sources.{IsReaderOf, MayNotOpen};
 
+use crate::readers::TextReader;
 use std::fs::{self, File};
-use std::io::{Read, Result};
+use std::io::Result;
 
 /// Files by their paths.
 pub trait Texts {
     /// The reader of a file.
-    type Text: Read + Drop;
+    type Text: TextReader + Drop;
 
     // What is known of the file of a path: nothing; that it can't be opened; or its bytes.
     ghost known: { Self → List ℕ → Option (Option (List ℕ)) };

@@ -7,15 +7,15 @@ pub returns-then-is_stdin-clause-spelled : goal.returns-then-is_stdin-clause-spe
 returns-then-is_stdin-clause-spelled g c =
     let stdin = g.I.Read.remaining c.args.stdin.now in
     let files = g.T.Texts.known c.args.files.now in
-    if_ok_both c.new.result _ _ _ (λ judge known some. some_text _ stdin
+    if_ok_both c.judge_of.result _ _ _ (λ judge known some. some_text _ stdin
     (stdin_reader stdin files c.args.path.now (sym c.is_stdin.ensures ∙ c.if-is_stdin.true))
-    _ known some) c.new.ensures.reading c.new.ensures.spelled
+    _ known some) c.judge_of.ensures.reading c.judge_of.ensures.spelled
 
 -- or that of a file
 pub returns-clause-spelled : goal.returns-clause-spelled
 returns-clause-spelled g c =
     let stdin = g.I.Read.remaining c.args.stdin.now in
     let files = g.T.Texts.known c.args.files.now in
-    if_ok_both c.new-2.result _ _ _ (λ judge known some. some_text _ _
+    if_ok_both c.judge_of-2.result _ _ _ (λ judge known some. some_text _ _
     (file_reader stdin files c.args.path.now (sym c.is_stdin.ensures ∙ c.if-is_stdin.false) _
-    c.in-Ok.ensures.opened) _ known some) c.new-2.ensures.reading c.new-2.ensures.spelled
+    c.in-Ok.ensures.opened) _ known some) c.judge_of-2.ensures.reading c.judge_of-2.ensures.spelled

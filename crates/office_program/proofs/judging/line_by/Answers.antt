@@ -1,5 +1,5 @@
 use Rattle.office_check.specs.Verdicts.{IsVerdictOn}
-use Rattle.office_program.proofs.SourceFacts.{own_reader, solution_cause, some_text}
+use Rattle.office_program.proofs.SourceFacts.{own_reader, some_text}
 use Rattle.office_program.proofs.judging.line_by.Goals as goal
 
 -- the verdict on a text of the reader

@@ -8,32 +8,32 @@ pub returns-then-is_stdin-clause-done : goal.returns-then-is_stdin-clause-done
 returns-then-is_stdin-clause-done g c =
     let stdin = g.I.Read.remaining c.args.stdin.now in
     let files = g.T.Texts.known c.args.files.now in
-    IfOk-weaker c.task_run.result _ _ (λ answer from. of_files _ _ _ _
+    IfOk-weaker c.answer_of.result _ _ (λ answer from. of_files _ _ _ _
     (stdin_reader stdin files c.args.instance.now (sym c.is_stdin.ensures ∙ c.if-is_stdin.true))
     (file_reader stdin files c.args.solution.now c.in_ok-solution_file.ensures.named _
     c.in_ok-solution_file.ensures.opened) _ from)
-    c.task_run.ensures.from
+    c.answer_of.ensures.from
 
 -- the solution is that of standard input
 pub returns-then-is_stdin-2-clause-done : goal.returns-then-is_stdin-2-clause-done
 returns-then-is_stdin-2-clause-done g c =
     let stdin = g.I.Read.remaining c.args.stdin.now in
     let files = g.T.Texts.known c.args.files.now in
-    IfOk-weaker c.task_run-then-is_stdin-2.result _ _ (λ answer from. of_files _ _ _ _
+    IfOk-weaker c.answer_of-then-is_stdin-2.result _ _ (λ answer from. of_files _ _ _ _
     (file_reader stdin files c.args.instance.now c.in_ok-instance_file.ensures.named _
     c.in_ok-instance_file.ensures.opened)
     (stdin_reader stdin files c.args.solution.now (sym c.is_stdin-2.ensures ∙ c.if-is_stdin-2.true))
     _ from)
-    c.task_run-then-is_stdin-2.ensures.from
+    c.answer_of-then-is_stdin-2.ensures.from
 
 -- both are files
 pub returns-clause-done : goal.returns-clause-done
 returns-clause-done g c =
     let stdin = g.I.Read.remaining c.args.stdin.now in
     let files = g.T.Texts.known c.args.files.now in
-    IfOk-weaker c.task_run-2.result _ _ (λ answer from. of_files _ _ _ _
+    IfOk-weaker c.answer_of-2.result _ _ (λ answer from. of_files _ _ _ _
     (file_reader stdin files c.args.instance.now c.in_ok-instance_file.ensures.named _
     c.in_ok-instance_file.ensures.opened)
     (file_reader stdin files c.args.solution.now c.in_ok-solution_file-2.ensures.named _
     c.in_ok-solution_file-2.ensures.opened) _ from)
-    c.task_run-2.ensures.from
+    c.answer_of-2.ensures.from
