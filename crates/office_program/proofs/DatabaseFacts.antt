@@ -1,29 +1,104 @@
 -- Facts of a database that a task opened and gave back.
-use Rattle.std.proofs.Common.{◌∙◌, Bool, Err, IfOk, List, Ok, Option, Result, ℕ}
+use Rattle.std.proofs.Common.{◌++◌, ◌∷◌, [], Bool, Err, IfErr, IfOk, List, Ok, Option, Result, inr, ℕ}
 use Rattle.sqlite.specs.Held.{Held}
 use Rattle.sqlite.specs.Store.{Ghosts}
 use Rattle.office_messages.specs.Visits.{Visit}
-use Rattle.office_program.specs.Databases.{IsAt, UsesDatabase, ServesIn}
-use Rattle.office_program.specs.Serve.{FileServes, ServesTerms}
+use Rattle.office_program.specs.Databases.{IfServe, IsAt, ServesIn, ServesNamed, UsesDatabase}
+use Rattle.office_program.specs.Endings.{EndsWithFault, WritesSolutionFaults}
+use Rattle.office_program.specs.FaultLines.{fault_line}
+use Rattle.office_program.specs.Sources.{Known}
 use Rattle.office_program.specs.declared.ending.Ending.{Ending}
 use Rattle.office_program.specs.declared.faults.ProgramFault.{ProgramFault}
+use Rattle.office_program.specs.declared.words.Task.{Task}
+use Rattle.office_program.specs.declared.words.Task.TheVariants.{Check, CheckAll, CheckAs, Compare, Explain, Export, Load, Places, Serve}
 use Rattle.office_program.specs.declared.words.Terms.{Terms}
 
--- a server that is done has served as many connections as its terms say
-pub served_in : {S : Type 0} (store : Ghosts S) (AreTheirs : Bool → List Visit → Type 0)
-    (IsClosed : Type 0) (terms : Terms) (outcome : Result Ending ProgramFault)
-    (errors_old errors_new : Option (List ℕ)) (old new : Option (Option (Held S)))
-    (before after : Held S) → IsAt old before → IsAt new after
-    → ServesTerms AreTheirs (FileServes store before after) IsClosed terms outcome errors_old
-    errors_new
-    → IfOk outcome (λ ending. UsesDatabase old new (ServesIn store terms))
-served_in store AreTheirs IsClosed terms (Ok ending) errors_old errors_new old new before after
-    opened given_back x = record {
-      before = before;
-      after = after;
-      opened = opened;
-      given_back = given_back;
-      holds = (x.serves.visits, x.serves.count ∙ x.all.0, x.serves.served);
-    }
-served_in store AreTheirs IsClosed terms (Err fault) errors_old errors_new old new before after
+module _ {S : Type 0} (store : Ghosts S) (old new : List ℕ → Option (Option (Held S)))
+    (AreOf : ℕ → Bool → List Visit → Type 0) (errors_old errors_new : Option (List ℕ))
+    (outcome : Result Ending ProgramFault) (database : List ℕ) (terms : Terms)
+    (before after : Held S) (opened : IsAt (old database) before)
+    (given_back : IsAt (new database) after)
+    (x : ServesIn store (AreOf terms.port) terms errors_old errors_new outcome before after) where
+  used : UsesDatabase (old database) (new database)
+      (ServesIn store (AreOf terms.port) terms errors_old errors_new outcome)
+  used = record {
+    before = before;
+    after = after;
+    opened = opened;
+    given_back = given_back;
+    holds = x;
+  }
+
+-- a database that was opened and given back was served, whatever came of it
+pub served_ok : {S : Type 0} (store : Ghosts S) (old new : List ℕ → Option (Option (Held S)))
+    (AreOf : ℕ → Bool → List Visit → Type 0) (errors_old errors_new : Option (List ℕ))
+    (outcome : Result Ending ProgramFault) (database : List ℕ) (terms : Terms)
+    (before after : Held S) → IsAt (old database) before → IsAt (new database) after
+    → ServesIn store (AreOf terms.port) terms errors_old errors_new outcome before after
+    → IfOk outcome (λ ending.
+    ServesNamed store old new AreOf errors_old errors_new (Ok ending) database terms)
+served_ok store old new AreOf errors_old errors_new (Ok ending) database terms before after
+    opened given_back x =
+    used store old new AreOf errors_old errors_new (Ok ending) database terms before after opened
+    given_back x
+served_ok store old new AreOf errors_old errors_new (Err shown) database terms before after
     opened given_back x = tt
+
+pub served_err : {S : Type 0} (store : Ghosts S) (old new : List ℕ → Option (Option (Held S)))
+    (AreOf : ℕ → Bool → List Visit → Type 0) (errors_old errors_new : Option (List ℕ))
+    (outcome : Result Ending ProgramFault) (database : List ℕ) (terms : Terms)
+    (before after : Held S) → IsAt (old database) before → IsAt (new database) after
+    → ServesIn store (AreOf terms.port) terms errors_old errors_new outcome before after
+    → IfErr outcome (λ shown.
+    ServesNamed store old new AreOf errors_old errors_new (Err shown) database terms)
+served_err store old new AreOf errors_old errors_new (Ok ending) database terms before after
+    opened given_back x = tt
+served_err store old new AreOf errors_old errors_new (Err shown) database terms before after
+    opened given_back x =
+    inr (used store old new AreOf errors_old errors_new (Err shown) database terms before after
+    opened given_back x)
+
+-- what a server left holds until the line of its fault
+pub ends_server : {W : Type 0} (tells : W → List ℕ → Bool → W → Type 0) (task : Task)
+    (Left : W → ProgramFault → List ℕ → Terms → Type 0) (shown : ProgramFault) (before new : W)
+    (is_written : Bool) → tells before (fault_line shown ++ 10 ∷ []) is_written new
+    → IfServe task (Left before shown)
+    → IfServe task (λ database terms.
+    EndsWithFault tells (λ of mid. Left mid of database terms) new is_written)
+ends_server tells (Serve database terms) Left shown before new is_written line left = record {
+  shown = shown;
+  before = before;
+  left = left;
+  line = line;
+}
+ends_server tells (Check instance solution) Left shown before new is_written line left = tt
+ends_server tells (CheckAs instance solution form) Left shown before new is_written line left = tt
+ends_server tells (CheckAll session solutions form) Left shown before new is_written line left = tt
+ends_server tells (Places instance solution exam) Left shown before new is_written line left = tt
+ends_server tells (Compare session one other) Left shown before new is_written line left = tt
+ends_server tells (Load database instance) Left shown before new is_written line left = tt
+ends_server tells (Export database) Left shown before new is_written line left = tt
+ends_server tells (Explain words) Left shown before new is_written line left = tt
+
+-- a task with faulty solutions is no server
+pub no_server : {W : Type 0} (tells : W → List ℕ → Bool → W → Type 0) (stdin : Option (List ℕ))
+    (files : List ℕ → Known) (task : Task) (old new : W) (printed_old printed_new : Option (List ℕ))
+    (is_written : Bool) (P : List ℕ → Terms → Type 0)
+    → WritesSolutionFaults tells stdin files task old new printed_old printed_new is_written
+    → IfServe task P
+no_server tells stdin files (Serve database terms) old new printed_old printed_new is_written P x =
+    absurd x
+no_server tells stdin files (Check instance solution) old new printed_old printed_new is_written P x =
+    tt
+no_server tells stdin files (CheckAs instance solution form) old new printed_old printed_new
+    is_written P x = tt
+no_server tells stdin files (CheckAll session solutions form) old new printed_old printed_new
+    is_written P x = tt
+no_server tells stdin files (Places instance solution exam) old new printed_old printed_new
+    is_written P x = tt
+no_server tells stdin files (Compare session before after) old new printed_old printed_new
+    is_written P x = tt
+no_server tells stdin files (Load database instance) old new printed_old printed_new is_written P x =
+    tt
+no_server tells stdin files (Export database) old new printed_old printed_new is_written P x = tt
+no_server tells stdin files (Explain words) old new printed_old printed_new is_written P x = tt

@@ -81,6 +81,14 @@ WritesNoTaskFault tells AsksForHelp old new printed_old printed_new is_written =
     (tells old (fault_line NoMemory ++ 10 ∷ []) is_written new × Keeps printed_old printed_new)
     ⊎ (AsksForHelp × tells old (fault_line CannotWrite ++ 10 ∷ []) is_written new)
 
+-- the line of a fault was tried to be written to `err`, of which this held until then
+pub record EndsWithFault {W : Type 0} (tells : W → List ℕ → Bool → W → Type 0)
+    (Left : ProgramFault → W → Type 0) (new : W) (is_written : Bool) : Type 0 where
+  pub shown : ProgramFault
+  pub before : W
+  pub left : Left shown before
+  pub line : tells before (fault_line shown ++ 10 ∷ []) is_written new
+
 -- the words ask for help or for the version
 abbrev pub AskForHelp : List Text → Type 0
 AskForHelp words =

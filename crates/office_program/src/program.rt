@@ -1,19 +1,22 @@
 // The whole program, over a file system and two writers.
 ghost use Rattle.std.specs.Prelude.{◌≡◌, ◌≢◌, ◌≤◌, ◌↔◌, ◌⊎◌, ◌++◌, ◌∷◌, [], IfErr, IfOk, OnOk};
-ghost use Rattle.std.specs.Prelude.{ℕ, IsTrue, List, None, length, map, string_bytes};
+ghost use Rattle.std.specs.Prelude.{ℕ, Err, IsTrue, List, None, Ok, length, map, string_bytes};
 ghost use Rattle.std.specs.Io.KnownBytes.{Appends, Keeps};
 ghost use Rattle.std.specs.IoError.{error_kind};
 ghost use Rattle.std.specs.declared.io.ErrorKind.TheVariants as failure;
 ghost use Rattle.clap.specs.Words.{kind_of};
 ghost use Rattle.clap.specs.declared.error.kind.ErrorKind.TheVariants as kind;
 ghost use Rattle.exam_terms.specs.declared.limits.TheConstants.{INSTANCE_BYTES};
-ghost use Rattle.office_program.specs.Databases.{LoadsIn, UsesDatabase, UsesNamedDatabase};
+ghost use Rattle.office_program.specs.Databases.{IfServe, LoadsIn, ServesNamed, UsesDatabase};
+ghost use Rattle.office_program.specs.Databases.{UsesNamedDatabase};
+ghost use Rattle.office_program.specs.Endings.{AskForHelp, EndsWithFault};
 ghost use Rattle.office_program.specs.Endings.{IsQuiet, IsSilent, LeavesPrinted};
 ghost use Rattle.office_program.specs.Endings.{WritesConnectionFaults, WritesFault, WritesNoTaskFault};
 ghost use Rattle.office_program.specs.Endings.{WritesSolutionFaults};
 ghost use Rattle.office_program.specs.FaultLines.{fault_line, not_text_line};
 ghost use Rattle.office_program.specs.Load.{PrintsCounts};
 ghost use Rattle.office_program.specs.Program.{AreAnswered, IsMistake, IsTask, fault_of_words};
+ghost use Rattle.office_program.specs.Serve.{AreOfPort};
 ghost use Rattle.office_program.specs.Sources.{IsTextOf};
 ghost use Rattle.office_program.specs.TaskFaults.{IsOfLoad, IsOfOffice, IsTextCause};
 ghost use Rattle.office_program.specs.Tasks.{IsOfTask, Prints, PrintsBroken};
@@ -40,21 +43,22 @@ use crate::words::{Task, read_words};
 use clap::Error;
 use clap::error::ErrorKind;
 use office_check::Report;
+use office_connections::{Clients, Ports, Timed};
 use office_files::InputFault;
 use sqlite::{Alter, Connection};
 use std::alloc::Global;
-use std::io::{self, Write};
+use std::io::{self, Read, Write};
 
 /// Does what the words say; the first word is the program's name. The lines of faults, including
 /// those of connections, and the text of a mistake are written to `err`, everything else to `out`.
-/// The files and databases are those of the system, of which no clause says what they hold.
+/// The files, databases and ports are those of the system, of which no clause says what they hold.
 pub fn run_program<O: Write, E: Write + Lines>(
     rt: &HostRuntime,
     words: &[String],
     out: &mut O,
     err: &mut E,
 ) -> Ending
-    // As for `run_words`, with nothing known of files, databases and standard input.
+    // As for `run_words`, with nothing known of files, databases, clients and standard input.
     ensures within { result.status ≤ 3 }
     ensures answered { result.status ≡ 0 → AreAnswered (map string_bytes words.now) }
     ensures mistake { result.status ≡ 2 → fault_of_words (map string_bytes words.now) ≢ [] }
@@ -73,15 +77,18 @@ pub fn run_program<O: Write, E: Write + Lines>(
         (O.contents out.old) (O.contents out.new) result.is_err_written }
 {
     let mut databases = SystemDatabases { rt };
-    run_words(rt, rt, &mut databases, &mut rt.stdin(), words, out, err)
+    run_words(rt, rt, &mut databases, rt, &mut rt.stdin(), words, out, err)
 }
 
-/// Does what the words say, with these files, these databases and this standard input; the port is
-/// one of the system.
+/// Does what the words say, with these files, databases and ports and this standard input.
 pub fn run_words<
     S: Alter,
     T: Texts,
     D: Databases<Opened = Connection<S>>,
+    R: Read + Timed + Drop,
+    W: Write + Timed + Drop,
+    C: Clients<Reader = R, Writer = W> + Drop,
+    N: Ports<Opened = C>,
     I: TextReader,
     O: Write,
     E: Write + Lines,
@@ -89,6 +96,7 @@ pub fn run_words<
     rt: &HostRuntime,
     files: &T,
     databases: &mut D,
+    net: &N,
     stdin: &mut I,
     words: &[String],
     out: &mut O,
@@ -128,13 +136,35 @@ pub fn run_words<
 
     // After `load`, `serve` and `export` the database at the path that the words name was opened and
     // given back. Assuming the disk returns what was written: `load` has loaded the text of the file
-    // that the words name into its office, and all is committed; its office has served as many
-    // connections as the words say, and it holds the office that they led to; or what is printed is
-    // the publication of its office.
+    // that the words name into its office, and all is committed; or what is printed is the publication
+    // of its office. Or, if nothing in the database was uncommitted, its office has served exactly
+    // the clients that were accepted at the port that the words name, as many as the words say. What
+    // was added to each one's writer, until it was handed back, are the office's replies to that
+    // client's messages, and the database holds the office that the last of them led to.
     ensures uses { result.status ≡ 0 → fault_of_words (map string_bytes words.now) ≡ []
         → (task : Task) × IsTask (map string_bytes words.now) task
         × UsesNamedDatabase S.Store (D.known databases.old) (D.known databases.new)
-        (T.known files.now) task (O.contents out.old) (O.contents out.new) }
+        (T.known files.now)
+        (ServesNamed S.Store (D.known databases.old) (D.known databases.new)
+        (λ port. AreOfPort (N.opens net.now port) C.accepts C.takes_back R.remaining W.contents)
+        (E.contents err.old) (E.contents err.new) (Ok result))
+        task (O.contents out.old) (O.contents out.new) }
+
+    // If `serve` ends with status 1, that database could not be opened, and the fault says so; or it
+    // was opened and given back, and the same holds of the clients that were served. These are fewer
+    // than the words say, because listening or an accept failed; or a failed disk call has closed
+    // the store; or there are none, because of another fault. The fault whose line was tried to be
+    // written says which. If memory ran out for the words, or they ask for help, nothing was opened.
+    ensures unserved { result.status ≡ 1
+        → ((databases.new ≡ databases.old) × WritesNoTaskFault E.tells
+        (AskForHelp (map string_bytes words.now)) err.old err.new
+        (O.contents out.old) (O.contents out.new) result.is_err_written)
+        ⊎ ((task : Task) × IsTask (map string_bytes words.now) task
+        × IfServe task (λ database terms. EndsWithFault E.tells (λ shown before.
+        ServesNamed S.Store (D.known databases.old) (D.known databases.new)
+        (λ port. AreOfPort (N.opens net.now port) C.accepts C.takes_back R.remaining W.contents)
+        (E.contents err.old) (E.contents before) (Err shown) database terms)
+        err.new result.is_err_written)) }
 
     // Status 1 comes with a try to write the line of a fault of the words to `err`, and
     // `is_err_written` says whether it was written whole; it is false only if `err` failed. A fault
@@ -151,7 +181,7 @@ pub fn run_words<
         Ok(task) => task,
         Err(error) => return refuse_words(&error, out, err),
     };
-    match run_task(rt, files, databases, stdin, &task, out, err) {
+    match run_task(rt, files, databases, net, stdin, &task, out, err) {
         Ok(ending) => ending,
         Err(fault) => {
             let ending = complain(&fault, err);
@@ -166,42 +196,55 @@ fn run_task<
     S: Alter,
     T: Texts,
     D: Databases<Opened = Connection<S>>,
+    R: Read + Timed + Drop,
+    W: Write + Timed + Drop,
+    C: Clients<Reader = R, Writer = W> + Drop,
+    N: Ports<Opened = C>,
     I: TextReader,
-    W: Write,
+    O: Write,
     E: Write + Lines,
 >(
     rt: &HostRuntime,
     files: &T,
     databases: &mut D,
+    net: &N,
     stdin: &mut I,
     task: &'a Task,
-    out: &mut W,
+    out: &mut O,
     err: &mut E,
 ) -> Result<Ending, ProgramFault<'a>>
     ensures status { IfOk result (λ ending. (ending.status ≤ 3) × (ending.status ≢ 2)) }
     ensures broken { IfOk result (λ ending. ending.status ≡ 3
         → PrintsBroken (I.remaining stdin.old) (T.known files.now) task.now
-        (W.contents out.old) (W.contents out.new)) }
+        (O.contents out.old) (O.contents out.new)) }
     ensures done { IfOk result (λ ending. ending.status ≡ 0
         → Prints (I.remaining stdin.old) (T.known files.now) task.now
-        (W.contents out.old) (W.contents out.new)) }
+        (O.contents out.old) (O.contents out.new)) }
     ensures uses { IfOk result (λ ending. ending.status ≡ 0
         → UsesNamedDatabase S.Store (D.known databases.old) (D.known databases.new)
-        (T.known files.now) task.now (W.contents out.old) (W.contents out.new)) }
+        (T.known files.now)
+        (ServesNamed S.Store (D.known databases.old) (D.known databases.new)
+        (λ port. AreOfPort (N.opens net.now port) C.accepts C.takes_back R.remaining W.contents)
+        (E.contents err.old) (E.contents err.new) (Ok ending))
+        task.now (O.contents out.old) (O.contents out.new)) }
+    ensures unserved { IfErr result (λ shown. IfServe task.now
+        (ServesNamed S.Store (D.known databases.old) (D.known databases.new)
+        (λ port. AreOfPort (N.opens net.now port) C.accepts C.takes_back R.remaining W.contents)
+        (E.contents err.old) (E.contents err.new) (Err shown))) }
     ensures quiet { IfOk result (λ ending. ending.status ≢ 1 → IsTrue ending.is_err_written
         → WritesConnectionFaults E.contents task.now err.old err.new) }
 
     // An `Ok` has status 1 only if solutions have faults.
     ensures faulty { IfOk result (λ ending. ending.status ≡ 1
         → WritesSolutionFaults E.tells (I.remaining stdin.old) (T.known files.now) task.now
-        err.old err.new (W.contents out.old) (W.contents out.new) ending.is_err_written) }
+        err.old err.new (O.contents out.old) (O.contents out.new) ending.is_err_written) }
 
     // A line that names a file names one of the task's.
     ensures fault { IfErr result
         (IsOfTask (I.remaining stdin.old) (T.known files.now) task.now) }
     ensures silent { IsSilent task.now err.old err.new }
     ensures unwritten { IfErr result (λ fault. fault ≢ ProgramFault.CannotWrite
-        → LeavesPrinted task.now (W.contents out.old) (W.contents out.new)) }
+        → LeavesPrinted task.now (O.contents out.old) (O.contents out.new)) }
 {
     let alloc = rt.alloc();
     match task {
@@ -222,7 +265,7 @@ fn run_task<
         }
         Task::Load(database, instance) => load(rt, files, databases, database, instance, out),
         Task::Serve(database, terms) => {
-            open_and_serve(rt, rt, databases, database, *terms, out, err)
+            open_and_serve(rt, net, databases, database, *terms, out, err)
         }
         Task::Export(database) => export(rt, databases, database, out),
         Task::Explain(words) => explain(words, out),

@@ -1,10 +1,10 @@
 // `serve`: serves the office of a database's file over sockets.
-ghost use Rattle.std.specs.Prelude.{◌≡◌, ◌≢◌, ◌*◌, ◌^◌, ◌⊎◌, IfErr, IfOk};
+ghost use Rattle.std.specs.Prelude.{◌≡◌, ◌≢◌, ◌*◌, ◌^◌, ◌⊎◌, Err, IfErr, IfOk, Ok};
 ghost use Rattle.std.specs.Duration.{as_nanos};
 ghost use Rattle.std.specs.Io.KnownBytes.{Appends, Keeps};
 ghost use Rattle.office_connections.specs.Clients.{AreOfClients};
 ghost use Rattle.office_connections.specs.Lines.{listening_line};
-ghost use Rattle.office_program.specs.Databases.{UsesDatabase, ServesIn};
+ghost use Rattle.office_program.specs.Databases.{ServesNamed};
 ghost use Rattle.office_program.specs.Serve.{AreOfPort, FileServes, IsStoreShut, LeavesPort};
 ghost use Rattle.office_program.specs.Serve.{OfficeServes, PrintsServed, ServesTerms};
 ghost use Rattle.office_program.specs.TaskFaults.{IsOfServe};
@@ -41,16 +41,18 @@ pub(crate) fn open_and_serve<
     out: &mut O,
     err: &mut E,
 ) -> Result<Ending, ProgramFault<'a>>
-    // As many connections as the terms say were served by the office of the database at the path,
-    // and it holds the office that they led to.
-    ensures uses { IfOk result (λ _. UsesDatabase (D.known databases.old database.now)
-        (D.known databases.new database.now) (ServesIn S.Store terms)) }
-    // As for `serve_office`, but for the office: as many clients of the port are served as the terms
-    // say, or the fault says why not.
-    ensures reached { ServesTerms
-        (AreOfPort (N.opens net.now terms.port) I.accepts I.takes_back R.remaining W.contents)
-        (λ visits. Unit {0}) (Unit {0}) terms result
-        (E.contents err.old) (E.contents err.new) }
+    // However the call ends, the database at the path was opened, and given back after the last
+    // client; or the fault is that it could not be opened. As for `serve_office`, its office served
+    // as many clients of the port of the terms as these say, or the fault says why not, and it
+    // represents the office that they led to.
+    ensures serves { IfOk result (λ ending.
+        ServesNamed S.Store (D.known databases.old) (D.known databases.new)
+        (λ port. AreOfPort (N.opens net.now port) I.accepts I.takes_back R.remaining W.contents)
+        (E.contents err.old) (E.contents err.new) (Ok ending) database.now terms) }
+    ensures unserved { IfErr result (λ shown.
+        ServesNamed S.Store (D.known databases.old) (D.known databases.new)
+        (λ port. AreOfPort (N.opens net.now port) I.accepts I.takes_back R.remaining W.contents)
+        (E.contents err.old) (E.contents err.new) (Err shown) database.now terms) }
     ensures served { IfOk result (PrintsServed terms (O.contents out.old) (O.contents out.new)
         (E.contents err.old) (E.contents err.new)) }
     ensures fault { IfErr result IsOfServe }

@@ -100,10 +100,17 @@ pub returns-in-Serve-clause-uses : goal.returns-in-Serve-clause-uses
 returns-in-Serve-clause-uses g c =
     if_ok c.open_and_serve.result _ _
     (λ ending used zero. rw (c.in-Serve.is, ← c.deref-in-Serve.ensures) used)
-    c.open_and_serve.ensures.uses
+    c.open_and_serve.ensures.serves
 
 pub returns-in-Export-clause-uses : goal.returns-in-Export-clause-uses
 returns-in-Export-clause-uses g c =
     if_ok c.export.result _ _
     (λ ending used zero. rw (c.in-Export.is, ← c.deref-in-Export.ensures) used)
     c.export.ensures.uses
+
+-- the database of a server that failed
+pub returns-in-Serve-clause-unserved : goal.returns-in-Serve-clause-unserved
+returns-in-Serve-clause-unserved g c =
+    let unserved = c.open_and_serve.ensures.unserved in
+    if_err c.open_and_serve.result _ _ _
+    (λ shown left again. rw (c.in-Serve.is, ← c.deref-in-Serve.ensures) left) unserved unserved

@@ -1,18 +1,31 @@
 use Rattle.std.proofs.Common.{inl, refl}
-use Rattle.office_program.proofs.DatabaseFacts.{served_in}
-use Rattle.office_program.proofs.ServeFacts.{serves_nobody, terms_follow}
+use Rattle.office_program.specs.Serve.{AreOfPort}
+use Rattle.office_program.proofs.DatabaseFacts.{served_err, served_ok}
 use Rattle.office_program.proofs.serving.open_and_serve.Goals as goal
 
 -- no database was opened
-pub returns-in-Err-clause-reached : goal.returns-in-Err-clause-reached
-returns-in-Err-clause-reached g c =
-    serves_nobody _ _ _ _ _ (inl refl) tt _ c.fault_of_open.ensures.other
+pub returns-in-Err-clause-unserved : goal.returns-in-Err-clause-unserved
+returns-in-Err-clause-unserved g c = inl (record {
+  failed = c.in-Err.ensures.failed;
+  of = c.in-Err.error;
+  line = c.fault_of_open.ensures.line;
+  other = c.fault_of_open.ensures.other;
+  silent = refl;
+})
 
-pub returns-clause-reached : goal.returns-clause-reached
-returns-clause-reached g c = terms_follow _ _ _ _ _ _ (λ has_failed vs theirs. theirs)
-    (λ vs served. tt) (λ closed. tt) _ _ _ _ c.serve_office-conn.ensures.reached
+-- the database that was opened is given back after the last client
+pub returns-clause-serves : goal.returns-clause-serves
+returns-clause-serves g c = served_ok g.S.Store (g.D.Databases.known c.args.databases.now)
+    (g.D.Databases.known c.take_back.new.self)
+    (λ port. AreOfPort (g.N.Ports.opens c.args.net.now port) g.I.Clients.accepts
+    g.I.Clients.takes_back g.R.Read.remaining g.W.Write.contents)
+    _ _ _ c.args.database.now c.args.terms c.in-Ok.conn c.serve_office-conn.result.0
+    c.in-Ok.ensures.opened c.take_back.ensures.back c.serve_office-conn.ensures.reached
 
--- the database that was opened is given back after the last connection
-pub returns-clause-uses : goal.returns-clause-uses
-returns-clause-uses g c = served_in g.S.Store _ _ c.args.terms _ _ _ _ _ _ _
+pub returns-clause-unserved : goal.returns-clause-unserved
+returns-clause-unserved g c = served_err g.S.Store (g.D.Databases.known c.args.databases.now)
+    (g.D.Databases.known c.take_back.new.self)
+    (λ port. AreOfPort (g.N.Ports.opens c.args.net.now port) g.I.Clients.accepts
+    g.I.Clients.takes_back g.R.Read.remaining g.W.Write.contents)
+    _ _ _ c.args.database.now c.args.terms c.in-Ok.conn c.serve_office-conn.result.0
     c.in-Ok.ensures.opened c.take_back.ensures.back c.serve_office-conn.ensures.reached
