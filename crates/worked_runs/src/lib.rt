@@ -1,7 +1,9 @@
-//! Runs of the whole program over files and a database in memory.
+//! Runs of the whole program over files, a database and clients in memory.
 #![tactic(auto)]
 
 #[cfg(test)]
 mod runs;
 #[cfg(test)]
 mod screen;
+#[cfg(test)]
+mod visitors;

@@ -1,9 +1,10 @@
 // An office in a database in memory, from the load of its session to the export of its timetable.
 use crate::screen::Screen;
+use crate::visitors::{OnePort, Visitor};
 use office_program::{Folder, FolderFile, Shelf, run_words};
-use office_store::Office;
-use sqlite::{Connection, MemStore};
+use sqlite::Connection;
 use std::alloc::{AllocError, Global};
+use std::cell::Cell;
 use std::process::Abort;
 use std::test::Fail;
 
@@ -29,10 +30,30 @@ const FILES: &[FolderFile<'static>] = &[
     },
 ];
 
+// The office opens a draft from the solution, and publishes it.
+const PUBLISHING: &[u8] = b"PUT /drafts/1 HTTP/1.1\r\nHost: office\r\nX-Caller: office\r\n\
+    Content-Length: 20\r\n\r\n0, 0\n1, 0\n3, 1\n2, 0\n\
+    POST /drafts/1/publish HTTP/1.1\r\nHost: office\r\nX-Caller: office\r\n\r\n";
+
+const PUBLISHED: &[u8] = b"HTTP/1.1 201 Created\r\nContent-Type: application/json\r\n\
+    Content-Length: 24\r\n\r\n{\"draft\":1,\"penalty\":37}\
+    HTTP/1.1 200 OK\r\nContent-Type: application/json\r\n\
+    Content-Length: 36\r\n\r\n{\"changed\":3,\"draft\":1,\"penalty\":37}";
+
+const ASKING: &[u8] = b"GET /me HTTP/1.1\r\nHost: office\r\nX-Caller: cand:2\r\n\r\n";
+
+// Candidate 2 has exams 0 and 1, two in a row on one day: penalties 7 and 1.
+const PAGE: &[u8] = b"HTTP/1.1 200 OK\r\nContent-Type: application/json\r\n\
+    Content-Length: 229\r\n\r\n{\"candidate\":2,\"exams\":[\
+    {\"date\":\"2005-04-15\",\"exam\":0,\"period\":0,\"room\":0,\"seat\":2,\"start\":\"09:30:00\",\
+    \"state\":\"seated\"},\
+    {\"date\":\"2005-04-15\",\"exam\":1,\"period\":1,\"room\":0,\"seat\":1,\"start\":\"14:00:00\",\
+    \"state\":\"seated\"}],\"penalty\":8}";
+
 // The words of a run, and what the test expects of it: the status, and the texts of the two writers.
 type Run<'a> = (&'a [&'a str], u8, &'a str, &'a str);
 
-const BEFORE: &[Run<'static>] = &[
+const RUNS: &[Run<'static>] = &[
     (&["check", "small.exam", "small.sol"], 0, REPORTS, ""),
     (
         &["load", "--db", "term.db", "none.exam"],
@@ -70,9 +91,48 @@ const BEFORE: &[Run<'static>] = &[
         "",
         "examoffice: no publication\n",
     ),
-];
-
-const AFTER: &[Run<'static>] = &[
+    (
+        &[
+            "serve",
+            "--db",
+            "term.db",
+            "--port",
+            "8081",
+            "--connections",
+            "2",
+        ],
+        1,
+        "",
+        "examoffice: cannot listen\n",
+    ),
+    (
+        &[
+            "serve",
+            "--db",
+            "other.db",
+            "--port",
+            "8080",
+            "--connections",
+            "2",
+        ],
+        1,
+        "",
+        "examoffice: cannot open database\n",
+    ),
+    (
+        &[
+            "serve",
+            "--db",
+            "term.db",
+            "--port",
+            "8080",
+            "--connections",
+            "2",
+        ],
+        0,
+        "listening 127.0.0.1:8080\n",
+        "",
+    ),
     (
         &["export", "--db", "other.db"],
         1,
@@ -88,22 +148,33 @@ const AFTER: &[Run<'static>] = &[
 ];
 
 #[test]
-fn an_office_in_memory_is_loaded_and_exported(rt: HostRuntime) -> Result<(), Fail> {
+fn an_office_in_memory_is_loaded_served_and_exported(rt: HostRuntime) -> Result<(), Fail> {
     let conn = Connection::open_in_memory(rt.alloc())?;
     let mut shelf = Shelf {
         path: "term.db",
         conn: Some(conn),
     };
-    for run in BEFORE {
-        assert_outcome(&rt, &outcome_of(&rt, &mut shelf, run.0)?, run);
-    }
-    let Some(conn) = shelf.conn.take() else {
-        return Err("the database wasn't given back")?;
+    let (office, candidate) = (Cell::new(None), Cell::new(None));
+    let visitors = [
+        Visitor {
+            sent: PUBLISHING,
+            kept: &office,
+        },
+        Visitor {
+            sent: ASKING,
+            kept: &candidate,
+        },
+    ];
+    let net = OnePort {
+        alloc: rt.alloc(),
+        number: 8080,
+        visitors: &visitors,
     };
-    shelf.conn = Some(published(rt.alloc(), conn)?);
-    for run in AFTER {
-        assert_outcome(&rt, &outcome_of(&rt, &mut shelf, run.0)?, run);
+    for run in RUNS {
+        assert_outcome(&rt, &outcome_of(&rt, &mut shelf, &net, run.0)?, run);
     }
+    assert_kept(&rt, &office, PUBLISHED);
+    assert_kept(&rt, &candidate, PAGE);
     Ok(())
 }
 
@@ -115,17 +186,20 @@ struct Outcome {
     err: Vec<u8>,
 }
 
-// Runs the program with the files and this database.
+// Runs the program with the files, this database and this port.
 fn outcome_of(
     rt: &HostRuntime,
     shelf: &mut Shelf<'_>,
+    net: &OnePort<'_>,
     words: &[&str],
 ) -> Result<Outcome, AllocError> {
     let words = program_words(rt.alloc(), words)?;
     let (mut out, mut err) = (Vec::new(rt.alloc()), Screen::new(rt.alloc()));
     let files = Folder { files: FILES };
     let mut stdin = b"".as_slice();
-    let ending = run_words(rt, &files, shelf, &mut stdin, &words, &mut out, &mut err);
+    let ending = run_words(
+        rt, &files, shelf, net, &mut stdin, &words, &mut out, &mut err,
+    );
     Ok(Outcome {
         status: ending.status,
         out,
@@ -141,6 +215,15 @@ fn assert_outcome(rt: &impl Abort, found: &Outcome, run: &Run<'_>) {
     assert_eq!(rt; found.err.as_slice(), err.as_bytes(), "{words:?}");
 }
 
+// Ends the test if a client was sent other bytes than these until its writer was handed back.
+fn assert_kept(rt: &impl Abort, kept: &Cell<Option<Vec<u8>>>, expected: &[u8]) {
+    let found = kept.take();
+    assert!(rt; found.is_some());
+    if let Some(bytes) = found {
+        assert_eq!(rt; bytes.as_slice(), expected);
+    }
+}
+
 // Returns the words of a command line: the program's name, and these.
 fn program_words(alloc: Global, words: &[&str]) -> Result<Vec<String>, AllocError> {
     let mut all = Vec::new(alloc);
@@ -149,15 +232,4 @@ fn program_words(alloc: Global, words: &[&str]) -> Result<Vec<String>, AllocErro
         all.push(String::from_str(alloc, word)?)?;
     }
     Ok(all)
-}
-
-// Publishes the solution in the office of a database.
-fn published(alloc: Global, conn: Connection<MemStore>) -> Result<Connection<MemStore>, Fail> {
-    let Ok(mut office) = Office::adopt(alloc, conn) else {
-        return Err("no office")?;
-    };
-    if office.new_draft(alloc, 1, SOLUTION).is_err() || office.publish(alloc, 1).is_err() {
-        return Err("not published")?;
-    }
-    Ok(office.release())
 }
