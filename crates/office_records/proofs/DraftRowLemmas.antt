@@ -1,21 +1,24 @@
 -- Rows of drafts, one after another.
 use Rattle.std.proofs.Common.{◌≡◌, ◌≢◌, ℕ, ◌+◌, ◌<◌, ◌≤◌, Bool, true, false, cond, eqb, List, []}
-use Rattle.std.proofs.Common.{◌∷◌, ◌++◌, map, length, get_or, take, refl, sym, ◌∙◌, ap, arith, subst}
+use Rattle.std.proofs.Common.{◌∷◌, ◌++◌, map, length, get_or, set, take, option_map, refl, sym, ◌∙◌, ap, arith, subst}
 use Rattle.std.proofs.lemmas.Bool.Decides.{nat_tests}
 use Rattle.std.proofs.lemmas.List.{length-map, length-take, append-nil}
-use Rattle.std.proofs.lemmas.List.{get_or-take, get_or_default, take_more}
+use Rattle.std.proofs.lemmas.List.{get_or-set_other, get_or-set_same, get_or-take, get_or_default, take_more}
 use Rattle.std.proofs.lemmas.List.Elements.{All-nil, All-push, filter-append}
 use Rattle.std.proofs.lemmas.List.Elements.{recursion_from_All, All-from_recursion}
 use Rattle.std.proofs.lemmas.List.Sorted.{IsPermutation-refl, length_permutation}
 use Rattle.std.specs.List.{list_all, list_any}
 use Rattle.std.specs.Prelude.{All, IsSome, IsPermutation, Option, Some, None, is_some}
 use Rattle.exam_model.specs.Enrolments.{Enrolled}
+use Rattle.exam_model.specs.Fits.{Suits}
 use Rattle.exam_model.specs.Instance.{Session}
 use Rattle.exam_model.specs.Timetable.{Placing}
 use Rattle.exam_score.specs.Track.{track}
 use Rattle.office_tables.specs.declared.draft.DraftRow.{DraftRow}
 use Rattle.office_tables.specs.declared.slot.SlotRow.{SlotRow}
 use Rattle.office_records.specs.Found.{AreDrafts, AreSlots}
+use Rattle.office_records.specs.Memory.{AreScoredDrafts, AreSuited, draft_at, scored_by}
+use Rattle.office_records.specs.declared.drafts.Draft.{Draft}
 use Rattle.office_model.specs.Office.{set_at}
 use Rattle.office_records.specs.Representation.{parts_of}
 use Rattle.office_records.specs.TableRows.{drafts_at, slots_at, slot_rows, number_if}
@@ -122,23 +125,67 @@ module _ (I : Session) (E : Enrolled) (found : List DraftRow) (places : List Slo
         (last_score (eqb row.no row.no) refl);
   }
 
--- the next row of a list
+-- a draft that is put at its number
+module _ (I : Session) (E : Enrolled) (draft : ℕ → Option Placing) (drafts : List (Option Draft))
+    (n : ℕ) (new : Draft) (within : n < length drafts) (are : AreScoredDrafts I E draft drafts)
+    (scored : new ≡ scored_by I E new.timetable) where
+  put_at : (d : ℕ) (b : Bool) → eqb d n ≡ b → draft_at (set drafts n (Some new)) d
+      ≡ option_map (scored_by I E) (cond b (Some new.timetable) (draft d))
+  put_at d true same =
+      let here : d ≡ n = grind (arith, nat_tests, same) in
+      ap (draft_at (set drafts n (Some new))) here ∙ get_or-set_same drafts n (Some new) None within
+      ∙ ap Some scored
+  put_at d false same =
+      get_or-set_other drafts n d (Some new) None
+      (λ here. let there : eqb d n ≡ true = grind (arith, nat_tests, here) in cc) ∙ are d
+
+  scored_more : AreScoredDrafts I E (set_at n (Some new.timetable) draft)
+      (set drafts n (Some new))
+  scored_more d = put_at d (eqb d n) refl
+
+-- the next row of a list, and its draft
 pub begun_next : (I : Session) (E : Enrolled) (found : List DraftRow) (places : List SlotRow)
-    (i : ℕ) (z : DraftRow) → i < length found
-    → ((draft : ℕ → Option Placing) × Begun I E (take i found) places draft)
+    (i : ℕ) (z : DraftRow) → i < length found → (drafts : List (Option Draft)) (new : Draft)
+    → ((draft : ℕ → Option Placing) × Begun I E (take i found) places draft
+    × AreScoredDrafts I E draft drafts)
+    → length drafts ≡ 9
     → (1 ≤ (get_or found i z).no) × ((get_or found i z).no ≤ 8)
     × All (λ (r : DraftRow). r.no ≢ (get_or found i z).no) (take i found)
-    → ((T : Placing) × AreSlots I (get_or found i z).no places T
-    × (parts_of (get_or found i z) ≡ track I E T))
+    → AreSlots I (get_or found i z).no places new.timetable
+    × (parts_of (get_or found i z) ≡ track I E new.timetable)
+    → new ≡ scored_by I E new.timetable
     → (draft : ℕ → Option Placing) × Begun I E (take (i + 1) found) places draft
-begun_next I E found places i z lt old next placed =
-    let row = get_or found i z in (
-      set_at row.no (Some placed.0) old.0,
-      subst (λ l. Begun I E l places (set_at row.no (Some placed.0) old.0))
+    × AreScoredDrafts I E draft (set drafts (get_or found i z).no (Some new))
+begun_next I E found places i z lt drafts new old size next placed scored =
+    let row = get_or found i z in
+    let below = next.1 in (
+      set_at row.no (Some new.timetable) old.0,
+      subst (λ l. Begun I E l places (set_at row.no (Some new.timetable) old.0))
           (sym (take_more found i z lt))
-          (begun_more I E (take i found) places old.0 old.1 row placed.0 (next.0, next.1) next.2
-          placed.1 placed.2),
+          (begun_more I E (take i found) places old.0 old.1 row new.timetable (next.0, next.1)
+          next.2 placed.0 placed.1),
+      scored_more I E old.0 drafts row.no new (omega (arith, size, below)) old.2 scored,
     )
+
+-- the drafts suit the session
+pub drafts_suited : (I : Session) (E : Enrolled) (found : List DraftRow) (places : List SlotRow)
+    (draft : ℕ → Option Placing) (drafts : List (Option Draft)) → AreDrafts I E found places draft
+    → AreScoredDrafts I E draft drafts → AreSuited I drafts
+drafts_suited I E found places draft drafts are scored d new at = go (draft d) refl
+  where
+    some_is : {x y : Draft} → ◌≡◌ {A = Option Draft} (Some x) (Some y) → x ≡ y
+    some_is e = cc
+
+    go : (x : Option Placing) → draft d ≡ x → Suits I new.timetable
+    go None is =
+        absurd (let none = sym at ∙ scored d ∙ ap (option_map (scored_by I E)) is in cc)
+    go (Some T) is =
+        let same : Some new ≡ Some (scored_by I E T)
+        = sym at ∙ scored d ∙ ap (option_map (scored_by I E)) is in
+        let one : new ≡ scored_by I E T = some_is same in
+        let fits = are.fits d T is in
+        subst (Suits I) (sym (ap (λ (x : Draft). x.timetable) one))
+        (record { exams = fits.timetable; places = fits.places })
 
 -- all of them, if each slot is of a draft that has a row
 module _ (I : Session) (E : Enrolled) (found : List DraftRow) (places : List SlotRow)

@@ -17,9 +17,10 @@ use Rattle.office_records.specs.FoundBatches.{AreBatchRows, AreFoundBatches}
 use Rattle.office_records.specs.Found.{AreOwners, ArePublication, IsSessionRow, IsUnloaded}
 use Rattle.office_model.specs.Office.{OfficeState, Publication, Records, AreKept, AreRecords, IsOffice, IsPublication}
 use Rattle.office_records.specs.FoundPublications.{ArePublished}
-use Rattle.office_records.specs.Memory.{memory_of, published_in}
+use Rattle.office_records.specs.Memory.{AreScoredDrafts, draft_at, memory_of, published_in, scored_draft}
 use Rattle.office_records.specs.Representation.{IsSound, TablesRepresentOffice, TablesRepresentRecords}
 use Rattle.office_records.specs.TableRows.{meta_row}
+use Rattle.office_records.specs.declared.drafts.Draft.{Draft}
 use Rattle.office_records.proofs.BatchRowLemmas.{batch_rows, batches_kept, batches_represent}
 use Rattle.office_records.proofs.BatchRowLemmas.{kept_batch, no_batches}
 use Rattle.office_records.proofs.MemoryLemmas.{same_enrolments}
@@ -78,11 +79,20 @@ module _ (found : Found) (batches : List Batch) where
       }
 
   pub nothing_loaded : IsUnloaded found → AreFoundBatches found.batches.items batches
+      → (drafts : List (Option Draft)) → ((d : ℕ) → draft_at drafts d ≡ None)
       → (office : OfficeState) × TablesRepresentOffice t office × IsSound t office × IsOffice office
       × (memory_of office ≡ None) × (published_in office ≡ None)
-  nothing_loaded is these =
-      let none = no_batches batches (these.rows ∙ is.batches) in
-      (None, subst (λ l. tables_of found l ≡ empty_tables) (sym none) is.tables, tt, tt, refl, refl)
+      × ((d : ℕ) → draft_at drafts d ≡ scored_draft d office)
+  nothing_loaded is these drafts no_draft =
+      let none = no_batches batches (these.rows ∙ is.batches) in (
+        None,
+        subst (λ l. tables_of found l ≡ empty_tables) (sym none) is.tables,
+        tt,
+        tt,
+        refl,
+        refl,
+        no_draft,
+      )
 
   -- ---- from the rows to the office
 
@@ -97,12 +107,15 @@ module _ (found : Found) (batches : List Batch) where
   pub office_of : (I : Session) (E : Enrolled) → IsSessionRow (meta_from found.meta) I
       → (owner_of : ℕ → ℕ) × AreOwners I found.owners.items owner_of
       → AreEnrolRows I found.enrols.items E
+      → (drafts : List (Option Draft))
       → (draft : ℕ → Option Placing) × AreDrafts I E found.drafts.items found.slots.items draft
+      × AreScoredDrafts I E draft drafts
       → (published : Option Publication) → IsPublished I published
       → AreBatchRows found.batches.items → AreFoundBatches found.batches.items batches
       → (office : OfficeState) × TablesRepresentOffice t office × IsSound t office × IsOffice office
       × (memory_of office ≡ Some (I, E)) × (published_in office ≡ published)
-  office_of I E session owners enrols drafts published are kept these = (
+      × ((d : ℕ) → draft_at drafts d ≡ scored_draft d office)
+  office_of I E session owners enrols made drafts published are kept these = (
     Some (record {
       session = I;
       owner_of = owners.0;
@@ -133,6 +146,7 @@ module _ (found : Found) (batches : List Batch) where
     },
     refl,
     refl,
+    drafts.2,
   )
 
   -- ---- from the office to its rows

@@ -1,45 +1,70 @@
-// Rows of drafts.
+// Rows of drafts, and the drafts that they represent.
 ghost use Rattle.std.specs.Prelude.{◌≡◌, ◌≢◌, ◌≤◌, ◌↔◌, ◌==◌, ℕ, length};
-ghost use Rattle.std.specs.Prelude.{All, IfErr, IsTrue, OnOk, Option};
+ghost use Rattle.std.specs.Prelude.{All, IfErr, IfOk, IsTrue, None, Option};
 ghost use Rattle.std.specs.List.{list_all, list_any};
 ghost use Rattle.exam_terms.specs.declared.limits.TheConstants.{MAX_DRAFTS};
 ghost use Rattle.exam_model.specs.Timetable.{Placing};
 ghost use Rattle.exam_score.specs.Track.{track};
 ghost use Rattle.office_tables.specs.Draft.{AreAmounts};
 ghost use Rattle.office_records.specs.Found.{AreDrafts, AreSlots};
+ghost use Rattle.office_records.specs.Memory.{AreScoredDrafts, draft_at, scored_by};
 ghost use Rattle.office_records.specs.Representation.{parts_of};
 
 use crate::fault::RecordFault;
 use crate::timetable::timetable_of;
-use exam_model::{Enrolments, Instance};
+use exam_model::{Enrolments, Instance, Timetable};
 use exam_score::{Parts, score};
 use exam_terms::limits::MAX_DRAFTS;
 use office_tables::{DraftRow, SlotRow};
 use std::alloc::Global;
 
-// Returns `Ok` if these rows are drafts with their places, and their penalties are right; else
-// `BadRows`.
-pub(crate) fn check_drafts(
+/// A draft with its penalty.
+#[derive(Drop)]
+pub struct Draft {
+    pub timetable: Timetable,
+    pub parts: Parts,
+}
+
+/// The number of indexes of drafts: 0, which no draft has, and 1 to 8.
+pub const NUMBERS: usize = MAX_DRAFTS as usize + 1;
+
+/// Drafts, each at its number's index.
+pub type Drafts = [Option<Draft>; NUMBERS];
+
+/// Returns no draft under any number.
+pub fn no_drafts() -> Drafts
+    ensures none { (d : ℕ) → draft_at result d ≡ None }
+    ensures size { length result ≡ 9 }
+{
+    [None, None, None, None, None, None, None, None, None]
+}
+
+// Returns the drafts that these rows represent, among the rows of all places. `BadRows`: they
+// represent none, or a penalty is wrong.
+pub(crate) fn drafts_of(
     alloc: Global,
     instance: &Instance,
     enrolments: &Enrolments,
     rows: &[DraftRow],
     slots: &[SlotRow],
-) -> Result<(), RecordFault>
+) -> Result<Drafts, RecordFault>
     requires exams { length enrolments.now ≡ length instance.now.exams }
-    ensures are { OnOk result ((draft : ℕ → Option Placing)
-        × AreDrafts instance.now enrolments.now rows.now slots.now draft) }
+    ensures are { IfOk result (λ drafts. (draft : ℕ → Option Placing)
+        × AreDrafts instance.now enrolments.now rows.now slots.now draft
+        × AreScoredDrafts instance.now enrolments.now draft drafts) }
     ensures none { IfErr result (λ e. e ≡ RecordFault.BadRows → (draft : ℕ → Option Placing)
         → AreDrafts instance.now enrolments.now rows.now slots.now draft → ⊥) }
 {
+    let mut drafts = no_drafts();
     'rows: for (at, row) in rows.iter().enumerate() {
         if !is_next(row.no, &rows[..at]) {
             return Err(RecordFault::BadRows);
         }
-        check_draft(alloc, instance, enrolments, row, slots)?;
+        let draft = draft_of(alloc, instance, enrolments, row, slots)?;
+        drafts[row.no as usize] = Some(draft);
     }
     if are_of_drafts(slots, rows) {
-        Ok(())
+        Ok(drafts)
     } else {
         Err(RecordFault::BadRows)
     }
@@ -68,17 +93,20 @@ fn has_row(draft: u32, rows: &[DraftRow]) -> bool
     rows.iter().any(|row| row.no == draft)
 }
 
-// Returns `Ok` if a draft's slots are a timetable, and its row has that timetable's penalty.
-fn check_draft(
+// Returns the draft of a row. `BadRows`: its slots are no timetable, or the row doesn't store that
+// timetable's penalty.
+fn draft_of(
     alloc: Global,
     instance: &Instance,
     enrolments: &Enrolments,
     row: &DraftRow,
     slots: &[SlotRow],
-) -> Result<(), RecordFault>
+) -> Result<Draft, RecordFault>
     requires exams { length enrolments.now ≡ length instance.now.exams }
-    ensures is { OnOk result ((T : Placing) × AreSlots instance.now row.now.no slots.now T
-        × (parts_of row.now ≡ track instance.now enrolments.now T)) }
+    ensures is { IfOk result (λ draft. AreSlots instance.now row.now.no slots.now draft.timetable
+        × (parts_of row.now ≡ track instance.now enrolments.now draft.timetable)) }
+    ensures scored { IfOk result
+        (λ draft. draft ≡ scored_by instance.now enrolments.now draft.timetable) }
     ensures none { IfErr result (λ e. e ≡ RecordFault.BadRows → (T : Placing)
         → AreSlots instance.now row.now.no slots.now T
         → parts_of row.now ≡ track instance.now enrolments.now T → ⊥) }
@@ -86,7 +114,7 @@ fn check_draft(
     let timetable = timetable_of(alloc, instance, row.no, slots)?;
     let parts = score(alloc, instance, enrolments, &timetable)?;
     if are_parts(row, &parts) {
-        Ok(())
+        Ok(Draft { timetable, parts })
     } else {
         Err(RecordFault::BadRows)
     }

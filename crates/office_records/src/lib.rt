@@ -18,7 +18,7 @@ mod shares;
 mod student_shares;
 mod timetable;
 
-pub use drafts::draft_row;
+pub use drafts::{Draft, Drafts, NUMBERS, draft_row, no_drafts};
 pub use fault::RecordFault;
 pub use part_shares::part_share_rows;
 pub use publication::placement_rows;

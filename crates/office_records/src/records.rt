@@ -1,5 +1,5 @@
 // The records that rows represent.
-ghost use Rattle.std.specs.Prelude.{◌≡◌, ◌↔◌, IfErr, IfOk, IfSome, IsTrue, List, map};
+ghost use Rattle.std.specs.Prelude.{◌≡◌, ◌↔◌, IfErr, IfOk, IfSome, IsTrue, List, map, ℕ};
 ghost use Rattle.office_tables.specs.Adopting.{tables_of};
 ghost use Rattle.office_tables.specs.Batch.{counts_of};
 ghost use Rattle.office_tables.specs.Tables.{Batch};
@@ -7,11 +7,11 @@ ghost use Rattle.office_model.specs.Office.{IsOffice, OfficeState};
 ghost use Rattle.office_records.specs.Found.{HasNoPublication, IsUnloaded};
 ghost use Rattle.office_records.specs.FoundBatches.{AreFoundBatches};
 ghost use Rattle.office_records.specs.FoundPublications.{AreFound, publication_from};
-ghost use Rattle.office_records.specs.Memory.{AreTogether, memory_of, published_in};
+ghost use Rattle.office_records.specs.Memory.{AreSuited, AreTogether, draft_at, memory_of, published_in, scored_draft};
 ghost use Rattle.office_records.specs.Representation.{IsSound, TablesRepresentOffice};
 
 use crate::batches::check_batches;
-use crate::drafts::check_drafts;
+use crate::drafts::{Drafts, drafts_of, no_drafts};
 use crate::enrolments::enrolments_of;
 use crate::fault::RecordFault;
 use crate::owners::check_owners;
@@ -27,6 +27,8 @@ use std::alloc::Global;
 pub struct Kept {
     /// The session and its live enrolments, once there is one.
     pub session: Option<(Instance, Enrolments)>,
+    /// The drafts, each at its number's index; none before a load.
+    pub drafts: Drafts,
     /// The published timetable with its seat rows, by exam and then by student, if there is one.
     pub published: Option<(Timetable, Vec<SeatRow>)>,
 }
@@ -40,8 +42,11 @@ pub fn kept_of(alloc: Global, found: &Found) -> Result<Kept, RecordFault>
         → (office : OfficeState) × TablesRepresentOffice (tables_of found.now batches) office
         × IsSound (tables_of found.now batches) office × IsOffice office
         × (memory_of office ≡ kept.session)
-        × (published_in office ≡ publication_from kept.published)) }
+        × (published_in office ≡ publication_from kept.published)
+        × ((d : ℕ) → draft_at kept.drafts d ≡ scored_draft d office)) }
     ensures together { IfOk result (λ kept. AreTogether kept.session) }
+    ensures suited { IfOk result (λ kept. IfSome kept.session
+        (λ session. AreSuited session.0 kept.drafts)) }
     ensures published { IfOk result (λ kept. IfSome kept.session
         (λ session. AreFound session.0 (publication_from kept.published))) }
     ensures none { IfErr result (λ e. e ≡ RecordFault.BadRows → (batches : List Batch)
@@ -52,17 +57,19 @@ pub fn kept_of(alloc: Global, found: &Found) -> Result<Kept, RecordFault>
     if is_unloaded(found) {
         return Ok(Kept {
             session: None,
+            drafts: no_drafts(),
             published: None,
         });
     }
     let instance = session_of(alloc, &found.meta)?;
     check_owners(alloc, &instance, &found.owners)?;
     let enrolments = enrolments_of(alloc, &instance, &found.enrols)?;
-    check_drafts(alloc, &instance, &enrolments, &found.drafts, &found.slots)?;
+    let drafts = drafts_of(alloc, &instance, &enrolments, &found.drafts, &found.slots)?;
     let published = published_of(alloc, &instance, found)?;
     check_batches(&found.batches)?;
     Ok(Kept {
         session: Some((instance, enrolments)),
+        drafts,
         published,
     })
 }

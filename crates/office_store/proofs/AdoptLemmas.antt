@@ -1,7 +1,7 @@
 -- What reading all tables leaves unchanged, and what the migration makes of the tables.
 use Rattle.std.proofs.Common.{◌≡◌, ◌≢◌, ◌⊎◌, inl, inr, false, List, [], ◌∷◌, map, IsTrue}
 use Rattle.std.proofs.Common.{refl, sym, ◌∙◌, arith, subst}
-use Rattle.std.specs.Prelude.{All, AllPairs, IfErr, Ok, OnErr, OnOk, Option, Result, Some}
+use Rattle.std.specs.Prelude.{All, AllPairs, IfErr, Ok, OnErr, OnOk, Result}
 use Rattle.std.proofs.lemmas.Result.{on_err_weaker, on_ok_weaker}
 use Rattle.std.proofs.lemmas.List.Elements.{All-from_recursion}
 use Rattle.std.proofs.lemmas.List.Kept.{AllPairs-cons}
@@ -151,13 +151,12 @@ tables_as version g a b on_ok leaves = record {
 
 -- a reader of the tables that were found
 pub found_then : {S Y E F : Type 0} {r : Result Y F} (g : Ghosts S) (a b c : Held S)
-    (all : Option Found) (found : Found) → all ≡ Some found
-    → (HasCleanDisk (state g b) → IsAdopted (state g a).now all)
-    → LeavesFile {E = E} (Unit {0}) g a b (Ok all)
+    (found : Found) → (HasCleanDisk (state g b) → IsAdopted (state g a).now (Ok found))
+    → LeavesFile {E = E} (Unit {0}) g a b (Ok found)
     → LeavesFile (HoldsSomeTables (state g b).now) g b c r → LeavesFile (Unit {0}) g a c r
-found_then g a b c all found is adopts first later =
+found_then g a b c found adopts first later =
     file_then (Unit {0}) (HoldsSomeTables (state g b).now) g a b c first later
-    (λ clean _ same. let adopted = subst (IsAdopted (state g a).now) is (adopts clean) in
+    (λ clean _ same. let adopted = adopts clean in
     some_still g a b (found.version, tables_of found adopted.0, adopted.2) same)
 
 -- ---- tables brought up to version 2

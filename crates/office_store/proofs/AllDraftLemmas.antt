@@ -1,15 +1,19 @@
--- The drafts of an office that is found.
-use Rattle.std.proofs.Common.{◌≡◌, ℕ, List, Option, Some, None, sym, subst}
-use Rattle.std.specs.Prelude.{IfSome}
+-- An office that is found: its drafts, what is in memory of it, its faults.
+use Rattle.std.proofs.Common.{◌≡◌, refl, sym, ◌∙◌, subst}
+use Rattle.std.specs.Prelude.{IfErr, IfSome, IsErrAnd, Result, Ok, Err, Some}
 use Rattle.office_tables.specs.Tables.{Tables}
-use Rattle.office_model.specs.Office.{AreRecords, IsOffice, OfficeState, Records}
+use Rattle.office_model.specs.Office.{AreRecords, Records}
+use Rattle.office_model.specs.declared.fault.StoreFault.{StoreFault}
+use Rattle.office_model.specs.declared.fault.StoreFault.TheVariants.{BadSchema}
+use Rattle.office_records.specs.Faults.{store_fault}
 use Rattle.office_records.specs.Found.{AreDrafts}
 use Rattle.office_records.specs.FoundPublications.{AreFound, publication_from}
-use Rattle.office_records.specs.Memory.{AreTogether, Memory, memory_of}
-use Rattle.office_records.specs.Representation.{IsSound, TablesRepresentOffice, TablesRepresentRecords}
+use Rattle.office_records.specs.Memory.{AreSuited, AreTogether, Memory}
+use Rattle.office_records.specs.Representation.{IsSound, TablesRepresentRecords}
+use Rattle.office_records.specs.declared.fault.RecordFault.{RecordFault}
+use Rattle.office_records.specs.declared.fault.RecordFault.TheVariants.{NoMemory, BadRows}
 use Rattle.office_store.proofs.TogetherLemmas.{no_one}
-use Rattle.office_store.specs.Memory.{AreNoDrafts, AreSuited, AreUnjudged, IsDraftOf, IsTogether, draft_at, scored_draft}
-use Rattle.office_store.specs.declared.memory.Draft.{Draft}
+use Rattle.office_store.specs.Memory.{AreUnjudged, IsTogether}
 use Rattle.office_store.specs.declared.memory.OfficeMemory.{OfficeMemory}
 
 -- the rows of an office are those of its drafts
@@ -23,29 +27,6 @@ drafts_stored t r represents is sound = record {
   scored = sound.scored;
 }
 
--- the drafts that are made of an office's rows are its drafts
-pub found_drafts : (t : Tables) (o : OfficeState) → TablesRepresentOffice t o → IsSound t o
-    → IsOffice o
-    → (kept : Memory) → memory_of o ≡ kept → (drafts : List (Option Draft))
-    → IfSome kept (λ k. (d : ℕ) → IsDraftOf k.0 d t.draft t.slot (draft_at drafts d))
-    → (kept ≡ None → (d : ℕ) → draft_at drafts d ≡ None)
-    → (d : ℕ) → draft_at drafts d ≡ scored_draft d o
-found_drafts t None represents sound is kept memory drafts are none d = none (sym memory) d
-found_drafts t (Some r) represents sound is kept memory drafts are none d =
-    subst
-    (λ (k : Memory). IfSome k (λ k. (d : ℕ) → IsDraftOf k.0 d t.draft t.slot (draft_at drafts d)))
-    (sym memory) are d r.enrolments r.draft (drafts_stored t r represents is sound)
-
--- they are not refused
-pub drafts_represent : (t : Tables) (o : OfficeState) → TablesRepresentOffice t o → IsSound t o
-    → IsOffice o
-    → (kept : Memory) → memory_of o ≡ kept
-    → IfSome kept (λ k. AreNoDrafts k.0 t.draft t.slot) → (kept ≡ None → ⊥) → ⊥
-drafts_represent t None represents sound is kept memory none loaded = loaded (sym memory)
-drafts_represent t (Some r) represents sound is kept memory none loaded =
-    subst (λ (k : Memory). IfSome k (λ k. AreNoDrafts k.0 t.draft t.slot)) (sym memory) none
-    r.enrolments r.draft is.session is.enrolled.set (drafts_stored t r represents is sound)
-
 pub found_together : (n : OfficeMemory) → AreTogether n.kept
     → IfSome n.kept (λ k. AreSuited k.0 n.drafts)
     → IfSome n.kept (λ k. AreFound k.0 (publication_from n.published)) → AreUnjudged n.judged
@@ -58,3 +39,14 @@ found_together n exams suited found unjudged = record {
       subst (λ (k : Memory). IfSome k (λ k. AreFound k.0 (publication_from n.published))) kept found;
   judged = λ I E kept d v there draft at. absurd (no_one (unjudged d) there);
 }
+
+-- only invalid rows are refused as a wrong schema
+pub meaning : {X Q : Type 0} (r : Result X StoreFault) (fault : RecordFault)
+    → IsErrAnd r (λ e. e ≡ store_fault fault) → (fault ≡ BadRows → Q)
+    → IfErr r (λ e. e ≡ BadSchema → Q)
+meaning (Ok x) fault is h = tt
+meaning (Err e) fault is h = λ bad. h (named fault (sym is ∙ bad))
+  where
+    named : (fault : RecordFault) → store_fault fault ≡ BadSchema → fault ≡ BadRows
+    named NoMemory e = absurd cc
+    named BadRows e = refl

@@ -20,8 +20,9 @@ use Rattle.office_tables.specs.declared.slot.SlotRow.{SlotRow}
 use Rattle.office_tables.specs.Inserted.{InsertSlot}
 use Rattle.office_tables.proofs.AlterationLemmas.{slots_put}
 use Rattle.office_model.specs.Office.{OfficeState, Records, set_at}
-use Rattle.office_store.specs.Memory.{HasPut, IsMemoryOf, draft_at, scored_by, scored_draft}
-use Rattle.office_store.specs.declared.memory.Draft.{Draft}
+use Rattle.office_records.specs.Memory.{draft_at, scored_by, scored_draft}
+use Rattle.office_records.specs.declared.drafts.Draft.{Draft}
+use Rattle.office_store.specs.Memory.{HasPut, IsMemoryOf}
 use Rattle.office_store.specs.declared.memory.OfficeMemory.{OfficeMemory}
 use Rattle.office_records.specs.Representation.{RepresentsOffice, parts_of}
 use Rattle.office_store.specs.NewDraft.{Begins}

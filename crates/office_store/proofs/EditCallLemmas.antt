@@ -27,16 +27,16 @@ use Rattle.office_model.specs.Office.{OfficeState, Records, set_at}
 use Rattle.office_model.specs.declared.fault.Refusal.TheVariants as refusal
 use Rattle.office_model.specs.declared.fault.StoreFault.{StoreFault}
 use Rattle.office_model.specs.declared.fault.StoreFault.TheVariants.{BadSchema, NoDraft, NotLoaded, Refused, Store}
-use Rattle.office_records.specs.Memory.{memory_of}
+use Rattle.office_records.specs.Memory.{memory_of, scored_by, scored_draft}
 use Rattle.office_records.specs.Representation.{RepresentsOffice, parts_of}
+use Rattle.office_records.specs.declared.drafts.Draft.{Draft}
 use Rattle.office_store.specs.Changes.{edit_put, new_place, slots_put}
 use Rattle.office_store.specs.Editing.{Edits, IsEdited, IsJudged}
 use Rattle.office_store.specs.Folding.{IsEditOf}
-use Rattle.office_store.specs.Memory.{HasPut, IsMemoryOf, scored_by, scored_draft}
+use Rattle.office_store.specs.Memory.{HasPut, IsMemoryOf}
 use Rattle.office_store.specs.Running.{IsFault}
 use Rattle.office_store.specs.declared.editing.EditedDraft.{EditedDraft}
 use Rattle.office_store.specs.declared.editing.Judged.{Judged}
-use Rattle.office_store.specs.declared.memory.Draft.{Draft}
 use Rattle.office_store.specs.declared.memory.OfficeMemory.{OfficeMemory}
 use Rattle.office_store.proofs.CommandLemmas.{Moves, Remembers}
 use Rattle.office_store.proofs.DraftLemmas.{some_is}

@@ -1,5 +1,5 @@
 -- Drafts that are made number by number, and their rows.
-use Rattle.std.proofs.Common.{◌≡◌, ℕ, zero, suc, ◌+◌, ◌<◌, ◌≤◌, Bool, true, false, eqb, ltb, cond, List, [], ◌∷◌, ◌++◌, get_or, length, map, set, Option, Some, None, option_map, refl, sym, ◌∙◌, ap, subst, arith}
+use Rattle.std.proofs.Common.{◌≡◌, ℕ, zero, suc, ◌+◌, ◌<◌, ◌≤◌, Bool, true, false, eqb, ltb, cond, List, [], ◌∷◌, ◌++◌, get_or, length, map, set, Option, Some, None, refl, sym, ◌∙◌, ap, subst, arith}
 use Rattle.std.specs.List.{AllByRecursion}
 use Rattle.std.specs.Prelude.{IfSome, is_some}
 use Rattle.std.proofs.lemmas.Bool.{ltb-false, ltb-true}
@@ -9,17 +9,15 @@ use Rattle.std.proofs.lemmas.List.Elements.{filter-append}
 use Rattle.sqlite_trees.proofs.ListLemmas.{all-append}
 use Rattle.exam_model.specs.Enrolments.{Enrolled}
 use Rattle.exam_model.specs.Instance.{Session}
-use Rattle.exam_model.specs.Timetable.{Placing}
 use Rattle.exam_score.specs.Track.{track}
 use Rattle.office_tables.specs.Draft.{AreAmounts}
 use Rattle.office_tables.specs.declared.draft.DraftRow.{DraftRow}
 use Rattle.office_tables.specs.declared.draft.InsertDraft.{InsertDraft}
-use Rattle.office_tables.specs.declared.slot.SlotRow.{SlotRow}
-use Rattle.office_records.specs.Found.{AreDrafts}
 use Rattle.office_records.specs.Representation.{parts_of}
 use Rattle.office_records.specs.TableRows.{drafts_at, number_if}
-use Rattle.office_store.specs.Memory.{AreDraftRows, AreScored, draft_at, scored_by}
-use Rattle.office_store.specs.declared.memory.Draft.{Draft}
+use Rattle.office_records.specs.Memory.{draft_at}
+use Rattle.office_records.specs.declared.drafts.Draft.{Draft}
+use Rattle.office_store.specs.Memory.{AreDraftRows, AreScored}
 
 -- ---- drafts of the first numbers
 
@@ -36,34 +34,6 @@ none_made made drafts none size = record {
   rest = λ d _. none d;
   size = size;
 }
-
--- no draft has number 0
-pub zero_made : (I : Session) (E : Enrolled) (rows : List DraftRow) (slots : List SlotRow)
-    (draft : ℕ → Option Placing) → AreDrafts I E rows slots draft → (made : List (Option Draft))
-    → ((d : ℕ) → draft_at made d ≡ None) → length made ≡ 9
-    → AreMade made 1 (λ d. option_map (scored_by I E) (draft d))
-zero_made I E rows slots draft are made none size = record {
-  done = λ d low. none d ∙ go d low (draft d) refl;
-  rest = λ d _. none d;
-  size = size;
-}
-  where
-    go : (d : ℕ) → d < 1 → (x : Option Placing) → draft d ≡ x
-        → None ≡ option_map (scored_by I E) (draft d)
-    go d low None is = sym (ap (option_map (scored_by I E)) is)
-    go d low (Some T) is =
-        absurd (let numbered = (are.numbered d (ap is_some is)).0 in omega (arith, low, numbered))
-
--- no draft has a number above 8
-pub none_beyond : (I : Session) (E : Enrolled) (rows : List DraftRow) (slots : List SlotRow)
-    (draft : ℕ → Option Placing) → AreDrafts I E rows slots draft → (d : ℕ) → 9 ≤ d
-    → option_map (scored_by I E) (draft d) ≡ None
-none_beyond I E rows slots draft are d high = go (draft d) refl
-  where
-    go : (x : Option Placing) → draft d ≡ x → option_map (scored_by I E) (draft d) ≡ None
-    go None is = ap (option_map (scored_by I E)) is
-    go (Some T) is =
-        absurd (let numbered = (are.numbered d (ap is_some is)).1 in omega (arith, high, numbered))
 
 -- one more
 pub one_made : (made : List (Option Draft)) (n : ℕ) (drafts : ℕ → Option Draft) (x : Option Draft)

@@ -10,14 +10,14 @@ use Rattle.exam_model.specs.Timetable.{Placing}
 use Rattle.office_tables.specs.Tables.{Tables}
 use Rattle.office_model.specs.Office.{OfficeState, Records, AreRecords}
 use Rattle.office_records.specs.Found.{AreSlots}
-use Rattle.office_records.specs.Memory.{memory_of, published_in}
+use Rattle.office_records.specs.Memory.{memory_of, published_in, scored_by, scored_draft}
 use Rattle.office_records.specs.Representation.{RepresentsOffice, TablesRepresentOffice, TablesRepresentRecords}
 use Rattle.office_records.specs.TableRows.{number_if, slot_rows, slots_at, stored_batch}
 use Rattle.office_records.proofs.MemoryLemmas.{same_memory}
 use Rattle.office_records.proofs.SamePublication.{same_published}
 use Rattle.office_records.proofs.SameTables.{same_represents}
 use Rattle.office_records.proofs.SlotLemmas.{same_timetable}
-use Rattle.office_store.specs.Memory.{IsMemoryOf, batch_count, priced_as, priced_in, scored_by, scored_draft}
+use Rattle.office_store.specs.Memory.{IsMemoryOf, batch_count, priced_as, priced_in}
 use Rattle.office_store.specs.declared.memory.OfficeMemory.{OfficeMemory}
 
 -- ---- the number of batches

@@ -14,12 +14,12 @@ use Rattle.office_model.specs.Commands.{CommandResult}
 use Rattle.office_model.specs.DraftCommands.{draft_shown}
 use Rattle.office_model.specs.Office.{OfficeState, Records}
 use Rattle.office_records.specs.FoundPublications.{publication_from}
-use Rattle.office_records.specs.Memory.{memory_of}
+use Rattle.office_records.specs.Memory.{draft_at, memory_of}
 use Rattle.office_model.specs.declared.fault.StoreFault.TheVariants.{NoDraft}
+use Rattle.office_records.specs.declared.drafts.Draft.{Draft}
 use Rattle.office_store.specs.Judging.{draft_judged}
-use Rattle.office_store.specs.Memory.{HasJudged, IsMemoryOf, draft_at}
+use Rattle.office_store.specs.Memory.{HasJudged, IsMemoryOf}
 use Rattle.office_store.specs.Running.{CommandOutcome}
-use Rattle.office_store.specs.declared.memory.Draft.{Draft}
 use Rattle.office_store.specs.declared.memory.OfficeMemory.{OfficeMemory}
 use Rattle.office_store.proofs.StoredLemmas.{in_memory_shown, none_in_memory_shown}
 

@@ -6,7 +6,6 @@ pub mod InMemoryLemmas
 pub mod RememberingLemmas
 pub mod TogetherLemmas
 pub mod FillingLemmas
-pub mod FoundDraftLemmas
 pub mod LoadLemmas
 pub mod DraftLemmas
 pub mod ReadLemmas

@@ -19,13 +19,14 @@ use Rattle.office_tables.specs.TablesHeld.{HoldsTables}
 use Rattle.office_tables.specs.Inserted.{InsertEnrol}
 use Rattle.office_tables.specs.declared.enrol.EnrolRow.{EnrolRow}
 use Rattle.office_tables.proofs.AlterationLemmas.{enrols_put}
+use Rattle.office_records.specs.Memory.{draft_at}
 use Rattle.office_store.specs.Changes.{session_put}
 use Rattle.office_model.specs.Loading.{new_records, session_counts, load_session}
 use Rattle.office_model.specs.Office.{OfficeState, AreEnrolled}
 use Rattle.office_model.specs.declared.fault.StoreFault.TheVariants.{Loaded}
 use Rattle.office_model.specs.declared.counts.Loaded as loading
 use Rattle.office_model.proofs.RecordLemmas.{fresh_records}
-use Rattle.office_store.specs.Memory.{IsMemoryOf, draft_at}
+use Rattle.office_store.specs.Memory.{IsMemoryOf}
 use Rattle.office_store.specs.declared.memory.OfficeMemory.{OfficeMemory}
 use Rattle.office_store.proofs.CommandLemmas.{Denies, Moves, Remembers}
 use Rattle.office_store.proofs.RememberingLemmas.{next_is}

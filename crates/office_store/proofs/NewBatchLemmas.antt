@@ -26,13 +26,13 @@ use Rattle.office_model.specs.declared.counts.Counts.{Counts}
 use Rattle.office_model.specs.declared.fault.Refusal.TheVariants as refusal
 use Rattle.office_model.specs.declared.fault.StoreFault.{StoreFault}
 use Rattle.office_model.specs.declared.fault.StoreFault.TheVariants.{Refused, TooMany}
-use Rattle.office_records.specs.Memory.{memory_of}
+use Rattle.office_records.specs.Memory.{draft_at, memory_of, scored_by}
 use Rattle.office_records.specs.Representation.{RepresentsOffice}
 use Rattle.office_records.specs.TableRows.{number_if}
-use Rattle.office_store.specs.Memory.{AreDraftRows, AreRescored, AreScored, IsMemoryOf, draft_at, rescored_draft, scored_by}
+use Rattle.office_records.specs.declared.drafts.Draft.{Draft}
+use Rattle.office_store.specs.Memory.{AreDraftRows, AreRescored, AreScored, IsMemoryOf, rescored_draft}
 use Rattle.office_store.specs.NewBatches.{AreDraftsWith, students_of}
 use Rattle.office_store.specs.Running.{IsFault}
-use Rattle.office_store.specs.declared.memory.Draft.{Draft}
 use Rattle.office_store.specs.declared.memory.OfficeMemory.{OfficeMemory}
 use Rattle.office_store.proofs.RememberingLemmas.{twice}
 

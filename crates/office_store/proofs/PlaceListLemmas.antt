@@ -17,10 +17,10 @@ use Rattle.office_model.specs.Office.{OfficeState, Records}
 use Rattle.office_model.specs.Step.{draft_places_shown}
 use Rattle.office_model.specs.declared.fault.Refusal.TheVariants as refusal
 use Rattle.office_model.specs.declared.fault.StoreFault.TheVariants.{NoDraft, Refused}
-use Rattle.office_records.specs.Memory.{memory_of}
-use Rattle.office_store.specs.Memory.{IsMemoryOf, draft_at}
+use Rattle.office_records.specs.Memory.{draft_at, memory_of}
+use Rattle.office_records.specs.declared.drafts.Draft.{Draft}
+use Rattle.office_store.specs.Memory.{IsMemoryOf}
 use Rattle.office_store.specs.Running.{CommandOutcome}
-use Rattle.office_store.specs.declared.memory.Draft.{Draft}
 use Rattle.office_store.specs.declared.memory.OfficeMemory.{OfficeMemory}
 use Rattle.office_store.proofs.EditCallLemmas.{there_of}
 use Rattle.office_store.proofs.StoredLemmas.{in_memory_shown, none_in_memory_shown}

@@ -50,7 +50,7 @@ use Rattle.office_model.specs.Publishing.{draft_published, publication_counts, p
 use Rattle.office_model.specs.declared.fault.StoreFault.{StoreFault}
 use Rattle.office_model.specs.declared.fault.StoreFault.TheVariants.{NoDraft, NotLoaded}
 use Rattle.office_model.proofs.RecordLemmas.{old_seated, published_records}
-use Rattle.office_records.specs.Memory.{memory_of}
+use Rattle.office_records.specs.Memory.{memory_of, scored_draft}
 use Rattle.office_records.specs.Publications.{placed_from, placed_rows, stored_seat}
 use Rattle.office_records.specs.SeatsStored.{rows_beside, seats_without}
 use Rattle.office_records.specs.SharesStored.{retimed_students, share_rows_of, share_rows_without}
@@ -67,7 +67,7 @@ use Rattle.office_store.specs.PublicationChanges.{publication_put, seats_left, s
 use Rattle.office_store.specs.NewPublications.{AreInserted, IsInserted, Publishes}
 use Rattle.office_store.specs.NewPublications.{InsertsOrRefuses, candidates_before, mark_text}
 use Rattle.office_store.specs.RowPuts.{place_gone, placement_put, seat_gone}
-use Rattle.office_store.specs.Memory.{HasPublished, IsMemoryOf, scored_draft}
+use Rattle.office_store.specs.Memory.{HasPublished, IsMemoryOf}
 use Rattle.office_store.specs.declared.memory.OfficeMemory.{OfficeMemory}
 use Rattle.office_store.specs.declared.new_publication.NewPublication.{NewPublication}
 use Rattle.office_store.proofs.ChangedPlacementLemmas.{AreOwnExams, own_exams, stored_put}

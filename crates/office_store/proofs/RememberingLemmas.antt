@@ -13,8 +13,9 @@ use Rattle.exam_score.specs.Track.{track}
 use Rattle.office_model.specs.Office.{OfficeState, Publication, Records, published_enrolments, set_at}
 use Rattle.office_model.specs.declared.fault.StoreFault.{StoreFault}
 use Rattle.office_records.specs.FoundPublications.{publication_from}
-use Rattle.office_store.specs.Memory.{AreRescored, HasPublished, HasPut, IsMemoryOf, IsRenewed, draft_at, priced_as, priced_in, rescored_draft, scored_by}
-use Rattle.office_store.specs.declared.memory.Draft.{Draft}
+use Rattle.office_records.specs.Memory.{draft_at, scored_by}
+use Rattle.office_records.specs.declared.drafts.Draft.{Draft}
+use Rattle.office_store.specs.Memory.{AreRescored, HasPublished, HasPut, IsMemoryOf, IsRenewed, priced_as, priced_in, rescored_draft}
 use Rattle.office_store.specs.declared.memory.OfficeMemory.{OfficeMemory}
 
 -- a command leads to only one office

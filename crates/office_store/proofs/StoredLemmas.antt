@@ -9,10 +9,11 @@ use Rattle.office_model.specs.declared.fault.StoreFault.TheVariants.{NoDraft}
 use Rattle.office_model.specs.DraftCommands.{draft_shown}
 use Rattle.office_model.specs.Office.{OfficeState, Records}
 use Rattle.office_model.specs.declared.fault.StoreFault.{StoreFault}
-use Rattle.office_store.specs.Memory.{IsMemoryOf, draft_at, scored_draft}
+use Rattle.office_records.specs.Memory.{draft_at, scored_draft}
+use Rattle.office_records.specs.declared.drafts.Draft.{Draft}
+use Rattle.office_store.specs.Memory.{IsMemoryOf}
 use Rattle.office_store.specs.Pricing.{draft_priced}
 use Rattle.office_store.specs.Running.{CommandOutcome}
-use Rattle.office_store.specs.declared.memory.Draft.{Draft}
 use Rattle.office_store.specs.declared.memory.OfficeMemory.{OfficeMemory}
 use Rattle.office_store.proofs.EditCallLemmas.{there_of}
 

@@ -16,10 +16,10 @@ use Rattle.exam_publish.specs.declared.seat_row.SeatRow.{SeatRow}
 use Rattle.office_model.specs.Office.{Publication}
 use Rattle.office_model.specs.Publishing.{publication_rows}
 use Rattle.office_records.specs.FoundPublications.{AreFound, publication_from}
-use Rattle.office_records.specs.Memory.{AreTogether}
-use Rattle.office_store.specs.Memory.{AreSuited, HasJudged, HasPublished, HasPut, IsRenewed}
-use Rattle.office_store.specs.Memory.{IsTogether, draft_at, judged_at}
-use Rattle.office_store.specs.declared.memory.Draft.{Draft}
+use Rattle.office_records.specs.Memory.{AreSuited, AreTogether, draft_at}
+use Rattle.office_records.specs.declared.drafts.Draft.{Draft}
+use Rattle.office_store.specs.Memory.{HasJudged, HasPublished, HasPut, IsRenewed}
+use Rattle.office_store.specs.Memory.{IsTogether, judged_at}
 use Rattle.office_store.specs.declared.memory.OfficeMemory.{OfficeMemory}
 
 -- a timetable with its seats

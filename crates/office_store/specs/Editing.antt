@@ -8,10 +8,10 @@ use Rattle.exam_score.specs.Track.{track}
 use Rattle.office_model.specs.DraftCommands.{draft_edited}
 use Rattle.office_model.specs.Office.{OfficeState, Records}
 use Rattle.office_model.specs.declared.fault.StoreFault.{StoreFault}
+use Rattle.office_records.specs.declared.drafts.Draft.{Draft}
 use Rattle.office_store.specs.Running.{IsFault}
 use Rattle.office_store.specs.declared.editing.EditedDraft.{EditedDraft}
 use Rattle.office_store.specs.declared.editing.Judged.{Judged}
-use Rattle.office_store.specs.declared.memory.Draft.{Draft}
 
 -- the edit of a draft of these records is legal and gives this timetable
 pub record IsJudged (d : ℕ) (change : Edit) (r : Records) (judged : Judged) : Type 0 where

@@ -2,9 +2,8 @@
 use Rattle.std.specs.Prelude.{◌≡◌, ◌≢◌, ℕ, List, Vec, length, map, slice_index_or, is_some, Option, Some, None, option_map}
 use Rattle.std.specs.List.{AllByRecursion}
 use Rattle.std.specs.declared.alloc.Global.{Global}
-use Rattle.exam_model.specs.Enrolments.{AreEnrolments, Enrolled}
-use Rattle.exam_model.specs.Fits.{Suits}
-use Rattle.exam_model.specs.Instance.{IsInstance, Session}
+use Rattle.exam_model.specs.Enrolments.{Enrolled}
+use Rattle.exam_model.specs.Instance.{Session}
 use Rattle.exam_model.specs.Timetable.{Placing}
 use Rattle.exam_publish.specs.declared.seat_row.SeatRow.{SeatRow}
 use Rattle.exam_rules.specs.Breaches.{breaches_of}
@@ -12,14 +11,12 @@ use Rattle.exam_rules.specs.declared.breach.Breach.{Breach}
 use Rattle.exam_score.specs.Penalty.{Penalty}
 use Rattle.exam_score.specs.Track.{track}
 use Rattle.office_tables.specs.declared.draft.DraftRow.{DraftRow}
-use Rattle.office_tables.specs.declared.slot.SlotRow.{SlotRow}
 use Rattle.office_model.specs.Office.{OfficeState, Publication, published_enrolments}
-use Rattle.office_records.specs.Found.{AreDrafts}
 use Rattle.office_records.specs.FoundPublications.{AreFound, publication_from}
-use Rattle.office_records.specs.Memory.{AreTogether, memory_of, published_in}
+use Rattle.office_records.specs.Memory.{AreSuited, AreTogether, draft_at, memory_of, published_in, scored_by, scored_draft}
 use Rattle.office_records.specs.Representation.{parts_of}
 use Rattle.office_records.specs.TableRows.{drafts_at, number_if}
-use Rattle.office_store.specs.declared.memory.Draft.{Draft}
+use Rattle.office_records.specs.declared.drafts.Draft.{Draft}
 use Rattle.office_store.specs.declared.memory.OfficeMemory.{OfficeMemory}
 
 -- ---- what an office has
@@ -28,15 +25,6 @@ use Rattle.office_store.specs.declared.memory.OfficeMemory.{OfficeMemory}
 abbrev pub batch_count : OfficeState → ℕ
 batch_count None = 0
 batch_count (Some r) = length r.batches
-
--- a timetable with its penalty by these enrolments
-abbrev pub scored_by : Session → Enrolled → Placing → Draft
-scored_by I E T = record { timetable = T; parts = track I E T }
-
--- the draft with a number in an office, with its penalty, if there is one
-abbrev pub scored_draft : ℕ → OfficeState → Option Draft
-scored_draft d None = None
-scored_draft d (Some r) = option_map (scored_by r.session r.enrolments) (r.draft d)
 
 -- the penalty of a publication with the enrolments at that time, if there is one
 abbrev pub priced_as : Session → Option Publication → Option Penalty
@@ -49,10 +37,6 @@ priced_in None = None
 priced_in (Some r) = priced_as r.session r.published
 
 -- ---- what is in memory
-
--- the draft with a number in memory, if there is one
-abbrev pub draft_at : List (Option Draft) → ℕ → Option Draft
-draft_at drafts d = slice_index_or drafts d None
 
 -- the breaches in memory of the draft with a number, if they are there
 abbrev pub judged_at : List (Option (Vec Breach Global)) → ℕ → Option (Vec Breach Global)
@@ -77,11 +61,6 @@ pub record IsMemoryOf (office : OfficeState) (memory : OfficeMemory) : Type 0 wh
   pub drafts : (d : ℕ) → draft_at memory.drafts d ≡ scored_draft d office
   pub published : published_in office ≡ publication_from memory.published
   pub priced : priced_in office ≡ memory.priced
-
--- each of these drafts places the session's exams only at places where they may be
-abbrev pub AreSuited : Session → List (Option Draft) → Type 0
-AreSuited I drafts =
-    (d : ℕ) (draft : Draft) → draft_at drafts d ≡ Some draft → Suits I draft.timetable
 
 -- each of these drafts has its penalty by these enrolments
 abbrev pub AreScored : Session → Enrolled → List (Option Draft) → Type 0
@@ -160,15 +139,3 @@ pub record AreDraftRows (drafts : List (Option Draft)) (rows : List DraftRow) : 
       ≡ number_if (is_some (draft_at drafts d)) d
   pub scored : AllByRecursion (λ row. (draft : Draft) → draft_at drafts row.no ≡ Some draft
       → parts_of row ≡ draft.parts) rows
-
--- the draft with a number, if these are the rows of drafts
-abbrev pub IsDraftOf : Session → ℕ → List DraftRow → List SlotRow → Option Draft → Type 0
-IsDraftOf I d rows slots found =
-    (E : Enrolled) (draft : ℕ → Option Placing) → AreDrafts I E rows slots draft
-    → found ≡ option_map (scored_by I E) (draft d)
-
--- no drafts have these rows
-abbrev pub AreNoDrafts : Session → List DraftRow → List SlotRow → Type 0
-AreNoDrafts I rows slots =
-    (E : Enrolled) (draft : ℕ → Option Placing) → IsInstance I → AreEnrolments E
-    → AreDrafts I E rows slots draft → ⊥

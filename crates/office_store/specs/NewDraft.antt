@@ -7,7 +7,7 @@ use Rattle.exam_score.specs.Track.{track}
 use Rattle.office_tables.specs.declared.slot.SlotRow.{SlotRow}
 use Rattle.office_records.specs.TableRows.{slots_from}
 use Rattle.office_model.specs.DraftCommands.{first_timetable}
-use Rattle.office_store.specs.declared.memory.Draft.{Draft}
+use Rattle.office_records.specs.declared.drafts.Draft.{Draft}
 
 -- the draft d begins with this timetable and penalty, and its places have these rows
 pub record Begins (d : ℕ) (bytes : List ℕ) (I : Session) (E : Enrolled) (begun : Draft)

@@ -14,7 +14,6 @@ ghost use Rattle.office_store.specs.Opening.{HoldsOffice, IsFoundOffice, Databas
 ghost use Rattle.office_store.specs.Transactions.{BroughtUp};
 
 use crate::fault::Failed;
-use crate::found_drafts::drafts_found;
 use crate::kept_bytes::check_bytes;
 use crate::memory::{OfficeMemory, no_breaches};
 use crate::office::Office;
@@ -24,7 +23,7 @@ use exam_publish::{SeatRow, shares};
 use exam_score::Parts;
 use office_model::StoreFault;
 use office_records::{Kept, kept_of};
-use office_tables::{Found, Version, adopt_tables};
+use office_tables::{AdoptFault, Found, Version, adopt_tables};
 use sqlite::{Alter, Connection};
 use std::alloc::Global;
 
@@ -88,19 +87,18 @@ fn found_office<S: Alter>(
     ensures leaves { LeavesFile (Unit {0}) S.Store conn.old conn.new result }
 {
     let found = match adopt_tables(alloc, conn) {
-        Ok(Some(found)) => found,
-        Ok(None) => return Err(StoreFault::BadSchema),
-        Err(_) => return Err(StoreFault::Store),
+        Ok(found) => found,
+        Err(AdoptFault::Foreign) => return Err(StoreFault::BadSchema),
+        Err(AdoptFault::Failed) => return Err(StoreFault::Store),
     };
     let kept = kept_of(alloc, &found)?;
     check_weight(found.version, &kept.session)?;
     check_bytes(alloc, conn, &found.batches)?;
-    let drafts = drafts_found(alloc, &kept.session, &found)?;
     let priced = penalty_of(alloc, &kept)?;
     let memory = OfficeMemory {
         kept: kept.session,
         batches: found.batches.len(),
-        drafts,
+        drafts: kept.drafts,
         published: kept.published,
         priced,
         judged: no_breaches(),

@@ -7,7 +7,6 @@ ghost use Rattle.office_store.specs.Leaving.{LeavesNext};
 ghost use Rattle.office_store.specs.Running.{CommandRan};
 ghost use Rattle.office_records.specs.TableRows.{slots_from};
 
-use crate::memory::Draft;
 use crate::office::Office;
 use crate::transactions::put;
 use exam_model::{Enrolments, ExamNo, Instance, Timetable};
@@ -15,7 +14,7 @@ use exam_score::score;
 use exam_terms::limits::MAX_DRAFTS;
 use office_files::read_solution;
 use office_model::StoreFault;
-use office_records::draft_row;
+use office_records::{Draft, draft_row};
 use office_tables::{
     Both, DeleteDraft, DeleteSlots, InsertDraft, InsertSlot, InsertSlots, SlotRow,
 };

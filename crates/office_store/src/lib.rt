@@ -9,7 +9,6 @@ mod editing;
 mod enrolling;
 mod fault;
 mod folding;
-mod found_drafts;
 mod kept_bytes;
 mod laws;
 mod loading;

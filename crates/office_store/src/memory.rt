@@ -1,38 +1,25 @@
 // What an office keeps in memory of its tables.
-ghost use Rattle.std.specs.Prelude.{◌≡◌, ◌↔◌, ◌+◌, ◌≤◌, ◌<◌, ℕ, IfNone, IfOk, IfSome, IsTrue, None, Some, is_some, length};
+ghost use Rattle.std.specs.Prelude.{◌≡◌, ◌↔◌, ◌+◌, ◌≤◌, ◌<◌, ℕ, IfNone, IfOk, IfSome, IsTrue, None, Some, is_some};
 ghost use Rattle.exam_terms.specs.declared.limits.TheConstants.{MAX_BATCHES, MAX_DRAFTS};
 ghost use Rattle.exam_model.specs.Enrolments.{Enrolled};
 ghost use Rattle.exam_model.specs.Instance.{Session};
 ghost use Rattle.office_model.specs.Publishing.{publication_rows};
 ghost use Rattle.office_records.specs.FoundPublications.{publication_from};
-ghost use Rattle.office_records.specs.Memory.{HasNoNightWeight};
+ghost use Rattle.office_records.specs.Memory.{HasNoNightWeight, draft_at};
 ghost use Rattle.office_records.specs.Publications.{placed_rows};
 ghost use Rattle.office_store.specs.Memory.{AreUnjudged, HasJudged, HasPublished, HasPut, IsRenewed};
-ghost use Rattle.office_store.specs.Memory.{draft_at, judged_at};
+ghost use Rattle.office_store.specs.Memory.{judged_at};
 
 use exam_model::{Enrolments, Instance, Timetable};
 use exam_publish::SeatRow;
 use exam_rules::Breach;
 use exam_score::Parts;
 use exam_terms::limits::MAX_DRAFTS;
-use office_records::placement_rows;
+use office_records::{Draft, Drafts, NUMBERS, no_drafts, placement_rows};
 use office_tables::PlacedRow;
 use std::alloc::{AllocError, Global};
 
-// A draft with its penalty.
-#[derive(Drop)]
-pub(crate) struct Draft {
-    pub(crate) timetable: Timetable,
-    pub(crate) parts: Parts,
-}
-
-// The number of indexes of drafts: 0, which no draft has, and 1 to 8.
-pub(crate) const NUMBERS: usize = MAX_DRAFTS as usize + 1;
-
-// The drafts, each at its number's index.
-pub(crate) type Drafts = [Option<Draft>; NUMBERS];
-
-// Breaches of drafts, likewise.
+// Breaches of drafts, each draft's at its number's index.
 pub(crate) type Judged = [Option<Vec<Breach>>; NUMBERS];
 
 // More breaches of a draft aren't kept.
@@ -200,14 +187,6 @@ impl OfficeMemory {
             self.judged = no_breaches();
         }
     }
-}
-
-// Returns no draft under any number.
-pub(crate) fn no_drafts() -> Drafts
-    ensures none { (d : ℕ) → draft_at result d ≡ None }
-    ensures size { length result ≡ 9 }
-{
-    [None, None, None, None, None, None, None, None, None]
 }
 
 // Returns no breaches under any number.

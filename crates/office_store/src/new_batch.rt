@@ -6,20 +6,21 @@ ghost use Rattle.exam_terms.specs.declared.limits.TheConstants.{MAX_BATCHES, TEX
 ghost use Rattle.exam_score.specs.Rescoring.{OthersUnchanged};
 ghost use Rattle.office_tables.specs.Draft.{AreAmounts};
 ghost use Rattle.office_model.specs.Office.{Records};
-ghost use Rattle.office_records.specs.Memory.{memory_of};
+ghost use Rattle.office_records.specs.Memory.{AreSuited, memory_of};
 ghost use Rattle.office_records.specs.Representation.{RepresentsOffice};
-ghost use Rattle.office_store.specs.Memory.{AreRescored, AreScored, AreSuited, IsMemoryOf};
+ghost use Rattle.office_store.specs.Memory.{AreRescored, AreScored, IsMemoryOf};
 ghost use Rattle.office_store.specs.NewBatches.{Enrols, new_batch_put, put_line, students_of};
 ghost use Rattle.office_tables.specs.Alterations.{TablesChanged, TransactionRan};
 
 use crate::fault::Failed;
-use crate::memory::{Drafts, OfficeMemory, no_drafts};
+use crate::memory::OfficeMemory;
 use crate::rescoring::{rescored_drafts, rows_put};
 use crate::transactions::put;
 use exam_model::{Change, Enrolments, Instance, StudentNo};
 use exam_terms::limits::MAX_BATCHES;
 use office_enrolment::{AfterBatch, after_batch};
 use office_model::{Counts, StoreFault};
+use office_records::{Drafts, no_drafts};
 use office_tables::{
     Alteration, Both, DeleteDrafts, DeleteEnrol, Each, EnrolRow, InsertBatch, InsertDraft,
     InsertEnrol,

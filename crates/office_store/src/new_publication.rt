@@ -24,14 +24,14 @@ ghost use Rattle.office_store.specs.Running.{IsFault};
 ghost use Rattle.office_tables.specs.SharePart.{ArePartAmounts};
 ghost use Rattle.office_tables.specs.ShareStudent.{AreStudentAmounts};
 
-use crate::memory::{Draft, OfficeMemory};
+use crate::memory::OfficeMemory;
 use crate::rewritten_places::{mark_text, placements_put, places_gone};
 use exam_model::{Enrolments, Instance, StudentNo, Timetable};
 use exam_publish::{SeatRow, Shares, changed, numbers_identify, permit, seats, shares_among};
 use exam_score::Parts;
 use office_model::{Published, StoreFault};
 use office_records::{
-    part_share_rows, placement_rows, retimed_students, seats_beside, student_share_rows,
+    Draft, part_share_rows, placement_rows, retimed_students, seats_beside, student_share_rows,
 };
 use office_tables::{
     DeletePlacement, DeleteSeat, DeleteStudentShare, InsertPartShare, InsertPlacement, InsertSeat,

@@ -6,12 +6,12 @@ ghost use Rattle.exam_score.specs.Track.{track};
 ghost use Rattle.office_tables.specs.Draft.{AreAmounts};
 ghost use Rattle.office_tables.specs.declared.draft.DraftRow.{DraftRow};
 ghost use Rattle.office_records.specs.Representation.{parts_of};
-ghost use Rattle.office_store.specs.Memory.{AreDraftRows, AreRescored, AreScored, AreSuited, rescored_draft};
+ghost use Rattle.office_records.specs.Memory.{AreSuited};
+ghost use Rattle.office_store.specs.Memory.{AreDraftRows, AreRescored, AreScored, rescored_draft};
 
-use crate::memory::{Draft, Drafts, NUMBERS, no_drafts};
 use exam_model::{Enrolments, Instance, StudentNo};
 use exam_score::rescore;
-use office_records::draft_row;
+use office_records::{Draft, Drafts, NUMBERS, draft_row, no_drafts};
 use office_tables::InsertDraft;
 use std::alloc::{AllocError, Global};
 

@@ -1,8 +1,6 @@
--- The tables according to the parts found, and the effect of readers one after another.
-use Rattle.std.proofs.Common.{◌≡◌, inl, inr, map, length, Option, Some, None, Result, Ok, Err, refl, sym, ap, subst, ◌∙◌, arith}
+-- The tables according to the rows found, and the effect of readers one after another.
+use Rattle.std.proofs.Common.{◌≡◌, map, length, Option, Some, None, Result, Ok, Err, refl, sym, ap, subst, ◌∙◌, arith}
 use Rattle.std.proofs.lemmas.Result.{IfOk-weaker, on_ok_weaker}
-use Rattle.std.specs.Prelude.{Vec}
-use Rattle.std.specs.declared.alloc.Global.{Global}
 use Rattle.std.specs.Result.{IsErrAnd}
 use Rattle.sqlite.specs.Effect.{Database, IsDatabase}
 use Rattle.sqlite.specs.declared.error.Error.{Error}
@@ -10,42 +8,27 @@ use Rattle.sqlite.specs.Held.{Held, state}
 use Rattle.sqlite.specs.Store.{Ghosts}
 use Rattle.sqlite.specs.State.{State, HasCleanDisk, IsUnchanged}
 use Rattle.sqlite.proofs.StateLemmas.{survives_then}
-use Rattle.office_tables.specs.Adopting.{HaveDrafts, HaveShares, IsFoundPart, HoldsDrafts, HoldsPublication, HoldsSession, IsAdopted, IsForeign, IsForeignIn, tables_of, IsSession, IsDrafts, HasAllOfPublication, IsWhole}
+use Rattle.office_tables.specs.Adopting.{AdoptsRows, HaveDrafts, HaveShares, IsAdopted, IsForeign, IsForeignIn, found_or_fault}
 use Rattle.office_tables.specs.Batch.{IsFoundBatches}
+use Rattle.office_tables.specs.declared.found.AdoptFault.{AdoptFault}
+use Rattle.office_tables.specs.declared.found.AdoptFault.TheVariants.{Foreign, Failed}
 use Rattle.office_tables.specs.declared.found.Found.{Found}
-use Rattle.office_tables.specs.declared.found.FoundDrafts.{FoundDrafts}
-use Rattle.office_tables.specs.declared.found.FoundPublication.{FoundPublication}
-use Rattle.office_tables.specs.declared.found.FoundSession.{FoundSession}
-use Rattle.office_tables.specs.declared.batch.BatchCountsRow.{BatchCountsRow}
-use Rattle.office_tables.specs.declared.meta.MetaRow.{MetaRow}
-use Rattle.office_tables.specs.declared.owner.OwnerRow.{OwnerRow}
-use Rattle.office_tables.specs.declared.enrol.EnrolRow.{EnrolRow}
-use Rattle.office_tables.specs.declared.draft.DraftRow.{DraftRow}
-use Rattle.office_tables.specs.declared.slot.SlotRow.{SlotRow}
-use Rattle.office_tables.specs.declared.placed.PlacedRow.{PlacedRow}
-use Rattle.office_tables.specs.declared.seat.SeatRow.{SeatRow}
-use Rattle.office_tables.specs.declared.share_student.StudentShareRow.{StudentShareRow}
-use Rattle.office_tables.specs.declared.share_part.PartShareRow.{PartShareRow}
-use Rattle.office_tables.specs.Finders.{Adopts, IsFound, HasTables, Looks}
-use Rattle.office_tables.specs.Meta.{IsFoundMeta, meta_columns}
-use Rattle.office_tables.specs.Owner.{FitsOwner, owner_columns}
-use Rattle.office_tables.specs.Enrol.{FitsEnrol, enrol_columns}
-use Rattle.office_tables.specs.Draft.{FitsDraft}
-use Rattle.office_tables.specs.Slot.{FitsSlot, slot_columns}
-use Rattle.office_tables.specs.Placed.{FitsPlacement, placed_columns}
-use Rattle.office_tables.specs.Seat.{FitsSeat, seat_columns}
-use Rattle.office_tables.specs.ShareStudent.{FitsStudentShare}
-use Rattle.office_tables.specs.SharePart.{FitsPartShare, share_part_columns}
+use Rattle.office_tables.specs.Finders.{Adopts, HasTables, Looks}
+use Rattle.office_tables.specs.Meta.{IsFoundMeta}
+use Rattle.office_tables.specs.Owner.{owner_columns}
+use Rattle.office_tables.specs.Enrol.{enrol_columns}
+use Rattle.office_tables.specs.Slot.{slot_columns}
+use Rattle.office_tables.specs.Placed.{placed_columns}
+use Rattle.office_tables.specs.Seat.{seat_columns}
+use Rattle.office_tables.specs.SharePart.{share_part_columns}
 use Rattle.sqlite_schema.specs.declared.schema.Schema.{Schema}
 use Rattle.office_schema.specs.Schema.{office_schema, schema_before}
 use Rattle.office_tables.specs.declared.version.Version.{Version}
 use Rattle.office_tables.specs.declared.version.Version.TheVariants.{One, Two}
-use Rattle.office_tables.specs.Joining.{AreFound}
 use Rattle.office_tables.specs.TablesHeld.{HoldsTablesIn}
 use Rattle.office_tables.specs.Versions.{schema_of}
 use Rattle.office_tables.specs.Stored.{Holds, keyed_columns, keyless_columns}
 use Rattle.office_tables.proofs.Reading.{keeps_after}
-use Rattle.office_tables.proofs.Frames.{held_at}
 
 -- ---- readers one after another
 
@@ -132,91 +115,6 @@ module _ {S X : Type 0} {version : Version} {store : Ghosts S} {is : Database �
       → Adopts version store js a c r
   failed {c = c} e looks err = failed_first e (looks_then c looks) err
 
-  -- what is found says more
-  pub gives : {Y : Type 0} {js : Database → Y → Type 0} {y : Y}
-      → ((db : Database) → db.schema ≡ schema_of version → is db x → js db y)
-      → Adopts version store js a b (Ok y)
-  gives more = record {
-    found = λ clean tables. more (state store a).now tables.schema (first.found clean tables);
-    same = first.same;
-    looks = first.looks;
-  }
-
--- ---- the rows found
-
-pub session_found : (version : Version) (db : Database) (meta : Option MetaRow)
-    (owners : Option (Vec OwnerRow Global)) (enrols : Option (Vec EnrolRow Global))
-    → IsFoundMeta version (db.trees 0) meta
-    → IsFound FitsOwner owner_columns keyed_columns (db.trees 1) owners
-    → IsFound FitsEnrol enrol_columns keyless_columns (db.trees 2) enrols
-    → (found : Option FoundSession) → IsSession meta owners enrols found
-    → IsFoundPart HoldsSession version db found
-session_found version db meta owners enrols m o e (Some found) is = record {
-  meta = subst (IsFoundMeta version (db.trees 0)) is.0 m;
-  owner = subst (IsFound FitsOwner owner_columns keyed_columns (db.trees 1)) is.1 o;
-  enrol = subst (IsFound FitsEnrol enrol_columns keyless_columns (db.trees 2)) is.2 e;
-}
-session_found version db meta owners enrols m o e None (inl none) = λ t plain represents.
-    subst (IsFoundMeta version (db.trees 0)) none m plain.row
-    (subst (λ l. Holds keyed_columns (map (meta_columns version) l)
-    (db.trees 0)) plain.meta (held_at 0 represents))
-session_found version db meta owners enrols m o e None (inr (inl none)) = λ t plain represents.
-    subst (IsFound FitsOwner owner_columns keyed_columns (db.trees 1)) none o t.owner
-    plain.owner (held_at 1 represents)
-session_found version db meta owners enrols m o e None (inr (inr none)) = λ t plain represents.
-    subst (IsFound FitsEnrol enrol_columns keyless_columns (db.trees 2)) none e t.enrol
-    plain.enrol (held_at 2 represents)
-
-pub drafts_found : (version : Version) (db : Database) (drafts : Option (Vec DraftRow Global))
-    (slots : Option (Vec SlotRow Global))
-    → AreFound FitsDraft (HaveDrafts version db) drafts
-    → IsFound FitsSlot slot_columns keyless_columns (db.trees 5) slots
-    → (found : Option FoundDrafts) → IsDrafts drafts slots found
-    → IsFoundPart HoldsDrafts version db found
-drafts_found version db drafts slots d s (Some found) is = record {
-  draft = subst (AreFound FitsDraft (HaveDrafts version db)) is.0 d;
-  slot = subst (IsFound FitsSlot slot_columns keyless_columns (db.trees 5)) is.1 s;
-}
-drafts_found version db drafts slots d s None (inl none) = λ t plain represents.
-    subst (AreFound FitsDraft (HaveDrafts version db)) none d t.draft plain.draft
-    (record { first = (held_at 3 represents); second = represents.night_draft })
-drafts_found version db drafts slots d s None (inr none) = λ t plain represents.
-    subst (IsFound FitsSlot slot_columns keyless_columns
-    (db.trees 5)) none s t.slot plain.slot (held_at 4 represents)
-
-pub publication_found : (version : Version) (db : Database)
-    (placements : Option (Vec PlacedRow Global)) (seats : Option (Vec SeatRow Global))
-    (students : Option (Vec StudentShareRow Global)) (parts : Option (Vec PartShareRow Global))
-    → IsFound FitsPlacement placed_columns keyed_columns (db.trees 7) placements
-    → IsFound FitsSeat seat_columns keyless_columns (db.trees 8) seats
-    → AreFound FitsStudentShare (HaveShares version db) students
-    → IsFound FitsPartShare share_part_columns keyless_columns (db.trees 12) parts
-    → (found : Option FoundPublication) → HasAllOfPublication placements seats students parts found
-    → IsFoundPart HoldsPublication version db found
-publication_found version db placements seats students parts p s n k (Some found) is = record {
-  placed = subst (IsFound FitsPlacement placed_columns keyed_columns (db.trees 7)) is.0 p;
-  seat = subst (IsFound FitsSeat seat_columns keyless_columns (db.trees 8)) is.1 s;
-  share_student = subst (AreFound FitsStudentShare (HaveShares version db)) is.2 n;
-  share_part = subst (IsFound FitsPartShare share_part_columns keyless_columns (db.trees 12)) is.3 k;
-}
-publication_found version db placements seats students parts p s n k None (inl none) =
-    λ t plain represents.
-    subst (IsFound FitsPlacement placed_columns keyed_columns (db.trees 7)) none p t.placed plain.placed
-    (held_at 5 represents)
-publication_found version db placements seats students parts p s n k None (inr (inl none)) =
-    λ t plain represents. subst (IsFound FitsSeat seat_columns keyless_columns (db.trees 8)) none s
-    t.seat plain.seat
-    (held_at 6 represents)
-publication_found version db placements seats students parts p s n k None (inr (inr (inl none))) =
-    λ t plain represents.
-    subst (AreFound FitsStudentShare (HaveShares version db)) none n
-    t.share_student plain.share_student
-    (record { first = (held_at 7 represents); second = represents.night_share })
-publication_found version db placements seats students parts p s n k None (inr (inr (inr none))) =
-    λ t plain represents. subst (IsFound FitsPartShare share_part_columns keyless_columns
-    (db.trees 12)) none k
-    t.share_part plain.share_part (held_at 8 represents)
-
 -- ---- any version
 
 pub one_version : (v w : Version) → schema_of v ≡ schema_of w → v ≡ w
@@ -237,51 +135,79 @@ in_no_version version db is foreign v t plain represents =
     (subst (λ w. HoldsTablesIn w db t) (one_version v version
     (sym represents.schema ∙ is)) represents)
 
-pub rows_found : (version : Version) (db : Database) → db.schema ≡ schema_of version
-    → (session : Option FoundSession) (drafts : Option FoundDrafts)
-    (publication : Option FoundPublication) (batches : Option (Vec BatchCountsRow Global))
-    → IsFoundPart HoldsSession version db session → IsFoundPart HoldsDrafts version db drafts
-    → IsFoundPart HoldsPublication version db publication → IsFoundBatches db batches
-    → (found : Option Found) → IsWhole version session drafts publication batches found
-    → IsAdopted db found
-rows_found version db schema session drafts publication batches s d p b (Some found) is =
-    let here = subst (IsFoundPart HoldsSession version db) is.1 s in
-    let plan = subst (IsFoundPart HoldsDrafts version db) is.2 d in
-    let public = subst (IsFoundPart HoldsPublication version db) is.3 p in
-    let kept = subst (IsFoundBatches db) is.4 b in
-    let represents : HoldsTablesIn version db (tables_of found kept.0) = record {
-      schema = schema;
-      rows = (
-        here.meta,
+-- ---- the rows found, or a fault
+
+-- a reader that found rows
+pub found_rows : {S X : Type 0} {version : Version} {store : Ghosts S}
+    {js : Database → Option X → Type 0} {a c : Held S} {given : Result (Option X) Error} {x : X}
+    → Adopts version store js a c given → Ok x ≡ found_or_fault given
+    → Adopts version store (λ db y. js db (Some y)) a c (Ok x)
+found_rows {version = version} {store = store} {js = js} {a = a} {c = c} {given = Ok (Some y)}
+    {x = x} read is =
+    let same : y ≡ x = cc in
+    subst (λ z. Adopts version store (λ db y. js db (Some y)) a c (Ok z)) same
+    (record { found = read.found; same = read.same; looks = read.looks })
+found_rows {given = Ok None} read is = absurd cc
+found_rows {given = Err e} read is = absurd cc
+
+-- one more reader that found rows
+pub both_rows : {S X Y : Type 0} {version : Version} {store : Ghosts S} {is : Database → X → Type 0}
+    {js : Database → Option Y → Type 0} {a b c : Held S} {x : X} {given : Result (Option Y) Error}
+    {y : Y} → Adopts version store is a b (Ok x) → Adopts version store js b c given
+    → Ok y ≡ found_or_fault given
+    → Adopts version store (λ db y. is db x × js db (Some y)) a c (Ok y)
+both_rows first read is = both first (found_rows read is)
+
+-- a reader that found none, or failed
+pub refused : {S X : Type 0} {version : Version} {store : Ghosts S}
+    {js : Database → Option X → Type 0} {a c : Held S} {given : Result (Option X) Error}
+    {e : AdoptFault} {r : Result Found AdoptFault}
+    → Adopts version store js a c given → Err e ≡ found_or_fault given → IsErrAnd r (λ d. d ≡ e)
+    → ((db : Database) → js db None → IsForeignIn version db) → AdoptsRows version store a c r
+refused {given = Ok (Some y)} read is err foreign = absurd cc
+refused {given = Ok None} {r = Ok found} read is err foreign = absurd err
+refused {version = version} {store = store} {a = a} {given = Ok None} {r = Err Foreign}
+    read is err foreign = record {
+      found = λ clean tables. in_no_version version (state store a).now tables.schema
+          (foreign (state store a).now (read.found clean tables));
+      same = read.same;
+      looks = read.looks;
+    }
+refused {given = Ok None} {r = Err Failed} read is err foreign =
+    record { found = λ _ _. tt; same = λ _ _. tt; looks = read.looks }
+refused {given = Err d} {r = Ok found} read is err foreign = absurd err
+refused {given = Err d} {r = Err Foreign} read is err foreign = absurd cc
+refused {given = Err d} {r = Err Failed} read is err foreign =
+    record { found = λ _ _. tt; same = λ _ _. tt; looks = read.looks }
+
+-- all tables hold the rows found
+pub rows_found : (db : Database) (found : Found) → db.schema ≡ schema_of found.version
+    → IsFoundMeta found.version (db.trees 0) (Some found.meta)
+    → Holds keyed_columns (map owner_columns found.owners.items) (db.trees 1)
+    → Holds keyless_columns (map enrol_columns found.enrols.items) (db.trees 2)
+    → HaveDrafts found.version db found.drafts.items
+    → Holds keyless_columns (map slot_columns found.slots.items) (db.trees 5)
+    → Holds keyed_columns (map placed_columns found.placements.items) (db.trees 7)
+    → Holds keyless_columns (map seat_columns found.seats.items) (db.trees 8)
+    → HaveShares found.version db found.student_shares.items
+    → Holds keyless_columns (map share_part_columns found.part_shares.items) (db.trees 12)
+    → IsFoundBatches db (Some found.batches) → IsAdopted db (Ok found)
+rows_found db found schema meta owner enrol drafts slot placed seat shares part batches = (
+  batches.0,
+  batches.1,
+  record {
+    schema = schema;
+    rows = (
+      meta,
+      (
+        owner,
         (
-          here.owner,
-          (
-            here.enrol,
-            (
-              plan.draft.first,
-              (
-                plan.slot,
-                (
-                  public.placed,
-                  (public.seat, (public.share_student.first, (public.share_part, (kept.2, tt)))),
-                ),
-              ),
-            ),
-          ),
+          enrol,
+          (drafts.first, (slot, (placed, (seat, (shares.first, (part, (batches.2, tt))))))),
         ),
-      );
-      night_draft = plan.draft.second;
-      night_share = public.share_student.second;
-    } in
-    (kept.0, kept.1, subst (λ v. HoldsTablesIn v db (tables_of found kept.0)) (sym is.0) represents)
-rows_found version db schema session drafts publication batches s d p b None (inl none) =
-    in_no_version version db schema (subst (IsFoundPart HoldsSession version db) none s)
-rows_found version db schema session drafts publication batches s d p b None (inr (inl none)) =
-    in_no_version version db schema (subst (IsFoundPart HoldsDrafts version db) none d)
-rows_found version db schema session drafts publication batches s d p b None
-    (inr (inr (inl none))) =
-    in_no_version version db schema (subst (IsFoundPart HoldsPublication version db) none p)
-rows_found version db schema session drafts publication batches s d p b None
-    (inr (inr (inr none))) =
-    in_no_version version db schema
-    (λ t plain represents. subst (IsFoundBatches db) none b t.batch plain.batch (held_at 9 represents))
+      ),
+    );
+    night_draft = drafts.second;
+    night_share = shares.second;
+  },
+)

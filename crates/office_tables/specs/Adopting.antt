@@ -1,36 +1,30 @@
 -- The rows found in the tables of an existing file.
-use Rattle.std.specs.Prelude.{◌≡◌, ◌⊎◌, List, [], ◌∷◌, map, Option, Some, None, Vec}
+use Rattle.std.specs.Prelude.{◌≡◌, List, [], ◌∷◌, map, Option, Some, None, Result, Ok, Err}
 use Rattle.std.specs.List.{AllByRecursion}
-use Rattle.std.specs.declared.alloc.Global.{Global}
+use Rattle.sqlite.specs.declared.error.Error.{Error}
 use Rattle.sqlite.specs.Effect.{Database}
+use Rattle.sqlite.specs.Held.{Held, state}
+use Rattle.sqlite.specs.State.{HasCleanDisk, IsUnchanged}
+use Rattle.sqlite.specs.Store.{Ghosts}
+use Rattle.office_tables.specs.declared.found.AdoptFault.{AdoptFault}
+use Rattle.office_tables.specs.declared.found.AdoptFault.TheVariants.{Foreign, Failed}
 use Rattle.office_tables.specs.declared.found.Found.{Found}
-use Rattle.office_tables.specs.declared.found.FoundDrafts.{FoundDrafts}
-use Rattle.office_tables.specs.declared.found.FoundPublication.{FoundPublication}
-use Rattle.office_tables.specs.declared.found.FoundSession.{FoundSession}
-use Rattle.office_tables.specs.declared.batch.BatchCountsRow.{BatchCountsRow}
-use Rattle.office_tables.specs.declared.placed.PlacedRow.{PlacedRow}
-use Rattle.office_tables.specs.declared.seat.SeatRow.{SeatRow}
 use Rattle.office_tables.specs.declared.share_student.StudentShareRow.{StudentShareRow}
-use Rattle.office_tables.specs.declared.share_part.PartShareRow.{PartShareRow}
-use Rattle.office_tables.specs.declared.owner.OwnerRow.{OwnerRow}
-use Rattle.office_tables.specs.declared.enrol.EnrolRow.{EnrolRow}
 use Rattle.office_tables.specs.declared.draft.DraftRow.{DraftRow}
-use Rattle.office_tables.specs.declared.slot.SlotRow.{SlotRow}
-use Rattle.office_tables.specs.declared.meta.MetaRow.{MetaRow}
-use Rattle.office_tables.specs.Batch.{counts_of, FitsBatch}
 use Rattle.office_tables.specs.declared.version.Version.{Version}
+use Rattle.office_tables.specs.Batch.{counts_of, FitsBatch}
 use Rattle.office_tables.specs.Draft.{draft_columns, night_draft_columns, FitsDraft}
-use Rattle.office_tables.specs.Enrol.{enrol_columns, FitsEnrol}
-use Rattle.office_tables.specs.Meta.{meta_columns, meta_from}
+use Rattle.office_tables.specs.Enrol.{FitsEnrol}
+use Rattle.office_tables.specs.Finders.{HasTables, Looks}
 use Rattle.office_tables.specs.Joining.{HaveRows}
-use Rattle.office_tables.specs.Owner.{owner_columns, FitsOwner}
-use Rattle.office_tables.specs.Placed.{placed_columns, FitsPlacement}
-use Rattle.office_tables.specs.Seat.{seat_columns, FitsSeat}
-use Rattle.office_tables.specs.SharePart.{share_part_columns, FitsPartShare}
+use Rattle.office_tables.specs.Meta.{meta_from}
+use Rattle.office_tables.specs.Owner.{FitsOwner}
+use Rattle.office_tables.specs.Placed.{FitsPlacement}
+use Rattle.office_tables.specs.Seat.{FitsSeat}
+use Rattle.office_tables.specs.SharePart.{FitsPartShare}
 use Rattle.office_tables.specs.ShareStudent.{share_student_columns, night_share_columns, FitsStudentShare}
-use Rattle.office_tables.specs.Slot.{slot_columns, FitsSlot}
+use Rattle.office_tables.specs.Slot.{FitsSlot}
 use Rattle.office_tables.specs.TablesHeld.{HoldsTablesIn}
-use Rattle.office_tables.specs.Stored.{keyed_columns, keyless_columns, Holds}
 use Rattle.office_tables.specs.Tables.{Tables, Meta, Batch}
 
 -- the tables of an office, with numbers that fit the program's types
@@ -55,12 +49,6 @@ IsForeignIn version db = (t : Tables) → AreReadable t → HoldsTablesIn versio
 abbrev pub IsForeign : Database → Type 0
 IsForeign db = (version : Version) → IsForeignIn version db
 
--- the three tables of the session hold the rows found
-pub record HoldsSession (version : Version) (db : Database) (found : FoundSession) : Type 0 where
-  pub meta : Holds keyed_columns (meta_columns version (meta_from found.meta) ∷ []) (db.trees 0)
-  pub owner : Holds keyed_columns (map owner_columns found.owners.items) (db.trees 1)
-  pub enrol : Holds keyless_columns (map enrol_columns found.enrols.items) (db.trees 2)
-
 -- the database's drafts, with their amounts over night
 abbrev pub HaveDrafts : Version → Database → List DraftRow → Type 0
 HaveDrafts version db =
@@ -72,26 +60,6 @@ abbrev pub HaveShares : Version → Database → List StudentShareRow → Type 0
 HaveShares version db =
     HaveRows version share_student_columns night_share_columns
     (λ (r : StudentShareRow). r.night) (db.trees 11) (db.trees 16)
-
--- the tables of drafts hold the rows found
-pub record HoldsDrafts (version : Version) (db : Database) (found : FoundDrafts) : Type 0 where
-  pub draft : HaveDrafts version db found.drafts.items
-  pub slot : Holds keyless_columns (map slot_columns found.slots.items) (db.trees 5)
-
--- the tables of a publication hold the rows found
-pub record HoldsPublication (version : Version) (db : Database) (found : FoundPublication)
-    : Type 0 where
-  pub placed : Holds keyed_columns (map placed_columns found.placements.items) (db.trees 7)
-  pub seat : Holds keyless_columns (map seat_columns found.seats.items) (db.trees 8)
-  pub share_student : HaveShares version db found.student_shares.items
-  pub share_part :
-      Holds keyless_columns (map share_part_columns found.part_shares.items) (db.trees 12)
-
--- `Some`: the tables hold the rows found. `None`: the database holds no office of this version
-abbrev pub IsFoundPart : {F : Type 0} → (Version → Database → F → Type 0)
-    → Version → Database → Option F → Type 0
-IsFoundPart HoldsPart version db (Some found) = HoldsPart version db found
-IsFoundPart HoldsPart version db None = IsForeignIn version db
 
 -- the tables with the rows found and with these batches
 abbrev pub tables_of : Found → List Batch → Tables
@@ -108,52 +76,32 @@ tables_of found batches = record {
   batch = batches;
 }
 
--- `Some`: the database holds the rows that were found, and batches with these counts. `None`: it
+-- `Ok`: the database holds the rows that were found, and batches with these counts. `Foreign`: it
 -- doesn't hold the rows of an office
-abbrev pub IsAdopted : Database → Option Found → Type 0
-IsAdopted db (Some found) =
+abbrev pub IsAdopted : Database → Result Found AdoptFault → Type 0
+IsAdopted db (Ok found) =
     (batches : List Batch) × (map counts_of batches ≡ found.batches.items)
     × HoldsTablesIn found.version db (tables_of found batches)
-IsAdopted db None = IsForeign db
+IsAdopted db (Err Foreign) = IsForeign db
+IsAdopted db (Err Failed) = Unit {0}
 
--- ---- parts together
+-- what a reader gave; `Foreign` if it found no rows, `Failed` if it failed
+abbrev pub found_or_fault : {X : Type 0} → Result (Option X) Error → Result X AdoptFault
+found_or_fault (Ok (Some found)) = Ok found
+found_or_fault (Ok None) = Err Foreign
+found_or_fault (Err e) = Err Failed
 
--- `Some`: what all three tables gave. `None`: one of them gave nothing
-abbrev pub IsSession : Option MetaRow → Option (Vec OwnerRow Global) → Option (Vec EnrolRow Global)
-    → Option FoundSession → Type 0
-IsSession meta owners enrols (Some found) =
-    (meta ≡ Some found.meta) × (owners ≡ Some found.owners) × (enrols ≡ Some found.enrols)
-IsSession meta owners enrols None = (meta ≡ None) ⊎ ((owners ≡ None) ⊎ (enrols ≡ None))
+-- this holds, or the result is `Failed`
+abbrev pub HoldsUnlessFailed : Type 0 → Result Found AdoptFault → Type 0
+HoldsUnlessFailed P (Ok found) = P
+HoldsUnlessFailed P (Err Foreign) = P
+HoldsUnlessFailed P (Err Failed) = Unit {0}
 
--- `Some`: what both tables gave. `None`: one of them gave nothing
-abbrev pub IsDrafts : Option (Vec DraftRow Global) → Option (Vec SlotRow Global)
-    → Option FoundDrafts → Type 0
-IsDrafts drafts slots (Some found) = (drafts ≡ Some found.drafts) × (slots ≡ Some found.slots)
-IsDrafts drafts slots None = (drafts ≡ None) ⊎ (slots ≡ None)
-
--- `Some`: what all four tables gave. `None`: one of them gave nothing
-abbrev pub HasAllOfPublication : Option (Vec PlacedRow Global) → Option (Vec SeatRow Global)
-    → Option (Vec StudentShareRow Global) → Option (Vec PartShareRow Global)
-    → Option FoundPublication → Type 0
-HasAllOfPublication placements seats students parts (Some found) =
-    (placements ≡ Some found.placements) × (seats ≡ Some found.seats)
-    × (students ≡ Some found.student_shares) × (parts ≡ Some found.part_shares)
-HasAllOfPublication placements seats students parts None =
-    (placements ≡ None) ⊎ ((seats ≡ None) ⊎ ((students ≡ None) ⊎ (parts ≡ None)))
-
--- `Some`: all parts together. `None`: one of them gave nothing
-abbrev pub IsWhole : Version → Option FoundSession → Option FoundDrafts → Option FoundPublication
-    → Option (Vec BatchCountsRow Global) → Option Found → Type 0
-IsWhole version session drafts publication batches (Some found) =
-    (found.version ≡ version)
-    × (session ≡ Some (record { meta = found.meta; owners = found.owners; enrols = found.enrols }))
-    × (drafts ≡ Some (record { drafts = found.drafts; slots = found.slots }))
-    × (publication ≡ Some (record {
-      placements = found.placements;
-      seats = found.seats;
-      student_shares = found.student_shares;
-      part_shares = found.part_shares;
-    }))
-    × (batches ≡ Some found.batches)
-IsWhole version session drafts publication batches None =
-    (session ≡ None) ⊎ ((drafts ≡ None) ⊎ ((publication ≡ None) ⊎ (batches ≡ None)))
+-- a reader of all tables of a file of this version: what it finds, and its effect
+pub record AdoptsRows {S : Type 0} (version : Version) (store : Ghosts S) (old new : Held S)
+    (result : Result Found AdoptFault) : Type 0 where
+  pub found : HasCleanDisk (state store new) → HasTables version (state store old)
+      → IsAdopted (state store old).now result
+  pub same : HasCleanDisk (state store new) → HasTables version (state store old)
+      → HoldsUnlessFailed (IsUnchanged (state store old) (state store new)) result
+  pub looks : Looks version (state store old) (state store new)

@@ -10,6 +10,7 @@ use crate::share_part::PartShareRow;
 use crate::share_student::StudentShareRow;
 use crate::slot::SlotRow;
 use crate::version::Version;
+use std::alloc::AllocError;
 
 /// All rows of the tables of a version, in any order; the batches are without their bytes. In
 /// version 1 each amount over night is 0.
@@ -28,26 +29,22 @@ pub struct Found {
     pub batches: Vec<BatchCountsRow>,
 }
 
-// The rows of the session.
-#[derive(Drop)]
-pub(crate) struct FoundSession {
-    pub meta: MetaRow,
-    pub owners: Vec<OwnerRow>,
-    pub enrols: Vec<EnrolRow>,
+/// Why no rows of an office were found.
+#[derive(Clone, Copy, Debug, PartialEq, Eq)]
+pub enum AdoptFault {
+    /// The database doesn't hold the rows of an office.
+    Foreign,
+    /// A statement failed, or memory ran out.
+    Failed,
 }
 
-// The rows of the drafts.
-#[derive(Drop)]
-pub(crate) struct FoundDrafts {
-    pub drafts: Vec<DraftRow>,
-    pub slots: Vec<SlotRow>,
-}
+impl From<AllocError> for AdoptFault {
+    ghost use Rattle.std.specs.Prelude.{◌≡◌};
+    ghost use Rattle.office_tables.specs.declared.found.AdoptFault.TheVariants.{Failed};
 
-// The rows of the publication.
-#[derive(Drop)]
-pub(crate) struct FoundPublication {
-    pub placements: Vec<PlacedRow>,
-    pub seats: Vec<SeatRow>,
-    pub student_shares: Vec<StudentShareRow>,
-    pub part_shares: Vec<PartShareRow>,
+    ghost from_gives = { λ _ e. e ≡ Failed };
+
+    fn from(_error: AllocError) -> AdoptFault {
+        AdoptFault::Failed
+    }
 }

@@ -36,7 +36,7 @@ pub use batch::{BatchCountsRow, BatchOf, BatchRow, InsertBatch, batch_of};
 pub use creation::{create_tables, is_bare};
 pub use draft::{DeleteDraft, DeleteDrafts, DraftRow, InsertDraft};
 pub use enrol::{DeleteEnrol, EnrolRow, EnrolsOf, FindEnrolsOf, InsertEnrol, InsertEnrols};
-pub use found::Found;
+pub use found::{AdoptFault, Found};
 pub use looking::look;
 pub use meta::{DeleteMeta, InsertMeta, MetaRow};
 pub use migrating::migrate;

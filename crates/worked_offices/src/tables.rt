@@ -133,7 +133,7 @@ fn filled(alloc: Global) -> Result<Connection<MemStore>, Fail> {
 fn rows_come_back_in_order(rt: HostRuntime) -> Result<(), Fail> {
     let (alloc, mut conn) = (rt.alloc(), filled(rt.alloc())?);
     look(&mut conn)?;
-    let Some(found) = adopt_tables(alloc, &mut conn)? else {
+    let Ok(found) = adopt_tables(alloc, &mut conn) else {
         return Err("no tables")?;
     };
     assert_same(&rt, found.meta.published, true, "published");
@@ -210,7 +210,7 @@ fn put_many(alloc: Global, conn: &mut Connection<MemStore>) -> Result<(), Fail> 
 fn many_rows_go_in(rt: HostRuntime) -> Result<(), Fail> {
     let (alloc, mut conn) = (rt.alloc(), filled(rt.alloc())?);
     put_many(alloc, &mut conn)?;
-    let Some(found) = adopt_tables(alloc, &mut conn)? else {
+    let Ok(found) = adopt_tables(alloc, &mut conn) else {
         return Err("no tables")?;
     };
     let counts = [
@@ -293,7 +293,7 @@ fn delete_most(conn: &mut Connection<MemStore>) -> Result<(), Fail> {
 fn rows_go(rt: HostRuntime) -> Result<(), Fail> {
     let (alloc, mut conn) = (rt.alloc(), filled(rt.alloc())?);
     delete_most(&mut conn)?;
-    let Some(found) = adopt_tables(alloc, &mut conn)? else {
+    let Ok(found) = adopt_tables(alloc, &mut conn) else {
         return Err("no tables")?;
     };
     let left = [

@@ -2,22 +2,35 @@ use Rattle.std.proofs.Common.{◌≡◌, ◌↔◌, ℕ, Bool, false, List, map,
 use Rattle.std.proofs.Common.{◌∙◌, subst}
 use Rattle.std.specs.Prelude.{IfErr, Option}
 use Rattle.std.specs.Result.{IsErrAnd}
+use Rattle.exam_model.specs.Enrolments.{Enrolled}
+use Rattle.exam_model.specs.Instance.{Session}
 use Rattle.exam_model.specs.Timetable.{Placing}
 use Rattle.office_tables.specs.Adopting.{tables_of}
 use Rattle.office_tables.specs.Batch.{counts_of}
 use Rattle.office_tables.specs.Tables.{Batch}
+use Rattle.office_tables.specs.declared.draft.DraftRow.{DraftRow}
 use Rattle.office_tables.specs.declared.found.Found.{Found}
+use Rattle.office_tables.specs.declared.slot.SlotRow.{SlotRow}
 use Rattle.office_records.specs.Found.{AreDrafts, AreEnrolRows, AreOwners, IsUnloaded}
 use Rattle.office_records.specs.FoundBatches.{AreBatchRows}
 use Rattle.office_records.specs.FoundPublications.{publication_from}
+use Rattle.office_records.specs.Memory.{AreScoredDrafts}
+use Rattle.office_records.specs.declared.drafts.Draft.{Draft}
 use Rattle.office_model.specs.Office.{OfficeState, Records, AreRecords, IsOffice}
 use Rattle.office_records.specs.Representation.{IsSound, TablesRepresentOffice, TablesRepresentRecords}
 use Rattle.office_records.specs.declared.fault.RecordFault.{RecordFault}
 use Rattle.office_records.specs.declared.fault.RecordFault.TheVariants.{BadRows}
+use Rattle.office_records.proofs.DraftRowLemmas.{drafts_suited}
 use Rattle.office_records.proofs.RecordLemmas.{draft_rows, enrol_rows, kept_rows, office_of}
-use Rattle.office_records.proofs.RecordLemmas.{owner_rows, published_rows}
+use Rattle.office_records.proofs.RecordLemmas.{nothing_loaded, owner_rows, published_rows}
 use Rattle.office_records.proofs.RecordLemmas.{unloaded as unloaded_found}
 use Rattle.office_records.proofs.records.kept_of.Goals as goal
+
+-- the drafts in memory are those of these rows
+abbrev Drafted : Session → Enrolled → List DraftRow → List SlotRow → List (Option Draft) → Type 0
+Drafted I E rows places drafts =
+    (draft : ℕ → Option Placing) × AreDrafts I E rows places draft
+    × AreScoredDrafts I E draft drafts
 
 abbrev RepresentsNone : Found → Type 0
 RepresentsNone found =
@@ -71,17 +84,17 @@ returns-in_err-enrolments-clause-none c =
     (enrol_rows found batches r represents sound is c.in_ok-instance.instance
     c.in_ok-instance.ensures.is)))
 
-pub returns-in_err-check_drafts-clause-none : goal.returns-in_err-check_drafts-clause-none
-returns-in_err-check_drafts-clause-none c =
+pub returns-in_err-drafts-clause-none : goal.returns-in_err-drafts-clause-none
+returns-in_err-drafts-clause-none c =
     let found = c.args.found.now in
     let I = c.in_ok-instance.instance in
     let E = c.in_ok-enrolments.enrolments in
-    let none = c.in_err-check_drafts.ensures.none in
+    let none = c.in_err-drafts.ensures.none in
     let enrolled = subst (λ rows. AreEnrolRows I rows E) c.deref-2.ensures.value
     c.in_ok-enrolments.ensures.are in
-    refused found c.is_unloaded.result c.in_err-check_drafts.field-0.0
-    c.from_residual-in_err-check_drafts.result c.is_unloaded.ensures c.if-is_unloaded.false
-    c.from_residual-in_err-check_drafts.ensures.1
+    refused found c.is_unloaded.result c.in_err-drafts.field-0.0
+    c.from_residual-in_err-drafts.result c.is_unloaded.ensures c.if-is_unloaded.false
+    c.from_residual-in_err-drafts.ensures.1
     (λ bad batches same r represents sound is. none bad r.draft
     (subst (λ rows. AreDrafts I E rows c.deref-4.result.now r.draft) (sym c.deref-3.ensures.value)
     (subst (λ rows. AreDrafts I E found.drafts.items rows r.draft) (sym c.deref-4.ensures.value)
@@ -118,12 +131,25 @@ returns-clause-are c batches these =
     (subst (λ rows. (owner_of : ℕ → ℕ) × AreOwners I rows owner_of) c.deref.ensures.value
     c.in_ok-check_owners.ensures.are)
     (subst (λ rows. AreEnrolRows I rows E) c.deref-2.ensures.value c.in_ok-enrolments.ensures.are)
-    (subst (λ rows. (draft : ℕ → Option Placing) × AreDrafts I E found.drafts.items rows draft)
+    c.in_ok-drafts.drafts
+    (subst (λ rows. Drafted I E found.drafts.items rows c.in_ok-drafts.drafts)
     c.deref-4.ensures.value
-    (subst (λ rows. (draft : ℕ → Option Placing) × AreDrafts I E rows c.deref-4.result.now draft)
-    c.deref-3.ensures.value c.in_ok-check_drafts.ensures.are))
+    (subst (λ rows. Drafted I E rows c.deref-4.result.now c.in_ok-drafts.drafts)
+    c.deref-3.ensures.value c.in_ok-drafts.ensures.are))
     (publication_from c.in_ok-published.published) c.in_ok-published.ensures.are
     (subst AreBatchRows c.deref-5.ensures.value c.in_ok-check_batches.ensures.are) these
 
 pub returns-clause-together : goal.returns-clause-together
 returns-clause-together c = c.in_ok-enrolments.ensures.are.enrolled.exams
+
+pub returns-clause-suited : goal.returns-clause-suited
+returns-clause-suited c =
+    let are = c.in_ok-drafts.ensures.are in
+    drafts_suited c.in_ok-instance.instance c.in_ok-enrolments.enrolments c.deref-3.result.now
+    c.deref-4.result.now are.0 c.in_ok-drafts.drafts are.1 are.2
+
+-- before a load
+pub returns-then-is_unloaded-clause-are : goal.returns-then-is_unloaded-clause-are
+returns-then-is_unloaded-clause-are c batches these =
+    nothing_loaded c.args.found.now batches (c.is_unloaded.ensures.0 c.if-is_unloaded.true) these
+    c.no_drafts.result c.no_drafts.ensures.none

@@ -1,10 +1,11 @@
-use Rattle.std.proofs.Common.{rules, ◌≡◌, Some, None, Result, Ok, Err, length, refl, sym, ◌∙◌, ap, inl, inr, subst}
-use Rattle.std.specs.Prelude.{IfErr, IsSome}
+use Rattle.std.proofs.Common.{rules, ◌≡◌, Result, Ok, Err, length, sym, ◌∙◌, ap, inl, inr, subst}
+use Rattle.std.specs.Prelude.{IfErr}
 use Rattle.std.specs.Result.{IsErrAnd}
 use Rattle.std.proofs.lemmas.List.{length-map}
 use Rattle.sqlite.specs.Held.{state}
 use Rattle.office_tables.specs.Adopting.{IsAdopted, tables_of}
 use Rattle.office_tables.specs.Batch.{counts_of}
+use Rattle.office_tables.specs.declared.found.AdoptFault.TheVariants.{Foreign}
 use Rattle.office_records.specs.declared.fault.RecordFault.{RecordFault}
 use Rattle.office_records.specs.declared.fault.RecordFault.TheVariants.{NoMemory, BadRows}
 use Rattle.office_records.proofs.ReadableLemmas.{not_foreign_in}
@@ -15,25 +16,23 @@ use Rattle.office_store.specs.Opening.{WeighsNoNight}
 use Rattle.office_model.specs.declared.fault.StoreFault.{StoreFault}
 use Rattle.office_store.proofs.AdoptLemmas.{file_as, found_batches, found_then, held_still, open_still}
 use Rattle.office_store.proofs.AdoptLemmas.{none_long, none_refused, none_weighed}
-use Rattle.office_store.proofs.FoundDraftLemmas.{meaning}
-use Rattle.office_store.proofs.AllDraftLemmas.{drafts_represent, found_drafts, found_together}
+use Rattle.office_store.proofs.AllDraftLemmas.{found_together, meaning}
 use Rattle.office_store.proofs.InMemoryLemmas.{counted}
 use Rattle.office_store.proofs.adopting.found_office.Goals as goal
 
 -- the tables are not those of an office
-pub returns-in-Ok-None-clause-none : goal.returns-in-Ok-None-clause-none
-returns-in-Ok-None-clause-none g c clean bad o there =
+pub returns-in-Err-Foreign-clause-none : goal.returns-in-Err-Foreign-clause-none
+returns-in-Err-Foreign-clause-none g c clean bad o there =
     let db = (state g.S.Store c.args.conn.now).now in
-    let none : c.in-Ok-None.field-0 ≡ None = search rules in
+    let foreign : c.in-Err-Foreign.field-0 ≡ Foreign = search rules in
     not_foreign_in there.0 db o there.1
-    (subst (IsAdopted db) none (c.in-Ok-None.ensures.found clean))
+    (subst (λ e. IsAdopted db (Err e)) foreign (c.in-Err-Foreign.ensures.found clean))
 
 pub returns-in_err-kept-clause-none : goal.returns-in_err-kept-clause-none
 returns-in_err-kept-clause-none g c clean =
     let db = (state g.S.Store c.args.conn.now).now in
-    let found = c.in-Ok-Some.found in
-    let some : c.in-Ok-Some.field-0 ≡ Some found = search rules in
-    let adopted = subst (IsAdopted db) some (c.in-Ok-Some.ensures.found clean) in
+    let found = c.in-Ok.found in
+    let adopted = c.in-Ok.ensures.found clean in
     meaning c.from_residual.result c.in_err-kept.field-0.0
     c.from_residual.ensures.1
     (λ bad o there. none_refused db found adopted.0 adopted.1 adopted.2 o there
@@ -43,9 +42,8 @@ returns-in_err-kept-clause-none g c clean =
 pub returns-in_err-check_weight-clause-none : goal.returns-in_err-check_weight-clause-none
 returns-in_err-check_weight-clause-none g c clean =
     let db = (state g.S.Store c.args.conn.now).now in
-    let found = c.in-Ok-Some.found in
-    let some : c.in-Ok-Some.field-0 ≡ Some found = search rules in
-    let adopted = subst (IsAdopted db) some (c.in-Ok-Some.ensures.found clean) in
+    let found = c.in-Ok.found in
+    let adopted = c.in-Ok.ensures.found clean in
     let is : c.from_residual-in_err-check_weight.result ≡ Err c.in_err-check_weight.field-0.0
     = search rules in
     rw is (λ bad o there. c.in_err-check_weight.ensures.none
@@ -59,12 +57,11 @@ returns-in_err-check_bytes-clause-none g c clean =
     let old = c.args.conn.now in
     let mid = c.adopt_tables.new.conn in
     let db = (state g.S.Store old).now in
-    let found = c.in-Ok-Some.found in
-    let some : c.in-Ok-Some.field-0 ≡ Some found = search rules in
+    let found = c.in-Ok.found in
     let clean_mid = clean_before c.check_bytes.ensures.leaves.survives clean in
-    let adopted = subst (IsAdopted db) some (c.in-Ok-Some.ensures.found clean_mid) in
+    let adopted = c.in-Ok.ensures.found clean_mid in
     let held = held_still g.S.Store old mid found.version (tables_of found adopted.0)
-    (c.in-Ok-Some.ensures.leaves.same clean_mid tt) adopted.2 in
+    (c.in-Ok.ensures.leaves.same clean_mid tt) adopted.2 in
     let long = c.in_err-check_bytes.ensures.long clean found.version (tables_of found adopted.0)
     held in
     let is : c.from_residual-in_err-check_bytes.result ≡ Err c.in_err-check_bytes.field-0.0
@@ -76,31 +73,28 @@ pub returns-clause-open : goal.returns-clause-open
 returns-clause-open g c clean =
     let old = c.args.conn.now in
     let mid = c.adopt_tables.new.conn in
-    let found = c.in-Ok-Some.found in
-    let some : c.in-Ok-Some.field-0 ≡ Some found = search rules in
+    let found = c.in-Ok.found in
     let clean_mid = clean_before c.check_bytes.ensures.leaves.survives clean in
-    let adopted = subst (IsAdopted (state g.S.Store old).now) some
-    (c.in-Ok-Some.ensures.found clean_mid) in
-    let same = c.in-Ok-Some.ensures.leaves.same clean_mid tt in
+    let adopted = c.in-Ok.ensures.found clean_mid in
+    let same = c.in-Ok.ensures.leaves.same clean_mid tt in
     let held = held_still g.S.Store old mid found.version (tables_of found adopted.0) same
     adopted.2 in
     open_still g.S.Store mid c.check_bytes.new.conn
     (c.in_ok-check_bytes.ensures.leaves.same clean
     (found.version, tables_of found adopted.0, held))
-    (c.in-Ok-Some.ensures.open clean_mid (subst IsSome (sym some) refl))
+    (c.in-Ok.ensures.open clean_mid)
 
 pub returns-clause-kept : goal.returns-clause-kept
 returns-clause-kept g c clean =
     let old = c.args.conn.now in
     let mid = c.adopt_tables.new.conn in
     let db = (state g.S.Store old).now in
-    let found = c.in-Ok-Some.found in
-    let some : c.in-Ok-Some.field-0 ≡ Some found = search rules in
+    let found = c.in-Ok.found in
     let clean_mid = clean_before c.check_bytes.ensures.leaves.survives clean in
-    let adopted = subst (IsAdopted db) some (c.in-Ok-Some.ensures.found clean_mid) in
+    let adopted = c.in-Ok.ensures.found clean_mid in
     let t = tables_of found adopted.0 in
-    let held = held_still g.S.Store old mid found.version t (c.in-Ok-Some.ensures.leaves.same clean_mid tt)
-    adopted.2 in
+    let held = held_still g.S.Store old mid found.version t
+    (c.in-Ok.ensures.leaves.same clean_mid tt) adopted.2 in
     let short = c.in_ok-check_bytes.ensures.short clean found.version t held
     (adopted.1 ∙ sym c.deref.ensures.value) in
     let long : c.len.result ≡ length found.batches.items = search rules in
@@ -123,38 +117,15 @@ returns-clause-kept g c clean =
         session = are.4;
         batches = sym (counted t are.0 are.1) ∙ sym (length-map adopted.0 counts_of)
             ∙ ap length adopted.1 ∙ sym long;
-        drafts = found_drafts t are.0 are.1 are.2 are.3 c.in_ok-kept.kept.session are.4
-            c.in_ok-drafts.drafts c.in_ok-drafts.ensures.are c.in_ok-drafts.ensures.none;
+        drafts = are.6;
         published = are.5;
         priced = c.in_ok-priced.ensures.priced are.0 are.4 are.5;
       };
     }
 
--- valid rows of drafts are not refused
-pub returns-in_err-drafts-clause-none : goal.returns-in_err-drafts-clause-none
-returns-in_err-drafts-clause-none g c clean =
-    let old = c.args.conn.now in
-    let mid = c.adopt_tables.new.conn in
-    let db = (state g.S.Store old).now in
-    let found = c.in-Ok-Some.found in
-    let some : c.in-Ok-Some.field-0 ≡ Some found = search rules in
-    let clean_mid = clean_before c.check_bytes.ensures.leaves.survives clean in
-    let adopted = subst (IsAdopted db) some (c.in-Ok-Some.ensures.found clean_mid) in
-    let t = tables_of found adopted.0 in
-    let held = held_still g.S.Store old mid found.version t (c.in-Ok-Some.ensures.leaves.same clean_mid tt)
-    adopted.2 in
-    let short = c.in_ok-check_bytes.ensures.short clean found.version t held
-    (adopted.1 ∙ sym c.deref.ensures.value) in
-    let are = c.in_ok-kept.ensures.are adopted.0
-    (found_batches db found adopted.0 adopted.1 adopted.2 short) in
-    let is : c.from_residual-in_err-drafts.result ≡ Err c.in_err-drafts.field-0.0
-    = search rules in
-    rw is (λ bad o kept. drafts_represent t are.0 are.1 are.2 are.3 c.in_ok-kept.kept.session are.4
-    (c.in_err-drafts.ensures.bad bad) c.in_err-drafts.ensures.loaded)
-
 pub returns-clause-together : goal.returns-clause-together
 returns-clause-together g c =
-    found_together _ c.in_ok-kept.ensures.together c.in_ok-drafts.ensures.suited
+    found_together _ c.in_ok-kept.ensures.together c.in_ok-kept.ensures.suited
     c.in_ok-kept.ensures.published c.no_breaches.ensures
 
 of_database : {X : Type 0} (r : Result X StoreFault) (fault : RecordFault)
@@ -170,12 +141,12 @@ returns-in_err-kept-clause-fault g c =
 
 -- ---- what the readers leave
 
-pub returns-in-Err-clause-leaves : goal.returns-in-Err-clause-leaves
-returns-in-Err-clause-leaves g c =
+pub returns-in-Err-Failed-clause-leaves : goal.returns-in-Err-Failed-clause-leaves
+returns-in-Err-Failed-clause-leaves g c =
     file_as (Unit {0}) g.S.Store _ _ (λ P none. tt) c.adopt_tables.ensures.leaves
 
-pub returns-in-Ok-None-clause-leaves : goal.returns-in-Ok-None-clause-leaves
-returns-in-Ok-None-clause-leaves g c =
+pub returns-in-Err-Foreign-clause-leaves : goal.returns-in-Err-Foreign-clause-leaves
+returns-in-Err-Foreign-clause-leaves g c =
     file_as (Unit {0}) g.S.Store _ _ (λ P none. tt) c.adopt_tables.ensures.leaves
 
 pub returns-in_err-kept-clause-leaves : goal.returns-in_err-kept-clause-leaves
@@ -188,28 +159,18 @@ returns-in_err-check_weight-clause-leaves g c =
 
 pub returns-in_err-check_bytes-clause-leaves : goal.returns-in_err-check_bytes-clause-leaves
 returns-in_err-check_bytes-clause-leaves g c =
-    let some : c.in-Ok-Some.field-0 ≡ Some c.in-Ok-Some.found = search rules in
     file_as (Unit {0}) g.S.Store _ _ (λ P none. search rules)
-    (found_then g.S.Store _ _ _ c.in-Ok-Some.field-0 c.in-Ok-Some.found some
-    c.in-Ok-Some.ensures.found c.in-Ok-Some.ensures.leaves c.check_bytes.ensures.leaves)
-
-pub returns-in_err-drafts-clause-leaves : goal.returns-in_err-drafts-clause-leaves
-returns-in_err-drafts-clause-leaves g c =
-    let some : c.in-Ok-Some.field-0 ≡ Some c.in-Ok-Some.found = search rules in
-    file_as (Unit {0}) g.S.Store _ _ (λ P none. search rules)
-    (found_then g.S.Store _ _ _ c.in-Ok-Some.field-0 c.in-Ok-Some.found some
-    c.in-Ok-Some.ensures.found c.in-Ok-Some.ensures.leaves c.check_bytes.ensures.leaves)
+    (found_then g.S.Store _ _ _ c.in-Ok.found c.in-Ok.ensures.found c.in-Ok.ensures.leaves
+    c.check_bytes.ensures.leaves)
 
 pub returns-in_err-priced-clause-leaves : goal.returns-in_err-priced-clause-leaves
 returns-in_err-priced-clause-leaves g c =
-    let some : c.in-Ok-Some.field-0 ≡ Some c.in-Ok-Some.found = search rules in
     file_as (Unit {0}) g.S.Store _ _ (λ P none. search rules)
-    (found_then g.S.Store _ _ _ c.in-Ok-Some.field-0 c.in-Ok-Some.found some
-    c.in-Ok-Some.ensures.found c.in-Ok-Some.ensures.leaves c.check_bytes.ensures.leaves)
+    (found_then g.S.Store _ _ _ c.in-Ok.found c.in-Ok.ensures.found c.in-Ok.ensures.leaves
+    c.check_bytes.ensures.leaves)
 
 pub returns-clause-leaves : goal.returns-clause-leaves
 returns-clause-leaves g c =
-    let some : c.in-Ok-Some.field-0 ≡ Some c.in-Ok-Some.found = search rules in
     file_as (Unit {0}) g.S.Store _ _ (λ P p. p)
-    (found_then g.S.Store _ _ _ c.in-Ok-Some.field-0 c.in-Ok-Some.found some
-    c.in-Ok-Some.ensures.found c.in-Ok-Some.ensures.leaves c.in_ok-check_bytes.ensures.leaves)
+    (found_then g.S.Store _ _ _ c.in-Ok.found c.in-Ok.ensures.found c.in-Ok.ensures.leaves
+    c.in_ok-check_bytes.ensures.leaves)

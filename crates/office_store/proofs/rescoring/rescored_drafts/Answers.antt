@@ -1,8 +1,8 @@
 use Rattle.std.proofs.Common.{◌≡◌, ◌∙◌, None, Option, ap, arith, length-set, option_map, subst, sym}
 use Rattle.std.specs.Prelude.{IfSome}
 use Rattle.exam_score.specs.Track.{track}
+use Rattle.office_records.specs.declared.drafts.Draft.{Draft}
 use Rattle.office_store.specs.Memory.{rescored_draft}
-use Rattle.office_store.specs.declared.memory.Draft.{Draft}
 use Rattle.office_store.proofs.FillingLemmas.{all_made, draft_scored, none_made, one_made, past_end, same_within}
 use Rattle.office_store.proofs.TogetherLemmas.{none_suited, one_suited}
 use Rattle.office_store.proofs.rescoring.rescored_drafts.Goals as goal

@@ -1,5 +1,6 @@
 use Rattle.std.specs.Prelude.{◌≡◌, length, option_map}
-use Rattle.office_store.specs.Memory.{AreScored, AreSuited, draft_at, rescored_draft}
+use Rattle.office_records.specs.Memory.{AreSuited, draft_at}
+use Rattle.office_store.specs.Memory.{AreScored, rescored_draft}
 use Rattle.office_store.proofs.FillingLemmas.{AreMade}
 use Rattle.office_store.proofs.rescoring.rescored_drafts.Given as goal
 
