@@ -1,6 +1,6 @@
 -- Outcomes of solutions, one after another.
 use Rattle.std.proofs.Common.{◌≡◌, ◌∙◌, List, [], ◌∷◌, ◌++◌, ℕ, Bool, true, false, Option}
-use Rattle.std.proofs.Common.{Result, ap, ap₂, append-nil, codes, inl, inr, refl, string_bytes, subst, sym}
+use Rattle.std.proofs.Common.{ap, ap₂, append-nil, codes, inl, inr, refl, string_bytes, subst, sym}
 use Rattle.std.specs.Prelude.{◌||◌, ◌&&◌}
 use Rattle.std.specs.List.{flat_map, list_any}
 use Rattle.std.specs.Io.KnownBytes.{Appends}

@@ -1,7 +1,7 @@
 -- The lines that are written to `err`, and the text that is then printed on `out`.
 use Rattle.std.specs.Prelude.{◌≡◌, ◌≢◌, ◌⊎◌, ℕ, ◌++◌, ◌∷◌, [], Bool, List, Option}
 use Rattle.std.specs.Prelude.{map, string_bytes}
-use Rattle.std.specs.Io.KnownBytes.{Appends, Keeps}
+use Rattle.std.specs.Io.KnownBytes.{Keeps}
 use Rattle.clap.specs.Words.{IsAmong, Text}
 use Rattle.clap.specs.declared.error.kind.ErrorKind.TheVariants as kind
 use Rattle.office_connections.specs.Lines.{PrintsPort, PrintsFaults}
