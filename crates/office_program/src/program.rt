@@ -105,15 +105,16 @@ pub fn run_words<
     ensures within { result.status ≤ 3 }
 
     // Status 0 is a command that is done, or a call for help or the version. Status 2 is a mistake
-    // in the words: one that clap finds, an unknown fault to explain, standard input twice, or forms
-    // of `check` that don't go together.
+    // in the words: one that clap finds, an unknown fault to explain, standard input twice, or
+    // forms of `check` that don't go together.
     ensures answered { result.status ≡ 0 → AreAnswered (map string_bytes words.now) }
     ensures mistake { result.status ≡ 2 → fault_of_words (map string_bytes words.now) ≢ [] }
     // Status 3, a breach, comes only for words without a mistake.
     ensures broken { result.status ≡ 3 → fault_of_words (map string_bytes words.now) ≡ [] }
 
     // Status 3 comes with the whole report on the two files that the words name; or with a line for
-    // each of the solutions that they name, of which none has a fault and at least one has a breach.
+    // each of the solutions that they name, of which none has a fault and at least one has a
+    // breach.
     ensures reported { result.status ≡ 3
         → (task : Task) × IsTask (map string_bytes words.now) task
         × PrintsBroken (I.remaining stdin.old) (T.known files.now) task
@@ -134,13 +135,14 @@ pub fn run_words<
         × Prints (I.remaining stdin.old) (T.known files.now) task
         (O.contents out.old) (O.contents out.new) }
 
-    // After `load`, `serve` and `export` the database at the path that the words name was opened and
-    // given back. Assuming the disk returns what was written: `load` has loaded the text of the file
-    // that the words name into its office, and all is committed; or what is printed is the publication
-    // of its office. Or, if nothing in the database was uncommitted, its office has served exactly
-    // the clients that were accepted at the port that the words name, as many as the words say. What
-    // was added to each one's writer, until it was handed back, are the office's replies to that
-    // client's messages, and the database holds the office that the last of them led to.
+    // After `load`, `serve` and `export` the database at the path that the words name was opened
+    // and given back. Assuming the disk returns what was written: `load` has loaded the text of the
+    // file that the words name into its office, and all is committed; or what is printed is the
+    // publication of its office. Or, if nothing in the database was uncommitted, its office has
+    // served exactly the clients that were accepted at the port that the words name, as many as the
+    // words say. What was added to each one's writer, until it was handed back, are the office's
+    // replies to that client's messages, and the database holds the office that the last of them
+    // led to.
     ensures uses { result.status ≡ 0 → fault_of_words (map string_bytes words.now) ≡ []
         → (task : Task) × IsTask (map string_bytes words.now) task
         × UsesNamedDatabase S.Store (D.known databases.old) (D.known databases.new)
@@ -150,11 +152,12 @@ pub fn run_words<
         (E.contents err.old) (E.contents err.new) (Ok result))
         task (O.contents out.old) (O.contents out.new) }
 
-    // If `serve` ends with status 1, that database could not be opened, and the fault says so; or it
-    // was opened and given back, and the same holds of the clients that were served. These are fewer
-    // than the words say, because listening or an accept failed; or a failed disk call has closed
-    // the store; or there are none, because of another fault. The fault whose line was tried to be
-    // written says which. If memory ran out for the words, or they ask for help, nothing was opened.
+    // If `serve` ends with status 1, that database could not be opened, and the fault says so; or
+    // it was opened and given back, and the same holds of the clients that were served. These are
+    // fewer than the words say, because listening or an accept failed; or a failed disk call has
+    // closed the store; or there are none, because of another fault. The fault whose line was tried
+    // to be written says which. If memory ran out for the words, or they ask for help, nothing was
+    // opened.
     ensures unserved { result.status ≡ 1
         → ((databases.new ≡ databases.old) × WritesNoTaskFault E.tells
         (AskForHelp (map string_bytes words.now)) err.old err.new
@@ -168,10 +171,11 @@ pub fn run_words<
 
     // Status 1 comes with a try to write the line of a fault of the words to `err`, and
     // `is_err_written` says whether it was written whole; it is false only if `err` failed. A fault
-    // of a file is one that it has: none says that a file whose bytes are known can't be read. Unless
-    // the fault is one of writing, `out` is unchanged, or has the line of the port. `check`, `places`,
-    // `compare`, `load`, `export` and `explain` write nothing else to `err`; for `serve` this is the
-    // last line there; `check-all` writes a line for each solution with a fault, with its path.
+    // of a file is one that it has: none says that a file whose bytes are known can't be read.
+    // Unless the fault is one of writing, `out` is unchanged, or has the line of the port. `check`,
+    // `places`, `compare`, `load`, `export` and `explain` write nothing else to `err`; for `serve`
+    // this is the last line there; `check-all` writes a line for each solution with a fault, with
+    // its path.
     ensures err_line { result.status ≡ 1
         → WritesFault E.tells (I.remaining stdin.old) (T.known files.now)
         (map string_bytes words.now) err.old err.new
