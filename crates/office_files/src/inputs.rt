@@ -84,9 +84,6 @@ impl From<Unread> for InputFault {
 // How many reads a reader has. An interrupted read counts, and is retried.
 const READS: u32 = 5_000_000;
 
-// A text has room for this many bytes at first: most solutions fit without a copy.
-const FIRST_ROOM: usize = 65_536;
-
 // Up to this many bytes are copied by plain moves, which take fewer instructions than the
 // processor's own copying of long runs.
 const COPIED_AT_ONCE: usize = 2048;
@@ -152,7 +149,9 @@ fn text_in<R: Read>(
     ensures refused { IfErr result (StaysUnread limit reads.new (R.remaining reader.old)) }
     ensures taken { ReadsAtMost (limit + 1) (R.remaining reader.old) (R.remaining reader.new) }
 {
-    let mut text: Vec<u8> = Vec::with_capacity(alloc, FIRST_ROOM)?;
+    // Room for the longest text at once, so that none is copied as it grows. The system gives only
+    // the pages that are written.
+    let mut text: Vec<u8> = Vec::with_capacity(alloc, limit)?;
     let mut piece = [0u8; 16_384];
     'reads: while *reads > 0 {
         *reads -= 1;
