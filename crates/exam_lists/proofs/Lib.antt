@@ -1,0 +1,22 @@
+-- The pages of lemmas.
+pub mod Each
+pub mod Chains
+pub mod Sums
+pub mod Counts
+pub mod Filters
+pub mod Passing
+pub mod Keys
+pub mod Regrouped
+pub mod Permutations
+pub mod Reordered
+pub mod Members
+pub mod Sorted
+pub mod Maps
+pub mod Ranges
+pub mod Tests
+pub mod Searches
+pub mod Parts
+pub mod Booleans
+pub mod Digits
+pub mod Options
+pub mod Results

@@ -1,0 +1,92 @@
+-- Lists taken apart and put together.
+use Rattle.std.proofs.Common.{Bool, List, [], add-one, ap, append_assoc, arith, drop, false, get_or, length, length-append, length-drop, refl, reverse, suc, sym, take, take-append-drop, true, zero, ℕ, ◌++◌, ◌+◌, ◌-◌, ◌<◌, ◌∙◌, ◌∷◌, ◌≡◌, ◌≤◌}
+use Rattle.std.proofs.Math.Seq.{take-append_seam}
+use Rattle.std.proofs.lemmas.Bool.Decides.{Decides-eqb}
+use Rattle.std.proofs.lemmas.List.{reverse-append, take_all}
+use Rattle.std.proofs.lemmas.Slice.Eq.{ends_is}
+use Rattle.std.specs.List.{ends_with, onto_first}
+use Rattle.std.specs.Prelude.{if◌then◌else◌, nat_eq}
+
+-- after the first of the elements left is the rest
+pub drop_next : {A : Type 0} (xs : List A) (n : ℕ) (y : A) (ys : List A) → drop n xs ≡ y ∷ ys →
+    drop (n + 1) xs ≡ ys
+drop_next [] zero y ys e = cc
+drop_next [] (suc n) y ys e = cc
+drop_next (x ∷ xs) zero y ys e = cc
+drop_next (x ∷ xs) (suc n) y ys e = rw (add-one (suc n)) (rw (add-one n) at (drop_next xs n y ys e))
+
+-- the rest of a list begins with the element at that index
+pub drop_at_head : {X : Type 0} (xs : List X) (i : ℕ) (y d : X) (ys : List X) → drop i xs ≡ y ∷ ys
+    → (i < length xs) × (get_or xs i d ≡ y)
+drop_at_head [] zero y d ys e = absurd cc
+drop_at_head [] (suc i) y d ys e = absurd cc
+drop_at_head (x ∷ xs) zero y d ys e = (omega arith, cc)
+drop_at_head (x ∷ xs) (suc i) y d ys e =
+    let next = drop_at_head xs i y d ys e in (omega arith, next.1)
+
+-- a list without its end
+pub take_front : {X : Type 0} (front q : List X) (n : ℕ) → n ≡ length q
+    → take (length (front ++ q) - n) (front ++ q) ≡ front
+take_front front q n same =
+    let start : length (front ++ q) - n ≡ length front =
+    omega (arith, length-append front q, same) in
+    ap (λ (k : ℕ). take k (front ++ q)) start ∙ take-append_seam front q
+
+-- a list with an element has a last one
+pub last_of : {X : Type 0} (x : X) (xs : List X)
+    → (front : List X) × (last : X) × (x ∷ xs ≡ front ++ last ∷ [])
+last_of x [] = ([], x, refl)
+last_of {X} x (y ∷ xs) =
+    let rest = last_of y xs in (x ∷ rest.0, rest.1, ap (λ (l : List X). x ∷ l) rest.2)
+
+pub nil_no_append : {X : Type 0} (xs : List X) (y : X) (ys : List X) → [] ≡ xs ++ y ∷ ys → ⊥
+nil_no_append xs y ys e = omega (arith, ap length e, length-append xs (y ∷ ys))
+
+-- the first part grows by the first n elements of the rest
+pub append_take_more : {X : Type 0} (all first rest : List X) (n : ℕ) → all ≡ first ++ rest
+    → all ≡ (first ++ take n rest) ++ take (length rest - n) (drop n rest)
+append_take_more {X} all first rest n e =
+    e ∙ ap (λ (l : List X). first ++ l)
+    (sym (take-append-drop n rest)
+    ∙ ap (λ (l : List X). take n rest ++ l)
+    (sym (take_all (length rest - n) (drop n rest) (omega (arith, length-drop n rest)))))
+    ∙ sym (append_assoc first (take n rest) (take (length rest - n) (drop n rest)))
+
+pub length_append_some : {X : Type 0} (xs ys : List X) → 0 < length ys → 0 < length (xs ++ ys)
+length_append_some [] ys some = some
+length_append_some (x ∷ xs) ys some = omega arith
+
+-- one of two lists isn't longer than the longer one
+pub length_choice-le : {X : Type 0} (b : Bool) (xs ys : List X) → length xs ≤ length ys
+    → length (if b then xs else ys) ≤ length ys
+length_choice-le true xs ys le = le
+length_choice-le false xs ys le = omega arith
+
+-- an element that comes before others comes last in their reverse
+pub reverse_cons_append : {X : Type 0} (x : X) (xs ys : List X)
+    → reverse xs ++ (x ∷ ys) ≡ reverse (x ∷ xs) ++ ys
+reverse_cons_append x xs ys =
+    sym (append_assoc (reverse xs) (x ∷ []) ys)
+    ∙ ap (λ l. l ++ ys) (sym (reverse-append (x ∷ []) xs))
+
+-- an element put onto the first list
+pub some_onto_first : {X : Type 0} (b : X) (xs : List (List X)) → 0 < length (onto_first b xs)
+some_onto_first b [] = omega arith
+some_onto_first b (x ∷ xs) = omega arith
+
+pub length_onto_first-le : {X : Type 0} (b : X) (xs : List (List X))
+    → length (onto_first b xs) ≤ length xs + 1
+length_onto_first-le b [] = omega arith
+length_onto_first-le b (x ∷ xs) = omega arith
+
+pub same_head : {X : Type 0} {x y : X} {xs ys : List X} → x ∷ xs ≡ y ∷ ys → x ≡ y
+same_head e = cc
+
+-- a list that ends with another
+pub ends_with_take : (xs p : List ℕ) → ends_with nat_eq xs p ≡ true
+    → xs ≡ take (length xs - length p) xs ++ p
+ends_with_take xs p e = (ends_is Decides-eqb xs p (ends_with nat_eq xs p) refl).0 e
+
+pub ends_with_append : (front p : List ℕ) → ends_with nat_eq (front ++ p) p ≡ true
+ends_with_append front p =
+    (ends_is Decides-eqb (front ++ p) p (ends_with nat_eq (front ++ p) p) refl).1 front refl

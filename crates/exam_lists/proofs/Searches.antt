@@ -1,0 +1,84 @@
+-- The first element that passes, and the element at an index.
+use Rattle.std.proofs.Common.{Bool, List, None, Option, Some, [], ap, arith, cond, false, get_or, length, length-append, refl, suc, sym, true, zero, ℕ, ◌++◌, ◌+◌, ◌<◌, ◌↔◌, ◌∙◌, ◌∷◌, ◌≡◌, ◌≤◌}
+use Rattle.std.proofs.lemmas.Option.{none-some}
+use Rattle.std.specs.List.{AllByRecursion, find, position_or_len}
+use Rattle.std.specs.Prelude.{IfSome, IsSome, not, option_to_list, replicate, slice_get}
+
+-- no element passes
+pub find_none : {X : Type 0} (t : X → Bool) (xs : List X)
+    → ((k : ℕ) (d : X) → k < length xs → t (get_or xs k d) ≡ false) → find t xs ≡ None
+find_none t [] h = refl
+find_none {X} t (x ∷ xs) h =
+    ap (λ b. cond b (Some x) (find t xs)) (h 0 x (omega arith))
+    ∙ find_none t xs (λ k d lt. h (suc k) d (omega arith))
+
+-- the element at an index passes, and none before it
+pub find_one : {X : Type 0} (t : X → Bool) (xs : List X) (i : ℕ) (x : X) → i < length xs
+    → x ≡ get_or xs i x → t x ≡ true
+    → ((k : ℕ) (d : X) → k < i → t (get_or xs k d) ≡ false) → find t xs ≡ Some x
+find_one t [] i x lt is here before = absurd (omega arith)
+find_one t (y ∷ ys) zero x lt is here before =
+    ap (λ b. cond b (Some y) (find t ys)) (ap t (sym is) ∙ here) ∙ ap (λ z. Some z) (sym is)
+find_one t (y ∷ ys) (suc i) x lt is here before =
+    ap (λ b. cond b (Some y) (find t ys)) (before 0 x (omega arith))
+    ∙ find_one t ys i x (omega arith) is here (λ k d l. before (suc k) d (omega arith))
+
+-- the element found passes, and satisfies the condition of all elements
+pub find_keeps : {X : Type 0} (P : X → Type 0) (t : X → Bool) (xs : List X) → AllByRecursion P xs
+    → IfSome (find t xs) (λ x. P x × (t x ≡ true))
+find_keeps P t [] a = tt
+find_keeps {X} P t (x ∷ xs) a = go (t x) refl (find_keeps P t xs a.1)
+  where
+    go : (b : Bool) → t x ≡ b → IfSome (find t xs) (λ x. P x × (t x ≡ true))
+        → IfSome (cond b (Some x) (find t xs)) (λ x. P x × (t x ≡ true))
+    go true is more = (a.0, is)
+    go false is more = more
+
+pub position-le-length : {X : Type 0} (p : X → Bool) (xs : List X) → position_or_len p xs ≤ length xs
+position-le-length p [] = omega arith
+position-le-length p (x ∷ xs) =
+    let more = position-le-length p xs in
+    elim (p x) as (λ b. cond (not b) (1 + position_or_len p xs) 0 ≤ length (x ∷ xs))
+    [ true ↦ omega arith | false ↦ omega arith ]
+
+-- a list without a first element is empty
+pub slice_get_none : {X : Type 0} (xs : List X) → slice_get xs 0 ≡ None → xs ≡ []
+slice_get_none [] h = refl
+slice_get_none (x ∷ xs) h = absurd (none-some x (sym h))
+
+-- the element at the end, and those before it
+pub slice_get_push : {X : Type 0} (xs : List X) (x : X) (q : ℕ) → q ≡ length xs
+    → slice_get (xs ++ x ∷ []) q ≡ Some x
+slice_get_push [] x zero is = refl
+slice_get_push [] x (suc q) is = absurd (omega arith)
+slice_get_push (y ∷ ys) x zero is = absurd (omega arith)
+slice_get_push (y ∷ ys) x (suc q) is = slice_get_push ys x q (omega arith)
+
+pub slice_get_kept : {X : Type 0} (xs : List X) (x : X) (q : ℕ) → q < length xs
+    → slice_get (xs ++ x ∷ []) q ≡ slice_get xs q
+slice_get_kept [] x q lt = absurd (omega arith)
+slice_get_kept (y ∷ ys) x zero lt = refl
+slice_get_kept (y ∷ ys) x (suc q) lt = slice_get_kept ys x q (omega arith)
+
+-- equal elements, the same past the end
+pub get_or_same : {X : Type 0} (d : X) (n k : ℕ) → get_or (replicate n d) k d ≡ d
+get_or_same d zero k = refl
+get_or_same d (suc n) zero = refl
+get_or_same d (suc n) (suc k) = get_or_same d n k
+
+-- the element of a list of one
+pub first_only : {X : Type 0} (xs : List X) (x : X) → length xs ≡ 1 → x ≡ get_or xs 0 x
+    → xs ≡ x ∷ []
+first_only [] x long first = absurd (omega (arith, long))
+first_only (y ∷ []) x long first = ap (λ v. v ∷ []) (sym first)
+first_only (y ∷ z ∷ xs) x long first = absurd (omega (arith, long))
+
+-- the last element of a list of at most one
+pub last_only : {X : Type 0} (xs rest : List X) (last : Option X) → xs ≡ rest ++ option_to_list last
+    → IsSome last ↔ (0 < length xs) → length xs ≤ 1 → xs ≡ option_to_list last
+last_only [] rest None is some few = refl
+last_only (x ∷ xs) rest None is some few = let there = some.1 (omega arith) in cc
+last_only xs [] (Some y) is some few = is
+last_only xs (z ∷ rest) (Some y) is some few =
+    let long = length-append rest (y ∷ []) in
+    absurd (omega (arith, few, long, ap length is))

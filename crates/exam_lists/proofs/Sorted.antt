@@ -1,0 +1,132 @@
+-- Strictly sorted lists: made, compared and searched.
+use Rattle.exam_lists.proofs.Each.{each_append}
+use Rattle.exam_lists.proofs.Members.{contains_head, contains_later, first_or_later, none_in_nil}
+use Rattle.std.proofs.Common.{Bool, Contains, Greater, Less, List, None, Option, Ordering, Some, [], ap, ap₂, cond, false, inl, inr, refl, subst, sym, true, ◌++◌, ◌∙◌, ◌∷◌, ◌≡◌, ◌⊎◌}
+use Rattle.std.proofs.lemmas.List.Elements.{All-contains, All-from_recursion}
+use Rattle.std.specs.Cmp.{IsTotalOrder}
+use Rattle.std.specs.List.{AllByRecursion, find}
+use Rattle.std.specs.List.Sorted.{IsStrictlySortedBy}
+use Rattle.std.specs.Ordering.{ordering_reverse}
+use Rattle.std.specs.Prelude.{slice_get}
+
+pub sorted_nil : {K : Type 0} (R : K → K → Ordering) → IsStrictlySortedBy R []
+unfolding IsStrictlySortedBy
+sorted_nil R = tt
+
+pub sorted_cons : {K : Type 0} (R : K → K → Ordering) (x : K) (xs : List K)
+    → AllByRecursion (λ y. R x y ≡ Less) xs → IsStrictlySortedBy R xs
+    → IsStrictlySortedBy R (x ∷ xs)
+unfolding IsStrictlySortedBy
+sorted_cons R x xs above up = (above, up)
+
+pub sorted_append : {K : Type 0} (R : K → K → Ordering) (xs ys : List K) → IsStrictlySortedBy R xs
+    → IsStrictlySortedBy R ys → AllByRecursion (λ x. AllByRecursion (λ y. R x y ≡ Less) ys) xs
+    → IsStrictlySortedBy R (xs ++ ys)
+unfolding IsStrictlySortedBy
+sorted_append R [] ys a b h = b
+sorted_append R (x ∷ xs) ys a b h =
+    (each_append (λ y. R x y ≡ Less) xs ys a.0 h.0, sorted_append R xs ys a.1 b h.1)
+
+-- two lists that are strictly sorted and have the same elements are equal
+pub same_sorted : {K : Type 0} {R : K → K → Ordering} → IsTotalOrder R → (xs ys : List K)
+    → IsStrictlySortedBy R xs → IsStrictlySortedBy R ys
+    → ((x : K) → Contains xs x → Contains ys x)
+    → ((x : K) → Contains ys x → Contains xs x) → xs ≡ ys
+unfolding IsStrictlySortedBy
+same_sorted o [] [] a b to from = refl
+same_sorted o [] (y ∷ ys) a b to from = absurd (none_in_nil (from y (contains_head y ys)))
+same_sorted o (x ∷ xs) [] a b to from = absurd (none_in_nil (to x (contains_head x xs)))
+same_sorted {K} {R} o (x ∷ xs) (y ∷ ys) a b to from =
+    let same : x ≡ y = elim (first_or_later y ys x (to x (contains_head x xs))) as (λ _. x ≡ y) [
+      | inl e ↦ sym e
+      | inr later ↦ elim (first_or_later x xs y (from y (contains_head y ys))) as (λ _. x ≡ y)
+          [ inl e ↦ e | inr back ↦ absurd (clash o x y (below R y ys x b.0 later) (below R x xs y a.0 back)) ]
+    ] in
+    ap₂ (λ z zs. z ∷ zs) same
+    (same_sorted o xs ys a.1 b.1
+    (λ z h. keep o x y xs ys z same a.0 h (to z (contains_later x xs z h)))
+    (λ z h. keep o y x ys xs z (sym same) b.0 h (from z (contains_later y ys z h))))
+  where
+    below : (R : K → K → Ordering) (x : K) (xs : List K) (z : K)
+        → AllByRecursion (λ y. R x y ≡ Less) xs → Contains xs z → R x z ≡ Less
+    below R x xs z h k =
+        All-contains (λ y. R x y ≡ Less) xs z (All-from_recursion (λ y. R x y ≡ Less) xs h) k
+
+    clash : IsTotalOrder R → (x y : K) → R y x ≡ Less → R x y ≡ Less → ⊥
+    clash o x y p q = less_once (R x y) (R y x) q p (o.antisymm x y)
+      where
+        less_once : (s t : Ordering) → s ≡ Less → t ≡ Less → s ≡ ordering_reverse t → ⊥
+        less_once s t p q e = not_less (sym p ∙ e ∙ ap ordering_reverse q)
+          where
+            not_less : Less ≡ Greater → ⊥
+            not_less e = cc
+
+    keep : IsTotalOrder R → (x y : K) (xs ys : List K) (z : K) → x ≡ y
+        → AllByRecursion (λ y. R x y ≡ Less) xs → Contains xs z
+        → Contains (y ∷ ys) z → Contains ys z
+    keep o x y xs ys z same above h k =
+        elim (first_or_later y ys z k) as (λ _. Contains ys z) [
+          | inr later ↦ later
+          | inl e ↦ (let less : R x z ≡ Less = below R x xs z above h in
+              absurd (clash o x x (ap (R x) (same ∙ e) ∙ less) (ap (R x) (same ∙ e) ∙ less)))
+        ]
+
+-- an element that no other comes before is the first
+pub sorted_head : {X : Type 0} (R : X → X → Ordering) (first : X) (xs : List X) → IsStrictlySortedBy R xs
+    → Contains xs first → ((x : X) → Contains xs x → R x first ≡ Less → ⊥)
+    → slice_get xs 0 ≡ Some first
+unfolding IsStrictlySortedBy
+sorted_head R first [] up there least = absurd (none_in_nil there)
+sorted_head R first (x ∷ xs) up there least =
+    elim (first_or_later x xs first there) as (λ _. slice_get (x ∷ xs) 0 ≡ Some first) [
+      | inl same ↦ ap Some same
+      | inr later ↦
+          absurd (least x (contains_head x xs)
+          (All-contains (λ y. R x y ≡ Less) xs first
+          (All-from_recursion (λ y. R x y ≡ Less) xs up.0) later))
+    ]
+
+-- no element passes, or this one passes and comes before all others that do
+abbrev pub IsFirst : {X : Type 0} → (X → X → Ordering) → (X → Bool) → List X → Option X → Type 0
+IsFirst R p xs None = (y : _) → Contains xs y → p y ≡ false
+IsFirst R p xs (Some x) =
+    Contains xs x × (p x ≡ true) × ((y : _) → Contains xs y → p y ≡ true → (y ≡ x) ⊎ (R x y ≡ Less))
+
+-- the first element found in a strictly sorted list
+pub find_is_first : {X : Type 0} (R : X → X → Ordering) (p : X → Bool) (xs : List X)
+    → IsStrictlySortedBy R xs
+    → IsFirst R p xs (find p xs)
+unfolding IsStrictlySortedBy
+find_is_first R p [] up = λ y h. absurd (none_in_nil h)
+find_is_first {X} R p (x ∷ xs) up = here (find_is_first R p xs up.1) (p x) refl
+  where
+    here : IsFirst R p xs (find p xs) → (b : Bool) → p x ≡ b
+        → IsFirst R p (x ∷ xs) (cond b (Some x) (find p xs))
+    here in_rest true is = (
+      contains_head x xs,
+      is,
+      λ y h passes. elim (first_or_later x xs y h) as (λ _. (y ≡ x) ⊎ (R x y ≡ Less)) [
+        | inl e ↦ inl (sym e)
+        | inr later ↦
+            inr (All-contains (λ z. R x z ≡ Less) xs y
+            (All-from_recursion (λ z. R x z ≡ Less) xs up.0) later)
+      ],
+    )
+    here in_rest false isnt = later (find p xs) in_rest
+      where
+        later : (found : Option X) → IsFirst R p xs found → IsFirst R p (x ∷ xs) found
+        later None none = λ y h. elim (first_or_later x xs y h) as (λ _. p y ≡ false) [
+          | inl e ↦ subst (λ z. p z ≡ false) e isnt
+          | inr in_rest ↦ none y in_rest
+        ]
+        later (Some least) first = (
+          contains_later x xs least first.0,
+          first.1,
+          λ y h passes. elim (first_or_later x xs y h) as (λ _. (y ≡ least) ⊎ (R least y ≡ Less)) [
+            | inl e ↦ absurd (no (sym isnt ∙ ap p e ∙ passes))
+            | inr in_rest ↦ first.2 y in_rest passes
+          ],
+        )
+          where
+            no : false ≡ true → ⊥
+            no e = cc

@@ -1,0 +1,111 @@
+-- Sums over a list.
+use Rattle.exam_lists.proofs.Chains.{IsChain}
+use Rattle.exam_lists.proofs.Each.{each_weaker}
+use Rattle.std.proofs.Common.{Bool, List, [], add-mul, ap, ap₂, arith, cond, false, filter, length, map, refl, sum_by, sym, true, zero-add, zero-mul, ℕ, ◌*◌, ◌+◌, ◌<◌, ◌||◌, ◌∙◌, ◌∷◌, ◌≡◌, ◌≤◌}
+use Rattle.std.proofs.lemmas.Bool.{cond-false}
+use Rattle.std.proofs.lemmas.List.Sums.{sum_by-cons}
+use Rattle.std.specs.List.{AllByRecursion, list_any}
+
+-- equal terms
+pub sum_by-same : {X : Type 0} (f g : X → ℕ) → ((x : X) → f x ≡ g x) → (xs : List X)
+    → sum_by f xs ≡ sum_by g xs
+sum_by-same f g h xs = λ i. sum_by (λ x. h x i) xs
+
+pub sum_by-agree : {X : Type 0} (f g : X → ℕ) → (xs : List X) → AllByRecursion (λ x. f x ≡ g x) xs
+    → sum_by f xs ≡ sum_by g xs
+sum_by-agree f g [] h = refl
+sum_by-agree f g (x ∷ xs) h =
+    sum_by-cons f x xs ∙ ap₂ (λ a b. a + b) h.0 (sum_by-agree f g xs h.1) ∙ sym (sum_by-cons g x xs)
+
+-- all terms are 0
+pub sum_by-zeros : {X : Type 0} (xs : List X) → sum_by (λ x. 0) xs ≡ 0
+sum_by-zeros {X} [] = refl
+sum_by-zeros {X} (x ∷ xs) = sum_by-cons (λ (x : X). 0) x xs ∙ zero-add _ ∙ sum_by-zeros xs
+
+pub sum_by-none : {X : Type 0} (f : X → ℕ) (xs : List X) → AllByRecursion (λ x. f x ≡ 0) xs
+    → sum_by f xs ≡ 0
+sum_by-none f xs h = sum_by-agree f (λ x. 0) xs h ∙ sum_by-zeros xs
+
+-- all terms are 1
+pub sum_by-ones : {X : Type 0} (xs : List X) → sum_by (λ x. 1) xs ≡ length xs
+sum_by-ones {X} [] = refl
+sum_by-ones {X} (x ∷ xs) = omega (arith, sum_by-cons (λ (x : X). 1) x xs, sum_by-ones xs)
+
+-- sums and multiples of terms
+pub sum_by-add : {X : Type 0} (f g : X → ℕ) (xs : List X)
+    → sum_by (λ x. f x + g x) xs ≡ sum_by f xs + sum_by g xs
+sum_by-add f g [] = refl
+sum_by-add f g (x ∷ xs) =
+    let e = sum_by-add f g xs in
+    let h = sum_by-cons (λ x. f x + g x) x xs in
+    let k = sum_by-cons f x xs in
+    let m = sum_by-cons g x xs in
+    omega arith
+
+pub sum_by-times : {X : Type 0} (f : X → ℕ) (k : ℕ) (xs : List X)
+    → sum_by (λ x. f x * k) xs ≡ sum_by f xs * k
+sum_by-times f k [] = sym (zero-mul k)
+sum_by-times f k (x ∷ xs) =
+    sum_by-cons (λ x. f x * k) x xs ∙ ap (λ n. f x * k + n) (sum_by-times f k xs)
+    ∙ sym (add-mul (f x) (sum_by f xs) k) ∙ ap (λ n. n * k) (sym (sum_by-cons f x xs))
+
+-- two sums, in either order
+pub sum_by-turned : {X Y : Type 0} (g : X → Y → ℕ) (xs : List X) (ys : List Y)
+    → sum_by (λ x. sum_by (g x) ys) xs ≡ sum_by (λ y. sum_by (λ x. g x y) xs) ys
+sum_by-turned g [] ys = sym (sum_by-zeros ys)
+sum_by-turned {X} {Y} g (x ∷ xs) ys =
+    sum_by-cons (λ x. sum_by (g x) ys) x xs
+    ∙ ap (λ n. sum_by (g x) ys + n) (sum_by-turned g xs ys)
+    ∙ sym (sum_by-add (g x) (λ y. sum_by (λ x. g x y) xs) ys)
+    ∙ sym (sum_by-same _ _ (λ y. sum_by-cons (λ x. g x y) x xs) ys)
+
+pub sum_by-map : {X Y : Type 0} (g : Y → ℕ) (f : X → Y) (xs : List X)
+    → sum_by g (map f xs) ≡ sum_by (λ x. g (f x)) xs
+sum_by-map g f [] = refl
+sum_by-map g f (x ∷ xs) = sum_by-cons g (f x) (map f xs) ∙ ap (λ n. g (f x) + n) (sum_by-map g f xs)
+    ∙ sym (sum_by-cons (λ x. g (f x)) x xs)
+
+pub sum_by-filter-le : {X : Type 0} (f : X → ℕ) (t : X → Bool) (xs : List X)
+    → sum_by f (filter t xs) ≤ sum_by f xs
+sum_by-filter-le f t [] = omega arith
+sum_by-filter-le f t (x ∷ xs) = go (t x) (sum_by-filter-le f t xs)
+  where
+    go : (b : Bool) → sum_by f (filter t xs) ≤ sum_by f xs
+        → sum_by f (cond b (x ∷ filter t xs) (filter t xs)) ≤ sum_by f (x ∷ xs)
+    go true more =
+        let some = sum_by-cons f x (filter t xs) in
+        let all = sum_by-cons f x xs in
+        omega arith
+    go false more = let all = sum_by-cons f x xs in omega arith
+
+-- each term is below what the sum is below
+pub each_below_sum : {X : Type 0} (f : X → ℕ) (n : ℕ) (xs : List X) → sum_by f xs < n
+    → AllByRecursion (λ x. f x < n) xs
+each_below_sum f n [] h = tt
+each_below_sum f n (x ∷ xs) h = let c = sum_by-cons f x xs in
+    (omega arith, each_below_sum f n xs (omega arith))
+
+-- terms with a test
+pub cond-sum_by : {X : Type 0} (b : Bool) (h : X → ℕ) (xs : List X)
+    → cond b (sum_by h xs) 0 ≡ sum_by (λ x. cond b (h x) 0) xs
+cond-sum_by b h xs = elim b as (λ c. cond c (sum_by h xs) 0 ≡ sum_by (λ x. cond c (h x) 0) xs)
+    [ true ↦ refl | false ↦ sym (sum_by-zeros xs) ]
+
+any_step : (b c : Bool) (w n : ℕ) → (b ≡ true → n ≡ 0) → cond c w 0 ≡ n
+    → cond (b || c) w 0 ≡ cond b w 0 + n
+any_step b c w n =
+    elim b as (λ d. (d ≡ true → n ≡ 0) → cond c w 0 ≡ n → cond (d || c) w 0 ≡ cond d w 0 + n)
+    [ true ↦ λ z e. (let h = z refl in omega arith) | false ↦ λ z e. e ∙ sym (zero-add n) ]
+
+-- a test that passes at most once
+pub sum_by-once : {X : Type 0} (t : X → Bool) (w : ℕ) (xs : List X)
+    → IsChain (λ x y. t x ≡ true → t y ≡ false) xs
+    → cond (list_any t xs) w 0 ≡ sum_by (λ x. cond (t x) w 0) xs
+sum_by-once t w [] h = refl
+sum_by-once t w (x ∷ xs) h =
+    any_step (t x) (list_any t xs) w (sum_by (λ x. cond (t x) w 0) xs)
+    (λ e. sum_by-none (λ x. cond (t x) w 0) xs
+    (each_weaker (λ y. t x ≡ true → t y ≡ false) (λ y. cond (t y) w 0 ≡ 0)
+    (λ y f. cond-false (t y) w 0 (f e)) xs h.0))
+    (sum_by-once t w xs h.1)
+    ∙ sym (sum_by-cons (λ x. cond (t x) w 0) x xs)
