@@ -1,13 +1,16 @@
 -- Conflicts: the students whom two exams share, counted along the sitters, and sums over conflicts.
 use Rattle.std.specs.List.{list_any, AllByRecursion}
 use Rattle.std.specs.Prelude.{◌==◌, ◌&&◌, ◌||◌, All}
-use Rattle.std.proofs.Common.{◌≡◌, ◌≢◌, ◌++◌, append_assoc, append-nil, add-one, ℕ, zero, suc, ◌+◌, ◌*◌, ◌<◌, ◌≤◌, Bool, true, false, cond, eqb, ltb, lt-ltb, le-ltb, inl, inr, List, [], ◌∷◌, length, take, drop, map, get_or, sum_by, count_by, refl, ap, ap₂, sym, ◌∙◌, subst, arith, zero-mul, add-zero, zero-add, eqb-true}
+use Rattle.std.proofs.Common.{◌≡◌, ◌≢◌, ◌++◌, append_assoc, append-nil, add-one, ℕ, zero, suc, ◌+◌, ◌*◌, ◌<◌, ◌≤◌, Bool, true, false, cond, ltb, lt-ltb, le-ltb, inl, inr, List, [], ◌∷◌, length, map, sum_by, count_by, refl, ap, ap₂, sym, ◌∙◌, subst, arith, zero-mul, add-zero, zero-add, eqb-true}
 use Rattle.std.proofs.lemmas.Bool.{cases_eq, cases_lt, eq-eqb, ne_eqb}
 use Rattle.std.proofs.lemmas.Bool.Decides.{nat_tests}
-use Rattle.std.proofs.lemmas.List.{get_or-drop, get_or_past, length-drop}
+use Rattle.std.proofs.lemmas.List.{get_or_past}
 use Rattle.std.proofs.lemmas.List.Elements.{All-append, All-from_recursion, All-nil}
 use Rattle.std.proofs.lemmas.List.Folds.{list_any-append}
-use Rattle.std.proofs.lemmas.List.Sums.{sum_by-append, sum_by-cons, sum_by-take-drop}
+use Rattle.std.proofs.lemmas.List.Sums.{sum_by-append, sum_by-cons}
+use Rattle.std.proofs.Math.Bool.{and-false, and-true, or-false}
+use Rattle.exam_lists.proofs.Booleans.{eqb_swap}
+use Rattle.exam_lists.proofs.Sums.{sum_by-same, sum_by-turned, sum_by-zeros}
 use Rattle.exam_model.specs.Conflicts.{conflict_if, conflicts_below, conflicts_of, conflicts_with, is_conflict}
 use Rattle.exam_model.specs.Enrolments.{AreEnrolments, Enrolled, IsAscending, has_number, shared_students, students}
 use Rattle.exam_model.specs.Pairs.{Pair}
@@ -15,10 +18,7 @@ use Rattle.exam_model.specs.Sitters.{is_sitter}
 use Rattle.exam_model.specs.Sums.{sum_below, sum_pairs_below}
 use Rattle.exam_model.specs.declared.conflicts.Conflict.{Conflict}
 use Rattle.exam_model.specs.declared.sitter.Sitter.{Sitter}
-use Rattle.exam_model.proofs.EnrolmentLemmas.{and-false, and-true}
-use Rattle.exam_model.proofs.PairLemmas.{or-false}
 use Rattle.exam_model.proofs.SameSet.{first_once, tail_ascends}
-use Rattle.exam_model.proofs.SumLemmas.{sum_by-same, sum_by-turned, sum_by-zeros}
 
 -- ---- sums over conflicts
 
@@ -61,25 +61,6 @@ sum_of_conflicts g E = sum_less g E (length E)
 one_or_none : (b : Bool) → b ≡ false → ◌≡◌ {A = ℕ} (cond b 1 0) 0
 one_or_none b is = ap (λ c. cond c 1 0) is
 
-none_counted : {X : Type 0} (t : X → Bool) (xs : List X)
-    → ((k : ℕ) (d : X) → k < length xs → t (get_or xs k d) ≡ false) → count_by t xs ≡ 0
-none_counted t [] none = refl
-none_counted t (x ∷ xs) none =
-    let first = one_or_none (t x) (none 0 x (omega arith)) in
-    let others = none_counted t xs (λ k d lt. none (suc k) d (omega arith)) in
-    omega (arith, sum_by-cons (λ y. cond (t y) 1 0) x xs, first, others)
-
--- nothing is counted from index i on
-pub none_after : {X : Type 0} (t : X → Bool) (xs : List X) (i : ℕ)
-    → ((k : ℕ) (d : X) → i ≤ k → k < length xs → t (get_or xs k d) ≡ false)
-    → count_by t xs ≡ count_by t (take i xs)
-none_after t xs i none =
-    let rest : count_by t (drop i xs) ≡ 0 =
-    none_counted t (drop i xs) (λ k d lt.
-    let within : i + k < length xs = (let l = length-drop i xs in omega (arith, l, lt)) in
-    ap t (get_or-drop i xs k d) ∙ none (i + k) d (omega arith) within) in
-    omega (arith, sum_by-take-drop (λ y. cond (t y) 1 0) xs i, rest)
-
 -- no sitter of another student is counted
 pub other_student : (s e : ℕ) (x : Sitter) → (x.student ≡ s → ⊥) → is_sitter s e x ≡ false
 other_student s e x other =
@@ -102,16 +83,13 @@ counted_once (x ∷ xs) s up =
     ∙ once_more (x == s) (has_number xs s)
     (λ is. subst (λ t. has_number xs t ≡ false) (eqb-true x s is) (first_once x xs up))
 
-eqb-swap : (a b : ℕ) → eqb a b ≡ eqb b a
-eqb-swap a b = grind (arith, nat_tests)
-
 -- each student of exam f counted among those of exam e: the students that they share
 pub shared_by_sitters : (E : Enrolled) (e f : ℕ) → AreEnrolments E → f < length E
     → sum_by (λ s. count_by (λ t. t == s) (students E e)) (students E f) ≡ shared_students E e f
 shared_by_sitters E e f known lt =
     sum_by-turned (λ s t. cond (t == s) 1 0) (students E f) (students E e)
     ∙ sum_by-same _ _ (λ t.
-    sum_by-same _ _ (λ s. ap (λ b. cond b 1 0) (eqb-swap t s)) (students E f)
+    sum_by-same _ _ (λ s. ap (λ b. cond b 1 0) (eqb_swap t s)) (students E f)
     ∙ counted_once (students E f) t (known.ascending f lt)) (students E e)
 
 -- a fact about the pairs that elements are mapped to

@@ -1,6 +1,5 @@
 -- What stays true of the lists and the count of pairs if the list of one exam changes.
-use Rattle.std.proofs.Common.{◌≡◌, ◌∙◌, ℕ, ◌+◌, ◌-◌, ◌<◌, ◌≤◌, Bool, true, false, List, [], length, set, refl, sym, ap, subst, arith, slice_index_or, Fits, w32, Result, Ok, Err, OnErr}
-use Rattle.std.specs.Prelude.{not}
+use Rattle.std.proofs.Common.{◌≡◌, ◌∙◌, ℕ, ◌+◌, ◌-◌, ◌<◌, ◌≤◌, true, false, List, [], length, set, sym, ap, subst, arith, slice_index_or, Fits, w32}
 use Rattle.std.proofs.lemmas.List.{get_or_read, set-get_or}
 use Rattle.exam_model.specs.Enrolments.{Enrolled, AreEnrolments, AreNumbers, IsAscending, Adds, Removes, students, has, has_number, pair_count}
 use Rattle.exam_model.specs.StudentLists.{Enters, Leaves}
@@ -30,15 +29,6 @@ counted_again E e p roll lt is was =
 -- the count plus one fits its type
 pub one_more_fits : (E : Enrolled) (p : ℕ) → IsCounted E p → Fits w32 (p + 1)
 one_more_fits E p was = let count : p ≡ pair_count E = was.1 in omega (arith, was.0.pairs)
-
--- a student who is new wasn't there, and a student who isn't new was
-pub new_absent : (new there : Bool) → new ≡ not there → new ≡ true → there ≡ false
-new_absent new true is yes' = absurd (cc)
-new_absent new false is yes' = refl
-
-pub old_present : (new there : Bool) → new ≡ not there → new ≡ false → there ≡ true
-old_present new true is no' = refl
-old_present new false is no' = absurd (cc)
 
 -- a student is in the exam's list exactly if the pair is in the set
 pub is_has : (E : Enrolled) (e s : ℕ) (roll : List ℕ) → e < length E
@@ -145,8 +135,3 @@ filled_fits p n room few = (omega arith, omega arith)
 pub none_at : (E : Enrolled) (e : ℕ) (roll : List ℕ) → e < length E
     → roll ≡ slice_index_or E e roll → students E e ≡ [] → roll ≡ []
 none_at E e roll lt is none = get_or_read E e roll lt is [] ∙ none
-
--- what holds in any case holds after an error
-pub on_err : {T E P : Type 0} (r : Result T E) → P → OnErr r P
-on_err (Ok x) p = tt
-on_err (Err x) p = p

@@ -1,23 +1,16 @@
 -- The order of two dates doesn't matter.
-use Rattle.std.proofs.Common.{◌≡◌, ℕ, Bool, true, false, List, Option, Some, None, refl, sym, ap, arith}
-use Rattle.std.proofs.lemmas.Bool.{eqb-true, eqb-false, eq-eqb, ne_eqb}
+use Rattle.std.proofs.Common.{◌≡◌, ℕ, List, Option, Some, None, refl, ap, arith}
 use Rattle.std.specs.Prelude.{◌==◌, slice_get, ℤ, ◌-ℤ◌, unsigned_abs}
 use Rattle.std.proofs.lemmas.Int.{ints}
+use Rattle.exam_lists.proofs.Booleans.{eqb_swap}
 use Rattle.exam_calendar.specs.Dates.{are_a_day_apart, day_number, is_same_date}
 use Rattle.exam_calendar.specs.declared.date.Date.{Date}
 use Rattle.exam_model.specs.Distances.{have_next_dates, next_day, is_same_day, share_date}
 use Rattle.exam_model.specs.declared.parts.Period.{Period}
 
-equal-as : (a b : ℕ) (same : Bool) → (a == b) ≡ same → (b == a) ≡ same
-equal-as a b true e = eq-eqb b a (sym (eqb-true a b e))
-equal-as a b false e = ne_eqb b a (λ same. eqb-false a b e (sym same))
-
-equal-swap : (a b : ℕ) → (a == b) ≡ (b == a)
-equal-swap a b = sym (equal-as a b (a == b) refl)
-
 is_same_date-swap : (a b : Date) → is_same_date a b ≡ is_same_date b a
 is_same_date-swap a b =
-    rw (equal-swap a.year b.year, equal-swap a.month b.month, equal-swap a.day b.day) refl
+    rw (eqb_swap a.year b.year, eqb_swap a.month b.month, eqb_swap a.day b.day) refl
 
 share_date-swap : (p q : Option Period) → share_date p q ≡ share_date q p
 share_date-swap None None = refl

@@ -1,22 +1,19 @@
 -- The lists of students after a change, and those of no pairs.
 use mathlib.Core.Bool.{true≢false}
-use Rattle.std.proofs.Common.{◌≡◌, ◌∙◌, eqb, ℕ, zero, suc, ◌+◌, ◌<◌, ◌≤◌, Bool, true, false, List, [], length, set, refl, subst, sym, inl, inr, arith, if◌then◌else◌}
+use Rattle.std.proofs.Common.{◌≡◌, ◌∙◌, eqb, ℕ, zero, suc, ◌+◌, ◌<◌, ◌≤◌, true, false, List, [], length, set, refl, subst, sym, inl, inr, arith, if◌then◌else◌}
 use Rattle.std.specs.Prelude.{◌==◌, ◌||◌, ◌&&◌, not, replicate}
-use Rattle.std.proofs.lemmas.Bool.{eq-eqb, ne_eqb, cases_eq}
-use Rattle.std.proofs.lemmas.List.{length-set}
+use Rattle.std.proofs.lemmas.Bool.{eq-eqb, ne_eqb, cases_eq, and_parts}
+use Rattle.std.proofs.lemmas.List.{length-set, length-replicate}
 use Rattle.std.proofs.lemmas.List.Folds.{sum_by-replicate}
 use Rattle.std.proofs.lemmas.List.Sums.{sum_by-set, get_or-le-sum_by}
 use Rattle.std.proofs.Common.{get_or-set_other, get_or-set_same}
+use Rattle.std.proofs.Math.Bool.{and-false, and-true}
 use Rattle.exam_model.specs.Enrolments.{Enrolled, AreEnrolments, AreNumbers, has_number, Adds, Removes, students, has, size_of, pair_count, no_pairs}
 use Rattle.exam_model.specs.StudentLists.{Enters, Leaves}
 
 -- no exam has more students than there are pairs
 pub size-le : (E : Enrolled) (e : ℕ) → e < length E → size_of E e ≤ pair_count E
 size-le E e lt = get_or-le-sum_by length E e [] lt
-
-length-none : (n : ℕ) → length (replicate n (let x : List ℕ = [] in x)) ≡ n
-length-none zero = refl
-length-none (suc n) = omega (arith, length-none n)
 
 students-none : (n e : ℕ) → students (replicate n []) e ≡ []
 students-none zero e = refl
@@ -29,19 +26,11 @@ pair_count-none n = let sums = sum_by-replicate {X = List ℕ} length n [] in om
 -- the empty set of pairs satisfies the invariant
 pub enrolments_none : (n : ℕ) → 1 ≤ n → n ≤ 2000 → AreEnrolments (no_pairs n)
 enrolments_none n low high = record {
-  exams = omega (arith, length-none n);
+  exams = omega (arith, length-replicate {A = List ℕ} n []);
   ascending = λ e lt. rw (students-none n e) (λ i j below within. absurd (omega arith));
   pairs = omega (arith, pair_count-none n);
   numbers = λ e. rw (students-none n e) (λ s is. absurd (true≢false (sym is)));
 }
-
-pub and-true : (a : Bool) → (a && true) ≡ a
-and-true true = refl
-and-true false = refl
-
-pub and-false : (a : Bool) → (a && false) ≡ false
-and-false true = refl
-and-false false = refl
 
 -- the number of pairs after one exam's list is replaced
 count_set : (E : Enrolled) (e s : ℕ) (new : List ℕ) → e < length E → Enters (students E e) new s
@@ -89,13 +78,9 @@ numbers_entered old new s known enters was t is =
           (sym (enters.members t) ∙ is))
     ]
 
-and_right : (a b : Bool) → (a && b) ≡ true → b ≡ true
-and_right true b is = is
-and_right false b is = absurd (cc)
-
 numbers_left : (old new : List ℕ) (s : ℕ) → Leaves old new s → AreNumbers old → AreNumbers new
 numbers_left old new s leaves was t is =
-    was t (and_right (not (eqb s t)) (has_number old t) (sym (leaves.members t) ∙ is))
+    was t (and_parts (not (eqb s t)) (has_number old t) (sym (leaves.members t) ∙ is)).1
 
 -- the invariant of the type holds after it, if there is room for a new pair
 pub enrolments_set : (E : Enrolled) (e s : ℕ) (new : List ℕ) → e < length E → s ≤ 999999999

@@ -7,11 +7,12 @@ use Rattle.std.proofs.lemmas.List.{get_or_past, get_or-take, length-map, take-ta
 use Rattle.std.proofs.lemmas.List.Elements.{All-from_recursion}
 use Rattle.std.proofs.lemmas.List.Folds.{fold-map}
 use Rattle.std.proofs.lemmas.List.Sums.{sum_by_more, sum_by-take-le}
+use Rattle.exam_lists.proofs.Counts.{count_by-take}
 use Rattle.exam_model.specs.Enrolments.{AreEnrolments, Enrolled, has, pair_count, students}
 use Rattle.exam_model.specs.Links.{AreLinked, IsLast, is_link, pair_at, slot_of}
 use Rattle.exam_model.specs.Pairs.{Pair, pairs_of}
 use Rattle.exam_model.specs.declared.links.Link.{Link}
-use Rattle.exam_model.proofs.ConflictLemmas.{counted_once, each_mapped, none_after, other_student}
+use Rattle.exam_model.proofs.ConflictLemmas.{counted_once, each_mapped, other_student}
 use Rattle.exam_model.proofs.PairLemmas.{count_from, from_within, length_from}
 
 -- ---- counts along the links of a slot
@@ -21,7 +22,7 @@ pub none_between : (xs : List Link) (m s e n k : ℕ) → k ≤ length xs
     → IsLast xs m (slot_of m s) n k
     → count_by (is_link s e) (take k xs) ≡ count_by (is_link s e) (take n xs)
 none_between xs m s e n k le last =
-    none_after (is_link s e) (take k xs) n (λ j d from below.
+    count_by-take (is_link s e) (take k xs) n (λ j d from below.
     let within : j < k = omega (arith, length-take k xs) in
     ap (is_link s e) (get_or-take k xs j d within)
     ∙ other_student s e (get_or xs j d).sitter

@@ -1,43 +1,30 @@
 -- Facts about the list of a set's pairs: by induction over the exams, from any number on.
-use Rattle.std.proofs.Common.{◌≡◌, ℕ, zero, suc, ◌+◌, ◌<◌, ◌≤◌, Bool, true, false, List, [], ◌∷◌, ◌++◌, length, take, map, count_by, refl, ap, ap₂, sym, ◌∙◌, inl, inr, arith, append-nil, append_assoc, length-take, if◌then◌else◌}
+use Rattle.std.proofs.Common.{◌≡◌, ℕ, zero, suc, ◌+◌, ◌<◌, ◌≤◌, Bool, true, false, List, [], ◌∷◌, ◌++◌, length, take, count_by, refl, ap, sym, ◌∙◌, inl, inr, arith, append-nil, append_assoc, length-take, if◌then◌else◌}
 use Rattle.std.specs.Prelude.{◌==◌, ◌||◌, ◌&&◌, All}
 use Rattle.std.specs.List.{list_any, AllByRecursion}
 use Rattle.std.proofs.lemmas.Bool.{eq-eqb, ne_eqb}
 use Rattle.std.proofs.lemmas.List.{length-map, length-append, take_more}
 use Rattle.std.proofs.lemmas.List.Elements.{All-nil, All-append, All-map, All-weaker, All-from_get_or}
-use Rattle.std.proofs.lemmas.List.Folds.{fold-map, fold_stays, list_any-append}
+use Rattle.std.proofs.lemmas.List.Folds.{fold-map, list_any-append}
 use Rattle.std.proofs.lemmas.List.Kept.{AllPairs-cons}
 use Rattle.std.proofs.lemmas.List.Sums.{sum_by-cons, sum_by-append}
+use Rattle.std.proofs.Math.Bool.{and-true, or-false, and_comm}
+use Rattle.exam_lists.proofs.Counts.{count_by-always, count_by-never}
+use Rattle.exam_lists.proofs.Tests.{any_map, any_and}
 use Rattle.exam_model.specs.Enrolments.{Enrolled, AreEnrolments, IsAscending, has_number, students, has, size_of, pair_count}
 use Rattle.exam_model.specs.Pairs.{Pair, pairs_at, pairs_from, pairs_of, is_pair, ComesBefore, AreInOrder, ArePairsOf}
-use Rattle.exam_model.proofs.EnrolmentLemmas.{and-true, and-false}
 use Rattle.exam_model.proofs.SameSet.{tail_ascends}
-
-pub or-false : (a : Bool) → (a || false) ≡ a
-or-false true = refl
-or-false false = refl
 
 abbrev pair : ℕ → ℕ → Pair
 pair e s = record { exam = e; student = s }
 
 -- ---- members
 
-pub any_map : {X Y : Type 0} (p : Y → Bool) (f : X → Y) (xs : List X)
-    → list_any p (map f xs) ≡ list_any (λ x. p (f x)) xs
-any_map p f [] = refl
-any_map p f (x ∷ xs) = ap (λ b. p (f x) || b) (any_map p f xs)
-
-any_and : {X : Type 0} (p : X → Bool) (c : Bool) (xs : List X)
-    → list_any (λ x. p x && c) xs ≡ (c && list_any p xs)
-any_and p true [] = refl
-any_and p true (x ∷ xs) = ap₂ (λ a b. a || b) (and-true (p x)) (any_and p true xs)
-any_and p false [] = refl
-any_and p false (x ∷ xs) = ap₂ (λ a b. a || b) (and-false (p x)) (any_and p false xs)
-
 -- a pair is among an exam's if it has that exam and one of its students
 any_at : (s e f : ℕ) (xs : List ℕ)
     → list_any (is_pair s e) (pairs_at f xs) ≡ ((f == e) && has_number xs s)
-any_at s e f xs = any_map (is_pair s e) (λ t. pair f t) xs ∙ any_and (λ t. t == s) (f == e) xs
+any_at s e f xs = any_map (is_pair s e) (λ t. pair f t) xs
+    ∙ any_and (λ t. t == s) (f == e) xs ∙ and_comm (list_any (λ t. t == s) xs) (f == e)
 
 -- it is among the first exam's, or among those of the others
 any_first : (s e f : ℕ) (xs : List ℕ) (rest : Enrolled)
@@ -68,13 +55,6 @@ any_from s e f (suc k) (xs ∷ rest) here =
 
 -- ---- counts
 
-count_none : (xs : List ℕ) → count_by (λ s. false) xs ≡ 0
-count_none xs = fold_stays (λ a s. a + 0) 0 (λ s. refl) xs
-
-count_all : (xs : List ℕ) → count_by (λ s. true) xs ≡ length xs
-count_all [] = refl
-count_all (x ∷ xs) = omega (arith, sum_by-cons (λ (s : ℕ). 1) x xs, count_all xs)
-
 -- how many pairs of the exam have a student who passes the test: written out in the statements, so
 -- that they are about exactly the counts of the law
 count_at : (e f : ℕ) (t : ℕ → Bool) (xs : List ℕ)
@@ -100,7 +80,7 @@ count_below e f t [] lt = refl
 count_below e f t (xs ∷ rest) lt =
     count_first e f t xs rest
     ∙ rw (ne_eqb f e (omega arith))
-    (omega (arith, count_none xs, count_below e (f + 1) t rest (omega arith)))
+    (omega (arith, count_by-never xs, count_below e (f + 1) t rest (omega arith)))
 
 pub count_from : (e f k : ℕ) (t : ℕ → Bool) (E : Enrolled) → e ≡ f + k
     → count_by (λ p. (p.exam == e) && t p.student) (pairs_from f E) ≡ count_by t (students E k)
@@ -111,7 +91,7 @@ count_from e f zero t (xs ∷ rest) here =
 count_from e f (suc k) t (xs ∷ rest) here =
     count_first e f t xs rest
     ∙ rw (ne_eqb f e (omega arith))
-    (omega (arith, count_none xs, count_from e (f + 1) k t rest (omega arith)))
+    (omega (arith, count_by-never xs, count_from e (f + 1) k t rest (omega arith)))
 
 pub length_from : (f : ℕ) (E : Enrolled) → length (pairs_from f E) ≡ pair_count E
 length_from f [] = refl
@@ -202,7 +182,7 @@ size_from e E =
     let same : count_by (λ p. (p.exam == e) && true) (pairs_of E)
     ≡ count_by (λ p. p.exam == e) (pairs_of E)
     = λ i. count_by (λ p. and-true (p.exam == e) i) (pairs_of E) in
-    sym same ∙ count_from e 0 e (λ s. true) E (omega arith) ∙ count_all (students E e)
+    sym same ∙ count_from e 0 e (λ s. true) E (omega arith) ∙ count_by-always (students E e)
 
 -- the list of a set's pairs represents the set
 pub are_pairs : (E : Enrolled) → AreEnrolments E → ArePairsOf E (pairs_of E)

@@ -11,6 +11,7 @@ use Rattle.std.proofs.lemmas.List.{get_or_default, take-append-drop}
 use Rattle.std.proofs.lemmas.List.Sorted.{searched}
 use Rattle.std.proofs.lemmas.List.Edits.{length-insert, get_or-insert_below, get_or-insert_at, get_or-insert_above, length-remove, get_or-remove_below, get_or-remove_above}
 use Rattle.std.proofs.lemmas.List.Folds.{list_any_at, list_any_none, list_any-append}
+use Rattle.exam_lists.proofs.Booleans.{or_middle}
 use Rattle.exam_model.specs.Enrolments.{AreNumbers, IsAscending, has_number}
 use Rattle.exam_model.specs.StudentLists.{IsAt, IsGap, Enters, Leaves}
 
@@ -74,11 +75,6 @@ ascending_insert xs x at gap up i j lt within =
       gap.before i,
       gap.after (j - 1),
     )
-
-or_middle : (a b c : Bool) → (a || (b || c)) ≡ (b || (a || c))
-or_middle true true c = refl
-or_middle true false c = refl
-or_middle false b c = refl
 
 -- an insert anywhere adds the one student
 pub has_insert : (xs : List ℕ) (x at t : ℕ) → has_number (insert xs at x) t

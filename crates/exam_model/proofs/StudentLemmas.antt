@@ -1,24 +1,17 @@
 -- The results of adding a student to an ascending list, and of removing one.
-use Rattle.std.proofs.Common.{◌≡◌, ◌≢◌, ◌∙◌, ℕ, zero, suc, ◌<◌, Bool, true, false, List, [], ◌∷◌, length, set, refl, ap, sym, inl, inr, arith, if◌then◌else◌}
+use Rattle.std.proofs.Common.{◌≡◌, ◌≢◌, ◌∙◌, ℕ, zero, suc, ◌<◌, true, false, List, [], ◌∷◌, length, set, refl, ap, sym, inl, inr, arith, if◌then◌else◌}
 use Rattle.std.proofs.Common.{get_or-set_other, get_or-set_same}
 use Rattle.std.specs.Prelude.{◌==◌, ◌||◌, ◌&&◌, not, nat_lt, slice_index}
 use Rattle.std.specs.List.{AllByRecursion, range_with_len}
 use Rattle.std.proofs.lemmas.Bool.{ltb-true, ltb-false, eqb-true, eqb-false, ne_eqb, eq-eqb, cases_eq, cases_lt}
 use Rattle.std.proofs.lemmas.List.{length-set, set_past}
 use Rattle.std.proofs.lemmas.List.Elements.{filter_agree}
+use Rattle.std.proofs.Math.Bool.{or_self_left}
+use Rattle.exam_lists.proofs.Booleans.{or_middle}
 use Rattle.exam_model.specs.Changes.{with_student, without_student, with_pair, without_pair, exams_sat}
 use Rattle.exam_model.specs.Enrolments.{Enrolled, IsAscending, has_number, students, has}
 use Rattle.exam_model.specs.StudentLists.{Enters, Leaves}
 use Rattle.exam_model.proofs.SameSet.{same_list, tail_ascends}
-
-pub or_twice : (a r : Bool) → (a || r) ≡ (a || (a || r))
-or_twice true r = refl
-or_twice false r = refl
-
-pub or_middle : (a b r : Bool) → (a || (b || r)) ≡ (b || (a || r))
-or_middle true true r = refl
-or_middle true false r = refl
-or_middle false b r = refl
 
 -- the student is less than the first, equal to the first, or greater than the first
 pub with_cases : (s u : ℕ) (us : List ℕ) (P : List ℕ → Type 0) →
@@ -45,7 +38,7 @@ has-with s [] t = refl
 has-with s (u ∷ us) t =
     with_cases s u us (λ ys. has_number ys t ≡ ((s == t) || has_number (u ∷ us) t))
     (λ lt. refl)
-    (λ same. rw same (or_twice (u == t) (has_number us t)))
+    (λ same. rw same (sym (or_self_left (u == t) (has_number us t))))
     (λ above. ap (λ b. (u == t) || b) (has-with s us t)
     ∙ or_middle (u == t) (s == t) (has_number us t))
 

@@ -8,13 +8,15 @@ use Rattle.std.proofs.lemmas.List.Elements.{recursion_from_All}
 use Rattle.std.proofs.lemmas.List.FromFn.{sum_by-map-range_with_len_more}
 use Rattle.std.proofs.lemmas.List.Sums.{sum_by-cons, sum_by_more, sum-map}
 use Rattle.std.proofs.lemmas.Option.{slice_get_past}
+use Rattle.exam_lists.proofs.Chains.{chain_from_index}
+use Rattle.exam_lists.proofs.Sums.{sum_by-add, sum_by-same, sum_by-times}
 use Rattle.exam_model.specs.Fits.{period_of}
 use Rattle.exam_model.specs.Instance.{Session, IsInstance}
 use Rattle.exam_model.specs.Sums.{sum_below}
 use Rattle.exam_model.specs.Timetable.{Placing, place_of}
 use Rattle.exam_terms.specs.declared.place.Place.{Place}
 use Rattle.exam_model.proofs.PairLemmas.{are_pairs}
-use Rattle.exam_model.proofs.SumLemmas.{chain_from_index, sum_by-same, sum_by-add, sum_by-times, sum_below-same, sum_below-zeros, sum_below-turned, sum_below-at}
+use Rattle.exam_model.proofs.SumLemmas.{sum_below-same, sum_below-zeros, sum_below-turned, sum_below-at}
 use Rattle.exam_score.specs.Cost.{row_cost, day_cost, spread_cost, night_cost}
 use Rattle.exam_score.specs.Penalty.{PersonalPenalty}
 use Rattle.exam_score.specs.Regrouping.{pair_part, candidate_cost, periods_of}

@@ -8,11 +8,11 @@ use Rattle.std.proofs.lemmas.List.Elements.{All-from_recursion, recursion_from_A
 use Rattle.std.proofs.lemmas.List.Folds.{list_any_at, list_any_none}
 use Rattle.std.proofs.lemmas.List.Sorted.{searched}
 use Rattle.std.proofs.lemmas.List.Sums.{sum_by-cons}
+use Rattle.exam_lists.proofs.Chains.{chain_from_index}
 use Rattle.exam_model.specs.Enrolments.{IsAscending, has_number}
 use Rattle.exam_model.specs.Instance.{Session}
 use Rattle.exam_model.specs.Timetable.{Placing}
 use Rattle.exam_model.proofs.SameSet.{same_list}
-use Rattle.exam_model.proofs.SumLemmas.{chain_from_index}
 use Rattle.exam_score.specs.Penalty.{PersonalPenalty, personal_total}
 use Rattle.exam_publish.specs.declared.seat_row.SeatRow.{SeatRow}
 use Rattle.exam_publish.specs.AddUp.{AreSmall, share_total}

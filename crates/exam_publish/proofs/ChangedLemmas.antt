@@ -3,9 +3,10 @@ use Rattle.std.specs.List.{AllByRecursion}
 use Rattle.std.proofs.Common.{◌≡◌, ℕ, ◌<◌, inl, inr, Bool, true, false, cond, not, ◌&&◌, ◌||◌, eqb, List, [], ◌∷◌, ◌++◌, map, refl, sym, ◌∙◌, ap, ap₂, subst, arith}
 use Rattle.std.proofs.lemmas.Bool.Decides.{nat_tests}
 use Rattle.std.proofs.lemmas.List.Folds.{list_any-append}
+use Rattle.exam_lists.proofs.Chains.{IsChain, chain_from_index}
+use Rattle.exam_lists.proofs.Each.{each_weaker}
 use Rattle.exam_model.specs.Enrolments.{IsAscending, has_number}
 use Rattle.exam_model.specs.Pairs.{Pair, ComesBefore}
-use Rattle.exam_model.proofs.SumLemmas.{IsChain, chain_from_index, each_weaker}
 use Rattle.exam_model.proofs.SameSet.{same_list}
 use Rattle.exam_publish.specs.declared.seat_row.SeatRow.{SeatRow}
 use Rattle.exam_publish.specs.Rows.{is_pair_before, RowBefore, RowsInOrder, row_pair}

@@ -15,10 +15,13 @@ use Rattle.std.proofs.lemmas.List.Folds.{Any-from_list_any, list_any_at}
 use Rattle.std.proofs.lemmas.List.Kept.{Contains-dedup, Contains-from_dedup, IsStrictlySortedBy-dedup}
 use Rattle.std.proofs.lemmas.List.Sorted.{list_any-IsPermutation, All-permutation}
 use Rattle.std.proofs.lemmas.List.Sums.{sum_by-cons, count_by-le-length}
+use Rattle.exam_lists.proofs.Chains.{IsChain, chain_weaker}
+use Rattle.exam_lists.proofs.Each.{each_weaker}
+use Rattle.exam_lists.proofs.Sums.{sum_by-agree, sum_by-once}
 use Rattle.exam_model.specs.Instance.{Session}
 use Rattle.exam_model.specs.Sums.{sum_below}
 use Rattle.exam_model.specs.Timetable.{Placing}
-use Rattle.exam_model.proofs.SumLemmas.{IsChain, chain_weaker, each_weaker, sum_by-agree, sum_by-once, sum_below-same, sum_below-within, sum_below-turned, sum_below-at}
+use Rattle.exam_model.proofs.SumLemmas.{sum_below-same, sum_below-within, sum_below-turned, sum_below-at}
 use Rattle.exam_score.specs.MixedDurations.{duration_count, exams_with_duration, durations, room_mixed}
 use Rattle.exam_score.specs.Stays.{is_stay, StayExists, AreStays}
 use Rattle.exam_score.specs.declared.mixed.Stay.{Stay}

@@ -3,6 +3,7 @@ use Rattle.std.specs.Prelude.{IfSome, slice_get}
 use Rattle.std.specs.List.{AllByRecursion, cons_option}
 use Rattle.std.proofs.Common.{◌≡◌, ℕ, zero, suc, ◌+◌, ◌<◌, ◌≤◌, List, [], ◌∷◌, ◌++◌, length, map, take, Option, Some, None, option_map, All, Contains, refl, sym, ◌∙◌, ap, ap₂, subst, arith, append-nil}
 use Rattle.std.proofs.lemmas.List.Elements.{filter_map-append, All-from_recursion, recursion_from_All, All-contains}
+use Rattle.exam_lists.proofs.Each.{each_weaker}
 use Rattle.exam_model.specs.Enrolments.{Enrolled, AreEnrolments, students}
 use Rattle.exam_model.specs.Fits.{Fits, PlaceExists}
 use Rattle.exam_model.specs.Instance.{Session, IsInstance}
@@ -11,7 +12,6 @@ use Rattle.exam_model.specs.Pairs.{Pair, pairs_at, pairs_of}
 use Rattle.exam_model.specs.Timetable.{Placing, place_of}
 use Rattle.exam_model.specs.declared.parts.Room.{Room}
 use Rattle.exam_terms.specs.declared.place.Place.{Place}
-use Rattle.exam_model.proofs.SumLemmas.{each_weaker}
 use Rattle.exam_publish.specs.declared.entrants.Entrant.{Entrant}
 use Rattle.exam_publish.specs.declared.seat_row.SeatRow.{SeatRow}
 use Rattle.exam_publish.specs.Seating.{EntrantExists, KeepsOwnPlace, KeepsSmallSeat}

@@ -5,8 +5,8 @@ use Rattle.std.specs.Prelude.{nat_eq}
 use Rattle.std.proofs.lemmas.List.Elements.{All-from_recursion, recursion_from_All}
 use Rattle.std.proofs.lemmas.List.Folds.{Any-from_list_any, list_any_at}
 use Rattle.std.proofs.lemmas.List.Kept.{AllPairs-cons, Contains-dedup_nat, Contains-from_dedup}
+use Rattle.exam_lists.proofs.Chains.{IsChain}
 use Rattle.exam_model.specs.Enrolments.{IsAscending, has_number}
-use Rattle.exam_model.proofs.SumLemmas.{IsChain}
 use Rattle.exam_model.proofs.SameSet.{same_list}
 use Rattle.exam_model.proofs.StudentLemmas.{ascending-none, ascending-with, has-with}
 use Rattle.exam_publish.specs.Changed.{sorted_numbers}

@@ -2,6 +2,7 @@
 use Rattle.std.specs.List.{list_any}
 use Rattle.std.proofs.Common.{◌≡◌, List, length, None, sym, ◌∙◌, ap, arith}
 use Rattle.std.proofs.lemmas.List.FromFn.{length-map-range_with_len}
+use Rattle.exam_lists.proofs.Chains.{chain_from_index}
 use Rattle.exam_model.specs.Enrolments.{Enrolled, AreEnrolments}
 use Rattle.exam_model.specs.Fits.{Fits}
 use Rattle.exam_model.specs.Instance.{Session, IsInstance}
@@ -9,7 +10,6 @@ use Rattle.exam_model.specs.Pairs.{pairs_of, is_pair}
 use Rattle.exam_model.specs.Timetable.{Placing}
 use Rattle.exam_model.proofs.PairLemmas.{are_pairs}
 use Rattle.exam_model.proofs.SameSet.{same_set}
-use Rattle.exam_model.proofs.SumLemmas.{chain_from_index}
 use Rattle.exam_publish.specs.declared.seat_row.SeatRow.{SeatRow}
 use Rattle.exam_publish.specs.Permit.{publish_refusal}
 use Rattle.exam_publish.specs.Rows.{RowBefore, students_in, enrolled_in}

@@ -8,6 +8,9 @@ use Rattle.std.proofs.lemmas.Option.{none-some}
 use Rattle.std.proofs.lemmas.List.{length-map, get_or_default}
 use Rattle.std.proofs.lemmas.List.Elements.{All-from_recursion, recursion_from_All, All-contains_itself, All-contains}
 use Rattle.std.proofs.lemmas.List.Sums.{sum_by-cons}
+use Rattle.exam_lists.proofs.Chains.{IsChain, chain_from_index, chain_weaker}
+use Rattle.exam_lists.proofs.Each.{each_weaker}
+use Rattle.exam_lists.proofs.Sums.{cond-sum_by, sum_by-agree}
 use Rattle.exam_model.specs.Instance.{Session}
 use Rattle.exam_model.specs.Enrolments.{Enrolled, AreEnrolments, has_number}
 use Rattle.exam_model.specs.Fits.{Fits, PlaceExists}
@@ -17,7 +20,7 @@ use Rattle.exam_model.specs.Timetable.{Placing, place_of}
 use Rattle.exam_terms.specs.declared.place.Place.{Place}
 use Rattle.exam_model.specs.declared.parts.Room.{Room}
 use Rattle.exam_model.proofs.PairLemmas.{are_pairs}
-use Rattle.exam_model.proofs.SumLemmas.{IsChain, chain_from_index, chain_weaker, each_weaker, sum_by-agree, sum_below-same, sum_below-turned, sum_below-at, cond-sum_by}
+use Rattle.exam_model.proofs.SumLemmas.{sum_below-same, sum_below-turned, sum_below-at}
 use Rattle.exam_rules.specs.declared.breach.Breach.{Breach}
 use Rattle.exam_rules.specs.declared.breach.BreachRule.TheVariants.{Capacity}
 use Rattle.exam_rules.specs.Breaches.{breaches_of}

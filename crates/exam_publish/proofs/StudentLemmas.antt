@@ -9,11 +9,12 @@ use Rattle.std.proofs.lemmas.List.{get_or-take, get_or-drop, length-map, length-
 use Rattle.std.proofs.lemmas.List.Elements.{filter-append, filter_agree, recursion_from_All}
 use Rattle.std.proofs.lemmas.List.Folds.{list_any-append}
 use Rattle.std.proofs.lemmas.List.Sorted.{list_any-IsPermutation, IsNonDecreasingBy-from_sort}
+use Rattle.exam_lists.proofs.Chains.{IsChain, chain_from_index}
+use Rattle.exam_lists.proofs.Each.{each_weaker}
 use Rattle.exam_model.specs.Changes.{with_student}
 use Rattle.exam_model.specs.Enrolments.{has_number}
 use Rattle.exam_model.specs.Instance.{Session}
 use Rattle.exam_model.specs.Timetable.{Placing}
-use Rattle.exam_model.proofs.SumLemmas.{IsChain, chain_from_index, each_weaker}
 use Rattle.exam_model.proofs.SameSet.{same_list}
 use Rattle.exam_model.proofs.StudentLemmas.{each_with, with_cases}
 use Rattle.exam_score.specs.Penalty.{PersonalPenalty}

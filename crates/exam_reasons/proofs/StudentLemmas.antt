@@ -15,13 +15,14 @@ use Rattle.exam_model.specs.Instance.{Session}
 use Rattle.exam_model.specs.PairCost.{cost_between}
 use Rattle.exam_model.specs.Pairs.{Pair, pairs_at, pairs_from, pairs_of}
 use Rattle.exam_model.specs.Timetable.{Placing}
-use Rattle.exam_model.proofs.PairLemmas.{are_pairs, or-false}
+use Rattle.exam_model.proofs.PairLemmas.{are_pairs}
 use Rattle.exam_model.proofs.SameSet.{first_once, tail_ascends}
 use Rattle.exam_score.specs.Kinds.{by_kind, cost_in}
 use Rattle.exam_score.specs.Regrouping.{AreStudentsOf, candidate_cost, exams_of, pair_part, periods_of}
 use Rattle.exam_score.specs.Track.{pair_parts}
 use Rattle.exam_score.proofs.RegroupingLemmas.{regrouped_by_students}
 use Rattle.std.specs.List.{filter_map}
+use Rattle.std.proofs.Math.Bool.{or-false}
 use Rattle.exam_reasons.specs.Lists.{all_below, listed}
 use Rattle.exam_reasons.specs.Reasons.{kind_of, pair_reason, pair_reasons}
 use Rattle.exam_reasons.specs.Students.{AreOwn, OwnReasonsAddUp, own_enrolments, own_reason, own_reasons, own_share, own_students}

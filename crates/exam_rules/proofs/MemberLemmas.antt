@@ -6,7 +6,7 @@ use Rattle.std.proofs.Common.{◌≡◌, ℕ, zero, suc, ◌+◌, Bool, true, fa
 use Rattle.std.proofs.lemmas.Bool.{and_parts, and_from}
 use Rattle.std.proofs.lemmas.Bool.Decides.{nat_tests}
 use Rattle.std.proofs.lemmas.List.Folds.{list_any-append, Any-from_list_any, list_any_at}
-use Rattle.exam_model.proofs.PairLemmas.{any_map}
+use Rattle.exam_lists.proofs.Tests.{any_map}
 use Rattle.exam_rules.specs.Breach.{pair, is_pair}
 use Rattle.exam_rules.specs.declared.exam_pair.ExamPair.{ExamPair}
 

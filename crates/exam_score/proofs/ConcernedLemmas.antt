@@ -15,7 +15,6 @@ use Rattle.exam_model.specs.Sitters.{is_sitter, pair_of}
 use Rattle.exam_model.specs.declared.sitter.Sitter.{Sitter}
 use Rattle.exam_model.proofs.ConflictLemmas.{each_mapped}
 use Rattle.exam_model.proofs.PairLemmas.{are_pairs}
-use Rattle.exam_model.proofs.SumLemmas.{IsChain, chain_from_index, each_weaker, sum_by-none}
 use Rattle.exam_score.specs.Concerned.{IsSooner}
 use Rattle.exam_model.specs.Fits.{Fits}
 use Rattle.exam_model.specs.Instance.{Session}
@@ -26,6 +25,9 @@ use Rattle.exam_score.specs.Front.{AreSizes}
 use Rattle.exam_score.specs.Penalty.{Penalty}
 use Rattle.exam_score.specs.Track.{track}
 use Rattle.std.specs.Prelude.{IsSome, unwrap_or}
+use Rattle.exam_lists.proofs.Chains.{IsChain, chain_from_index}
+use Rattle.exam_lists.proofs.Each.{each_weaker}
+use Rattle.exam_lists.proofs.Sums.{sum_by-none}
 use Rattle.exam_score.specs.Folds.{CanFollow, ComesEarlier, Folded, IsFoldOf, RepresentsPairs}
 use Rattle.exam_score.proofs.FoldLemmas.{index_from_chain, map_push}
 

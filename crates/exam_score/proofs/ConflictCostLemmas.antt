@@ -5,6 +5,7 @@ use Rattle.std.proofs.Math.Nat.{mul_comm}
 use Rattle.std.proofs.lemmas.Bool.{cases_lt}
 use Rattle.std.proofs.lemmas.Option.{slice_get-get_or}
 use Rattle.std.proofs.lemmas.List.Sums.{sum_by_more}
+use Rattle.exam_lists.proofs.Sums.{sum_by-same, sum_by-zeros}
 use Rattle.exam_model.specs.Conflicts.{conflicts_of}
 use Rattle.exam_model.specs.Enrolments.{Enrolled, AreEnrolments}
 use Rattle.exam_model.specs.Fits.{period_of}
@@ -14,7 +15,6 @@ use Rattle.exam_terms.specs.declared.place.Place.{Place}
 use Rattle.exam_model.specs.declared.conflicts.Conflict.{Conflict}
 use Rattle.exam_model.proofs.ConflictLemmas.{conflicts_exist, sum_of_conflicts}
 use Rattle.exam_model.proofs.PlaceLemmas.{number_at}
-use Rattle.exam_model.proofs.SumLemmas.{sum_by-same, sum_by-zeros}
 use Rattle.exam_model.specs.Instance.{Session, IsInstance}
 use Rattle.exam_score.specs.Kinds.{TableKind, in_table, over_night, cost_in, table_cost, table_amount, by_table, with_night}
 use Rattle.exam_score.specs.PairSums.{ArePairParts}

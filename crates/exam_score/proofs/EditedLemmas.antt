@@ -3,11 +3,11 @@ use Rattle.std.specs.Prelude.{nat_le}
 use Rattle.std.proofs.Common.{◌≡◌, ℕ, ◌+◌, Bool, true, false, cond, ◌&&◌, ◌||◌, List, [], ◌∷◌, sum_by, Option, Some, None, refl, sym, ◌∙◌, ap, arith}
 use Rattle.std.proofs.lemmas.Bool.Decides.{nat_tests}
 use Rattle.std.proofs.lemmas.List.Sums.{sum_by-cons}
+use Rattle.exam_lists.proofs.Sums.{cond-sum_by, sum_by-add, sum_by-same}
 use Rattle.exam_model.specs.Fits.{period_of}
 use Rattle.exam_model.specs.PairCost.{cost_between}
 use Rattle.exam_model.specs.Sums.{sum_pairs}
 use Rattle.exam_model.specs.Timetable.{Placing}
-use Rattle.exam_model.proofs.SumLemmas.{cond-sum_by, sum_by-same, sum_by-add}
 use Rattle.exam_model.specs.Enrolments.{has_number}
 use Rattle.exam_score.specs.EditedCosts.{cost_at, edited_cost, exams_cost}
 

@@ -4,6 +4,9 @@ use Rattle.std.proofs.Common.{◌≡◌, ℕ, zero, suc, ◌+◌, ◌-◌, ◌*�
 use Rattle.std.specs.Prelude.{nat_lt, slice_get}
 use Rattle.std.proofs.lemmas.Bool.{cond-false, or_parts}
 use Rattle.std.proofs.lemmas.List.Filters.{sum_by-filter_both}
+use Rattle.exam_lists.proofs.Chains.{IsChain}
+use Rattle.exam_lists.proofs.Each.{each_weaker}
+use Rattle.exam_lists.proofs.Sums.{sum_by-add, sum_by-none, sum_by-same}
 use Rattle.exam_terms.specs.declared.place.Place.{Place}
 use Rattle.exam_model.specs.Enrolments.{Enrolled, AreEnrolments, has, has_number}
 use Rattle.exam_model.specs.Fits.{period_of}
@@ -13,7 +16,7 @@ use Rattle.exam_model.specs.Pairs.{Pair, is_pair, pairs_of}
 use Rattle.exam_model.specs.Sums.{sum_below, sum_pairs}
 use Rattle.exam_model.specs.Timetable.{Placing, place_of}
 use Rattle.exam_model.proofs.PairLemmas.{are_pairs}
-use Rattle.exam_model.proofs.SumLemmas.{IsChain, sum_by-none, sum_pairs-agree, sum_pairs-IsPermutation, each_weaker, sum_by-add, sum_by-same, sum_below-same, sum_below-within, sum_below-add}
+use Rattle.exam_model.proofs.SumLemmas.{sum_pairs-agree, sum_pairs-IsPermutation, sum_below-same, sum_below-within, sum_below-add}
 use Rattle.exam_score.specs.Changes.{DiffersAtMost}
 use Rattle.exam_score.specs.CostOrder.{kind_cost-swap, kind_cost-none}
 use Rattle.exam_score.specs.Exchanges.{CannotExchange, IsExchanged, IsOfEdit, new_amounts, old_amounts, pairs_concerned, sits_among}

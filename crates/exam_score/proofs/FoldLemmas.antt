@@ -3,11 +3,13 @@ use Rattle.std.specs.List.{AllByRecursion}
 use Rattle.std.proofs.Common.{◌≡◌, ◌≢◌, ℕ, zero, suc, ◌+◌, ◌<◌, inl, inr, cond, List, [], ◌∷◌, ◌++◌, length, map, sum_by, Option, Some, None, All, AllPairs, refl, sym, ◌∙◌, ap, ap₂, subst, arith, ne_eqb, eq-eqb, append_assoc, length-append, zero-add}
 use Rattle.std.proofs.lemmas.List.Elements.{All-from_recursion, recursion_from_All}
 use Rattle.std.proofs.lemmas.List.Sums.{sum_by-append, sum_by-cons}
+use Rattle.exam_lists.proofs.Chains.{IsChain, chain_from_index}
+use Rattle.exam_lists.proofs.Each.{each_weaker}
+use Rattle.exam_lists.proofs.Sums.{sum_by-none}
 use Rattle.exam_model.specs.Instance.{Session}
 use Rattle.exam_model.specs.Pairs.{Pair}
 use Rattle.exam_model.specs.Sums.{sum_pairs}
 use Rattle.exam_model.specs.Timetable.{Placing}
-use Rattle.exam_model.proofs.SumLemmas.{IsChain, chain_from_index, sum_by-none, each_weaker}
 use Rattle.exam_score.specs.Kinds.{cost_in, by_kind}
 use Rattle.exam_score.specs.Folds.{Folded, RepresentsPairs, CanFollow, ComesEarlier, pairs_sat}
 use Rattle.exam_score.specs.EditedCosts.{edited_cost, exams_cost, personal_at, personal_sum, students_cost}

@@ -10,13 +10,16 @@ use Rattle.std.proofs.lemmas.List.Elements.{recursion_from_All}
 use Rattle.std.proofs.lemmas.List.Sums.{sum_by-cons, sum_by_push}
 use Rattle.std.proofs.lemmas.Option.{get_or_from_slice_get}
 use Rattle.std.proofs.lemmas.List.Sorted.{sorted_far, ranks_by, sum_by-IsPermutation, All-permutation}
+use Rattle.exam_lists.proofs.Chains.{IsChain, chain_from_index}
+use Rattle.exam_lists.proofs.Each.{each_weaker}
+use Rattle.exam_lists.proofs.Sums.{sum_by-none}
 use Rattle.exam_model.specs.Instance.{Session, IsInstance}
 use Rattle.exam_model.specs.Timetable.{Placing, place_of}
 use Rattle.exam_model.specs.Fits.{PlaceExists, Suits}
 use Rattle.exam_model.specs.Sums.{sum_below, count_below}
 use Rattle.exam_model.specs.declared.parts.Exam.{Exam}
 use Rattle.exam_terms.specs.declared.place.Place.{Place}
-use Rattle.exam_model.proofs.SumLemmas.{IsChain, chain_from_index, each_weaker, sum_by-none, sum_below-same, sum_below-zeros, sum_below-add, sum_below-times, sum_below-at, sum_below_more}
+use Rattle.exam_model.proofs.SumLemmas.{sum_below-same, sum_below-zeros, sum_below-add, sum_below-times, sum_below-at, sum_below_more}
 use Rattle.exam_score.specs.MixedDurations.{duration_count, minutes_of, is_at, has_duration, exams_with_duration, mixed_part}
 use Rattle.exam_score.specs.Stays.{is_stay, StayExists, AreStays, NotAfter, next_differs, further_durations}
 use Rattle.exam_score.specs.declared.mixed.Stay.{Stay}

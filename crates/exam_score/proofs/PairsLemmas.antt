@@ -4,6 +4,7 @@ use Rattle.std.proofs.Common.{◌≡◌, ℕ, ◌+◌, ◌*◌, ◌≤◌, cond,
 use Rattle.std.proofs.Math.Nat.{mul_comm, mul_assoc}
 use Rattle.std.proofs.lemmas.List.Sums.{sum_by-cons}
 use Rattle.std.proofs.lemmas.Bool.Decides.{nat_tests}
+use Rattle.exam_lists.proofs.Sums.{sum_by-same, sum_by-times, sum_by-zeros}
 use Rattle.exam_model.specs.Enrolments.{Enrolled, AreEnrolments, students, size_of}
 use Rattle.exam_model.specs.Instance.{Session, IsInstance}
 use Rattle.exam_model.specs.PairCost.{cost_between}
@@ -12,7 +13,7 @@ use Rattle.exam_model.specs.Sums.{sum_pairs, sum_below}
 use Rattle.exam_model.specs.Timetable.{Placing}
 use Rattle.exam_model.specs.Fits.{period_of}
 use Rattle.exam_model.proofs.PairLemmas.{are_pairs}
-use Rattle.exam_model.proofs.SumLemmas.{sum_by-same, sum_by-times, sum_by-zeros, sum_pairs-twice}
+use Rattle.exam_model.proofs.SumLemmas.{sum_pairs-twice}
 use Rattle.exam_score.specs.CostOrder.{kind_cost-swap, kind_cost-none}
 use Rattle.exam_score.specs.Kinds.{TableKind, Kind, over_night, cost_in, table_cost, table_amount, with_night, amount}
 use Rattle.exam_score.specs.PairSums.{ArePairParts}

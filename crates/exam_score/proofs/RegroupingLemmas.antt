@@ -6,13 +6,17 @@ use Rattle.std.proofs.lemmas.List.Sums.{sum_by-cons}
 use Rattle.std.proofs.lemmas.List.Elements.{recursion_from_All}
 use Rattle.std.proofs.lemmas.Bool.{cond-true, cond-false, and_parts}
 use Rattle.std.proofs.lemmas.Bool.Decides.{nat_tests}
+use Rattle.exam_lists.proofs.Booleans.{cond_and_times}
+use Rattle.exam_lists.proofs.Chains.{IsChain, chain_from_index, chain_weaker}
+use Rattle.exam_lists.proofs.Each.{each_weaker}
+use Rattle.exam_lists.proofs.Sums.{cond-sum_by, sum_by-add, sum_by-agree, sum_by-once, sum_by-same, sum_by-times, sum_by-zeros}
 use Rattle.exam_model.specs.Sums.{sum_below, sum_pairs_below, sum_pairs}
 use Rattle.exam_model.specs.Enrolments.{Enrolled, shared_students, students}
 use Rattle.exam_model.specs.PairCost.{cost_between}
 use Rattle.exam_model.specs.Pairs.{Pair, pairs_of, is_pair, ComesBefore, ArePairsOf}
 use Rattle.exam_score.specs.Regrouping.{pair_part, exams_of, periods_of, candidate_cost, AreStudentsOf}
 use Rattle.exam_model.proofs.PairLemmas.{from_within}
-use Rattle.exam_model.proofs.SumLemmas.{IsChain, chain_from_index, sum_by-same, sum_by-agree, sum_by-zeros, sum_by-add, sum_by-times, sum_below-same, sum_below-turned, sum_below-at, cond-sum_by, cond_and, sum_by-once, sum_pairs-square, sum_pairs-agree, each_weaker, chain_weaker}
+use Rattle.exam_model.proofs.SumLemmas.{sum_below-same, sum_below-turned, sum_below-at, sum_pairs-square, sum_pairs-agree}
 
 -- ---- definitions
 
@@ -58,7 +62,7 @@ shared_as_pairs w pairs e f order =
     sym (sum_by-times
     (λ p. cond (eqb p.exam e && list_any (is_pair p.student f) pairs) 1 0) w pairs)
     ∙ sum_by-same _ _ (λ p.
-    cond_and (eqb p.exam e) (list_any (is_pair p.student f) pairs) w
+    cond_and_times (eqb p.exam e) (list_any (is_pair p.student f) pairs) w
     ∙ ap (λ n. cond (eqb p.exam e) n 0)
     (sum_by-once (is_pair p.student f) w pairs
     (chain_weaker ComesBefore _ (λ a b. other_pair p.student f a b) pairs order))

@@ -7,6 +7,9 @@ use Rattle.std.proofs.lemmas.List.{map-append}
 use Rattle.std.proofs.lemmas.List.Elements.{filter-append, filter_map-append}
 use Rattle.std.proofs.lemmas.List.Folds.{list_any-append}
 use Rattle.std.proofs.lemmas.List.Sums.{sum_by-cons}
+use Rattle.exam_lists.proofs.Chains.{IsChain}
+use Rattle.exam_lists.proofs.Each.{each_weaker}
+use Rattle.exam_lists.proofs.Sums.{sum_by-same}
 use Rattle.exam_model.specs.Enrolments.{Enrolled, AreEnrolments, IsAscending, has, has_number, students}
 use Rattle.exam_model.specs.Fits.{Fits, period_of}
 use Rattle.exam_model.specs.Instance.{Session, IsInstance}
@@ -14,7 +17,6 @@ use Rattle.exam_model.specs.PairCost.{cost_between}
 use Rattle.exam_model.specs.Pairs.{Pair, pairs_at, pairs_from, pairs_of}
 use Rattle.exam_model.specs.Timetable.{Placing}
 use Rattle.exam_model.proofs.PairLemmas.{are_pairs}
-use Rattle.exam_model.proofs.SumLemmas.{IsChain, each_weaker, sum_by-same}
 use Rattle.exam_score.specs.Kinds.{Kind, cost_in, amount, by_kind}
 use Rattle.exam_score.specs.Exchanges.{IsExchanged}
 use Rattle.exam_score.specs.Penalty.{Penalty, PersonalPenalty, personal_total, penalty_sum}

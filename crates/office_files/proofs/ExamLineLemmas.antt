@@ -9,10 +9,11 @@ use Rattle.std.specs.Ordering.{nat_cmp}
 use Rattle.std.proofs.lemmas.Bool.{eqb-true, eqb-false, or_parts, cases_lt}
 use Rattle.std.proofs.lemmas.List.Sorted.{list_any-IsPermutation}
 use Rattle.std.proofs.lemmas.Map.Keys.{IsStrictlyIncreasing-dedup}
+use Rattle.std.proofs.Math.Bool.{or_self_left}
 use Rattle.exam_model.specs.Enrolments.{IsAscending, has_number}
 use Rattle.exam_model.specs.Changes.{with_student}
 use Rattle.exam_model.proofs.SameSet.{same_list}
-use Rattle.exam_model.proofs.StudentLemmas.{or_twice, with_cases, has-with, ascending-none, ascending-with}
+use Rattle.exam_model.proofs.StudentLemmas.{with_cases, has-with, ascending-none, ascending-with}
 use Rattle.office_files.specs.ExamStudents.{with_students}
 
 or-false : (a : Bool) → (a || false) ≡ a
@@ -120,7 +121,7 @@ has-dedup (x ∷ xs) t = from x xs
         elim (nat_eq y x) as (λ b. nat_eq y x ≡ b →
         has_number (cond b repeated new) t ≡ ((x == t) || ((y == t) || has_number ys t))) [
           | true ↦ λ e.
-              from x ys ∙ rw (eqb-true y x e) (or_twice (x == t) (has_number ys t))
+              from x ys ∙ rw (eqb-true y x e) (sym (or_self_left (x == t) (has_number ys t)))
           | false ↦ λ e. ap (λ b. (x == t) || b) (from y ys)
         ] refl
 

@@ -12,8 +12,8 @@ use Rattle.std.proofs.lemmas.List.{take_more}
 use Rattle.std.proofs.lemmas.List.Elements.{All-push}
 use Rattle.std.proofs.lemmas.List.Sorted.{IsPermutation-sym}
 use Rattle.std.proofs.lemmas.Map.Keys.{IsDistinct-IsPermutation}
+use Rattle.exam_lists.proofs.Chains.{IsChain, chain_from_index}
 use Rattle.sqlite_trees.proofs.ListLemmas.{all_weaker}
-use Rattle.exam_model.proofs.SumLemmas.{IsChain, chain_from_index}
 use Rattle.exam_publish.specs.declared.seat_row.SeatRow.{SeatRow}
 use Rattle.exam_publish.specs.Rows.{RowBefore, RowsInOrder, is_pair_before, row_pair}
 use Rattle.exam_publish.specs.Seats.{HaveOwnSeats}

@@ -5,12 +5,12 @@ use Rattle.std.proofs.lemmas.List.Elements.{All-from_recursion, recursion_from_A
 use Rattle.std.proofs.lemmas.List.FromFn.{length-map-range_with_len}
 use Rattle.std.proofs.lemmas.List.Sorted.{IsPermutation-refl, IsPermutation-sym, IsPermutation-trans}
 use Rattle.std.proofs.lemmas.Option.{none-some}
+use Rattle.exam_lists.proofs.Chains.{chain_from_index}
 use Rattle.sqlite_trees.proofs.ListLemmas.{map-map}
 use Rattle.exam_model.specs.Enrolments.{Enrolled, AreEnrolments}
 use Rattle.exam_model.specs.Instance.{Session}
 use Rattle.exam_model.specs.Pairs.{pairs_of}
 use Rattle.exam_model.specs.Timetable.{Placing}
-use Rattle.exam_model.proofs.SumLemmas.{chain_from_index}
 use Rattle.exam_publish.specs.Permit.{RefusesPublication, first_unplaced, least_breach, publish_fault, publish_refusal}
 use Rattle.exam_publish.specs.Rows.{AreNumbered, ArePublishedRows, RowBefore, row_pair, enrolled_in, students_in}
 use Rattle.exam_publish.specs.Seats.{AreSeated}

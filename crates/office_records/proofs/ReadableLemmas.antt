@@ -10,6 +10,7 @@ use Rattle.std.proofs.lemmas.List.Sorted.{IsPermutation-sym}
 use Rattle.std.proofs.lemmas.List.Elements.{All-from_recursion, recursion_from_All}
 use Rattle.std.proofs.lemmas.List.Folds.{list_any_at}
 use Rattle.std.proofs.lemmas.List.FromFn.{length-map-range_with_len}
+use Rattle.exam_lists.proofs.Chains.{chain_from_index}
 use Rattle.sqlite.specs.Effect.{Database}
 use Rattle.sqlite_trees.proofs.ListLemmas.{all-permutation, all_weaker, all_both, all-map}
 use Rattle.sqlite_trees.proofs.ListLemmas.{all-append, all_from_map, all-slice_get}
@@ -22,7 +23,6 @@ use Rattle.exam_model.specs.Instance.{Session, IsInstance}
 use Rattle.exam_model.specs.Limits.{RoomInLimits}
 use Rattle.exam_model.specs.declared.parts.Room.{Room}
 use Rattle.exam_model.proofs.StudentLemmas.{each_with}
-use Rattle.exam_model.proofs.SumLemmas.{chain_from_index}
 use Rattle.exam_publish.specs.Changed.{sorted_numbers, rows_of, students_of}
 use Rattle.exam_publish.specs.Rows.{AreNumbered, IsAtExam, RowBefore, row_place}
 use Rattle.exam_publish.specs.Seats.{HasSeat, IsSeatOf}

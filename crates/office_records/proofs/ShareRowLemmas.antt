@@ -4,9 +4,9 @@ use Rattle.std.specs.List.{AllByRecursion}
 use Rattle.std.specs.List.Sorted.{IsSortedByKey}
 use Rattle.std.specs.Prelude.{IsPermutation}
 use Rattle.std.proofs.lemmas.List.{get_or-map, length-map}
+use Rattle.exam_lists.proofs.Chains.{IsChain}
 use Rattle.sqlite_keyed.proofs.ListLemmas.{ascending-map}
 use Rattle.exam_model.specs.Enrolments.{IsAscending}
-use Rattle.exam_model.proofs.SumLemmas.{IsChain}
 use Rattle.exam_publish.proofs.ListLemmas.{chain_from_ascending}
 use Rattle.exam_score.specs.Penalty.{PersonalPenalty}
 use Rattle.office_tables.specs.declared.share_student.StudentShareRow.{StudentShareRow}

@@ -6,11 +6,12 @@ use Rattle.std.proofs.lemmas.List.{get_or-take, get_or_default, length-map, take
 use Rattle.std.proofs.lemmas.List.Elements.{All-from_recursion, filter_agree, recursion_from_All}
 use Rattle.std.proofs.lemmas.List.Folds.{list_any-append}
 use Rattle.std.proofs.lemmas.List.Sorted.{IsPermutation-append_left, IsPermutation-append_right, IsPermutation-cons, IsPermutation-refl, IsPermutation-sym, IsPermutation-to_front, IsPermutation-trans, length_permutation}
+use Rattle.exam_lists.proofs.Chains.{IsChain}
+use Rattle.exam_lists.proofs.Each.{each_weaker}
 use Rattle.exam_model.specs.Changes.{exams_sat}
 use Rattle.exam_model.specs.Enrolments.{AreEnrolments, Enrolled, IsAscending, has, has_number, students}
 use Rattle.exam_model.specs.Pairs.{Pair, pairs_of}
 use Rattle.exam_model.proofs.PairLemmas.{are_pairs}
-use Rattle.exam_model.proofs.SumLemmas.{IsChain, each_weaker}
 use Rattle.exam_publish.proofs.ListLemmas.{chain_from_ascending, has_ascending}
 use Rattle.exam_score.specs.Exchanges.{pairs_concerned, sits_among}
 use Rattle.exam_score.specs.Folds.{CanFollow, ComesEarlier, Folded, RepresentsPairs, pairs_sat}

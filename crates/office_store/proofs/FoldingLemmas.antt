@@ -6,6 +6,8 @@ use Rattle.std.specs.List.{AllByRecursion, IsAllAdjacentAnswer, flat_map}
 use Rattle.std.proofs.lemmas.Bool.Decides.{nat_tests}
 use Rattle.std.proofs.lemmas.List.{append-nil, length-map}
 use Rattle.std.proofs.lemmas.List.Elements.{All-from_recursion, recursion_from_All}
+use Rattle.exam_lists.proofs.Chains.{IsChain}
+use Rattle.exam_lists.proofs.Each.{each_weaker}
 use Rattle.sqlite.specs.Held.{Held, state}
 use Rattle.sqlite.specs.State.{HasCleanDisk, IsUnchanged}
 use Rattle.sqlite.specs.Store.{Ghosts}
@@ -16,7 +18,6 @@ use Rattle.exam_model.specs.Timetable.{Placing}
 use Rattle.sqlite_trees.proofs.ListLemmas.{all-filter}
 use Rattle.sqlite_trees.specs.Tree as tree
 use Rattle.exam_model.specs.Pairs.{Pair}
-use Rattle.exam_model.proofs.SumLemmas.{IsChain, each_weaker}
 use Rattle.exam_publish.proofs.ListLemmas.{ascending_from_chain, ascends, chain_from_ascending, index_from_chain}
 use Rattle.exam_score.specs.Exchanges.{IsOfEdit, pairs_concerned}
 use Rattle.exam_score.specs.Folds.{Folded, IsFoldOf, RepresentsPairs, pairs_sat}

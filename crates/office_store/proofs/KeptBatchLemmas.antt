@@ -6,8 +6,8 @@ use Rattle.std.specs.List.{AllByRecursion}
 use Rattle.std.specs.Prelude.{IsPermutation, ◌&&◌, nat_eq, not, option_to_list}
 use Rattle.std.proofs.lemmas.Bool.Decides.{nat_tests}
 use Rattle.std.proofs.lemmas.List.Sorted.{IsPermutation-sym}
+use Rattle.exam_lists.proofs.Chains.{IsChain, chain_from_index}
 use Rattle.sqlite_trees.proofs.ListLemmas.{IsPermutation-filter, filter-map}
-use Rattle.exam_model.proofs.SumLemmas.{IsChain, chain_from_index}
 use Rattle.office_tables.specs.Batch.{batch_from}
 use Rattle.office_tables.specs.Tables.{Batch, Tables}
 use Rattle.office_tables.specs.declared.batch.BatchRow.{BatchRow}

@@ -17,7 +17,6 @@ use Rattle.exam_model.specs.Enrolments.{AreEnrolments, Enrolled, has, has_number
 use Rattle.exam_model.specs.Enrolments as rising
 use Rattle.exam_model.specs.Pairs.{Pair, pairs_at, pairs_from, pairs_of}
 use Rattle.exam_model.specs.Timetable.{Placing, place_of}
-use Rattle.exam_model.proofs.SumLemmas.{IsChain}
 use Rattle.exam_publish.proofs.ListLemmas.{chain_from_ascending}
 use Rattle.office_tables.specs.Enrol.{StudentEnrolsRise}
 use Rattle.office_tables.specs.Selections.{IsInOrder}
@@ -36,9 +35,9 @@ use Rattle.office_store.specs.Viewing.{exams_in, candidate_enrol_row, place_in_r
 use Rattle.std.specs.Prelude.{◌^◌, All}
 use Rattle.std.proofs.Common.{inl, inr}
 use Rattle.std.proofs.lemmas.List.Elements.{All-from_recursion, recursion_from_All}
+use Rattle.exam_lists.proofs.Chains.{IsChain, chain_from_index}
 use Rattle.sqlite_trees.proofs.ListLemmas.{all-filter, all_from_map, filter-map, map-map}
 use Rattle.exam_model.specs.Instance.{Session}
-use Rattle.exam_model.proofs.SumLemmas.{chain_from_index}
 use Rattle.exam_score.specs.Folds.{pairs_sat}
 use Rattle.exam_score.specs.Penalty.{PersonalPenalty, personal_total}
 use Rattle.exam_publish.specs.AddUp.{AreSmall}

@@ -1,11 +1,11 @@
 use Rattle.std.proofs.Common.{◌∙◌, length, ap, arith, [], inl, inr, sum_by, count_by}
 use Rattle.std.proofs.lemmas.Bool.{cases_lt}
 use Rattle.std.proofs.lemmas.List.{get_or_past, get_or_read}
+use Rattle.exam_lists.proofs.Sums.{sum_by-same, sum_by-zeros}
 use Rattle.exam_model.specs.Links.{is_link}
 use Rattle.exam_model.specs.Enrolments.{students}
 use Rattle.exam_model.proofs.ConflictLemmas.{shared_by_sitters}
 use Rattle.exam_model.proofs.LinkLemmas.{links_counted, links_exist, links_none, links_once}
-use Rattle.exam_model.proofs.SumLemmas.{sum_by-same, sum_by-zeros}
 use Rattle.exam_model.proofs.conflicts.count_shared.Goals as goal
 
 pub count_all-requires-clause-exist : goal.count_all-requires-clause-exist

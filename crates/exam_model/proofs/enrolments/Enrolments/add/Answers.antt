@@ -1,6 +1,8 @@
 use Rattle.std.proofs.Common.{◌≡◌, ◌∙◌, ◌<◌, false, sym, arith}
+use Rattle.exam_lists.proofs.Booleans.{false_from_not, true_from_not}
+use Rattle.exam_lists.proofs.Results.{OnErr_any}
 use Rattle.exam_model.specs.Enrolments.{has_number}
-use Rattle.exam_model.proofs.CountLemmas.{set_again, counted_again, one_more_fits, new_absent, old_present, is_has, full_refuses, adds_entered, pair_entered, counted_new, counted_old, on_err}
+use Rattle.exam_model.proofs.CountLemmas.{set_again, counted_again, one_more_fits, is_has, full_refuses, adds_entered, pair_entered, counted_new, counted_old}
 use Rattle.exam_model.proofs.enrolments.Enrolments.add.Goals.{else-full-via-then-full+else-not-has, else-full-via-else-full}
 use Rattle.exam_model.proofs.enrolments.Enrolments.add.Goals as goal
 
@@ -46,7 +48,7 @@ invariant_of-self-in_err-fresh c = (
 
 pub returns-in_err-fresh-clause-err : goal.returns-in_err-fresh-clause-err
 returns-in_err-fresh-clause-err c =
-    on_err c.from_residual.result
+    OnErr_any c.from_residual.result
     (rw c.in_err-fresh.ensures.err
     (set_again c.self.inside.rolls.items c.get.result c.in-Some.roll.now
     c.in-Some.ensures.item.3.0 c.in-Some.ensures.value)
@@ -62,7 +64,7 @@ overflow_add-self c = one_more_fits c.self.inside.rolls.items c.self.inside.pair
 pub invariant_of-self-then-fresh : goal.invariant_of-self-then-fresh
 invariant_of-self-then-fresh c =
     let absent : has_number c.in-Some.roll.now c.args.student ≡ false =
-    new_absent c.in_ok-fresh.fresh _ c.in_ok-fresh.ensures.fresh c.if-fresh.true in
+    false_from_not c.in_ok-fresh.fresh _ c.in_ok-fresh.ensures.fresh c.if-fresh.true in
     let room : c.self.inside.pairs < 200000 = elim c.else-full.branch [
       | else-full-via-then-full+else-not-has w ↦
           let present = sym w.has.ensures ∙ w.if-not-has.false in absurd (cc)
@@ -81,7 +83,7 @@ invariant_of-self-else-fresh c = (
       c.in-Some.roll.now c.add.new.self c.in-Some.ensures.item.3.0
       (omega (arith, c.lemma_limit.ensures))
       c.in-Some.ensures.value c.in_ok-fresh.ensures.ok
-      (old_present c.in_ok-fresh.fresh _ c.in_ok-fresh.ensures.fresh c.if-fresh.false)
+      (true_from_not c.in_ok-fresh.fresh _ c.in_ok-fresh.ensures.fresh c.if-fresh.false)
       c.self.invariant.0,
   tt,
 )

@@ -1,5 +1,6 @@
 use Rattle.std.proofs.Common.{◌∙◌, length}
-use Rattle.exam_model.proofs.CountLemmas.{exam_within, set_again, counted_again, counted_filled, more_refuse, none_at, filled_fits, on_err}
+use Rattle.exam_lists.proofs.Results.{OnErr_any}
+use Rattle.exam_model.proofs.CountLemmas.{exam_within, set_again, counted_again, counted_filled, more_refuse, none_at, filled_fits}
 use Rattle.exam_model.proofs.enrolments.Enrolments.enrol.Goals as goal
 
 pub overflow_sub-self-inside : goal.overflow_sub-self-inside
@@ -34,7 +35,7 @@ invariant_of-self c = (
 
 pub returns-in_err-fill-clause-err : goal.returns-in_err-fill-clause-err
 returns-in_err-fill-clause-err c =
-    on_err c.from_residual.result
+    OnErr_any c.from_residual.result
     (rw c.in_err-fill.ensures.err
     (set_again c.self.inside.rolls.items c.get.result c.index_mut.result.now
     (exam_within c.self.view_is c.get.ensures c.requires.exists) c.index_mut.ensures.value)
