@@ -5,6 +5,7 @@ use Rattle.std.proofs.Common.{◌≡◌, ◌≢◌, ◌⊎◌, ℕ, ◌<◌, ◌
 use Rattle.std.proofs.lemmas.Bool.{and_parts, cases_eq, cases_lt, true≢false}
 use Rattle.std.proofs.lemmas.Bool.Decides.{nat_tests}
 use Rattle.std.proofs.lemmas.List.Elements.{All-from_recursion, All-contains}
+use Rattle.exam_lists.proofs.Members.{contains_head, first_or_later, none_in_nil}
 use Rattle.exam_model.specs.Enrolments.{Enrolled}
 use Rattle.exam_model.specs.Instance.{Session}
 use Rattle.exam_model.specs.Timetable.{Placing}
@@ -15,7 +16,6 @@ use Rattle.exam_rules.specs.Breaches.{name_one}
 use Rattle.exam_rules.specs.HardRules.{breaks}
 use Rattle.exam_rules.proofs.EnumerationLemmas.{passing_all, passing_only, passing_sorted}
 use Rattle.exam_rules.proofs.NamingLemmas.{first_of_rule}
-use Rattle.exam_rules.proofs.OrderLemmas.{contains_head, first_or_later, none_in_nil}
 use Rattle.exam_rules.proofs.PlaceLemmas.{breaking_exist}
 use Rattle.exam_places.specs.Breaches.{clash_with, exclusive_breach, keeping_breach, own_breach}
 use Rattle.exam_places.specs.Firsts.{first_below}

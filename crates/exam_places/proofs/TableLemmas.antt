@@ -7,6 +7,7 @@ use Rattle.std.proofs.lemmas.List.Folds.{list_any_more}
 use Rattle.std.proofs.lemmas.Bool.Decides.{nat_tests}
 use Rattle.std.proofs.lemmas.List.{length-set, get_or-set_same, get_or-set_other}
 use Rattle.std.proofs.lemmas.Nat.{same_from_place}
+use Rattle.std.proofs.Math.Bool.{or-false}
 use Rattle.exam_terms.specs.declared.place.Place.{Place}
 use Rattle.exam_model.specs.Enrolments.{size_of}
 use Rattle.exam_model.specs.Fits.{PlaceExists, slot_of}
@@ -16,7 +17,6 @@ use Rattle.exam_model.proofs.PlaceLemmas.{slot_within}
 use Rattle.exam_model.specs.declared.rules.RoomRule.{RoomRule}
 use Rattle.exam_rules.specs.Lines.{is_exclusive}
 use Rattle.exam_rules.specs.Places.{is_one_place, place_satisfies}
-use Rattle.exam_rules.proofs.FindingLemmas.{or_false}
 use Rattle.exam_places.specs.declared.period_table.PeriodEntry.{PeriodEntry}
 use Rattle.exam_places.specs.declared.place_table.PlaceEntry.{PlaceEntry}
 use Rattle.exam_places.specs.declared.unplaced_exam.UnplacedExam.{UnplacedExam}
@@ -198,7 +198,7 @@ keepers_more exams lines i x line flags count exists within is named each f lf =
           get_or-set_other flags x f true false other
           ∙ each f lf
           ∙ sym (more ∙ ap (λ b. list_any (is_exclusive f) (take i lines) || b) missed
-          ∙ or_false (list_any (is_exclusive f) (take i lines))))
+          ∙ or-false (list_any (is_exclusive f) (take i lines))))
     ]
   where
     more : list_any (is_exclusive f) (take (i + 1) lines)

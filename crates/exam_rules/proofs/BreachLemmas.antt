@@ -6,6 +6,9 @@ use Rattle.std.proofs.Common.{◌≡◌, ℕ, ◌+◌, ◌<◌, ◌≤◌, ◌�
 use Rattle.std.proofs.lemmas.Bool.Decides.{nat_tests}
 use Rattle.std.proofs.lemmas.List.{flat_map_more}
 use Rattle.std.proofs.lemmas.List.Elements.{Contains-append_left, Contains-append_right, Contains-append_cases}
+use Rattle.exam_lists.proofs.Each.{each_all, each_append, each_map, each_weaker}
+use Rattle.exam_lists.proofs.Members.{contains_head, contains_later, first_or_later, none_in_nil}
+use Rattle.exam_lists.proofs.Sorted.{sorted_append, sorted_nil}
 use Rattle.exam_model.specs.Instance.{Session}
 use Rattle.exam_model.specs.Enrolments.{Enrolled}
 use Rattle.exam_model.specs.Timetable.{Placing}
@@ -16,19 +19,8 @@ use Rattle.exam_rules.specs.declared.exam_pair.ExamPair.{ExamPair}
 use Rattle.exam_rules.specs.Breach.{all_rules, rank_of, breach_cmp, exam_pair_cmp, pair, breach}
 use Rattle.exam_rules.specs.Breaches.{is_breach, pairs_breaking, breaches_of}
 use Rattle.exam_rules.specs.HardRules.{breaks}
-use Rattle.exam_rules.proofs.OrderLemmas.{contains_head, contains_later, first_or_later, none_in_nil, each_append, each_weaker, sorted_nil, sorted_append}
 use Rattle.exam_rules.proofs.EnumerationLemmas.{passing_sorted, passing_only, passing_all}
 use Rattle.exam_rules.proofs.PlaceLemmas.{breaking_exist}
-
-each_map : {X Y : Type 0} (P : Y → Type 0) (f : X → Y) (xs : List X)
-    → AllByRecursion (λ x. P (f x)) xs
-    → AllByRecursion P (map f xs)
-each_map P f [] h = tt
-each_map P f (x ∷ xs) h = (h.0, each_map P f xs h.1)
-
-each_all : {X : Type 0} (P : X → Type 0) → ((x : X) → P x) → (xs : List X) → AllByRecursion P xs
-each_all P h [] = tt
-each_all P h (x ∷ xs) = (h x, each_all P h xs)
 
 -- ---- the order
 

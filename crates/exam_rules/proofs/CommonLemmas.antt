@@ -1,9 +1,7 @@
 -- A walk along two ascending lists in search of a common element.
 use Rattle.std.specs.List.{list_any}
-use Rattle.std.proofs.Common.{◌≡◌, ℕ, suc, ◌+◌, ◌<◌, Bool, true, false, ◌||◌, nat_lt, if◌then◌else◌, List, [], ◌∷◌, length, count_by, refl, sym, ◌∙◌, ap, ap₂, subst, arith}
+use Rattle.std.proofs.Common.{◌≡◌, ℕ, suc, ◌<◌, Bool, false, ◌||◌, List, [], ◌∷◌, refl, sym, ◌∙◌, ap, ap₂, subst, arith}
 use Rattle.std.proofs.lemmas.Bool.{ne_eqb}
-use Rattle.std.proofs.lemmas.Bool.Decides.{nat_tests}
-use Rattle.std.proofs.lemmas.List.Sums.{sum_by-cons}
 use Rattle.exam_model.specs.Enrolments.{IsAscending, has_number}
 
 tail_up : (x : ℕ) (xs : List ℕ) → IsAscending (x ∷ xs) → IsAscending xs
@@ -31,17 +29,6 @@ pass_right x y (z ∷ zs) ys lt up =
     let more : x < z = up 0 1 (omega arith) (omega arith) in
     ap₂ (λ a b. (a || has_number ys x) || b) (ne_eqb y x (omega arith))
     (pass_right z y zs ys (omega arith) (tail_up x (z ∷ zs) up))
-
--- two exams share students exactly if some student of the first is in the second
-pub shared_any : (p : ℕ → Bool) (xs : List ℕ) → nat_lt 0 (count_by p xs) ≡ list_any p xs
-shared_any p [] = refl
-shared_any p (x ∷ xs) =
-    ap (λ n. nat_lt 0 n) (sum_by-cons (λ y. if p y then 1 else 0) x xs)
-    ∙ go (p x) (count_by p xs) ∙ ap (λ b. p x || b) (shared_any p xs)
-  where
-    go : (b : Bool) (n : ℕ) → nat_lt 0 ((if b then 1 else 0) + n) ≡ (b || nat_lt 0 n)
-    go true n = grind (arith, nat_tests)
-    go false n = grind (arith, nat_tests)
 
 -- the invariant of a walk: whether students are common, and both lists ascending
 pub record IsWalked (left right : List ℕ) (common : Bool) : Type 0 where
@@ -85,8 +72,3 @@ step_right left right xs ys x y common l r lt was =
 pub none_common : (left : List ℕ) → list_any (λ s. has_number [] s) left ≡ false
 none_common [] = refl
 none_common (x ∷ xs) = none_common xs
-
--- a list of length 0 is empty
-pub empty_list : (xs : List ℕ) → length xs ≡ 0 → xs ≡ []
-empty_list [] e = refl
-empty_list (x ∷ xs) e = absurd (omega arith)

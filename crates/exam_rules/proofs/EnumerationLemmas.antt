@@ -1,15 +1,19 @@
 -- All pairs of exams in order, and the list of those that pass a test.
 use Rattle.std.specs.List.{AllByRecursion, list_any, flat_map, range_with_len}
 use Rattle.std.specs.List.Sorted.{IsStrictlySortedBy}
-use Rattle.std.proofs.Common.{◌≡◌, ℕ, zero, suc, ◌+◌, ◌<◌, ◌≤◌, Bool, true, false, cond, ◌&&◌, nat_lt, List, [], ◌∷◌, map, filter, Contains, Less, inl, inr, refl, sym, ◌∙◌, ap, ap₂, subst, arith}
+use Rattle.std.proofs.Common.{◌≡◌, ℕ, zero, suc, ◌+◌, ◌<◌, ◌≤◌, Bool, true, ◌&&◌, nat_lt, List, map, filter, Contains, Less, refl, sym, ◌∙◌, ap₂, arith}
 use Rattle.std.proofs.lemmas.Bool.{and_from, lt-ltb}
 use Rattle.std.proofs.lemmas.Bool.Decides.{nat_tests}
 use Rattle.std.proofs.lemmas.List.Elements.{filter_passes, All-contains}
 use Rattle.std.proofs.lemmas.List.Kept.{IsStrictlySortedBy-filter}
+use Rattle.exam_lists.proofs.Each.{each_append, each_weaker}
+use Rattle.exam_lists.proofs.Members.{contains_filter}
+use Rattle.exam_lists.proofs.Ranges.{any_below}
+use Rattle.exam_lists.proofs.Sorted.{same_sorted, sorted_append, sorted_cons, sorted_nil}
 use Rattle.exam_rules.specs.Breach.{exam_pair_cmp, pair, is_pair, exam_pairs, passing_pairs, HasJust}
 use Rattle.exam_rules.specs.declared.exam_pair.ExamPair.{ExamPair}
-use Rattle.exam_rules.proofs.OrderLemmas.{same_sorted, exam_pair_cmp_total, contains_head, contains_later, first_or_later, each_append, each_weaker, sorted_nil, sorted_cons, sorted_append}
-use Rattle.exam_rules.proofs.MemberLemmas.{any_rows, any_below, any_from_contains, contains_from_any}
+use Rattle.exam_rules.proofs.OrderLemmas.{exam_pair_cmp_total}
+use Rattle.exam_rules.proofs.MemberLemmas.{any_rows, any_from_contains, contains_from_any}
 
 lesser_exam : (a b : ExamPair) → a.exam < b.exam → exam_pair_cmp a b ≡ Less
 lesser_exam a b h = grind (arith, nat_tests)
@@ -71,23 +75,6 @@ pairs_have n e f =
 
 -- ---- what a test leaves
 
-kept : {X : Type 0} (t : X → Bool) (xs : List X) (x : X) → Contains xs x → t x ≡ true
-    → Contains (filter t xs) x
-kept t [] x h k = h
-kept {X} t (y ∷ ys) x h k = go (t y) refl (kept t ys x)
-  where
-    go : (b : Bool) → t y ≡ b → (Contains ys x → t x ≡ true → Contains (filter t ys) x)
-        → Contains (cond b (y ∷ filter t ys) (filter t ys)) x
-    go true e more = elim (first_or_later y ys x h) as (λ _. Contains (y ∷ filter t ys) x) [
-      | inl same ↦ subst (Contains (y ∷ filter t ys)) same (contains_head y (filter t ys))
-      | inr later ↦ contains_later y (filter t ys) x (more later k)
-    ]
-    go false e more = elim (first_or_later y ys x h) as (λ _. Contains (filter t ys) x)
-        [ inl same ↦ absurd (no (sym e ∙ ap t same ∙ k)) | inr later ↦ more later k ]
-      where
-        no : false ≡ true → ⊥
-        no e = cc
-
 -- the pairs that pass are in order
 pub passing_sorted : (test : ℕ → ℕ → Bool) (n : ℕ)
     → IsStrictlySortedBy exam_pair_cmp (passing_pairs test n)
@@ -110,7 +97,7 @@ passing_all test n p exist passes =
     let there = pairs_have n p.exam p.other
     ∙ and_from (nat_lt p.exam n) (nat_lt p.other n) (lt-ltb p.exam n exist.0)
     (lt-ltb p.other n exist.1) in
-    kept (λ (q : ExamPair). test q.exam q.other) (exam_pairs n) p
+    contains_filter (λ (q : ExamPair). test q.exam q.other) (exam_pairs n) p
     (contains_from_any p.exam p.other (exam_pairs n) there) passes
 
 -- a strictly sorted list with the members of a list that has exactly the pairs that pass

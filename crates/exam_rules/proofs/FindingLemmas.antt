@@ -5,6 +5,7 @@ use Rattle.std.proofs.lemmas.Bool.{and_from, lt-ltb}
 use Rattle.std.proofs.lemmas.List.{take_all}
 use Rattle.std.proofs.lemmas.List.Folds.{list_any_more}
 use Rattle.std.proofs.lemmas.Bool.Decides.{nat_tests}
+use Rattle.std.proofs.Math.Bool.{or-false, or_assoc, and-or_distrib_right}
 use Rattle.exam_rules.specs.Breach.{is_pair, HasJust}
 use Rattle.exam_rules.specs.Lines.{are_both}
 use Rattle.exam_rules.specs.declared.exam_pair.ExamPair.{ExamPair}
@@ -15,29 +16,11 @@ pub record AreFound {X : Type 0} (names : ℕ → ℕ → X → Bool) (test : �
   pub members : (e f : ℕ) → list_any (is_pair e f) found
       ≡ (list_any (is_pair e f) before || (list_any (names e f) (take i xs) && test e f))
 
-either : (a b c : Bool) → ((a && c) || (b && c)) ≡ ((a || b) && c)
-either true true true = refl
-either true true false = refl
-either true false true = refl
-either true false false = refl
-either false true true = refl
-either false true false = refl
-either false false true = refl
-either false false false = refl
-
-pub or_false : (a : Bool) → (a || false) ≡ a
-or_false true = refl
-or_false false = refl
-
-or_assoc : (a b c : Bool) → ((a || b) || c) ≡ (a || (b || c))
-or_assoc true b c = refl
-or_assoc false b c = refl
-
 pub found_none : {X : Type 0} {names : ℕ → ℕ → X → Bool} {test : ℕ → ℕ → Bool}
     {before : List ExamPair} {xs : List X}
     → AreFound names test before xs 0 before
 found_none {X} {names} {test} {before} {xs} =
-    record { members = λ e f. sym (or_false (list_any (is_pair e f) before)) }
+    record { members = λ e f. sym (or-false (list_any (is_pair e f) before)) }
 
 -- one more element adds the pairs that it names and that pass
 pub found_more : {X : Type 0} {names : ℕ → ℕ → X → Bool} {test : ℕ → ℕ → Bool}
@@ -58,7 +41,7 @@ found_more {X} {names} {test} {before} {xs} {i} {x} {found} {more} {added} so_fa
         adds e f
         ∙ ap₂ (λ b c. b || c) (so_far.members e f) (is e f)
         ∙ or_assoc old (first && test e f) (names e f x && test e f)
-        ∙ ap (λ b. old || b) (either first (names e f x) (test e f))
+        ∙ ap (λ b. old || b) (sym (and-or_distrib_right first (names e f x) (test e f)))
         ∙ ap (λ y. old || ((first || names e f y) && test e f)) here
         ∙ ap (λ b. old || (b && test e f)) (sym (list_any_more (names e f) xs i x within))
 

@@ -5,14 +5,14 @@ use Rattle.std.specs.List.{list_any}
 use Rattle.std.proofs.lemmas.Bool.{and_parts, and_from, lt-ltb, true≢false}
 use Rattle.std.proofs.lemmas.List.Folds.{Any-from_list_any, list_any_at}
 use Rattle.std.proofs.lemmas.List.{get_or_read}
+use Rattle.std.proofs.Math.Bool.{and-false}
+use Rattle.exam_lists.proofs.Booleans.{and_swap, same_tests}
 use Rattle.exam_model.specs.Instance.{Session}
 use Rattle.exam_model.specs.Timetable.{Placing, place_of}
 use Rattle.exam_terms.specs.declared.place.Place.{Place}
 use Rattle.exam_rules.specs.Places.{PlaceExists, place_satisfies, both_satisfy, is_one_place, in_one_period, in_one_place}
 use Rattle.exam_model.specs.Enrolments.{has_number}
 use Rattle.exam_rules.specs.Groups.{is_placed_in, AreGroups}
-use Rattle.exam_rules.proofs.MemberLemmas.{and_false, same_tests}
-use Rattle.exam_rules.proofs.NamingLemmas.{and_swap}
 use Rattle.exam_rules.proofs.PlaceLemmas.{placed_exists, its_place_exists}
 
 -- a complete group has exactly the exams that are in its period
@@ -27,7 +27,7 @@ in_group {T} {periods} {n} {groups} are same p f within =
     exists true h =
         (let lt : f < length T = h refl in
         and_from (nat_lt f n) true (lt-ltb f n (omega arith)) refl)
-    exists false h = and_false (nat_lt f n)
+    exists false h = and-false (nat_lt f n)
 
 -- the exams of a group exist
 pub group_exists : {T : Placing} {periods n : ℕ} {groups : List (List ℕ)}
@@ -77,7 +77,7 @@ one_place_group {T} {periods} {n} {groups} are same k q placed within e f =
         ∙ ap (λ b. not (e == f) && b)
         (sym (subst (λ m. in_one_place T m f ≡ (is_placed_in T q.period f && in_one_place T m f))
         (eqb-true k e is) here))
-    at false is = and_false (is_placed_in T q.period f)
+    at false is = and-false (is_placed_in T q.period f)
 
 -- an exam without a place is in no room with another
 pub no_place : (T : Placing) (k : ℕ) → place_of T k ≡ None → (e f : ℕ)
@@ -88,7 +88,7 @@ no_place T k unplaced e f = at (k == e) refl
     at true is =
         sym (ap (λ m. not (e == f) && in_one_place T m f) (sym (eqb-true k e is))
         ∙ ap (λ o. not (e == f) && both_satisfy is_one_place o (place_of T f)) unplaced
-        ∙ and_false (not (e == f)))
+        ∙ and-false (not (e == f)))
     at false is = refl
 
 -- exams that are in period k are in one period

@@ -1,7 +1,7 @@
 -- Marks: none is lost.
 use Rattle.std.specs.Int.{bit_at}
 use Rattle.std.specs.Int.RustNames.{bit_or}
-use Rattle.std.proofs.Common.{◌≡◌, ℕ, ◌+◌, ◌-◌, ◌*◌, ◌%◌, ◌^◌, ◌<◌, ◌⊎◌, inl, inr, Bool, true, false, ◌&&◌, ◌||◌, ◌==◌, w64, List, length, take, get_or, slice_set, refl, sym, ◌∙◌, ap, arith, eqb-true}
+use Rattle.std.proofs.Common.{◌≡◌, ℕ, ◌+◌, ◌-◌, ◌*◌, ◌%◌, ◌^◌, ◌<◌, ◌⊎◌, inl, inr, Bool, true, false, ◌||◌, ◌==◌, w64, List, length, take, get_or, slice_set, refl, sym, ◌∙◌, ap, arith, eqb-true}
 use Rattle.std.proofs.lemmas.Bool.{cases_eq}
 use Rattle.std.proofs.lemmas.List.{length-set, get_or-set_same, get_or-set_other}
 use Rattle.std.proofs.lemmas.List.Folds.{list_any_more}
@@ -148,7 +148,3 @@ of_more {slots} {students} {i} {all} x so_far within here =
     step s e k (inr same) =
         more_right all (get_or slots (slot_of (length slots) x) 0) (e % 64)
         (ap (λ t. bit_at (get_or slots (slot_of (length slots) t) 0) (e % 64)) same ∙ k)
-
-pub and_assoc : (a b c : Bool) → (a && (b && c)) ≡ ((a && b) && c)
-and_assoc true b c = refl
-and_assoc false b c = refl

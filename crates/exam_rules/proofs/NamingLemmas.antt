@@ -7,9 +7,9 @@ use Rattle.std.proofs.lemmas.Bool.{lt-ltb}
 use Rattle.std.proofs.lemmas.Bool.Decides.{nat_tests}
 use Rattle.std.proofs.lemmas.List.{at_drop_more}
 use Rattle.std.proofs.lemmas.List.Folds.{find-append}
+use Rattle.std.proofs.Math.Bool.{and-false}
 use Rattle.exam_model.specs.declared.rules.PeriodRule.{PeriodRule}
 use Rattle.exam_model.specs.declared.rules.PeriodRule.TheVariants.{After, Coincidence, Exclusion}
-use Rattle.exam_rules.proofs.MemberLemmas.{and_false}
 use Rattle.exam_rules.specs.declared.breach.Breach.{Breach}
 use Rattle.exam_rules.specs.declared.breach.BreachRule.{BreachRule}
 use Rattle.exam_rules.specs.Breach.{is_pair, breach}
@@ -51,7 +51,7 @@ pub line_skipped : (names : ℕ → ℕ → PeriodRule → Bool) → AreNamed na
     → (a e f : ℕ) (line : PeriodRule) (b : Bool)
     → line_names line a ≡ false → false ≡ (names e f line && (is_one_of a e f && b))
 line_skipped names are a e f line b none =
-    sym (are a e f line b ∙ ap (λ c. names e f line && (c && b)) none ∙ and_false (names e f line))
+    sym (are a e f line b ∙ ap (λ c. names e f line && (c && b)) none ∙ and-false (names e f line))
 
 -- each pair of a line that names the exam is with that exam
 pub line_taken : (names : ℕ → ℕ → PeriodRule → Bool) → AreNamed names
@@ -59,12 +59,6 @@ pub line_taken : (names : ℕ → ℕ → PeriodRule → Bool) → AreNamed name
     → line_names line a ≡ true → (names e f line && b) ≡ (names e f line && (is_one_of a e f && b))
 line_taken names are a e f line b named =
     sym (are a e f line b ∙ ap (λ c. names e f line && (c && b)) named)
-
-pub and_swap : (a b c : Bool) → (a && (b && c)) ≡ (b && (a && c))
-and_swap true true c = refl
-and_swap true false c = refl
-and_swap false true c = refl
-and_swap false false c = refl
 
 -- ---- an exam and all others
 

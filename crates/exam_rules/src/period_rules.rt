@@ -157,7 +157,7 @@ fn mark(marks: &mut Marks, group: &[ExamNo], enrolments: &Enrolments)
 }
 
 // Returns the marked exams of an exam's students.
-#[tactic(auto, using(crate::proofs::CommonLemmas::shared_any))]
+#[tactic(auto, using(exam_lists::proofs::Counts::count_by_any))]
 fn near_of(marks: &Marks, enrolments: &Enrolments, exam: ExamNo) -> u64
     requires exists { exam < length enrolments.now }
     ensures { (f : ℕ) → ((s : ℕ) → has enrolments.now s f ≡ true → Has (marks_of marks.now s) f)

@@ -66,7 +66,7 @@ fn in_two_periods(timetable: &Timetable, exam: ExamNo, other: ExamNo) -> bool
     }
 }
 
-#[tactic(auto, using(crate::proofs::CommonLemmas::shared_any))]
+#[tactic(auto, using(exam_lists::proofs::Counts::count_by_any))]
 pub(crate) fn share_student(enrolments: &Enrolments, exam: ExamNo, other: ExamNo) -> bool
     requires exists { exam < length enrolments.now }
     requires other_exists { other < length enrolments.now }

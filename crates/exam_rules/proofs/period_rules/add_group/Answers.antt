@@ -1,12 +1,12 @@
 use Rattle.std.specs.List.{list_any}
 use Rattle.std.proofs.Common.{ℕ, Bool, ◌&&◌, ◌||◌, ◌==◌, nat_lt, sym, ◌∙◌, ap, eq-eqb}
 use Rattle.std.proofs.lemmas.List.Folds.{list_any_at}
+use Rattle.std.proofs.Math.Bool.{and_assoc}
+use Rattle.exam_lists.proofs.Booleans.{and_swap}
 use Rattle.exam_rules.specs.Breach.{is_pair}
 use Rattle.exam_model.specs.Enrolments.{has_number}
 use Rattle.exam_rules.specs.Places.{share_student}
 use Rattle.exam_rules.proofs.FindingLemmas.{found_none, found_more, found_all}
-use Rattle.exam_rules.proofs.MarkLemmas.{and_assoc}
-use Rattle.exam_rules.proofs.NamingLemmas.{and_swap}
 use Rattle.exam_rules.proofs.period_rules.add_group.Goals as goal
 
 pub exams-init : goal.exams-init
@@ -32,5 +32,5 @@ pub returns : goal.returns
 returns c e f =
     found_all c.exams.invariant c.exams-test.false e f
     ∙ ap (λ b. list_any (is_pair e f) c.args.found.now.items || b)
-    (and_assoc (has_number c.args.group.now e) (has_number c.args.group.now f)
-    (nat_lt e f && share_student c.args.enrolments.now e f))
+    (sym (and_assoc (has_number c.args.group.now e) (has_number c.args.group.now f)
+    (nat_lt e f && share_student c.args.enrolments.now e f)))

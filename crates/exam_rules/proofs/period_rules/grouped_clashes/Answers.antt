@@ -1,5 +1,6 @@
 use Rattle.std.proofs.lemmas.List.{get_or_read}
 use Rattle.std.proofs.Common.{ℕ, [], ◌&&◌, nat_lt, ◌∙◌, ap, arith, refl, subst, sym}
+use Rattle.exam_lists.proofs.Booleans.{and_swap}
 use Rattle.exam_rules.specs.declared.breach.BreachRule.TheVariants.{Clash}
 use Rattle.exam_model.specs.Enrolments.{has_number}
 use Rattle.exam_rules.specs.Groups.{AreGroups}
@@ -7,7 +8,6 @@ use Rattle.exam_rules.specs.Places.{share_student, in_one_period}
 use Rattle.exam_rules.specs.HardRules.{breaks}
 use Rattle.exam_rules.proofs.FindingLemmas.{found_none, found_more, found_all}
 use Rattle.exam_rules.proofs.GroupLemmas.{group_exists, in_one_group}
-use Rattle.exam_rules.proofs.NamingLemmas.{and_swap}
 use Rattle.exam_rules.proofs.PlaceLemmas.{breaking_exist}
 use Rattle.exam_rules.proofs.period_rules.grouped_clashes.Goals as goal
 

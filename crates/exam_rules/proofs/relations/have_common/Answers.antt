@@ -1,8 +1,9 @@
 use Rattle.std.specs.List.{list_any}
 use Rattle.std.proofs.Common.{◌≡◌, ◌<◌, [], ap, sym, ◌∙◌, arith}
 use Rattle.std.proofs.lemmas.Bool.Decides.{nat_tests}
+use Rattle.std.proofs.lemmas.List.{nil_from_length}
 use Rattle.exam_model.specs.Enrolments.{has_number}
-use Rattle.exam_rules.proofs.CommonLemmas.{step_left, step_right, none_common, empty_list}
+use Rattle.exam_rules.proofs.CommonLemmas.{step_left, step_right, none_common}
 use Rattle.exam_rules.proofs.relations.have_common.Goals as goal
 
 pub walk-preserved-then-lt : goal.walk-preserved-then-lt
@@ -22,6 +23,6 @@ walk-preserved c =
 pub returns-in_default-split_first : goal.returns-in_default-split_first
 returns-in_default-split_first c =
     let left = c.walk.left.now in
-    let none : c.walk.right.now ≡ [] = empty_list _ c.in_default-split_first.ensures.cases in
+    let none : c.walk.right.now ≡ [] = nil_from_length _ c.in_default-split_first.ensures.cases in
     sym (none_common left) ∙ ap (λ ys. list_any (λ s. has_number ys s) left) (sym none)
     ∙ c.walk.invariant.same

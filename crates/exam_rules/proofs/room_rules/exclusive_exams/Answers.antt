@@ -3,10 +3,9 @@ use Rattle.std.specs.Prelude.{All}
 use Rattle.std.proofs.lemmas.List.Elements.{All-map}
 use Rattle.std.proofs.lemmas.List.Filters.{dedup_is, All-dedup}
 use Rattle.std.proofs.lemmas.List.Sorted.{All-permutation, list_any-IsPermutation}
-use Rattle.exam_lists.proofs.Tests.{any_map}
+use Rattle.exam_lists.proofs.Tests.{any_map, any_dedup}
 use Rattle.exam_model.specs.declared.rules.RoomRule.{RoomRule}
 use Rattle.exam_model.specs.Enrolments.{has_number}
-use Rattle.exam_rules.proofs.MemberLemmas.{any_dedup}
 use Rattle.exam_rules.proofs.room_rules.exclusive_exams.Goals as goal
 
 pub returns-clause-members : goal.returns-clause-members

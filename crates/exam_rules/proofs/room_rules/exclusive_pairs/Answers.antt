@@ -1,12 +1,13 @@
 use Rattle.std.proofs.Common.{ℕ, [], length, ◌&&◌, ◌==◌, not, ◌∙◌, ap, sym, arith}
 use Rattle.std.specs.List.{list_any}
 use Rattle.std.specs.Prelude.{slice_index_or}
+use Rattle.std.proofs.Math.Bool.{or-false}
 use Rattle.exam_rules.specs.declared.breach.BreachRule.TheVariants.{RoomExclusive}
 use Rattle.exam_rules.specs.Breach.{is_pair}
 use Rattle.exam_model.specs.Enrolments.{has_number}
 use Rattle.exam_rules.specs.Places.{in_one_place}
 use Rattle.exam_rules.specs.HardRules.{breaks}
-use Rattle.exam_rules.proofs.FindingLemmas.{found_none, found_more, found_all, or_false}
+use Rattle.exam_rules.proofs.FindingLemmas.{found_none, found_more, found_all}
 use Rattle.exam_rules.proofs.GroupLemmas.{group_exists, one_place_group, no_place}
 use Rattle.exam_rules.proofs.PlaceLemmas.{its_place_exists, breaking_exist}
 use Rattle.exam_rules.proofs.room_rules.exclusive_pairs.Goals as goal
@@ -18,7 +19,7 @@ pub exams-preserved-in_default : goal.exams-preserved-in_default
 exams-preserved-in_default c =
     let unplaced = sym c.get.ensures ∙ c.in_default.is in
     found_more c.exams.invariant c.exams-test.true c.exam-item.is
-    (λ e f. sym (or_false (list_any (is_pair e f) c.exams.found.items)))
+    (λ e f. sym (or-false (list_any (is_pair e f) c.exams.found.items)))
     (no_place c.args.timetable.now c.exam-item.result unplaced)
 
 pub add_intruders-requires-clause-others_exist : goal.add_intruders-requires-clause-others_exist
