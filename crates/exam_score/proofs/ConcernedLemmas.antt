@@ -2,10 +2,10 @@
 use Rattle.std.specs.List.{AllByRecursion}
 use Rattle.std.specs.Ordering.{is_lt, nat_cmp, ordering_then}
 use Rattle.std.specs.Cmp.{then_total, on_total, nat_cmp_total, IsTotalOrder}
-use Rattle.std.proofs.Common.{◌≡◌, ℕ, ◌+◌, ◌<◌, ◌≤◌, inl, inr, Bool, true, false, cond, ◌&&◌, eqb, List, [], ◌∷◌, ◌++◌, length, take, map, filter, get_or, count_by, AllPairs, Option, Some, IsPermutation, IsSorted, Ordering, refl, sym, ◌∙◌, ap, ap₂, subst, arith, eq-eqb, eqb-true, length-take}
+use Rattle.std.proofs.Common.{◌≡◌, ℕ, ◌+◌, ◌<◌, ◌≤◌, inl, inr, Bool, true, false, cond, ◌&&◌, eqb, List, [], ◌∷◌, ◌++◌, length, take, map, get_or, count_by, AllPairs, Option, Some, IsPermutation, IsSorted, Ordering, refl, sym, ◌∙◌, ap, ap₂, subst, arith, eq-eqb, eqb-true, length-take}
 use Rattle.std.proofs.lemmas.Bool.{cases_lt, and_parts}
 use Rattle.std.proofs.lemmas.Bool.Decides.{nat_tests}
-use Rattle.std.proofs.lemmas.List.{get_or-take, get_or_default, length-map, take_more}
+use Rattle.std.proofs.lemmas.List.{get_or-take, get_or_default, length-map, take_more, map_push}
 use Rattle.std.proofs.lemmas.List.Elements.{All-from_recursion, recursion_from_All}
 use Rattle.std.proofs.lemmas.List.Sums.{sum_by-cons}
 use Rattle.std.proofs.lemmas.List.Sorted.{sorted_far, ranks_by, sum_by-IsPermutation, length_permutation}
@@ -25,11 +25,11 @@ use Rattle.exam_score.specs.Front.{AreSizes}
 use Rattle.exam_score.specs.Penalty.{Penalty}
 use Rattle.exam_score.specs.Track.{track}
 use Rattle.std.specs.Prelude.{IsSome, unwrap_or}
-use Rattle.exam_lists.proofs.Chains.{IsChain, chain_from_index}
-use Rattle.exam_lists.proofs.Each.{each_weaker}
+use Rattle.exam_lists.proofs.Chains.{IsChain, chain_from_index, chain_filter, index_from_chain}
+use Rattle.exam_lists.proofs.Each.{each_weaker, each_append_right}
 use Rattle.exam_lists.proofs.Sums.{sum_by-none}
+use Rattle.exam_lists.proofs.Filters.{length_filter-le}
 use Rattle.exam_score.specs.Folds.{CanFollow, ComesEarlier, Folded, IsFoldOf, RepresentsPairs}
-use Rattle.exam_score.proofs.FoldLemmas.{index_from_chain, map_push}
 
 -- ---- none twice
 
@@ -70,20 +70,6 @@ chain_mapped : (xs : List Sitter) → IsChain ComesBefore (map pair_of xs)
     → IsChain (λ x y. ComesBefore (pair_of x) (pair_of y)) xs
 chain_mapped [] h = tt
 chain_mapped (x ∷ xs) h = (each_mapped pair_of (ComesBefore (pair_of x)) xs h.0, chain_mapped xs h.1)
-
-each_filter : {X : Type 0} (P : X → Type 0) (t : X → Bool) (xs : List X) → AllByRecursion P xs
-    → AllByRecursion P (filter t xs)
-each_filter P t [] h = tt
-each_filter P t (x ∷ xs) h =
-    (elim (t x) as (λ b. AllByRecursion P (cond b (x ∷ filter t xs) (filter t xs)))
-    [ true ↦ (h.0, each_filter P t xs h.1) | false ↦ each_filter P t xs h.1 ])
-
-chain_filter : {X : Type 0} (R : X → X → Type 0) (t : X → Bool) (xs : List X) → IsChain R xs
-    → IsChain R (filter t xs)
-chain_filter R t [] h = tt
-chain_filter R t (x ∷ xs) h =
-    (elim (t x) as (λ b. IsChain R (cond b (x ∷ filter t xs) (filter t xs)))
-    [ true ↦ (each_filter (R x) t xs h.0, chain_filter R t xs h.1) | false ↦ chain_filter R t xs h.1 ])
 
 -- ---- in order
 
@@ -161,13 +147,6 @@ sitters_in_order E edited sitters sorted known are moved order =
     (strictly sorted
     (chain_from_index (λ x y. is_lt (sitter_cmp y x) ≡ false) sorted weak) counts)
 
-filter_few : {X : Type 0} (t : X → Bool) (xs : List X) → length (filter t xs) ≤ length xs
-filter_few t [] = omega arith
-filter_few t (x ∷ xs) =
-    let h = filter_few t xs in
-    elim (t x) as (λ b. length (cond b (x ∷ filter t xs) (filter t xs)) ≤ length (x ∷ xs))
-    [ true ↦ omega arith | false ↦ omega arith ]
-
 pub sitters_few : (E : Enrolled) (edited : List ℕ) (sitters sorted : List Sitter) → AreEnrolments E
     → map pair_of sitters ≡ pairs_concerned E edited
     → IsPermutation sitters sorted → length sorted ≤ 200000
@@ -175,7 +154,7 @@ sitters_few E edited sitters sorted known are moved =
     let same = length_permutation sitters sorted moved in
     let mapped = length-map sitters pair_of in
     let concerned = ap length are in
-    let few = filter_few (λ p. sits_among E edited p.student) (pairs_of E) in
+    let few = length_filter-le (λ p. sits_among E edited p.student) (pairs_of E) in
     let all = (are_pairs E known).count in
     let most = known.pairs in
     omega (arith, same, mapped, concerned, few, all, most)
@@ -190,19 +169,13 @@ each_earlier xs i d lt order =
     subst (λ x. IsSooner x (get_or xs i d)) (sym (get_or-take i xs k e within))
     (subst (λ y. IsSooner (get_or xs k e) y) (get_or_default xs i e d lt) (order k i e within lt))))
 
--- a fact about all elements holds for those of the last part
-each_last : {X : Type 0} (P : X → Type 0) (xs ys : List X) → AllByRecursion P (xs ++ ys)
-    → AllByRecursion P ys
-each_last P [] ys h = h
-each_last P (x ∷ xs) ys h = each_last P xs ys h.1
-
 pub next_follows : (fold : Folded) (xs : List Sitter) (i : ℕ) (d : Sitter) → i < length xs
     → AllPairs IsSooner xs → RepresentsPairs fold (map pair_of (take i xs))
     → CanFollow fold (pair_of (get_or xs i d))
 next_follows fold xs i d lt order h =
     let pair : Pair = pair_of (get_or xs i d) in
     All-from_recursion (λ p. ComesEarlier p pair) fold.current
-    (each_last (λ p. ComesEarlier p pair) h.closed fold.current
+    (each_append_right (λ p. ComesEarlier p pair) h.closed fold.current
     (subst (AllByRecursion (λ p. ComesEarlier p pair)) h.parts
     (each_of_mapped (λ p. ComesEarlier p pair) (take i xs) (each_earlier xs i d lt order))))
 

@@ -1,15 +1,15 @@
 -- Sums over the edited exams, with one more exam.
 use Rattle.std.proofs.Common.{◌≡◌, ◌&&◌, ℕ, ◌+◌, ◌≤◌, Bool, true, false, cond, not, eqb, ltb, ◌||◌, List, ◌∷◌, length, refl, sym, ◌∙◌, ap, add-zero, arith}
 use Rattle.std.proofs.lemmas.List.{nil_from_length}
+use Rattle.exam_lists.proofs.Booleans.{cond_le}
 use Rattle.exam_model.specs.Enrolments.{has_number}
 use Rattle.exam_model.specs.Instance.{Session, IsInstance}
-use Rattle.exam_model.specs.Sums.{sum_below}
 use Rattle.exam_model.proofs.SumLemmas.{sum_below-same, sum_below-add, sum_below-at, sum_below-le, sum_below-zeros}
 use Rattle.exam_model.specs.Timetable.{Placing, place_of}
 use Rattle.exam_score.specs.Front.{front_by}
 use Rattle.exam_score.specs.Touched.{sum_over_exams}
 use Rattle.exam_score.specs.Track.{exam_period, exam_room}
-use Rattle.exam_score.proofs.SmallLemmas.{period_small, picked, room_small}
+use Rattle.exam_score.proofs.SmallLemmas.{period_small, room_small}
 
 one_term : (here among : Bool) (n : ℕ)
     → cond (here || among) n 0 ≡ cond here (cond among 0 n) 0 + cond among n 0
@@ -50,7 +50,7 @@ sum_small : (I : Session) (exams : List ℕ) (g : ℕ → ℕ) → IsInstance I 
 sum_small I exams g known small =
     let few : length I.exams ≤ 2000 = known.limits.counts.0.1 in
     let sum = sum_below-le _ 100000 (length I.exams)
-    (λ e l. picked (has_number exams e) (g e) (small e)) in
+    (λ e l. cond_le (has_number exams e) (g e) 100000 (small e)) in
     omega (arith, few, sum)
 
 pub periods_small : (I : Session) (T : Placing) (exams : List ℕ) → IsInstance I
@@ -66,4 +66,4 @@ pub front_small : (I : Session) (sizes : List ℕ) (T : Placing) (exams : List �
     → sum_over_exams I exams (λ e. front_by I sizes (place_of T e) e) ≤ 200000000
 front_small I sizes T exams known =
     sum_small I exams _ known
-    (λ e. picked _ I.weights.front known.limits.weights.6)
+    (λ e. cond_le _ I.weights.front 100000 known.limits.weights.6)

@@ -2,11 +2,12 @@
 use Rattle.std.specs.List.{AllByRecursion, list_any}
 use Rattle.std.proofs.Common.{◌≡◌, ℕ, zero, suc, ◌+◌, ◌-◌, ◌*◌, ◌^◌, ◌<◌, Bool, true, false, cond, not, ◌&&◌, ◌||◌, eqb, List, [], ◌∷◌, ◌++◌, length, filter, sum_by, Option, Some, None, IfSome, IfNone, IsPermutation, refl, sym, ◌∙◌, ap, ap₂, arith, ne_eqb, eq-eqb, eqb-true, true≢false}
 use Rattle.std.specs.Prelude.{nat_lt, slice_get}
-use Rattle.std.proofs.lemmas.Bool.{cond-false, or_parts}
+use Rattle.std.proofs.lemmas.Bool.{cond-false, or_parts, not-true}
 use Rattle.std.proofs.lemmas.List.Filters.{sum_by-filter_both}
-use Rattle.exam_lists.proofs.Chains.{IsChain}
-use Rattle.exam_lists.proofs.Each.{each_weaker}
+use Rattle.exam_lists.proofs.Chains.{chain_from_each}
+use Rattle.exam_lists.proofs.Each.{each_weaker, each_filter_passes, each_filter_weaker}
 use Rattle.exam_lists.proofs.Sums.{sum_by-add, sum_by-none, sum_by-same}
+use Rattle.exam_lists.proofs.Booleans.{eqb_swap, cond_same}
 use Rattle.exam_terms.specs.declared.place.Place.{Place}
 use Rattle.exam_model.specs.Enrolments.{Enrolled, AreEnrolments, has, has_number}
 use Rattle.exam_model.specs.Fits.{period_of}
@@ -34,15 +35,11 @@ use Rattle.exam_score.proofs.EditedLemmas.{between_none, between_swap}
 use Rattle.exam_score.proofs.FoldLemmas.{others_each, sum_apart}
 use Rattle.exam_score.proofs.FrontLemmas.{front_by_sizes}
 use Rattle.exam_score.proofs.KindLemmas.{at_kind, each_kind}
-use Rattle.exam_score.proofs.PairsLemmas.{by_placed, eqb-swap, part_of_rows}
+use Rattle.exam_score.proofs.PairsLemmas.{by_placed, part_of_rows}
 use Rattle.exam_score.proofs.RegroupingLemmas.{later_cost}
 use Rattle.exam_score.proofs.SmallLemmas.{penalty_small}
 
 -- ---- tests on lists
-
-flip : (b : Bool) → not b ≡ true → b ≡ false
-flip true e = sym e
-flip false e = refl
 
 -- if no element of a list passes a test, each element fails it
 fails_among : (test : ℕ → Bool) (exams : List ℕ) (e : ℕ) → list_any test exams ≡ false
@@ -68,32 +65,6 @@ not_among E s e exams sits none = go (has_number exams e) refl
 
 -- ---- the students who are not concerned
 
-kept_pass : {X : Type 0} (t : X → Bool) (xs : List X)
-    → AllByRecursion (λ x. t x ≡ true) (filter t xs)
-kept_pass t [] = tt
-kept_pass {X} t (x ∷ xs) = go (t x) refl (kept_pass t xs)
-  where
-    go : (b : Bool) → t x ≡ b → AllByRecursion (λ y. t y ≡ true) (filter t xs)
-        → AllByRecursion (λ y. t y ≡ true) (cond b (x ∷ filter t xs) (filter t xs))
-    go true e more = (e, more)
-    go false e more = more
-
-each_kept : {X : Type 0} (P Q : X → Type 0) (t : X → Bool) → ((x : X) → P x → t x ≡ true → Q x)
-    → (xs : List X) → AllByRecursion P xs → AllByRecursion Q (filter t xs)
-each_kept P Q t h [] a = tt
-each_kept {X} P Q t h (x ∷ xs) a = go (t x) refl (each_kept P Q t h xs a.1)
-  where
-    go : (b : Bool) → t x ≡ b → AllByRecursion Q (filter t xs)
-        → AllByRecursion Q (cond b (x ∷ filter t xs) (filter t xs))
-    go true e more = (h x a.0 e, more)
-    go false e more = more
-
-chain_of_each : {X : Type 0} (P : X → Type 0) (R : X → X → Type 0) → ((x y : X) → P x → P y → R x y)
-    → (xs : List X) → AllByRecursion P xs → IsChain R xs
-chain_of_each P R h [] a = tt
-chain_of_each P R h (x ∷ xs) a =
-    (each_weaker P (R x) (λ y k. h x y a.0 k) xs a.1, chain_of_each P R h xs a.1)
-
 -- a student's pairs add nothing with the pairs of other students
 apart : (w : ℕ → ℕ → ℕ) (t : ℕ → Bool) (b : Bool) (p q : Pair) → t p.student ≡ b
     → t q.student ≡ not b → later_cost w p q ≡ 0
@@ -114,8 +85,8 @@ by_test w t (p ∷ ps) = go (t p.student) refl (by_test w t ps)
   where
     no_passes : AllByRecursion (λ q. t q.student ≡ false) (filter (λ p. not (t p.student)) ps)
     no_passes = each_weaker (λ q. not (t q.student) ≡ true) (λ q. t q.student ≡ false)
-        (λ q e. flip (t q.student) e) (filter (λ p. not (t p.student)) ps)
-        (kept_pass (λ p. not (t p.student)) ps)
+        (λ q e. not-true (t q.student) e) (filter (λ p. not (t p.student)) ps)
+        (each_filter_passes (λ p. not (t p.student)) ps)
 
     go : (b : Bool) → t p.student ≡ b
         → sum_pairs (later_cost w) ps ≡ sum_pairs (later_cost w) (filter (λ p. t p.student) ps)
@@ -139,7 +110,7 @@ by_test w t (p ∷ ps) = go (t p.student) refl (by_test w t ps)
         let none = sum_by-none (later_cost w p) (filter (λ p. t p.student) ps)
         (each_weaker (λ q. t q.student ≡ true) (λ q. later_cost w p q ≡ 0)
         (λ q h. apart w t false p q e h) (filter (λ p. t p.student) ps)
-        (kept_pass (λ p. t p.student) ps)) in
+        (each_filter_passes (λ p. t p.student) ps)) in
         omega arith
 
 -- each pair of a list is in the list
@@ -169,10 +140,6 @@ sat_each E known =
 
 -- ---- the pairs of the students who are concerned
 
-picked_none : (b : Bool) (n : ℕ) → n ≡ 0 → cond b n 0 ≡ 0
-picked_none true n h = h
-picked_none false n h = refl
-
 -- the sum over pairs doesn't depend on their order
 any_order : (cost : ℕ → ℕ → ℕ) (at : ℕ → Option ℕ) → ((p q : ℕ) → cost p q ≡ cost q p)
     → ((p : ℕ) → cost p p ≡ 0) → (xs ys : List Pair) → IsPermutation xs ys
@@ -180,9 +147,9 @@ any_order : (cost : ℕ → ℕ → ℕ) (at : ℕ → Option ℕ) → ((p q : �
     ≡ sum_pairs (later_cost (λ e f. cost_between cost (at e) (at f))) ys
 any_order cost at either nothing xs ys moved =
     sym (sum_pairs-IsPermutation (later_cost (λ e f. cost_between cost (at e) (at f)))
-    (λ p. picked_none (eqb p.student p.student) (cost_between cost (at p.exam) (at p.exam))
-    (between_none cost nothing (at p.exam)))
-    (λ p q. ap₂ (λ b n. cond b n 0) (eqb-swap q.student p.student)
+    (λ p. ap (λ n. cond (eqb p.student p.student) n 0) (between_none cost nothing (at p.exam))
+    ∙ cond_same (eqb p.student p.student) 0)
+    (λ p q. ap₂ (λ b n. cond b n 0) (eqb_swap q.student p.student)
     (between_swap cost either (at p.exam) (at q.exam)))
     xs ys moved)
 
@@ -212,15 +179,15 @@ part_exchanged cost E old new edited pairs either nothing known moved same =
     let after = by_test w (sits_among E edited) all in
     let none_edited : AllByRecursion (λ p. has_number edited p.exam ≡ false)
     (filter (λ p. not (sits_among E edited p.student)) all)
-    = each_kept (λ p. has E p.student p.exam ≡ true) (λ p. has_number edited p.exam ≡ false)
+    = each_filter_weaker (λ p. has E p.student p.exam ≡ true) (λ p. has_number edited p.exam ≡ false)
     (λ p. not (sits_among E edited p.student))
-    (λ p sits e. not_among E p.student p.exam edited sits (flip (sits_among E edited p.student) e))
+    (λ p sits e. not_among E p.student p.exam edited sits (not-true (sits_among E edited p.student) e))
     all (sat_each E known) in
     let others : sum_pairs (later_cost w) (filter (λ p. not (sits_among E edited p.student)) all)
     ≡ sum_pairs (later_cost v) (filter (λ p. not (sits_among E edited p.student)) all)
     = sum_pairs-agree (later_cost w) (later_cost v)
     (filter (λ p. not (sits_among E edited p.student)) all)
-    (chain_of_each (λ p. has_number edited p.exam ≡ false)
+    (chain_from_each (λ p. has_number edited p.exam ≡ false)
     (λ p q. later_cost w p q ≡ later_cost v p q)
     (λ p q a b. ap (λ n. cond (eqb q.student p.student) n 0)
     (ap₂ (cost_between cost) (period_same p.exam a) (period_same q.exam b)))

@@ -1,10 +1,11 @@
 -- A fold with one more pair.
 use Rattle.std.specs.List.{AllByRecursion}
-use Rattle.std.proofs.Common.{◌≡◌, ◌≢◌, ℕ, zero, suc, ◌+◌, ◌<◌, inl, inr, cond, List, [], ◌∷◌, ◌++◌, length, map, sum_by, Option, Some, None, All, AllPairs, refl, sym, ◌∙◌, ap, ap₂, subst, arith, ne_eqb, eq-eqb, append_assoc, length-append, zero-add}
+use Rattle.std.proofs.Common.{◌≡◌, ◌≢◌, ℕ, ◌+◌, ◌<◌, inl, inr, cond, List, [], ◌∷◌, ◌++◌, length, sum_by, Option, Some, None, All, AllPairs, refl, sym, ◌∙◌, ap, ap₂, subst, arith, ne_eqb, eq-eqb, append_assoc, length-append, zero-add}
 use Rattle.std.proofs.lemmas.List.Elements.{All-from_recursion, recursion_from_All}
 use Rattle.std.proofs.lemmas.List.Sums.{sum_by-append, sum_by-cons}
-use Rattle.exam_lists.proofs.Chains.{IsChain, chain_from_index}
-use Rattle.exam_lists.proofs.Each.{each_weaker}
+use Rattle.std.proofs.lemmas.List.{map_push}
+use Rattle.exam_lists.proofs.Chains.{chain_from_index, chain_push, index_from_chain}
+use Rattle.exam_lists.proofs.Each.{each_weaker, each_append, each_push}
 use Rattle.exam_lists.proofs.Sums.{sum_by-none}
 use Rattle.exam_model.specs.Instance.{Session}
 use Rattle.exam_model.specs.Pairs.{Pair}
@@ -17,37 +18,6 @@ use Rattle.exam_score.specs.Penalty.{PersonalPenalty, penalty_sum}
 use Rattle.exam_score.proofs.RegroupingLemmas.{later_cost}
 
 -- ---- lists
-
--- a chain, by indexes
-pub index_from_chain : {X : Type 0} (R : X → X → Type 0) (xs : List X) → IsChain R xs
-    → AllPairs R xs
-index_from_chain R [] h i j d l m = absurd (let k : j < 0 = m in omega arith)
-index_from_chain R (x ∷ xs) h zero zero d l m = absurd (omega (arith, l))
-index_from_chain R (x ∷ xs) h zero (suc j) d l m =
-    All-from_recursion (R x) xs h.0 j d (omega (arith, m))
-index_from_chain R (x ∷ xs) h (suc i) zero d l m = absurd (omega (arith, l))
-index_from_chain R (x ∷ xs) h (suc i) (suc j) d l m =
-    index_from_chain R xs h.1 i j d (omega (arith, l)) (omega (arith, m))
-
-each_push : {X : Type 0} (P : X → Type 0) (xs : List X) (y : X) → AllByRecursion P xs → P y
-    → AllByRecursion P (xs ++ y ∷ [])
-each_push P [] y h k = (k, tt)
-each_push P (x ∷ xs) y h k = (h.0, each_push P xs y h.1 k)
-
-each_append : {X : Type 0} (P : X → Type 0) (xs ys : List X) → AllByRecursion P xs
-    → AllByRecursion P ys → AllByRecursion P (xs ++ ys)
-each_append P [] ys h k = k
-each_append P (x ∷ xs) ys h k = (h.0, each_append P xs ys h.1 k)
-
-chain_push : {X : Type 0} (R : X → X → Type 0) (xs : List X) (y : X) → IsChain R xs
-    → AllByRecursion (λ x. R x y) xs → IsChain R (xs ++ y ∷ [])
-chain_push R [] y h k = (tt, tt)
-chain_push R (x ∷ xs) y h k = (each_push (R x) xs y h.0 k.0, chain_push R xs y h.1 k.1)
-
-pub map_push : {X Y : Type 0} (f : X → Y) (xs : List X) (x : X)
-    → map f (xs ++ x ∷ []) ≡ map f xs ++ f x ∷ []
-map_push f [] x = refl
-map_push f (y ∷ ys) x = ap (λ zs. f y ∷ zs) (map_push f ys x)
 
 -- ---- the costs of pairs
 
@@ -108,10 +78,6 @@ sum_of_student I T edited student es none =
     λ i. by_kind (λ k. cost_of_student (cost_in I k) T edited student es none i)
 
 -- ---- the student of a pair
-
-own_each : (s : ℕ) (es : List ℕ) → AllByRecursion (λ p. p.student ≡ s) (pairs_sat (Some s) es)
-own_each s [] = tt
-own_each s (e ∷ es) = (refl, own_each s es)
 
 other_each : (student : Option ℕ) (es : List ℕ) (s : ℕ) → (student ≡ Some s → ⊥)
     → AllByRecursion (λ p. p.student ≢ s) (pairs_sat student es)

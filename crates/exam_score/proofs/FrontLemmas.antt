@@ -1,11 +1,11 @@
 -- How many exams are larger, by the list of their sizes.
 use Rattle.std.proofs.Common.{◌≡◌, ℕ, zero, suc, ◌+◌, ◌-◌, ◌<◌, ◌≤◌, take_all, Bool, true, false, cond, List, Some, length, take, drop, count_by, refl, sym, ◌∙◌, ap, ap₂, arith, add-one, [], ◌∷◌, ◌++◌, subst}
 use Rattle.std.specs.Prelude.{slice_index, nat_lt, nat_le, ◌==◌, ◌&&◌, ◌||◌, if◌then◌else◌}
-use Rattle.std.proofs.lemmas.Bool.{false≢true}
 use Rattle.std.proofs.lemmas.Bool.Decides.{nat_tests}
 use Rattle.std.proofs.lemmas.Grind.{common_steps}
 use Rattle.std.proofs.lemmas.List.{length_push}
-use Rattle.std.proofs.lemmas.List.Sums.{count_by_more_no, count_by_more_yes, sum_by-cons, sum_by_more, sum_by-take-drop, sum_by-le-sum_by}
+use Rattle.std.proofs.lemmas.List.Sums.{count_by_more_no, count_by_more_yes, sum_by_more, sum_by-take-drop}
+use Rattle.exam_lists.proofs.Counts.{count_by-le, count_by-reaches}
 use Rattle.exam_model.specs.Enrolments.{Enrolled, size_of}
 use Rattle.exam_model.specs.Instance.{Session}
 use Rattle.exam_model.specs.Sums.{count_below}
@@ -70,16 +70,6 @@ larger_count sizes e h =
 
 -- ---- a bar
 
-cond_le : (b d : Bool) → (b ≡ true → d ≡ true) → ◌≤◌ (cond b 1 0) (cond d 1 0)
-cond_le false d h = omega arith
-cond_le true true h = omega arith
-cond_le true false h = absurd (false≢true (h refl))
-
-count_le : (p q : ℕ → Bool) (xs : List ℕ) → ((x : ℕ) → p x ≡ true → q x ≡ true)
-    → count_by p xs ≤ count_by q xs
-count_le p q xs h =
-    sum_by-le-sum_by (λ x. cond (p x) 1 0) (λ x. cond (q x) 1 0) xs (λ x. cond_le (p x) (q x) (h x))
-
 lt_by_le : (t a x : ℕ) → t < a → nat_le a x ≡ true → nat_lt t x ≡ true
 lt_by_le t a x less le = grind (arith, nat_tests)
 
@@ -106,9 +96,9 @@ above_bar sizes most e b bar within less =
     let t = b.size in
     let a = slice_index sizes e in
     let count = larger_count sizes e within in
-    let first = count_le (λ x. nat_le a x) (λ x. nat_lt t x) (take e sizes)
+    let first = count_by-le (λ x. nat_le a x) (λ x. nat_lt t x) (take e sizes)
     (λ x h. lt_by_le t a x less h) in
-    let others = count_le (λ x. nat_lt a x) (λ x. nat_lt t x) (drop (e + 1) sizes)
+    let others = count_by-le (λ x. nat_lt a x) (λ x. nat_lt t x) (drop (e + 1) sizes)
     (λ x h. lt_by_lt t a x less h) in
     let all = sum_by-take-drop (λ x. cond (nat_lt a x) 1 0) sizes e in
     let all_more = sum_by-take-drop (λ x. cond (nat_lt a x) 1 0) sizes (e + 1) in
@@ -125,27 +115,12 @@ below_bar sizes most e b bar within less =
     let t = b.size in
     let a = slice_index sizes e in
     let count = larger_count sizes e within in
-    let first = count_le (λ x. nat_le t x) (λ x. nat_le a x) (take e sizes)
+    let first = count_by-le (λ x. nat_le t x) (λ x. nat_le a x) (take e sizes)
     (λ x h. le_by_le t a x less h) in
-    let others = count_le (λ x. nat_le t x) (λ x. nat_lt a x) (drop e sizes)
+    let others = count_by-le (λ x. nat_le t x) (λ x. nat_lt a x) (drop e sizes)
     (λ x h. lt_by_bar t a x less h) in
     let parts = sum_by-take-drop (λ x. cond (nat_le t x) 1 0) sizes e in
     is_no_lt _ most (omega (arith, bar.reached))
-
-le_parts : (t x : ℕ) → ◌≡◌ {A = ℕ} (cond (nat_le t x) 1 0) (cond (nat_lt t x) 1 0 + cond (x == t) 1 0)
-le_parts t x = grind (arith, nat_tests)
-
--- those that reach a size are above it or of it
-reached_parts : (t : ℕ) (xs : List ℕ)
-    → count_by (λ x. nat_le t x) xs ≡ count_by (λ x. nat_lt t x) xs + count_by (λ x. x == t) xs
-reached_parts t [] = refl
-reached_parts t (x ∷ xs) =
-    let rest = reached_parts t xs in
-    let here = le_parts t x in
-    let le = sum_by-cons (λ y. cond (nat_le t y) 1 0) x xs in
-    let lt = sum_by-cons (λ y. cond (nat_lt t y) 1 0) x xs in
-    let equal = sum_by-cons (λ y. cond (y == t) 1 0) x xs in
-    omega (arith, rest, here, le, lt, equal)
 
 -- one of the bar's size comes after those above the bar and the ties before it
 pub at_bar : (sizes : List ℕ) (most ties e : ℕ) (b : Bar) → IsBar sizes most b
@@ -159,7 +134,7 @@ at_bar sizes most ties e b bar tied within same =
     subst (λ a. count_below (length sizes) (λ f. is_larger_by sizes f e)
     ≡ count_by (λ x. nat_le a x) (take e sizes) + count_by (λ x. nat_lt a x) (drop e sizes))
     same (larger_count sizes e within) in
-    let reached = reached_parts t (take e sizes) in
+    let reached = count_by-reaches t (take e sizes) in
     let parts = sum_by-take-drop (λ x. cond (nat_lt t x) 1 0) sizes e in
     let counted = bar.counted in
     let before = tied.count in

@@ -1,8 +1,9 @@
 -- The table of costs, line by line, and periods beyond it.
-use Rattle.std.proofs.Common.{◌≡◌, ℕ, zero, suc, ◌<◌, ◌≤◌, List, [], ◌∷◌, ◌++◌, length, Some, refl, sym, ◌∙◌, ap, arith, get_or, inl, inr, le-ltb, length-append, subst}
+use Rattle.std.proofs.Common.{◌≡◌, ℕ, ◌<◌, ◌≤◌, List, [], ◌∷◌, ◌++◌, length, Some, sym, ◌∙◌, ap, arith, get_or, inl, inr, le-ltb, length-append, subst}
 use Rattle.std.specs.Prelude.{slice_get, nat_lt, nat_le, ◌&&◌, ◌==◌, if◌then◌else◌}
 use Rattle.std.proofs.lemmas.Bool.{cases_lt}
 use Rattle.std.proofs.lemmas.Option.{slice_get-get_or, slice_get_past, slice_get_within}
+use Rattle.exam_lists.proofs.Searches.{slice_get_kept, slice_get_push}
 use Rattle.exam_model.specs.Instance.{Session}
 use Rattle.exam_model.specs.Distances.{gap, share_date}
 use Rattle.exam_model.specs.declared.parts.Period.{Period}
@@ -16,19 +17,6 @@ use Rattle.exam_score.proofs.KindLemmas.{at_table}
 
 -- ---- one more
 
-slice_get-push : {X : Type 0} (xs : List X) (x : X) (q : ℕ) → q ≡ length xs
-    → slice_get (xs ++ x ∷ []) q ≡ Some x
-slice_get-push [] x zero is = refl
-slice_get-push [] x (suc q) is = absurd (omega arith)
-slice_get-push (y ∷ ys) x zero is = absurd (omega arith)
-slice_get-push (y ∷ ys) x (suc q) is = slice_get-push ys x q (omega arith)
-
-slice_get-kept : {X : Type 0} (xs : List X) (x : X) (q : ℕ) → q < length xs
-    → slice_get (xs ++ x ∷ []) q ≡ slice_get xs q
-slice_get-kept [] x q lt = absurd (omega arith)
-slice_get-kept (y ∷ ys) x zero lt = refl
-slice_get-kept (y ∷ ys) x (suc q) lt = slice_get-kept ys x q (omega arith)
-
 pub line_more : (I : Session) (p : ℕ) (line : List (Amounts ℕ))
     → ((q : ℕ) → q < length line → slice_get line q ≡ Some (costs_of I p q))
     → (q : ℕ) → q < length (line ++ costs_of I p (length line) ∷ [])
@@ -36,11 +24,11 @@ pub line_more : (I : Session) (p : ℕ) (line : List (Amounts ℕ))
 line_more I p line each q lt =
     elim (cases_lt q (length line))
     as (λ _. slice_get (line ++ costs_of I p (length line) ∷ []) q ≡ Some (costs_of I p q)) [
-      | inl before ↦ slice_get-kept line (costs_of I p (length line)) q before ∙ each q before
+      | inl before ↦ slice_get_kept line (costs_of I p (length line)) q before ∙ each q before
       | inr after ↦
           (let last : q
           ≡ length line = omega (arith, length-append line (costs_of I p (length line) ∷ [])) in
-          slice_get-push line (costs_of I p (length line)) q last
+          slice_get_push line (costs_of I p (length line)) q last
           ∙ ap (λ n. Some (costs_of I p n)) (sym last))
     ]
 
@@ -48,11 +36,11 @@ pub table_more : (P : ℕ → Line → Type 0) (lines : List Line) (new : Line) 
     → ((p : ℕ) (line : Line) → slice_get lines p ≡ Some line → P p line)
     → (p : ℕ) (line : Line) → slice_get (lines ++ new ∷ []) p ≡ Some line → P p line
 table_more P lines new is each p line found = elim (cases_lt p (length lines)) as (λ _. P p line) [
-  | inl before ↦ each p line (sym (slice_get-kept lines new p before) ∙ found)
+  | inl before ↦ each p line (sym (slice_get_kept lines new p before) ∙ found)
   | inr after ↦
       (let within = slice_get_within (lines ++ new ∷ []) p line found in
       let last : p ≡ length lines = omega (arith, length-append lines (new ∷ [])) in
-      let same : Some new ≡ Some line = sym (slice_get-push lines new p last) ∙ found in
+      let same : Some new ≡ Some line = sym (slice_get_push lines new p last) ∙ found in
       let one : new ≡ line = cc in
       subst (λ v. P p v) one (subst (λ n. P n new) (sym last) is))
 ]

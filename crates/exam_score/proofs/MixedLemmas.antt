@@ -10,6 +10,7 @@ use Rattle.std.proofs.lemmas.List.Elements.{recursion_from_All}
 use Rattle.std.proofs.lemmas.List.Sums.{sum_by-cons, sum_by_push}
 use Rattle.std.proofs.lemmas.Option.{get_or_from_slice_get}
 use Rattle.std.proofs.lemmas.List.Sorted.{sorted_far, ranks_by, sum_by-IsPermutation, All-permutation}
+use Rattle.exam_lists.proofs.Booleans.{cond_same}
 use Rattle.exam_lists.proofs.Chains.{IsChain, chain_from_index}
 use Rattle.exam_lists.proofs.Each.{each_weaker}
 use Rattle.exam_lists.proofs.Sums.{sum_by-none}
@@ -23,7 +24,6 @@ use Rattle.exam_model.proofs.SumLemmas.{sum_below-same, sum_below-zeros, sum_bel
 use Rattle.exam_score.specs.MixedDurations.{duration_count, minutes_of, is_at, has_duration, exams_with_duration, mixed_part}
 use Rattle.exam_score.specs.Stays.{is_stay, StayExists, AreStays, NotAfter, next_differs, further_durations}
 use Rattle.exam_score.specs.declared.mixed.Stay.{Stay}
-use Rattle.exam_score.proofs.WalkLemmas.{none_or}
 
 -- ---- one more exam
 
@@ -246,7 +246,7 @@ next_same x y ys a b c =
     let some : 0 < count_by (is_stay x.period x.room x.minutes) (y ∷ ys) = omega arith in
     ap (λ b. cond (nat_lt 0 (stay_durations (y ∷ ys) x.period x.room)) (cond b 0 1) 0)
     (lt-ltb 0 _ some)
-    ∙ none_or (nat_lt 0 (stay_durations (y ∷ ys) x.period x.room))
+    ∙ cond_same (nat_lt 0 (stay_durations (y ∷ ys) x.period x.room)) 0
 
 -- the next stay has the same place and another duration: then it is a further one
 next_further : (x y : Stay) (ys : List Stay) → NotAfter x y → AllByRecursion (NotAfter y) ys

@@ -1,6 +1,7 @@
 -- The pairs of periods that cost nothing over night.
 use Rattle.std.proofs.Common.{◌≡◌, ℕ, ◌*◌, ◌-◌, ◌<◌, ◌≤◌, List, length, ap, ◌∙◌, arith, ne_eqb, mul-zero, zero-mul}
 use Rattle.std.specs.Prelude.{◌&&◌, ◌==◌, if◌then◌else◌}
+use Rattle.exam_lists.proofs.Booleans.{cond_same}
 use Rattle.exam_model.specs.Distances.{gap, next_day}
 use Rattle.exam_model.specs.declared.parts.Period.{Period}
 use Rattle.exam_model.specs.declared.parts.Weights.{Weights}
@@ -9,7 +10,7 @@ use Rattle.exam_score.specs.Cost.{night_cost}
 use Rattle.exam_score.specs.CostOrder.{pick-none}
 use Rattle.exam_score.specs.Tallies.{tally_cost, tally_pair}
 use Rattle.exam_score.specs.declared.tallies.Tally.{Tally}
-use Rattle.exam_score.proofs.WalkLemmas.{free_period, none_or}
+use Rattle.exam_score.proofs.WalkLemmas.{free_period}
 
 -- a period at least two before another one
 pub night_apart : (periods : List Period) (weights : Weights) (p q : ℕ) → q < p - 1
@@ -24,7 +25,7 @@ pub night_weightless : (periods : List Period) (weights : Weights) → weights.n
     → night_cost periods weights p q ≡ 0
 night_weightless periods weights none p q =
     ap (λ n. if next_day periods p q && (gap p q == 1) then n else 0) none
-    ∙ none_or (next_day periods p q && (gap p q == 1))
+    ∙ cond_same (next_day periods p q && (gap p q == 1)) 0
 
 -- tallies whose periods cost nothing
 free_tallies : (cost : ℕ → ℕ → ℕ) (tallies : List Tally) → ((p q : ℕ) → cost p q ≡ 0)

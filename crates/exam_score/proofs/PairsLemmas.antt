@@ -3,8 +3,8 @@ use Rattle.std.specs.List.{cons_option}
 use Rattle.std.proofs.Common.{◌≡◌, ℕ, ◌+◌, ◌*◌, ◌≤◌, cond, eqb, List, [], ◌∷◌, length, Some, None, option_map, sum_by, filter_map, refl, sym, ◌∙◌, ap, ap₂, arith, zero-add, mul-zero, zero-mul}
 use Rattle.std.proofs.Math.Nat.{mul_comm, mul_assoc}
 use Rattle.std.proofs.lemmas.List.Sums.{sum_by-cons}
-use Rattle.std.proofs.lemmas.Bool.Decides.{nat_tests}
-use Rattle.exam_lists.proofs.Sums.{sum_by-same, sum_by-times, sum_by-zeros}
+use Rattle.exam_lists.proofs.Sums.{sum_by-same, sum_by-times, sum_by-zeros, sum_by-ones}
+use Rattle.exam_lists.proofs.Booleans.{eqb_swap, cond_same}
 use Rattle.exam_model.specs.Enrolments.{Enrolled, AreEnrolments, students, size_of}
 use Rattle.exam_model.specs.Instance.{Session, IsInstance}
 use Rattle.exam_model.specs.PairCost.{cost_between}
@@ -31,7 +31,7 @@ use Rattle.exam_score.proofs.KindLemmas.{by_kinds, each_kind, of_kinds}
 use Rattle.exam_score.proofs.RegroupingLemmas.{later_cost, part_by_rows}
 use Rattle.exam_score.proofs.RowLemmas.{rows_few}
 use Rattle.exam_score.proofs.SittingLemmas.{rows_by_exam}
-use Rattle.exam_score.proofs.WalkLemmas.{cost_with-small, none_or}
+use Rattle.exam_score.proofs.WalkLemmas.{cost_with-small}
 
 -- ---- placed exams
 
@@ -50,7 +50,7 @@ beside_placed cost T s x (q ∷ ps) =
     + sum_by (row_pair cost (row_at x s)) rows
     ≡ sum_by (row_pair cost (row_at x s))
     (cons_option (option_map (λ period. row_at period q.student) o) rows)) [
-      | None ↦ ap (λ n. n + sum_by (row_pair cost (row_at x s)) rows) (none_or (eqb q.student s))
+      | None ↦ ap (λ n. n + sum_by (row_pair cost (row_at x s)) rows) (cond_same (eqb q.student s) 0)
           ∙ zero-add _
       | Some y ↦ sym (sum_by-cons (row_pair cost (row_at x s)) (row_at y q.student) rows)
     ])
@@ -70,24 +70,21 @@ by_placed cost T (p ∷ ps) =
     + cost_with cost rows
     ≡ cost_with cost (cons_option (option_map (λ period. row_at period p.student) o) rows)) [
       | None ↦ ap (λ n. n + cost_with cost rows)
-          (sum_by-same _ _ (λ q. none_or (eqb q.student p.student)) ps ∙ sum_by-zeros ps)
+          (sum_by-same _ _ (λ q. cond_same (eqb q.student p.student) 0) ps ∙ sum_by-zeros ps)
           ∙ zero-add _
       | Some x ↦ ap (λ n. n + cost_with cost rows) (beside_placed cost T p.student x ps)
     ])
 
 -- ---- rows
 
-pub eqb-swap : (a b : ℕ) → eqb a b ≡ eqb b a
-eqb-swap a b = grind (arith, nat_tests)
-
 row_pair-none : (cost : ℕ → ℕ → ℕ) → ((p : ℕ) → cost p p ≡ 0) → (x : Row) → row_pair cost x x ≡ 0
 row_pair-none cost nothing x = ap (λ n. cond (eqb x.student x.student) n 0) (nothing x.period)
-    ∙ none_or (eqb x.student x.student)
+    ∙ cond_same (eqb x.student x.student) 0
 
 row_pair-turned : (cost : ℕ → ℕ → ℕ) → ((p q : ℕ) → cost p q ≡ cost q p) → (x y : Row)
     → row_pair cost x y ≡ row_pair cost y x
 row_pair-turned cost either x y =
-    ap₂ (λ b n. cond b n 0) (eqb-swap y.student x.student) (either x.period y.period)
+    ap₂ (λ b n. cond b n 0) (eqb_swap y.student x.student) (either x.period y.period)
 
 -- the part of the penalty is the cost over the rows
 pub part_of_rows : (cost : ℕ → ℕ → ℕ) (E : Enrolled) (T : Placing) → AreEnrolments E
@@ -156,10 +153,6 @@ tallied_rows E T sittings tallies long all counted f =
 
 -- ---- the number of rows
 
-sum_ones : {X : Type 0} (xs : List X) → sum_by (λ x. 1) xs ≡ length xs
-sum_ones {X} [] = refl
-sum_ones {X} (x ∷ xs) = omega (arith, sum_by-cons (λ (x : X). 1) x xs, sum_ones xs)
-
 few_rows : (E : Enrolled) (T : Placing) → AreEnrolments E
     → length (filter_map (row_of T) (pairs_of E)) ≤ 200000
 few_rows E T known =
@@ -177,13 +170,13 @@ pub few_seats : (E : Enrolled) (T : Placing) (sittings : List Sitting) → AreEn
 few_seats E T sittings known long all =
     let sizes : sum_by (λ x. size_of E x.exam) sittings
     ≡ sum_by (λ x. sum_by (λ s. 1) (students E x.exam)) sittings
-    = sum_by-same _ _ (λ (x : Sitting). sym (sum_ones (students E x.exam))) sittings in
+    = sum_by-same _ _ (λ (x : Sitting). sym (sum_by-ones (students E x.exam))) sittings in
     let rows : sum_by (λ x. sum_by (λ s. 1) (students E x.exam)) sittings
     ≡ length (filter_map (row_of T) (pairs_of E))
     = all (λ e p. sum_by (λ s. 1) (students E e))
     ∙ ap (λ n. sum_below n (λ e. if_placed (λ p. sum_by (λ s. 1) (students E e)) (period_of T e)))
     long
-    ∙ sym (rows_by_exam (λ r. 1) E T) ∙ sum_ones (filter_map (row_of T) (pairs_of E)) in
+    ∙ sym (rows_by_exam (λ r. 1) E T) ∙ sum_by-ones (filter_map (row_of T) (pairs_of E)) in
     let few = few_rows E T known in
     omega arith
 
@@ -192,7 +185,7 @@ pub few_tallied : (E : Enrolled) (T : Placing) (tallies : List Tally) → AreEnr
     → ((f : Row → ℕ) → sum_by f (filter_map (row_of T) (pairs_of E)) ≡ sum_by (tally_sum f) tallies)
     → row_count tallies ≤ 200000
 few_tallied E T tallies known counted =
-    let rows = sum_ones (filter_map (row_of T) (pairs_of E)) in
+    let rows = sum_by-ones (filter_map (row_of T) (pairs_of E)) in
     let same = counted (λ r. 1) in
     let few = few_rows E T known in
     omega arith

@@ -6,7 +6,7 @@ use Rattle.std.proofs.lemmas.List.Sums.{sum_by-cons}
 use Rattle.std.proofs.lemmas.List.Elements.{recursion_from_All}
 use Rattle.std.proofs.lemmas.Bool.{cond-true, cond-false, and_parts}
 use Rattle.std.proofs.lemmas.Bool.Decides.{nat_tests}
-use Rattle.exam_lists.proofs.Booleans.{cond_and_times}
+use Rattle.exam_lists.proofs.Booleans.{cond_and_times, cond_same}
 use Rattle.exam_lists.proofs.Chains.{IsChain, chain_from_index, chain_weaker}
 use Rattle.exam_lists.proofs.Each.{each_weaker}
 use Rattle.exam_lists.proofs.Sums.{cond-sum_by, sum_by-add, sum_by-agree, sum_by-once, sum_by-same, sum_by-times, sum_by-zeros}
@@ -68,17 +68,14 @@ shared_as_pairs w pairs e f order =
     (chain_weaker ComesBefore _ (λ a b. other_pair p.student f a b) pairs order))
     ∙ cond-sum_by (eqb p.exam e) (λ q. cond (is_pair p.student f q) w 0) pairs) pairs
 
-no_cost : (c : Bool) → ◌≡◌ {A = ℕ} (cond c 0 0) 0
-no_cost c = elim c as (λ c. ◌≡◌ {A = ℕ} (cond c 0 0) 0) [ true ↦ refl | false ↦ refl ]
-
 turn_tests : (a b c : Bool) (n : ℕ) → cond c (cond (a && b) n 0) 0
     ≡ cond b (cond c (cond a n 0) 0) 0
 turn_tests a b c n =
     elim a as (λ a. cond c (cond (a && b) n 0) 0 ≡ cond b (cond c (cond a n 0) 0) 0) [
       | true ↦ elim b as (λ b. cond c (cond b n 0) 0 ≡ cond b (cond c n 0) 0)
-          [ true ↦ refl | false ↦ no_cost c ]
+          [ true ↦ refl | false ↦ cond_same c 0 ]
       | false ↦ elim b as (λ b. ◌≡◌ {A = ℕ} (cond c 0 0) (cond b (cond c 0 0) 0))
-          [ true ↦ refl | false ↦ no_cost c ]
+          [ true ↦ refl | false ↦ cond_same c 0 ]
     ]
 
 -- two pairs: the one pair of exams that they have

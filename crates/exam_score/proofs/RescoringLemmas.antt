@@ -2,13 +2,13 @@
 use Rattle.std.specs.List.{cons_option, AllByRecursion}
 use Rattle.std.specs.Prelude.{slice_index}
 use Rattle.std.proofs.Common.{◌≡◌, ◌≢◌, ℕ, suc, ◌+◌, ◌<◌, ◌≤◌, Bool, true, false, cond, ◌||◌, eqb, List, [], ◌∷◌, ◌++◌, length, take, map, filter, filter_map, sum_by, None, refl, sym, ◌∙◌, ap, ap₂, arith, eq-eqb, eqb-true, ne_eqb, add-zero, true≢false, subst}
-use Rattle.std.proofs.lemmas.Bool.{or_parts}
+use Rattle.std.proofs.lemmas.Bool.{or_parts, or_right}
 use Rattle.std.proofs.lemmas.List.{map-append}
 use Rattle.std.proofs.lemmas.List.Elements.{filter-append, filter_map-append}
 use Rattle.std.proofs.lemmas.List.Folds.{list_any-append}
 use Rattle.std.proofs.lemmas.List.Sums.{sum_by-cons}
 use Rattle.exam_lists.proofs.Chains.{IsChain}
-use Rattle.exam_lists.proofs.Each.{each_weaker}
+use Rattle.exam_lists.proofs.Each.{each_weaker, each_append_parts}
 use Rattle.exam_lists.proofs.Sums.{sum_by-same}
 use Rattle.exam_model.specs.Enrolments.{Enrolled, AreEnrolments, IsAscending, has, has_number, students}
 use Rattle.exam_model.specs.Fits.{Fits, period_of}
@@ -140,10 +140,6 @@ once_differ (x ∷ xs) = go (has_number xs x) refl (once_differ xs)
 abbrev with_students : List Pair → List ℕ → List ℕ
 with_students pairs others = map (λ (p : Pair). p.student) pairs ++ others
 
-or_later : (a b : Bool) → b ≡ true → (a || b) ≡ true
-or_later true b h = refl
-or_later false b h = h
-
 has_students : (ps : List Pair) (others : List ℕ)
     → AllByRecursion (λ p. has_number (with_students ps others) p.student ≡ true) ps
 has_students [] others = tt
@@ -151,7 +147,7 @@ has_students (p ∷ ps) others = (
   ap (λ b. b || has_number (with_students ps others) p.student) (eq-eqb p.student p.student refl),
   each_weaker (λ q. has_number (with_students ps others) q.student ≡ true)
       (λ q. has_number (with_students (p ∷ ps) others) q.student ≡ true)
-      (λ q h. or_later (eqb p.student q.student) (has_number (with_students ps others) q.student) h)
+      (λ q h. or_right (eqb p.student q.student) (has_number (with_students ps others) q.student) h)
       ps (has_students ps others),
 )
 
@@ -211,13 +207,6 @@ part_of_students cost E T xs known all =
     (are_students (pairs_of E) xs all)
     ∙ sum_by-same _ _ (λ s. sum_pairs-placed cost at (exams_of (pairs_of E) s)) (each_once xs)
 
-each_of_both : {X : Type 0} (P : X → Type 0) (xs ys : List X) → AllByRecursion P (xs ++ ys)
-    → AllByRecursion P xs × AllByRecursion P ys
-each_of_both P [] ys h = (tt, h)
-each_of_both P (x ∷ xs) ys h =
-    let both = each_of_both P xs ys h.1 in
-    ((h.0, both.0), both.1)
-
 -- ---- a change of enrolments
 
 -- the costs of the students whose exams changed are exchanged
@@ -227,7 +216,7 @@ part_exchanged : (cost : ℕ → ℕ → ℕ) (E F : Enrolled) (T : Placing) (ch
     ≡ pair_part cost E (period_of T) + students_cost cost F T changed
 part_exchanged cost E F T changed known known' len same =
     let others : List ℕ = map (λ (p : Pair). p.student) (pairs_of E ++ pairs_of F) in
-    let all = each_of_both (λ p. has_number (others ++ changed) p.student ≡ true)
+    let all = each_append_parts (λ p. has_number (others ++ changed) p.student ≡ true)
     (pairs_of E) (pairs_of F) (has_students (pairs_of E ++ pairs_of F) changed) in
     let before = part_of_students cost E T (others ++ changed) known all.0 in
     let after = part_of_students cost F T (others ++ changed) known' all.1 in

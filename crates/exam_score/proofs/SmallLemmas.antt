@@ -4,6 +4,7 @@ use Rattle.std.specs.Prelude.{slice_get, nat_lt, ◌&&◌}
 use Rattle.std.specs.List.{AllByRecursion}
 use Rattle.std.proofs.Math.Nat.{mul-le-mul}
 use Rattle.std.proofs.lemmas.List.Elements.{recursion_from_All}
+use Rattle.exam_lists.proofs.Booleans.{cond_one_le, cond_le}
 use Rattle.exam_model.specs.Enrolments.{Enrolled, AreEnrolments}
 use Rattle.exam_model.specs.Fits.{Fits, period_of}
 use Rattle.exam_model.specs.Instance.{Session, IsInstance}
@@ -24,14 +25,6 @@ use Rattle.exam_score.specs.MixedDurations.{duration_count, exams_with_duration,
 use Rattle.exam_score.proofs.CostLemmas.{cost_in-small}
 use Rattle.exam_score.proofs.KindLemmas.{each_kind}
 use Rattle.exam_score.proofs.PairsLemmas.{part_small}
-
-pub picked : (b : Bool) (w : ℕ) → w ≤ 100000 → cond b w 0 ≤ 100000
-picked true w h = h
-picked false w h = omega arith
-
-one_or_none : (b : Bool) → ◌≤◌ (cond b 1 0) 1
-one_or_none true = omega arith
-one_or_none false = omega arith
 
 of_period : (xs : List Period) → AllByRecursion PeriodInLimits xs → (i : ℕ)
     → period_penalty (slice_get xs i) ≤ 100000
@@ -61,7 +54,7 @@ most_durations = refl
 
 counted_few : (n : ℕ) (test : ℕ → Bool) → count_below n test ≤ n
 counted_few n test =
-    let all = sum_below-le (λ m. cond (test m) 1 0) 1 n (λ m lt. one_or_none (test m)) in
+    let all = sum_below-le (λ m. cond (test m) 1 0) 1 n (λ m lt. cond_one_le (test m)) in
     omega arith
 
 durations_small : (I : Session) (T : Placing) (p r : ℕ) → durations I T p r ≤ 1441
@@ -100,7 +93,7 @@ penalty_small I E T known enrolled fits =
     let mixed = mixed_where_small I T (λ p r. true) known in
     let exams : length I.exams ≤ 2000 = known.limits.counts.0.1 in
     let front = sum_below-le (exam_front I E T) 100000 (length I.exams)
-    (λ e lt. picked (is_largest I E e && is_late I (place_of T e)) I.weights.front
+    (λ e lt. cond_le (is_largest I E e && is_late I (place_of T e)) I.weights.front 100000
     known.limits.weights.6) in
     let period =
     sum_below-le (λ e. exam_period I (place_of T e)) 100000 (length I.exams)

@@ -1,5 +1,5 @@
 -- A walk along the tallies of a slot.
-use Rattle.std.proofs.Common.{◌≡◌, ◌≢◌, ℕ, ◌+◌, ◌-◌, ◌*◌, ◌<◌, ◌≤◌, cond, eqb, Bool, true, false, List, length, take, drop, get_or, sum_by, All, mul-zero, eq-eqb, inl, inr, refl, sym, subst, ◌∙◌, ap, arith, length-take, length-drop}
+use Rattle.std.proofs.Common.{◌≡◌, ◌≢◌, ℕ, ◌+◌, ◌-◌, ◌*◌, ◌<◌, ◌≤◌, cond, eqb, List, length, take, drop, get_or, sum_by, All, mul-zero, eq-eqb, inl, inr, refl, sym, subst, ◌∙◌, ap, arith, length-take, length-drop}
 use Rattle.std.proofs.lemmas.Bool.{cases_eq, cond-false, ne_eqb}
 use Rattle.std.proofs.lemmas.List.{get_or_default, take-take, get_or-take, get_or-drop}
 use Rattle.std.proofs.lemmas.List.Elements.{recursion_from_All}
@@ -7,6 +7,7 @@ use Rattle.std.proofs.lemmas.List.Sums.{sum_by-take-drop, sum_by_more, sum_by-ta
 use Rattle.std.proofs.lemmas.Nat.{mul-le}
 use Rattle.std.proofs.Math.Nat.{mul_comm}
 use Rattle.exam_lists.proofs.Sums.{sum_by-none, sum_by-same, sum_by-times, sum_by-zeros}
+use Rattle.exam_lists.proofs.Booleans.{cond_le, cond_same}
 use Rattle.exam_model.proofs.SumLemmas.{sum_pairs-more, sum_pairs-le}
 use Rattle.exam_score.specs.Tallies.{tally_sum, cost_with_tally, tally_pair, tally_cost, row_count}
 use Rattle.exam_score.specs.TallyLinks.{slot_of_student, IsLast, IsOnWay, IsOwnPlace, AreLinkedIn}
@@ -15,10 +16,6 @@ use Rattle.exam_score.specs.declared.rows.Row.{Row}
 use Rattle.exam_score.specs.declared.tallies.Tally.{Tally}
 
 -- ---- tallies and periods that cost nothing
-
-pub none_or : (b : Bool) → ◌≡◌ {A = ℕ} (cond b 0 0) 0
-none_or true = refl
-none_or false = refl
 
 -- a tally of another student
 other_student : (cost : ℕ → ℕ → ℕ) (y x : Tally) → y.student ≢ x.student → cost_with_tally cost y x
@@ -33,7 +30,7 @@ other_student cost y x differ =
 pub free_period : (cost : ℕ → ℕ → ℕ) (y x : Tally) → cost x.period y.period ≡ 0
     → cost_with_tally cost y x ≡ 0
 free_period cost y x none = ap (λ n. x.exams * cond (eqb y.student x.student) n 0) none
-    ∙ ap (λ n. x.exams * n) (none_or (eqb y.student x.student)) ∙ mul-zero x.exams
+    ∙ ap (λ n. x.exams * n) (cond_same (eqb y.student x.student) 0) ∙ mul-zero x.exams
 
 -- the tallies between one and the next of its slot are of other students
 skipped : (m : ℕ) (cost : ℕ → ℕ → ℕ) (xs : List Tally) (y : Tally) (n k : ℕ)
@@ -271,10 +268,6 @@ beyond_tallies cost xs y none =
 
 -- ---- bounds
 
-picked-small : (b : Bool) (n m : ℕ) → n ≤ m → cond b n 0 ≤ m
-picked-small true n m h = h
-picked-small false n m h = omega arith
-
 pub beside_small : (cost : ℕ → ℕ → ℕ) (xs : List Tally) (y : Tally) (k : ℕ)
     → ((p q : ℕ) → cost p q ≤ 100000) → row_count xs ≤ 200000
     → sum_by (cost_with_tally cost y) (take k xs) ≤ 20000000000
@@ -289,7 +282,7 @@ beside_small cost xs y k small few =
     one x =
         let h = mul-le x.exams (cond (eqb y.student x.student) (cost x.period y.period) 0) x.exams
         100000 (omega arith)
-        (picked-small (eqb y.student x.student) (cost x.period y.period) 100000
+        (cond_le (eqb y.student x.student) (cost x.period y.period) 100000
         (small x.period y.period)) in
         omega arith
 
@@ -363,5 +356,5 @@ cost_with-small cost rows small few =
   where
     pair_small : (x y : Row) → row_pair cost x y ≤ 100000
     pair_small x y =
-        picked-small (eqb y.student x.student) (cost x.period y.period) 100000
+        cond_le (eqb y.student x.student) (cost x.period y.period) 100000
         (small x.period y.period)
