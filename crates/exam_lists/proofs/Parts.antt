@@ -4,8 +4,9 @@ use Rattle.std.proofs.Math.Seq.{take-append_seam}
 use Rattle.std.proofs.lemmas.Bool.Decides.{Decides-eqb}
 use Rattle.std.proofs.lemmas.List.{reverse-append, take_all}
 use Rattle.std.proofs.lemmas.Slice.Eq.{ends_is}
-use Rattle.std.specs.List.{ends_with, onto_first}
-use Rattle.std.specs.Prelude.{if◌then◌else◌, nat_eq}
+use Rattle.std.specs.List.{ends_with, onto_first, repeat}
+use Rattle.std.specs.Prelude.{if◌then◌else◌, nat_eq, All, replicate}
+use Rattle.std.proofs.lemmas.List.Elements.{All-cons, All-head, All-nil, All-tail}
 
 -- after the first of the elements left is the rest
 pub drop_next : {A : Type 0} (xs : List A) (n : ℕ) (y : A) (ys : List A) → drop n xs ≡ y ∷ ys →
@@ -90,3 +91,19 @@ ends_with_take xs p e = (ends_is Decides-eqb xs p (ends_with nat_eq xs p) refl).
 pub ends_with_append : (front p : List ℕ) → ends_with nat_eq (front ++ p) p ≡ true
 ends_with_append front p =
     (ends_is Decides-eqb (front ++ p) p (ends_with nat_eq (front ++ p) p) refl).1 front refl
+
+-- a fact of all elements of two lists, one after the other
+pub All-append_left : {X : Type 0} (P : X → Type 0) (xs ys : List X) → All P (xs ++ ys) → All P xs
+All-append_left P [] ys all = All-nil P
+All-append_left P (x ∷ xs) ys all =
+    All-cons P x xs (All-head P x (xs ++ ys) all)
+    (All-append_left P xs ys (All-tail P x (xs ++ ys) all))
+
+pub All-append_right : {X : Type 0} (P : X → Type 0) (xs ys : List X) → All P (xs ++ ys) → All P ys
+All-append_right P [] ys all = all
+All-append_right P (x ∷ xs) ys all = All-append_right P xs ys (All-tail P x (xs ++ ys) all)
+
+-- a list of one element, repeated
+pub repeat_one : {X : Type 0} (x : X) (n : ℕ) → repeat n (x ∷ []) ≡ replicate n x
+repeat_one x zero = refl
+repeat_one {X} x (suc n) = ap (λ (xs : List X). x ∷ xs) (repeat_one x n)
