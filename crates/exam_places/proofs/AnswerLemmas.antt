@@ -4,6 +4,8 @@ use Rattle.std.proofs.Common.{◌≡◌, ℕ, zero, suc, ◌+◌, ◌<◌, Bool,
 use Rattle.std.specs.List.{flat_map, range_with_len}
 use Rattle.std.proofs.lemmas.Bool.{lt-ltb}
 use Rattle.std.proofs.lemmas.List.{set-get_or}
+use Rattle.exam_lists.proofs.Maps.{map-flat_map, map-map}
+use Rattle.exam_lists.proofs.Ranges.{range_flat_map_same, range_map_same}
 use Rattle.exam_terms.specs.declared.place.Place.{Place}
 use Rattle.exam_model.specs.Enrolments.{Enrolled}
 use Rattle.exam_model.specs.Instance.{Session, IsInstance}
@@ -20,7 +22,6 @@ use Rattle.exam_places.specs.Places.{PlaceAnswer, breach_or, edit_answer, period
 use Rattle.exam_places.specs.Shares.{period_share, place_share}
 use Rattle.exam_places.specs.Unplaced.{IsUnplaced, IsWithout, answer_by, least_breach, row_by, rows_by, share_of, total_without}
 use Rattle.exam_places.specs.declared.unplaced_exam.UnplacedExam.{UnplacedExam}
-use Rattle.exam_places.proofs.CountingLemmas.{lists_same, mapped_lists, mapped_twice, values_same}
 use Rattle.exam_places.proofs.TotalLemmas.{total_added}
 
 -- the later of two places counts
@@ -77,8 +78,8 @@ pub all_rows : (u : UnplacedExam) (T : Placing) (without : ℕ) → IsInstance u
     → flat_map (rows_by u without) (range_with_len 0 (length u.instance.now.periods))
     ≡ places_of u.instance.now u.enrolments.now T u.exam
 all_rows u T without known is cleared total =
-    lists_same (rows_by u without) (period_places I E T e) 0 (length I.periods)
-    (λ p lp. values_same (row_by u (without + share_of u (place p 0)) p) (place_row I E T e p)
+    range_flat_map_same (rows_by u without) (period_places I E T e) 0 (length I.periods)
+    (λ p lp. range_map_same (row_by u (without + share_of u (place p 0)) p) (place_row I E T e p)
     0 (length I.rooms)
     (λ r lr. ap (answered_row p r) (one p r (omega (arith, lp)) (omega (arith, lr)))))
   where
@@ -138,11 +139,11 @@ total_missing u T without missing =
 pub places_answer : (I : Session) (E : Enrolled) (T : Placing) (e : ℕ) → e < length I.exams
     → map (λ (row : PlaceRow). edit_answer row.answer) (places_of I E T e) ≡ answers_of I E T e
 places_answer I E T e exam =
-    mapped_lists of_row (period_places I E T e) (range_with_len 0 (length I.periods))
-    ∙ lists_same (λ p. map of_row (period_places I E T e p)) (period_answers I E T e)
+    map-flat_map of_row (period_places I E T e) (range_with_len 0 (length I.periods))
+    ∙ range_flat_map_same (λ p. map of_row (period_places I E T e p)) (period_answers I E T e)
     0 (length I.periods)
-    (λ p lp. mapped_twice of_row (place_row I E T e p) (range_with_len 0 (length I.rooms))
-    ∙ values_same (λ r. of_row (place_row I E T e p r)) (λ r. answer_at I E T e (place p r))
+    (λ p lp. map-map of_row (place_row I E T e p) (range_with_len 0 (length I.rooms))
+    ∙ range_map_same (λ r. of_row (place_row I E T e p r)) (λ r. answer_at I E T e (place p r))
     0 (length I.rooms)
     (λ r lr. sym (answer_is_edit I E T e (place p r) (lt-ltb e (length I.exams) exam)
     (lt-ltb p (length I.periods) (omega (arith, lp)))

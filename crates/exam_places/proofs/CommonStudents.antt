@@ -101,8 +101,3 @@ step_both left right xs ys x y count total l r same was =
 pub none_common : (left : List ℕ) → common left [] ≡ 0
 none_common [] = refl
 none_common (x ∷ xs) = one_more [] x xs ∙ omega (arith, none_common xs)
-
--- a list of length 0 is empty
-pub empty_list : (xs : List ℕ) → length xs ≡ 0 → xs ≡ []
-empty_list [] e = refl
-empty_list (x ∷ xs) e = absurd (omega arith)

@@ -1,18 +1,14 @@
 -- The first number that passes a test.
 use Rattle.std.specs.Prelude.{nat_lt}
-use Rattle.std.specs.Option.{option_or}
 use Rattle.std.proofs.Common.{◌≡◌, ◌⊎◌, ℕ, zero, suc, ◌+◌, ◌<◌, inl, inr, Bool, true, false, cond, Option, Some, None, refl, sym, ◌∙◌, ap, arith}
 use Rattle.std.proofs.lemmas.Bool.Decides.{nat_tests}
+use Rattle.exam_lists.proofs.Options.{option_or_none}
 use Rattle.exam_model.specs.Sums.{count_below}
 use Rattle.exam_places.specs.Firsts.{first_below, found_or, is_found}
 
-pub or_none : {X : Type 0} (o : Option X) → option_or o None ≡ o
-or_none None = refl
-or_none (Some x) = refl
-
 -- a number that fails is not the first
 pub found_none : (o : Option ℕ) (n : ℕ) → found_or o false n ≡ o
-found_none o n = or_none o
+found_none o n = option_or_none o
 
 -- it is below n and passes, and the numbers below it fail
 pub record IsFirst (n : ℕ) (test : ℕ → Bool) (f : ℕ) : Type 0 where

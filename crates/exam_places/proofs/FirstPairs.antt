@@ -1,11 +1,10 @@
 -- The first pair of exams that breaks a rule and names one exam.
-use Rattle.std.specs.List.Sorted.{IsStrictlySortedBy}
 use Rattle.std.specs.Prelude.{nat_lt, option_map, slice_get}
-use Rattle.std.proofs.Common.{◌≡◌, ◌≢◌, ◌⊎◌, ℕ, ◌<◌, ◌≤◌, inl, inr, Bool, true, false, cond, ◌&&◌, ◌||◌, ◌==◌, List, [], ◌∷◌, Contains, Ordering, Less, length, Option, Some, None, refl, sym, ◌∙◌, ap, ap₂, arith, eqb-true}
+use Rattle.std.proofs.Common.{◌≡◌, ◌≢◌, ◌⊎◌, ℕ, ◌<◌, ◌≤◌, inl, inr, Bool, true, false, cond, ◌&&◌, ◌||◌, ◌==◌, List, [], ◌∷◌, Contains, Less, length, Option, Some, None, refl, sym, ◌∙◌, ap, ap₂, arith, eqb-true}
 use Rattle.std.proofs.lemmas.Bool.{and_parts, cases_eq, cases_lt, true≢false}
 use Rattle.std.proofs.lemmas.Bool.Decides.{nat_tests}
-use Rattle.std.proofs.lemmas.List.Elements.{All-from_recursion, All-contains}
-use Rattle.exam_lists.proofs.Members.{contains_head, first_or_later, none_in_nil}
+use Rattle.exam_lists.proofs.Members.{contains_head}
+use Rattle.exam_lists.proofs.Sorted.{sorted_head}
 use Rattle.exam_model.specs.Enrolments.{Enrolled}
 use Rattle.exam_model.specs.Instance.{Session}
 use Rattle.exam_model.specs.Timetable.{Placing}
@@ -37,21 +36,6 @@ not_before a b x y (inr equal) before =
     let most : b ≤ y = equal.1 in
     grind (arith, nat_tests)
 
--- an element of a sorted list that none comes before is the first
-head_is : {X : Type 0} (R : X → X → Ordering) (first : X) (xs : List X) → IsStrictlySortedBy R xs
-    → Contains xs first → ((x : X) → Contains xs x → R x first ≡ Less → ⊥)
-    → slice_get xs 0 ≡ Some first
-unfolding IsStrictlySortedBy
-head_is R first [] up there least = absurd (none_in_nil there)
-head_is R first (x ∷ xs) up there least =
-    elim (first_or_later x xs first there) as (λ _. slice_get (x ∷ xs) 0 ≡ Some first) [
-      | inl same ↦ ap Some same
-      | inr later ↦
-          absurd (least x (contains_head x xs)
-          (All-contains (λ y. R x y ≡ Less) xs first
-          (All-from_recursion (λ y. R x y ≡ Less) xs up.0) later))
-    ]
-
 head_none : {X : Type 0} (xs : List X) → ((x : X) → Contains xs x → ⊥) → slice_get xs 0 ≡ None
 head_none [] none = refl
 head_none (x ∷ xs) none = absurd (none x (contains_head x xs))
@@ -59,7 +43,7 @@ head_none (x ∷ xs) none = absurd (none x (contains_head x xs))
 first_pair : (test : ℕ → ℕ → Bool) (n a b : ℕ) → a < n → b < n → IsLeast test a b
     → slice_get (passing_pairs test n) 0 ≡ Some (pair a b)
 first_pair test n a b la lb is =
-    head_is exam_pair_cmp (pair a b) (passing_pairs test n) (passing_sorted test n)
+    sorted_head exam_pair_cmp (pair a b) (passing_pairs test n) (passing_sorted test n)
     (passing_all test n (pair a b) (la, lb) is.passes)
     (λ p there before. not_before a b p.exam p.other
     (is.least p.exam p.other (passing_only test n p there)) before)

@@ -1,4 +1,3 @@
-pub mod CountingLemmas
 pub mod PeriodLemmas
 pub mod BreachSplit
 pub mod SumSteps

@@ -1,7 +1,7 @@
 -- The mixed part at a place, by what an exam meets there.
 use Rattle.std.specs.Prelude.{slice_get}
-use Rattle.std.proofs.Common.{◌≡◌, ℕ, cond, not, ◌&&◌, ◌==◌, length, Option, Some, None, refl, sym, ◌∙◌, ap, ap₂, arith}
-use Rattle.std.proofs.lemmas.Bool.Decides.{nat_tests}
+use Rattle.std.proofs.Common.{◌≡◌, ℕ, cond, not, ◌&&◌, length, Option, Some, None, refl, sym, ◌∙◌, ap, ap₂}
+use Rattle.exam_lists.proofs.Booleans.{eqb_swap}
 use Rattle.exam_terms.specs.declared.place.Place.{Place}
 use Rattle.exam_model.specs.Timetable.{place_of}
 use Rattle.exam_rules.specs.Places.{is_one_place, place_satisfies}
@@ -12,14 +12,11 @@ use Rattle.exam_places.specs.PlaceTable.{is_here, lasts_as, place_entry}
 use Rattle.exam_places.specs.Shares.{mixed_share}
 use Rattle.exam_places.proofs.FirstLemmas.{first_same, found_counts}
 
-same_swap : (a b : ℕ) → (a == b) ≡ (b == a)
-same_swap a b = grind (arith, nat_tests)
-
 at_here : (at : Place) (o : Option Place)
     → is_at at.period at.room o ≡ place_satisfies (is_one_place at) o
 at_here at None = refl
 at_here at (Some q) =
-    ap₂ (λ a b. a && b) (same_swap q.period at.period) (same_swap q.room at.room)
+    ap₂ (λ a b. a && b) (eqb_swap q.period at.period) (eqb_swap q.room at.room)
 
 -- the weight, if some exam is there and none of them lasts as long
 pub mixed_by_entry : (u : UnplacedExam) (at : Place)

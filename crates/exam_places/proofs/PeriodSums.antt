@@ -1,8 +1,9 @@
 -- The cost of an exam with all others, period by period.
 use Rattle.std.specs.Prelude.{option_map}
-use Rattle.std.proofs.Common.{◌≡◌, ℕ, zero, suc, ◌+◌, ◌*◌, ◌<◌, ◌≤◌, inl, inr, Bool, true, false, cond, ◌==◌, List, length, Option, Some, None, refl, ◌∙◌, ap, ap₂, arith, add-mul, zero-mul}
+use Rattle.std.proofs.Common.{◌≡◌, ℕ, zero, suc, ◌+◌, ◌*◌, ◌<◌, ◌≤◌, inl, inr, cond, ◌==◌, List, length, Option, Some, None, refl, ◌∙◌, ap, ap₂, arith, add-mul, zero-mul}
 use Rattle.std.proofs.lemmas.Bool.{cases_lt, lt-ltb}
 use Rattle.std.proofs.lemmas.List.{get_or_past}
+use Rattle.exam_lists.proofs.Booleans.{cond_mul}
 use Rattle.exam_terms.specs.declared.place.Place.{Place}
 use Rattle.exam_model.specs.Enrolments.{AreEnrolments}
 use Rattle.exam_model.specs.Fits.{period_of}
@@ -17,10 +18,6 @@ use Rattle.exam_places.specs.PeriodTable.{IsPeriodTable, is_in, no_exams_in, per
 use Rattle.exam_places.specs.Shares.{cost_beside}
 use Rattle.exam_places.proofs.SizeLemmas.{entry_shared}
 
-cond-mul : (b : Bool) (s c : ℕ) → cond b s 0 * c ≡ cond b (s * c) 0
-cond-mul true s c = refl
-cond-mul false s c = zero-mul c
-
 -- one exam's students, in its period
 one_exam : (cost : ℕ → ℕ → ℕ) (p s periods : ℕ) (o : Option Place)
     → ((q : Place) → o ≡ Some q → q.period < periods)
@@ -31,7 +28,7 @@ one_exam cost p s periods None within =
     ∙ (let none : 0 ≡ s * 0 = omega arith in none)
 one_exam cost p s periods (Some q) within =
     sum_below-same _ (λ k. cond (q.period == k) (s * cost p k) 0)
-    (λ k. cond-mul (q.period == k) s (cost p k)) periods
+    (λ k. cond_mul (q.period == k) s (cost p k)) periods
     ∙ sum_below-at (λ k. s * cost p k) q.period periods
     ∙ ap (λ b. cond b (s * cost p q.period) 0) (lt-ltb q.period periods (within q refl))
 

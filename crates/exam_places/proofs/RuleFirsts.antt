@@ -5,6 +5,8 @@ use Rattle.std.proofs.Common.{◌≡◌, ◌≢◌, ℕ, ◌+◌, ◌<◌, Bool,
 use Rattle.std.proofs.lemmas.Bool.{cases_eq}
 use Rattle.std.proofs.lemmas.Bool.Decides.{nat_tests}
 use Rattle.std.proofs.lemmas.List.{length-set}
+use Rattle.exam_lists.proofs.Booleans.{eqb_swap}
+use Rattle.exam_lists.proofs.Options.{option_or_none}
 use Rattle.exam_terms.specs.declared.place.Place.{Place}
 use Rattle.exam_model.specs.Enrolments.{Enrolled, shared_students, size_of}
 use Rattle.exam_model.specs.Instance.{Session}
@@ -21,25 +23,16 @@ use Rattle.exam_places.specs.PeriodTable.{is_in}
 use Rattle.exam_places.specs.PlaceTable.{is_here, is_keeper}
 use Rattle.exam_places.specs.Shares.{shared_of}
 use Rattle.exam_places.proofs.BreachSplit.{among_more, early_by_rule, first_of}
-use Rattle.exam_places.proofs.FirstLemmas.{or_none}
 use Rattle.exam_places.proofs.FirstPairs.{clash_first, exclusive_first, own_first}
 use Rattle.exam_places.proofs.PairShares.{greater_last, smaller_first}
 use Rattle.exam_places.proofs.PlacedLemmas.{other_place, own_place}
 use Rattle.exam_places.proofs.SumSteps.{one_added}
 
-same_swap : (a b : ℕ) → (a == b) ≡ (b == a)
-same_swap a b = grind (arith, nat_tests)
-
 one_place-swap : (a b : Place) → is_one_place a b ≡ is_one_place b a
-one_place-swap a b = ap₂ (λ c d. c && d) (same_swap a.period b.period) (same_swap a.room b.room)
+one_place-swap a b = ap₂ (λ c d. c && d) (eqb_swap a.period b.period) (eqb_swap a.room b.room)
 
 own_one_place : (a : Place) → is_one_place a a ≡ true
 own_one_place a = grind (arith, nat_tests)
-
--- a test of the other place, from either side
-from_left : (test : Place → Place → Bool) (a : Place) (o : Option Place)
-    → both_satisfy test (Some a) o ≡ place_satisfies (test a) o
-from_left test a o = refl
 
 from_right : (test : Place → Place → Bool) (a : Place) (o : Option Place)
     → both_satisfy test o (Some a) ≡ place_satisfies (λ p. test p a) o
@@ -63,7 +56,7 @@ others_stay W e a unplaced f ne =
 -- the first breach of one rule alone
 alone : (I : Session) (E : Enrolled) (T : Placing) (e : ℕ) (r : BreachRule)
     → first_among I E T (e ∷ []) (r ∷ []) ≡ first_of I E T (e ∷ []) r
-alone I E T e r = among_more I E T (e ∷ []) r [] ∙ or_none (first_of I E T (e ∷ []) r)
+alone I E T e r = among_more I E T (e ∷ []) r [] ∙ option_or_none (first_of I E T (e ∷ []) r)
 
 duration_there : (I : Session) (E : Enrolled) (W : Placing) (e : ℕ) (a : Place)
     → e < length W → e < length I.exams
@@ -114,7 +107,7 @@ clash_there I E W e a unplaced fits within =
         ap₂ (λ b c. b && (c && nat_lt 0 (shared_students E e f))) ordered
         (ap₂ (λ o p. both_satisfy (λ p q. p.period == q.period) o p)
         (own_place W e (Some a) placed) (others_stay W e a unplaced f other)
-        ∙ (λ i. place_satisfies (λ q. same_swap a.period q.period i) (place_of W f)))
+        ∙ (λ i. place_satisfies (λ q. eqb_swap a.period q.period i) (place_of W f)))
         ∙ ap (λ n. is_in W a.period f && nat_lt 0 n) (sym (greater_last E e f more))
 
 -- the first breach of the two rules on periods
@@ -128,7 +121,7 @@ pub early_is : (I : Session) (E : Enrolled) (W : Placing) (e : ℕ) (a : Place)
 early_is I E W e a unplaced fits within =
     early_by_rule I E (set W e (Some a)) (e ∷ [])
     ∙ ap₂ option_or (duration_there I E W e a (omega (arith, fits, within)) within)
-    (or_none (first_of I E (set W e (Some a)) (e ∷ []) Clash)
+    (option_or_none (first_of I E (set W e (Some a)) (e ∷ []) Clash)
     ∙ clash_there I E W e a unplaced fits within)
 
 -- the students of the exam come to those at its place

@@ -2,6 +2,7 @@
 use Rattle.std.proofs.Common.{ℕ, ◌*◌, ◌<◌, ◌≤◌, Bool, true, false, cond, [], length, arith}
 use Rattle.std.specs.Prelude.{nat_lt}
 use Rattle.std.proofs.lemmas.List.Sums.{count_by-le-length, get_or-le-sum_by}
+use Rattle.exam_lists.proofs.Booleans.{cond_le}
 use Rattle.exam_terms.specs.declared.place.Place.{Place}
 use Rattle.exam_model.specs.Enrolments.{AreEnrolments, Enrolled, has, pair_count, shared_students, size_of, students}
 use Rattle.exam_model.specs.Timetable.{place_of}
@@ -34,17 +35,13 @@ shared_small E is e f le lf =
     go true a b = a
     go false a b = b
 
-if_small : (b : Bool) (n : ℕ) → n ≤ 200000 → cond b n 0 ≤ 200000
-if_small true n small = small
-if_small false n small = omega arith
-
 -- the students shared with the exams of a period
 pub entry_shared : (u : UnplacedExam) → AreEnrolments u.enrolments.now → (i p : ℕ)
     → i ≤ length u.enrolments.now → u.exam < length u.enrolments.now
     → (period_entry u i p).shared ≤ i * 200000
 entry_shared u is i p most within =
     sum_below-le (λ f. cond (is_in u.timetable.now p f) (shared_with u f) 0) 200000 i
-    (λ f lt. if_small (is_in u.timetable.now p f) (shared_with u f)
+    (λ f lt. cond_le (is_in u.timetable.now p f) (shared_with u f) 200000
     (shared_small u.enrolments.now is u.exam f within (omega (arith, lt, most))))
 
 -- the students at a place
@@ -54,5 +51,5 @@ pub entry_students : (u : UnplacedExam) → AreEnrolments u.enrolments.now → (
 entry_students u is i at most =
     sum_below-le (λ f. cond (place_satisfies (is_one_place at) (place_of u.timetable.now f))
     (size_of u.enrolments.now f) 0) 200000 i
-    (λ f lt. if_small (place_satisfies (is_one_place at) (place_of u.timetable.now f))
-    (size_of u.enrolments.now f) (size_small u.enrolments.now is f (omega (arith, lt, most))))
+    (λ f lt. cond_le (place_satisfies (is_one_place at) (place_of u.timetable.now f))
+    (size_of u.enrolments.now f) 200000 (size_small u.enrolments.now is f (omega (arith, lt, most))))

@@ -1,13 +1,13 @@
 -- Tables that are filled one exam at a time.
 use Rattle.std.specs.Prelude.{nat_lt}
-use Rattle.std.proofs.Common.{◌≡◌, ◌⊎◌, inl, inr, ℕ, ◌+◌, ◌*◌, ◌<◌, Bool, true, false, cond, ◌&&◌, ◌||◌, ◌==◌, List, length, get_or, set, take, Some, refl, sym, ◌∙◌, ap, ap₂, subst, arith, add-one, eqb-true, eq-eqb}
+use Rattle.std.proofs.Common.{◌≡◌, ◌⊎◌, inl, inr, ℕ, ◌+◌, ◌*◌, ◌<◌, Bool, true, false, cond, ◌&&◌, ◌||◌, ◌==◌, List, length, get_or, set, take, Some, refl, sym, ◌∙◌, ap, ap₂, subst, arith, add-one, eqb-true, eq-eqb, add-zero}
 use Rattle.std.specs.List.{list_any}
 use Rattle.std.proofs.lemmas.Bool.{and_parts, and_from, cases_eq, false_from_ne_true, ne_eqb}
 use Rattle.std.proofs.lemmas.List.Folds.{list_any_more}
 use Rattle.std.proofs.lemmas.Bool.Decides.{nat_tests}
 use Rattle.std.proofs.lemmas.List.{length-set, get_or-set_same, get_or-set_other}
 use Rattle.std.proofs.lemmas.Nat.{same_from_place}
-use Rattle.std.proofs.Math.Bool.{or-false}
+use Rattle.std.proofs.Math.Bool.{or-false, or-true}
 use Rattle.exam_terms.specs.declared.place.Place.{Place}
 use Rattle.exam_model.specs.Enrolments.{size_of}
 use Rattle.exam_model.specs.Fits.{PlaceExists, slot_of}
@@ -24,9 +24,6 @@ use Rattle.exam_places.specs.Firsts.{found_or}
 use Rattle.exam_places.specs.PeriodTable.{IsPeriodTable, is_in, no_exams_in, period_entry, shared_with, with_shared}
 use Rattle.exam_places.specs.PlaceTable.{IsPlaceTable, is_here, is_keeper, lasts_as, no_exams_at, place_entry, with_exam}
 use Rattle.exam_places.proofs.FirstLemmas.{found_none}
-
-nothing_more : (n : ℕ) → n + 0 ≡ n
-nothing_more n = omega arith
 
 -- ---- periods
 
@@ -53,7 +50,7 @@ unfolding period_more
 not_in_period u i p isnt =
     period_step u i p ∙ ap (period_more u i p) isnt
     ∙ (λ k. record {
-      shared = nothing_more ((period_entry u i p).shared) k;
+      shared = add-zero ((period_entry u i p).shared) k;
       first = found_none ((period_entry u i p).first) i k;
     })
 
@@ -115,7 +112,7 @@ unfolding place_more
 not_at_place u i at isnt =
     place_step u i at ∙ ap (place_more u i at) isnt
     ∙ (λ k. record {
-      students = nothing_more ((place_entry u i at).students) k;
+      students = add-zero ((place_entry u i at).students) k;
       first = found_none ((place_entry u i at).first) i k;
       as_long = found_none ((place_entry u i at).as_long) i k;
       keeper = found_none ((place_entry u i at).keeper) i k;
@@ -171,10 +168,6 @@ place_put {u} {i} {table} {q} {new} was placed exists is = record {
 
 -- ---- rooms
 
-any_true : (b : Bool) → (b || true) ≡ true
-any_true true = refl
-any_true false = refl
-
 -- the exams of one more line
 pub keepers_more : (exams : ℕ) (lines : List RoomRule) (i x : ℕ) (line : RoomRule)
     (flags : List Bool)
@@ -191,7 +184,7 @@ keepers_more exams lines i x line flags count exists within is named each f lf =
           ap (λ k. get_or (set flags x true) k false) same
           ∙ get_or-set_same flags x true false (omega (arith, count, exists))
           ∙ sym (more ∙ ap (λ b. list_any (is_exclusive f) (take i lines) || b) hit
-          ∙ any_true (list_any (is_exclusive f) (take i lines))))
+          ∙ or-true (list_any (is_exclusive f) (take i lines))))
       | inr other ↦
           (let missed : (line.0 == f) ≡ false
           = ne_eqb line.0 f (λ e. other (sym e ∙ sym named)) in

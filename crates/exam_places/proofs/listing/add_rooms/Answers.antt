@@ -1,10 +1,10 @@
 use Rattle.std.proofs.Common.{◌≡◌, ◌++◌, [], ◌∷◌, ◌∙◌, ℕ, ap, ap₂, arith, length, map}
 use Rattle.std.specs.List.{range_with_len}
+use Rattle.exam_lists.proofs.Ranges.{range_map_more}
 use Rattle.exam_places.specs.declared.place_row.PlaceRow.{PlaceRow}
 use Rattle.exam_places.specs.Answers.{place}
 use Rattle.exam_places.specs.Places.{PlaceAnswer}
 use Rattle.exam_places.specs.Unplaced.{answer_by, row_by}
-use Rattle.exam_places.proofs.CountingLemmas.{value_more}
 use Rattle.exam_places.proofs.listing.add_rooms.Goals as goal
 
 pub loop-room-preserved : goal.loop-room-preserved
@@ -18,7 +18,7 @@ loop-room-preserved c =
     ∙ ap₂ (λ xs x. xs ++ x ∷ []) c.loop-room.invariant
     (ap₂ with_answer c.new-room.ensures
     (c.answer_in-answer.ensures ∙ ap (λ r. answer_by u total (place p r)) c.new-room.ensures))
-    ∙ value_more (row_by u total p) c.args.rows.now.items c.loop-room.room
+    ∙ range_map_more (row_by u total p) c.args.rows.now.items c.loop-room.room
 
 pub returns : goal.returns
 returns c =

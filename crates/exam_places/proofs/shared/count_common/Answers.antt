@@ -1,6 +1,7 @@
 use Rattle.std.proofs.Common.{◌≡◌, ◌<◌, [], ap, arith}
 use Rattle.std.proofs.lemmas.Bool.Decides.{nat_tests}
-use Rattle.exam_places.proofs.CommonStudents.{common, empty_list, none_common, step_both, step_left, step_right}
+use Rattle.std.proofs.lemmas.List.{nil_from_length}
+use Rattle.exam_places.proofs.CommonStudents.{common, none_common, step_both, step_left, step_right}
 use Rattle.exam_places.proofs.shared.count_common.Goals as goal
 
 pub walk-preserved-then-lt : goal.walk-preserved-then-lt
@@ -26,6 +27,6 @@ walk-preserved c =
 
 pub returns-in_default-split_first : goal.returns-in_default-split_first
 returns-in_default-split_first c =
-    let none : c.walk.right.now ≡ [] = empty_list _ c.in_default-split_first.ensures.cases in
+    let none : c.walk.right.now ≡ [] = nil_from_length _ c.in_default-split_first.ensures.cases in
     let gone = ap (common c.walk.left.now) none in
     omega (arith, gone, none_common c.walk.left.now, c.walk.invariant.counted)
