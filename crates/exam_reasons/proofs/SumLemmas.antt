@@ -1,9 +1,10 @@
 -- The points of reasons, added up.
 use Rattle.std.specs.Prelude.{slice_get}
-use Rattle.std.proofs.Common.{◌≡◌, ℕ, zero, suc, ◌+◌, ◌*◌, ◌≤◌, ◌==◌, Bool, true, false, cond, ltb, List, Option, Some, None, length, sum_by, refl, sym, ◌∙◌, ap, ap₂, arith, inl, inr, one-mul, zero-mul, lt-ltb, le-ltb}
-use Rattle.std.proofs.lemmas.Bool.{cases_lt, cond-true, cond-false, eqb-true}
+use Rattle.std.proofs.Common.{◌≡◌, ℕ, zero, suc, ◌+◌, ◌*◌, ◌==◌, Bool, true, false, cond, List, Option, Some, None, length, sum_by, refl, sym, ◌∙◌, ap, ap₂, arith}
+use Rattle.std.proofs.lemmas.Bool.{eqb-true}
 use Rattle.std.proofs.lemmas.List.Sums.{sum_by-append}
 use Rattle.std.proofs.lemmas.Option.{slice_get_past}
+use Rattle.exam_lists.proofs.Booleans.{cond_below_or_none, cond_times}
 use Rattle.exam_terms.specs.declared.place.Place.{Place}
 use Rattle.exam_model.specs.Enrolments.{Enrolled}
 use Rattle.exam_model.specs.Fits.{Fits}
@@ -49,10 +50,6 @@ swapped g (suc n) m =
     ap (λ k. k + sum_below m (g n)) (swapped g n m)
     ∙ sym (sum_below-add (λ b. sum_below n (λ a. g a b)) (g n) m)
 
-times_test : (b : Bool) (w : ℕ) → cond b 1 0 * w ≡ cond b w 0
-times_test true w = one-mul w
-times_test false w = zero-mul w
-
 -- amounts by number, once for each exam there, add up to the costs of all exams
 by_places : (amount : ℕ → ℕ) (test : ℕ → Option Place → Bool) (cost : Option Place → ℕ)
     (at : ℕ → Option Place) (n m : ℕ)
@@ -62,17 +59,9 @@ by_places : (amount : ℕ → ℕ) (test : ℕ → Option Place → Bool) (cost 
 by_places amount test cost at n m one =
     sum_below-same _ _
     (λ k. sym (sum_below-times (λ e. cond (test k (at e)) 1 0) (amount k) m)
-    ∙ sum_below-same _ _ (λ e. times_test (test k (at e)) (amount k)) m) n
+    ∙ sum_below-same _ _ (λ e. cond_times (test k (at e)) (amount k)) m) n
     ∙ swapped (λ k e. cond (test k (at e)) (amount k) 0) n m
     ∙ sum_below-same _ _ (λ e. one (at e)) m
-
-within_or_none : (amount : ℕ → ℕ) (x n : ℕ) → (n ≤ x → amount x ≡ 0)
-    → cond (ltb x n) (amount x) 0 ≡ amount x
-within_or_none amount x n past =
-    elim (cases_lt x n) as (λ _. cond (ltb x n) (amount x) 0 ≡ amount x) [
-      | inl less ↦ cond-true (ltb x n) (amount x) 0 (lt-ltb x n less)
-      | inr more ↦ cond-false (ltb x n) (amount x) 0 (le-ltb x n more) ∙ sym (past more)
-    ]
 
 one_period : (I : Session) (o : Option Place)
     → sum_below (length I.periods)
@@ -81,7 +70,7 @@ one_period : (I : Session) (o : Option Place)
 one_period I None = sum_below-zeros (length I.periods)
 one_period I (Some at) =
     sum_below-at (λ p. period_penalty (slice_get I.periods p)) at.period (length I.periods)
-    ∙ within_or_none (λ p. period_penalty (slice_get I.periods p)) at.period (length I.periods)
+    ∙ cond_below_or_none (λ p. period_penalty (slice_get I.periods p)) at.period (length I.periods)
     (λ past. ap period_penalty (slice_get_past I.periods at.period past))
 
 one_room : (I : Session) (o : Option Place)
@@ -90,7 +79,7 @@ one_room : (I : Session) (o : Option Place)
 one_room I None = sum_below-zeros (length I.rooms)
 one_room I (Some at) =
     sum_below-at (λ r. room_penalty (slice_get I.rooms r)) at.room (length I.rooms)
-    ∙ within_or_none (λ r. room_penalty (slice_get I.rooms r)) at.room (length I.rooms)
+    ∙ cond_below_or_none (λ r. room_penalty (slice_get I.rooms r)) at.room (length I.rooms)
     (λ past. ap room_penalty (slice_get_past I.rooms at.room past))
 
 periods_sum : (I : Session) (T : Placing) → length T ≡ length I.exams

@@ -1,23 +1,13 @@
-use Rattle.std.proofs.Common.{◌≡◌, ◌≤◌, ℕ, Bool, true, false, ◌∙◌, refl, sym, ap, ap₂, subst, ◌+◌, cond, not, ◌&&◌, arith, add-zero, length, length-set, get_or, set}
+use Rattle.std.proofs.Common.{◌≡◌, ◌≤◌, ℕ, true, false, ◌∙◌, sym, ap, ap₂, subst, ◌+◌, cond, not, ◌&&◌, arith, add-zero, length, length-set, get_or, set}
 use Rattle.std.proofs.lemmas.List.{get_or-replicate, length-replicate}
 use Rattle.exam_model.specs.Sums.{count_below}
 use Rattle.exam_model.specs.Timetable.{place_of}
 use Rattle.exam_score.specs.MixedDurations.{duration_count, is_at, has_duration, minutes_of}
 use Rattle.std.specs.Prelude.{nat_lt, slice_get}
+use Rattle.exam_lists.proofs.Booleans.{cond_not, count_new_le}
 use Rattle.exam_score.proofs.TouchedLemmas.{durations_more, durations_none, marked_here, marked_elsewhere, minutes_short}
 use Rattle.exam_reasons.proofs.durations.durations_at.Goals as goal
 use Rattle.exam_reasons.proofs.durations.durations_at.Goals.{then-is_in_place, else-is_in_place}
-
-one_at_most : (before here : Bool) (n k e : ℕ) → k ≡ cond (here && not before) 1 0
-    → n ≤ e → n + k ≤ e + 1
-one_at_most true true n k e is h = omega arith
-one_at_most true false n k e is h = omega arith
-one_at_most false true n k e is h = omega arith
-one_at_most false false n k e is h = omega arith
-
-fresh : (before : Bool) → ◌≡◌ {A = ℕ} (cond before 0 1) (cond (not before) 1 0)
-fresh true = refl
-fresh false = refl
 
 pub loop-exam-init : goal.loop-exam-init
 unfolding duration_count
@@ -64,7 +54,7 @@ loop-exam-preserved c =
           ≡ cond (is_at p r (place_of T e) && not (nat_lt 0 (count_below e (has_duration I T p r k))))
           1 0
           = w.mark-count.ensures.fresh ∙ ap (λ k. cond (get_or before k false) 0 1) is
-          ∙ fresh (get_or before k false)
+          ∙ cond_not (get_or before k false)
           ∙ ap₂ (λ a b. cond (a && not b) 1 0) (sym here) known in
           record {
             long = ap length marked ∙ length-set before k true ∙ c.loop-exam.invariant.long;
@@ -76,7 +66,7 @@ loop-exam-preserved c =
             count = w.count-is ∙ ap₂ (λ a b. a + b) c.loop-exam.invariant.count more
                 ∙ sym (durations_more I T p r e short);
             small = subst (λ n. n ≤ e + 1) (sym w.count-is)
-                (one_at_most _ _ c.loop-exam.count w.mark-count.result e more
+                (count_new_le _ _ c.loop-exam.count w.mark-count.result e more
                 c.loop-exam.invariant.small);
           })
       | else-is_in_place w ↦
