@@ -7,11 +7,11 @@ use Rattle.std.specs.Prelude.{nat_eq, All, IsTrue, option_and_then}
 use Rattle.std.specs.List.{ends_with}
 use Rattle.std.specs.Option.{option_map_or}
 use Rattle.std.proofs.lemmas.Bool.{both_ways}
-use Rattle.std.proofs.lemmas.Bool.Decides.{nat_tests, Decides-eqb}
+use Rattle.std.proofs.lemmas.Bool.Decides.{nat_tests}
 use Rattle.std.proofs.lemmas.List.{nil_from_length, take-take}
 use Rattle.std.proofs.lemmas.List.Elements.{All-cons, All-head, All-tail, All-append}
 use Rattle.std.proofs.lemmas.List.Elements.{All-weaker, All-from_recursion}
-use Rattle.std.proofs.lemmas.Slice.Eq.{ends_is}
+use Rattle.exam_lists.proofs.Parts.{ends_with_append, ends_with_take, last_of, nil_no_append}
 use Rattle.httparse.specs.Ascii.{crlf_bytes}
 use Rattle.httparse.specs.Grammar.{LineEnd, crlf, lf, print_end, print_blank, Field, IsField}
 use Rattle.httparse.specs.Grammar.{print_field, print_section, print_version, is_value_byte, AllPass}
@@ -126,9 +126,6 @@ field_is_plain f is =
 field_line : (line e y z : List ℕ) → line ++ (e ++ (y ++ z)) ≡ ((line ++ e) ++ y) ++ z
 field_line line e y z = simp append_assoc
 
-nothing_ends : (q : List ℕ) (c : ℕ) (t : List ℕ) → [] ≡ q ++ c ∷ t → ⊥
-nothing_ends q c t e = omega (arith, ap length e, length-append q (c ∷ t))
-
 -- the end of the fields is the one end
 fields_end_once : (fields : List Field) (last : LineEnd) (q : List ℕ) (c : ℕ) (a b : LineEnd)
     (r : List ℕ) → All IsField fields → c ≢ 10 → (a ≡ lf → c ≢ 13)
@@ -137,7 +134,7 @@ fields_end_once : (fields : List Field) (last : LineEnd) (q : List ℕ) (c : ℕ
 fields_end_once [] last q c a b r all not_lf not_cr is =
     elim (no_content last [] q c a b r not_lf not_cr (append-nil (print_end last) ∙ is)) [
       | inl h ↦ absurd (omega (arith, h.0))
-      | inr h ↦ absurd (nothing_ends h.0 c (print_end a ++ (print_end b ++ r)) h.1)
+      | inr h ↦ absurd (nil_no_append h.0 c (print_end a ++ (print_end b ++ r)) h.1)
     ]
 fields_end_once (f ∷ fields) last q c a b r all not_lf not_cr is =
     let more = flat_map print_field fields in
@@ -240,7 +237,7 @@ target_has_none method target q c a b r token uri not_lf not_cr e =
     ap (λ (l : List ℕ). l ++ 10 ∷ []) e ∙ widen q c (print_end a) (print_end b) r (10 ∷ []) in
     elim (line_off line lf [] q c a b more all not_lf not_cr longer) [
       | inl h ↦ absurd (none_left b more h.1)
-      | inr h ↦ absurd (nothing_ends h.0 c (print_end a ++ (print_end b ++ more)) h.1)
+      | inr h ↦ absurd (nil_no_append h.0 c (print_end a ++ (print_end b ++ more)) h.1)
     ]
   where
     widen : (q : List ℕ) (c : ℕ) (a b r m : List ℕ)
@@ -252,13 +249,6 @@ target_has_none method target q c a b r token uri not_lf not_cr e =
     none_left lf t e = omega (arith, ap length e)
 
 -- ---- the bytes that end as a head
-
-ends_so : (xs p : List ℕ) → ends_with nat_eq xs p ≡ true → xs ≡ take (length xs - length p) xs ++ p
-ends_so xs p e = (ends_is Decides-eqb xs p (ends_with nat_eq xs p) refl).0 e
-
-does_end : (front p : List ℕ) → ends_with nat_eq (front ++ p) p ≡ true
-does_end front p = (ends_is Decides-eqb (front ++ p) p (ends_with nat_eq (front ++ p) p) refl).1
-    front refl
 
 -- a line, its end, and the end that it doesn't have
 record LineBefore (xs line : List ℕ) : Type 0 where
@@ -274,14 +264,14 @@ by_tests xs line true one e f g =
     let is : take (length xs - 2) xs ≡ line = cc in
     record {
       end = crlf;
-      whole = ends_so xs crlf_bytes e ∙ ap (λ (l : List ℕ). l ++ crlf_bytes) is;
+      whole = ends_with_take xs crlf_bytes e ∙ ap (λ (l : List ℕ). l ++ crlf_bytes) is;
       crlf_not = λ no. absurd (let h : ⊥ = cc in h);
     }
 by_tests xs line false true e f g =
     let is : take (length xs - 1) xs ≡ line = cc in
     record {
       end = lf;
-      whole = ends_so xs (10 ∷ []) f ∙ ap (λ (l : List ℕ). l ++ 10 ∷ []) is;
+      whole = ends_with_take xs (10 ∷ []) f ∙ ap (λ (l : List ℕ). l ++ 10 ∷ []) is;
       crlf_not = λ _. e;
     }
 by_tests xs line false false e f g = absurd (let h : ⊥ = cc in h)
@@ -289,11 +279,6 @@ by_tests xs line false false e f g = absurd (let h : ⊥ = cc in h)
 line_before : (xs line : List ℕ) → before_end xs ≡ Some line → LineBefore xs line
 line_before xs line e =
     by_tests xs line (ends_with nat_eq xs crlf_bytes) (ends_with nat_eq xs (10 ∷ [])) refl refl e
-
-last_of : (x : ℕ) (xs : List ℕ) → (front : List ℕ) × (last : ℕ) × (x ∷ xs ≡ front ++ last ∷ [])
-last_of x [] = ([], x, refl)
-last_of x (y ∷ xs) =
-    let rest = last_of y xs in (x ∷ rest.0, rest.1, ap (λ (l : List ℕ). x ∷ l) rest.2)
 
 in_line : (line : List ℕ) → ends_in_line line ≡ true
     → (front : List ℕ) × (last : ℕ) × (line ≡ front ++ last ∷ []) × (last ≢ 10)
@@ -306,7 +291,7 @@ in_line (x ∷ xs) e =
       λ is. both_ways (ends_with nat_eq (x ∷ xs) (10 ∷ []))
           (grind (arith, nat_tests))
           (ap (λ (l : List ℕ). ends_with nat_eq l (10 ∷ []))
-          (parts.2 ∙ ap (λ (b : ℕ). parts.0 ++ b ∷ []) is) ∙ does_end parts.0 (10 ∷ [])),
+          (parts.2 ∙ ap (λ (b : ℕ). parts.0 ++ b ∷ []) is) ∙ ends_with_append parts.0 (10 ∷ [])),
     )
 
 one_line : (lines : List ℕ) (o : Option (List ℕ)) → before_end lines ≡ o
@@ -345,7 +330,7 @@ ended bytes e =
           (inner.whole ∙ ap (λ (l : List ℕ). l ++ print_end inner.end) parts.2
           ∙ ap (λ (x : LineEnd). (parts.0 ++ parts.1 ∷ []) ++ print_end x) is_lf
           ∙ ap (λ (x : ℕ). (parts.0 ++ x ∷ []) ++ 10 ∷ []) is_cr
-          ∙ append_assoc parts.0 (13 ∷ []) (10 ∷ [])) ∙ does_end parts.0 crlf_bytes);
+          ∙ append_assoc parts.0 (13 ∷ []) (10 ∷ [])) ∙ ends_with_append parts.0 crlf_bytes);
     }
   where
     regroup : (q : List ℕ) (c : ℕ) (a b : List ℕ)

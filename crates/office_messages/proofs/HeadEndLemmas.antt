@@ -11,6 +11,7 @@ use Rattle.std.proofs.lemmas.Bool.Decides.{nat_tests}
 use Rattle.std.proofs.lemmas.List.Elements.{All-nil, All-head, All-tail}
 use Rattle.std.proofs.lemmas.List.{take-take}
 use Rattle.std.proofs.Math.Seq.{take-append_seam, drop-append_seam}
+use Rattle.exam_lists.proofs.Parts.{take_front}
 use lib.Pointwise.{pointwise}
 use Rattle.httparse.specs.Ascii.{crlf_bytes}
 use Rattle.httparse.specs.Grammar.{LineEnd, crlf, lf, print_end, print_blank, Field, IsField}
@@ -97,14 +98,6 @@ ends_of front p q same =
     ap (λ (k : ℕ). pointwise nat_eq p (drop k (front ++ q))) start
     ∙ ap (pointwise nat_eq p) (drop-append_seam front q)
 
--- the front is the bytes without the end
-front_of : (front q : List ℕ) (n : ℕ) → n ≡ length q
-    → take (length (front ++ q) - n) (front ++ q) ≡ front
-front_of front q n same =
-    let start : length (front ++ q) - n ≡ length front =
-    omega (arith, length-append front q, same) in
-    ap (λ (k : ℕ). take k (front ++ q)) start ∙ take-append_seam front q
-
 -- which of the two line ends is there
 by_tests : (xs line : List ℕ) (both one : Bool) → ends_with nat_eq xs crlf_bytes ≡ both
     → ends_with nat_eq xs (10 ∷ []) ≡ one
@@ -123,7 +116,7 @@ line_of text last crlf no_cr =
     let xs : List ℕ = line ++ 13 ∷ 10 ∷ [] in
     by_tests xs line true (ends_with nat_eq xs (10 ∷ []))
     (ends_of line crlf_bytes (13 ∷ 10 ∷ []) refl) refl
-    (ap Some (front_of line (13 ∷ 10 ∷ []) 2 refl))
+    (ap Some (take_front line (13 ∷ 10 ∷ []) 2 refl))
 line_of text last lf no_cr =
     let line : List ℕ = text ++ last ∷ [] in
     let xs : List ℕ = line ++ 10 ∷ [] in
@@ -132,7 +125,7 @@ line_of text last lf no_cr =
     ∙ ends_of text crlf_bytes (last ∷ 10 ∷ []) refl
     ∙ ap (λ (b : Bool). b && true) (ne_eqb 13 last (λ e. no_cr (sym e))) in
     by_tests xs line false true differs (ends_of line (10 ∷ []) (10 ∷ []) refl)
-    (ap Some (front_of line (10 ∷ []) 1 refl))
+    (ap Some (take_front line (10 ∷ []) 1 refl))
 
 in_line : (text : List ℕ) (last : ℕ) → last ≢ 10 → ends_in_line (text ++ last ∷ []) ≡ true
 in_line text last no_lf =

@@ -34,17 +34,13 @@ pub rest_of : (buf : List ℕ) (h : RequestHead) (rest : List ℕ) → ReadsRequ
 rest_of buf h rest r =
     sym (ap (drop (length (print_request h))) r.1 ∙ drop-append_seam (print_request h) rest)
 
--- the front and the bytes after it
-pub whole_of : (n : ℕ) (bytes : List ℕ) → bytes ≡ take n bytes ++ drop n bytes
-whole_of n bytes = sym (take-append-drop n bytes)
-
 -- a head of the first bytes is one of all
 pub head_of_front : (bytes : List ℕ) (n : ℕ) (h : RequestHead) (len : ℕ)
     → len ≡ length (print_request h) → length h.fields ≤ 32 → n ≤ 16384
     → ReadsRequest (take n bytes) h (drop len (take n bytes)) → HasHead bytes h (drop len bytes)
 head_of_front bytes n h len is room small r =
     let whole : bytes ≡ print_request h ++ (drop len (take n bytes) ++ drop n bytes) =
-    whole_of n bytes ∙ ap (λ l. l ++ drop n bytes) r.1
+    sym (take-append-drop n bytes) ∙ ap (λ l. l ++ drop n bytes) r.1
     ∙ append_assoc (print_request h) (drop len (take n bytes)) (drop n bytes) in
     let rest =
     rest_of bytes h (drop len (take n bytes) ++ drop n bytes) (r.0, whole)

@@ -1,5 +1,4 @@
 pub mod StatusLemmas
-pub mod DigitLemmas
 pub mod NameLemmas
 pub mod FieldLemmas
 pub mod HeadLemmas

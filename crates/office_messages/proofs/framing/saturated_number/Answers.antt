@@ -1,6 +1,6 @@
 use Rattle.std.proofs.Common.{arith, get_or}
 use Rattle.std.proofs.lemmas.Int.Digits.{digits_value_more}
-use Rattle.office_messages.proofs.DigitLemmas.{digit_at, value_of_digit}
+use Rattle.exam_lists.proofs.Digits.{digit_at, value_of_digit}
 use Rattle.office_messages.proofs.framing.saturated_number.Goals as goal
 
 pub loop-digit-preserved : goal.loop-digit-preserved
