@@ -8,6 +8,8 @@ use Rattle.std.proofs.lemmas.List.{append_assoc}
 use Rattle.std.proofs.lemmas.List.Concat.{flat_map-cons}
 use Rattle.std.proofs.lemmas.List.Elements.{All-head, All-tail}
 use Rattle.std.proofs.lemmas.List.Sums.{sum_by-cons, sum_by_push}
+use Rattle.exam_lists.proofs.Each.{each_from_All}
+use Rattle.exam_lists.proofs.Maps.{length_flat_map-le}
 use Rattle.exam_model.specs.Enrolments.{Enrolled, AreEnrolments, AreNumbers, IsAscending, has_number, students, pair_count}
 use Rattle.exam_model.specs.Instance.{Session, IsInstance, PeriodRuleExists, RoomRuleExists}
 use Rattle.exam_calendar.proofs.DateLemmas.{date_ranges}
@@ -37,7 +39,7 @@ use Rattle.office_files.specs.Weights.{with_weightings, no_weights}
 use Rattle.office_files.specs.declared.counts.Counts.{Counts}
 use Rattle.office_files.proofs.CanonicalItems.{exam_fields, exam_written, exam_back, period_fields, period_written, period_back, room_fields, room_written, room_back}
 use Rattle.office_files.proofs.CanonicalItems.{period_rule_fields, period_rule_written, period_rule_back, room_rule_fields, room_rule_written, room_rule_back, weighting_fields, weightings_written, weightings_back}
-use Rattle.office_files.proofs.CanonicalLines.{apart, IsLine, AreRead, rows, each_of, decimal_first, length_decimal, length_flat}
+use Rattle.office_files.proofs.CanonicalLines.{apart, IsLine, AreRead, rows, decimal_first, length_decimal}
 use Rattle.office_files.proofs.CanonicalSections.{IsWord, IsWritten, counted_said, plain_said, counted_field, plain_field, counted_short, plain_short, section_written, section_short, reads_within, at_section}
 use Rattle.office_files.proofs.CanonicalSteps.{length_lines}
 use Rattle.office_files.proofs.InstanceLaws.{text_is_read}
@@ -186,9 +188,9 @@ module _ (counts : Counts) where
   periods_whole ps all some most = record {
     headed = counted_said (codes "Periods") 200 (length ps) is_periods some most (omega arith);
     header = counted_field (codes "Periods") (length ps) is_periods (omega arith);
-    lines = each_of PeriodInLimits
+    lines = each_from_All PeriodInLimits
         (λ p. IsLine (period_text p) (period_fields p)) period_written ps all;
-    none = each_of PeriodInLimits (λ p. is_header (period_text p) ≡ false)
+    none = each_from_All PeriodInLimits (λ p. is_header (period_text p) ≡ false)
         (λ p is. ne_eqb (48 + p.date.day / 10) 91
         (λ same. omega (arith, (date_ranges p.date is.0).2.1)))
         ps all;
@@ -201,8 +203,8 @@ module _ (counts : Counts) where
   rooms_whole rs all some most = record {
     headed = counted_said (codes "Rooms") 200 (length rs) is_rooms some most (omega arith);
     header = counted_field (codes "Rooms") (length rs) is_rooms (omega arith);
-    lines = each_of RoomInLimits (λ r. IsLine (room_text r) (room_fields r)) room_written rs all;
-    none = each_of RoomInLimits (λ r. is_header (room_text r) ≡ false)
+    lines = each_from_All RoomInLimits (λ r. IsLine (room_text r) (room_fields r)) room_written rs all;
+    none = each_from_All RoomInLimits (λ r. is_header (room_text r) ≡ false)
         (λ r is. decimal_first r.capacity _ (omega (arith, is.0))) rs all;
     back = reads_within rooms_heading (room_line counts) room_text room_fields
         RoomInLimits 200 (λ done r is lt. room_back r is) [] rs (omega (arith, most)) all;
@@ -221,10 +223,10 @@ module _ (counts : Counts) where
   period_rules_whole rs le all most = record {
     headed = plain_said (codes "PeriodHardConstraints") is_period_rules;
     header = plain_field (codes "PeriodHardConstraints") is_period_rules;
-    lines = each_of (PeriodRuleExists counts.exams)
+    lines = each_from_All (PeriodRuleExists counts.exams)
         (λ r. IsLine (period_rule_text r) (period_rule_fields r))
         (λ r is. period_rule_written counts.exams r le is) rs all;
-    none = each_of (PeriodRuleExists counts.exams) (λ r. is_header (period_rule_text r) ≡ false)
+    none = each_from_All (PeriodRuleExists counts.exams) (λ r. is_header (period_rule_text r) ≡ false)
         (λ r is. rule_first r is le) rs all;
     back = reads_within period_rules_heading (period_rule_line counts) period_rule_text
         period_rule_fields (PeriodRuleExists counts.exams) 5000
@@ -238,10 +240,10 @@ module _ (counts : Counts) where
   room_rules_whole rs le all most = record {
     headed = plain_said (codes "RoomHardConstraints") is_room_rules;
     header = plain_field (codes "RoomHardConstraints") is_room_rules;
-    lines = each_of (RoomRuleExists counts.exams)
+    lines = each_from_All (RoomRuleExists counts.exams)
         (λ r. IsLine (room_rule_text r) (room_rule_fields r))
         (λ r is. room_rule_written counts.exams r le is) rs all;
-    none = each_of (RoomRuleExists counts.exams) (λ r. is_header (room_rule_text r) ≡ false)
+    none = each_from_All (RoomRuleExists counts.exams) (λ r. is_header (room_rule_text r) ≡ false)
         (λ r is. decimal_first r.0 _ (omega (arith, is))) rs all;
     back = reads_within room_rules_heading (room_rule_line counts) room_rule_text
         room_rule_fields (RoomRuleExists counts.exams) 5000
@@ -286,7 +288,7 @@ exam_short e is =
     let line = line_length (exam_text e) in
     let both = length-append (decimal e.minutes) (flat_map text e.students) in
     let minutes = four e.minutes (omega (arith, is.minutes)) in
-    let others = length_flat text 11 e.students (numbers_short e.students is.numbers) in
+    let others = length_flat_map-le text 11 e.students (numbers_short e.students is.numbers) in
     omega arith
   where
     numbers_short : (ss : List ℕ) → AllByRecursion (λ s. s ≤ 999999999) ss
@@ -522,21 +524,21 @@ instance_spelled I E is kept fits =
     let l2 = section_short periods_heading
     (period_line counts) period_text period_fields 36 I.periods
     (counted_short (codes "Periods") (length I.periods) is_periods (omega (arith, counted.1.1)))
-    (each_of PeriodInLimits (λ p. length (line_of (period_text p)) ≤ 36) period_short I.periods
+    (each_from_All PeriodInLimits (λ p. length (line_of (period_text p)) ≤ 36) period_short I.periods
     limits.periods) in
     let l3 = section_short rooms_heading (room_line counts) room_text room_fields 36 I.rooms
     (counted_short (codes "Rooms") (length I.rooms) is_rooms (omega (arith, counted.2.1)))
-    (each_of RoomInLimits (λ r. length (line_of (room_text r)) ≤ 36) room_short I.rooms
+    (each_from_All RoomInLimits (λ r. length (line_of (room_text r)) ≤ 36) room_short I.rooms
     limits.rooms) in
     let l4 = section_short period_rules_heading
     (period_rule_line counts) period_rule_text period_rule_fields 36 I.period_rules
     (plain_short (codes "PeriodHardConstraints") is_period_rules)
-    (each_of (PeriodRuleExists (length es)) (λ r. length (line_of (period_rule_text r)) ≤ 36)
+    (each_from_All (PeriodRuleExists (length es)) (λ r. length (line_of (period_rule_text r)) ≤ 36)
     (λ r ok. period_rule_short (length es) r most ok) I.period_rules period_rules) in
     let l5 = section_short room_rules_heading
     (room_rule_line counts) room_rule_text room_rule_fields 36 I.room_rules
     (plain_short (codes "RoomHardConstraints") is_room_rules)
-    (each_of (RoomRuleExists (length es)) (λ r. length (line_of (room_rule_text r)) ≤ 36)
+    (each_from_All (RoomRuleExists (length es)) (λ r. length (line_of (room_rule_text r)) ≤ 36)
     (λ r ok. room_rule_short (length es) r most ok) I.room_rules room_rules) in
     let l6 = section_short weightings_heading
     (weighting_line counts) weighting_text weighting_fields 36 ws

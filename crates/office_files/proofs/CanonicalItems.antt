@@ -1,10 +1,12 @@
 -- The line written for an item reads back as the item.
-use Rattle.std.proofs.Common.{◌≡◌, ◌≢◌, ℕ, zero, suc, ◌+◌, ◌-◌, ◌*◌, ◌/◌, ◌%◌, ◌<◌, ◌≤◌, true, false}
+use Rattle.std.proofs.Common.{◌≡◌, ◌≢◌, ℕ, zero, suc, ◌+◌, ◌-◌, ◌*◌, ◌/◌, ◌%◌, ◌<◌, ◌≤◌, true}
 use Rattle.std.proofs.Common.{List, [], ◌∷◌, ◌++◌, length, Some, None, Ok, refl, sym, subst, ◌∙◌, arith, append-nil}
-use Rattle.std.specs.Prelude.{map, decimal, codes, Bool, ◌||◌}
+use Rattle.std.specs.Prelude.{map, decimal, codes}
 use Rattle.std.specs.List.{flat_map, AllByRecursion}
 use Rattle.std.proofs.lemmas.Bool.{eq-eqb, ne_eqb, le-leb}
 use Rattle.std.proofs.lemmas.List.Concat.{flat_map-cons}
+use Rattle.std.proofs.Math.Bool.{or-false}
+use Rattle.exam_lists.proofs.Digits.{is_digit}
 use Rattle.exam_calendar.specs.Dates.{is_civil}
 use Rattle.exam_calendar.specs.declared.date.Date.{Date}
 use Rattle.exam_calendar.proofs.DateLemmas.{date_ranges}
@@ -37,7 +39,6 @@ use Rattle.office_files.proofs.CanonicalLines.{IsField, IsLine, plain_byte, plai
 use Rattle.exam_model.proofs.StudentLemmas.{ascending-none}
 use Rattle.office_files.proofs.ExamLineLemmas.{ascending-students, has-students}
 use Rattle.office_files.proofs.ExamLinePairs.{students_in-within}
-use Rattle.office_files.proofs.ReadOnLemmas.{is_digit}
 
 -- ---- rooms
 
@@ -234,14 +235,10 @@ all_named (s ∷ ss) all =
     let others = all_named ss all.1 in
     (rw (first, others.0) refl, rw (first, others.1) refl)
 
-none_before : (b : Bool) → (b || false) ≡ b
-none_before true = refl
-none_before false = refl
-
 in_order : (ss : List ℕ) → IsAscending ss → with_students ss [] ≡ ss
 in_order ss up =
     same_list (with_students ss []) ss (ascending-students ss [] ascending-none) up
-    (λ t. has-students ss [] t ∙ none_before (has_number ss t))
+    (λ t. has-students ss [] t ∙ or-false (has_number ss t))
 
 pub exam_back : (pairs : ℕ) (e : ExamLine) → e.minutes ≤ 1440
     → AllByRecursion (λ s. s ≤ 999999999) e.students → IsAscending e.students

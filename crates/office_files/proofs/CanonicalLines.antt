@@ -1,17 +1,18 @@
 -- Written lines are read back: as many lines, and of each its fields.
-use Rattle.std.proofs.Common.{◌≡◌, ◌≢◌, ℕ, suc, ◌+◌, ◌-◌, ◌*◌, ◌%◌, ◌^◌, ◌<◌, ◌≤◌, Bool, true, false}
+use Rattle.std.proofs.Common.{◌≡◌, ◌≢◌, ℕ, ◌+◌, ◌-◌, ◌*◌, ◌%◌, ◌^◌, ◌<◌, ◌≤◌, Bool, true, false}
 use Rattle.std.proofs.Common.{List, [], ◌∷◌, ◌++◌, length, refl, sym, ap, ap₂, ◌∙◌, arith, append-nil}
-use Rattle.std.specs.Prelude.{◌==◌, ◌&&◌, not, nat_lt, map, decimal, All, Result, Ok}
+use Rattle.std.specs.Prelude.{◌==◌, ◌&&◌, not, nat_lt, map, decimal, Result, Ok}
 use Rattle.std.specs.List.{list_all, flat_map, AllByRecursion}
 use Rattle.std.specs.Char.{is_ascii_digit}
 use mathlib.Core.Bool.{true≢false}
 use Rattle.std.proofs.lemmas.Bool.{eq-eqb, ne_eqb, and_parts, lt-ltb, le-leb}
-use Rattle.std.proofs.Common.{length-append, suc-mul}
 use Rattle.std.proofs.lemmas.Fmt.{decimal_by_steps, length-decimal-le}
 use Rattle.std.proofs.lemmas.List.{append_assoc}
-use Rattle.std.proofs.lemmas.List.Elements.{All-head, All-tail}
 use Rattle.std.proofs.lemmas.List.Concat.{flat_map-cons}
 use Rattle.std.proofs.lemmas.List.Folds.{list_all-append}
+use Rattle.exam_lists.proofs.Each.{each_append}
+use Rattle.exam_lists.proofs.Digits.{is_digit}
+use Rattle.exam_lists.proofs.Parts.{length_append_some}
 use Rattle.office_files.specs.CanonicalLines.{line_of, field_before}
 use Rattle.exam_terms.specs.Texts.{is_blank, before_end, trim_start, trim_end, trimmed_text}
 use Rattle.office_files.specs.Fields.{ended_parts, fields_of}
@@ -22,7 +23,7 @@ use Rattle.office_files.specs.Reading.{items_of}
 use Rattle.office_files.specs.declared.fault.FaultKind.{FaultKind}
 use Rattle.exam_terms.proofs.TextLemmas.{trim_start-kept}
 use Rattle.office_files.proofs.LineLemmas.{without_return-cr}
-use Rattle.office_files.proofs.ReadOnLemmas.{fields_after_space, is_digit}
+use Rattle.office_files.proofs.ReadOnLemmas.{fields_after_space}
 
 -- ---- fields
 
@@ -42,11 +43,6 @@ apart p c fails [] e = tt
 apart p c fails (x ∷ xs) e =
     let parts = and_parts (p x) (list_all p xs) e in
     (λ same. true≢false (sym parts.0 ∙ ap p same ∙ fails), apart p c fails xs parts.1)
-
-pub apart-append : (c : ℕ) (xs ys : List ℕ) → AllByRecursion (λ b. b ≢ c) xs
-    → AllByRecursion (λ b. b ≢ c) ys → AllByRecursion (λ b. b ≢ c) (xs ++ ys)
-apart-append c [] ys all more = more
-apart-append c (x ∷ xs) ys all more = (all.0, apart-append c xs ys all.1 more)
 
 no_blank : (b : ℕ) → plain_byte b ≡ true → is_blank b ≡ false
 no_blank b e =
@@ -88,14 +84,10 @@ end_some : (b : ℕ) (xs : List ℕ) → 0 < length xs → before_end b xs ≡ b
 end_some b [] some = absurd (omega arith)
 end_some b (x ∷ xs) some = refl
 
-length-after : (xs ys : List ℕ) → 0 < length ys → 0 < length (xs ++ ys)
-length-after [] ys some = some
-length-after (x ∷ xs) ys some = omega arith
-
 end_after : (xs ys : List ℕ) → 0 < length ys → trim_end ys ≡ ys → trim_end (xs ++ ys) ≡ xs ++ ys
 end_after [] ys some e = e
 end_after (x ∷ xs) ys some e =
-    ap (before_end x) (end_after xs ys some e) ∙ end_some x (xs ++ ys) (length-after xs ys some)
+    ap (before_end x) (end_after xs ys some e) ∙ end_some x (xs ++ ys) (length_append_some xs ys some)
 
 start_plain : (f ys : List ℕ) → IsField f → trim_start (f ++ ys) ≡ f ++ ys
 start_plain [] ys is = let some = is.some in absurd (omega arith)
@@ -146,8 +138,8 @@ field_first f ys is =
 pub line_comma : (f ys : List ℕ) (fields : List (List ℕ)) → IsField f → IsLine ys fields
     → IsLine (f ++ 44 ∷ ys) (f ∷ fields)
 line_comma f ys fields is line = record {
-  some = length-after f (44 ∷ ys) (omega arith);
-  whole = apart-append 10 f (44 ∷ ys) (apart plain_byte 10 refl f is.plain)
+  some = length_append_some f (44 ∷ ys) (omega arith);
+  whole = each_append (λ b. b ≢ 10) f (44 ∷ ys) (apart plain_byte 10 refl f is.plain)
       ((λ (same : 44 ≡ 10). absurd (omega arith)), line.whole);
   starts = start_plain f (44 ∷ ys) is;
   ends = end_after f (44 ∷ ys) (omega arith) (end_after (44 ∷ []) ys line.some line.ends);
@@ -158,8 +150,8 @@ line_comma f ys fields is line = record {
 pub line_before : (f ys : List ℕ) (fields : List (List ℕ)) → IsField f → IsLine ys fields
     → IsLine (field_before f ys) (f ∷ fields)
 line_before f ys fields is line = record {
-  some = length-after f (44 ∷ 32 ∷ ys) (omega arith);
-  whole = apart-append 10 f (44 ∷ 32 ∷ ys) (apart plain_byte 10 refl f is.plain) (
+  some = length_append_some f (44 ∷ 32 ∷ ys) (omega arith);
+  whole = each_append (λ b. b ≢ 10) f (44 ∷ 32 ∷ ys) (apart plain_byte 10 refl f is.plain) (
     (λ (same : 44 ≡ 10). absurd (omega arith)),
     (
       (λ (same : 32 ≡ 10). absurd (omega arith)),
@@ -199,7 +191,7 @@ is_decimal = decimal_by_steps IsDecimal
       value = omega arith;
     })
     (λ n ds ten more. record {
-      some = length-after ds ((48 + n % 10) ∷ []) (omega arith);
+      some = length_append_some ds ((48 + n % 10) ∷ []) (omega arith);
       digits = list_all-append is_ascii_digit ds ((48 + n % 10) ∷ [])
           ∙ rw (more.digits, is_digit (48 + n % 10) (omega arith) (omega arith)) refl;
       plain = list_all-append plain_byte ds ((48 + n % 10) ∷ [])
@@ -247,26 +239,6 @@ trimmed_field f is =
 pub length_decimal : (k n : ℕ) → 0 < k → n < 10 ^ k → n < 2000000000 → length (decimal n) ≤ k
 length_decimal k n some lt fits = length-decimal-le k n some lt (small n fits)
 
--- ---- along a list
-
-pub each_of : {X : Type 0} (P Q : X → Type 0) → ((x : X) → P x → Q x) → (xs : List X) → All P xs
-    → AllByRecursion Q xs
-each_of P Q weaker [] all = tt
-each_of P Q weaker (x ∷ xs) all =
-    (weaker x (All-head P x xs all), each_of P Q weaker xs (All-tail P x xs all))
-
--- texts of at most this many bytes, one after the other
-pub length_flat : {X : Type 0} (f : X → List ℕ) (k : ℕ) (xs : List X)
-    → AllByRecursion (λ x. length (f x) ≤ k) xs → length (flat_map f xs) ≤ length xs * k
-length_flat f k [] short = omega arith
-length_flat f k (x ∷ xs) short =
-    let more = length_flat f k xs short.1 in
-    let both : length (flat_map f (x ∷ xs)) ≡ length (f x) + length (flat_map f xs)
-    = ap length (flat_map-cons f x xs) ∙ length-append (f x) (flat_map f xs) in
-    let first : length (f x) ≤ k = short.0 in
-    let times : suc (length xs) * k ≡ length xs * k + k = suc-mul (length xs) k in
-    omega arith
-
 -- ---- one line after another
 
 -- the lines of a text, from a line's number and its place on
@@ -291,7 +263,7 @@ row_first text fields is line at ys =
     let row : Located = trimmed_piece line (record { start = at; text = without_return cut }) in
     let parts : ended_parts 10 (line_of text ++ ys) ≡ cut ∷ ended_parts 10 ys
     = ap (ended_parts 10) (end_split text ys)
-    ∙ parts_stop 10 cut ys (apart-append 10 text (13 ∷ []) is.whole
+    ∙ parts_stop 10 cut ys (each_append (λ b. b ≢ 10) text (13 ∷ []) is.whole
     ((λ (same : 13 ≡ 10). absurd (omega arith)), tt)) in
     let said : row.text ≡ text
     = ap trimmed_text (without_return-cr text) ∙ ap trim_end is.starts ∙ is.ends in (

@@ -8,6 +8,8 @@ use Rattle.std.proofs.lemmas.Bool.{lt-ltb, eq-eqb}
 use Rattle.std.proofs.lemmas.List.{append_assoc, length-map}
 use Rattle.std.proofs.lemmas.List.Elements.{All-nil, All-cons, All-head, All-tail}
 use Rattle.std.proofs.lemmas.List.Folds.{list_all-append}
+use Rattle.exam_lists.proofs.Each.{each_append}
+use Rattle.exam_lists.proofs.Maps.{length_flat_map-le}
 use Rattle.office_files.specs.CanonicalLines.{line_of}
 use Rattle.office_files.specs.CanonicalText.{header_text, section_text}
 use Rattle.office_files.specs.Lines.{Located, is_header}
@@ -15,7 +17,7 @@ use Rattle.office_files.specs.Headers.{Heading, header_in, plain_header, counted
 use Rattle.office_files.specs.Sections.{AtHeader, IsSection}
 use Rattle.office_files.specs.declared.fault.FaultKind.{FaultKind}
 use Rattle.office_files.proofs.CanonicalItems.{split_stop}
-use Rattle.office_files.proofs.CanonicalLines.{IsField, IsLine, plain_byte, apart-append, line_single, field_decimal, number_decimal, decimal_apart, trimmed_field, length_decimal, length_flat, rows, row_first, row_each, AreRead, read_each}
+use Rattle.office_files.proofs.CanonicalLines.{IsField, IsLine, plain_byte, line_single, field_decimal, number_decimal, decimal_apart, trimmed_field, length_decimal, rows, row_first, row_each, AreRead, read_each}
 use Rattle.office_files.proofs.ReadingLaws.{items_spelled}
 
 -- ---- headers
@@ -39,7 +41,7 @@ counted_said word limit n is some le fits =
     let digits = field_decimal n (omega arith) in
     rw (
       counted_split word (decimal n),
-      split_stop 93 (word ++ 58 ∷ decimal n) [] (apart-append 93 word (58 ∷ decimal n) is.bracket
+      split_stop 93 (word ++ 58 ∷ decimal n) [] (each_append (λ b. b ≢ 93) word (58 ∷ decimal n) is.bracket
           ((λ same. absurd (omega arith)), decimal_apart 93 n refl (omega arith))),
       split_stop 58 word (decimal n) is.colon,
       trimmed_field word is.field,
@@ -165,7 +167,7 @@ module _ {A : Type 0} (heading : Heading) (read : List A → List (List ℕ) →
       → length (section_text heading text xs) ≤ 45 + length xs * k
   section_short k xs header lines =
       let flat : List ℕ = flat_map (λ x. line_of (text x)) xs in
-      let short = length_flat (λ x. line_of (text x)) k xs lines in
+      let short = length_flat_map-le (λ x. line_of (text x)) k xs lines in
       let both = length-append (line_of (header_text heading (length xs))) flat in
       omega arith
 

@@ -8,6 +8,7 @@ use Rattle.std.proofs.lemmas.Bool.{lt-ltb}
 use Rattle.std.proofs.lemmas.List.{length-map}
 use Rattle.std.proofs.lemmas.List.Elements.{All-head, All-tail}
 use Rattle.std.proofs.lemmas.List.Folds.{flat_map-map}
+use Rattle.exam_lists.proofs.Maps.{length_flat_map-le}
 use Rattle.exam_model.specs.Fits.{PlaceExists}
 use Rattle.exam_model.specs.Instance.{Session}
 use Rattle.exam_model.specs.Timetable.{Placing, place_of}
@@ -20,7 +21,7 @@ use Rattle.office_files.specs.Lines.{lines_of}
 use Rattle.office_files.specs.Reading.{items_of}
 use Rattle.office_files.specs.SolutionText.{counts_in, SolutionText, solution_in}
 use Rattle.office_files.specs.declared.counts.Counts.{Counts}
-use Rattle.office_files.proofs.CanonicalLines.{IsLine, field_decimal, line_single, line_before, number_decimal, length_decimal, length_flat, row_each, AreRead, read_each}
+use Rattle.office_files.proofs.CanonicalLines.{IsLine, field_decimal, line_single, line_before, number_decimal, length_decimal, row_each, AreRead, read_each}
 use Rattle.office_files.proofs.ReadingLaws.{items_spelled}
 use Rattle.office_files.proofs.SolutionLaws.{text_is_solution}
 
@@ -115,7 +116,7 @@ solution_spelled I T suits complete =
     = ap lines_of (text ∙ sym (append-nil flat)) ∙ cut.3 ∙ append-nil cut.0 in
     let read = read_each place_text fields (place_line counts) [] places cut.0 lines cut.4
     (are_read counts counted.1.1 counted.2.1 [] places (omega arith) all) in
-    let short = length_flat (λ p. line_of (place_text p)) 12 places
+    let short = length_flat_map-le (λ p. line_of (place_text p)) 12 places
     (are_short counts counted.1.1 counted.2.1 places all) in
     let size = ap length text in
     record {

@@ -1,40 +1,13 @@
 -- Lines added one after another.
-use Rattle.std.proofs.Common.{◌≡◌, ℕ, zero, suc, ◌+◌, ◌<◌, ◌≤◌, List, [], ◌∷◌, ◌++◌, length, take}
-use Rattle.std.proofs.Common.{refl, sym, ap, ◌∙◌, arith, inl, inr, append_assoc, append-nil}
-use Rattle.std.specs.Prelude.{Some, None, slice_get}
+use Rattle.std.proofs.Common.{◌≡◌, ℕ, zero, suc, ◌<◌, List, [], ◌∷◌, ◌++◌, length}
+use Rattle.std.proofs.Common.{refl, ap, arith, append_assoc, append-nil}
+use Rattle.std.specs.Prelude.{Some, slice_get}
 use Rattle.std.specs.List.{flat_map}
-use Rattle.std.proofs.lemmas.List.{take_all, take_more, flat_map_more}
-use Rattle.std.proofs.lemmas.Option.{get_or_from_slice_get, slice_get_cases}
 use Rattle.exam_model.specs.Enrolments.{Enrolled, students}
 use Rattle.exam_model.specs.declared.parts.Exam.{Exam}
 use Rattle.office_files.specs.CanonicalLines.{line_of, field_before, weighting_text}
 use Rattle.office_files.specs.CanonicalText.{exam_lines_of, nights_of}
 use Rattle.office_files.specs.declared.weightings.Weighting.TheVariants.{Night}
-
-within : {A : Type 0} (xs : List A) (i : ℕ) (x : A) → slice_get xs i ≡ Some x → i < length xs
-within xs i x at = elim (slice_get_cases xs i).1 [
-  | inl found ↦ found.1
-  | inr none ↦ let no : Some x ≡ None = sym at ∙ none.1 in cc
-]
-
--- one more item
-pub step : {A : Type 0} (f : A → List ℕ) (start t t' : List ℕ) (xs : List A) (i : ℕ) (x : A)
-    → slice_get xs i ≡ Some x → t ≡ start ++ flat_map f (take i xs) → t' ≡ t ++ f x
-    → t' ≡ start ++ flat_map f (take (i + 1) xs)
-step f start t t' xs i x at was now =
-    let more : take (i + 1) xs ≡ take i xs ++ x ∷ []
-    = take_more xs i x (within xs i x at)
-    ∙ ap (λ y. take i xs ++ y ∷ []) (get_or_from_slice_get xs i x x at) in
-    now ∙ ap (λ (u : List ℕ). u ++ f x) was ∙ flat_map_more f start (take i xs) x
-    ∙ ap (λ ys. start ++ flat_map f ys) (sym more)
-
--- all of them
-pub whole : {A : Type 0} (f : A → List ℕ) (s head t : List ℕ) (xs : List A) (n : ℕ)
-    → length xs ≤ n → t ≡ (s ++ head) ++ flat_map f (take n xs)
-    → t ≡ s ++ (head ++ flat_map f xs)
-whole f s head t xs n all is =
-    is ∙ ap (λ ys. (s ++ head) ++ flat_map f ys) (take_all n xs all)
-    ∙ append_assoc s head (flat_map f xs)
 
 -- a date, a time and two numbers
 pub period_written : (t0 t1 t2 t3 t4 t5 d s a : List ℕ) → t1 ≡ t0 ++ d → t2 ≡ t1 ++ 44 ∷ 32 ∷ []

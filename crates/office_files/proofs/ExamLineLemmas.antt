@@ -1,5 +1,5 @@
 -- The ascending list after students are added.
-use Rattle.std.proofs.Common.{◌≡◌, ℕ, zero, suc, ◌+◌, ◌<◌, ◌≤◌, Bool, true, false, cond}
+use Rattle.std.proofs.Common.{◌≡◌, ℕ, zero, suc, ◌+◌, ◌<◌, ◌≤◌, true, false, cond}
 use Rattle.std.proofs.Common.{List, [], ◌∷◌, length}
 use Rattle.std.proofs.Common.{add-one, refl, ap, sym, subst, ◌∙◌, inl, inr, arith}
 use Rattle.std.specs.Prelude.{◌==◌, ◌||◌, nat_eq, slice_index}
@@ -9,21 +9,13 @@ use Rattle.std.specs.Ordering.{nat_cmp}
 use Rattle.std.proofs.lemmas.Bool.{eqb-true, eqb-false, or_parts, cases_lt}
 use Rattle.std.proofs.lemmas.List.Sorted.{list_any-IsPermutation}
 use Rattle.std.proofs.lemmas.Map.Keys.{IsStrictlyIncreasing-dedup}
-use Rattle.std.proofs.Math.Bool.{or_self_left}
+use Rattle.std.proofs.Math.Bool.{or_self_left, or-false, or_assoc}
+use Rattle.exam_lists.proofs.Booleans.{or_middle}
 use Rattle.exam_model.specs.Enrolments.{IsAscending, has_number}
 use Rattle.exam_model.specs.Changes.{with_student}
 use Rattle.exam_model.proofs.SameSet.{same_list}
 use Rattle.exam_model.proofs.StudentLemmas.{with_cases, has-with, ascending-none, ascending-with}
 use Rattle.office_files.specs.ExamStudents.{with_students}
-
-or-false : (a : Bool) → (a || false) ≡ a
-or-false true = refl
-or-false false = refl
-
-or_along : (a b r : Bool) → (b || (a || r)) ≡ ((a || b) || r)
-or_along true true r = refl
-or_along true false r = refl
-or_along false b r = refl
 
 -- the list gets longer by at most one
 pub length-with : (s : ℕ) (xs : List ℕ) →
@@ -74,7 +66,8 @@ has-students [] seen t = refl
 has-students (s ∷ ss) seen t =
     has-students ss (with_student s seen) t
     ∙ ap (λ b. has_number ss t || b) (has-with s seen t)
-    ∙ or_along (s == t) (has_number ss t) (has_number seen t)
+    ∙ or_middle (has_number ss t) (s == t) (has_number seen t)
+    ∙ sym (or_assoc (s == t) (has_number ss t) (has_number seen t))
 
 pub length-students : (ss seen : List ℕ) → length seen ≤ length (with_students ss seen)
 length-students [] seen = omega arith

@@ -5,6 +5,7 @@ use Rattle.std.proofs.Common.{add-one}
 use Rattle.std.specs.Prelude.{◌==◌, map}
 use Rattle.std.specs.List.{onto_first}
 use Rattle.std.proofs.lemmas.Bool.{eq-eqb, ne_eqb}
+use Rattle.exam_lists.proofs.Parts.{some_onto_first}
 use mathlib.Core.Bool.{true≢false}
 use Rattle.exam_terms.specs.Texts.{trimmed_text}
 use Rattle.office_files.specs.Fields.{ended_parts, fields_of}
@@ -34,17 +35,13 @@ parts_at c (b ∷ bs) (suc i) lt is other =
       add-one i,
     ) refl
 
-onto_first_some : (b : ℕ) (xs : List (List ℕ)) → 0 < length (onto_first b xs)
-onto_first_some b [] = omega arith
-onto_first_some b (x ∷ xs) = omega arith
-
 pub parts_some : (c : ℕ) (bs : List ℕ) → 0 < length bs → 0 < length (ended_parts c bs)
 parts_some c [] some = absurd (omega arith)
 parts_some c (b ∷ bs) some =
     elim (b == c) as (λ v.
     0 < length (if v then [] ∷ ended_parts c bs else onto_first b (ended_parts c bs))) [
       | true ↦ omega arith
-      | false ↦ onto_first_some b (ended_parts c bs)
+      | false ↦ some_onto_first b (ended_parts c bs)
     ]
 
 length-map : (xs : List (List ℕ)) → length (map trimmed_text xs) ≡ length xs

@@ -4,6 +4,7 @@ use Rattle.std.specs.Prelude.{All, nat_le}
 use Rattle.std.proofs.lemmas.Bool.{leb-true, le-leb}
 use Rattle.std.proofs.lemmas.List.{length-map}
 use Rattle.std.proofs.lemmas.List.Elements.{All-map}
+use Rattle.exam_lists.proofs.Results.{ok_same, same_pair}
 use Rattle.exam_terms.specs.Refusing.{unless}
 use Rattle.exam_model.specs.Enrolments.{Enrolled}
 use Rattle.exam_model.specs.Instance.{Session, IsInstance, PeriodRuleExists, RoomRuleExists}
@@ -28,7 +29,7 @@ use Rattle.office_files.specs.declared.fault.FaultKind.{FaultKind}
 use Rattle.office_files.specs.declared.fault.FileFault.{FileFault}
 use Rattle.office_files.specs.declared.fault.FaultKind.TheVariants.{TooLong}
 use Rattle.office_files.proofs.ItemLaws.{HasAmounts, exam_line_within, period_within, room_within, period_rule_within, room_rule_within, weighting_line_within, weights_within}
-use Rattle.office_files.proofs.ReadingLaws.{bind_ok, ok_bind, at_line_ok, ok_at_line, ok_same, same_pair, unless_ok, ok_unless, spelled_items, items_all, items_within}
+use Rattle.office_files.proofs.ReadingLaws.{bind_ok, ok_bind, at_line_ok, ok_at_line, unless_ok, ok_unless, spelled_items, items_all, items_within}
 use Rattle.office_files.proofs.SectionLaws.{section_is, is_section, counted_section}
 
 -- the sections after that of the exams, each with the lines after it

@@ -5,6 +5,7 @@ use Rattle.std.specs.List.{list_any}
 use Rattle.std.specs.Str.{str_eq_ignore_ascii_case}
 use Rattle.std.proofs.lemmas.Bool.{ltb-true}
 use Rattle.std.proofs.lemmas.List.Elements.{All-head, All-tail}
+use Rattle.exam_lists.proofs.Results.{ok_same}
 use Rattle.exam_calendar.specs.Dates.{is_civil}
 use Rattle.exam_calendar.specs.declared.date.Date.{Date}
 use Rattle.exam_terms.specs.Refusing.{◌>>=◌, unless, else_err}
@@ -36,7 +37,7 @@ use Rattle.office_files.specs.declared.weightings.WeightWord.{WeightWord}
 use Rattle.office_files.specs.declared.weightings.WeightWord.TheVariants as word
 use Rattle.office_files.specs.declared.fault.FaultKind.{FaultKind}
 use Rattle.office_files.specs.declared.fault.FaultKind.TheVariants.{BadDate, BadTime, BadWord, OutOfRange, CountMismatch, Repeated}
-use Rattle.office_files.proofs.ReadingLaws.{bind_ok, ok_same, unless_ok, number_le}
+use Rattle.office_files.proofs.ReadingLaws.{bind_ok, unless_ok, number_le}
 
 -- an exam's duration is within a day
 pub exam_line_within : (before : List ExamLine) (fields : List (List ℕ)) (x : ExamLine) →

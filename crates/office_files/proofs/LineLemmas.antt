@@ -3,9 +3,10 @@ use Rattle.std.specs.Prelude.{◌==◌, if◌then◌else◌}
 use Rattle.std.specs.List.{onto_first}
 use Rattle.office_files.specs.Fields.{ended_parts}
 use Rattle.office_files.specs.Lines.{section_size}
-use Rattle.std.proofs.Common.{true, false, get_or, drop, add-one, ◌≡◌, ◌≢◌, ℕ, zero, suc, ◌+◌, ◌<◌}
+use Rattle.std.proofs.Common.{true, false, get_or, ◌≡◌, ◌≢◌, ℕ, suc, ◌+◌, ◌<◌}
 use Rattle.std.proofs.Common.{◌≤◌, List, [], ◌∷◌, ◌++◌, length, refl, ap, ◌∙◌, arith}
 use Rattle.std.proofs.lemmas.Bool.{ne_eqb}
+use Rattle.exam_lists.proofs.Parts.{length_onto_first-le}
 use Rattle.office_files.specs.Lines.{without_return, Piece, Located, pieces_from, trimmed_piece, unless_blank}
 use Rattle.office_files.specs.Lines.{lines_from, is_header}
 
@@ -27,10 +28,6 @@ without_return-other (x ∷ xs) b other = return_some x b xs
 
 pub ruleset return_facts = (without_return-cr, without_return-other)
 
-length-onto_first : (b : ℕ) (xs : List (List ℕ)) → length (onto_first b xs) ≤ length xs + 1
-length-onto_first b [] = omega arith
-length-onto_first b (x ∷ xs) = omega arith
-
 pub length-parts : (c : ℕ) (bs : List ℕ) → length (ended_parts c bs) ≤ length bs
 length-parts c [] = omega arith
 length-parts c (b ∷ bs) =
@@ -38,7 +35,7 @@ length-parts c (b ∷ bs) =
     length (if v then [] ∷ ended_parts c bs else onto_first b (ended_parts c bs))
     ≤ suc (length bs)) [
       | true ↦ omega (arith, length-parts c bs)
-      | false ↦ omega (arith, length-parts c bs, length-onto_first b (ended_parts c bs))
+      | false ↦ omega (arith, length-parts c bs, length_onto_first-le b (ended_parts c bs))
     ]
 
 length-placed : (at : ℕ) (xs : List (List ℕ)) → length (pieces_from at xs) ≡ length xs
@@ -88,11 +85,3 @@ header_first [] some = absurd (omega arith)
 header_first (b ∷ bs) some = refl
 
 pub ruleset size_facts = (rows-le, size_head, size_line, header_first)
-
--- after the first of the elements left is the rest
-pub drop_next : {A : Type 0} (xs : List A) (n : ℕ) (y : A) (ys : List A) → drop n xs ≡ y ∷ ys →
-    drop (n + 1) xs ≡ ys
-drop_next [] zero y ys e = cc
-drop_next [] (suc n) y ys e = cc
-drop_next (x ∷ xs) zero y ys e = cc
-drop_next (x ∷ xs) (suc n) y ys e = rw (add-one (suc n)) (rw (add-one n) at (drop_next xs n y ys e))

@@ -1,8 +1,10 @@
 -- The students who sit an exam are those whom the fields of its line name.
-use Rattle.std.proofs.Common.{◌≡◌, ℕ, suc, ◌+◌, ◌<◌, Bool, true, false, List, [], ◌∷◌, ◌++◌, length, take, map, Some, Ok, get_or, refl, ap, sym, ◌∙◌, add-one, arith}
+use Rattle.std.proofs.Common.{◌≡◌, ℕ, suc, ◌+◌, ◌<◌, List, [], ◌∷◌, ◌++◌, length, take, map, Some, Ok, get_or, ap, sym, ◌∙◌, add-one, arith}
 use Rattle.std.specs.Prelude.{◌==◌, ◌||◌, nat_lt, option_map, slice_get, slice_index_or}
 use Rattle.std.proofs.lemmas.List.{get_or_append_left, length-map}
 use Rattle.std.proofs.lemmas.Option.{get_or_from_slice_get, slice_get-get_or, slice_get-map}
+use Rattle.std.proofs.Math.Bool.{or-false, or_assoc}
+use Rattle.exam_lists.proofs.Booleans.{or_middle}
 use Rattle.exam_terms.specs.Refusing.{unless}
 use Rattle.exam_model.specs.Changes.{with_student}
 use Rattle.exam_model.specs.Enrolments.{Enrolled, has, has_number}
@@ -18,22 +20,13 @@ use Rattle.office_files.specs.Numbers.{number}
 use Rattle.office_files.specs.declared.fault.FaultKind.TheVariants.{OutOfRange}
 use Rattle.office_files.proofs.ReadingLaws.{bind_ok}
 
-or-false : (a : Bool) → a ≡ (a || false)
-or-false true = refl
-or-false false = refl
-
-or_moved : (a b r : Bool) → ((a || b) || r) ≡ (b || (a || r))
-or_moved true true r = refl
-or_moved true false r = refl
-or_moved false b r = refl
-
 -- the students of a line are those seen before, and those whom its fields name
 named : (pairs : ℕ) (seen : List ℕ) (fields : List (List ℕ)) (out : List ℕ)
     → students_in pairs seen fields ≡ Ok out
     → (t : ℕ) → has_number out t ≡ (has_number seen t || name_student fields t)
 named pairs seen [] out is t =
     let same : seen ≡ out = cc in
-    ap (λ xs. has_number xs t) (sym same) ∙ or-false (has_number seen t)
+    ap (λ xs. has_number xs t) (sym same) ∙ sym (or-false (has_number seen t))
 named pairs seen (f ∷ fs) out is t =
     let one = bind_ok (number 999999999 f) _ out is in
     let two = bind_ok
@@ -41,7 +34,8 @@ named pairs seen (f ∷ fs) out is t =
     one.2 in
     named pairs (with_student one.0 seen) fs out two.2 t
     ∙ ap (λ b. b || name_student fs t) (has-with one.0 seen t)
-    ∙ or_moved (one.0 == t) (has_number seen t) (name_student fs t)
+    ∙ or_assoc (one.0 == t) (has_number seen t) (name_student fs t)
+    ∙ or_middle (one.0 == t) (has_number seen t) (name_student fs t)
     ∙ ap (λ r. has_number seen t || (named_as r t || name_student fs t)) (sym one.1)
 
 line_named : (before : List ExamLine) (fields : List (List ℕ)) (item : ExamLine) (t : ℕ)

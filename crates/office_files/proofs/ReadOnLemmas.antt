@@ -14,10 +14,13 @@ use Rattle.std.proofs.lemmas.Bool.{eq-eqb, ne_eqb, and_parts, lt-ltb, le-leb, lt
 use Rattle.std.proofs.lemmas.Bool.{cases_lt, cases_eq}
 use Rattle.std.proofs.lemmas.List.{take-append-drop, take-take, length-take, length-take-le}
 use Rattle.std.proofs.lemmas.List.{length-append, append-nil, get_or-take}
-use Rattle.std.proofs.lemmas.Grind.{common_steps}
 use Rattle.std.proofs.lemmas.List.Sums.{prefix_len-le-length, prefix_len_passes, prefix_len_stops}
 use Rattle.std.proofs.lemmas.List.Folds.{list_all_at, list_all_more}
 use Rattle.std.proofs.lemmas.List.FromFn.{get_or-range_with_len, length-range_with_len}
+use Rattle.std.proofs.Math.Bool.{and-false}
+use Rattle.exam_lists.proofs.Digits.{digit_range}
+use Rattle.exam_lists.proofs.Parts.{drop_at_head}
+use Rattle.exam_lists.proofs.Tests.{all_fails}
 use Rattle.exam_terms.specs.Texts.{is_blank, before_end, trim_end, trimmed_text}
 use Rattle.office_files.specs.Fields.{ended_parts, fields_of, first_field, other_fields}
 use Rattle.office_files.specs.Numbers.{read_on, is_number, at_most, number}
@@ -46,12 +49,6 @@ small_room n i lt small =
 pub small_more : (n i d : ℕ) → n < 10 ^ i → d ≤ 9 → 10 * n + d < 10 ^ (i + 1)
 small_more n i d small digit =
     let next : 10 ^ (i + 1) ≡ 10 ^ i * 10 = rw add-one (pow-suc 10 i) in omega arith
-
-pub is_digit : (b : ℕ) → 48 ≤ b → b ≤ 57 → is_ascii_digit b ≡ true
-is_digit b least most = grind (arith, common_steps)
-
-pub digit_range : (b : ℕ) → is_ascii_digit b ≡ true → (48 ≤ b) × (b ≤ 57)
-digit_range b e = grind (arith, common_steps)
 
 -- a byte and 48, bit by bit: at most 9 for a digit, and then its value, and more for any other byte
 digit_decided : ℕ → Bool
@@ -168,10 +165,6 @@ others-digits (d ∷ ds) after all =
     let both = and_parts (is_ascii_digit d) (list_all is_ascii_digit ds) all in
     others-byte d (ds ++ after) (digit_no_comma d ds all) ∙ others-digits ds after both.1
 
-and-false : (a : Bool) → (a && false) ≡ false
-and-false true = refl
-and-false false = refl
-
 few_digits-all : (ds : List ℕ) → 0 < length ds → length ds ≤ 9 → AllDigits ds →
     few_digits ds ≡ Some (read_on 0 ds)
 few_digits-all ds some few all =
@@ -183,19 +176,6 @@ few_digits-long text long = rw (lt-leb (length text) 9 long, and-false (is_numbe
 few_digits-other : (text : List ℕ) → list_all is_ascii_digit text ≡ false → few_digits text ≡ None
 few_digits-other text other = rw (other, and-false (nat_lt 0 (length text))) refl
 
-all-other : (ds : List ℕ) (b : ℕ) (bs : List ℕ) → is_ascii_digit b ≡ false →
-    list_all is_ascii_digit (ds ++ b ∷ bs) ≡ false
-all-other [] b bs other = rw other refl
-all-other (d ∷ ds) b bs other = rw (all-other ds b bs other) (and-false (is_ascii_digit d))
-
--- the rest of a text begins with the byte at that index
-head_at : (text : List ℕ) (i b : ℕ) (bs : List ℕ) → drop i text ≡ b ∷ bs →
-    (i < length text) × (get_or text i 0 ≡ b)
-head_at [] zero b bs e = cc
-head_at [] (suc i) b bs e = cc
-head_at (x ∷ xs) zero b bs e = (omega arith, cc)
-head_at (x ∷ xs) (suc i) b bs e = let next = head_at xs i b bs e in (omega arith, next.1)
-
 -- a part that doesn't begin with a digit is no number
 pub no_digit : (line : List ℕ) → NoDigitAt line 0 →
     few_digits (first_field (ended_parts 44 line)) ≡ None
@@ -206,7 +186,7 @@ no_digit (b ∷ bs) other =
       | inl same ↦ rw (eq-eqb b 44 same) refl
       | inr differs ↦
           ap few_digits (part-byte b bs differs)
-          ∙ few_digits-other (b ∷ more) (all-other [] b more (other (omega arith)))
+          ∙ few_digits-other (b ∷ more) (all_fails is_ascii_digit [] b more (other (omega arith)))
     ]
 
 -- the number that digits write is their value
@@ -350,12 +330,12 @@ module _ (line : List ℕ) (value count : ℕ) (is : IsFront line value count) w
       part_is
       ∙ ap (λ xs. front ++ first_field (ended_parts 44 xs)) next
       ∙ ap (λ (xs : List ℕ). front ++ xs) (part-byte b bs other) in
-      let here = head_at line count b bs next in
+      let here = drop_at_head line count b 0 bs next in
       ap few_digits part
       ∙ elim (cases_lt count 9) as (λ _. few_digits (front ++ b ∷ more) ≡ None) [
         | inl less ↦
             few_digits-other (front ++ b ∷ more)
-            (all-other front b more
+            (all_fails is_ascii_digit front b more
             (ap is_ascii_digit (sym here.1) ∙ is.whole less here.0))
         | inr more_than ↦
             few_digits-long (front ++ b ∷ more)

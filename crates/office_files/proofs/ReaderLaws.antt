@@ -4,6 +4,7 @@ use Rattle.std.proofs.Common.{Result, Ok, Err, IfOk, IfErr, sym, ap, ◌∙◌, 
 use Rattle.std.proofs.lemmas.List.{length-map}
 use Rattle.std.proofs.lemmas.List.Elements.{All-map, All-weaker}
 use Rattle.std.specs.Prelude.{All}
+use Rattle.exam_lists.proofs.Results.{ok_same}
 use Rattle.exam_model.specs.Enrolments.{Enrolled}
 use Rattle.exam_model.specs.Fits.{PlaceExists}
 use Rattle.exam_model.specs.Instance.{Session}
@@ -20,7 +21,7 @@ use Rattle.office_files.specs.declared.fault.FaultKind.TheVariants.{NoMemory, Co
 use Rattle.office_files.specs.declared.fault.FileFault.{FileFault}
 use Rattle.office_files.proofs.InstanceLaws.{read_is_text, text_is_read, one_reading}
 use Rattle.office_files.proofs.ItemLaws.{PlaceExists as IsAmong}
-use Rattle.office_files.proofs.ReadingLaws.{bind_ok, ok_same}
+use Rattle.office_files.proofs.ReadingLaws.{bind_ok}
 use Rattle.office_files.proofs.SolutionLaws.{solution_is_text, text_is_solution, places_exist}
 
 module _ {X : Type 0} (view : X → Session × Enrolled) (b : List ℕ) where

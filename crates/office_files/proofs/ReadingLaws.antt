@@ -23,17 +23,6 @@ pub ok_bind : {A B F : Type 0} (r : Result A F) (f : A → Result B F) (x : A) (
     f x ≡ Ok y → (r >>= f) ≡ Ok y
 ok_bind r f x y is more = rw is more
 
--- a reading has one result
-pub ok_same : {A F : Type 0} (r : Result A F) (x y : A) → r ≡ Ok x → r ≡ Ok y → x ≡ y
-ok_same r x y one other = cc
-
--- and one pair
-pub same_pair : {A B F : Type 0} (r : Result (A × B) F) (x v : A) (y w : B) → r ≡ Ok (x, y) →
-    r ≡ Ok (v, w) → (x ≡ v) × (y ≡ w)
-same_pair r x v y w one other =
-    let both = ok_same r (x, y) (v, w) one other in
-    (ap (λ p. p.0) both, ap (λ p. p.1) both)
-
 -- the value of a line is that of its text
 pub at_line_ok : {A : Type 0} (line : ℕ) (r : Result A FaultKind) (x : A) → at_line line r ≡ Ok x →
     r ≡ Ok x

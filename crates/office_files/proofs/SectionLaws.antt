@@ -5,6 +5,7 @@ use Rattle.std.specs.Str.{str_eq_ignore_ascii_case}
 use Rattle.std.proofs.lemmas.Bool.{cases_Bool, ltb-true, eqb-true}
 use Rattle.std.proofs.lemmas.List.{take-append-drop, take_at, drop_at}
 use Rattle.std.proofs.lemmas.List.Elements.{All-nil, All-cons, All-head, All-tail}
+use Rattle.exam_lists.proofs.Results.{same_pair}
 use Rattle.exam_terms.specs.Refusing.{unless, else_err}
 use Rattle.exam_terms.specs.Texts.{trimmed_text}
 use Rattle.office_files.specs.Fields.{split_once}
@@ -16,7 +17,7 @@ use Rattle.office_files.specs.Sections.{section_in, AtHeader, IsSection}
 use Rattle.office_files.specs.declared.fault.FaultKind.{FaultKind}
 use Rattle.office_files.specs.declared.fault.FaultKind.TheVariants.{MissingSection, OutOfRange, CountMismatch}
 use Rattle.office_files.proofs.LineLemmas.{size_head, size_line}
-use Rattle.office_files.proofs.ReadingLaws.{bind_ok, at_line_ok, ok_at_line, same_pair, unless_ok, number_le, items_spelled, spelled_items}
+use Rattle.office_files.proofs.ReadingLaws.{bind_ok, at_line_ok, ok_at_line, unless_ok, number_le, items_spelled, spelled_items}
 
 -- a line that is no header
 abbrev NoHeader : Located → Type 0

@@ -5,12 +5,12 @@ use Rattle.std.proofs.Common.{length-append, length-drop, append-nil}
 use Rattle.std.specs.Prelude.{◌==◌, if◌then◌else◌, map}
 use Rattle.std.specs.List.{AllByRecursion, onto_first, flat_map}
 use Rattle.std.proofs.lemmas.List.{take-append-le, take_all}
+use Rattle.exam_lists.proofs.Parts.{drop_next}
 use Rattle.exam_terms.specs.Texts.{is_blank, before_end, trim_start, trim_end, trimmed_text}
 use Rattle.office_files.specs.Fields.{ended_parts}
 use Rattle.office_files.specs.Lines.{Piece, Located, pieces_from, without_return, inner_start, trimmed_piece}
 use Rattle.office_files.specs.Lines.{lines_from, lines_of, is_header}
 use Rattle.office_files.specs.Tokens.{tokens_in, tokens_of, IsSliceOf}
-use Rattle.office_files.proofs.LineLemmas.{drop_next}
 
 -- the source has the text from this index on
 pub record Lies (source : List ℕ) (start : ℕ) (text : List ℕ) : Type 0 where

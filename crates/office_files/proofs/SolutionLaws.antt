@@ -2,6 +2,7 @@
 use Rattle.std.proofs.Common.{◌≡◌, ℕ, ◌+◌, ◌≤◌, List, [], length, map, Some, Ok, refl, sym, ap}
 use Rattle.std.specs.Prelude.{All, nat_le, ◌==◌}
 use Rattle.std.proofs.lemmas.Bool.{leb-true, le-leb, eqb-true, eq-eqb}
+use Rattle.exam_lists.proofs.Results.{ok_same}
 use Rattle.exam_terms.specs.Refusing.{unless}
 use Rattle.exam_model.specs.Instance.{Session}
 use Rattle.exam_model.specs.Timetable.{Placing}
@@ -13,7 +14,7 @@ use Rattle.office_files.specs.SolutionText.{counts_in, SolutionText, solution_in
 use Rattle.office_files.specs.declared.counts.Counts.{Counts}
 use Rattle.office_files.specs.declared.fault.FaultKind.TheVariants.{TooLong, CountMismatch}
 use Rattle.office_files.proofs.ItemLaws.{PlaceExists, place_within}
-use Rattle.office_files.proofs.ReadingLaws.{bind_ok, ok_bind, at_line_ok, ok_at_line, ok_same, unless_ok, ok_unless, items_spelled, spelled_items, items_all}
+use Rattle.office_files.proofs.ReadingLaws.{bind_ok, ok_bind, at_line_ok, ok_at_line, unless_ok, ok_unless, items_spelled, spelled_items, items_all}
 
 -- the text describes the result of its reading
 pub solution_is_text : (I : Session) (b : List ℕ) (T : Placing) → solution_in I b ≡ Ok T →

@@ -7,6 +7,7 @@ use Rattle.std.proofs.lemmas.List.{append-nil}
 use Rattle.std.proofs.lemmas.List.Elements.{All-nil, All-cons, All-head, All-tail, All-weaker}
 use Rattle.std.proofs.lemmas.List.Kept.{AllPairs-cons}
 use Rattle.std.proofs.lemmas.List.Folds.{list_any-append, list_any_none}
+use Rattle.exam_lists.proofs.Results.{ok_same}
 use Rattle.exam_model.specs.Enrolments.{Enrolled}
 use Rattle.exam_model.specs.Instance.{Session}
 use Rattle.exam_model.specs.declared.parts.Weights.{Weights}
@@ -27,7 +28,7 @@ use Rattle.office_files.specs.declared.weightings.Weighting.{Weighting}
 use Rattle.office_files.specs.declared.weightings.Weighting.TheVariants as said
 use Rattle.office_files.specs.declared.weightings.WeightWord.{WeightWord}
 use Rattle.office_files.specs.declared.weightings.WeightWord.TheVariants as word
-use Rattle.office_files.proofs.ReadingLaws.{bind_ok, at_line_ok, ok_same, spelled_items}
+use Rattle.office_files.proofs.ReadingLaws.{bind_ok, at_line_ok, spelled_items}
 use Rattle.exam_terms.specs.declared.limits.TheConstants.{MAX_AMOUNT}
 use Rattle.office_files.proofs.WeightLemmas.{text_of, word_of, word_read, read_word, has_its_word}
 use Rattle.office_files.proofs.WeightLemmas.{its_word, one_read, front_read, WasRead, was_read}

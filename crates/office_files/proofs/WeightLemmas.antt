@@ -4,6 +4,8 @@ use Rattle.std.specs.Prelude.{not, codes, if◌then◌else◌}
 use Rattle.std.specs.List.{list_any}
 use Rattle.std.specs.Str.{bytes_eq, str_eq_ignore_ascii_case, str_to_ascii_lowercase}
 use Rattle.std.proofs.lemmas.Slice.Eq.{bytes_eq-Decides}
+use Rattle.std.proofs.lemmas.Bool.{not-true}
+use Rattle.exam_lists.proofs.Results.{ok_same}
 use Rattle.exam_terms.specs.Refusing.{◌>>=◌, unless}
 use Rattle.exam_model.specs.declared.parts.Weights.{Weights}
 use Rattle.office_files.specs.Fields.{first_field, other_fields, end_of_fields}
@@ -19,7 +21,7 @@ use Rattle.office_files.specs.declared.weightings.Weighting.{Weighting}
 use Rattle.office_files.specs.declared.weightings.Weighting.TheVariants as said
 use Rattle.office_files.specs.declared.weightings.WeightWord.{WeightWord}
 use Rattle.office_files.specs.declared.weightings.WeightWord.TheVariants as word
-use Rattle.office_files.proofs.ReadingLaws.{bind_ok, ok_same, unless_ok}
+use Rattle.office_files.proofs.ReadingLaws.{bind_ok, unless_ok}
 use Rattle.exam_terms.specs.declared.limits.TheConstants.{MAX_AMOUNT}
 
 -- ---- words
@@ -191,10 +193,6 @@ pub record WasRead (before : List Weighting) (fields : List (List ℕ)) (s : Wei
   pub new : list_any (has_word (word_of s)) before ≡ false
   pub by : weighting_by (word_of s) (other_fields fields) ≡ Ok s
 
-not_so : (b : Bool) → not b ≡ true → b ≡ false
-not_so true is = cc
-not_so false is = refl
-
 pub was_read : (counts : Counts) (before : List Weighting) (fields : List (List ℕ)) (s : Weighting)
     → weighting_line counts before fields ≡ Ok s → WasRead before fields s
 was_read counts before fields s is =
@@ -204,7 +202,7 @@ was_read counts before fields s is =
     record {
       word = w.1 ∙ ap Ok same;
       new = subst (λ v. list_any (has_word v) before ≡ false) same
-          (not_so _ (unless_ok _ Repeated new.0 new.1));
+          (not-true _ (unless_ok _ Repeated new.0 new.1));
       by = subst (λ v. weighting_by v (other_fields fields) ≡ Ok s) same new.2;
     }
 

@@ -1,7 +1,7 @@
 use Rattle.std.proofs.Common.{◌≢◌, sym, ◌∙◌, arith}
+use Rattle.exam_lists.proofs.Parts.{drop_next}
 use Rattle.office_files.specs.Tokens.{token_of}
 use Rattle.office_files.specs.declared.fault.FaultKind.TheVariants.{NoMemory}
-use Rattle.office_files.proofs.LineLemmas.{drop_next}
 use Rattle.office_files.proofs.ExamLineSteps.{so_far_fault, so_far_more}
 use Rattle.office_files.proofs.exam_lines.exam_lines.Goals as goal
 

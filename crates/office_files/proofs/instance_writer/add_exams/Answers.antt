@@ -1,12 +1,13 @@
 use Rattle.std.proofs.Common.{◌≡◌, ◌∙◌, ◌++◌, ℕ, List, ap, sym, length, string_bytes, arith, Some}
 use Rattle.std.specs.List.{flat_map}
 use Rattle.std.specs.Prelude.{slice_get}
+use Rattle.exam_lists.proofs.Maps.{flat_map_take_all, flat_map_take_more}
 use Rattle.exam_model.specs.Enrolments.{students}
 use Rattle.office_files.specs.CanonicalLines.{line_of, exam_text}
 use Rattle.office_files.specs.CanonicalText.{header_text, exam_lines_of}
 use Rattle.office_files.specs.ExamLines.{ExamLine}
 use Rattle.office_files.specs.Spelled.{exams_heading}
-use Rattle.office_files.proofs.CanonicalSteps.{step, whole, line_at, length_lines}
+use Rattle.office_files.proofs.CanonicalSteps.{line_at, length_lines}
 use Rattle.office_files.proofs.instance_writer.add_exams.Goals as goal
 
 pub loop-number-preserved : goal.loop-number-preserved
@@ -21,7 +22,7 @@ loop-number-preserved c =
     ∙ ap (λ (ss : List ℕ).
     Some (let y : ExamLine = record { minutes = c.exam.result.minutes; students = ss } in y))
     (ap (students E) (sym c.new-exam.ensures) ∙ sym c.students-students.ensures.all) in
-    step (λ x. line_of (exam_text x))
+    flat_map_take_more (λ x. line_of (exam_text x))
     (string_bytes c.args.text.now ++ line_of (header_text exams_heading (length exams)))
     (string_bytes c.loop-number.text) _ (exam_lines_of exams E) c.loop-number.number line at
     c.loop-number.invariant c.in_ok-add_exam.ensures
@@ -33,7 +34,7 @@ returns c =
     let lines = exam_lines_of exams E in
     let many = length_lines exams E c.requires.fits in
     let flat : List ℕ = flat_map (λ x. line_of (exam_text x)) lines in
-    whole (λ x. line_of (exam_text x)) (string_bytes c.args.text.now)
+    flat_map_take_all (λ x. line_of (exam_text x)) (string_bytes c.args.text.now)
     (line_of (header_text exams_heading (length exams))) (string_bytes c.loop-number.text) lines
     c.loop-number.number
     (omega (arith, many, c.exams-count.ensures.count, c.loop-number-test.false))

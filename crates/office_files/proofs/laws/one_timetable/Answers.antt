@@ -1,5 +1,5 @@
+use Rattle.exam_lists.proofs.Results.{ok_same}
 use Rattle.office_files.specs.SolutionText.{solution_in}
-use Rattle.office_files.proofs.ReadingLaws.{ok_same}
 use Rattle.office_files.proofs.SolutionLaws.{text_is_solution}
 use Rattle.office_files.proofs.laws.one_timetable.Goals as goal
 

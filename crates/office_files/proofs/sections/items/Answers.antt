@@ -1,8 +1,8 @@
 use Rattle.std.proofs.Common.{sym, ◌∙◌, arith}
 use Rattle.std.proofs.lemmas.Result.{err_from_is_err_and}
+use Rattle.exam_lists.proofs.Parts.{drop_next}
 use Rattle.office_files.specs.Tokens.{token_of}
 use Rattle.office_files.proofs.ItemLemmas.{line_step, fault_step}
-use Rattle.office_files.proofs.LineLemmas.{drop_next}
 use Rattle.office_files.proofs.sections.items.Goals as goal
 
 pub returns-in_err-add_item-clause-exact : goal.returns-in_err-add_item-clause-exact
