@@ -1,41 +1,20 @@
 -- The value of digits.
-use Rattle.std.proofs.Common.{◌≡◌, ℕ, ◌+◌, ◌-◌, ◌*◌, ◌<◌, ◌≤◌, Bool, true, false, List, [], ◌∷◌}
-use Rattle.std.proofs.Common.{length, get_or, take, refl, sym, ◌∙◌, arith}
+use Rattle.std.proofs.Common.{◌≡◌, ℕ, ◌+◌, ◌-◌, ◌*◌, ◌<◌, ◌≤◌, true, List}
+use Rattle.std.proofs.Common.{length, get_or, take, arith}
 use Rattle.std.specs.List.{list_all}
-use Rattle.std.specs.Char.{is_ascii_digit, digit_value}
-use Rattle.std.specs.Str.Parse.{AllDigits, digits_value}
+use Rattle.std.specs.Char.{is_ascii_digit}
+use Rattle.std.specs.Str.Parse.{digits_value}
 use Rattle.std.proofs.Math.Nat.{pow-le-pow_right}
-use Rattle.std.proofs.lemmas.Bool.Decides.{nat_tests}
 use Rattle.std.proofs.lemmas.Int.Digits.{digits_value_more, digits_value-lt}
-use Rattle.std.proofs.lemmas.List.Folds.{list_all_at}
 use Rattle.std.proofs.lemmas.Str.Parse.{digits_value-take-le}
-
--- each byte of a text of digits is one
-digit_at : (ds : List ℕ) (i : ℕ) → list_all is_ascii_digit ds ≡ true → i < length ds →
-    is_ascii_digit (get_or ds i 0) ≡ true
-digit_at ds i all inside = go (is_ascii_digit (get_or ds i 0)) refl
-  where
-    go : (b : Bool) → is_ascii_digit (get_or ds i 0) ≡ b → is_ascii_digit (get_or ds i 0) ≡ true
-    go true e = e
-    go false e = e ∙ sym (list_all_at is_ascii_digit ds i 0 inside e) ∙ all
-
-value_of_digit : (d : ℕ) → is_ascii_digit d ≡ true →
-    (48 ≤ d) × (d ≤ 57) × (digit_value d ≡ d - 48)
-value_of_digit d e = grind (arith, nat_tests)
-
-all_digits : (ds : List ℕ) → list_all is_ascii_digit ds ≡ true → AllDigits 10 ds
-all_digits [] h = tt
-all_digits (d ∷ ds) h =
-    let first = digit_at (d ∷ ds) 0 h (omega arith) in
-    let rest : list_all is_ascii_digit ds ≡ true = grind (arith, nat_tests) in
-    (omega (arith, (value_of_digit d first).2, (value_of_digit d first).1), all_digits ds rest)
+use Rattle.exam_lists.proofs.Digits.{AllDigits-from_test, digit_at, value_of_digit}
 
 -- nine digits write less than 10 ^ 9
 pub nine : (ds : List ℕ) → list_all is_ascii_digit ds ≡ true → length ds ≤ 9 →
     digits_value 10 ds < 1000000000
 nine ds h short =
     let bound = pow-le-pow_right {n = 10} (omega arith) short in
-    omega (arith, digits_value-lt 10 ds (all_digits ds h), bound)
+    omega (arith, digits_value-lt 10 ds (AllDigits-from_test ds h), bound)
 
 -- one more digit, and the number is still below 10 ^ 9
 pub record OneMore (ds : List ℕ) (i n : ℕ) : Type 0 where
