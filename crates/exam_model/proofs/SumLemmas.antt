@@ -1,4 +1,4 @@
--- Sums over lists and over numbers: term by term, split, and in either order.
+-- Sums over numbers, and over the pairs of places of a list.
 use Rattle.std.proofs.Common.{◌≡◌, ℕ, zero, suc, ◌+◌, ◌*◌, cond, eqb, ltb, List, [], ◌∷◌, sum_by, refl, sym, ◌∙◌, ap, ap₂, arith, ◌<◌, ◌≤◌, ◌++◌, take, length, get_or, IsPermutation, suc-mul, add-one, add-zero, zero-mul, add-mul, le-ltb}
 use Rattle.std.proofs.lemmas.List.{take_more}
 use Rattle.std.proofs.lemmas.List.Sums.{sum_by-cons, sum_by_push, sum_by-le}
@@ -8,8 +8,6 @@ use Rattle.std.proofs.lemmas.Bool.Decides.{nat_tests}
 use Rattle.exam_lists.proofs.Chains.{IsChain}
 use Rattle.exam_lists.proofs.Sums.{sum_by-add, sum_by-agree, sum_by-none, sum_by-same, sum_by-zeros}
 use Rattle.exam_model.specs.Sums.{sum_below, sum_pairs}
-
--- ---- facts along a list
 
 -- ---- sums over numbers
 
@@ -38,8 +36,6 @@ pub sum_below-at : (w : ℕ → ℕ) (x n : ℕ) → sum_below n (λ e. cond (eq
 sum_below-at w x zero = sym (cond-false (ltb x 0) (w x) 0 (le-ltb x 0 (omega arith)))
 sum_below-at w x (suc n) = at_step x n _ (w x) (w n) (λ e. ap w e) (sum_below-at w x n)
 
--- ---- tests
-
 -- ---- all pairs, and the pairs in order
 
 pub sum_pairs-square : {X : Type 0} (g : X → X → ℕ) → ((x : X) → g x x ≡ 0) → (xs : List X)
@@ -60,8 +56,6 @@ pub sum_pairs-agree : {X : Type 0} (g k : X → X → ℕ) (xs : List X)
 sum_pairs-agree g k [] h = refl
 sum_pairs-agree g k (x ∷ xs) h =
     ap₂ (λ a b. a + b) (sum_by-agree (g x) (k x) xs h.0) (sum_pairs-agree g k xs h.1)
-
--- ---- from facts by index
 
 -- ---- one place more, a bound, and any order
 

@@ -1,22 +1,11 @@
 -- Whether any element of a list passes a test, for each way to make a list.
 use Rattle.std.specs.List.{list_any, flat_map}
-use Rattle.std.proofs.Common.{◌≡◌, ℕ, Bool, true, false, cond, ◌&&◌, ◌||◌, ◌==◌, List, [], ◌∷◌, map, filter, Contains, refl, ◌∙◌, ap, subst, eqb-true, eq-eqb}
+use Rattle.std.proofs.Common.{◌≡◌, ℕ, Bool, true, false, ◌&&◌, ◌==◌, List, [], ◌∷◌, map, Contains, refl, ◌∙◌, ap, subst, eqb-true, eq-eqb}
 use Rattle.std.proofs.lemmas.Bool.{and_parts, and_from}
 use Rattle.std.proofs.lemmas.List.Folds.{Any-from_list_any, list_any_at}
 use Rattle.exam_lists.proofs.Tests.{any_map, any_agree, any_at, any_flat_map}
 use Rattle.exam_rules.specs.Breach.{pair, is_pair}
 use Rattle.exam_rules.specs.declared.exam_pair.ExamPair.{ExamPair}
-
-any_cond : {X : Type 0} (p : X → Bool) (b : Bool) (x : X) (xs : List X)
-    → list_any p (cond b (x ∷ xs) xs) ≡ ((b && p x) || list_any p xs)
-any_cond p true x xs = refl
-any_cond p false x xs = refl
-
-pub any_filter : {X : Type 0} (p q : X → Bool) (xs : List X)
-    → list_any p (filter q xs) ≡ list_any (λ x. q x && p x) xs
-any_filter p q [] = refl
-any_filter p q (x ∷ xs) =
-    any_cond p (q x) x (filter q xs) ∙ ap (λ b. (q x && p x) || b) (any_filter p q xs)
 
 -- ---- pairs of exams
 

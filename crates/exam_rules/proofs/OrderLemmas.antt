@@ -1,4 +1,4 @@
--- The order of pairs of exams, and lists that are strictly sorted by an order.
+-- The order of pairs of exams.
 use Rattle.std.specs.Ordering.{eq_by_cmp}
 use Rattle.std.specs.Cmp.{then_total, on_total, nat_cmp_total, IsTotalOrder, IsEquivalence}
 use Rattle.std.proofs.lemmas.Bool.Decides.{nat_tests}
@@ -11,8 +11,6 @@ pub exam_pair_cmp_total : IsTotalOrder exam_pair_cmp
 exam_pair_cmp_total =
     then_total (on_total (λ (b : ExamPair). b.exam) nat_cmp_total)
     (on_total (λ (b : ExamPair). b.other) nat_cmp_total)
-
--- ---- strictly sorted lists
 
 -- ---- equality of pairs
 

@@ -17,8 +17,6 @@ use Rattle.exam_score.specs.EditedCosts.{edited_cost, exams_cost, personal_at, p
 use Rattle.exam_score.specs.Penalty.{PersonalPenalty, penalty_sum}
 use Rattle.exam_score.proofs.RegroupingLemmas.{later_cost}
 
--- ---- lists
-
 -- ---- the costs of pairs
 
 -- two lists of pairs that share no student
