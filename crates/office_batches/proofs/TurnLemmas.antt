@@ -1,6 +1,7 @@
 -- A record takes at least one byte, so a text has at most one more record than bytes.
 use Rattle.std.proofs.Common.{◌≡◌, ◌∙◌, ℕ, zero, suc, ◌+◌, ◌<◌, ◌≤◌, ◌⊎◌, inl, inr, Bool, true, false, List, [], ◌∷◌, length, Option, Some, None, refl, ap, sym, arith}
 use Rattle.std.specs.Prelude.{if◌then◌else◌}
+use Rattle.exam_lists.proofs.Parts.{length_choice-le}
 use Rattle.csv.specs.Machine.{Read, ends_at_end, is_end, next_record, step}
 use Rattle.csv.specs.Reading.{default_config, is_bom, records, records_from, records_next, strip_bom}
 use Rattle.csv.specs.declared.parser.Config.{Config}
@@ -61,19 +62,13 @@ same_records (suc m) (suc n) s xs le short =
           | inr nothing ↦ rw (nothing.0, nothing.1) (none_left m ∙ sym (none_left n))
         ])
 
--- without a byte order mark a text is not longer
-choice_within : (b : Bool) (xs ys : List ℕ) → length xs ≤ length ys
-    → length (if b then xs else ys) ≤ length ys
-choice_within true xs ys le = le
-choice_within false xs ys le = omega arith
-
 without_mark : (b : List ℕ) → length (strip_bom b) ≤ length b
 unfolding strip_bom
 without_mark [] = omega arith
 without_mark (x ∷ []) = omega arith
 without_mark (x ∷ y ∷ []) = omega arith
 without_mark (x ∷ y ∷ z ∷ rest) =
-    choice_within (is_bom x y z) rest (x ∷ y ∷ z ∷ rest) (omega arith)
+    length_choice-le (is_bom x y z) rest (x ∷ y ∷ z ∷ rest) (omega arith)
 
 -- one more turn than bytes finds all records
 pub all_records : (b : List ℕ)
