@@ -2,7 +2,7 @@
 use Rattle.std.proofs.Common.{◌≡◌, ◌<◌, ◌≤◌, ◌⊎◌, ℕ, zero, suc, Bool, true, false}
 use Rattle.std.proofs.Common.{not, ◌&&◌, ◌==◌, List, [], ◌∷◌, length, Option, Some}
 use Rattle.std.proofs.Common.{None, refl, sym, ap, subst, ◌∙◌, inl, inr, arith}
-use Rattle.std.proofs.lemmas.Bool.{eqb-true, eq-eqb}
+use Rattle.std.proofs.lemmas.Bool.{eqb-true, eq-eqb, not-true}
 use Rattle.std.proofs.lemmas.Bool.Decides.{nat_tests}
 use Rattle.matchit.specs.Rows.{RowsOf, param_token}
 use Rattle.matchit.specs.Level.{IsText}
@@ -13,10 +13,6 @@ use Rattle.office_requests.specs.Pages.{IsIn, Finds}
 use Rattle.office_requests.proofs.Plain.{FindsNone, EndsSegment, ArePlain}
 use Rattle.office_requests.proofs.SeekLemmas.{AreTails, has_more, param_at, param_found, param_lost}
 use Rattle.office_requests.proofs.SeekLemmas.{param_last, param_slash, seek_end, seek_is, no_rest}
-
-pub flip : (x : Bool) → not x ≡ true → x ≡ false
-flip true h = cc
-flip false h = refl
 
 pub both : (x y : Bool) → (x && y) ≡ true → (x ≡ true) × (y ≡ true)
 both true y h = (refl, h)
@@ -294,7 +290,7 @@ module _ (K : Type 0) where
       go true e more =
           let parts = both _ _ (let t2 : (not (b == slash) && is_match s (rest_of_segment path))
           ≡ true = rw e at t in t2) in
-          let open_byte : b == 47 ≡ false = flip (b == 47) parts.0 in
+          let open_byte : b == 47 ≡ false = not-true (b == 47) parts.0 in
           let i2 = subst (λ (z : ℕ). IsIn (z ∷ s) k rows) (eqb-true x 256 e) i in
           complete_param n more rows b path (omega arith) good none.1 s k
           (step_in param_token rows s k i2) open_byte parts.1

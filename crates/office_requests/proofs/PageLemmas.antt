@@ -2,7 +2,7 @@
 use Rattle.std.proofs.Common.{◌≡◌, ◌<◌, ◌⊎◌, ◌&&◌, ◌||◌, ◌==◌, ltb, Bool, true, false, List, ℕ, ◌∷◌}
 use Rattle.std.proofs.Common.{[], suc, get_or, Option, Some, None, IfSome, IsNone, option_map}
 use Rattle.std.proofs.Common.{map, refl, sym, ap, subst, ◌∙◌, inl, inr}
-use Rattle.std.proofs.lemmas.Bool.{eqb-true, ltb-true}
+use Rattle.std.proofs.lemmas.Bool.{eqb-true, ltb-true, or_cases}
 use Rattle.matchit.specs.Rows.{param_token}
 use Rattle.matchit.specs.Level.{IsText}
 use Rattle.matchit.specs.Route.{scan}
@@ -39,17 +39,13 @@ abbrev are_plain : List (List ℕ × Page) → Bool
 are_plain [] = true
 are_plain (row ∷ rows) = is_plain row.0 && are_plain rows
 
-either : (x y : Bool) → (x || y) ≡ true → (x ≡ true) ⊎ (y ≡ true)
-either true y h = inl refl
-either false y h = inr h
-
 ends_of : (t : List ℕ) → ends_segment t ≡ true → EndsSegment t
 ends_of [] h = tt
 ends_of (x ∷ t) h = eqb-true x slash h
 
 plain_of : (t : List ℕ) → is_plain t ≡ true → IsPlain t
 plain_of [] h = tt
-plain_of (x ∷ t) h = go (either _ _ (both _ _ h).0) (plain_of t (both _ _ h).1)
+plain_of (x ∷ t) h = go (or_cases _ _ (both _ _ h).0) (plain_of t (both _ _ h).1)
   where
     go : ((ltb x param_token ≡ true) ⊎ (((x == param_token) && ends_segment t) ≡ true)) →
         IsPlain t → IsPlain (x ∷ t)

@@ -2,13 +2,13 @@
 use Rattle.std.proofs.Common.{◌≡◌, ℕ, ◌^◌, ◌<◌, ◌≤◌, true, false, List, [], ◌∷◌, ◌++◌, length}
 use Rattle.std.proofs.Common.{Some, refl, ap, ◌∙◌, arith}
 use Rattle.std.specs.Prelude.{decimal, nat_le, ◌==◌}
-use Rattle.std.specs.List.{list_all, AllByRecursion}
-use Rattle.std.specs.Char.{is_ascii_digit}
+use Rattle.std.specs.List.{AllByRecursion}
 use Rattle.std.specs.Str.Parse.{AllDigits, digits_value}
 use Rattle.std.proofs.lemmas.Bool.{ne_eqb}
 use Rattle.std.proofs.lemmas.Bool.Decides.{nat_tests}
 use Rattle.std.proofs.lemmas.Fmt.{decimal_is_IsNumeral, length-decimal-le}
 use Rattle.std.proofs.lemmas.Str.Parse.{digit_from_value}
+use Rattle.exam_lists.proofs.Digits.{test-from_AllDigits}
 use Rattle.matchit.specs.Rows.{param_token}
 use Rattle.matchit.specs.Seek.{slash}
 use Rattle.office_policy.specs.Numbers.{IsSmall, number_of}
@@ -36,18 +36,11 @@ writes n small =
       value = is.1;
     }
 
-digit_is : (b : ℕ) → (48 ≤ b) × (b ≤ 57) → is_ascii_digit b ≡ true
-digit_is b range = grind (arith, nat_tests, range.0, range.1)
-
-all_digits : (ds : List ℕ) → AllDigits 10 ds → list_all is_ascii_digit ds ≡ true
-all_digits [] all = refl
-all_digits (b ∷ bs) all = rw (digit_is b (digit_from_value b all.0)) (all_digits bs all.1)
-
 number_is : (n : ℕ) (ds : List ℕ) → Writes n ds → number_of ds ≡ Some n
 number_is n [] is = absurd (omega (arith, is.some))
 number_is n (b ∷ bs) is =
     let few : nat_le (length (b ∷ bs)) 9 ≡ true = grind (arith, nat_tests, is.few) in
-    rw (few, all_digits (b ∷ bs) is.digits) (ap (λ (m : ℕ). Some m) is.value)
+    rw (few, test-from_AllDigits (b ∷ bs) is.digits) (ap (λ (m : ℕ). Some m) is.value)
 
 -- none of the bytes is a slash
 abbrev pub NoSlash : List ℕ → Type 0

@@ -4,7 +4,7 @@ use Rattle.std.proofs.Common.{Option, Some, Ok}
 use Rattle.std.proofs.Common.{refl, sym, ap, ◌∙◌, inl, inr}
 use Rattle.std.specs.Prelude.{decimal, option_map}
 use Rattle.std.specs.List.{list_all}
-use Rattle.std.proofs.lemmas.Bool.{eq-eqb}
+use Rattle.std.proofs.lemmas.Bool.{eq-eqb, not-true}
 use Rattle.matchit.specs.Rows.{param_token}
 use Rattle.matchit.specs.Seek.{slash}
 use Rattle.exam_terms.specs.declared.place.Place.{Place}
@@ -29,7 +29,7 @@ use Rattle.office_requests.specs.Requests.{command_by, command_or_refusal}
 use Rattle.office_requests.specs.declared.methods.Verb.{Verb}
 use Rattle.office_requests.specs.declared.routes.Page.{Page}
 use Rattle.office_requests.specs.declared.routes.Page.TheVariants as page
-use Rattle.office_requests.proofs.FindLemmas.{flip, both}
+use Rattle.office_requests.proofs.FindLemmas.{both}
 use Rattle.office_requests.proofs.Plain.{EndsSegment}
 use Rattle.office_requests.proofs.PageLemmas.{page_some}
 use Rattle.office_requests.proofs.PrintLemmas.{NoSlash, takes_number, number_here, rest_of_digits, bare_number}
@@ -49,14 +49,14 @@ bare_word : (w : List ℕ) → is_word w ≡ true → NoSlash w
 bare_word [] is = tt
 bare_word (b ∷ w) is =
     let parts = both _ _ is in
-    (flip (b == slash) (both _ _ parts.0).0, bare_word w parts.1)
+    (not-true (b == slash) (both _ _ parts.0).0, bare_word w parts.1)
 
 takes_word : (w pattern path : List ℕ) → is_word w ≡ true
     → is_match (w ++ pattern) (w ++ path) ≡ is_match pattern path
 takes_word [] pattern path is = refl
 takes_word (b ∷ w) pattern path is =
     let parts = both _ _ is in
-    let other : (b == param_token) ≡ false = flip (b == param_token) (both _ _ parts.0).1 in
+    let other : (b == param_token) ≡ false = not-true (b == param_token) (both _ _ parts.0).1 in
     rw (other, eq-eqb b b refl)
     (takes_word w pattern path parts.1)
 

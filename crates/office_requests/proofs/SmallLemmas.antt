@@ -2,9 +2,10 @@
 use Rattle.std.proofs.Common.{◌≡◌, ℕ, zero, suc, ◌≤◌, Bool, true, false, List, [], ◌∷◌, get_or}
 use Rattle.std.proofs.Common.{Option, Some, None, Result, Ok, Err, refl, arith}
 use Rattle.std.specs.Prelude.{nat_le, nat_lt, ◌==◌, length, IfSome, IfOk, if◌then◌else◌, codes}
-use Rattle.std.specs.Prelude.{option_map, option_and_then}
+use Rattle.std.specs.Prelude.{option_and_then}
 use Rattle.std.specs.List.{AllByRecursion}
 use Rattle.std.proofs.lemmas.Bool.Decides.{nat_tests}
+use Rattle.exam_lists.proofs.Options.{IfSome_and_then, IfSome_any, IfSome_map}
 use Rattle.exam_terms.specs.Refusing.{◌>>=◌, else_err}
 use Rattle.office_policy.specs.CommandBodies.{IfBodyHasValue}
 use Rattle.office_policy.specs.Numbers.{IsSmall, IsSmallPlace}
@@ -37,16 +38,6 @@ use Rattle.office_requests.specs.declared.requests.Refusal.TheVariants as refusa
 
 -- ---- if there is a value, the reading goes on
 
-mapped : {A B : Type 0} (P : A → Type 0) (Q : B → Type 0) (f : A → B) (o : Option A)
-    → IfSome o P → ((x : A) → P x → Q (f x)) → IfSome (option_map f o) Q
-mapped P Q f None p more = tt
-mapped P Q f (Some x) p more = more x p
-
-chained : {A B : Type 0} (P : A → Type 0) (Q : B → Type 0) (f : A → Option B) (o : Option A)
-    → IfSome o P → ((x : A) → P x → IfSome (f x) Q) → IfSome (option_and_then f o) Q
-chained P Q f None p more = tt
-chained P Q f (Some x) p more = more x p
-
 else_ok : {A : Type 0} (P : A → Type 0) (fault : Refusal) (o : Option A) → IfSome o P
     → IfOk (else_err fault o) P
 else_ok P fault None p = tt
@@ -56,10 +47,6 @@ judged : {A B : Type 0} (P : A → Type 0) (Q : B → Type 0) (r : Result A Refu
     (f : A → Result B Refusal) → IfOk r P → ((x : A) → P x → IfOk (f x) Q) → IfOk (r >>= f) Q
 judged P Q (Ok x) f p more = more x p
 judged P Q (Err e) f p more = tt
-
-anything : {A : Type 0} (r : Option A) → IfSome r (λ x. Unit {0})
-anything None = tt
-anything (Some x) = tt
 
 -- ---- numbers in bodies
 
@@ -74,15 +61,15 @@ at_most_small most n = go (nat_le n most) refl
 number_at_small : (key : List ℕ) (most : ℕ) (d : Data)
     → IfSome (number_at key most d) (λ m. m ≤ most)
 number_at_small key most d =
-    chained (λ n. Unit {0}) (λ m. m ≤ most) (at_most most)
-    (option_and_then as_u64 (option_and_then as_number (get key d))) (anything _)
+    IfSome_and_then (λ n. Unit {0}) (λ m. m ≤ most) (at_most most)
+    (option_and_then as_u64 (option_and_then as_number (get key d))) (IfSome_any _)
     (λ n any. at_most_small most n)
 
 of_members_small : {A : Type 0} (P : A → Type 0) (size : ℕ) (value : Option A) (d : Data)
     → IfSome value P → IfSome (of_members size value d) P
 of_members_small P size value d small =
-    chained (λ n. Unit {0}) P (λ n. if n == size then value else None) (members_count d)
-    (anything _) (λ n any. go (n == size))
+    IfSome_and_then (λ n. Unit {0}) P (λ n. if n == size then value else None) (members_count d)
+    (IfSome_any _) (λ n any. go (n == size))
   where
     go : (b : Bool) → IfSome (if b then value else None) P
     go true = small
@@ -106,18 +93,18 @@ place_small : (bytes : List ℕ) → IfBodyHasValue (place_body bytes) IsSmallPl
 place_small bytes =
     unless_small IsSmallPlace bytes _
     (given_small IsSmallPlace _
-    (chained (λ (d : Data). Unit {0}) IsSmallPlace place_in (json_in bytes) (anything _)
+    (IfSome_and_then (λ (d : Data). Unit {0}) IsSmallPlace place_in (json_in bytes) (IfSome_any _)
     (λ d any. of_members_small IsSmallPlace 2 _ d
-    (chained IsSmall IsSmallPlace _ (number_at (codes "period") 999999999 d)
+    (IfSome_and_then IsSmall IsSmallPlace _ (number_at (codes "period") 999999999 d)
     (number_at_small (codes "period") 999999999 d)
-    (λ p small. mapped IsSmall IsSmallPlace _ (number_at (codes "room") 999999999 d)
+    (λ p small. IfSome_map IsSmall IsSmallPlace _ (number_at (codes "room") 999999999 d)
     (number_at_small (codes "room") 999999999 d) (λ r also. (small, also)))))))
 
 dept_small : (bytes : List ℕ) → IfBodyHasValue (dept_body bytes) (λ d. d ≤ 999)
 dept_small bytes =
     unless_small (λ n. n ≤ 999) bytes _
     (given_small (λ n. n ≤ 999) _
-    (chained (λ (d : Data). Unit {0}) (λ n. n ≤ 999) dept_in (json_in bytes) (anything _)
+    (IfSome_and_then (λ (d : Data). Unit {0}) (λ n. n ≤ 999) dept_in (json_in bytes) (IfSome_any _)
     (λ d any. of_members_small (λ n. n ≤ 999) 1 _ d
     (number_at_small (codes "dept") 999 d))))
 
@@ -133,8 +120,8 @@ numbers_small : (parts : List Part) (path : List ℕ) → IfSome (numbers_in par
 numbers_small [] path = tt
 numbers_small (word w ∷ parts) path = numbers_small parts (rest_after_slash path)
 numbers_small (number ∷ parts) path =
-    chained IsSmall AreSmall _ (number_in 1 path) (in_path 1 path)
-    (λ n small. mapped AreSmall AreSmall (λ ns. n ∷ ns) _
+    IfSome_and_then IsSmall AreSmall _ (number_in 1 path) (in_path 1 path)
+    (λ n small. IfSome_map AreSmall AreSmall (λ ns. n ∷ ns) _
     (numbers_small parts (rest_after_slash path)) (λ ns all. (small, all)))
 
 at_small : (ns : List ℕ) (i : ℕ) → AreSmall ns → IsSmall (get_or ns i 0)
@@ -147,7 +134,7 @@ ThreeSmall n = IsSmall n.0 × IsSmall n.1 × IsSmall n.2
 
 page_small : (p : Page) (path : List ℕ) → IfSome (numbers_of p path) ThreeSmall
 page_small p path =
-    mapped AreSmall ThreeSmall three _ (numbers_small (parts_of p) path)
+    IfSome_map AreSmall ThreeSmall three _ (numbers_small (parts_of p) path)
     (λ ns all. (at_small ns 0 all, at_small ns 1 all, at_small ns 2 all))
 
 -- ---- commands
@@ -174,7 +161,7 @@ staff_small : (verb : Verb) (path body : List ℕ)
     → IfOk (staff_command verb path body) HasSmallNumbers
 staff_small verb path body =
     judged (λ (p : Page). Unit {0}) HasSmallNumbers (else_err refusal.Path (page_of path)) _
-    (else_ok (λ (p : Page). Unit {0}) refusal.Path (page_of path) (anything _))
+    (else_ok (λ (p : Page). Unit {0}) refusal.Path (page_of path) (IfSome_any _))
     (λ p any. judged ThreeSmall HasSmallNumbers (else_err refusal.Path (numbers_of p path)) _
     (else_ok ThreeSmall refusal.Path (numbers_of p path) (page_small p path))
     (λ n small. else_ok HasSmallNumbers (refusal.Method p) (command_of verb p n body)
