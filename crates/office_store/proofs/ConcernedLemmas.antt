@@ -2,7 +2,7 @@
 use Rattle.std.specs.List.{AllByRecursion, flat_map}
 use Rattle.std.proofs.Common.{◌≡◌, ℕ, ◌+◌, ◌<◌, ◌≤◌, inl, inr, Bool, true, false, true≢false, cond, ◌||◌, eqb, List, [], ◌∷◌, ◌++◌, length, take, filter, get_or, All, Some, IsPermutation, refl, sym, ◌∙◌, ap, ap₂, subst, arith, append_assoc, length-append, length-take}
 use Rattle.std.proofs.lemmas.Bool.Decides.{nat_tests}
-use Rattle.std.proofs.lemmas.List.{get_or-take, get_or_default, length-map, take_more}
+use Rattle.std.proofs.lemmas.List.{get_or-take, get_or_default, length-map, take_more, map_push}
 use Rattle.std.proofs.lemmas.List.Elements.{All-from_recursion, filter_agree, recursion_from_All}
 use Rattle.std.proofs.lemmas.List.Folds.{list_any-append}
 use Rattle.std.proofs.lemmas.List.Sorted.{IsPermutation-append_left, IsPermutation-append_right, IsPermutation-cons, IsPermutation-refl, IsPermutation-sym, IsPermutation-to_front, IsPermutation-trans, length_permutation}
@@ -15,7 +15,6 @@ use Rattle.exam_model.proofs.PairLemmas.{are_pairs}
 use Rattle.exam_publish.proofs.ListLemmas.{chain_from_ascending, has_ascending}
 use Rattle.exam_score.specs.Exchanges.{pairs_concerned, sits_among}
 use Rattle.exam_score.specs.Folds.{CanFollow, ComesEarlier, Folded, RepresentsPairs, pairs_sat}
-use Rattle.exam_score.proofs.FoldLemmas.{map_push}
 use Rattle.office_store.specs.Folding.{pairs_of_students, students_of_exams}
 
 -- ---- tests on lists
