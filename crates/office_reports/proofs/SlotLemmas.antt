@@ -6,6 +6,7 @@ use Rattle.std.proofs.lemmas.Bool.{and_parts, and_from, cases_eq, false_from_ne_
 use Rattle.std.proofs.lemmas.List.{length-set, get_or-set_same, get_or-set_other}
 use Rattle.std.proofs.lemmas.List.Sums.{count_by_more_yes, count_by_more_no}
 use Rattle.std.proofs.lemmas.Nat.{same_from_place}
+use Rattle.exam_lists.proofs.Ranges.{range_filter_more, range_filter_same, range_flat_map_same}
 use Rattle.exam_terms.specs.declared.place.Place.{Place}
 use Rattle.exam_model.specs.Instance.{Session}
 use Rattle.exam_model.specs.Fits.{PlaceExists, slot_of}
@@ -16,7 +17,6 @@ use Rattle.exam_publish.specs.declared.seat_row.SeatRow.{SeatRow}
 use Rattle.exam_rules.specs.Places.{is_one_place, place_satisfies}
 use Rattle.office_reports.specs.Rooms.{capacity_of, exams_in, line_with, period_lines, place, place_line, seats_in}
 use Rattle.office_reports.specs.Slots.{IsTable, entry_line, entry_lines, exams_below}
-use Rattle.office_reports.proofs.RoomLemmas.{failed_more, passed_more, same_lines}
 
 -- the same place means the same room and the same period
 one_place : (p q : Place) → is_one_place p q ≡ true → (p.period ≡ q.period) × (p.room ≡ q.room)
@@ -83,9 +83,9 @@ pub exam_put : {I : Session} (T : Placing) (i : ℕ) {table : List (List ℕ)} {
 exam_put {I} T i {table} {q} {new} was placed exists is =
     table_put I [] (exams_below T i) (exams_below T (i + 1)) (λ xs. xs ++ i ∷ []) table q new
     was exists.0 exists.1 is
-    (λ p one. passed_more (λ e. place_satisfies (is_one_place p) (place_of T e)) i
+    (λ p one. range_filter_more (λ e. place_satisfies (is_one_place p) (place_of T e)) i
     (ap (place_satisfies (is_one_place p)) placed ∙ one))
-    (λ p apart. failed_more (λ e. place_satisfies (is_one_place p) (place_of T e)) i
+    (λ p apart. range_filter_same (λ e. place_satisfies (is_one_place p) (place_of T e)) i
     (ap (place_satisfies (is_one_place p)) placed ∙ apart))
 
 -- one more exam, whose place doesn't exist in the session
@@ -95,7 +95,7 @@ pub exam_outside : {I : Session} (T : Placing) (i : ℕ) {table : List (List ℕ
 exam_outside {I} T i {table} {q} was placed isnt = record {
   count = was.count;
   each = λ p pp pr. was.each p pp pr
-      ∙ sym (failed_more (λ e. place_satisfies (is_one_place p) (place_of T e)) i
+      ∙ sym (range_filter_same (λ e. place_satisfies (is_one_place p) (place_of T e)) i
       (ap (place_satisfies (is_one_place p)) placed ∙ outside I p q isnt pp pr));
 }
 
@@ -106,7 +106,7 @@ pub exam_unplaced : {I : Session} (T : Placing) (i : ℕ) {table : List (List �
 exam_unplaced {I} T i {table} was unplaced = record {
   count = was.count;
   each = λ p pp pr. was.each p pp pr
-      ∙ sym (failed_more (λ e. place_satisfies (is_one_place p) (place_of T e)) i
+      ∙ sym (range_filter_same (λ e. place_satisfies (is_one_place p) (place_of T e)) i
       (ap (place_satisfies (is_one_place p)) unplaced));
 }
 
@@ -152,8 +152,8 @@ pub report_lines : {I : Session} (T : Placing) (rows : List SeatRow) {exams : Li
     → flat_map (entry_lines I exams used) (range_with_len 0 (length I.periods))
     ≡ flat_map (period_lines I T rows) (range_with_len 0 (length I.periods))
 report_lines {I} T rows {exams} {used} listed counted =
-    same_lines (entry_lines I exams used) (period_lines I T rows) 0 (length I.periods)
-    (λ p pp. same_lines (λ r. entry_line I exams used (place p r))
+    range_flat_map_same (entry_lines I exams used) (period_lines I T rows) 0 (length I.periods)
+    (λ p pp. range_flat_map_same (λ r. entry_line I exams used (place p r))
     (λ r. place_line I T rows (place p r)) 0 (length I.rooms)
     (λ r pr. same_line p r (omega arith) (omega arith)))
   where
