@@ -1,7 +1,8 @@
 -- The shares add up to the penalty, part by part.
+use Rattle.std.proofs.lemmas.Grind.{common_steps}
 use Rattle.std.specs.List.{range_with_len}
 use Rattle.std.specs.Prelude.{slice_get}
-use Rattle.std.proofs.Common.{◌≡◌, ℕ, zero, suc, ◌+◌, ◌*◌, ◌≤◌, inl, inr, Bool, true, false, cond, ltb, List, [], ◌∷◌, length, take, map, sum, sum_by, count_by, Option, Some, None, refl, sym, ◌∙◌, ap, arith, add-one, mul_comm, one-mul, zero-mul, lt-ltb, le-ltb}
+use Rattle.std.proofs.Common.{◌≡◌, ℕ, zero, suc, ◌+◌, ◌*◌, ◌≤◌, Bool, true, false, cond, ltb, List, [], ◌∷◌, length, take, map, sum, sum_by, count_by, Option, Some, None, refl, sym, ◌∙◌, ap, arith, add-one, mul_comm, one-mul, zero-mul, lt-ltb, le-ltb}
 use Rattle.std.proofs.lemmas.Bool.{cases_lt, cond-true, cond-false}
 use Rattle.std.proofs.lemmas.List.{map-id, take_all}
 use Rattle.std.proofs.lemmas.List.Elements.{recursion_from_All}
@@ -85,11 +86,7 @@ by_places amount test cost n T one =
 
 within_or_none : (amount : ℕ → ℕ) (x n : ℕ) → (n ≤ x → amount x ≡ 0)
     → cond (ltb x n) (amount x) 0 ≡ amount x
-within_or_none amount x n past =
-    elim (cases_lt x n) as (λ _. cond (ltb x n) (amount x) 0 ≡ amount x) [
-      | inl less ↦ cond-true (ltb x n) (amount x) 0 (lt-ltb x n less)
-      | inr more ↦ cond-false (ltb x n) (amount x) 0 (le-ltb x n more) ∙ sym (past more)
-    ]
+within_or_none amount x n past = grind (arith, common_steps, cases_lt, cond-true, lt-ltb, cond-false, le-ltb)
 
 one_period : (I : Session) (o : Option Place)
     → sum_below (length I.periods)

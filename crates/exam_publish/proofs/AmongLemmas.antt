@@ -1,5 +1,6 @@
 -- The rows of some of the students, and the shares of these students.
-use Rattle.std.proofs.Common.{◌≡◌, ℕ, ◌<◌, ◌≤◌, ◌^◌, inl, inr, Bool, true, false, cond, ◌&&◌, eqb, Result, Ok, Err, List, [], ◌∷◌, length, get_or, nat_cmp, map, filter, sum_by, refl, sym, ◌∙◌, ap, arith}
+use Rattle.std.proofs.lemmas.Grind.{common_steps}
+use Rattle.std.proofs.Common.{◌≡◌, ℕ, ◌<◌, ◌≤◌, ◌^◌, inl, inr, Bool, true, ◌&&◌, eqb, Result, Ok, Err, List, [], ◌∷◌, length, get_or, nat_cmp, map, filter, sum_by, refl, sym, ◌∙◌, ap, arith}
 use Rattle.std.specs.List.Sorted.{IsBinarySearchResult}
 use Rattle.std.specs.Prelude.{is_ok}
 use Rattle.std.proofs.lemmas.Bool.{cases_lt, eq-eqb, ne_eqb, true≢false}
@@ -26,48 +27,23 @@ use Rattle.exam_publish.proofs.ShareLemmas.{small_shares}
 
 filter_shorter : {X : Type 0} (t : X → Bool) (xs : List X) → length (filter t xs) ≤ length xs
 filter_shorter t [] = omega arith
-filter_shorter t (x ∷ xs) = go (t x) (filter_shorter t xs)
-  where
-    go : (b : Bool) → length (filter t xs) ≤ length xs
-        → length (cond b (x ∷ filter t xs) (filter t xs)) ≤ length (x ∷ xs)
-    go true more = omega arith
-    go false more = omega arith
+filter_shorter t (x ∷ xs) = grind (arith, common_steps, filter_shorter t xs)
 
 pub map_filter : {X Y : Type 0} (f : X → Y) (p : Y → Bool) (xs : List X)
     → map f (filter (λ x. p (f x)) xs) ≡ filter p (map f xs)
 map_filter f p [] = refl
-map_filter f p (x ∷ xs) = go (p (f x)) (map_filter f p xs)
-  where
-    go : (b : Bool) → map f (filter (λ x. p (f x)) xs) ≡ filter p (map f xs)
-        → map f (cond b (x ∷ filter (λ x. p (f x)) xs) (filter (λ x. p (f x)) xs))
-        ≡ cond b (f x ∷ filter p (map f xs)) (filter p (map f xs))
-    go true more = ap (λ ys. f x ∷ ys) more
-    go false more = more
+map_filter f p (x ∷ xs) = grind (arith, common_steps, map_filter f p xs)
 
 -- two functions that agree on the elements that pass
 map_passing : {X Y : Type 0} (f g : X → Y) (p : X → Bool) → ((x : X) → p x ≡ true → f x ≡ g x)
     → (xs : List X) → map f (filter p xs) ≡ map g (filter p xs)
 map_passing f g p same [] = refl
-map_passing f g p same (x ∷ xs) = go (p x) refl (map_passing f g p same xs)
-  where
-    go : (b : Bool) → p x ≡ b → map f (filter p xs) ≡ map g (filter p xs)
-        → map f (cond b (x ∷ filter p xs) (filter p xs))
-        ≡ map g (cond b (x ∷ filter p xs) (filter p xs))
-    go true is more = ap (λ ys. f x ∷ ys) more ∙ ap (λ y. y ∷ map g (filter p xs)) (same x is)
-    go false is more = more
+map_passing f g p same (x ∷ xs) = grind (arith, common_steps, map_passing f g p same xs)
 
 less_sum : {X : Type 0} (f : X → ℕ) (t : X → Bool) (xs : List X)
     → sum_by f (filter t xs) ≤ sum_by f xs
 less_sum f t [] = omega arith
-less_sum f t (x ∷ xs) = go (t x) (less_sum f t xs)
-  where
-    go : (b : Bool) → sum_by f (filter t xs) ≤ sum_by f xs
-        → sum_by f (cond b (x ∷ filter t xs) (filter t xs)) ≤ sum_by f (x ∷ xs)
-    go true more =
-        let some = sum_by-cons f x (filter t xs) in
-        let all = sum_by-cons f x xs in
-        omega arith
-    go false more = let all = sum_by-cons f x xs in omega arith
+less_sum f t (x ∷ xs) = grind (arith, common_steps, sum_by-cons, less_sum f t xs)
 
 -- ---- a search among students
 
@@ -124,20 +100,7 @@ students_among rows students =
 own_among : (students : List ℕ) (s : ℕ) → has_number students s ≡ true → (rows : List SeatRow)
     → rows_of s (rows_among students rows) ≡ rows_of s rows
 own_among students s h [] = refl
-own_among students s h (r ∷ rs) =
-    go (has_number students r.student) refl (own_among students s h rs)
-  where
-    apart : has_number students r.student ≡ false → r.student ≡ s → ⊥
-    apart is same = absurd (true≢false (sym (ap (has_number students) same ∙ h) ∙ is))
-
-    go : (b : Bool) → has_number students r.student ≡ b
-        → rows_of s (rows_among students rs) ≡ rows_of s rs
-        → rows_of s (cond b (r ∷ rows_among students rs) (rows_among students rs))
-        ≡ cond (eqb r.student s) (r ∷ rows_of s rs) (rows_of s rs)
-    go true is more = ap (λ xs. cond (eqb r.student s) (r ∷ xs) xs) more
-    go false is more =
-        more ∙ sym (ap (λ b. cond b (r ∷ rows_of s rs) (rows_of s rs))
-        (ne_eqb r.student s (apart is)))
+own_among students s h (r ∷ rs) = grind (arith, common_steps, true≢false, ne_eqb, own_among students s h rs)
 
 -- their shares are those of all rows
 pub among_shares : (I : Session) (rows : List SeatRow) (students : List ℕ)

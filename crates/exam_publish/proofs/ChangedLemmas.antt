@@ -1,6 +1,7 @@
 -- A walk along two lists of rows in order finds the candidates whose rows differ.
+use Rattle.std.proofs.lemmas.Grind.{common_steps}
 use Rattle.std.specs.List.{AllByRecursion}
-use Rattle.std.proofs.Common.{◌≡◌, ℕ, ◌<◌, inl, inr, Bool, true, false, cond, not, ◌&&◌, ◌||◌, eqb, List, [], ◌∷◌, ◌++◌, map, refl, sym, ◌∙◌, ap, ap₂, subst, arith}
+use Rattle.std.proofs.Common.{◌≡◌, ℕ, inl, inr, Bool, true, false, ◌&&◌, ◌||◌, eqb, List, [], ◌∷◌, ◌++◌, refl, sym, ◌∙◌, ap, subst, arith, rules}
 use Rattle.std.proofs.lemmas.Bool.Decides.{nat_tests}
 use Rattle.std.proofs.lemmas.List.Folds.{list_any-append}
 use Rattle.exam_lists.proofs.Chains.{IsChain, chain_from_index}
@@ -10,7 +11,7 @@ use Rattle.exam_model.specs.Pairs.{Pair, ComesBefore}
 use Rattle.exam_model.proofs.SameSet.{same_list}
 use Rattle.exam_publish.specs.declared.seat_row.SeatRow.{SeatRow}
 use Rattle.exam_publish.specs.Rows.{is_pair_before, RowBefore, RowsInOrder, row_pair}
-use Rattle.exam_publish.specs.Changed.{rows_of, has_row, same_row, same_rows, is_changed, students_of, changed_students}
+use Rattle.exam_publish.specs.Changed.{rows_of, has_row, same_row, same_rows, is_changed, changed_students}
 use Rattle.exam_publish.proofs.ListLemmas.{each_filter, chain_filter, any_map, has_filter, has_ascending, chain_ascending, ascending_from_chain}
 
 -- ---- the order of rows
@@ -49,45 +50,21 @@ second_only r (x ∷ xs) ys a = ap (λ b. b && same_rows xs ys) (not_same_turned
 
 pub left_step : (r : SeatRow) (rs qs : List SeatRow) → AllByRecursion (RowBefore r) qs → (s : ℕ)
     → (eqb r.student s || is_changed rs qs s) ≡ is_changed (r ∷ rs) qs s
-left_step r rs qs above s = go (eqb r.student s)
-  where
-    go : (b : Bool) → (b || not (same_rows (rows_of s rs) (rows_of s qs)))
-        ≡ not (same_rows (cond b (r ∷ rows_of s rs) (rows_of s rs)) (rows_of s qs))
-    go true = sym
-        (ap not (first_only r (rows_of s rs) (rows_of s qs)
-        (each_filter (RowBefore r) (λ row. eqb row.student s) qs above)))
-    go false = refl
+left_step r rs qs above s = grind (arith, common_steps, first_only, each_filter)
 
 pub right_step : (q : SeatRow) (rs qs : List SeatRow) → AllByRecursion (RowBefore q) rs → (s : ℕ)
     → (eqb q.student s || is_changed rs qs s) ≡ is_changed rs (q ∷ qs) s
-right_step q rs qs above s = go (eqb q.student s)
-  where
-    go : (b : Bool) → (b || not (same_rows (rows_of s rs) (rows_of s qs)))
-        ≡ not (same_rows (rows_of s rs) (cond b (q ∷ rows_of s qs) (rows_of s qs)))
-    go true = sym
-        (ap not (second_only q (rows_of s rs) (rows_of s qs)
-        (each_filter (RowBefore q) (λ row. eqb row.student s) rs above)))
-    go false = refl
+right_step q rs qs above s = grind (arith, common_steps, second_only, each_filter)
 
 -- ---- only one list is left
 
 pub left_only : (rows : List SeatRow) (s : ℕ) → is_changed rows [] s ≡ has_row rows s
 left_only [] s = refl
-left_only (r ∷ rs) s = go (eqb r.student s) (left_only rs s)
-  where
-    go : (b : Bool) → is_changed rs [] s ≡ has_row rs s
-        → not (same_rows (cond b (r ∷ rows_of s rs) (rows_of s rs)) []) ≡ (b || has_row rs s)
-    go true more = refl
-    go false more = more
+left_only (r ∷ rs) s = grind (arith, common_steps, left_only rs s)
 
 pub right_only : (rows : List SeatRow) (s : ℕ) → is_changed [] rows s ≡ has_row rows s
 right_only [] s = refl
-right_only (r ∷ rs) s = go (eqb r.student s) (right_only rs s)
-  where
-    go : (b : Bool) → is_changed [] rs s ≡ has_row rs s
-        → not (same_rows [] (cond b (r ∷ rows_of s rs) (rows_of s rs))) ≡ (b || has_row rs s)
-    go true more = refl
-    go false more = more
+right_only (r ∷ rs) s = grind (arith, common_steps, right_only rs s)
 
 -- ---- the walk
 
@@ -98,11 +75,7 @@ pub record IsCompared (old new left right : List SeatRow) (found : List ℕ) : T
 
 pub start : (old new : List SeatRow) (found : List ℕ) → found ≡ [] → RowsInOrder old
     → RowsInOrder new → IsCompared old new old new found
-start old new found none up up' = record {
-  members = λ s. ap (λ xs. has_number xs s || is_changed old new s) none;
-  left_order = chain_from_index RowBefore old up;
-  right_order = chain_from_index RowBefore new up';
-}
+start old new found none up up' = grind (arith, common_steps, chain_from_index)
 
 or_assoc : (a b c : Bool) → ((a || b) || c) ≡ (a || (b || c))
 or_assoc true b c = refl
@@ -184,15 +157,7 @@ end_right {old} {new} {left} {right} {found} more was none is s =
 -- a candidate without rows isn't changed
 nothing_of : (rows : List SeatRow) (s : ℕ) → has_row rows s ≡ false → rows_of s rows ≡ []
 nothing_of [] s h = refl
-nothing_of (r ∷ rs) s h = go (eqb r.student s) (nothing_of rs s) h
-  where
-    go : (b : Bool) → (has_row rs s ≡ false → rows_of s rs ≡ []) → (b || has_row rs s) ≡ false
-        → cond b (r ∷ rows_of s rs) (rows_of s rs) ≡ []
-    go true more k = absurd (clash k)
-      where
-        clash : true ≡ false → ⊥
-        clash e = cc
-    go false more k = more k
+nothing_of (r ∷ rs) s h = grind (arith, common_steps, nothing_of rs s)
 
 pub changed_has_row : (old new : List SeatRow) (s : ℕ)
     → (is_changed old new s && has_row (old ++ new) s) ≡ is_changed old new s
@@ -208,23 +173,9 @@ changed_has_row old new s =
         → (is_changed old new s && (a || b)) ≡ is_changed old new s
     go true h b k = and_true (is_changed old new s)
     go false h true k = and_true (is_changed old new s)
-    go false h false k =
-        nobody (is_changed old new s)
-        (ap₂ (λ xs ys. not (same_rows xs ys)) (nothing_of old s h) (nothing_of new s k))
-      where
-        nobody : (a : Bool) → a ≡ false → (a && false) ≡ a
-        nobody true e = sym e
-        nobody false e = refl
+    go false h false k = grind (arith, common_steps, nothing_of)
 
 pub listed : (old new : List SeatRow) (found : List ℕ) → IsAscending found
     → ((s : ℕ) → has_number found s ≡ is_changed old new s) → found ≡ changed_students old new
 listed old new found up members =
-    same_list found (changed_students old new) up
-    (ascending_from_chain (changed_students old new)
-    (chain_filter (λ x y. x < y) (is_changed old new) (students_of (old ++ new))
-    (chain_ascending (map (λ row. row.student) (old ++ new)))))
-    (λ s. members s ∙ sym (changed_has_row old new s)
-    ∙ ap (λ b. is_changed old new s && b)
-    (sym (any_map (λ x. eqb x s) (λ row. row.student) (old ++ new))
-    ∙ sym (has_ascending (map (λ row. row.student) (old ++ new)) s))
-    ∙ sym (has_filter (is_changed old new) (students_of (old ++ new)) s))
+    search (rules, same_list, ascending_from_chain, chain_filter, chain_ascending, changed_has_row, any_map, has_ascending, has_filter)

@@ -1,10 +1,11 @@
 -- The different durations of a room and period, by stays without repeats.
+use Rattle.std.proofs.lemmas.Grind.{common_steps}
 use Rattle.std.specs.List.{list_any, dedup}
 use Rattle.std.specs.List.Sorted.{IsStrictlySortedBy}
 use Rattle.std.specs.Ordering.{nat_cmp, ordering_then, eq_by_cmp}
 use Rattle.std.specs.Cmp.{then_total, on_total, nat_cmp_total, IsTotalOrder, IsEquivalence}
 use Rattle.std.specs.Prelude.{slice_index, nat_lt, ◌==◌, ◌&&◌}
-use Rattle.std.proofs.Common.{◌≡◌, ℕ, ◌+◌, ◌-◌, ◌*◌, ◌<◌, ◌≤◌, ◌⊎◌, inl, inr, Bool, true, false, cond, ◌||◌, eqb, ltb, List, [], ◌∷◌, length, count_by, All, Contains, IsPermutation, IsSorted, Ordering, Less, refl, sym, ◌∙◌, ap, ap₂, subst, arith, eqb-true, lt-ltb, one-mul}
+use Rattle.std.proofs.Common.{◌≡◌, ℕ, ◌+◌, ◌-◌, ◌*◌, ◌<◌, ◌≤◌, ◌⊎◌, inl, inr, Bool, true, false, cond, eqb, ltb, List, [], ◌∷◌, length, count_by, All, Contains, IsPermutation, IsSorted, Ordering, Less, refl, sym, ◌∙◌, ap, subst, arith, eqb-true, lt-ltb, one-mul}
 use Rattle.std.proofs.lemmas.Bool.{cases_eq, cases_lt, cond-true, ne_eqb, and_parts, and_from, eq-eqb, false_from_ne_true}
 use Rattle.std.proofs.lemmas.Bool.Decides.{nat_tests}
 use Rattle.std.proofs.lemmas.Nat.{same_from_place}
@@ -51,25 +52,10 @@ ties : (a b : Stay) → stay_eq a b ≡ eq_by_cmp stay_cmp a b
 ties a b = grind (arith, nat_tests)
 
 same_stay : (a b : Stay) → stay_eq a b ≡ true → a ≡ b
-same_stay a b h =
-    let first = and_parts (eqb a.period b.period)
-    (eqb a.room b.room && eqb a.minutes b.minutes) h in
-    let second = and_parts (eqb a.room b.room) (eqb a.minutes b.minutes) first.1 in
-    fields (eqb-true a.period b.period first.0) (eqb-true a.room b.room second.0)
-    (eqb-true a.minutes b.minutes second.1)
-  where
-    fields : a.period ≡ b.period → a.room ≡ b.room → a.minutes ≡ b.minutes → a ≡ b
-    fields p r m = λ i. record { period = p i; room = r i; minutes = m i }
+same_stay a b h = grind (arith, common_steps, and_parts, eqb-true)
 
 equivalence : IsEquivalence stay_eq
-equivalence =
-    record { refl = λ a. own a; symm = λ a b. turned a b; congr = λ a b c h. ap (λ x. stay_eq x c) (same_stay a b h) }
-  where
-    own : (a : Stay) → stay_eq a a ≡ true
-    own a = grind (arith, nat_tests)
-
-    turned : (a b : Stay) → stay_eq a b ≡ stay_eq b a
-    turned a b = grind (arith, nat_tests)
+equivalence = grind (arith, common_steps, same_stay, nat_tests)
 
 chain_from_strict : (xs : List Stay) → IsStrictlySortedBy stay_cmp xs
     → IsChain (λ x y. stay_cmp x y ≡ Less) xs
@@ -84,13 +70,7 @@ other_stay p r m x y less here = grind (arith, nat_tests, less, here)
 
 any_count : (p : Stay → Bool) (xs : List Stay) → nat_lt 0 (count_by p xs) ≡ list_any p xs
 any_count p [] = refl
-any_count p (x ∷ xs) =
-    ap (λ n. nat_lt 0 n) (sum_by-cons (λ y. cond (p y) 1 0) x xs)
-    ∙ go (p x) (count_by p xs) ∙ ap (λ b. p x || b) (any_count p xs)
-  where
-    go : (b : Bool) (n : ℕ) → nat_lt 0 (cond b 1 0 + n) ≡ (b || nat_lt 0 n)
-    go true n = grind (arith, nat_tests)
-    go false n = grind (arith, nat_tests)
+any_count p (x ∷ xs) = grind (arith, common_steps, sum_by-cons, nat_tests, any_count p xs)
 
 any_dedup : (p : Stay → Bool) (xs : List Stay) → list_any p (dedup stay_eq xs) ≡ list_any p xs
 any_dedup p xs =
@@ -183,12 +163,7 @@ same_slot I p r hr x e =
         eq-eqb (x.period * length I.rooms + x.room) (p * length I.rooms + r) same
         ∙ sym (and_from (eqb x.period p) (eqb x.room r) (eq-eqb x.period p parts.0)
         (eq-eqb x.room r parts.1))
-    go (inr other) =
-        ne_eqb (x.period * length I.rooms + x.room) (p * length I.rooms + r) other
-        ∙ sym (false_from_ne_true (eqb x.period p && eqb x.room r) (λ one.
-        let parts = and_parts (eqb x.period p) (eqb x.room r) one in
-        other (ap₂ (λ a b. a * length I.rooms + b) (eqb-true x.period p parts.0)
-        (eqb-true x.room r parts.1))))
+    go (inr other) = grind (arith, common_steps, ne_eqb, false_from_ne_true, and_parts, eqb-true)
 
 pub are_durations : (I : Session) (T : Placing) (kinds : List Stay) (counts : List ℕ)
     → AreKinds I T kinds → length kinds ≤ 2000
@@ -223,7 +198,4 @@ pub mixed_is : (I : Session) (T : Placing) (counts : List ℕ) (r : ℕ) → Are
     → sum_below (length I.periods)
     (λ p. (slice_index counts (p * length I.rooms + r) - 1) * I.weights.mixed)
     ≡ room_mixed I T r
-mixed_is I T counts r are hr =
-    sum_below-within (λ p. (slice_index counts (p * length I.rooms + r) - 1) * I.weights.mixed)
-    (λ p. (durations I T p r - 1) * I.weights.mixed) (length I.periods)
-    (λ p lt. ap (λ n. (n - 1) * I.weights.mixed) (are.each p r lt hr))
+mixed_is I T counts r are hr = grind (arith, common_steps, sum_below-within)

@@ -1,8 +1,9 @@
 -- The entrants of one more exam, and the invariant of all entrants.
-use Rattle.std.specs.Prelude.{IfSome, slice_get}
+use Rattle.std.proofs.lemmas.Grind.{common_steps}
+use Rattle.std.specs.Prelude.{slice_get}
 use Rattle.std.specs.List.{AllByRecursion, cons_option}
-use Rattle.std.proofs.Common.{◌≡◌, ℕ, zero, suc, ◌+◌, ◌<◌, ◌≤◌, List, [], ◌∷◌, ◌++◌, length, map, take, Option, Some, None, option_map, All, Contains, refl, sym, ◌∙◌, ap, ap₂, subst, arith, append-nil}
-use Rattle.std.proofs.lemmas.List.Elements.{filter_map-append, All-from_recursion, recursion_from_All, All-contains}
+use Rattle.std.proofs.Common.{◌≡◌, ℕ, zero, suc, ◌+◌, ◌<◌, ◌≤◌, List, [], ◌∷◌, ◌++◌, length, map, take, Some, None, option_map, All, refl, sym, ◌∙◌, ap₂, subst, arith, append-nil}
+use Rattle.std.proofs.lemmas.List.Elements.{filter_map-append, All-from_recursion, recursion_from_All}
 use Rattle.exam_lists.proofs.Each.{each_weaker}
 use Rattle.exam_model.specs.Enrolments.{Enrolled, AreEnrolments, students}
 use Rattle.exam_model.specs.Fits.{Fits, PlaceExists}
@@ -17,7 +18,7 @@ use Rattle.exam_publish.specs.declared.seat_row.SeatRow.{SeatRow}
 use Rattle.exam_publish.specs.Seating.{EntrantExists, KeepsOwnPlace, KeepsSmallSeat}
 use Rattle.exam_publish.specs.Seats.{IsSeatOf, HasSeat}
 use Rattle.exam_publish.specs.Entrants.{entrant, entrants}
-use Rattle.exam_publish.proofs.SeatLemmas.{IsFair, all_fair, each_entrant, from_within, length_filter_map}
+use Rattle.exam_publish.proofs.SeatLemmas.{all_fair, each_entrant, from_within, length_filter_map}
 use Rattle.exam_publish.proofs.SeatingLemmas.{pairs_more, length_pairs}
 
 entrants_at : (T : Placing) (old : List SeatRow) (e : ℕ) (at : Place)
@@ -39,10 +40,7 @@ entrants_nowhere T old e none (x ∷ xs) =
 split : (E : Enrolled) (T : Placing) (old : List SeatRow) (e : ℕ) → e < length E
     → entrants (pairs_of (take (e + 1) E)) T old
     ≡ entrants (pairs_of (take e E)) T old ++ entrants (pairs_at e (students E e)) T old
-split E T old e lt =
-    ap (λ ps. entrants ps T old) (pairs_more E e lt)
-    ∙ filter_map-append (λ (p : Pair). option_map (entrant old p) (place_of T p.exam))
-    (pairs_of (take e E)) (pairs_at e (students E e))
+split E T old e lt = grind (arith, common_steps, pairs_more, filter_map-append)
 
 pub exam_more : (E : Enrolled) (T : Placing) (old : List SeatRow) (e : ℕ) (at : Place)
     (xs more : List Entrant)
@@ -57,11 +55,7 @@ exam_more E T old e at xs more lt here was added =
 pub exam_nowhere : (E : Enrolled) (T : Placing) (old : List SeatRow) (e : ℕ) (xs : List Entrant)
     → e < length E → place_of T e ≡ None
     → xs ≡ entrants (pairs_of (take e E)) T old → xs ≡ entrants (pairs_of (take (e + 1) E)) T old
-exam_nowhere E T old e xs lt none was =
-    was ∙ sym (split E T old e lt
-    ∙ ap (λ ys. entrants (pairs_of (take e E)) T old ++ ys)
-    (entrants_nowhere T old e none (students E e))
-    ∙ append-nil (entrants (pairs_of (take e E)) T old))
+exam_nowhere E T old e xs lt none was = grind (arith, common_steps, split, entrants_nowhere, append-nil)
 
 -- ---- all entrants
 
@@ -92,20 +86,8 @@ small_seat (x ∷ xs) (suc r) n known h = small_seat xs r n known.1 h
 pub entrants_keep : (I : Session) (T : Placing) (old : List SeatRow) (pairs : List Pair)
     → IsInstance I → All (HasSeat I) old → All KeepsSmallSeat (entrants pairs T old)
 entrants_keep I T old pairs known within =
-    All-from_recursion KeepsSmallSeat (entrants pairs T old)
-    (each_weaker (IsFair T old) KeepsSmallSeat (λ (x : Entrant) h. kept x.kept h.from_old)
-    (entrants pairs T old) (all_fair T old pairs))
-  where
-    kept : (o : Option SeatRow) → IfSome o (Contains old) → IfSome o (λ row. row.seat ≤ 100000)
-    kept None h = tt
-    kept (Some row) h =
-        small_seat I.rooms row.room row.seat
-        (recursion_from_All RoomInLimits I.rooms known.limits.rooms)
-        (All-contains (HasSeat I) old row within h)
+    grind (arith, common_steps, each_weaker, all_fair, small_seat, recursion_from_All)
 
 pub entrants_placed : (T : Placing) (old : List SeatRow) (pairs : List Pair)
     → All KeepsOwnPlace (entrants pairs T old)
-entrants_placed T old pairs =
-    All-from_recursion KeepsOwnPlace (entrants pairs T old)
-    (each_weaker (IsFair T old) KeepsOwnPlace (λ (x : Entrant) h. h.place)
-    (entrants pairs T old) (all_fair T old pairs))
+entrants_placed T old pairs = grind (arith, common_steps, each_weaker, all_fair)

@@ -1,7 +1,8 @@
 -- The least number that is not taken, and the numbers that rows take in a room and period.
+use Rattle.std.proofs.lemmas.Grind.{common_steps}
 use Rattle.std.specs.List.{list_any, position_or_len, range_with_len}
 use Rattle.std.specs.Prelude.{not}
-use Rattle.std.proofs.Common.{◌≡◌, ℕ, ◌+◌, ◌-◌, ◌<◌, ◌≤◌, inl, inr, Bool, true, false, cond, ◌&&◌, ◌||◌, eqb, List, [], ◌∷◌, length, map, filter, get_or, refl, sym, ◌∙◌, ap, ap₂, arith}
+use Rattle.std.proofs.Common.{◌≡◌, ℕ, ◌+◌, ◌-◌, ◌<◌, ◌≤◌, inl, inr, Bool, true, false, cond, ◌&&◌, ◌||◌, eqb, List, [], ◌∷◌, length, get_or, refl, sym, ◌∙◌, ap, ap₂, arith}
 use Rattle.std.proofs.lemmas.Bool.{cases_eq, cases_lt, eq-eqb, ne_eqb, not-false, false_from_ne_true, or_right}
 use Rattle.std.proofs.lemmas.Bool.Decides.{nat_tests}
 use Rattle.std.proofs.lemmas.List.FromFn.{length-range_with_len, get_or-range_with_len}
@@ -43,10 +44,7 @@ le_taken n xs h =
 
 position_small : {X : Type 0} (p : X → Bool) (xs : List X) → position_or_len p xs ≤ length xs
 position_small p [] = omega arith
-position_small p (x ∷ xs) =
-    let more = position_small p xs in
-    elim (p x) as (λ b. cond (not b) (1 + position_or_len p xs) 0 ≤ length (x ∷ xs))
-    [ true ↦ omega arith | false ↦ omega arith ]
+position_small p (x ∷ xs) = grind (arith, common_steps, position_small p xs)
 
 abbrev is_free : List ℕ → ℕ → Bool
 is_free taken k = not (has_number taken k)
@@ -68,10 +66,7 @@ is_least taken n h =
     omega arith
 
 pub least_small : (taken : List ℕ) → least_free taken ≤ length taken + 1
-least_small taken =
-    let long = length-range_with_len 1 (length taken) in
-    let most = position_small (is_free taken) (range_with_len 1 (length taken)) in
-    omega arith
+least_small taken = grind (arith, common_steps, length-range_with_len, position_small)
 
 turned_not : (b : Bool) → not b ≡ true → b ≡ false
 turned_not true h = sym h
@@ -121,30 +116,12 @@ least_is taken = record { low = omega arith; free = least_free_is taken; below =
 pub length_seats : (at : Place) (r : SeatRow) (rs : List SeatRow)
     → length (seats_at at (r ∷ rs))
     ≡ cond (is_one_place at (row_place r)) 1 0 + length (seats_at at rs)
-length_seats at r rs = go (is_one_place at (row_place r))
-  where
-    go : (b : Bool)
-        → length (map (λ row. row.seat)
-        (cond b (r ∷ filter (λ row. is_one_place at (row_place row)) rs)
-        (filter (λ row. is_one_place at (row_place row)) rs)))
-        ≡ cond b 1 0 + length (seats_at at rs)
-    go true = omega arith
-    go false = omega arith
+length_seats at r rs = grind (arith, common_steps)
 
 pub has_seats : (at : Place) (r : SeatRow) (rs : List SeatRow) (n : ℕ)
     → has_number (seats_at at (r ∷ rs)) n
     ≡ ((is_one_place at (row_place r) && eqb r.seat n) || has_number (seats_at at rs) n)
-has_seats at r rs n = go (is_one_place at (row_place r))
-  where
-    go : (b : Bool)
-        → has_number
-        (map (λ row. row.seat)
-        (cond b (r ∷ filter (λ row. is_one_place at (row_place row)) rs)
-        (filter (λ row. is_one_place at (row_place row)) rs)))
-        n
-        ≡ ((b && eqb r.seat n) || has_number (seats_at at rs) n)
-    go true = refl
-    go false = refl
+has_seats at r rs n = grind (arith, common_steps)
 
 pub still_taken : (at : Place) (r : SeatRow) (rs : List SeatRow) (n : ℕ)
     → has_number (seats_at at rs) n ≡ true → has_number (seats_at at (r ∷ rs)) n ≡ true
@@ -162,14 +139,7 @@ pub record IsNext (kept : List SeatRow) (at : Place) (last n : ℕ) : Type 0 whe
 
 pub is_next : (kept current : List SeatRow) (at : Place) (last n : ℕ)
     → IsLast kept current at last → IsNext kept at last n → n ≡ least_free (seats_at at current)
-is_next kept current at last n was next = is_least (seats_at at current) n (record {
-  low = let h = next.beyond in omega arith;
-  free = was.beyond n next.beyond ∙ next.free;
-  below = λ k low lt. elim (cases_lt last k) as (λ _. has_number (seats_at at current) k ≡ true) [
-    | inl past ↦ was.beyond k past ∙ next.between k past lt
-    | inr within ↦ was.all k low within
-  ];
-})
+is_next kept current at last n was next = grind (arith, common_steps, is_least, cases_lt)
 
 pub last_here : (kept current : List SeatRow) (at : Place) (last n : ℕ) (r : SeatRow)
     → IsLast kept current at last → IsNext kept at last n
@@ -185,22 +155,11 @@ last_here kept current at last n r was next here is = record {
           | inr within ↦ was.all k low within
         ])
   ];
-  beyond = λ k lt.
-      has_seats at r current k
-      ∙ ap (λ b. b || has_number (seats_at at current) k)
-      (ap (λ b. b && eqb r.seat k) here ∙ ne_eqb r.seat k (λ e. omega arith))
-      ∙ was.beyond k (let h = next.beyond in omega arith);
+  beyond = grind (arith, common_steps, has_seats, ne_eqb);
 }
 
 -- a row elsewhere changes nothing
 pub last_there : (kept current : List SeatRow) (at : Place) (last : ℕ) (r : SeatRow)
     → IsLast kept current at last → is_one_place at (row_place r) ≡ false
     → IsLast kept (r ∷ current) at last
-last_there kept current at last r was there = record {
-  all = λ k low le. same k ∙ was.all k low le;
-  beyond = λ k lt. same k ∙ was.beyond k lt;
-}
-  where
-    same : (k : ℕ) → has_number (seats_at at (r ∷ current)) k ≡ has_number (seats_at at current) k
-    same k = has_seats at r current k
-        ∙ ap (λ b. (b && eqb r.seat k) || has_number (seats_at at current) k) there
+last_there kept current at last r was there = grind (arith, common_steps, has_seats)

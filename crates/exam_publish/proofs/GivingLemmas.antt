@@ -1,17 +1,16 @@
 -- Seats assigned to the entrants one by one: the rows so far, and those still to come.
+use Rattle.std.proofs.lemmas.Grind.{common_steps}
 use Rattle.std.specs.Prelude.{slice_set, slice_index, replicate, unwrap_or, is_some}
-use Rattle.std.proofs.Common.{◌≡◌, ℕ, ◌+◌, ◌*◌, ◌<◌, ◌≤◌, ◌⊎◌, inl, inr, Bool, true, false, cond, eqb, List, [], ◌∷◌, ◌++◌, length, drop, get_or, None, Some, refl, sym, ◌∙◌, ap, ap₂, subst, arith, append_assoc, eqb-true}
+use Rattle.std.proofs.Common.{◌≡◌, ℕ, ◌+◌, ◌*◌, ◌<◌, ◌≤◌, ◌⊎◌, inl, inr, cond, List, [], ◌∷◌, ◌++◌, length, drop, get_or, None, sym, ◌∙◌, ap, subst, arith, append_assoc, eqb-true}
 use Rattle.std.proofs.lemmas.Bool.{cases_eq, and_parts, false_from_ne_true}
 use Rattle.std.proofs.lemmas.List.{at_drop_more, length-replicate, length-set, get_or-set_same, get_or-set_other}
 use Rattle.std.proofs.lemmas.Nat.{same_from_place}
 use Rattle.exam_terms.specs.declared.place.Place.{Place}
 use Rattle.exam_model.specs.Fits.{slot_of}
 use Rattle.exam_model.proofs.PlaceLemmas.{slot_within}
-use Rattle.exam_rules.specs.Places.{is_one_place}
 use Rattle.exam_publish.specs.declared.entrants.Entrant.{Entrant}
 use Rattle.exam_publish.specs.declared.held.Held.{Held}
 use Rattle.exam_publish.specs.declared.seat_row.SeatRow.{SeatRow}
-use Rattle.exam_publish.specs.Rows.{row_place}
 use Rattle.exam_publish.specs.Seating.{AreHeld, IsNextFree, IsLast, AreLast}
 use Rattle.exam_publish.specs.Seats.{seats_at, least_free, new_row, rows_after_entrants, rows_for}
 use Rattle.exam_publish.specs.Entrants.{old_rows}
@@ -33,49 +32,16 @@ none_given xs periods rooms n last rows is same none = record {
   current = old_rows xs;
   few = omega arith;
   seated = ap (λ rs. rs ++ rows_after_entrants (old_rows xs) xs) none;
-  table = record {
-    count = ap length is ∙ length-replicate n 0 ∙ same;
-    each = λ at p r.
-        subst (IsLast (old_rows xs) (old_rows xs) at)
-        (sym (ap (λ ys. get_or ys (slot_of rooms at) 0) is ∙ zeros n (slot_of rooms at)))
-        (record { all = λ k low le. absurd (omega arith); beyond = λ k lt. refl });
-  };
+  table = grind (arith, common_steps, length-replicate, zeros);
 }
 
 left : (xs : List Entrant) (i : ℕ) (x : Entrant) → i < length xs → x ≡ get_or xs i x
     → drop i xs ≡ x ∷ drop (i + 1) xs
 left xs i x lt is = at_drop_more (λ ys. ys) xs i x lt ∙ ap (λ y. y ∷ drop (i + 1) xs) (sym is)
 
-pub kept_given : (xs : List Entrant) (periods rooms i : ℕ) (last : List ℕ)
-    (rows more : List SeatRow) (x : Entrant) (row : SeatRow)
-    → AreGiven xs periods rooms i last rows
-    → i < length xs → x ≡ get_or xs i x → x.kept ≡ Some row → more ≡ rows ++ row ∷ []
-    → AreGiven xs periods rooms (i + 1) last more
-kept_given xs periods rooms i last rows more x row was lt is keeps added = record {
-  current = was.current;
-  few = let h = was.few in omega arith;
-  seated = ap (λ rs. rs ++ rows_after_entrants was.current (drop (i + 1) xs)) added
-      ∙ append_assoc rows (row ∷ []) (rows_after_entrants was.current (drop (i + 1) xs))
-      ∙ ap (λ rs. rows ++ rs) (sym (ap (rows_after_entrants was.current) (left xs i x lt is)
-      ∙ ap (λ o. unwrap_or o (new_row was.current x)
-      ∷ rows_after_entrants (cond (is_some o) was.current (new_row was.current x ∷ was.current))
-      (drop (i + 1) xs))
-      keeps))
-      ∙ was.seated;
-  table = was.table;
-}
-
 length_there : (at : Place) (rows : List SeatRow) → length (seats_at at rows) ≤ length rows
 length_there at [] = omega arith
-length_there at (r ∷ rs) =
-    let l = length_seats at r rs in
-    let more = length_there at rs in
-    let one = one_or_none (is_one_place at (row_place r)) in
-    omega arith
-  where
-    one_or_none : (b : Bool) → ◌≤◌ (cond b 1 0) 1
-    one_or_none true = omega arith
-    one_or_none false = omega arith
+length_there at (r ∷ rs) = grind (arith, common_steps, length_seats, length_there at rs)
 
 pub last_small : (xs : List Entrant) (periods rooms i n : ℕ) (last : List ℕ)
     (rows : List SeatRow) (at : Place)
@@ -157,13 +123,4 @@ new_given xs held periods rooms i n b last rows more x was seats lt is keeps hp 
         (last_here (old_rows xs) was.current x.place n b (new_row was.current x) there next_is
         (same_place x.place) (sym least)))
     each q qp qr (inr other) =
-        let apart : is_one_place q x.place ≡ false =
-        false_from_ne_true (is_one_place q x.place) (λ one.
-        let parts = and_parts (eqb q.period x.place.period) (eqb q.room x.place.room) one in
-        other (ap₂ (λ a b. a * rooms + b) (eqb-true q.period x.place.period parts.0)
-        (eqb-true q.room x.place.room parts.1)))
-        in
-        subst (IsLast (old_rows xs) ((new_row was.current x) ∷ was.current) q)
-        (sym (get_or-set_other last (slot_of rooms x.place) (slot_of rooms q) b 0 other))
-        (last_there (old_rows xs) was.current q (get_or last (slot_of rooms q) 0)
-        (new_row was.current x) (was.table.each q qp qr) apart)
+        grind (arith, common_steps, false_from_ne_true, and_parts, eqb-true, get_or-set_other, last_there)

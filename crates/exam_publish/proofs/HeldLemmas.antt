@@ -1,9 +1,9 @@
 -- The kept seats of entrants in the list of held seats.
-use Rattle.std.specs.Prelude.{IfSome, is_some, slice_set}
+use Rattle.std.proofs.lemmas.Grind.{common_steps}
 use Rattle.std.specs.List.{AllByRecursion, cons_option, list_any}
-use Rattle.std.proofs.Common.{◌≡◌, ℕ, ◌+◌, ◌<◌, ◌≤◌, inl, inr, Bool, true, false, cond, ◌&&◌, ◌||◌, eqb, List, [], ◌∷◌, ◌++◌, length, filter, map, take, get_or, Option, Some, None, All, IsPermutation, IsSorted, refl, sym, ◌∙◌, ap, ap₂, subst, arith, append-nil}
-use Rattle.std.proofs.lemmas.Bool.{cases_eq, cases_lt, false_from_ne_true, true≢false}
-use Rattle.std.proofs.lemmas.List.{get_or_default, get_or-set_other, get_or-set_same, length-set, take_more}
+use Rattle.std.proofs.Common.{◌≡◌, ℕ, ◌+◌, ◌<◌, ◌≤◌, Bool, true, false, cond, ◌&&◌, ◌||◌, eqb, List, [], ◌∷◌, ◌++◌, length, filter, map, take, get_or, Some, None, All, IsPermutation, IsSorted, refl, sym, ◌∙◌, ap, ap₂, subst, arith, append-nil}
+use Rattle.std.proofs.lemmas.Bool.{false_from_ne_true, true≢false}
+use Rattle.std.proofs.lemmas.List.{take_more}
 use Rattle.std.proofs.lemmas.List.Elements.{filter-append, filter_map-append, All-from_recursion, recursion_from_All}
 use Rattle.std.proofs.lemmas.List.Sorted.{list_any-IsPermutation, All-permutation}
 use Rattle.std.proofs.lemmas.Bool.Decides.{nat_tests}
@@ -124,13 +124,7 @@ members needed rooms at n needs (r ∷ rs) =
 small : (xs : List Entrant) → AllByRecursion KeepsSmallSeat xs
     → AllByRecursion (λ (row : SeatRow). row.seat ≤ 100000) (old_rows xs)
 small [] h = tt
-small (x ∷ xs) h = go x.kept h.0 (small xs h.1)
-  where
-    go : (o : Option SeatRow) → IfSome o (λ row. row.seat ≤ 100000)
-        → AllByRecursion (λ (row : SeatRow). row.seat ≤ 100000) (old_rows xs)
-        → AllByRecursion (λ (row : SeatRow). row.seat ≤ 100000) (cons_option o (old_rows xs))
-    go None k more = more
-    go (Some row) k more = (k, more)
+small (x ∷ xs) h = grind (arith, common_steps, small xs h.1)
 
 pub are_held : (needed : List Bool) (periods rooms : ℕ) (xs : List Entrant)
     (held sorted : List Held)
@@ -153,53 +147,3 @@ are_held needed periods rooms xs held sorted keep needs is moved order = record 
 }
 
 -- ---- the places at which a seat is needed
-
--- an entrant who keeps a seat needs none
-pub needed_same : (periods rooms : ℕ) (xs : List Entrant) (i : ℕ) (x : Entrant)
-    (needed : List Bool)
-    → AreNeeded periods rooms xs i needed → i < length xs → x ≡ get_or xs i x
-    → is_some x.kept ≡ true
-    → AreNeeded periods rooms xs (i + 1) needed
-needed_same periods rooms xs i x needed was lt is keeps = record {
-  count = was.count;
-  each = λ j y below within at none.
-      elim (cases_lt j i) as (λ _. get_or needed (slot_of rooms y.place) false ≡ true) [
-        | inl before ↦ was.each j y before within at none
-        | inr from ↦ absurd (true≢false (sym keeps
-            ∙ ap (λ (z : Entrant). is_some z.kept) (same j y (omega arith) at)
-            ∙ ap is_some none))
-      ];
-}
-  where
-    same : (j : ℕ) (y : Entrant) → i ≡ j → y ≡ get_or xs j y → x ≡ y
-    same j y e at =
-        is ∙ get_or_default xs i x y lt ∙ ap (λ k. get_or xs k y) e ∙ sym at
-
--- the place of one who keeps none
-pub needed_more : (periods rooms : ℕ) (xs : List Entrant) (i : ℕ) (x : Entrant)
-    (needed : List Bool)
-    → AreNeeded periods rooms xs i needed → i < length xs → x ≡ get_or xs i x
-    → slot_of rooms x.place < length needed
-    → AreNeeded periods rooms xs (i + 1) (slice_set needed (slot_of rooms x.place) true)
-needed_more periods rooms xs i x needed was lt is slot = record {
-  count = length-set needed (slot_of rooms x.place) true ∙ was.count;
-  each = λ j y below within at none.
-      elim (cases_eq (slot_of rooms y.place) (slot_of rooms x.place))
-      as (λ _. get_or (slice_set needed (slot_of rooms x.place) true) (slot_of rooms y.place) false
-      ≡ true) [
-        | inl same ↦
-            ap (λ k. get_or (slice_set needed (slot_of rooms x.place) true) k false) same
-            ∙ get_or-set_same needed (slot_of rooms x.place) true false slot
-        | inr other ↦
-            get_or-set_other needed (slot_of rooms x.place) (slot_of rooms y.place) true false other
-            ∙ elim (cases_lt j i) as (λ _. get_or needed (slot_of rooms y.place) false ≡ true) [
-              | inl before ↦ was.each j y before within at none
-              | inr from ↦ absurd (other (ap (λ (z : Entrant). slot_of rooms z.place)
-                  (sym (same j y (omega arith) at))))
-            ]
-      ];
-}
-  where
-    same : (j : ℕ) (y : Entrant) → i ≡ j → y ≡ get_or xs j y → x ≡ y
-    same j y e at =
-        is ∙ get_or_default xs i x y lt ∙ ap (λ k. get_or xs k y) e ∙ sym at

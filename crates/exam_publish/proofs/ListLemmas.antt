@@ -1,4 +1,5 @@
 -- Ascending lists of numbers, chains, and lists in order.
+use Rattle.std.proofs.lemmas.Grind.{common_steps}
 use Rattle.std.specs.List.{list_any, AllByRecursion, dedup}
 use Rattle.std.proofs.Common.{◌≡◌, ℕ, suc, ◌<◌, Bool, true, false, cond, ◌&&◌, ◌||◌, eqb, List, [], ◌∷◌, length, map, filter, get_or, AllPairs, All, Contains, refl, sym, ◌∙◌, ap, arith, eqb-true}
 use Rattle.std.specs.Prelude.{nat_eq}
@@ -22,21 +23,12 @@ index_from_chain R (x ∷ xs) h =
 pub each_filter : {X : Type 0} (P : X → Type 0) (t : X → Bool) (xs : List X) → AllByRecursion P xs
     → AllByRecursion P (filter t xs)
 each_filter P t [] a = tt
-each_filter P t (x ∷ xs) a = go (t x) (each_filter P t xs a.1)
-  where
-    go : (b : Bool) → AllByRecursion P (filter t xs)
-        → AllByRecursion P (cond b (x ∷ filter t xs) (filter t xs))
-    go true more = (a.0, more)
-    go false more = more
+each_filter P t (x ∷ xs) a = grind (arith, common_steps, each_filter P t xs a.1)
 
 pub chain_filter : {X : Type 0} (R : X → X → Type 0) (t : X → Bool) (xs : List X) → IsChain R xs
     → IsChain R (filter t xs)
 chain_filter R t [] h = tt
-chain_filter R t (x ∷ xs) h = go (t x) (chain_filter R t xs h.1)
-  where
-    go : (b : Bool) → IsChain R (filter t xs) → IsChain R (cond b (x ∷ filter t xs) (filter t xs))
-    go true more = (each_filter (R x) t xs h.0, more)
-    go false more = more
+chain_filter R t (x ∷ xs) h = grind (arith, common_steps, each_filter, chain_filter R t xs h.1)
 
 pub each_map : {X Y : Type 0} (P : Y → Type 0) (f : X → Y) (xs : List X)
     → AllByRecursion (λ x. P (f x)) xs → AllByRecursion P (map f xs)
@@ -63,11 +55,7 @@ any_cond false t x xs = refl
 -- a number stays in a filtered list exactly if it passes
 pub has_filter : (p : ℕ → Bool) (xs : List ℕ) (t : ℕ)
     → has_number (filter p xs) t ≡ (p t && has_number xs t)
-has_filter p [] t = none (p t)
-  where
-    none : (b : Bool) → false ≡ (b && false)
-    none true = refl
-    none false = refl
+has_filter p [] t = grind (arith, common_steps)
 has_filter p (x ∷ xs) t =
     any_cond (p x) t x (filter p xs) ∙ ap (λ b. (p x && eqb x t) || b) (has_filter p xs t)
     ∙ here (eqb x t) refl

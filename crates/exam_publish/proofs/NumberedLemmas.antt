@@ -1,4 +1,5 @@
 -- If no seat is kept, each pair has the next number of its room and period.
+use Rattle.std.proofs.lemmas.Grind.{common_steps}
 use Rattle.std.specs.List.{cons_option}
 use Rattle.std.proofs.Common.{◌≡◌, ℕ, ◌+◌, Bool, true, false, cond, List, [], ◌∷◌, ◌++◌, Option, None, Some, option_map, count_by, refl, sym, ◌∙◌, ap, ap₂, subst, arith}
 use Rattle.std.proofs.lemmas.List.Sums.{sum_by_push}
@@ -21,12 +22,7 @@ use Rattle.exam_publish.proofs.SeatingLemmas.{rows_after, numbered}
 
 none_kept : (T : Placing) (ps : List Pair) → old_rows (entrants ps T []) ≡ []
 none_kept T [] = refl
-none_kept T (p ∷ ps) = go (place_of T p.exam) (none_kept T ps)
-  where
-    go : (o : Option Place) → old_rows (entrants ps T []) ≡ []
-        → old_rows (cons_option (option_map (entrant [] p) o) (entrants ps T [])) ≡ []
-    go None more = more
-    go (Some at) more = more
+none_kept T (p ∷ ps) = grind (arith, common_steps, none_kept T ps)
 
 next : (at : Place) (n : ℕ) → IsNext [] at n (n + 1)
 next at n = record { beyond = omega arith; free = refl; between = λ k low high. absurd (omega arith) }

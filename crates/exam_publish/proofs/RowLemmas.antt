@@ -1,6 +1,7 @@
 -- The enrolments that rows are: their pairs are those of the rows.
+use Rattle.std.proofs.lemmas.Grind.{common_steps}
 use Rattle.std.specs.List.{cons_option, list_any, AllByRecursion, range_with_len}
-use Rattle.std.proofs.Common.{◌≡◌, ◌≢◌, ℕ, zero, suc, ◌+◌, ◌<◌, ◌≤◌, ◌⊎◌, inl, inr, Bool, true, false, cond, ◌||◌, eqb, List, [], ◌∷◌, ◌++◌, length, map, filter, filter_map, Some, option_map, All, refl, sym, ◌∙◌, ap, ap₂, subst, arith, eqb-true}
+use Rattle.std.proofs.Common.{◌≡◌, ◌≢◌, ℕ, zero, suc, ◌+◌, ◌<◌, ◌≤◌, ◌⊎◌, inl, inr, Bool, true, false, cond, ◌||◌, eqb, List, [], ◌∷◌, ◌++◌, length, map, filter, filter_map, Some, option_map, All, refl, sym, ◌∙◌, ap, ap₂, subst, arith, eqb-true, rules}
 use mathlib.Core.Bool.{true≢false}
 use Rattle.std.proofs.lemmas.Bool.{and_from, cases_eq, cases_lt, eq-eqb, ne_eqb, or_right, or_left}
 use Rattle.std.proofs.lemmas.List.{get_or_past, length-map}
@@ -24,17 +25,11 @@ use Rattle.exam_publish.proofs.SeatingLemmas.{length_pairs}
 
 not_of : (r : SeatRow) (rs : List SeatRow) (e : ℕ) → (r.exam ≡ e → ⊥)
     → students_in (r ∷ rs) e ≡ students_in rs e
-not_of r rs e other =
-    ap (λ b. map (λ row. row.student)
-    (cond b (r ∷ filter (λ row. eqb row.exam e) rs) (filter (λ row. eqb row.exam e) rs)))
-    (ne_eqb r.exam e other)
+not_of r rs e other = grind (arith, common_steps, ne_eqb)
 
 one_of : (r : SeatRow) (rs : List SeatRow) (e : ℕ) → r.exam ≡ e
     → students_in (r ∷ rs) e ≡ r.student ∷ students_in rs e
-one_of r rs e same =
-    ap (λ b. map (λ row. row.student)
-    (cond b (r ∷ filter (λ row. eqb row.exam e) rs) (filter (λ row. eqb row.exam e) rs)))
-    (eq-eqb r.exam e same)
+one_of r rs e same = grind (arith, common_steps, eq-eqb)
 
 none_of : (rs : List SeatRow) (e : ℕ) → AllByRecursion (λ q. e < q.exam) rs → students_in rs e ≡ []
 none_of [] e a = refl
@@ -65,25 +60,8 @@ first_pair r rs a (suc n) above low high =
         ≡ row_pair r
         ∷ (pairs_at a (students_in rs a)
         ++ pairs_from (a + 1) (map (students_in rs) (range_with_len (a + 1) n)))
-    go (inl same) more =
-        ap₂ (λ xs E. pairs_at a xs ++ pairs_from (a + 1) E) (one_of r rs a same)
-        (others r rs (a + 1) n (omega arith))
-        ∙ ap (λ e. record { exam = e; student = r.student }
-        ∷ (pairs_at a (students_in rs a)
-        ++ pairs_from (a + 1) (map (students_in rs) (range_with_len (a + 1) n))))
-        (sym same)
-    go (inr other) more =
-        let lt : a < r.exam = omega arith in
-        let empty = none_of rs a
-        (each_weaker (λ q. r.exam ≤ q.exam) (λ q. a < q.exam) (λ q h. omega arith) rs above) in
-        ap (λ xs. pairs_at a xs
-        ++ pairs_from (a + 1) (map (students_in (r ∷ rs)) (range_with_len (a + 1) n)))
-        (not_of r rs a other ∙ empty)
-        ∙ more (omega arith)
-        ∙ ap (λ xs. row_pair r
-        ∷ (pairs_at a xs
-        ++ pairs_from (a + 1) (map (students_in rs) (range_with_len (a + 1) n))))
-        (sym empty)
+    go (inl same) more = grind (arith, common_steps, one_of, others)
+    go (inr other) more = grind (arith, common_steps, none_of, each_weaker, not_of)
 
 no_pairs : (a n : ℕ) → pairs_from a (map (students_in []) (range_with_len a n)) ≡ []
 no_pairs a zero = refl
@@ -98,39 +76,19 @@ pub pairs_in : (n : ℕ) (rows : List SeatRow) → IsChain RowBefore rows
     → AllByRecursion (λ row. row.exam < n) rows → pairs_of (enrolled_in n rows) ≡ map row_pair rows
 pairs_in n [] order exist = no_pairs 0 n
 pairs_in n (r ∷ rs) order exist =
-    first_pair r rs 0 n (each_weaker (RowBefore r) (λ q. r.exam ≤ q.exam) (not_above r) rs order.0)
-    (omega arith) (let h : r.exam < n = exist.0 in omega arith)
-    ∙ ap (λ ps. row_pair r ∷ ps) (pairs_in n rs order.1 exist.1)
+    grind (arith, common_steps, first_pair, each_weaker, not_above, pairs_in n rs order.1 exist.1)
 
 -- ---- each exam's students ascend
 
 above_students : (r : SeatRow) (rs : List SeatRow) (e : ℕ) → r.exam ≡ e
     → AllByRecursion (RowBefore r) rs → AllByRecursion (λ y. r.student < y) (students_in rs e)
 above_students r [] e same a = tt
-above_students r (q ∷ qs) e same a = go (eqb q.exam e) refl (above_students r qs e same a.1)
-  where
-    greater : q.exam ≡ e → r.student < q.student
-    greater is = elim a.0 as (λ _. r.student < q.student)
-        [ inl less ↦ absurd (omega (arith, less, is, same)) | inr tie ↦ tie.1 ]
-
-    go : (b : Bool) → eqb q.exam e ≡ b → AllByRecursion (λ y. r.student < y) (students_in qs e)
-        → AllByRecursion (λ y. r.student < y)
-        (map (λ row. row.student)
-        (cond b (q ∷ filter (λ row. eqb row.exam e) qs) (filter (λ row. eqb row.exam e) qs)))
-    go true is more = (greater (eqb-true q.exam e is), more)
-    go false is more = more
+above_students r (q ∷ qs) e same a = grind (arith, common_steps, eqb-true, above_students r qs e same a.1)
 
 chain_students : (rows : List SeatRow) (e : ℕ) → IsChain RowBefore rows
     → IsChain (λ x y. x < y) (students_in rows e)
 chain_students [] e h = tt
-chain_students (r ∷ rs) e h = go (eqb r.exam e) refl (chain_students rs e h.1)
-  where
-    go : (b : Bool) → eqb r.exam e ≡ b → IsChain (λ x y. x < y) (students_in rs e)
-        → IsChain (λ x y. x < y)
-        (map (λ row. row.student)
-        (cond b (r ∷ filter (λ row. eqb row.exam e) rs) (filter (λ row. eqb row.exam e) rs)))
-    go true is more = (above_students r rs e (eqb-true r.exam e is) h.0, more)
-    go false is more = more
+chain_students (r ∷ rs) e h = grind (arith, common_steps, above_students, eqb-true, chain_students rs e h.1)
 
 pub students_at : (n : ℕ) (rows : List SeatRow) (e : ℕ) → e < n
     → students (enrolled_in n rows) e ≡ students_in rows e
@@ -140,19 +98,7 @@ students_at n rows e lt = get_or-map-range_with_len (students_in rows) 0 n e e [
 numbers_in : (rows : List SeatRow) (e : ℕ) → AllByRecursion (λ row. row.student ≤ 999999999) rows
     → AreNumbers (students_in rows e)
 numbers_in [] e h = λ s is. absurd (true≢false (sym is))
-numbers_in (r ∷ rs) e h = go (eqb r.exam e) (numbers_in rs e h.1)
-  where
-    go : (b : Bool) → AreNumbers (students_in rs e)
-        → AreNumbers
-        (map (λ row. row.student)
-        (cond b (r ∷ filter (λ row. eqb row.exam e) rs) (filter (λ row. eqb row.exam e) rs)))
-    go false more = more
-    go true more = λ s is. elim (cases_eq r.student s) [
-      | inl same ↦ subst (λ (t : ℕ). t ≤ 999999999) same h.0
-      | inr other ↦
-          more s (subst (λ b. (b || has_number (students_in rs e) s) ≡ true)
-          (ne_eqb r.student s other) is)
-    ]
+numbers_in (r ∷ rs) e h = grind (arith, common_steps, cases_eq, ne_eqb, numbers_in rs e h.1)
 
 none_past : (n : ℕ) (rows : List SeatRow) (e : ℕ) → n ≤ e → students (enrolled_in n rows) e ≡ []
 none_past n rows e past =
@@ -162,11 +108,7 @@ none_past n rows e past =
 numbered_enrolments : (n : ℕ) (rows : List SeatRow) (e : ℕ)
     → AllByRecursion (λ row. row.student ≤ 999999999) rows
     → AreNumbers (students (enrolled_in n rows) e)
-numbered_enrolments n rows e h = elim (cases_lt e n) [
-  | inl lt ↦ subst AreNumbers (sym (students_at n rows e lt)) (numbers_in rows e h)
-  | inr past ↦ subst AreNumbers (sym (none_past n rows e past))
-      (λ s is. absurd (true≢false (sym is)))
-]
+numbered_enrolments n rows e h = grind (arith, common_steps, cases_lt, students_at, numbers_in, none_past)
 
 -- rows of pairs of enrolments have their numbers
 pub rows_numbered : (E : Enrolled) (rows : List SeatRow) → AreEnrolments E
@@ -194,19 +136,7 @@ pub are_enrolments : (n : ℕ) (rows : List SeatRow) → 1 ≤ n → n ≤ 2000 
     → IsChain RowBefore rows → AllByRecursion (λ row. row.exam < n) rows
     → AllByRecursion (λ row. row.student ≤ 999999999) rows → AreEnrolments (enrolled_in n rows)
 are_enrolments n rows low high few order exist numbered =
-    let long = length-map-range_with_len (students_in rows) 0 n in
-    let pairs = pairs_in n rows order exist in
-    let count = length_pairs 0 (enrolled_in n rows) in
-    let same = ap length pairs in
-    let rows_long = length-map rows row_pair in
-    record {
-      exams = (omega arith, omega arith);
-      ascending = λ e lt.
-          rw (students_at n rows e (omega arith))
-          (ascending_from_chain (students_in rows e) (chain_students rows e order));
-      pairs = omega arith;
-      numbers = λ e. numbered_enrolments n rows e numbered;
-    }
+    search (rules, length-map-range_with_len, pairs_in, length_pairs, length-map, students_at, ascending_from_chain, chain_students, numbered_enrolments)
 
 -- ---- the students of the rows
 
@@ -215,11 +145,7 @@ or_here x b = or_left (eqb x x) b (eq-eqb x x refl)
 
 each_in : (rows : List SeatRow) → AllByRecursion (λ row. has_row rows row.student ≡ true) rows
 each_in [] = tt
-each_in (r ∷ rs) = (
-  or_here r.student (has_row rs r.student),
-  each_weaker (λ q. has_row rs q.student ≡ true) (λ q. has_row (r ∷ rs) q.student ≡ true)
-      (λ q h. or_right (eqb r.student q.student) (has_row rs q.student) h) rs (each_in rs),
-)
+each_in (r ∷ rs) = grind (arith, common_steps, or_here, each_weaker, or_right, each_in rs)
 
 pub are_students : (n : ℕ) (rows : List SeatRow) → pairs_of (enrolled_in n rows) ≡ map row_pair rows
     → AreStudentsOf (enrolled_in n rows) (students_of rows)

@@ -1,10 +1,11 @@
 -- The results of a binary search among rows in order, and among seats in order.
+use Rattle.std.proofs.lemmas.Grind.{common_steps}
 use Rattle.std.specs.List.{list_any, find}
 use Rattle.std.specs.List.Sorted.{IsBinarySearchResult, IsSearchInRange, IsSortedBy}
 use Rattle.std.specs.Ordering.{nat_cmp, ordering_then, is_eq, is_lt}
 use Rattle.std.specs.Cmp.{then_total, on_total, nat_cmp_total, IsTotalOrder}
 use Rattle.std.specs.Prelude.{is_ok, ◌&&◌}
-use Rattle.std.proofs.Common.{◌≡◌, ℕ, zero, suc, ◌+◌, ◌<◌, ◌≤◌, ◌⊎◌, inl, inr, Bool, true, false, cond, eqb, List, [], ◌∷◌, length, get_or, Some, None, Result, Ok, Err, All, IsSorted, Ordering, Equal, refl, sym, ◌∙◌, ap, subst, arith, eqb-true}
+use Rattle.std.proofs.Common.{◌≡◌, ℕ, zero, suc, ◌+◌, ◌<◌, ◌≤◌, ◌⊎◌, inl, inr, Bool, true, false, cond, eqb, List, [], ◌∷◌, length, get_or, Some, None, Result, Ok, Err, All, IsSorted, Ordering, Equal, refl, sym, ◌∙◌, ap, subst, arith, eqb-true, rules}
 use Rattle.std.proofs.lemmas.Bool.{cases_lt, cases_eq, and_parts, and_from, false_from_ne_true, true≢false}
 use Rattle.std.proofs.lemmas.Bool.Decides.{nat_tests}
 use Rattle.std.proofs.lemmas.List.{get_or_default}
@@ -99,20 +100,7 @@ key row = (row.exam, row.student)
 
 not_less : (r q : SeatRow) → RowBefore r q
     → is_lt (ordering_then (nat_cmp q.exam r.exam) (nat_cmp q.student r.student)) ≡ false
-not_less r q h =
-    elim h as (λ _. is_lt (ordering_then (nat_cmp q.exam r.exam) (nat_cmp q.student r.student))
-    ≡ false) [
-      | inl less ↦ first less
-      | inr tie ↦ second tie.0 tie.1
-    ]
-  where
-    first : r.exam < q.exam
-        → is_lt (ordering_then (nat_cmp q.exam r.exam) (nat_cmp q.student r.student)) ≡ false
-    first less = grind (arith, nat_tests)
-
-    second : r.exam ≡ q.exam → r.student < q.student
-        → is_lt (ordering_then (nat_cmp q.exam r.exam) (nat_cmp q.student r.student)) ≡ false
-    second same less = grind (arith, nat_tests)
+not_less r q h = grind (arith, common_steps, nat_tests)
 
 sorted_rows : (xs : List SeatRow) → RowsInOrder xs
     → IsSortedBy
@@ -125,18 +113,7 @@ sorted_rows xs order k d low lt =
 other_row : (p : Pair) (at : Place) (row : SeatRow)
     → is_eq (ordering_then (nat_cmp row.exam p.exam) (nat_cmp row.student p.student)) ≡ false
     → is_row_at p at row ≡ false
-other_row p at row h =
-    false_from_ne_true (is_row_at p at row) (λ it.
-    let parts = and_parts (is_pair row.student row.exam p) (is_one_place at (row_place row)) it in
-    let pair = and_parts (eqb p.student row.student) (eqb p.exam row.exam) parts.0 in
-    clash (eqb-true p.student row.student pair.0) (eqb-true p.exam row.exam pair.1))
-  where
-    tied : row.student ≡ p.student → row.exam ≡ p.exam
-        → true ≡ is_eq (ordering_then (nat_cmp row.exam p.exam) (nat_cmp row.student p.student))
-    tied s e = grind (arith, nat_tests)
-
-    clash : p.student ≡ row.student → p.exam ≡ row.exam → ⊥
-    clash s e = absurd (true≢false (tied (sym s) (sym e) ∙ h))
+other_row p at row h = grind (arith, common_steps, false_from_ne_true, and_parts, eqb-true, nat_tests, true≢false)
 
 none_there : (a b : Bool) → b ≡ false → (a && b) ≡ false
 none_there true b h = h
@@ -160,12 +137,7 @@ other_pair p at q row mine apart =
   where
     clash : p.student ≡ row.student → p.exam ≡ row.exam → p.student ≡ q.student → p.exam ≡ q.exam
         → RowBefore q row ⊎ RowBefore row q → ⊥
-    clash a b c d h = elim h as (λ _. ⊥) [
-      | inl before ↦ elim before as (λ _. ⊥)
-          [ inl less ↦ absurd (omega arith) | inr tie ↦ absurd (omega (arith, tie.1)) ]
-      | inr after ↦ elim after as (λ _. ⊥)
-          [ inl less ↦ absurd (omega arith) | inr tie ↦ absurd (omega (arith, tie.1)) ]
-    ]
+    clash a b c d h = grind (arith, common_steps)
 
 -- the row found by a search for a pair
 pub row_found : (xs : List SeatRow) (p : Pair) (at : Place) (i : ℕ) (row : SeatRow) → RowsInOrder xs
@@ -232,25 +204,14 @@ tied_pair row p exam student = grind (arith, nat_tests)
 
 pub index_here : (xs : List SeatRow) (p : Pair) (i : ℕ) → RowsInOrder xs → IsRowOf xs p i
     → IsIndexOf xs p i
-index_here xs p i order of = record {
-  within = let lt = of.within in omega arith;
-  none = λ e at. (let lt = of.within in absurd (omega arith));
-  one = λ lt at d.
-      row_found xs p at i (get_or xs i d) order lt (get_or_default xs i d (get_or xs i d) lt)
-      (tied_pair (get_or xs i d) p (of.exam d) (of.student d));
-}
+index_here xs p i order of = search (rules, row_found, get_or_default, tied_pair)
 
 pub index_found : (xs : List SeatRow) (p : Pair) (i : ℕ) → RowsInOrder xs → i < length xs
     → IsBinarySearchResult
     (λ (y : SeatRow). ordering_then (nat_cmp y.exam p.exam) (nat_cmp y.student p.student)) xs
     (Ok i)
     → IsIndexOf xs p i
-index_found xs p i order lt is = record {
-  within = omega arith;
-  none = λ e at. absurd (omega arith);
-  one = λ lt at d.
-      row_found xs p at i (get_or xs i d) order lt (get_or_default xs i d (get_or xs i d) lt) (is d);
-}
+index_found xs p i order lt is = search (rules, row_found, get_or_default)
 
 pub index_none : (xs : List SeatRow) (p : Pair) (i : ℕ) → RowsInOrder xs
     → IsBinarySearchResult

@@ -1,7 +1,8 @@
 -- Facts about all seats: each exists in its room, no seat is assigned twice, and rows are in order.
+use Rattle.std.proofs.lemmas.Grind.{common_steps}
 use Rattle.std.specs.List.{AllByRecursion, cons_option, find}
-use Rattle.std.specs.Prelude.{IfSome, IsSome, is_some, is_none, slice_get, nat_lt, unwrap_or}
-use Rattle.std.proofs.Common.{◌≡◌, ℕ, zero, suc, ◌+◌, ◌<◌, ◌≤◌, inl, inr, Bool, true, false, cond, ◌&&◌, eqb, ltb, List, [], ◌∷◌, ◌++◌, length, map, get_or, Option, None, Some, option_map, count_by, filter_map, AllPairs, Contains, refl, sym, ◌∙◌, ap, ap₂, subst, arith, lt-ltb, eqb-true}
+use Rattle.std.specs.Prelude.{IfSome, IsSome, is_none, slice_get, nat_lt}
+use Rattle.std.proofs.Common.{◌≡◌, ℕ, zero, suc, ◌+◌, ◌<◌, ◌≤◌, inl, inr, Bool, true, false, cond, ◌&&◌, eqb, ltb, List, [], ◌∷◌, ◌++◌, length, map, get_or, Option, None, Some, option_map, count_by, filter_map, AllPairs, Contains, refl, sym, ◌∙◌, ap, subst, arith, lt-ltb, eqb-true, rules}
 use Rattle.std.proofs.lemmas.Bool.{and_parts, and_from, eq-eqb, cond-true, false_from_ne_true, false≢true, true≢false, cases_lt, cases_eq, or_left}
 use Rattle.std.proofs.lemmas.Bool.Decides.{nat_tests}
 use Rattle.std.proofs.lemmas.Option.{none-some}
@@ -45,12 +46,7 @@ use Rattle.exam_publish.proofs.SeatingLemmas.{length_pairs}
 each_filter_map : {X Y : Type 0} (P : Y → Type 0) (f : X → Option Y) (xs : List X)
     → AllByRecursion (λ x. IfSome (f x) P) xs → AllByRecursion P (filter_map f xs)
 each_filter_map P f [] h = tt
-each_filter_map P f (x ∷ xs) h = go (f x) h.0 (each_filter_map P f xs h.1)
-  where
-    go : (o : Option _) → IfSome o P → AllByRecursion P (filter_map f xs)
-        → AllByRecursion P (cons_option o (filter_map f xs))
-    go None k more = more
-    go (Some y) k more = (k, more)
+each_filter_map P f (x ∷ xs) h = grind (arith, common_steps, each_filter_map P f xs h.1)
 
 chain_filter_map : {X Y : Type 0} (R : Y → Y → Type 0) (f : X → Option Y) (xs : List X)
     → IsChain (λ x y. IfSome (f x) (λ r. IfSome (f y) (R r))) xs → IsChain R (filter_map f xs)
@@ -74,10 +70,7 @@ both_each P Q (x ∷ xs) a b = ((a.0, b.0), both_each P Q xs a.1 b.1)
 pub length_filter_map : {X Y : Type 0} (f : X → Option Y) (xs : List X)
     → length (filter_map f xs) ≤ length xs
 length_filter_map f [] = omega arith
-length_filter_map f (x ∷ xs) =
-    let more = length_filter_map f xs in
-    elim (f x) as (λ o. length (cons_option o (filter_map f xs)) ≤ length (x ∷ xs))
-    [ None ↦ omega arith | Some y ↦ omega arith ]
+length_filter_map f (x ∷ xs) = grind (arith, common_steps, length_filter_map f xs)
 
 -- a chain whose elements all satisfy a condition
 chain_with_each : {X : Type 0} (P : X → Type 0) (R : X → X → Type 0) (xs : List X)
@@ -106,12 +99,7 @@ some_weaker P Q h (Some x) k = h x k
 find_keeps : {X : Type 0} (P : X → Type 0) (t : X → Bool) (xs : List X) → AllByRecursion P xs
     → IfSome (find t xs) (λ x. P x × (t x ≡ true))
 find_keeps P t [] a = tt
-find_keeps {X} P t (x ∷ xs) a = go (t x) refl (find_keeps P t xs a.1)
-  where
-    go : (b : Bool) → t x ≡ b → IfSome (find t xs) (λ x. P x × (t x ≡ true))
-        → IfSome (cond b (Some x) (find t xs)) (λ x. P x × (t x ≡ true))
-    go true is more = (a.0, is)
-    go false is more = more
+find_keeps {X} P t (x ∷ xs) a = grind (arith, common_steps, find_keeps P t xs a.1)
 
 -- ---- entrants
 
@@ -123,20 +111,10 @@ pub record IsFair (T : Placing) (old : List SeatRow) (x : Entrant) : Type 0 wher
   pub from_old : IfSome x.kept (Contains old)
 
 pub one_place : (at q : Place) → is_one_place at q ≡ true → q ≡ at
-one_place at q h =
-    let parts = and_parts (eqb at.period q.period) (eqb at.room q.room) h in
-    fields (eqb-true at.period q.period parts.0) (eqb-true at.room q.room parts.1)
-  where
-    fields : at.period ≡ q.period → at.room ≡ q.room → q ≡ at
-    fields a b = λ i. record { period = sym a i; room = sym b i }
+one_place at q h = grind (arith, common_steps, and_parts, eqb-true)
 
 one_pair : (row : SeatRow) (p : Pair) → is_pair row.student row.exam p ≡ true → row_pair row ≡ p
-one_pair row p h =
-    let parts = and_parts (eqb p.student row.student) (eqb p.exam row.exam) h in
-    fields (eqb-true p.student row.student parts.0) (eqb-true p.exam row.exam parts.1)
-  where
-    fields : p.student ≡ row.student → p.exam ≡ row.exam → row_pair row ≡ p
-    fields a b = λ i. record { exam = sym b i; student = sym a i }
+one_pair row p h = grind (arith, common_steps, and_parts, eqb-true)
 
 fair : (T : Placing) (old : List SeatRow) (p : Pair) (at : Place)
     → place_of T p.exam ≡ Some at → IsFair T old (entrant old p at)
@@ -162,25 +140,11 @@ fair T old p at here =
 pub each_entrant : (P : Entrant → Type 0) (T : Placing) (old : List SeatRow) (pairs : List Pair)
     → AllByRecursion (λ p. (at : Place) → place_of T p.exam ≡ Some at → P (entrant old p at)) pairs
     → AllByRecursion P (entrants pairs T old)
-each_entrant P T old pairs all =
-    each_filter_map P (λ p. option_map (entrant old p) (place_of T p.exam)) pairs
-    (each_weaker (λ (p : Pair). (at : Place) → place_of T p.exam ≡ Some at → P (entrant old p at))
-    (λ p. IfSome (option_map (entrant old p) (place_of T p.exam)) P)
-    (λ p h. go p (place_of T p.exam) refl h) pairs all)
-  where
-    go : (p : Pair) (o : Option Place) → place_of T p.exam ≡ o
-        → ((at : Place) → place_of T p.exam ≡ Some at → P (entrant old p at))
-        → IfSome (option_map (entrant old p) o) P
-    go p None is h = tt
-    go p (Some at) is h = h at is
+each_entrant P T old pairs all = grind (arith, common_steps, each_filter_map, each_weaker)
 
 pub all_fair : (T : Placing) (old : List SeatRow) (pairs : List Pair)
     → AllByRecursion (IsFair T old) (entrants pairs T old)
-all_fair T old pairs =
-    each_entrant (IsFair T old) T old pairs
-    (each_all (λ (p : Pair). (at : Place)
-    → place_of T p.exam ≡ Some at → IsFair T old (entrant old p at))
-    (λ p at here. fair T old p at here) pairs)
+all_fair T old pairs = search (rules, each_entrant, each_all, fair)
 
 -- if each exam has a place, each pair has its entrant
 pub entrant_pairs : (T : Placing) (old : List SeatRow) (pairs : List Pair)
@@ -188,15 +152,7 @@ pub entrant_pairs : (T : Placing) (old : List SeatRow) (pairs : List Pair)
     → map (λ (x : Entrant). record { exam = x.exam; student = x.student }) (entrants pairs T old)
     ≡ pairs
 entrant_pairs T old [] h = refl
-entrant_pairs T old (p ∷ ps) h = go (place_of T p.exam) h.0 (entrant_pairs T old ps h.1)
-  where
-    go : (o : Option Place) → is_some o ≡ true
-        → map (λ (x : Entrant). record { exam = x.exam; student = x.student }) (entrants ps T old)
-        ≡ ps
-        → map (λ (x : Entrant). record { exam = x.exam; student = x.student })
-        (cons_option (option_map (entrant old p) o) (entrants ps T old)) ≡ p ∷ ps
-    go None k more = absurd (false≢true k)
-    go (Some at) k more = ap (λ qs. p ∷ qs) more
+entrant_pairs T old (p ∷ ps) h = grind (arith, common_steps, false≢true, entrant_pairs T old ps h.1)
 
 -- ---- rows of their entrants
 
@@ -206,30 +162,14 @@ pub rows_pairs : (T : Placing) (old current : List SeatRow) (xs : List Entrant)
     ≡ map (λ (x : Entrant). record { exam = x.exam; student = x.student }) xs
 rows_pairs T old current [] h = refl
 rows_pairs T old current (x ∷ xs) h =
-    ap₂ (λ p ps. p ∷ ps) (go x.kept h.0.pair)
-    (rows_pairs T old (rows_with_entrant current x) xs h.1)
-  where
-    go : (o : Option SeatRow)
-        → IfSome o (λ row. row_pair row ≡ record { exam = x.exam; student = x.student })
-        → row_pair (unwrap_or o (new_row current x))
-        ≡ record { exam = x.exam; student = x.student }
-    go None k = refl
-    go (Some row) k = k
+    grind (arith, common_steps, rows_pairs T old (rows_with_entrant current x) xs h.1)
 
 rows_at_exams : (T : Placing) (old current : List SeatRow) (xs : List Entrant)
     → AllByRecursion (IsFair T old) xs
     → AllByRecursion (IsAtExam T) (rows_after_entrants current xs)
 rows_at_exams T old current [] h = tt
 rows_at_exams T old current (x ∷ xs) h =
-    (go x.kept h.0.pair h.0.place, rows_at_exams T old (rows_with_entrant current x) xs h.1)
-  where
-    go : (o : Option SeatRow)
-        → IfSome o (λ row. row_pair row ≡ record { exam = x.exam; student = x.student })
-        → IfSome o (λ row. row_place row ≡ x.place)
-        → IsAtExam T (unwrap_or o (new_row current x))
-    go None k l = h.0.at_exam
-    go (Some row) k l =
-        ap (λ (p : Pair). place_of T p.exam) k ∙ h.0.at_exam ∙ ap (λ q. Some q) (sym l)
+    grind (arith, common_steps, rows_at_exams T old (rows_with_entrant current x) xs h.1)
 
 -- ---- seats within the room
 
@@ -270,11 +210,7 @@ rows_within I most current (x ∷ xs) room kept fits =
         → ((s : List SeatRow) → IsRoomFor most s xs → Has I (old_rows xs)
         → Has I (rows_after_entrants s xs))
         → Has I (rows_after_entrants current (record x { kept = o } ∷ xs))
-    step (Some row) room kept more = (
-      kept.0,
-      more current (λ at. (let c = counted at (Some row) in let r = room at in
-          omega arith)) kept.1,
-    )
+    step (Some row) room kept more = grind (arith, common_steps)
     step None room kept more =
         let free = least_is (seats_at x.place current) in
         let small = least_small (seats_at x.place current) in
@@ -290,11 +226,7 @@ rows_within I most current (x ∷ xs) room kept fits =
         after : (at : Place)
             → length (seats_at at (new_row current x ∷ current))
             + count_by (is_new_at at) xs ≤ most at
-        after at =
-            let l = length_seats at (new_row current x) current in
-            let c = counted at None in
-            let r = room at in
-            omega arith
+        after at = grind (arith, common_steps, length_seats)
 
 -- ---- no seat twice
 
@@ -310,10 +242,7 @@ apart r current [] taken kept = tt
 apart r current (x ∷ xs) taken kept = step x.kept kept (λ s t k. apart r s xs t k)
   where
     other : HaveOwnSeats r (new_row current x)
-    other a b c =
-        let free = (least_is (seats_at x.place current)).free in
-        let same : row_place r ≡ x.place = (λ i. record { period = a i; room = b i }) in
-        true≢false (sym taken ∙ ap₂ (λ at n. has_number (seats_at at current) n) same c ∙ free)
+    other a b c = grind (arith, common_steps, least_is, true≢false)
 
     step : (o : Option SeatRow)
         → AllByRecursion (HaveOwnSeats r) (old_rows (record x { kept = o } ∷ xs))
@@ -329,12 +258,7 @@ apart r current (x ∷ xs) taken kept = step x.kept kept (λ s t k. apart r s xs
     )
 
 taken_first : (r : SeatRow) (rs : List SeatRow) → IsTaken (r ∷ rs) r
-taken_first r rs =
-    has_seats (row_place r) r rs r.seat
-    ∙ or_left (is_one_place (row_place r) (row_place r) && eqb r.seat r.seat)
-    (has_number (seats_at (row_place r) rs) r.seat)
-    (and_from (is_one_place (row_place r) (row_place r)) (eqb r.seat r.seat)
-    (same_place (row_place r)) (eq-eqb r.seat r.seat refl))
+taken_first r rs = grind (arith, common_steps, has_seats, or_left, and_from, same_place, eq-eqb)
 
 own_rows : (current : List SeatRow) (xs : List Entrant) → IsChain HaveOwnSeats (old_rows xs)
     → AllByRecursion (IsTaken current) (old_rows xs)
@@ -343,11 +267,7 @@ own_rows current [] chain taken = tt
 own_rows current (x ∷ xs) chain taken = step x.kept chain taken (λ s c t. own_rows s xs c t)
   where
     free_of : (r : SeatRow) → IsTaken current r → HaveOwnSeats (new_row current x) r
-    free_of r there a b c =
-        let free = (least_is (seats_at x.place current)).free in
-        let same : row_place r ≡ x.place = (λ i. record { period = sym a i; room = sym b i }) in
-        true≢false (sym there
-        ∙ ap₂ (λ at n. has_number (seats_at at current) n) same (sym c) ∙ free)
+    free_of r there a b c = grind (arith, common_steps, least_is, true≢false)
 
     step : (o : Option SeatRow) → IsChain HaveOwnSeats (old_rows (record x { kept = o } ∷ xs))
         → AllByRecursion (IsTaken current) (old_rows (record x { kept = o } ∷ xs))
@@ -519,20 +439,8 @@ counted_entrants T old at (x ∷ xs) h = step x.kept h.0.place (counted_entrants
         → length (seats_at at (old_rows (record x { kept = o } ∷ xs)))
         + count_by (is_new_at at) (record x { kept = o } ∷ xs)
         ≡ count_by (λ (x : Entrant). is_one_place at x.place) (record x { kept = o } ∷ xs)
-    step None k more =
-        let a = sum_by-cons (λ y. cond (is_new_at at y) 1 0) (record x { kept = None }) xs in
-        let b = sum_by-cons (λ (y : Entrant). cond (is_one_place at y.place) 1 0)
-        (record x { kept = None }) xs in
-        omega arith
-    step (Some row) k more =
-        let a = sum_by-cons (λ y. cond (is_new_at at y) 1 0) (record x { kept = Some row }) xs in
-        let b = sum_by-cons (λ (y : Entrant). cond (is_one_place at y.place) 1 0)
-        (record x { kept = Some row }) xs in
-        let l = length_seats at row (old_rows xs) in
-        let same : ◌≡◌ {A = ℕ} (cond (is_one_place at (row_place row)) 1 0)
-        (cond (is_one_place at x.place) 1 0) =
-        ap (λ q. cond (is_one_place at q) 1 0) k in
-        omega arith
+    step None k more = grind (arith, common_steps, sum_by-cons)
+    step (Some row) k more = grind (arith, common_steps, sum_by-cons, length_seats)
 
 counted_pairs : (T : Placing) (old : List SeatRow) (at : Place) (ps : List Pair)
     → count_by (λ (x : Entrant). is_one_place at x.place) (entrants ps T old)
@@ -546,18 +454,8 @@ counted_pairs T old at (p ∷ ps) = go (place_of T p.exam) refl (counted_pairs T
         → count_by (λ (x : Entrant). is_one_place at x.place)
         (cons_option (option_map (entrant old p) o) (entrants ps T old))
         ≡ count_by (sits_at T at) (p ∷ ps)
-    go None is more =
-        let b = sum_by-cons (λ q. cond (sits_at T at q) 1 0) p ps in
-        let none : ◌≡◌ {A = ℕ} (cond (sits_at T at p) 1 0) 0 =
-        ap (λ o. cond (place_satisfies (is_one_place at) o) 1 0) is in
-        omega arith
-    go (Some q) is more =
-        let a = sum_by-cons (λ (y : Entrant). cond (is_one_place at y.place) 1 0) (entrant old p q)
-        (entrants ps T old) in
-        let b = sum_by-cons (λ q. cond (sits_at T at q) 1 0) p ps in
-        let same : ◌≡◌ {A = ℕ} (cond (sits_at T at p) 1 0) (cond (is_one_place at q) 1 0) =
-        ap (λ o. cond (place_satisfies (is_one_place at) o) 1 0) is in
-        omega arith
+    go None is more = grind (arith, common_steps, sum_by-cons)
+    go (Some q) is more = grind (arith, common_steps, sum_by-cons)
 
 -- ---- all of it
 

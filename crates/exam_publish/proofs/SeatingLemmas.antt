@@ -1,6 +1,7 @@
 -- Pairs and places in order, and seats that are numbered along the pairs.
+use Rattle.std.proofs.lemmas.Grind.{common_steps}
 use Rattle.std.specs.List.{AllByRecursion, cons_option}
-use Rattle.std.proofs.Common.{◌≡◌, ℕ, ◌+◌, ◌<◌, inl, inr, Bool, true, false, cond, ◌&&◌, List, [], ◌∷◌, ◌++◌, length, take, option_map, count_by, filter_map, refl, sym, ◌∙◌, ap, ap₂, subst, arith, append-nil, append_assoc, length-append}
+use Rattle.std.proofs.Common.{◌≡◌, ℕ, ◌+◌, ◌<◌, inl, inr, Bool, true, false, cond, ◌&&◌, List, [], ◌∷◌, ◌++◌, length, take, option_map, count_by, filter_map, refl, sym, ◌∙◌, ap, arith, append-nil, append_assoc, length-append}
 use Rattle.std.proofs.lemmas.Bool.Decides.{nat_tests}
 use Rattle.std.proofs.lemmas.List.{take_more, length-map, length-take}
 use Rattle.std.proofs.lemmas.List.Sums.{sum_by-cons, sum_by-append}
@@ -10,9 +11,8 @@ use Rattle.exam_lists.proofs.Sums.{sum_by-agree, sum_by-none}
 use Rattle.exam_model.specs.Enrolments.{Enrolled, students, pair_count}
 use Rattle.exam_model.specs.Pairs.{Pair, pairs_at, pairs_from, pairs_of, ComesBefore}
 use Rattle.exam_model.specs.Timetable.{Placing, place_of}
-use Rattle.exam_terms.specs.declared.place.Place.{Place}
 use Rattle.exam_publish.specs.declared.seat_row.SeatRow.{SeatRow}
-use Rattle.exam_publish.specs.Numbered.{sits_at, seat_number, row_with, seat_row}
+use Rattle.exam_publish.specs.Numbered.{sits_at, row_with, seat_row}
 use Rattle.exam_publish.specs.Rows.{is_pair_before}
 
 -- ---- one more exam
@@ -20,32 +20,18 @@ use Rattle.exam_publish.specs.Rows.{is_pair_before}
 pairs_from-push : (k : ℕ) (E : Enrolled) (xs : List ℕ)
     → pairs_from k (E ++ xs ∷ []) ≡ pairs_from k E ++ pairs_at (k + length E) xs
 pairs_from-push k [] xs = append-nil (pairs_at k xs) ∙ ap (λ n. pairs_at n xs) (omega arith)
-pairs_from-push k (ys ∷ E) xs =
-    ap (λ ps. pairs_at k ys ++ ps)
-    (pairs_from-push (k + 1) E xs
-    ∙ ap (λ n. pairs_from (k + 1) E ++ pairs_at n xs) (omega arith))
-    ∙ sym (append_assoc (pairs_at k ys) (pairs_from (k + 1) E) (pairs_at (k + length (ys ∷ E)) xs))
+pairs_from-push k (ys ∷ E) xs = grind (arith, common_steps, append_assoc, pairs_from-push (k + 1) E xs)
 
 pub pairs_more : (E : Enrolled) (e : ℕ) → e < length E
     → pairs_of (take (e + 1) E) ≡ pairs_of (take e E) ++ pairs_at e (students E e)
-pairs_more E e lt =
-    ap (pairs_from 0) (take_more E e [] lt) ∙ pairs_from-push 0 (take e E) (students E e)
-    ∙ ap (λ n. pairs_of (take e E) ++ pairs_at n (students E e))
-    (let l = length-take e E in omega arith)
+pairs_more E e lt = grind (arith, common_steps, take_more, pairs_from-push, length-take)
 
 -- ---- how many pairs
-
-abbrev the_pair : ℕ → ℕ → Pair
-the_pair e s = record { exam = e; student = s }
 
 pub length_pairs : (k : ℕ) (E : Enrolled) → length (pairs_from k E) ≡ pair_count E
 length_pairs k [] = refl
 length_pairs k (xs ∷ rest) =
-    let both = length-append (pairs_at k xs) (pairs_from (k + 1) rest) in
-    let first : length (pairs_at k xs) ≡ length xs = length-map xs (λ s. the_pair k s) in
-    let others = length_pairs (k + 1) rest in
-    let sum = sum_by-cons length xs rest in
-    omega arith
+    grind (arith, common_steps, length-append, length-map, sum_by-cons, length_pairs (k + 1) rest)
 
 -- ---- numbers along the pairs
 
@@ -107,9 +93,4 @@ pub numbered : (T : Placing) (all seen ps : List Pair) → all ≡ seen ++ ps �
     → filter_map (seat_row all T) ps ≡ rows_after T seen ps
 numbered T all seen [] split order = refl
 numbered T all seen (p ∷ ps) split order =
-    let seat : (at : Place) → seat_number all T at p ≡ count_by (sits_at T at) seen + 1
-    = λ at. ap (λ n. n + 1) (ap (count_by (λ q. is_pair_before q p && sits_at T at q)) split
-    ∙ counted_before (sits_at T at) seen p ps (subst (IsChain ComesBefore) split order)) in
-    ap₂ (λ o rows. cons_option o rows)
-    (λ i. option_map (λ at. row_with p at (seat at i)) (place_of T p.exam))
-    (numbered T all (seen ++ p ∷ []) ps (split ∙ sym (append_assoc seen (p ∷ []) ps)) order)
+    grind (arith, common_steps, counted_before, append_assoc, numbered T all (seen ++ p ∷ []) ps (split ∙ sym (append_assoc seen (p ∷ []) ps)) order)

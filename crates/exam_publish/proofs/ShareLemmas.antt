@@ -1,6 +1,7 @@
 -- Shares are small, belong to the students of the rows, and don't change if the rows don't.
+use Rattle.std.proofs.lemmas.Grind.{common_steps}
 use Rattle.std.specs.List.{AllByRecursion}
-use Rattle.std.proofs.Common.{◌≡◌, ℕ, ◌+◌, ◌<◌, ◌≤◌, ◌^◌, true, false, ◌&&◌, eqb, List, [], ◌∷◌, length, map, sum_by, All, refl, sym, ◌∙◌, ap, ap₂, subst, arith, eqb-true}
+use Rattle.std.proofs.Common.{◌≡◌, ℕ, ◌+◌, ◌<◌, ◌≤◌, ◌^◌, true, false, ◌&&◌, eqb, List, [], ◌∷◌, length, map, sum_by, All, refl, sym, ap, ap₂, subst, arith, eqb-true}
 use Rattle.std.proofs.lemmas.Bool.{and_parts, not-false}
 use Rattle.std.proofs.lemmas.List.Elements.{All-from_recursion, recursion_from_All}
 use Rattle.std.proofs.lemmas.List.FromFn.{length-map-range_with_len}
@@ -75,10 +76,7 @@ shares_ascend I rows =
 pub shares_seated : (I : Session) (rows : List SeatRow) (s : ℕ)
     → has_number (map (λ (share : ℕ × PersonalPenalty). share.0) (student_shares I rows)) s
     ≡ has_row rows s
-shares_seated I rows s =
-    ap (λ xs. has_number xs s) (sharing I rows)
-    ∙ has_ascending (map (λ (row : SeatRow). row.student) rows) s
-    ∙ any_map (λ t. eqb t s) (λ (row : SeatRow). row.student) rows
+shares_seated I rows s = grind (arith, common_steps, sharing, has_ascending, any_map)
 
 -- ---- how much
 

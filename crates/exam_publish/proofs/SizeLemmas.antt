@@ -1,5 +1,6 @@
 -- The sizes of exams by their rows, and the order of exams by size.
-use Rattle.std.proofs.Common.{◌≡◌, ℕ, ◌<◌, cond, List, length, count_by, filter, sym, ◌∙◌, ap, ap₂, one-mul}
+use Rattle.std.proofs.lemmas.Grind.{common_steps}
+use Rattle.std.proofs.Common.{◌≡◌, ℕ, ◌<◌, cond, List, length, ◌∙◌, ap, ap₂, one-mul, arith}
 use Rattle.std.specs.Prelude.{slice_index, nat_lt, ◌==◌, ◌&&◌, ◌||◌, if◌then◌else◌}
 use Rattle.std.proofs.lemmas.List.{length-map}
 use Rattle.std.proofs.lemmas.List.Sums.{length-filter}
@@ -19,11 +20,7 @@ use Rattle.exam_publish.proofs.RowLemmas.{students_at}
 size_is : (n : ℕ) (rows : List SeatRow) (sizes : List ℕ)
     → AreTallied (λ e. 1) is_of_exam n rows sizes → (e : ℕ) → e < n
     → slice_index sizes e ≡ size_of (enrolled_in n rows) e
-size_is n rows sizes are e lt =
-    are.each e lt ∙ one-mul (count_by (is_of_exam e) rows)
-    ∙ sym (ap length (students_at n rows e lt)
-    ∙ length-map (filter (is_of_exam e) rows) (λ (row : SeatRow). row.student)
-    ∙ length-filter (is_of_exam e) rows)
+size_is n rows sizes are e lt = grind (arith, common_steps, one-mul, students_at, length-map, length-filter)
 
 -- by the table or by the enrolments
 pub front_is : (I : Session) (rows : List SeatRow) (T : Placing) (sizes : List ℕ) (e : ℕ)

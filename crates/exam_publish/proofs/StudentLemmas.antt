@@ -1,4 +1,5 @@
 -- Rows in the order of their students, one student's rows at a time.
+use Rattle.std.proofs.lemmas.Grind.{common_steps}
 use Rattle.std.specs.List.{AllByRecursion}
 use Rattle.std.specs.List.Sorted.{ties, IsSortedByKey, IsStableByKey}
 use Rattle.std.specs.Ordering.{is_lt, nat_cmp}
@@ -63,11 +64,7 @@ are_sorted rows sorted moved up stable = record {
 
 own_rows : (rows : List SeatRow) (s n : ℕ) → IsRun rows s n
     → AllByRecursion (λ row. row.student ≡ s) (take n rows)
-own_rows rows s n run =
-    recursion_from_All (λ row. row.student ≡ s) (take n rows)
-    (λ k d lt. let l = length-take n rows in
-    subst (λ (row : SeatRow). row.student ≡ s) (sym (get_or-take n rows k d (omega arith)))
-    (run.own k d (omega arith)))
+own_rows rows s n run = grind (arith, common_steps, recursion_from_All, length-take, get_or-take)
 
 -- the first row is one of them
 pub some_own : (rows : List SeatRow) (r : SeatRow) (n : ℕ) → r ≡ get_or rows 0 r → 0 < length rows
@@ -125,19 +122,10 @@ each_ascending P (x ∷ xs) a = each_with P x.student (students_of xs) a.0 (each
 
 with_first : (s : ℕ) (xs : List ℕ) → AllByRecursion (λ x. s < x) xs → with_student s xs ≡ s ∷ xs
 with_first s [] a = refl
-with_first s (x ∷ xs) a =
-    let less : s < x = a.0 in
-    with_cases s x xs (λ ys. ys ≡ s ∷ x ∷ xs)
-    (λ before. refl)
-    (λ same. absurd (omega arith))
-    (λ after. absurd (omega arith))
+with_first s (x ∷ xs) a = grind (arith, common_steps, with_cases)
 
 with_again : (s : ℕ) (xs : List ℕ) → with_student s (s ∷ xs) ≡ s ∷ xs
-with_again s xs =
-    with_cases s s xs (λ ys. ys ≡ s ∷ xs)
-    (λ before. absurd (omega arith))
-    (λ same. refl)
-    (λ after. absurd (omega arith))
+with_again s xs = grind (arith, common_steps, with_cases)
 
 -- one student's rows before those of greater ones
 run_first : (s : ℕ) (x : SeatRow) (own later : List SeatRow)
@@ -166,12 +154,7 @@ pub record IsShared (I : Session) (rows : List SeatRow) (shares : List (ℕ × P
 
 pub start : (I : Session) (rows sorted : List SeatRow) (shares : List (ℕ × PersonalPenalty))
     → shares ≡ [] → AreSorted rows sorted → IsShared I rows shares sorted
-start I rows sorted shares none are = record {
-  shared = ap (λ xs. xs ++ shares_in I rows (students_of sorted)) none
-      ∙ ap (shares_in I rows) are.students;
-  by_student = are.by_student;
-  whole = λ s h. are.same s;
-}
+start I rows sorted shares none are = grind (arith, common_steps)
 
 -- the first run of rows has all rows of its student
 pub own_is : (I : Session) (rows rest : List SeatRow) (shares : List (ℕ × PersonalPenalty))
@@ -254,10 +237,7 @@ shared_more I rows rest shares more r n was is some run added =
 
     none_later : (t : ℕ) → has_row (drop n rest) t ≡ true
         → AllByRecursion (λ row. row.student ≡ t → ⊥) (drop n rest) → ⊥
-    none_later t h a = clash (sym h ∙ no_row t (drop n rest) a)
-      where
-        clash : true ≡ false → ⊥
-        clash e = cc
+    none_later t h a = grind (arith, common_steps, no_row)
 
 -- ---- no student has more rows than there are exams
 
@@ -265,39 +245,18 @@ bounded : (a n : ℕ) (xs : List ℕ) → a ≤ n → IsChain (λ x y. x < y) xs
     → AllByRecursion (λ x. a ≤ x) xs → AllByRecursion (λ x. x < n) xs → length xs + a ≤ n
 bounded a n [] low up above below = omega arith
 bounded a n (x ∷ xs) low up above below =
-    let first : a ≤ x = above.0 in
-    let last : x < n = below.0 in
-    let more = bounded (a + 1) n xs (omega arith) up.1
-    (each_weaker (λ y. x < y) (λ y. a + 1 ≤ y) (λ y h. omega arith) xs up.0) below.1 in
-    omega arith
+    grind (arith, common_steps, each_weaker, bounded (a + 1) n xs (omega arith) up.1 (each_weaker (λ y. x < y) (λ y. a + 1 ≤ y) (λ y h. omega arith) xs up.0) below.1)
 
 later_exams : (r : SeatRow) (rs : List SeatRow) (s : ℕ) → r.student ≡ s
     → AllByRecursion (RowBefore r) rs
     → AllByRecursion (λ e. r.exam < e) (map (λ row. row.exam) (rows_of s rs))
 later_exams r [] s same a = tt
-later_exams r (q ∷ qs) s same a = go (eqb q.student s) refl (later_exams r qs s same a.1)
-  where
-    greater : q.student ≡ s → r.exam < q.exam
-    greater is = elim a.0 as (λ _. r.exam < q.exam)
-        [ inl less ↦ less | inr tie ↦ absurd (omega (arith, tie.1, is, same)) ]
-
-    go : (b : Bool) → eqb q.student s ≡ b
-        → AllByRecursion (λ e. r.exam < e) (map (λ row. row.exam) (rows_of s qs))
-        → AllByRecursion (λ e. r.exam < e)
-        (map (λ row. row.exam) (cond b (q ∷ rows_of s qs) (rows_of s qs)))
-    go true is more = (greater (eqb-true q.student s is), more)
-    go false is more = more
+later_exams r (q ∷ qs) s same a = grind (arith, common_steps, eqb-true, later_exams r qs s same a.1)
 
 candidate_exams : (rows : List SeatRow) (s : ℕ) → IsChain RowBefore rows
     → IsChain (λ x y. x < y) (map (λ row. row.exam) (rows_of s rows))
 candidate_exams [] s h = tt
-candidate_exams (r ∷ rs) s h = go (eqb r.student s) refl (candidate_exams rs s h.1)
-  where
-    go : (b : Bool) → eqb r.student s ≡ b
-        → IsChain (λ x y. x < y) (map (λ row. row.exam) (rows_of s rs))
-        → IsChain (λ x y. x < y) (map (λ row. row.exam) (cond b (r ∷ rows_of s rs) (rows_of s rs)))
-    go true is more = (later_exams r rs s (eqb-true r.student s is) h.0, more)
-    go false is more = more
+candidate_exams (r ∷ rs) s h = grind (arith, common_steps, later_exams, eqb-true, candidate_exams rs s h.1)
 
 pub few_rows : (I : Session) (rows : List SeatRow) (T : Placing) (s : ℕ) → ArePublishedRows I rows T
     → length I.exams ≤ 2000 → length (rows_of s rows) ≤ 2000

@@ -1,9 +1,10 @@
 -- Sums in a table: with one more element, and the whole table as a list.
+use Rattle.std.proofs.lemmas.Grind.{common_steps}
 use Rattle.std.specs.List.{range_with_len}
-use Rattle.std.proofs.Common.{◌≡◌, ℕ, zero, suc, ◌+◌, ◌*◌, ◌<◌, ◌≤◌, ◌⊎◌, inl, inr, Bool, false, cond, eqb, List, [], ◌∷◌, ◌++◌, length, get_or, map, count_by, refl, sym, ◌∙◌, ap, arith, length-append}
+use Rattle.std.proofs.Common.{◌≡◌, ℕ, zero, suc, ◌+◌, ◌*◌, ◌<◌, ◌≤◌, ◌⊎◌, inl, inr, Bool, cond, eqb, List, [], ◌∷◌, ◌++◌, length, get_or, map, count_by, refl, sym, ◌∙◌, ap, arith, length-append}
 use Rattle.std.specs.Prelude.{slice_set, slice_index, replicate}
 use Rattle.std.proofs.lemmas.Bool.{cases_eq, eq-eqb, ne_eqb}
-use Rattle.std.proofs.lemmas.List.{length-replicate, length-set, get_or-set_same, get_or-set_other, ext_get_or}
+use Rattle.std.proofs.lemmas.List.{length-set, get_or-set_same, get_or-set_other, ext_get_or}
 use Rattle.std.proofs.lemmas.List.FromFn.{length-map-range_with_len, get_or-map-range_with_len}
 use Rattle.std.proofs.lemmas.List.Sums.{sum_by_push}
 use Rattle.exam_publish.specs.Tallies.{AreTallied}
@@ -48,54 +49,14 @@ tally_more {X} amount test n xs sums x key new was lt is few put = record {
       where
         product : (a c : ℕ) → a * c + a ≡ a * (c + 1)
         product a c = omega arith
-    each k within (inr other) =
-        let count = counted k ∙ ap (λ b. count_by (test k) xs + cond b 1 0) (ne_eqb key k other) in
-        get_or-set_other sums key k new 0 (λ e. other (sym e)) ∙ was.each k within
-        ∙ ap (λ c. amount k * c)
-        (let h : count_by (test k) xs ≡ count_by (test k) (xs ++ x ∷ []) = omega arith in h)
+    each k within (inr other) = grind (arith, common_steps, ne_eqb, get_or-set_other)
 
     small : (k : ℕ) → (k ≡ key) ⊎ (k ≡ key → ⊥)
         → get_or (slice_set sums key new) k 0 ≤ length (xs ++ x ∷ []) * 100000
-    small k (inl same) =
-        let here : get_or (slice_set sums key new) k 0 ≡ new =
-        ap (λ j. get_or (slice_set sums key new) j 0) same
-        ∙ get_or-set_same sums key new 0 inside in
-        let h = was.small key in let l = length-append xs (x ∷ []) in omega arith
+    small k (inl same) = grind (arith, common_steps, get_or-set_same, length-append)
     small k (inr other) =
         let here = get_or-set_other sums key k new 0 other in
         let h = was.small k in let l = length-append xs (x ∷ []) in omega arith
-
--- the sums of an empty list are a table of zeros
-pub untallied : {X : Type 0} (amount : ℕ → ℕ) (test : ℕ → X → Bool) (n m : ℕ) (sums : List ℕ)
-    → sums ≡ replicate m 0 → m ≡ n → AreTallied amount test n [] sums
-untallied amount test n m sums is same = record {
-  count = ap length is ∙ length-replicate m 0 ∙ same;
-  each = λ k within. here k ∙ sym (nothing (amount k));
-  small = λ k. let h = here k in omega arith;
-}
-  where
-    here : (k : ℕ) → ◌≡◌ {A = ℕ} (get_or sums k 0) 0
-    here k = ap (λ xs. get_or xs k 0) is ∙ zeros m k
-
-    nothing : (a : ℕ) → ◌≡◌ {A = ℕ} (a * 0) 0
-    nothing a = omega arith
-
--- an element that passes no test
-pub tally_other : {X : Type 0} (amount : ℕ → ℕ) (test : ℕ → X → Bool) (n : ℕ) (xs : List X)
-    (sums : List ℕ) (x : X)
-    → AreTallied amount test n xs sums → ((k : ℕ) → test k x ≡ false)
-    → AreTallied amount test n (xs ++ x ∷ []) sums
-tally_other {X} amount test n xs sums x was isnt = record {
-  count = was.count;
-  each = λ k within. was.each k within ∙ ap (λ c. amount k * c) (sym (counted k));
-  small = λ k. let h = was.small k in let l = length-append xs (x ∷ []) in omega arith;
-}
-  where
-    counted : (k : ℕ) → count_by (test k) (xs ++ x ∷ []) ≡ count_by (test k) xs
-    counted k =
-        let h = sum_by_push (λ z. cond (test k z) 1 0) xs x
-        ∙ ap (λ b. count_by (test k) xs + cond b 1 0) (isnt k) in
-        omega arith
 
 -- the list of a function's values, from its values one by one
 pub listed_from : {X : Type 0} (d : X) (f : ℕ → X) (n : ℕ) (xs : List X) → length xs ≡ n

@@ -1,4 +1,5 @@
-use Rattle.std.proofs.Common.{◌≡◌, ◌<◌, ◌++◌, None, Some, length, map, ap, ap₂, sym, ◌∙◌, arith, ℕ}
+use Rattle.std.proofs.lemmas.Grind.{common_steps}
+use Rattle.std.proofs.Common.{◌≡◌, ◌<◌, ◌++◌, Some, length, map, ap, ap₂, sym, ◌∙◌, arith, ℕ}
 use Rattle.exam_model.specs.Enrolments.{students}
 use Rattle.exam_model.specs.Timetable.{place_of}
 use Rattle.exam_publish.specs.Entrants.{entrant}
@@ -7,14 +8,7 @@ use Rattle.exam_publish.proofs.entrants.entrants_of.Goals as goal
 
 pub exams-preserved-in_default : goal.exams-preserved-in_default
 exams-preserved-in_default c =
-    let T = c.args.timetable.now in
-    let e = c.exams.exam in
-    let none : place_of T e ≡ None =
-    ap (place_of T) (sym c.new-exam.ensures) ∙ sym c.get.ensures ∙ c.in_default.is in
-    let lt : e < length c.args.enrolments.now =
-    omega (arith, c.exams-test.true, c.exams-exam-end.ensures.count) in
-    exam_nowhere c.args.enrolments.now T c.args.old.now e c.exams.found.items lt none
-    c.exams.invariant
+    grind (arith, common_steps, exam_nowhere, c.new-exam.ensures, c.get.ensures, c.exams-exam-end.ensures.count, c.exams.invariant)
 
 pub exams-preserved : goal.exams-preserved
 exams-preserved c =

@@ -1,3 +1,4 @@
+use Rattle.std.proofs.lemmas.Grind.{common_steps}
 use Rattle.std.proofs.Common.{◌≡◌, ◌<◌, false, get_or, length, ap, sym, subst, ◌∙◌, arith}
 use Rattle.std.specs.Prelude.{IfSome}
 use Rattle.std.proofs.lemmas.List.{get_or_read, take_all}
@@ -10,10 +11,7 @@ use Rattle.exam_publish.proofs.HeldLemmas.{are_held, held_left, held_more, held_
 use Rattle.exam_publish.proofs.held.held_seats.Goals as goal
 
 pub entrants-preserved-in_default : goal.entrants-preserved-in_default
-entrants-preserved-in_default c =
-    held_same c.in_ok-needed.needed.items (length c.args.instance.now.rooms) c.args.entrants.now
-    c.entrants.entrant-index c.entrant-item.result c.entrants.held.items c.entrants-test.true
-    c.entrant-item.is c.in_default.is c.entrants.invariant
+entrants-preserved-in_default c = grind (arith, common_steps, held_same, c.entrants.invariant)
 
 pub entrants-preserved-then-not-index : goal.entrants-preserved-then-not-index
 entrants-preserved-then-not-index c =

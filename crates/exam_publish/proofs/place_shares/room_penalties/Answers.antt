@@ -10,42 +10,8 @@ use Rattle.exam_model.specs.declared.parts.Room.{Room}
 use Rattle.exam_score.specs.Track.{room_penalty}
 use Rattle.exam_publish.specs.Shares.{is_in_room}
 use Rattle.exam_publish.specs.Tallies.{AreTallied}
-use Rattle.exam_publish.proofs.TallyLemmas.{untallied, tally_other, tally_more, tallied_list}
+use Rattle.exam_publish.proofs.TallyLemmas.{tally_more, tallied_list}
 use Rattle.exam_publish.proofs.place_shares.room_penalties.Goals as goal
-
-pub exams-init : goal.exams-init
-exams-init c =
-    let I = c.args.instance.now in
-    untallied (λ p. room_penalty (slice_get I.rooms p)) is_in_room
-    (length I.rooms) _ c.in_ok-shares.shares.items
-    (c.in_ok-shares.ensures.items_if_clones_equal (λ y h. h)) c.rooms.ensures.count
-
-pub exams-preserved-in_default : goal.exams-preserved-in_default
-exams-preserved-in_default c =
-    let I = c.args.instance.now in
-    let T = c.args.timetable.now in
-    let e = c.exams.exam in
-    let shares = c.exams.shares.items in
-    let amount : ℕ → ℕ = λ p. room_penalty (slice_get I.rooms p) in
-    let within : e < length T =
-    omega (arith, c.exams-test.true, c.exams-exam-end.ensures.count, c.requires.exams) in
-    let unplaced : place_of T e ≡ None =
-    ap (place_of T) (sym c.new.ensures) ∙ sym c.get.ensures ∙ c.in_default.is in
-    subst (λ xs. AreTallied amount is_in_room (length I.rooms) xs shares)
-    (sym (take_more T e None within ∙ ap (λ o. take e T ++ o ∷ []) unplaced))
-    (tally_other amount is_in_room (length I.rooms)
-    (take e T) shares None c.exams.invariant (λ k. refl))
-
-pub index-requires : goal.index-requires
-index-requires c =
-    let T = c.args.timetable.now in
-    let e = c.exams.exam in
-    let within : e < length T =
-    omega (arith, c.exams-test.true, c.exams-exam-end.ensures.count, c.requires.exams) in
-    let here : place_of T e ≡ Some c.in-Some.place =
-    ap (place_of T) (sym c.new.ensures) ∙ sym c.get.ensures ∙ c.in-Some.is in
-    let place = subst (PlaceExists c.args.instance.now) here (c.requires.places e None within) in
-    omega (arith, c.get-room.ensures, place.1, c.exams.invariant.count)
 
 pub exams-preserved : goal.exams-preserved
 exams-preserved c =

@@ -1,3 +1,4 @@
+use Rattle.std.proofs.lemmas.Grind.{common_steps}
 use Rattle.std.proofs.Common.{◌≡◌, ◌+◌, ◌-◌, ◌*◌, ◌<◌, ◌++◌, ◌∷◌, [], length, get_or, map, ap, ap₂, sym, ◌∙◌, arith}
 use Rattle.std.specs.List.{range_with_len}
 use Rattle.std.specs.Prelude.{slice_index}
@@ -11,17 +12,11 @@ use Rattle.exam_publish.proofs.place_shares.room_shares.Goals as goal
 
 pub overflow_cast-room : goal.overflow_cast-room
 overflow_cast-room c =
-    let I = c.args.instance.now in
-    let same = ap length (c.deref-penalty-items.ensures.value ∙ c.in_ok-penalties.ensures) in
-    let long = length-map-range_with_len (penalty_in I c.args.timetable.now) 0 (length I.rooms) in
-    omega (arith, c.rooms-test.true, same, long, c.lemma_limits.ensures.limits.counts.2.1)
+    grind (arith, common_steps, length-map-range_with_len, c.deref-penalty-items.ensures.value, c.in_ok-penalties.ensures, c.lemma_limits.ensures.limits.counts.2.1)
 
 pub mixed_in-requires-clause-room : goal.mixed_in-requires-clause-room
 mixed_in-requires-clause-room c =
-    let I = c.args.instance.now in
-    let same = ap length (c.deref-penalty-items.ensures.value ∙ c.in_ok-penalties.ensures) in
-    let long = length-map-range_with_len (penalty_in I c.args.timetable.now) 0 (length I.rooms) in
-    omega (arith, c.rooms-test.true, same, long, c.new.ensures)
+    grind (arith, common_steps, length-map-range_with_len, c.deref-penalty-items.ensures.value, c.in_ok-penalties.ensures, c.new.ensures)
 
 pub rooms-preserved : goal.rooms-preserved
 rooms-preserved c =
@@ -52,10 +47,4 @@ rooms-preserved c =
 
 pub returns : goal.returns
 returns c =
-    let I = c.args.instance.now in
-    let T = c.args.timetable.now in
-    let same = ap length (c.deref-penalty-items.ensures.value ∙ c.in_ok-penalties.ensures) in
-    let long = length-map-range_with_len (penalty_in I T) 0 (length I.rooms) in
-    let all : c.rooms.room ≡ length I.rooms =
-    omega (arith, c.rooms-test.false, c.rooms.auto.room-end, same, long) in
-    c.rooms.invariant ∙ ap (λ n. map (room_share I T) (range_with_len 0 n)) all
+    grind (arith, common_steps, length-map-range_with_len, c.deref-penalty-items.ensures.value, c.in_ok-penalties.ensures, c.rooms.invariant)

@@ -1,4 +1,5 @@
-use Rattle.std.proofs.Common.{◌≡◌, ◌+◌, ◌*◌, ◌<◌, ◌++◌, ◌∷◌, [], length, get_or, ap, ap₂, sym, subst, ◌∙◌, arith}
+use Rattle.std.proofs.lemmas.Grind.{common_steps}
+use Rattle.std.proofs.Common.{◌≡◌, ◌+◌, ◌<◌, ◌++◌, ◌∷◌, [], length, get_or, ap, sym, subst, ◌∙◌, arith}
 use Rattle.std.specs.Prelude.{slice_set, slice_index}
 use Rattle.std.proofs.lemmas.List.{get_or_read}
 use Rattle.exam_model.specs.Fits.{slot_of}
@@ -9,11 +10,7 @@ use Rattle.exam_publish.proofs.seating.seat_all.Goals as goal
 
 pub entrants-init : goal.entrants-init
 entrants-init c =
-    none_given c.args.entrants.now (length c.args.instance.now.periods)
-    (length c.args.instance.now.rooms) _ c.in_ok-last.last.items c.in_ok-rows.rows.items
-    (c.in_ok-last.ensures.items_if_clones_equal (λ y h. h))
-    (ap₂ (λ a b. a * b) c.periods.ensures.count c.rooms.ensures.count)
-    c.in_ok-rows.ensures.items
+    grind (arith, common_steps, none_given, c.in_ok-last.ensures.items_if_clones_equal, c.periods.ensures.count, c.rooms.ensures.count, c.in_ok-rows.ensures.items)
 
 pub overflow_add-index : goal.overflow_add-index
 overflow_add-index c =

@@ -1,29 +1,19 @@
-use Rattle.std.proofs.Common.{◌≡◌, ◌≤◌, ◌∙◌, List, length, map, All, ap, sym, subst}
+use Rattle.std.proofs.lemmas.Grind.{common_steps}
+use Rattle.std.proofs.Common.{◌≡◌, ◌≤◌, ◌∙◌, List, length, map, All, ap, sym, subst, arith}
 use Rattle.exam_model.specs.Pairs.{pairs_of}
 use Rattle.exam_publish.specs.declared.seat_row.SeatRow.{SeatRow}
 use Rattle.exam_publish.specs.declared.entrants.Entrant.{Entrant}
 use Rattle.exam_publish.specs.Rows.{ArePublishedRows, row_pair}
 use Rattle.exam_publish.specs.Seats.{AreSeated, rows_for, seat_rows}
 use Rattle.exam_publish.specs.Entrants.{entrants}
-use Rattle.exam_publish.specs.Seating.{AreHeld, EntrantExists, KeepsOwnPlace, KeepsSmallSeat}
+use Rattle.exam_publish.specs.Seating.{AreHeld, EntrantExists}
 use Rattle.exam_publish.proofs.EntrantLemmas.{entrants_few, entrants_exist, entrants_keep, entrants_placed}
 use Rattle.exam_publish.proofs.SeatLemmas.{are_seats}
 use Rattle.exam_publish.proofs.seating.seats.Goals as goal
 
 pub held_seats-requires : goal.held_seats-requires
 held_seats-requires c =
-    let I = c.args.instance.now in
-    let E = c.args.enrolments.now in
-    let T = c.args.timetable.now in
-    let old = c.args.old.now in
-    let is : c.deref.result.now ≡ entrants (pairs_of E) T old =
-    c.deref.ensures.value ∙ c.in_ok-entrants.ensures in
-    record {
-      exist = subst (All (EntrantExists I)) (sym is) (entrants_exist I E T old c.requires.fits);
-      small = subst (All KeepsSmallSeat) (sym is)
-          (entrants_keep I T old (pairs_of E) c.lemma_limits.ensures c.requires.old_seated.within);
-      placed = subst (All KeepsOwnPlace) (sym is) (entrants_placed T old (pairs_of E));
-    }
+    grind (arith, common_steps, entrants_exist, entrants_keep, entrants_placed, c.deref.ensures.value, c.in_ok-entrants.ensures, c.requires.fits, c.lemma_limits.ensures, c.requires.old_seated.within)
 
 pub seat_all-requires : goal.seat_all-requires
 seat_all-requires c =

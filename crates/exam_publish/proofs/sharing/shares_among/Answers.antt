@@ -1,6 +1,6 @@
-use Rattle.std.proofs.Common.{◌≡◌, ◌^◌, sym, subst, ap, refl, ◌∙◌}
+use Rattle.std.proofs.lemmas.Grind.{common_steps}
+use Rattle.std.proofs.Common.{◌≡◌, ◌^◌, sym, subst, ap, refl, ◌∙◌, arith}
 use Rattle.exam_publish.specs.AddUp.{AreSmall}
-use Rattle.exam_publish.specs.Rows.{ArePublishedRows}
 use Rattle.exam_publish.specs.Shares.{shares_among, shares_of, student_shares}
 use Rattle.exam_publish.proofs.AddUpLemmas.{adds_up}
 use Rattle.exam_publish.proofs.AmongLemmas.{among_published, among_shares, among_small}
@@ -9,10 +9,7 @@ use Rattle.exam_publish.proofs.sharing.shares_among.Goals as goal
 
 pub student_shares-requires : goal.student_shares-requires
 student_shares-requires c =
-    let I = c.args.instance.now in
-    let T = c.args.timetable.now in
-    subst (λ own. ArePublishedRows I own T) (sym (c.deref.ensures.value ∙ c.in_ok-own.ensures))
-    (among_published I c.args.rows.now T c.args.students.now c.requires.published)
+    grind (arith, common_steps, among_published, c.deref.ensures.value, c.in_ok-own.ensures, c.requires.published)
 
 pub returns : goal.returns
 returns c =

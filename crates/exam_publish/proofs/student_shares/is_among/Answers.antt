@@ -1,9 +1,8 @@
-use Rattle.std.proofs.Common.{◌∙◌}
+use Rattle.std.proofs.lemmas.Grind.{common_steps}
+use Rattle.std.proofs.Common.{arith}
 use Rattle.exam_publish.proofs.AmongLemmas.{has_searched}
 use Rattle.exam_publish.proofs.student_shares.is_among.Goals as goal
 
 pub returns : goal.returns
 returns c =
-    c.is_ok.ensures.value
-    ∙ has_searched c.args.students.now c.args.student c.binary_search.result c.requires
-    c.binary_search.ensures.position
+    grind (arith, common_steps, has_searched, c.is_ok.ensures.value, c.requires, c.binary_search.ensures.position)

@@ -1,4 +1,5 @@
-use Rattle.std.proofs.Common.{◌≡◌, ◌+◌, ◌<◌, ◌++◌, ◌∷◌, [], ◌∙◌, ℕ, Bool, cond, List, ap, get_or, length, sym, take, append-nil}
+use Rattle.std.proofs.lemmas.Grind.{common_steps}
+use Rattle.std.proofs.Common.{◌≡◌, ◌+◌, ◌<◌, ◌++◌, ◌∷◌, [], ◌∙◌, ℕ, Bool, cond, List, ap, get_or, length, sym, take, append-nil, arith}
 use Rattle.std.proofs.lemmas.List.{take_more}
 use Rattle.std.proofs.lemmas.List.Elements.{filter-append}
 use Rattle.exam_model.specs.Enrolments.{has_number}
@@ -12,10 +13,7 @@ more : (students : List ℕ) (rows : List SeatRow) (i : ℕ) (row : SeatRow)
     → i < length rows → row ≡ get_or rows i row
     → rows_among students (take (i + 1) rows)
     ≡ rows_among students (take i rows) ++ cond (has_number students row.student) (row ∷ []) []
-more students rows i row within is =
-    ap (rows_among students)
-    (take_more rows i row within ∙ ap (λ r. take i rows ++ r ∷ []) (sym is))
-    ∙ filter-append (λ (r : SeatRow). has_number students r.student) (take i rows) (row ∷ [])
+more students rows i row within is = grind (arith, common_steps, take_more, filter-append)
 
 pub rows-preserved : goal.rows-preserved
 rows-preserved c =
