@@ -1,5 +1,6 @@
 -- Lists that are filtered: a permutation, and a map.
-use Rattle.std.proofs.Common.{◌≡◌, ℕ, zero, suc, ◌<◌, Bool, true, false, List, [], ◌∷◌, filter, map, length, set, get_or, refl, ap, arith, if◌then◌else◌}
+use Rattle.std.proofs.lemmas.Grind.{common_steps}
+use Rattle.std.proofs.Common.{◌≡◌, ℕ, zero, suc, ◌<◌, Bool, true, false, List, [], ◌∷◌, filter, map, length, set, get_or, refl, arith, if◌then◌else◌}
 use Rattle.std.specs.Prelude.{IsPermutation, swap}
 use Rattle.std.proofs.lemmas.List.Sorted.{IsPermutation-refl, IsPermutation-cons, IsPermutation-trans, IsPermutation-middle, IsPermutation-keeps}
 
@@ -71,11 +72,4 @@ module _ {X : Type 0} (p : X → Bool) where
 pub filter-map : {X Y : Type 0} (p : Y → Bool) (f : X → Y) (xs : List X)
     → filter p (map f xs) ≡ map f (filter (λ x. p (f x)) xs)
 filter-map p f [] = refl
-filter-map {X} {Y} p f (x ∷ xs) =
-    let same = filter-map p f xs in
-    let fs : List X = filter (λ x. p (f x)) xs in
-    elim (p (f x)) as (λ b. (if b then f x ∷ filter p (map f xs) else filter p (map f xs))
-    ≡ map f (if b then x ∷ fs else fs)) [
-      | true ↦ ap (λ (ys : List Y). f x ∷ ys) same
-      | false ↦ same
-    ]
+filter-map {X} {Y} p f (x ∷ xs) = grind (arith, common_steps, filter-map p f xs)

@@ -1,17 +1,16 @@
 -- Lines of which none acts, and lines of which one does.
-use Rattle.std.proofs.Common.{◌≡◌, ◌≢◌, ◌∙◌, ◌+◌, ◌≤◌, Bool, true, false, List, [], ◌∷◌, length, Option, None, Result, Ok, Err, refl, ap, sym, arith, if◌then◌else◌}
+use Rattle.std.proofs.lemmas.Grind.{common_steps}
+use Rattle.std.proofs.Common.{◌≡◌, ◌≢◌, ◌∙◌, ◌+◌, ◌≤◌, Bool, true, false, List, [], ◌∷◌, length, Option, None, Result, Ok, Err, refl, ap, sym, arith, if◌then◌else◌, rules}
 use Rattle.std.specs.Prelude.{◌↔◌, ◌||◌, nat_le, IfOk}
 use Rattle.std.specs.List.{list_all, list_any}
 use Rattle.std.proofs.lemmas.Bool.{le-leb}
 use Rattle.exam_terms.specs.Refusing.{◌>>=◌, unless}
 use Rattle.exam_model.specs.Enrolments.{Enrolled, AreEnrolments, pair_count}
 use Rattle.exam_model.specs.declared.change.Change.{Change}
-use Rattle.exam_draft.specs.declared.fault.EditFault.TheVariants.{NoSuch}
-use Rattle.office_model.specs.BatchLines.{has_effect, after_change, counts_after, enrolment_result, no_counts}
+use Rattle.office_model.specs.BatchLines.{has_effect, after_change, counts_after, enrolment_result}
 use Rattle.office_model.specs.declared.counts.Counts.{Counts}
-use Rattle.office_model.specs.declared.fault.Refusal.TheVariants as refusal
 use Rattle.office_model.specs.declared.fault.StoreFault.{StoreFault}
-use Rattle.office_model.specs.declared.fault.StoreFault.TheVariants.{Refused, TooMany}
+use Rattle.office_model.specs.declared.fault.StoreFault.TheVariants.{TooMany}
 use Rattle.office_enrolment.specs.AfterBatch.{lines_with_effect, has_effect_on, after_batch, idle_counts, current_enrolments, names_exam}
 use Rattle.office_enrolment.specs.declared.batch.AfterBatch.{AfterBatch}
 use Rattle.office_enrolment.proofs.KeptLemmas.{Ascend, they_ascend}
@@ -27,10 +26,7 @@ module _ (change : Change) (E : Enrolled) (n : Counts) (idle : has_effect change
   one_idle = record n { unchanged = n.unchanged + 1 }
 
   idle_counted : counts_after change E n ≡ one_idle
-  idle_counted =
-      let more : Counts = record n { added = n.added + 1 } in
-      let fewer : Counts = record n { dropped = n.dropped + 1 } in
-      ap (λ a. if a then (if change.add then more else fewer) else one_idle) idle
+  idle_counted = grind (arith, common_steps)
 
 -- they are counted, and change nothing
 pub idle_enrolled : (changes : List Change) (E : Enrolled) (n : Counts) → Ascend E
@@ -82,11 +78,7 @@ some_acting (change ∷ changes) E up some =
 pub idle_batch : (changes : List Change) (E : Enrolled) → AreEnrolments E
     → list_all (names_exam E) changes ≡ true → list_any (has_effect_on E) changes ≡ false
     → after_batch changes E ≡ Ok (idle_counts changes, E)
-idle_batch changes E is exist idle =
-    let long : 0 + length changes ≡ length changes = omega arith in
-    ap (λ b. unless b (Refused (refusal.Edit NoSuch)) >>= λ _. enrolment_result changes E no_counts) exist
-    ∙ idle_enrolled changes E no_counts (they_ascend E is) is.pairs idle
-    ∙ ap (λ k. enrolment_result [] E (record { added = 0; dropped = 0; unchanged = k })) long
+idle_batch changes E is exist idle = search (rules, idle_enrolled, they_ascend)
 
 -- ---- the result of such a batch
 

@@ -1,6 +1,7 @@
 -- What stays true of enrolments if one pair is added or removed.
-use Rattle.std.proofs.Common.{◌≡◌, ◌∙◌, ℕ, ◌+◌, ◌<◌, ◌≤◌, true, false, List, [], ◌∷◌, length, set, get_or-set_other, get_or-set_same, sym, inl, inr, arith, subst}
-use Rattle.std.specs.Prelude.{◌==◌, ◌||◌, not}
+use Rattle.std.proofs.lemmas.Grind.{common_steps}
+use Rattle.std.proofs.Common.{◌≡◌, ◌∙◌, ℕ, ◌+◌, ◌<◌, ◌≤◌, true, false, List, [], ◌∷◌, length, set, get_or-set_other, get_or-set_same, sym, arith, rules}
+use Rattle.std.specs.Prelude.{◌==◌, not}
 use Rattle.std.proofs.lemmas.Bool.{and_parts, cases_eq, cases_lt, ne_eqb}
 use Rattle.std.proofs.lemmas.List.{get_or_past, length-set, set_past, set-get_or}
 use Rattle.std.proofs.lemmas.List.Sorted.{length_permutation}
@@ -15,10 +16,7 @@ abbrev pub Ascend : Enrolled → Type 0
 Ascend E = (e : ℕ) → IsAscending (students E e)
 
 pub they_ascend : (E : Enrolled) → AreEnrolments E → Ascend E
-they_ascend E is e = elim (cases_lt e (length E)) [
-  | inl lt ↦ is.ascending e lt
-  | inr past ↦ subst IsAscending (sym (get_or_past E e [] past)) ascending-none
-]
+they_ascend E is e = search (rules, cases_lt, get_or_past, ascending-none)
 
 -- ---- a pair that changes nothing
 
@@ -44,22 +42,12 @@ one_more_pair E s e lt absent =
 -- a fact about each exam's students, if one exam gets others
 at_each : (E : Enrolled) (e f : ℕ) (new : List ℕ) (P : List ℕ → Type 0) → P new → P (students E f)
     → P (students (set E e new) f)
-at_each E e f new P one other = elim (cases_lt e (length E)) [
-  | inl lt ↦ elim (cases_eq f e) [
-    | inl here ↦ subst (λ g. P (students (set E e new) g)) (sym here)
-        (subst P (sym (get_or-set_same E e new [] lt)) one)
-    | inr apart ↦ subst P (sym (get_or-set_other E e f new [] apart)) other
-  ]
-  | inr past ↦ subst (λ F. P (students F f)) (sym (set_past E e new past)) other
-]
+at_each E e f new P one other =
+    grind (arith, common_steps, cases_lt, cases_eq, set, get_or-set_same, get_or-set_other, set_past)
 
 numbers-with : (s : ℕ) (xs : List ℕ) → s ≤ 999999999 → AreNumbers xs
     → AreNumbers (with_student s xs)
-numbers-with s xs known was t is = elim (cases_eq s t) [
-  | inl same ↦ subst (λ (x : ℕ). x ≤ 999999999) same known
-  | inr other ↦ was t (subst (λ b. (b || has_number xs t) ≡ true) (ne_eqb s t other)
-      (sym (has-with s xs t) ∙ is))
-]
+numbers-with s xs known was t is = grind (arith, common_steps, cases_eq, ne_eqb, has-with)
 
 numbers-without : (s : ℕ) (xs : List ℕ) → AreNumbers xs → AreNumbers (without_student s xs)
 numbers-without s xs was t is =

@@ -1,7 +1,8 @@
 -- The office after a batch.
+use Rattle.std.proofs.lemmas.Grind.{common_steps}
 use Rattle.std.proofs.Common.{◌≡◌, ◌≢◌, ◌∙◌, ℕ, ◌<◌, ◌≤◌, Bool, true, false, List, [], ◌∷◌, length, Option, Some, None, Result, Ok, Err, refl, ap, sym, arith, subst, if◌then◌else◌}
 use Rattle.std.specs.Prelude.{◌==◌, nat_lt}
-use Rattle.std.specs.List.{AllByRecursion, list_all}
+use Rattle.std.specs.List.{AllByRecursion}
 use Rattle.std.proofs.lemmas.Bool.{eqb-false, ltb-true}
 use Rattle.std.proofs.lemmas.List.Elements.{All-cons, All-from_recursion}
 use Rattle.std.proofs.lemmas.List.Kept.{AllPairs-cons}
@@ -11,16 +12,15 @@ use Rattle.exam_model.specs.Fits.{Fits}
 use Rattle.exam_model.specs.Instance.{Session}
 use Rattle.exam_model.specs.Timetable.{Placing}
 use Rattle.exam_model.specs.declared.change.Change.{Change}
-use Rattle.exam_draft.specs.declared.fault.EditFault.TheVariants.{NoSuch}
 use Rattle.office_files.specs.declared.fault.FileFault.{FileFault}
-use Rattle.office_model.specs.BatchLines.{enrolment_result, no_counts}
-use Rattle.office_model.specs.Batches.{enrolled_by, batch_numbered, newly_enrolled, same_bytes}
-use Rattle.office_model.specs.Commands.{CommandResult, renamed_fault, records_or_refusal}
+use Rattle.office_model.specs.BatchLines.{no_counts}
+use Rattle.office_model.specs.Batches.{enrolled_by, batch_numbered, newly_enrolled}
+use Rattle.office_model.specs.Commands.{renamed_fault, records_or_refusal}
 use Rattle.office_model.specs.Office.{AreEnrolled, AreKept, AreRecords, IsKeptBatch, IsOffice, KeptBatch, OfficeState, Records}
 use Rattle.office_model.specs.declared.counts.Counts.{Counts}
 use Rattle.office_model.specs.declared.fault.Refusal.TheVariants as refusal
 use Rattle.office_model.specs.declared.fault.StoreFault.{StoreFault}
-use Rattle.office_model.specs.declared.fault.StoreFault.TheVariants.{BatchDiffers, Refused, TooMany}
+use Rattle.office_model.specs.declared.fault.StoreFault.TheVariants.{Refused, TooMany}
 use Rattle.office_model.proofs.RecordLemmas.{are_enrolled}
 use Rattle.office_enrolment.specs.AfterBatch.{after_batch}
 use Rattle.office_enrolment.specs.Keeping.{batch_judged, batch_stored, records_with_batch}
@@ -33,31 +33,14 @@ pub as_office : (number : ℕ) (bytes : List ℕ) (changes : List Change) (r : R
     → length r.enrolments ≡ length r.session.exams
     → newly_enrolled number bytes changes r
     ≡ batch_judged number bytes changes r
-as_office number bytes changes r exams =
-    let E : Enrolled = r.enrolments in
-    let keep : Counts × Enrolled → CommandResult Counts = batch_stored number bytes r in
-    let exist : ℕ → Bool = λ (n : ℕ). list_all (λ (c : Change). nat_lt c.exam n) changes in
-    let fault : StoreFault = Refused (refusal.Edit NoSuch) in
-    let first : (b : Bool) → (unless b fault >>= λ _. enrolment_result changes E no_counts >>= keep)
-    ≡ ((unless b fault >>= λ _. enrolment_result changes E no_counts) >>= keep)
-    = λ (b : Bool). elim b as (λ t. (unless t fault >>= λ _. enrolment_result changes E no_counts >>= keep)
-    ≡ ((unless t fault >>= λ _. enrolment_result changes E no_counts) >>= keep)) [
-      | true ↦ refl
-      | false ↦ refl
-    ] in
-    ap (λ (n : ℕ). unless (exist n) fault >>= λ _. enrolment_result changes E no_counts >>= keep)
-    (sym exams)
-    ∙ first (exist (length E))
+as_office number bytes changes r exams = grind (arith, common_steps)
 
 -- ---- the enrolments
 
 -- as many exams as before
 pub exams_after : (changes : List Change) (E : Enrolled) (done : Counts × Enrolled)
     → after_batch changes E ≡ Ok done → length done.1 ≡ length E
-exams_after changes E done is =
-    ap (λ (F : Enrolled). length F)
-    (all_after changes E no_counts done (accepted changes E done is).1)
-    ∙ all_exams changes E
+exams_after changes E done is = grind (arith, common_steps, all_after, accepted, all_exams)
 
 pub enrolled_after : (I : Session) (changes : List Change) (E : Enrolled) (done : Counts × Enrolled)
     → HaveNumbers changes → AreEnrolled I E → after_batch changes E ≡ Ok done → AreEnrolled I done.1
@@ -69,11 +52,7 @@ enrolled_after I changes E done known was is =
 -- a timetable still fits
 pub fits_after : (I : Session) (changes : List Change) (E : Enrolled) (T : Placing)
     (done : Counts × Enrolled) → after_batch changes E ≡ Ok done → Fits I E T → Fits I done.1 T
-fits_after I changes E T done is fits = record {
-  enrolments = exams_after changes E done is ∙ fits.enrolments;
-  timetable = fits.timetable;
-  places = fits.places;
-}
+fits_after I changes E T done is fits = grind (arith, common_steps, exams_after)
 
 -- ---- the batches
 
@@ -154,16 +133,7 @@ module _ (number : ℕ) (bytes : List ℕ) (small : number ≤ 999999999)
   loaded_after changes r counts new None known none were gives =
       new_after changes r counts new (after_batch changes r.enrolments) known none refl were
       (sym (as_office number bytes changes r were.enrolled.exams) ∙ gives)
-  loaded_after changes r counts new (Some kept) known there were gives =
-      let gave : Counts × OfficeState = (kept.counts, Some r) in
-      let given : Counts × OfficeState = (counts, new) in
-      elim (same_bytes kept.bytes bytes) as (λ b.
-      (unless b BatchDiffers >>= λ _. Ok gave) ≡ Ok given → IsOffice new) [
-        | true ↦ λ same.
-            let pair : gave ≡ given = cc same in
-            subst IsOffice (ap (λ (p : Counts × OfficeState). p.1) pair) were
-        | false ↦ λ other. absurd (cc other)
-      ] gives
+  loaded_after changes r counts new (Some kept) known there were gives = grind (arith, common_steps)
 
 -- the office after a batch that was read is an office
 pub office_after : (number : ℕ) (bytes : List ℕ) (read : Result (List Change) FileFault)

@@ -1,9 +1,8 @@
 -- A batch changes the exams of no student but those of the lines that act.
-use Rattle.std.proofs.Common.{◌≡◌, ◌≢◌, ◌∙◌, ℕ, Bool, true, false, List, [], ◌∷◌, length, map, set, get_or-set_other, get_or-set_same, Ok, inl, inr, refl, ap, if◌then◌else◌}
-use Rattle.std.specs.Prelude.{◌==◌}
+use Rattle.std.proofs.lemmas.Grind.{common_steps}
+use Rattle.std.proofs.Common.{◌≡◌, ◌≢◌, ◌∙◌, ℕ, Bool, true, false, List, [], ◌∷◌, map, set, get_or-set_other, get_or-set_same, Ok, refl, ap, if◌then◌else◌, arith}
 use Rattle.std.proofs.lemmas.Bool.{cases_eq, cases_lt, eqb-false, ne_eqb, or_parts}
 use Rattle.std.proofs.lemmas.List.{set_past}
-use Rattle.exam_model.specs.Changes.{with_pair, with_student, without_pair, without_student}
 use Rattle.exam_model.specs.Enrolments.{AreEnrolments, Enrolled, has, has_number, students}
 use Rattle.exam_model.specs.declared.change.Change.{Change}
 use Rattle.exam_model.proofs.StudentLemmas.{has-with, has-without}
@@ -16,27 +15,13 @@ use Rattle.office_enrolment.proofs.LineLemmas.{accepted, all_after, line_again, 
 -- if a new list of an exam has a student as before, the student sits each exam as before
 has_put : (E : Enrolled) (e t f : ℕ) (new : List ℕ)
     → has_number new t ≡ has_number (students E e) t → has (set E e new) t f ≡ has E t f
-has_put E e t f new same = elim (cases_lt e (length E)) [
-  | inl lt ↦ elim (cases_eq f e) [
-    | inl here ↦ rw (here, get_or-set_same E e new [] lt) same
-    | inr other ↦ rw (get_or-set_other E e f new [] other) refl
-  ]
-  | inr past ↦ rw (set_past E e new past) refl
-]
+has_put E e t f new same =
+    grind (arith, common_steps, cases_lt, cases_eq, get_or-set_same, get_or-set_other, set_past)
 
 -- a line changes the exams of its own student only
 line_others : (change : Change) (E : Enrolled) (t f : ℕ) → change.student ≢ t
     → has (after_change change E) t f ≡ has E t f
-line_others change E t f other =
-    let s = change.student in
-    let e = change.exam in
-    elim change.add
-    as (λ b. has (if b then with_pair E s e else without_pair E s e) t f ≡ has E t f) [
-      | true ↦ has_put E e t f (with_student s (students E e))
-          (has-with s (students E e) t ∙ rw (ne_eqb s t other) refl)
-      | false ↦ has_put E e t f (without_student s (students E e))
-          (has-without s (students E e) t ∙ rw (ne_eqb s t other) refl)
-    ]
+line_others change E t f other = grind (arith, common_steps, has_put, has-with, ne_eqb, has-without)
 
 lines_others : (changes : List Change) (E : Enrolled) → Ascend E → (t f : ℕ)
     → has_number (map (λ (line : Change). line.student) (lines_with_effect changes E)) t ≡ false
@@ -54,11 +39,7 @@ lines_others (change ∷ changes) E up t f none =
         (if b then change ∷ lines_with_effect changes (after_change change E)
         else lines_with_effect changes (after_change change E))) t ≡ false
         → has (after_changes changes (after_change change E)) t f ≡ has E t f
-    go true acted more none =
-        let parts = or_parts (change.student == t)
-        (has_number (map (λ (line : Change). line.student)
-        (lines_with_effect changes (after_change change E))) t) none in
-        more parts.1 ∙ line_others change E t f (eqb-false change.student t parts.0)
+    go true acted more none = grind (arith, common_steps, or_parts, line_others, eqb-false)
     go false idle more none =
         more none ∙ ap (λ (F : Enrolled). has F t f) (line_again change E up idle)
 

@@ -1,6 +1,7 @@
 -- The list of all pairs if one pair is added or removed.
-use Rattle.std.proofs.Common.{◌≡◌, ◌≢◌, ◌∙◌, ℕ, zero, suc, ◌+◌, ◌<◌, Bool, true, false, List, [], ◌∷◌, ◌++◌, filter, length, refl, ap, ap₂, sym, inl, inr, arith, subst}
-use Rattle.std.specs.Prelude.{◌==◌, ◌||◌, ◌&&◌, not, IsPermutation}
+use Rattle.std.proofs.lemmas.Grind.{common_steps}
+use Rattle.std.proofs.Common.{◌≡◌, ◌≢◌, ◌∙◌, ℕ, zero, suc, ◌+◌, ◌<◌, Bool, true, false, List, [], ◌∷◌, ◌++◌, filter, length, refl, ap, sym, arith, subst}
+use Rattle.std.specs.Prelude.{◌==◌, ◌&&◌, not, IsPermutation}
 use Rattle.std.proofs.lemmas.Bool.{eq-eqb, ne_eqb, cases_eq, or_parts}
 use Rattle.std.proofs.lemmas.List.Elements.{filter-append, filter_agree}
 use Rattle.std.proofs.lemmas.List.Sorted.{IsPermutation-refl, IsPermutation-sym, IsPermutation-cons, IsPermutation-map, IsPermutation-trans, IsPermutation-middle, IsPermutation-append_left, IsPermutation-append_right}
@@ -16,29 +17,13 @@ use Rattle.office_enrolment.proofs.FilterLemmas.{filter-map}
 -- adding a student who is there doesn't change the list
 pub with_again : (s : ℕ) (xs : List ℕ) → IsAscending xs → has_number xs s ≡ true
     → with_student s xs ≡ xs
-with_again s xs up is =
-    same_list (with_student s xs) xs (ascending-with s xs up) up (λ t. has-with s xs t ∙ there t)
-  where
-    there : (t : ℕ) → ((s == t) || has_number xs t) ≡ has_number xs t
-    there t = elim (cases_eq s t) [
-      | inl same ↦ subst (λ z. ((s == z) || has_number xs z) ≡ has_number xs z) same
-          (rw (eq-eqb s s refl) (sym is))
-      | inr other ↦ rw (ne_eqb s t other) refl
-    ]
+with_again s xs up is = grind (arith, common_steps, same_list, ascending-with, has-with, cases_eq, eq-eqb, ne_eqb)
 
 -- removing a student who isn't there doesn't change the list
 pub without_again : (s : ℕ) (xs : List ℕ) → IsAscending xs → has_number xs s ≡ false
     → without_student s xs ≡ xs
 without_again s xs up isnt =
-    same_list (without_student s xs) xs (ascending-without s xs up) up
-    (λ t. has-without s xs t ∙ absent t)
-  where
-    absent : (t : ℕ) → (not (s == t) && has_number xs t) ≡ has_number xs t
-    absent t = elim (cases_eq s t) [
-      | inl same ↦ subst (λ z. (not (s == z) && has_number xs z) ≡ has_number xs z) same
-          (rw (eq-eqb s s refl) (sym isnt))
-      | inr other ↦ rw (ne_eqb s t other) refl
-    ]
+    grind (arith, common_steps, same_list, ascending-without, has-without, cases_eq, eq-eqb, ne_eqb)
 
 -- a new student is added to all others
 pub with_new : (s : ℕ) (xs : List ℕ) → has_number xs s ≡ false
@@ -105,32 +90,17 @@ others_from : (s e f : ℕ) (E : Enrolled) → e < f
     → filter (is_other s e) (pairs_from f E) ≡ pairs_from f E
 others_from s e f [] lt = refl
 others_from s e f (xs ∷ rest) lt =
-    filter-append (is_other s e) (pairs_at f xs) (pairs_from (f + 1) rest)
-    ∙ ap₂ (λ (ps qs : List Pair). ps ++ qs) (others_at s e f xs (λ same. omega arith))
-    (others_from s e (f + 1) rest (omega arith))
+    grind (arith, common_steps, filter-append, others_at, others_from s e (f + 1) rest (omega arith))
 
 -- the exam's own pairs, except the student's, are others
 own_at : (s e : ℕ) (xs : List ℕ)
     → filter (is_other s e) (pairs_at e xs) ≡ pairs_at e (without_student s xs)
-own_at s e xs =
-    filter-map (is_other s e) (λ t. pair e t) xs
-    ∙ ap (pairs_at e) (filter_agree (λ t. is_other s e (pair e t)) (λ t. not (t == s)) same xs)
-  where
-    same : (t : ℕ) → not ((t == s) && (e == e)) ≡ not (t == s)
-    same t = rw (eq-eqb e e refl, and_true (t == s)) refl
+own_at s e xs = grind (arith, common_steps, filter-map, filter_agree, eq-eqb, and_true)
 
 -- removing a pair leaves all others
 pub pairs-without : (s e f k : ℕ) (E : Enrolled) → e ≡ f + k
     → filter (is_other s e) (pairs_from f E) ≡ pairs_from f (without_pair E s k)
 pairs-without s e f k [] is = refl
-pairs-without s e f zero (xs ∷ rest) is =
-    let here : f ≡ e = omega arith in
-    filter-append (is_other s e) (pairs_at f xs) (pairs_from (f + 1) rest)
-    ∙ ap₂ (λ (ps qs : List Pair). ps ++ qs)
-    (subst (λ (g : ℕ). filter (is_other s e) (pairs_at g xs) ≡ pairs_at g (without_student s xs))
-    (sym here) (own_at s e xs))
-    (others_from s e (f + 1) rest (omega arith))
+pairs-without s e f zero (xs ∷ rest) is = grind (arith, common_steps, filter-append, own_at, others_from)
 pairs-without s e f (suc k) (xs ∷ rest) is =
-    filter-append (is_other s e) (pairs_at f xs) (pairs_from (f + 1) rest)
-    ∙ ap₂ (λ (ps qs : List Pair). ps ++ qs) (others_at s e f xs (λ same. omega arith))
-    (pairs-without s e (f + 1) k rest (omega arith))
+    grind (arith, common_steps, filter-append, others_at, pairs-without s e (f + 1) k rest (omega arith))

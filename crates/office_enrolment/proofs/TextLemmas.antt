@@ -1,20 +1,18 @@
 -- A text describes at most as many changes as it has bytes, each of a student number within its
 -- limit.
-use Rattle.std.proofs.Common.{◌≡◌, ℕ, zero, suc, ◌+◌, ◌-◌, ◌≤◌, Bool, true, false, List, [], ◌∷◌, length, map, Option, Some, None, Result, Ok, Err, refl, ap, arith, if◌then◌else◌}
-use Rattle.std.specs.Prelude.{nat_le}
+use Rattle.std.proofs.lemmas.Grind.{common_steps}
+use Rattle.std.proofs.Common.{◌≡◌, ℕ, zero, suc, ◌+◌, ◌≤◌, Bool, true, false, List, [], ◌∷◌, length, map, Result, Ok, Err, ap, arith, if◌then◌else◌}
 use Rattle.std.specs.List.{AllByRecursion}
 use Rattle.std.proofs.lemmas.Bool.{leb-true}
 use Rattle.std.proofs.lemmas.List.{length-map}
-use Rattle.csv.specs.Machine.{Read, next_record}
-use Rattle.csv.specs.Reading.{default_config, is_bom, records_from, records_next, strip_bom}
+use Rattle.csv.specs.Reading.{default_config, is_bom, records_from, strip_bom}
 use Rattle.csv.specs.declared.parser.State.{State}
 use Rattle.exam_terms.specs.Refusing.{◌>>=◌, unless}
-use Rattle.exam_terms.specs.declared.limits.TheConstants.{MAX_EXAMS, MAX_STUDENT}
 use Rattle.exam_model.specs.declared.change.Change.{Change}
-use Rattle.office_files.specs.Numbers.{at_most, is_number, number, read_on}
+use Rattle.office_files.specs.Numbers.{at_most, number}
 use Rattle.office_files.specs.declared.fault.FaultKind.{FaultKind}
-use Rattle.office_files.specs.declared.fault.FaultKind.TheVariants.{BadNumber, OutOfRange, StrayText}
-use Rattle.office_batches.specs.Records.{Record, action, change_in, field, has_three}
+use Rattle.office_files.specs.declared.fault.FaultKind.TheVariants.{StrayText}
+use Rattle.office_batches.specs.Records.{Record, change_in}
 use Rattle.office_batches.specs.BatchText.{BatchText, records_in}
 
 -- ---- how many
@@ -22,13 +20,7 @@ use Rattle.office_batches.specs.BatchText.{BatchText, records_in}
 few_records : (n : ℕ) (s : State) (xs : List ℕ) → length (records_from default_config n s xs) ≤ n
 unfolding records_from
 few_records zero s xs = omega arith
-few_records (suc n) s xs = by (next_record default_config s [] [] xs) (few_records n)
-  where
-    by : (o : Option Read)
-        → ((t : State) (ys : List ℕ) → length (records_from default_config n t ys) ≤ n)
-        → length (records_next (records_from default_config n) o) ≤ suc n
-    by None few = omega arith
-    by (Some p) few = omega (arith, few p.1 p.2)
+few_records (suc n) s xs = grind (arith, common_steps, few_records n)
 
 chosen_within : (b : Bool) (xs ys : List ℕ) → length xs ≤ length ys
     → length (if b then xs else ys) ≤ length ys
@@ -60,22 +52,10 @@ few_changes b changes text =
 -- ---- the students
 
 at_most-within : (limit n m : ℕ) → at_most limit n ≡ Ok m → m ≤ limit
-at_most-within limit n m is =
-    elim (nat_le n limit) as (λ b. nat_le n limit ≡ b
-    → (if b then Ok n else Err OutOfRange) ≡ Ok m → m ≤ limit) [
-      | true ↦ λ le same. let equal : n ≡ m = cc same in
-          let within = leb-true n limit le in
-          omega arith
-      | false ↦ λ gt same. absurd (cc same)
-    ] refl is
+at_most-within limit n m is = grind (arith, common_steps, leb-true)
 
 number-within : (limit : ℕ) (text : List ℕ) (n : ℕ) → number limit text ≡ Ok n → n ≤ limit
-number-within limit text n is =
-    elim (is_number text)
-    as (λ b. (if b then at_most limit (read_on 0 text) else Err BadNumber) ≡ Ok n → n ≤ limit) [
-      | true ↦ λ said. at_most-within limit (read_on 0 text) n said
-      | false ↦ λ said. absurd (cc said)
-    ] is
+number-within limit text n is = grind (arith, common_steps, at_most-within)
 
 -- the change of these three fields, if nothing follows them
 abbrev made : Result ℕ FaultKind → Result ℕ FaultKind → Result Bool FaultKind → Bool
@@ -99,10 +79,7 @@ student_of (Ok s) (Ok e) (Ok a) true change is =
 
 student-within : (fields : Record) (change : Change) → change_in fields ≡ Ok change
     → change.student ≤ 999999999
-student-within fields change is =
-    number-within MAX_STUDENT (field fields 0) change.student
-    (student_of (number MAX_STUDENT (field fields 0)) (number (MAX_EXAMS - 1) (field fields 1))
-    (action fields) (has_three fields) change is)
+student-within fields change is = grind (arith, common_steps, number-within, student_of)
 
 pub have_numbers : (others : List Record) (changes : List Change)
     → map change_in others ≡ map Ok changes
