@@ -20,9 +20,9 @@ use Rattle.exam_score.specs.Kinds.{TableKind, in_table, over_night, cost_in, tab
 use Rattle.exam_score.specs.PairSums.{ArePairParts}
 use Rattle.exam_score.specs.declared.amounts.Amounts.{Amounts}
 use Rattle.exam_score.specs.CostOrder.{kind_cost-swap}
-use Rattle.exam_score.specs.Lines.{IsTable}
-use Rattle.exam_score.specs.declared.lines.Line.{Line}
-use Rattle.exam_score.proofs.LineLemmas.{free_at, table_beyond}
+use Rattle.exam_score.specs.CostRows.{IsTable}
+use Rattle.exam_score.specs.declared.cost_rows.CostRow.{CostRow}
+use Rattle.exam_score.proofs.CostRowLemmas.{free_at, table_beyond}
 use Rattle.exam_score.proofs.CostLemmas.{cost_in-small}
 use Rattle.exam_score.proofs.KindLemmas.{at_table, of_kinds}
 use Rattle.exam_model.specs.declared.parts.Period.{Period}
@@ -113,19 +113,19 @@ night_free periods weights (Some a) (Some b) (inl after) =
 night_free periods weights (Some a) (Some b) (inr before) =
     night_apart periods weights b.period a.period (omega arith)
 
-some_line : (lines : List Line) (p : ℕ) → p < length lines
-    → (line : Line) × (slice_get lines p ≡ Some line)
-some_line [] p lt = absurd (omega arith)
-some_line (x ∷ xs) p lt = (get_or (x ∷ xs) p x, slice_get-get_or (x ∷ xs) p x lt)
+some_cost_row : (cost_rows : List CostRow) (p : ℕ) → p < length cost_rows
+    → (cost_row : CostRow) × (slice_get cost_rows p ≡ Some cost_row)
+some_cost_row [] p lt = absurd (omega arith)
+some_cost_row (x ∷ xs) p lt = (get_or (x ∷ xs) p x, slice_get-get_or (x ∷ xs) p x lt)
 
--- the periods of all lines reach no farther back than n
-pub is_reach : (I : Session) (lines : List Line) (n : ℕ) → IsTable I lines
-    → ((p : ℕ) (line : Line) → p < length lines → slice_get lines p ≡ Some line
-    → p ≤ line.first + n) → IsReach I n
-is_reach I lines n table back = record {
-  free = λ k p q far. elim (cases_lt p (length lines)) [
+-- the periods of all cost rows reach no farther back than n
+pub is_reach : (I : Session) (cost_rows : List CostRow) (n : ℕ) → IsTable I cost_rows
+    → ((p : ℕ) (cost_row : CostRow) → p < length cost_rows → slice_get cost_rows p ≡ Some cost_row
+    → p ≤ cost_row.first + n) → IsReach I n
+is_reach I cost_rows n table back = record {
+  free = λ k p q far. elim (cases_lt p (length cost_rows)) [
     | inl within ↦
-        (let found = some_line lines p within in
+        (let found = some_cost_row cost_rows p within in
         let le = back p found.0 within found.1 in
         free_at I p q ((table.first p found.0 found.1).free.each q (omega arith)) k)
     | inr beyond ↦ table_beyond I k p q (omega (arith, table.count))

@@ -11,7 +11,7 @@ pub mod FrontLemmas
 pub mod FurtherLemmas
 pub mod MixedLemmas
 pub mod SmallLemmas
-pub mod LineLemmas
+pub mod CostRowLemmas
 pub mod EditedLemmas
 pub mod EditedSumLemmas
 pub mod FoldLemmas

@@ -1,4 +1,4 @@
--- Tallies filed in slots: one more exam counted, in an old tally or in a new one.
+-- Tallies filed in buckets: one more exam counted, in an old tally or in a new one.
 use Rattle.std.proofs.Common.{◌≡◌, ◌≢◌, ℕ, ◌+◌, ◌-◌, ◌*◌, ◌<◌, ◌≤◌, List, [], ◌∷◌, ◌++◌, length, get_or, set, sum_by, All, inl, inr, refl, sym, subst, ◌∙◌, ap, arith, length-set}
 use Rattle.std.proofs.Math.Nat.{mul_comm}
 use Rattle.std.proofs.lemmas.Bool.{cases_eq, cases_lt}
@@ -6,47 +6,47 @@ use Rattle.std.proofs.lemmas.List.{get_or-set_same, get_or-set_other, get_or_app
 use Rattle.std.proofs.lemmas.List.Sums.{sum_by-set}
 use Rattle.exam_score.specs.Rows.{row_at}
 use Rattle.exam_score.specs.Tallies.{tally_sum}
-use Rattle.exam_score.specs.TallyLinks.{slot_of_student, IsLast, AreCrowded, AreLinkedIn, AreFiled, Extends, Grows}
+use Rattle.exam_score.specs.TallyLinks.{bucket_of_student, IsLast, AreCrowded, AreLinkedIn, AreFiled, Extends, Grows}
 use Rattle.exam_score.specs.declared.rows.Row.{Row}
 use Rattle.exam_score.specs.declared.tallies.Tally.{Tally}
 
--- ---- the last tally of a slot
+-- ---- the last tally of a bucket
 
 -- only the students matter
-last_same : (m : ℕ) (xs ys : List Tally) (slot n k : ℕ)
+last_same : (m : ℕ) (xs ys : List Tally) (bucket n k : ℕ)
     → ((j : ℕ) (d : Tally) → j < k → (get_or xs j d).student ≡ (get_or ys j d).student)
-    → IsLast xs m slot n k → IsLast ys m slot n k
-last_same m xs ys slot n k same h = record {
+    → IsLast xs m bucket n k → IsLast ys m bucket n k
+last_same m xs ys bucket n k same h = record {
   within = h.within;
   here = λ d some.
-      ap (λ s. slot_of_student m s) (sym (same (n - 1) d (let w = h.within in omega arith)))
+      ap (λ s. bucket_of_student m s) (sym (same (n - 1) d (let w = h.within in omega arith)))
       ∙ h.here d some;
   none = λ j d from below is.
-      h.none j d from below (ap (λ s. slot_of_student m s) (same j d below) ∙ is);
+      h.none j d from below (ap (λ s. bucket_of_student m s) (same j d below) ∙ is);
 }
 
--- one more tally, of another slot
-last_more : (m : ℕ) (xs : List Tally) (slot n k : ℕ)
-    → ((d : Tally) → slot_of_student m (get_or xs k d).student ≢ slot) → IsLast xs m slot n k
-    → IsLast xs m slot n (k + 1)
-last_more m xs slot n k other h = record {
+-- one more tally, of another bucket
+last_more : (m : ℕ) (xs : List Tally) (bucket n k : ℕ)
+    → ((d : Tally) → bucket_of_student m (get_or xs k d).student ≢ bucket) → IsLast xs m bucket n k
+    → IsLast xs m bucket n (k + 1)
+last_more m xs bucket n k other h = record {
   within = let w = h.within in omega arith;
   here = h.here;
   none = λ j d from below. elim (cases_eq j k) [
     | inl last ↦
-        (λ is. other d (ap (λ v. slot_of_student m (get_or xs v d).student) (sym last) ∙ is))
+        (λ is. other d (ap (λ v. bucket_of_student m (get_or xs v d).student) (sym last) ∙ is))
     | inr before ↦ h.none j d from (omega arith)
   ];
 }
 
--- one more tally, of this slot
-last_new : (m : ℕ) (xs : List Tally) (slot k : ℕ)
-    → ((d : Tally) → slot_of_student m (get_or xs k d).student ≡ slot)
-    → IsLast xs m slot (k + 1) (k + 1)
-last_new m xs slot k own = record {
+-- one more tally, of this bucket
+last_new : (m : ℕ) (xs : List Tally) (bucket k : ℕ)
+    → ((d : Tally) → bucket_of_student m (get_or xs k d).student ≡ bucket)
+    → IsLast xs m bucket (k + 1) (k + 1)
+last_new m xs bucket k own = record {
   within = omega arith;
   here = λ d some.
-      ap (λ v. slot_of_student m (get_or xs v d).student) (let e : k + 1 - 1 ≡ k = omega arith in e)
+      ap (λ v. bucket_of_student m (get_or xs v d).student) (let e : k + 1 - 1 ≡ k = omega arith in e)
       ∙ own d;
   none = λ j d from below. absurd (omega arith);
 }
@@ -83,11 +83,11 @@ alike_set xs i y within student period before = record {
 linked_alike : (m : ℕ) (xs ys : List Tally) → AreAlike xs ys → AreLinkedIn xs m → AreLinkedIn ys m
 linked_alike m xs ys same h = record {
   links = λ k d lt.
-      let link : IsLast ys m (slot_of_student m (get_or xs k d).student) (get_or xs k d).before k
-      = last_same m xs ys (slot_of_student m (get_or xs k d).student) (get_or xs k d).before k
+      let link : IsLast ys m (bucket_of_student m (get_or xs k d).student) (get_or xs k d).before k
+      = last_same m xs ys (bucket_of_student m (get_or xs k d).student) (get_or xs k d).before k
       (λ j e l. same.student j e) (h.links k d (let c = same.count in omega arith)) in
-      subst (λ n. IsLast ys m (slot_of_student m (get_or ys k d).student) n k) (same.before k d)
-      (subst (λ s. IsLast ys m (slot_of_student m s) (get_or xs k d).before k)
+      subst (λ n. IsLast ys m (bucket_of_student m (get_or ys k d).student) n k) (same.before k d)
+      (subst (λ s. IsLast ys m (bucket_of_student m s) (get_or xs k d).before k)
       (same.student k d) link);
   ascending = λ i j d l m.
       let le = h.ascending i j d l (let c = same.count in omega arith) in
@@ -100,9 +100,9 @@ pub filed_alike : (m : ℕ) (xs ys : List Tally) (last : List ℕ) → AreAlike 
     → AreFiled ys last m
 filed_alike m xs ys last same h = record {
   count = h.count;
-  lasts = λ slot lt. subst (λ k. IsLast ys m slot (get_or last slot 0) k) (sym same.count)
-      (last_same m xs ys slot (get_or last slot 0) (length xs) (λ j e l. same.student j e)
-      (h.lasts slot lt));
+  lasts = λ bucket lt. subst (λ k. IsLast ys m bucket (get_or last bucket 0) k) (sym same.count)
+      (last_same m xs ys bucket (get_or last bucket 0) (length xs) (λ j e l. same.student j e)
+      (h.lasts bucket lt));
   linked = linked_alike m xs ys same h.linked;
 }
 
@@ -143,23 +143,23 @@ student_kept : (xs : List Tally) (x : Tally) (k : ℕ) → k ≤ length xs → (
 student_kept xs x k le j d lt = ap (λ z. z.student) (sym (get_kept xs x j d (omega arith)))
 
 linked_push : (m : ℕ) (xs : List Tally) (x : Tally) → All (λ z. z.period ≤ x.period) xs
-    → IsLast xs m (slot_of_student m x.student) x.before (length xs) → AreLinkedIn xs m
+    → IsLast xs m (bucket_of_student m x.student) x.before (length xs) → AreLinkedIn xs m
     → AreLinkedIn (xs ++ x ∷ []) m
 linked_push m xs x not_later link h = record {
   links = λ k d lt. elim (cases_eq k (length xs)) [
     | inl last ↦
-        subst (λ v. IsLast (xs ++ x ∷ []) m (slot_of_student m (get_or (xs ++ x ∷ []) v d).student)
+        subst (λ v. IsLast (xs ++ x ∷ []) m (bucket_of_student m (get_or (xs ++ x ∷ []) v d).student)
         (get_or (xs ++ x ∷ []) v d).before v)
         (sym last)
-        (subst (λ z. IsLast (xs ++ x ∷ []) m (slot_of_student m z.student) z.before (length xs))
+        (subst (λ z. IsLast (xs ++ x ∷ []) m (bucket_of_student m z.student) z.before (length xs))
         (sym (get_new xs x d))
-        (last_same m xs (xs ++ x ∷ []) (slot_of_student m x.student) x.before (length xs)
+        (last_same m xs (xs ++ x ∷ []) (bucket_of_student m x.student) x.before (length xs)
         (student_kept xs x (length xs) (omega arith)) link))
     | inr other ↦
         (let before : k < length xs = omega (arith, length_push xs x) in
-        subst (λ z. IsLast (xs ++ x ∷ []) m (slot_of_student m z.student) z.before k)
+        subst (λ z. IsLast (xs ++ x ∷ []) m (bucket_of_student m z.student) z.before k)
         (sym (get_kept xs x k d before))
-        (last_same m xs (xs ++ x ∷ []) (slot_of_student m (get_or xs k d).student)
+        (last_same m xs (xs ++ x ∷ []) (bucket_of_student m (get_or xs k d).student)
         (get_or xs k d).before k (student_kept xs x k (omega arith)) (h.links k d before)))
   ];
   ascending = λ i j d l m. elim (cases_eq j (length xs)) [
@@ -182,38 +182,38 @@ linked_push m xs x not_later link h = record {
   ];
 }
 
-pub filed_push : (m : ℕ) (xs : List Tally) (last : List ℕ) (x : Tally) (slot : ℕ)
-    → AreFiled xs last m → slot < length last → slot_of_student m x.student ≡ slot
-    → x.before ≡ get_or last slot 0 → All (λ z. z.period ≤ x.period) xs
-    → AreFiled (xs ++ x ∷ []) (set last slot (length xs + 1)) m
-filed_push m xs last x slot h within own before not_later = record {
-  count = length-set last slot (length xs + 1) ∙ h.count;
+pub filed_push : (m : ℕ) (xs : List Tally) (last : List ℕ) (x : Tally) (bucket : ℕ)
+    → AreFiled xs last m → bucket < length last → bucket_of_student m x.student ≡ bucket
+    → x.before ≡ get_or last bucket 0 → All (λ z. z.period ≤ x.period) xs
+    → AreFiled (xs ++ x ∷ []) (set last bucket (length xs + 1)) m
+filed_push m xs last x bucket h within own before not_later = record {
+  count = length-set last bucket (length xs + 1) ∙ h.count;
   lasts = λ b lt.
-      subst (λ k. IsLast (xs ++ x ∷ []) m b (get_or (set last slot (length xs + 1)) b 0) k)
+      subst (λ k. IsLast (xs ++ x ∷ []) m b (get_or (set last bucket (length xs + 1)) b 0) k)
       (sym (length_push xs x))
-      (elim (cases_eq b slot) [
+      (elim (cases_eq b bucket) [
         | inl same ↦
-            subst (λ n. IsLast (xs ++ x ∷ []) m n (get_or (set last slot (length xs + 1)) n 0)
+            subst (λ n. IsLast (xs ++ x ∷ []) m n (get_or (set last bucket (length xs + 1)) n 0)
             (length xs + 1))
             (sym same)
-            (subst (λ n. IsLast (xs ++ x ∷ []) m slot n (length xs + 1))
-            (sym (get_or-set_same last slot (length xs + 1) 0 within))
-            (last_new m (xs ++ x ∷ []) slot (length xs)
-            (λ d. ap (λ z. slot_of_student m z.student) (get_new xs x d) ∙ own)))
+            (subst (λ n. IsLast (xs ++ x ∷ []) m bucket n (length xs + 1))
+            (sym (get_or-set_same last bucket (length xs + 1) 0 within))
+            (last_new m (xs ++ x ∷ []) bucket (length xs)
+            (λ d. ap (λ z. bucket_of_student m z.student) (get_new xs x d) ∙ own)))
         | inr other ↦
-            (let differ : b ≢ slot = (λ e. omega arith) in
+            (let differ : b ≢ bucket = (λ e. omega arith) in
             let old : IsLast xs m b (get_or last b 0) (length xs) =
-            h.lasts b (let c = length-set last slot (length xs + 1) in omega arith) in
+            h.lasts b (let c = length-set last bucket (length xs + 1) in omega arith) in
             subst (λ n. IsLast (xs ++ x ∷ []) m b n (length xs + 1))
-            (sym (get_or-set_other last slot b (length xs + 1) 0 differ))
+            (sym (get_or-set_other last bucket b (length xs + 1) 0 differ))
             (last_more m (xs ++ x ∷ []) b (get_or last b 0) (length xs)
-            (λ d is. differ (sym is ∙ ap (λ z. slot_of_student m z.student) (get_new xs x d) ∙ own))
+            (λ d is. differ (sym is ∙ ap (λ z. bucket_of_student m z.student) (get_new xs x d) ∙ own))
             (last_same m xs (xs ++ x ∷ []) b (get_or last b 0) (length xs)
             (student_kept xs x (length xs) (omega arith)) old)))
       ]);
   linked = linked_push m xs x not_later
-      (subst (λ n. IsLast xs m (slot_of_student m x.student) n (length xs)) (sym before)
-      (subst (λ b. IsLast xs m b (get_or last slot 0) (length xs)) (sym own) (h.lasts slot within)))
+      (subst (λ n. IsLast xs m (bucket_of_student m x.student) n (length xs)) (sym before)
+      (subst (λ b. IsLast xs m b (get_or last bucket 0) (length xs)) (sym own) (h.lasts bucket within)))
       h.linked;
 }
 
@@ -239,13 +239,13 @@ grown_no_later xs ys p q n h old le k d lt = elim (cases_lt k (length xs)) [
   | inr after ↦ (let e = h.added k d after lt in omega arith)
 ]
 
--- the last tally of a slot exists
-pub place_within : (m : ℕ) (xs : List Tally) (last : List ℕ) (slot n s p : ℕ) → AreFiled xs last m
-    → slot < m → n ≡ get_or last slot n → Extends xs n s p → n - 1 < length xs
-place_within m xs last slot n s p filed lt is found =
-    let within : slot < length last = omega (arith, filed.count) in
-    let here : n ≡ get_or last slot 0 = get_or_read last slot n within is 0 in
-    let le = (filed.lasts slot within).within in
+-- the last tally of a bucket exists
+pub index_within : (m : ℕ) (xs : List Tally) (last : List ℕ) (bucket n s p : ℕ) → AreFiled xs last m
+    → bucket < m → n ≡ get_or last bucket n → Extends xs n s p → n - 1 < length xs
+index_within m xs last bucket n s p filed lt is found =
+    let within : bucket < length last = omega (arith, filed.count) in
+    let here : n ≡ get_or last bucket 0 = get_or_read last bucket n within is 0 in
+    let le = (filed.lasts bucket within).within in
     let some = found.some in
     omega arith
 
@@ -257,50 +257,50 @@ grown_none xs p = record {
   added = λ k d from lt. absurd (omega arith);
 }
 
--- no slot has a tally if there are none
+-- no bucket has a tally if there are none
 pub filed_none : (m : ℕ) (xs : List Tally) (last : List ℕ) → xs ≡ [] → length last ≡ m
-    → ((slot : ℕ) → slot < length last → get_or last slot 0 ≡ 0) → AreFiled xs last m
+    → ((bucket : ℕ) → bucket < length last → get_or last bucket 0 ≡ 0) → AreFiled xs last m
 filed_none m xs last none long clear = record {
   count = long;
-  lasts = λ slot lt. record {
-    within = let z = clear slot lt in omega arith;
-    here = λ d some. absurd (let z = clear slot lt in omega arith);
+  lasts = λ bucket lt. record {
+    within = let z = clear bucket lt in omega arith;
+    here = λ d some. absurd (let z = clear bucket lt in omega arith);
     none = λ j d from below. absurd (omega (arith, ap length none));
   };
   linked = record { links = λ k d lt. absurd (omega (arith, ap length none)); ascending = λ i j d l m. absurd (omega (arith, ap length none)) };
 }
 
--- ---- how crowded the slots are
+-- ---- how crowded the buckets are
 
-pub crowd_none : (sizes : List ℕ) (slots n : ℕ) → length sizes ≡ slots
-    → ((slot : ℕ) → slot < length sizes → get_or sizes slot 0 ≡ 0) → AreCrowded sizes 0 slots n
-crowd_none sizes slots n long zeros = record {
+pub crowd_none : (sizes : List ℕ) (buckets n : ℕ) → length sizes ≡ buckets
+    → ((bucket : ℕ) → bucket < length sizes → get_or sizes bucket 0 ≡ 0) → AreCrowded sizes 0 buckets n
+crowd_none sizes buckets n long zeros = record {
   count = long;
-  each = λ slot lt. omega (arith, zeros slot lt);
+  each = λ bucket lt. omega (arith, zeros bucket lt);
   all = omega arith;
 }
 
--- one more tally in a slot
-pub crowd_more : (sizes : List ℕ) (steps slots n slot : ℕ) → slot < slots → n < 200000
-    → AreCrowded sizes steps slots n
-    → AreCrowded (set sizes slot (get_or sizes slot 0 + 1))
-    (steps + get_or sizes slot 0) slots (n + 1)
-crowd_more sizes steps slots n slot exists few h =
-    let within : slot < length sizes = omega (arith, h.count) in
-    let own = h.each slot within in
+-- one more tally in a bucket
+pub crowd_more : (sizes : List ℕ) (steps buckets n bucket : ℕ) → bucket < buckets → n < 200000
+    → AreCrowded sizes steps buckets n
+    → AreCrowded (set sizes bucket (get_or sizes bucket 0 + 1))
+    (steps + get_or sizes bucket 0) buckets (n + 1)
+crowd_more sizes steps buckets n bucket exists few h =
+    let within : bucket < length sizes = omega (arith, h.count) in
+    let own = h.each bucket within in
     record {
-      count = length-set sizes slot (get_or sizes slot 0 + 1) ∙ h.count;
-      each = λ k lt. elim (cases_eq k slot) [
+      count = length-set sizes bucket (get_or sizes bucket 0 + 1) ∙ h.count;
+      each = λ k lt. elim (cases_eq k bucket) [
         | inl same ↦
-            (let here : get_or (set sizes slot (get_or sizes slot 0 + 1)) k 0
-            ≡ get_or sizes slot 0 + 1
-            = ap (λ j. get_or (set sizes slot (get_or sizes slot 0 + 1)) j 0) same
-            ∙ get_or-set_same sizes slot (get_or sizes slot 0 + 1) 0 within in
+            (let here : get_or (set sizes bucket (get_or sizes bucket 0 + 1)) k 0
+            ≡ get_or sizes bucket 0 + 1
+            = ap (λ j. get_or (set sizes bucket (get_or sizes bucket 0 + 1)) j 0) same
+            ∙ get_or-set_same sizes bucket (get_or sizes bucket 0 + 1) 0 within in
             omega arith)
         | inr other ↦
-            (let here = get_or-set_other sizes slot k (get_or sizes slot 0 + 1) 0
+            (let here = get_or-set_other sizes bucket k (get_or sizes bucket 0 + 1) 0
             (λ e. omega arith) in
-            let old = h.each k (omega (arith, length-set sizes slot (get_or sizes slot 0 + 1))) in
+            let old = h.each k (omega (arith, length-set sizes bucket (get_or sizes bucket 0 + 1))) in
             omega arith)
       ];
       all = let before = h.all in omega arith;

@@ -1,4 +1,4 @@
--- A walk along the tallies of a slot.
+-- A walk along the tallies of a bucket.
 use Rattle.std.proofs.Common.{◌≡◌, ◌≢◌, ℕ, ◌+◌, ◌-◌, ◌*◌, ◌<◌, ◌≤◌, cond, eqb, List, length, take, drop, get_or, sum_by, All, mul-zero, eq-eqb, inl, inr, refl, sym, subst, ◌∙◌, ap, arith, length-take, length-drop}
 use Rattle.std.proofs.lemmas.Bool.{cases_eq, cond-false, ne_eqb}
 use Rattle.std.proofs.lemmas.List.{get_or_default, take-take, get_or-take, get_or-drop}
@@ -10,7 +10,7 @@ use Rattle.exam_lists.proofs.Sums.{sum_by-none, sum_by-same, sum_by-times, sum_b
 use Rattle.exam_lists.proofs.Booleans.{cond_le, cond_same}
 use Rattle.exam_model.proofs.SumLemmas.{sum_pairs-more, sum_pairs-le}
 use Rattle.exam_score.specs.Tallies.{tally_sum, cost_with_tally, tally_pair, tally_cost, row_count}
-use Rattle.exam_score.specs.TallyLinks.{slot_of_student, IsLast, IsOnWay, IsOwnPlace, AreLinkedIn}
+use Rattle.exam_score.specs.TallyLinks.{bucket_of_student, IsLast, IsOnWay, IsLatestOfStudent, AreLinkedIn}
 use Rattle.exam_score.specs.Walk.{row_pair, cost_with}
 use Rattle.exam_score.specs.declared.rows.Row.{Row}
 use Rattle.exam_score.specs.declared.tallies.Tally.{Tally}
@@ -32,9 +32,9 @@ pub free_period : (cost : ℕ → ℕ → ℕ) (y x : Tally) → cost x.period y
 free_period cost y x none = ap (λ n. x.exams * cond (eqb y.student x.student) n 0) none
     ∙ ap (λ n. x.exams * n) (cond_same (eqb y.student x.student) 0) ∙ mul-zero x.exams
 
--- the tallies between one and the next of its slot are of other students
+-- the tallies between one and the next of its bucket are of other students
 skipped : (m : ℕ) (cost : ℕ → ℕ → ℕ) (xs : List Tally) (y : Tally) (n k : ℕ)
-    → IsLast xs m (slot_of_student m y.student) n k → k ≤ length xs
+    → IsLast xs m (bucket_of_student m y.student) n k → k ≤ length xs
     → sum_by (cost_with_tally cost y) (take k xs) ≡ sum_by (cost_with_tally cost y) (take n xs)
 skipped m cost xs y n k last le =
     let f : Tally → ℕ = cost_with_tally cost y in
@@ -54,18 +54,18 @@ skipped m cost xs y n k last le =
         let apart = last.none (n + j) d (omega arith) within in
         ap (cost_with_tally cost y) here
         ∙ other_student cost y (get_or xs (n + j) d)
-        (λ same. apart (ap (λ s. slot_of_student m s) (sym same)))
+        (λ same. apart (ap (λ s. bucket_of_student m s) (sym same)))
 
 -- ---- one step
 
 link_of : (m : ℕ) (xs : List Tally) (y : Tally) (k : ℕ) → AreLinkedIn xs m → k < length xs
-    → ((d : Tally) → get_or xs k d ≡ y) → IsLast xs m (slot_of_student m y.student) y.before k
+    → ((d : Tally) → get_or xs k d ≡ y) → IsLast xs m (bucket_of_student m y.student) y.before k
 link_of m xs y k linked within here =
     subst_link (get_or xs k y) y (here y) (linked.links k y within)
   where
-    subst_link : (z w : Tally) → z ≡ w → IsLast xs m (slot_of_student m z.student) z.before k
-        → IsLast xs m (slot_of_student m w.student) w.before k
-    subst_link z w e h = subst (λ v. IsLast xs m (slot_of_student m v.student) v.before k) e h
+    subst_link : (z w : Tally) → z ≡ w → IsLast xs m (bucket_of_student m z.student) z.before k
+        → IsLast xs m (bucket_of_student m w.student) w.before k
+    subst_link z w e h = subst (λ v. IsLast xs m (bucket_of_student m v.student) v.before k) e h
 
 -- before the first step
 pub way_starts : (m : ℕ) (xs : List Tally) (y : Tally) (k : ℕ) → AreLinkedIn xs m → k < length xs
@@ -73,21 +73,21 @@ pub way_starts : (m : ℕ) (xs : List Tally) (y : Tally) (k : ℕ) → AreLinked
 way_starts m xs y k linked within here =
     let link = link_of m xs y k linked within here in
     record {
-      slots = m;
+      buckets = m;
       links = linked;
       within = omega (arith, link.within);
-      slot = link.here;
+      bucket = link.here;
     }
 
--- a tally of the slot, followed by the one before it
+-- a tally of the bucket, followed by the one before it
 pub walk_on : (m : ℕ) (cost : ℕ → ℕ → ℕ) (xs : List Tally) (y x : Tally) (n : ℕ) → AreLinkedIn xs m
     → 0 < n → n ≤ length xs → ((d : Tally) → get_or xs (n - 1) d ≡ x)
-    → slot_of_student m x.student ≡ slot_of_student m y.student
+    → bucket_of_student m x.student ≡ bucket_of_student m y.student
     → sum_by (cost_with_tally cost y) (take n xs)
     ≡ cost_with_tally cost y x + sum_by (cost_with_tally cost y) (take x.before xs)
-walk_on m cost xs y x n linked some le here slot =
+walk_on m cost xs y x n linked some le here bucket =
     let f : Tally → ℕ = cost_with_tally cost y in
-    let last = subst (λ s. IsLast xs m s x.before (n - 1)) slot
+    let last = subst (λ s. IsLast xs m s x.before (n - 1)) bucket
     (link_of m xs x (n - 1) linked (omega arith) here) in
     let rest = skipped m cost xs y x.before (n - 1) last (omega arith) in
     let more : sum_by f (take (n - 1 + 1) xs) ≡ sum_by f (take (n - 1) xs) + f x =
@@ -102,36 +102,36 @@ link_below : (m : ℕ) (xs : List Tally) (x : Tally) (n : ℕ) → AreLinkedIn x
 link_below m xs x n linked some le here =
     let w = (link_of m xs x (n - 1) linked (omega arith) here).within in omega arith
 
--- a tally on the way is of the slot of the student
-slot_at : (xs : List Tally) (x : Tally) (n s : ℕ) (way : IsOnWay xs n s) → 0 < n
+-- a tally on the way is of the bucket of the student
+bucket_at : (xs : List Tally) (x : Tally) (n s : ℕ) (way : IsOnWay xs n s) → 0 < n
     → ((d : Tally) → get_or xs (n - 1) d ≡ x)
-    → slot_of_student way.slots x.student ≡ slot_of_student way.slots s
-slot_at xs x n s way some here =
-    ap (λ z. slot_of_student way.slots z.student) (sym (here x)) ∙ way.slot x some
+    → bucket_of_student way.buckets x.student ≡ bucket_of_student way.buckets s
+bucket_at xs x n s way some here =
+    ap (λ z. bucket_of_student way.buckets z.student) (sym (here x)) ∙ way.bucket x some
 
 -- and on to the one before it
 pub way_on : (xs : List Tally) (x : Tally) (n s : ℕ) → IsOnWay xs n s → 0 < n
     → ((d : Tally) → get_or xs (n - 1) d ≡ x) → IsOnWay xs x.before s
 way_on xs x n s way some here =
-    let link = link_of way.slots xs x (n - 1) way.links (omega (arith, way.within)) here in
+    let link = link_of way.buckets xs x (n - 1) way.links (omega (arith, way.within)) here in
     record {
-      slots = way.slots;
+      buckets = way.buckets;
       links = way.links;
       within = omega (arith, link.within, way.within);
-      slot = λ d before. link.here d before ∙ slot_at xs x n s way some here;
+      bucket = λ d before. link.here d before ∙ bucket_at xs x n s way some here;
     }
 
 pub way_below : (xs : List Tally) (x : Tally) (n s : ℕ) → IsOnWay xs n s → 0 < n
     → ((d : Tally) → get_or xs (n - 1) d ≡ x) → x.before < n
-way_below xs x n s way some here = link_below way.slots xs x n way.links some way.within here
+way_below xs x n s way some here = link_below way.buckets xs x n way.links some way.within here
 
 pub cost_on_way : (cost : ℕ → ℕ → ℕ) (xs : List Tally) (y x : Tally) (n s : ℕ) → IsOnWay xs n s
     → 0 < n → ((d : Tally) → get_or xs (n - 1) d ≡ x) → y.student ≡ s
     → sum_by (cost_with_tally cost y) (take n xs)
     ≡ cost_with_tally cost y x + sum_by (cost_with_tally cost y) (take x.before xs)
 cost_on_way cost xs y x n s way some here own =
-    walk_on way.slots cost xs y x n way.links some way.within here
-    (slot_at xs x n s way some here ∙ ap (λ t. slot_of_student way.slots t) (sym own))
+    walk_on way.buckets cost xs y x n way.links some way.within here
+    (bucket_at xs x n s way some here ∙ ap (λ t. bucket_of_student way.buckets t) (sym own))
 
 pub passed : (cost : ℕ → ℕ → ℕ) (xs : List Tally) (y x : Tally) (n s : ℕ) → IsOnWay xs n s → 0 < n
     → ((d : Tally) → get_or xs (n - 1) d ≡ x) → x.student ≢ s → y.student ≡ s
@@ -142,7 +142,7 @@ passed cost xs y x n s way some here other own =
     let none = other_student cost y x (λ same. other (sym same ∙ own)) in
     omega arith
 
--- x is the tally just before place n, and is of the student of y
+-- x is the tally just before index n, and is of the student of y
 pub record IsOwnTally (m : ℕ) (xs : List Tally) (y x : Tally) (n : ℕ) : Type 0 where
   pub linked : AreLinkedIn xs m
   pub some : 0 < n
@@ -174,10 +174,10 @@ pub way_from : (m : ℕ) (xs : List Tally) (y x : Tally) (n : ℕ) → IsOwnTall
 way_from m xs y x n at =
     let link = link_of m xs x (n - 1) at.linked (omega (arith, at.some, at.within)) at.here in
     record {
-      slots = m;
+      buckets = m;
       links = at.linked;
       within = omega (arith, link.within, at.some, at.within);
-      slot = λ d before. link.here d before ∙ ap (λ t. slot_of_student m t) at.own;
+      bucket = λ d before. link.here d before ∙ ap (λ t. bucket_of_student m t) at.own;
     }
 
 -- its cost, and on to the one before it
@@ -187,7 +187,7 @@ pub own_on : (m : ℕ) (cost : ℕ → ℕ → ℕ) (xs : List Tally) (y x : Tal
     ≡ one * x.exams + sum_by (cost_with_tally cost y) (take x.before xs)
 own_on m cost xs y x n one at is =
     let step = walk_on m cost xs y x n at.linked at.some at.within at.here
-    (ap (λ s. slot_of_student m s) at.own) in
+    (ap (λ s. bucket_of_student m s) at.own) in
     let own : cost_with_tally cost y x ≡ one * x.exams =
     ap (λ b. x.exams * cond b (cost x.period y.period) 0)
     (eq-eqb y.student x.student (sym at.own))
@@ -238,13 +238,13 @@ pub starts_alike : (m : ℕ) (cost : ℕ → ℕ → ℕ) (xs : List Tally) (z y
     ≡ sum_by (cost_with_tally cost y) (take k xs)
 starts_alike m cost xs z y k linked within here own =
     sym (skipped m cost xs y z.before k
-    (subst (λ s. IsLast xs m (slot_of_student m s) z.before k) (sym own)
+    (subst (λ s. IsLast xs m (bucket_of_student m s) z.before k) (sym own)
     (link_of m xs z k linked within here)) (omega arith))
 
--- the place that was found from the tally before one is that before this one too
+-- the index that was found from the tally before one is that before this one too
 pub own_from : (m : ℕ) (xs : List Tally) (z : Tally) (k first n : ℕ) → AreLinkedIn xs m
     → k < length xs → ((d : Tally) → get_or xs k d ≡ z)
-    → IsOwnPlace xs z.before z.student first n → IsOwnPlace xs k z.student first n
+    → IsLatestOfStudent xs z.before z.student first n → IsLatestOfStudent xs k z.student first n
 own_from m xs z k first n linked within here found = record {
   within = let link = link_of m xs z k linked within here in
       omega (arith, link.within, found.within);
@@ -253,9 +253,9 @@ own_from m xs z k first n linked within here found = record {
       ∙ found.sums cost y own free;
 }
 
--- without such a place nothing costs anything
+-- without such an index nothing costs anything
 pub own_none : (cost : ℕ → ℕ → ℕ) (xs : List Tally) (y : Tally) (k first n : ℕ)
-    → IsOwnPlace xs k y.student first n → n ≡ 0 → ((q : ℕ) → q < first → cost q y.period ≡ 0)
+    → IsLatestOfStudent xs k y.student first n → n ≡ 0 → ((q : ℕ) → q < first → cost q y.period ≡ 0)
     → 0 ≡ sum_by (cost_with_tally cost y) (take k xs)
 own_none cost xs y k first n found zero free =
     sym (found.sums cost y refl free ∙ ap (λ i. sum_by (cost_with_tally cost y) (take i xs)) zero)

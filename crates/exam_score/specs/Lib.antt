@@ -11,7 +11,7 @@ pub mod FrontLoad
 pub mod MixedDurations
 pub mod Rows
 pub mod Walk
-pub mod Lines
+pub mod CostRows
 pub mod PairSums
 pub mod ConflictCosts
 pub mod Front

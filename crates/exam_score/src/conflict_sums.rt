@@ -6,10 +6,10 @@ ghost use Rattle.exam_model.specs.Timetable.{period_number};
 ghost use Rattle.exam_score.specs.ConflictCosts.{AreInTimetable, IsReach, IsSmallCost, conflicts_cost};
 ghost use Rattle.exam_score.specs.Cost.{night_cost};
 ghost use Rattle.exam_score.specs.Kinds.{EachInTable, TableKind, table_amount, table_cost};
-ghost use Rattle.exam_score.specs.Lines.{costs_of, IsTable};
+ghost use Rattle.exam_score.specs.CostRows.{costs_of, IsTable};
 
 use crate::amounts::{Amounts, NOTHING};
-use crate::lines::{Line, costs_in};
+use crate::cost_rows::{CostRow, costs_in};
 use crate::pair_costs::NightCost;
 use exam_model::{Conflict, Instance, PairCost, PeriodNo, Timetable};
 use std::alloc::{AllocError, Global};
@@ -18,7 +18,7 @@ use std::alloc::{AllocError, Global};
 #[derive(Clone, Copy)]
 struct Costs<'a> {
     instance: &'a Instance,
-    lines: &'a [Line],
+    cost_rows: &'a [CostRow],
     reach: u32,
 }
 
@@ -26,11 +26,11 @@ struct Costs<'a> {
 pub(crate) fn sums_of_conflicts(
     alloc: Global,
     instance: &Instance,
-    lines: &[Line],
+    cost_rows: &[CostRow],
     timetable: &Timetable,
     conflicts: &[Conflict],
 ) -> Result<Amounts<u64>, AllocError>
-    requires table { IsTable instance.now lines.now }
+    requires table { IsTable instance.now cost_rows.now }
     requires exist { AreInTimetable timetable.now conflicts.now }
     requires few { (k : TableKind) →
         IsSmallCost (table_cost instance.now k) timetable.now conflicts.now }
@@ -39,10 +39,10 @@ pub(crate) fn sums_of_conflicts(
 {
     instance.lemma_limits();
     let periods = timetable.periods(alloc)?;
-    let reach = reach_of(instance, lines);
+    let reach = reach_of(instance, cost_rows);
     let costs = Costs {
         instance,
-        lines,
+        cost_rows,
         reach,
     };
     let mut sums = NOTHING;
@@ -53,13 +53,13 @@ pub(crate) fn sums_of_conflicts(
 }
 
 // Returns how far apart two periods are at most that cost anything.
-fn reach_of(instance: &Instance, lines: &[Line]) -> u32
-    requires table { IsTable instance.now lines.now }
+fn reach_of(instance: &Instance, cost_rows: &[CostRow]) -> u32
+    requires table { IsTable instance.now cost_rows.now }
     ensures { IsReach instance.now result }
 {
     let mut reach = 0;
     for period in 0..instance.periods() {
-        let back = period.saturating_sub(lines[period as usize].first);
+        let back = period.saturating_sub(cost_rows[period as usize].first);
         reach += back.saturating_sub(reach); // the greater of both
     }
     reach
@@ -67,7 +67,7 @@ fn reach_of(instance: &Instance, lines: &[Line]) -> u32
 
 // Adds the costs of a conflict, by the periods of its exams.
 fn add_costs(sums: &mut Amounts<u64>, costs: &Costs, periods: &[u32], conflict: &Conflict)
-    requires table { IsTable costs.now.instance.now costs.now.lines.now }
+    requires table { IsTable costs.now.instance.now costs.now.cost_rows.now }
     requires reach { IsReach costs.now.instance.now costs.now.reach }
     requires exists { conflict.now.exam < length periods.now }
     requires other_exists { conflict.now.other < length periods.now }
@@ -84,7 +84,7 @@ fn add_costs(sums: &mut Amounts<u64>, costs: &Costs, periods: &[u32], conflict: 
         return; // as most conflicts
     }
     let (one, other) = (PeriodNo::new(one), PeriodNo::new(other));
-    let more = costs_between(costs.instance, costs.lines, other, one);
+    let more = costs_between(costs.instance, costs.cost_rows, other, one);
     sums.add(more, conflict.students);
 }
 
@@ -95,40 +95,40 @@ fn are_apart(one: u32, other: u32, reach: u32) -> bool
     one.abs_diff(other) > reach
 }
 
-// Returns the costs of two periods, by the line of the later one.
+// Returns the costs of two periods, by the cost row of the later one.
 fn costs_between(
     instance: &Instance,
-    lines: &[Line],
+    cost_rows: &[CostRow],
     one: PeriodNo,
     other: PeriodNo,
 ) -> Amounts<u64>
-    requires table { IsTable instance.now lines.now }
+    requires table { IsTable instance.now cost_rows.now }
     ensures { result ≡ costs_of instance.now one other }
 {
     if one < other {
-        return costs_below(instance, lines, other, one);
+        return costs_below(instance, cost_rows, other, one);
     }
-    costs_below(instance, lines, one, other)
+    costs_below(instance, cost_rows, one, other)
 }
 
 // Returns the costs of a period and one that isn't later.
 fn costs_below(
     instance: &Instance,
-    lines: &[Line],
+    cost_rows: &[CostRow],
     period: PeriodNo,
     earlier: PeriodNo,
 ) -> Amounts<u64>
-    requires table { IsTable instance.now lines.now }
+    requires table { IsTable instance.now cost_rows.now }
     requires earlier { earlier ≤ period }
     ensures { result ≡ costs_of instance.now period earlier }
 {
-    let Some(line) = lines.get(period.get() as usize) else {
+    let Some(cost_row) = cost_rows.get(period.get() as usize) else {
         return NOTHING; // there is no such period
     };
-    if earlier.get() < line.first {
+    if earlier.get() < cost_row.first {
         return NOTHING; // as for most pairs of periods
     }
-    costs_in(instance, &line.costs, period, earlier)
+    costs_in(instance, &cost_row.costs, period, earlier)
 }
 
 // Returns the cost of nights over all conflicts. If the weight is 0, no conflict is read.

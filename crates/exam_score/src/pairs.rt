@@ -5,7 +5,7 @@ ghost use Rattle.exam_model.specs.Fits.{period_of};
 ghost use Rattle.exam_score.specs.PairSums.{ArePairParts};
 
 use crate::conflict_sums::{nights_of_conflicts, sums_of_conflicts};
-use crate::lines::table_of;
+use crate::cost_rows::table_of;
 use crate::nights::nights_of_pairs;
 use crate::personal_parts::PersonalParts;
 use crate::sittings::sittings_of;
@@ -45,8 +45,8 @@ fn parts_of_conflicts(
 {
     enrolments.lemma_order();
     instance.lemma_limits();
-    let lines = table_of(alloc, instance)?;
-    let sums = sums_of_conflicts(alloc, instance, &lines, timetable, conflicts)?;
+    let cost_rows = table_of(alloc, instance)?;
+    let sums = sums_of_conflicts(alloc, instance, &cost_rows, timetable, conflicts)?;
     let night = nights_of_conflicts(alloc, instance, timetable, conflicts)?;
     Ok(PersonalParts::of(sums.row, sums.day, sums.spread, night))
 }
@@ -65,8 +65,8 @@ fn parts_of_tallies(
     instance.lemma_limits();
     let sittings = sittings_of(alloc, timetable)?;
     let tallies = tallies_of(alloc, enrolments, &sittings)?;
-    let lines = table_of(alloc, instance)?;
-    let sums = sums_of_pairs(instance, &lines, &tallies);
+    let cost_rows = table_of(alloc, instance)?;
+    let sums = sums_of_pairs(instance, &cost_rows, &tallies);
     let night = nights_of_pairs(instance, &tallies);
     Ok(PersonalParts::of(sums.row, sums.day, sums.spread, night))
 }

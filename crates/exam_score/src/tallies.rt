@@ -4,18 +4,18 @@ ghost use Rattle.exam_terms.specs.declared.limits.TheConstants.{MAX_PAIRS};
 ghost use Rattle.exam_model.specs.Enrolments.{size_of};
 ghost use Rattle.exam_score.specs.Rows.{row_at};
 ghost use Rattle.exam_score.specs.Tallies.{tally_sum, AreCounted};
-ghost use Rattle.exam_score.specs.TallyLinks.{slot_of_student, AreCrowded, AreFiled, AreLinked, Grows, Extends};
+ghost use Rattle.exam_score.specs.TallyLinks.{bucket_of_student, AreCrowded, AreFiled, AreLinked, Grows, Extends};
 ghost use Rattle.exam_score.specs.declared.rows.Row.{Row};
 
 use crate::sittings::Sitting;
 use exam_model::{Enrolments, PeriodNo, StudentNo};
 use std::alloc::{AllocError, Global};
 
-// How many larger numbers of slots to try if too many students share a slot. Student numbers have
-// nine digits, so two of them share a slot under at most two of that many numbers in a row.
+// How many larger numbers of buckets to try if too many students share a bucket. Student numbers
+// have nine digits, so two of them share a bucket under at most two of that many numbers in a row.
 const MORE: u32 = 31;
 
-// The slots are not crowded if there are at most this many steps back along them.
+// The buckets are not crowded if there are at most this many steps back along them.
 const FEW_STEPS: u64 = 30_000_000;
 
 // A number of exams of one student in one period.
@@ -24,18 +24,18 @@ pub(crate) struct Tally {
     pub student: StudentNo,
     pub period: PeriodNo,
     pub exams: u32,
-    // One more than the index of the previous tally in its slot; 0 for the first.
+    // One more than the index of the previous tally in its bucket; 0 for the first.
     pub before: u32,
 }
 
-// The tallies, and how many steps back along their slots there are.
+// The tallies, and how many steps back along their buckets there are.
 #[derive(Drop)]
 struct Filing {
     tallies: Vec<Tally>,
     steps: u64,
 }
 
-// How many tallies each slot has, and how many steps back along the slots there are.
+// How many tallies each bucket has, and how many steps back along the buckets there are.
 #[derive(Drop)]
 struct Crowd {
     sizes: Vec<u32>,
@@ -55,11 +55,11 @@ pub(crate) fn tallies_of(
         AreCounted enrolments.now sittings.now tallies.items) }
     ensures linked { IfOk result (λ tallies. AreLinked tallies.items) }
 {
-    let slots = slots_for(enrolments.pairs());
-    let mut best = file_all(alloc, enrolments, sittings, slots)?;
+    let buckets = buckets_for(enrolments.pairs());
+    let mut best = file_all(alloc, enrolments, sittings, buckets)?;
     for more in 0..MORE {
         if best.steps > FEW_STEPS {
-            let other = file_all(alloc, enrolments, sittings, slots + 1 + more)?;
+            let other = file_all(alloc, enrolments, sittings, buckets + 1 + more)?;
             if other.steps < best.steps {
                 best = other;
             }
@@ -68,9 +68,9 @@ pub(crate) fn tallies_of(
     Ok(best.tallies)
 }
 
-// Returns the number of slots, about one for four pairs: a prime, so that numbers with a common
+// Returns the number of buckets, about one for four pairs: a prime, so that numbers with a common
 // step spread over all of them.
-fn slots_for(pairs: u32) -> u32
+fn buckets_for(pairs: u32) -> u32
     ensures some { 0 < result }
     ensures few { result ≤ 65521 }
 {
@@ -82,14 +82,14 @@ fn slots_for(pairs: u32) -> u32
     }
 }
 
-// Returns the tallies, filed in this many slots.
+// Returns the tallies, filed in this many buckets.
 fn file_all(
     alloc: Global,
     enrolments: &Enrolments,
     sittings: &[Sitting],
-    slots: u32,
+    buckets: u32,
 ) -> Result<Filing, AllocError>
-    requires some { 0 < slots }
+    requires some { 0 < buckets }
     requires exist { All (λ x. x.exam < length enrolments.now) sittings.now }
     requires few { sum_by (λ x. size_of enrolments.now x.exam) sittings.now ≤ MAX_PAIRS }
     requires ascending { AllPairs (λ x y. x.period ≤ y.period) sittings.now }
@@ -98,8 +98,8 @@ fn file_all(
     ensures linked { IfOk result (λ filing. AreLinked filing.tallies.items) }
 {
     let mut tallies = Vec::with_capacity(alloc, enrolments.pairs() as usize)?;
-    let mut last = no_tallies(alloc, slots as usize)?;
-    let sizes = no_tallies(alloc, slots as usize)?;
+    let mut last = no_tallies(alloc, buckets as usize)?;
+    let sizes = no_tallies(alloc, buckets as usize)?;
     let mut crowd = Crowd { sizes, steps: 0 };
     let mut start = 0;
     for sitting in sittings {
@@ -112,20 +112,20 @@ fn file_all(
             students,
             sitting.period,
             start,
-            slots,
+            buckets,
         )?;
     }
     let steps = crowd.steps;
     Ok(Filing { tallies, steps })
 }
 
-// Returns the last tallies of slots that have none.
-fn no_tallies(alloc: Global, slots: usize) -> Result<Vec<u32>, AllocError>
-    ensures long { IfOk result (λ last. length last.items ≡ slots) }
-    ensures zero { IfOk result (λ last. (slot : ℕ) → slot < length last.items
-        → slice_index last.items slot ≡ 0) }
+// Returns the last tallies of buckets that have none.
+fn no_tallies(alloc: Global, buckets: usize) -> Result<Vec<u32>, AllocError>
+    ensures long { IfOk result (λ last. length last.items ≡ buckets) }
+    ensures zero { IfOk result (λ last. (bucket : ℕ) → bucket < length last.items
+        → slice_index last.items bucket ≡ 0) }
 {
-    vec![in alloc; 0; slots]
+    vec![in alloc; 0; buckets]
 }
 
 // Returns the start of a period's tallies: the old start if the last tally is of this period, else
@@ -139,7 +139,7 @@ fn start_of(tallies: &[Tally], period: PeriodNo, start: usize) -> usize
     }
 }
 
-// Counts an exam for each of its students. The tallies of its period start at a place.
+// Counts an exam for each of its students. The tallies of its period start at an index.
 fn count_students(
     tallies: &mut Vec<Tally>,
     last: &mut Vec<u32>,
@@ -147,25 +147,25 @@ fn count_students(
     students: &[StudentNo],
     period: PeriodNo,
     start: usize,
-    slots: u32,
+    buckets: u32,
 ) -> Result<(), AllocError>
-    requires some { 0 < slots }
-    requires filed { AreFiled tallies.old.items last.old.items slots }
-    requires crowded { AreCrowded crowd.old.sizes.items crowd.old.steps slots
+    requires some { 0 < buckets }
+    requires filed { AreFiled tallies.old.items last.old.items buckets }
+    requires crowded { AreCrowded crowd.old.sizes.items crowd.old.steps buckets
         (length tallies.old.items) }
     requires few { length tallies.old.items + length students.now ≤ MAX_PAIRS }
     requires not_later { All (λ x. x.period ≤ period) tallies.old.items }
     ensures counted { OnOk result ((f : Row → ℕ) → sum_by (tally_sum f) tallies.new.items
         ≡ sum_by (tally_sum f) tallies.old.items
         + sum_by (λ s. f (row_at period s)) students.now) }
-    ensures filed { OnOk result (AreFiled tallies.new.items last.new.items slots) }
-    ensures crowded { OnOk result (AreCrowded crowd.new.sizes.items crowd.new.steps slots
+    ensures filed { OnOk result (AreFiled tallies.new.items last.new.items buckets) }
+    ensures crowded { OnOk result (AreCrowded crowd.new.sizes.items crowd.new.steps buckets
         (length tallies.new.items)) }
     ensures grown { OnOk result
         (Grows tallies.old.items tallies.new.items period (length students.now)) }
 {
     for student in students {
-        count_one(tallies, last, crowd, *student, period, start, slots)?;
+        count_one(tallies, last, crowd, *student, period, start, buckets)?;
     }
     Ok(())
 }
@@ -178,23 +178,23 @@ fn count_one(
     student: StudentNo,
     period: PeriodNo,
     start: usize,
-    slots: u32,
+    buckets: u32,
 ) -> Result<(), AllocError>
-    requires some { 0 < slots }
-    requires filed { AreFiled tallies.old.items last.old.items slots }
-    requires crowded { AreCrowded crowd.old.sizes.items crowd.old.steps slots
+    requires some { 0 < buckets }
+    requires filed { AreFiled tallies.old.items last.old.items buckets }
+    requires crowded { AreCrowded crowd.old.sizes.items crowd.old.steps buckets
         (length tallies.old.items) }
     requires few { length tallies.old.items < MAX_PAIRS }
     requires not_later { All (λ x. x.period ≤ period) tallies.old.items }
     ensures counted { OnOk result ((f : Row → ℕ) → sum_by (tally_sum f) tallies.new.items
         ≡ sum_by (tally_sum f) tallies.old.items + f (row_at period student)) }
-    ensures filed { OnOk result (AreFiled tallies.new.items last.new.items slots) }
-    ensures crowded { OnOk result (AreCrowded crowd.new.sizes.items crowd.new.steps slots
+    ensures filed { OnOk result (AreFiled tallies.new.items last.new.items buckets) }
+    ensures crowded { OnOk result (AreCrowded crowd.new.sizes.items crowd.new.steps buckets
         (length tallies.new.items)) }
     ensures grown { OnOk result (Grows tallies.old.items tallies.new.items period 1) }
 {
-    let slot = slot_of_student(student, slots);
-    let before = last[slot];
+    let bucket = bucket_of_student(student, buckets);
+    let before = last[bucket];
     if extends(tallies, before, start, student, period) {
         let at = before as usize - 1;
         let tally = tallies[at];
@@ -208,35 +208,35 @@ fn count_one(
         exams: 1,
         before,
     })?;
-    last[slot] = tallies.len() as u32;
-    note(crowd, slot);
+    last[bucket] = tallies.len() as u32;
+    note(crowd, bucket);
     Ok(())
 }
 
-// Counts a new tally in this slot, and the steps from it to those before it.
-fn note(crowd: &mut Crowd, slot: usize)
-    requires exists { slot < length crowd.old.sizes.items }
-    requires few { slice_index crowd.old.sizes.items slot < MAX_PAIRS }
+// Counts a new tally in this bucket, and the steps from it to those before it.
+fn note(crowd: &mut Crowd, bucket: usize)
+    requires exists { bucket < length crowd.old.sizes.items }
+    requires few { slice_index crowd.old.sizes.items bucket < MAX_PAIRS }
     requires few_steps { crowd.old.steps ≤ MAX_PAIRS * MAX_PAIRS }
-    ensures sizes { crowd.new.sizes.items ≡ slice_set crowd.old.sizes.items slot
-        (slice_index crowd.old.sizes.items slot + 1) }
+    ensures sizes { crowd.new.sizes.items ≡ slice_set crowd.old.sizes.items bucket
+        (slice_index crowd.old.sizes.items bucket + 1) }
     ensures steps { crowd.new.steps
-        ≡ crowd.old.steps + slice_index crowd.old.sizes.items slot }
+        ≡ crowd.old.steps + slice_index crowd.old.sizes.items bucket }
 {
-    let size = crowd.sizes[slot];
+    let size = crowd.sizes[bucket];
     crowd.steps += u64::from(size);
-    crowd.sizes[slot] = size + 1;
+    crowd.sizes[bucket] = size + 1;
 }
 
-fn slot_of_student(student: StudentNo, slots: u32) -> usize
-    requires some { 0 < slots }
-    ensures slot { result ≡ slot_of_student slots student }
-    ensures exists { result < slots }
+fn bucket_of_student(student: StudentNo, buckets: u32) -> usize
+    requires some { 0 < buckets }
+    ensures bucket { result ≡ bucket_of_student buckets student }
+    ensures exists { result < buckets }
 {
-    (student.get() % slots) as usize
+    (student.get() % buckets) as usize
 }
 
-// Returns whether the tally before this place is of that student and period, and not full. Only
+// Returns whether the tally before this index is of that student and period, and not full. Only
 // tallies from the start on are looked at.
 fn extends(
     tallies: &[Tally],

@@ -12,10 +12,10 @@ loop-other-init c =
     let xs = c.args.tallies.now in
     let y = c.args.tally.now in
     record {
-      way = way_starts c.requires.linked.slots xs y c.args.at c.requires.linked.links
+      way = way_starts c.requires.linked.buckets xs y c.args.at c.requires.linked.links
           c.requires.within c.requires.here;
       night = zero-add _
-          ∙ starts_alike c.requires.linked.slots (night_cost I.periods I.weights) xs y y c.args.at
+          ∙ starts_alike c.requires.linked.buckets (night_cost I.periods I.weights) xs y y c.args.at
           c.requires.linked.links c.requires.within c.requires.here refl;
     }
 
@@ -66,7 +66,7 @@ returns c =
     let I = c.args.instance.now in
     let y = c.args.tally.now in
     let way = c.loop-other.invariant.way in
-    let end = walk_ends way.slots (night_cost I.periods I.weights) c.args.tallies.now y
+    let end = walk_ends way.buckets (night_cost I.periods I.weights) c.args.tallies.now y
     c.loop-other.next c.saturating_sub-first.result way.links way.within
     (λ q lt. night_apart I.periods I.weights y.period q
     (omega (arith, lt, c.get.ensures, c.saturating_sub-first.ensures)))

@@ -4,7 +4,7 @@ use Rattle.exam_score.specs.Tallies.{cost_with_tally}
 use Rattle.exam_score.specs.TallyLinks.{IsOnWay}
 use Rattle.exam_score.proofs.nights.nights_with_exam.Given as goal
 
--- the sum and the rest of the slot add up to the whole
+-- the sum and the rest of the bucket add up to the whole
 abbrev pub invariant-loop-other : goal.invariant-loop-other
 invariant-loop-other l = record {
   way : IsOnWay l.tallies l.next l.tally.student;

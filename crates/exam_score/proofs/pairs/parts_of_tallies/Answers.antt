@@ -30,7 +30,7 @@ sums_of_pairs-sums-requires c =
     let rows = tallied_rows E T c.in_ok-sittings.sittings.items tallies c.requires.exams
     c.in_ok-sittings.ensures.all counted in
     record {
-      table = rw c.deref-2.ensures.value c.in_ok-lines.ensures;
+      table = rw c.deref-2.ensures.value c.in_ok-cost_rows.ensures;
       linked = rw c.deref-3.ensures.value c.in_ok-tallies.ensures.linked;
       few = rw c.deref-3.ensures.value (few_tallied E T tallies c.lemma_order.ensures rows);
     }

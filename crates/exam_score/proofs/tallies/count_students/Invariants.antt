@@ -11,7 +11,7 @@ invariant-loop-student l = record {
   counted : (f : Row → ℕ) → sum_by (tally_sum f) l.tallies.items
       ≡ sum_by (tally_sum f) l.fn.tallies.items
       + sum_by (λ s. f (row_at l.period s)) (take l.student-index l.students);
-  filed : AreFiled l.tallies.items l.last.items l.slots;
-  crowded : AreCrowded l.crowd.sizes.items l.crowd.steps l.slots (length l.tallies.items);
+  filed : AreFiled l.tallies.items l.last.items l.buckets;
+  crowded : AreCrowded l.crowd.sizes.items l.crowd.steps l.buckets (length l.tallies.items);
   grown : Grows l.fn.tallies.items l.tallies.items l.period l.student-index;
 }

@@ -14,9 +14,9 @@ loop-sitting-init c =
     let none : c.in_ok-tallies.tallies.items ≡ [] = c.in_ok-tallies.ensures.items in
     record {
       counted = λ f. ap (sum_by (tally_sum f)) (sym none);
-      filed = filed_none c.args.slots c.in_ok-tallies.tallies.items c.in_ok-last.last.items none
+      filed = filed_none c.args.buckets c.in_ok-tallies.tallies.items c.in_ok-last.last.items none
           c.in_ok-last.ensures.long c.in_ok-last.ensures.zero;
-      crowded = crowd_none c.in_ok-sizes.sizes.items c.args.slots
+      crowded = crowd_none c.in_ok-sizes.sizes.items c.args.buckets
           (length c.in_ok-tallies.tallies.items) c.in_ok-sizes.ensures.long
           c.in_ok-sizes.ensures.zero;
       few = omega (arith, ap length none);
@@ -110,5 +110,5 @@ returns c =
     record {
       counted = λ f. ap (sum_by (sitting_sum c.args.enrolments.now f)) (sym all)
           ∙ c.loop-sitting.invariant.counted f;
-      linked = record { slots = c.args.slots; links = c.loop-sitting.invariant.filed.linked };
+      linked = record { buckets = c.args.buckets; links = c.loop-sitting.invariant.filed.linked };
     }

@@ -10,8 +10,8 @@ use Rattle.exam_score.proofs.tallies.file_all.Given as goal
 abbrev pub invariant-loop-sitting : goal.invariant-loop-sitting
 invariant-loop-sitting l = record {
   counted : AreCounted l.enrolments (take l.sitting-index l.sittings) l.tallies.items;
-  filed : AreFiled l.tallies.items l.last.items l.slots;
-  crowded : AreCrowded l.crowd.sizes.items l.crowd.steps l.slots (length l.tallies.items);
+  filed : AreFiled l.tallies.items l.last.items l.buckets;
+  crowded : AreCrowded l.crowd.sizes.items l.crowd.steps l.buckets (length l.tallies.items);
   few : length l.tallies.items ≤ sum_by (λ x. size_of l.enrolments x.exam)
       (take l.sitting-index l.sittings);
   earlier : (k j : ℕ) (d : Tally) (e : Sitting) → k < length l.tallies.items → l.sitting-index ≤ j

@@ -4,24 +4,24 @@ use Rattle.exam_score.specs.Kinds.{TableKind, in_table, table_amount, table_cost
 use Rattle.exam_score.specs.declared.tallies.Tally.{Tally}
 use Rattle.exam_score.proofs.CostLemmas.{cost_in-small}
 use Rattle.exam_score.proofs.KindLemmas.{each_in_table}
-use Rattle.exam_score.proofs.LineLemmas.{free_at}
+use Rattle.exam_score.proofs.CostRowLemmas.{free_at}
 use Rattle.exam_score.proofs.WalkLemmas.{IsCostTo, not_later, cost_to_more, cost_to_same, cost_to-small}
 use Rattle.exam_score.proofs.walk.sums_of_pairs.Goals as goal
 
-pub cost_along_line-more-requires : goal.cost_along_line-more-requires
-cost_along_line-more-requires c =
+pub cost_with_earlier-more-requires : goal.cost_with_earlier-more-requires
+cost_with_earlier-more-requires c =
     let xs = c.args.tallies.now in
     let y = c.index-tallies-at.result in
     let at = c.loop-at.at in
-    let found = c.in-Some.ensures.place in
+    let found = c.in-Some.ensures.end in
     let here : (d : Tally) → get_or xs at d ≡ y =
     λ d. get_or_default xs at d y c.loop-at-test.true ∙ sym c.index-tallies-at.is in
     record {
       within = omega (arith, found.within, c.loop-at-test.true);
       own = found.own;
-      not_later = λ k d lt. not_later c.requires.linked.slots xs y k at c.requires.linked.links
+      not_later = λ k d lt. not_later c.requires.linked.buckets xs y k at c.requires.linked.links
           (omega (arith, found.within)) c.loop-at-test.true here d;
-      line = c.in-Some.ensures.line c.args.instance.now c.requires.table;
+      cost_row = c.in-Some.ensures.cost_row c.args.instance.now c.requires.table;
       first = c.in-Some.ensures.first c.args.instance.now c.requires.table;
       linked = c.requires.linked;
       few = c.requires.few;
@@ -40,7 +40,7 @@ pub add-requires : goal.add-requires
 add-requires c = each_in_table room
   where
     room : (k : TableKind) → table_amount c.loop-at.sums k
-        + table_amount c.cost_along_line-more.result k * c.index-tallies-at.result.exams < 2 ^ 64
+        + table_amount c.cost_with_earlier-more.result k * c.index-tallies-at.result.exams < 2 ^ 64
     room k =
         let I = c.args.instance.now in
         let y = c.index-tallies-at.result in
@@ -49,8 +49,8 @@ add-requires c = each_in_table room
         (cost_to_more (table_cost I k) c.args.tallies.now c.loop-at.at _ _ y c.loop-at-test.true
         c.index-tallies-at.is (cost_in-small I c.lemma_limits.ensures (in_table k))
         c.requires.few (c.loop-at.invariant k)
-        (c.cost_along_line-more.ensures k
-        ∙ sym (c.in-Some.ensures.place.sums (table_cost I k) y refl
+        (c.cost_with_earlier-more.ensures k
+        ∙ sym (c.in-Some.ensures.end.sums (table_cost I k) y refl
         (λ q lt. free_at I y.period q (first.free.each q lt) k)))) in
         omega arith
 
@@ -63,6 +63,6 @@ loop-at-preserved c = λ k.
     (cost_to_more (table_cost I k) c.args.tallies.now c.loop-at.at _ _ y c.loop-at-test.true
     c.index-tallies-at.is (cost_in-small I c.lemma_limits.ensures (in_table k))
     c.requires.few (c.loop-at.invariant k)
-    (c.cost_along_line-more.ensures k
-    ∙ sym (c.in-Some.ensures.place.sums (table_cost I k) y refl
+    (c.cost_with_earlier-more.ensures k
+    ∙ sym (c.in-Some.ensures.end.sums (table_cost I k) y refl
     (λ q lt. free_at I y.period q (first.free.each q lt) k))))

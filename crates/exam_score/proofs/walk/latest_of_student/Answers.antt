@@ -1,7 +1,7 @@
 use Rattle.std.proofs.Common.{◌≡◌, ◌≢◌, refl, sym, ◌∙◌, ap, arith}
 use Rattle.std.proofs.lemmas.Bool.{eqb-true, eqb-false}
 use Rattle.exam_score.proofs.WalkLemmas.{passed, walk_ends, way_below, way_on}
-use Rattle.exam_score.proofs.walk.own_place.Goals as goal
+use Rattle.exam_score.proofs.walk.latest_of_student.Goals as goal
 
 pub loop-other-init : goal.loop-other-init
 loop-other-init c = record {
@@ -54,6 +54,6 @@ returns c =
       within = omega arith;
       own = λ d some. absurd (omega arith);
       sums = λ cost y own free. c.loop-other.invariant.sums cost y own
-          ∙ walk_ends way.slots cost c.args.tallies.now y c.loop-other.next c.args.first way.links
+          ∙ walk_ends way.buckets cost c.args.tallies.now y c.loop-other.next c.args.first way.links
           way.within free c.in_default.ensures.none;
     }

@@ -1,6 +1,6 @@
 use Rattle.exam_score.specs.CostOrder.{spread_cost-small}
 use Rattle.exam_score.proofs.CostLemmas.{capped_fits, one_fits}
-use Rattle.exam_score.proofs.lines.costs_between.Goals as goal
+use Rattle.exam_score.proofs.cost_rows.costs_between.Goals as goal
 
 pub overflow_cast-result : goal.overflow_cast-result
 overflow_cast-result c = capped_fits _ _ c.cost.ensures.capped

@@ -1,4 +1,4 @@
--- The table of costs, line by line, and periods beyond it.
+-- The table of costs, cost row by cost row, and periods beyond it.
 use Rattle.std.proofs.Common.{◌≡◌, ℕ, ◌<◌, ◌≤◌, List, [], ◌∷◌, ◌++◌, length, Some, sym, ◌∙◌, ap, arith, get_or, inl, inr, le-ltb, length-append, subst}
 use Rattle.std.specs.Prelude.{slice_get, nat_lt, nat_le, ◌&&◌, ◌==◌, if◌then◌else◌}
 use Rattle.std.proofs.lemmas.Bool.{cases_lt}
@@ -10,49 +10,49 @@ use Rattle.exam_model.specs.declared.parts.Period.{Period}
 use Rattle.exam_model.specs.declared.parts.Weights.{Weights}
 use Rattle.exam_score.specs.CostOrder.{kind_cost-swap}
 use Rattle.exam_score.specs.Kinds.{TableKind, in_row, in_day, in_spread, in_table, kind_cost, table_cost, table_amount, by_table}
-use Rattle.exam_score.specs.Lines.{costs_of}
+use Rattle.exam_score.specs.CostRows.{costs_of}
 use Rattle.exam_score.specs.declared.amounts.Amounts.{Amounts}
-use Rattle.exam_score.specs.declared.lines.Line.{Line}
+use Rattle.exam_score.specs.declared.cost_rows.CostRow.{CostRow}
 use Rattle.exam_score.proofs.KindLemmas.{at_table}
 
 -- ---- one more
 
-pub line_more : (I : Session) (p : ℕ) (line : List (Amounts ℕ))
-    → ((q : ℕ) → q < length line → slice_get line q ≡ Some (costs_of I p q))
-    → (q : ℕ) → q < length (line ++ costs_of I p (length line) ∷ [])
-    → slice_get (line ++ costs_of I p (length line) ∷ []) q ≡ Some (costs_of I p q)
-line_more I p line each q lt =
-    elim (cases_lt q (length line))
-    as (λ _. slice_get (line ++ costs_of I p (length line) ∷ []) q ≡ Some (costs_of I p q)) [
-      | inl before ↦ slice_get_kept line (costs_of I p (length line)) q before ∙ each q before
+pub cost_row_more : (I : Session) (p : ℕ) (cost_row : List (Amounts ℕ))
+    → ((q : ℕ) → q < length cost_row → slice_get cost_row q ≡ Some (costs_of I p q))
+    → (q : ℕ) → q < length (cost_row ++ costs_of I p (length cost_row) ∷ [])
+    → slice_get (cost_row ++ costs_of I p (length cost_row) ∷ []) q ≡ Some (costs_of I p q)
+cost_row_more I p cost_row each q lt =
+    elim (cases_lt q (length cost_row))
+    as (λ _. slice_get (cost_row ++ costs_of I p (length cost_row) ∷ []) q ≡ Some (costs_of I p q)) [
+      | inl before ↦ slice_get_kept cost_row (costs_of I p (length cost_row)) q before ∙ each q before
       | inr after ↦
           (let last : q
-          ≡ length line = omega (arith, length-append line (costs_of I p (length line) ∷ [])) in
-          slice_get_push line (costs_of I p (length line)) q last
+          ≡ length cost_row = omega (arith, length-append cost_row (costs_of I p (length cost_row) ∷ [])) in
+          slice_get_push cost_row (costs_of I p (length cost_row)) q last
           ∙ ap (λ n. Some (costs_of I p n)) (sym last))
     ]
 
-pub table_more : (P : ℕ → Line → Type 0) (lines : List Line) (new : Line) → P (length lines) new
-    → ((p : ℕ) (line : Line) → slice_get lines p ≡ Some line → P p line)
-    → (p : ℕ) (line : Line) → slice_get (lines ++ new ∷ []) p ≡ Some line → P p line
-table_more P lines new is each p line found = elim (cases_lt p (length lines)) as (λ _. P p line) [
-  | inl before ↦ each p line (sym (slice_get_kept lines new p before) ∙ found)
+pub table_more : (P : ℕ → CostRow → Type 0) (cost_rows : List CostRow) (new : CostRow) → P (length cost_rows) new
+    → ((p : ℕ) (cost_row : CostRow) → slice_get cost_rows p ≡ Some cost_row → P p cost_row)
+    → (p : ℕ) (cost_row : CostRow) → slice_get (cost_rows ++ new ∷ []) p ≡ Some cost_row → P p cost_row
+table_more P cost_rows new is each p cost_row found = elim (cases_lt p (length cost_rows)) as (λ _. P p cost_row) [
+  | inl before ↦ each p cost_row (sym (slice_get_kept cost_rows new p before) ∙ found)
   | inr after ↦
-      (let within = slice_get_within (lines ++ new ∷ []) p line found in
-      let last : p ≡ length lines = omega (arith, length-append lines (new ∷ [])) in
-      let same : Some new ≡ Some line = sym (slice_get_push lines new p last) ∙ found in
-      let one : new ≡ line = cc in
+      (let within = slice_get_within (cost_rows ++ new ∷ []) p cost_row found in
+      let last : p ≡ length cost_rows = omega (arith, length-append cost_rows (new ∷ [])) in
+      let same : Some new ≡ Some cost_row = sym (slice_get_push cost_rows new p last) ∙ found in
+      let one : new ≡ cost_row = cc in
       subst (λ v. P p v) one (subst (λ n. P n new) (sym last) is))
 ]
 
--- ---- one line
+-- ---- one cost row
 
--- the line that was found at an index
-pub line_found : (lines : List Line) (n p : ℕ) (line : Line) → n ≡ p → n < length lines
-    → line ≡ get_or lines n line → slice_get lines p ≡ Some line
-line_found lines n p line same within is =
-    subst (λ m. slice_get lines m ≡ Some line) same
-    (slice_get-get_or lines n line within ∙ ap Some (sym is))
+-- the cost row that was found at an index
+pub cost_row_found : (cost_rows : List CostRow) (n p : ℕ) (cost_row : CostRow) → n ≡ p → n < length cost_rows
+    → cost_row ≡ get_or cost_rows n cost_row → slice_get cost_rows p ≡ Some cost_row
+cost_row_found cost_rows n p cost_row same within is =
+    subst (λ m. slice_get cost_rows m ≡ Some cost_row) same
+    (slice_get-get_or cost_rows n cost_row within ∙ ap Some (sym is))
 
 pub cost_at : (I : Session) (p q : ℕ) (a : Amounts ℕ) → a ≡ costs_of I p q → (k : TableKind)
     → table_amount a k ≡ table_cost I k q p
