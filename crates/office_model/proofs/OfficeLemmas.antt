@@ -1,9 +1,10 @@
 -- The office after a step is an office.
 use Rattle.std.proofs.Common.{◌≡◌, ℕ, ◌≤◌, List, [], ◌∷◌, length, Option, Some, None, Result, Ok, Err, IfOk, refl, sym, subst}
 use Rattle.std.specs.Prelude.{IsSome, is_none, nat_le}
-use Rattle.std.proofs.lemmas.Bool.{leb-true, ltb-true}
+use Rattle.std.proofs.lemmas.Bool.{leb-true, ltb-true, and_parts}
 use Rattle.std.proofs.lemmas.List.{length-replicate}
 use Rattle.std.proofs.lemmas.List.Elements.{All-replicate}
+use Rattle.exam_lists.proofs.Results.{IfOk_given}
 use Rattle.exam_terms.specs.Refusing.{else_err, unless}
 use Rattle.exam_model.specs.Enrolments.{Enrolled}
 use Rattle.exam_model.specs.Fits.{Fits, PlaceExists}
@@ -41,7 +42,7 @@ use Rattle.office_model.specs.Step.{step}
 use Rattle.office_model.specs.declared.fault.Refusal.TheVariants as refusal
 use Rattle.office_model.specs.declared.fault.StoreFault.{StoreFault}
 use Rattle.office_model.specs.declared.fault.StoreFault.TheVariants.{DraftTaken, Loaded, NoDraft, Refused}
-use Rattle.office_model.proofs.RecordLemmas.{are_enrolled, both_true, edited_fits, fresh_records, left_records, made_records, owner_records, published_records}
+use Rattle.office_model.proofs.RecordLemmas.{are_enrolled, edited_fits, fresh_records, left_records, made_records, owner_records, published_records}
 use Rattle.office_model.proofs.StepLemmas.{Keeps, step_law, whatever}
 
 -- ---- what a judgement passes on
@@ -49,11 +50,6 @@ use Rattle.office_model.proofs.StepLemmas.{Keeps, step_law, whatever}
 named_ok : {A F G : Type 0} (name : F → G) (r : Result A F) (x : A) → renamed_fault name r ≡ Ok x → r ≡ Ok x
 named_ok name (Ok y) x is = cc
 named_ok name (Err f) x is = absurd (cc is)
-
--- a fact about each result
-if_given : {A F : Type 0} (P : A → Type 0) (m : Result A F) → ((x : A) → m ≡ Ok x → P x) → IfOk m P
-if_given P (Ok x) h = h x refl
-if_given P (Err f) h = tt
 
 draft_is : (draft : Option Placing) (T : Placing) → else_err NoDraft draft ≡ Ok T → draft ≡ Some T
 draft_is (Some S) T is = cc
@@ -78,7 +74,7 @@ given_with given new x is e =
     subst (λ y. IsOffice y.1) same is
 
 load_leaves : (bytes : List ℕ) (old : OfficeState) → Leaves (load_session bytes old)
-load_leaves bytes old = if_given _ (load_session bytes old) (λ x is.
+load_leaves bytes old = IfOk_given _ (load_session bytes old) (λ x is.
     let read = renamed_fault (λ f. Refused (refusal.File f)) (instance_in bytes) in
     let one = bind_ok read _ x is in
     let two = bind_ok (unless (is_none old) Loaded) _ x one.2 in
@@ -93,7 +89,7 @@ load_leaves bytes old = if_given _ (load_session bytes old) (λ x is.
 
 module _ (r : Records) (are : AreRecords r) where
   owner_leaves : (e d : ℕ) → d ≤ 999 → Leaves (set_owner_result e d (Some r))
-  owner_leaves e d few = if_given _ (set_owner_result e d (Some r)) (λ x is.
+  owner_leaves e d few = IfOk_given _ (set_owner_result e d (Some r)) (λ x is.
       let exists = exam_exists r.session e in
       let fault : StoreFault = Refused (refusal.Edit NoSuch) in
       let one = bind_ok (unless exists fault) _ x is in
@@ -101,12 +97,12 @@ module _ (r : Records) (are : AreRecords r) where
       given_with _ _ x (owner_records r e d within few are) one.2)
 
   draft_leaves : (d : ℕ) (bytes : List ℕ) → Leaves (draft_made d bytes (Some r))
-  draft_leaves d bytes = if_given _ (draft_made d bytes (Some r)) (λ x is.
+  draft_leaves d bytes = IfOk_given _ (draft_made d bytes (Some r)) (λ x is.
       let one = bind_ok (unless (is_draft_number d) NoDraft) _ x is in
       let two = bind_ok (unless (is_none (r.draft d)) DraftTaken) _ x one.2 in
       let three = bind_ok (first_timetable bytes r.session) _ x two.2 in
       let number =
-      both_true (nat_le 1 d) (nat_le d 8) (unless_ok (is_draft_number d) NoDraft one.0 one.1) in
+      and_parts (nat_le 1 d) (nat_le d 8) (unless_ok (is_draft_number d) NoDraft one.0 one.1) in
       let fits = first_fits bytes three.0 three.1 in
       given_with _ _ x
       (made_records r d three.0 (leb-true 1 d number.0) (leb-true d 8 number.1) fits are) three.2)
@@ -132,12 +128,12 @@ module _ (r : Records) (are : AreRecords r) where
           }
 
   drop_leaves : (d : ℕ) → Leaves (draft_dropped d (Some r))
-  drop_leaves d = if_given _ (draft_dropped d (Some r)) (λ x is.
+  drop_leaves d = IfOk_given _ (draft_dropped d (Some r)) (λ x is.
       let one = bind_ok (else_err NoDraft (r.draft d)) _ x is in
       given_with _ _ x (left_records r d are) one.2)
 
   edit_leaves : (d : ℕ) (change : Edit) → Leaves (draft_edited d change (Some r))
-  edit_leaves d change = if_given _ (draft_edited d change (Some r)) (λ x is.
+  edit_leaves d change = IfOk_given _ (draft_edited d change (Some r)) (λ x is.
       let one = bind_ok (else_err NoDraft (r.draft d)) _ x is in
       let said = edit_result r.session r.enrolments one.0 change in
       let two = bind_ok (renamed_fault (λ f. Refused (refusal.Edit f)) said) _ x one.2 in
@@ -148,7 +144,7 @@ module _ (r : Records) (are : AreRecords r) where
       given_with _ _ x (made_records r d two.0 known.0 known.1 fits are) two.2)
 
   publish_leaves : (d : ℕ) → Leaves (draft_published d (Some r))
-  publish_leaves d = if_given _ (draft_published d (Some r)) (λ x is.
+  publish_leaves d = IfOk_given _ (draft_published d (Some r)) (λ x is.
       let one = bind_ok (else_err NoDraft (r.draft d)) _ x is in
       let refused = publish_refusal r.session r.enrolments one.0 in
       let two = bind_ok

@@ -1,7 +1,7 @@
 -- The records after a command are records of an office again.
 use Rattle.std.proofs.Common.{◌≡◌, ◌≢◌, ℕ, ◌<◌, ◌≤◌, Bool, true, false, not, cond, eqb, List, [], ◌∷◌, length, Option, Some, None, Ok, inl, inr, refl, sym, subst, ◌∙◌, arith}
 use Rattle.std.specs.Prelude.{◌==◌, ◌&&◌, IsSome, nat_lt, slice_set}
-use Rattle.std.proofs.lemmas.Bool.{cases_lt, ltb-true}
+use Rattle.std.proofs.lemmas.Bool.{cases_lt, ltb-true, and_parts}
 use Rattle.std.proofs.lemmas.Bool.Decides.{nat_tests}
 use Rattle.std.proofs.lemmas.List.{get_or_past, length-set}
 use Rattle.std.proofs.lemmas.List.Elements.{All-get_or, All-set}
@@ -184,10 +184,6 @@ module _ (r : Records) (T : Placing) (is : AreRecords r) (fits : Fits r.session 
 
 -- ---- edits
 
-pub both_true : (a b : Bool) → (a && b) ≡ true → (a ≡ true) × (b ≡ true)
-both_true true b e = (refl, e)
-both_true false b e = absurd (cc e)
-
 -- a timetable that fits also fits with another place that exists, or with none
 fits_set : (I : Session) (E : Enrolled) (T : Placing) (e : ℕ) (at : Option Place)
     → PlaceExists I at → Fits I E T → Fits I E (slice_set T e at)
@@ -209,8 +205,8 @@ module _ (I : Session) (E : Enrolled) (T : Placing) (fits : Fits I E T) where
   put_fits : (e : ℕ) (at : Place) (new : Placing) → (exam_exists I e && place_exists I at) ≡ true
       → after_put I E T e at ≡ Ok new → Fits I E new
   put_fits e at new exist is =
-      let place = (both_true (exam_exists I e) (place_exists I at) exist).1 in
-      let both = both_true (nat_lt at.period (length I.periods))
+      let place = (and_parts (exam_exists I e) (place_exists I at) exist).1 in
+      let both = and_parts (nat_lt at.period (length I.periods))
       (nat_lt at.room (length I.rooms)) place in
       subst (Fits I E) (unbroken_is I E (e ∷ []) (slice_set T e (Some at)) new is)
       (fits_set I E T e (Some at) (

@@ -4,11 +4,12 @@ use Rattle.std.proofs.Common.{◌≡◌, ℕ, Bool, true, false, cond, ◌||◌,
 use Rattle.std.proofs.lemmas.Bool.{eq-eqb}
 use Rattle.std.proofs.lemmas.List.Elements.{recursion_from_All}
 use Rattle.std.proofs.lemmas.List.Folds.{list_any-append}
+use Rattle.exam_lists.proofs.Tests.{any_map}
 use Rattle.exam_terms.specs.declared.place.Place.{Place}
 use Rattle.exam_model.specs.Instance.{Session}
 use Rattle.exam_publish.specs.Rows.{row_place}
 use Rattle.exam_publish.specs.declared.seat_row.SeatRow.{SeatRow}
-use Rattle.exam_publish.proofs.ListLemmas.{any_map, has_ascending}
+use Rattle.exam_publish.proofs.ListLemmas.{has_ascending}
 use Rattle.office_model.specs.Office.{Publication}
 use Rattle.office_model.specs.ViewRows.{AreOfPublication, place_in, place_of_seat, places_in, seat_in, view_row}
 use Rattle.office_model.specs.Shown.{shown_exam, shown_exams, shown_from}
