@@ -136,7 +136,17 @@ pub are_enrolments : (n : ℕ) (rows : List SeatRow) → 1 ≤ n → n ≤ 2000 
     → IsChain RowBefore rows → AllByRecursion (λ row. row.exam < n) rows
     → AllByRecursion (λ row. row.student ≤ 999999999) rows → AreEnrolments (enrolled_in n rows)
 are_enrolments n rows low high few order exist numbered =
-    search (rules, length-map-range_with_len, pairs_in, length_pairs, length-map, students_at, ascending_from_chain, chain_students, numbered_enrolments)
+    search (
+      rules,
+      length-map-range_with_len,
+      pairs_in,
+      length_pairs,
+      length-map,
+      students_at,
+      ascending_from_chain,
+      chain_students,
+      numbered_enrolments,
+    )
 
 -- ---- the students of the rows
 

@@ -93,4 +93,6 @@ pub numbered : (T : Placing) (all seen ps : List Pair) → all ≡ seen ++ ps �
     → filter_map (seat_row all T) ps ≡ rows_after T seen ps
 numbered T all seen [] split order = refl
 numbered T all seen (p ∷ ps) split order =
-    grind (arith, common_steps, counted_before, append_assoc, numbered T all (seen ++ p ∷ []) ps (split ∙ sym (append_assoc seen (p ∷ []) ps)) order)
+    let split_later = split ∙ sym (append_assoc seen (p ∷ []) ps) in
+    let later = numbered T all (seen ++ p ∷ []) ps split_later order in
+    grind (arith, common_steps, counted_before, append_assoc)

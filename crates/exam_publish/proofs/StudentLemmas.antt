@@ -245,7 +245,8 @@ bounded : (a n : ℕ) (xs : List ℕ) → a ≤ n → IsChain (λ x y. x < y) xs
     → AllByRecursion (λ x. a ≤ x) xs → AllByRecursion (λ x. x < n) xs → length xs + a ≤ n
 bounded a n [] low up above below = omega arith
 bounded a n (x ∷ xs) low up above below =
-    grind (arith, common_steps, each_weaker, bounded (a + 1) n xs (omega arith) up.1 (each_weaker (λ y. x < y) (λ y. a + 1 ≤ y) (λ y h. omega arith) xs up.0) below.1)
+    let higher = each_weaker (λ y. x < y) (λ y. a + 1 ≤ y) (λ y h. omega arith) xs up.0 in
+    grind (arith, common_steps, bounded (a + 1) n xs (omega arith) up.1 higher below.1)
 
 later_exams : (r : SeatRow) (rs : List SeatRow) (s : ℕ) → r.student ≡ s
     → AllByRecursion (RowBefore r) rs

@@ -8,7 +8,7 @@ use Rattle.exam_publish.proofs.entrants.entrants_of.Goals as goal
 
 pub exams-preserved-in_default : goal.exams-preserved-in_default
 exams-preserved-in_default c =
-    grind (arith, common_steps, exam_nowhere, c.new-exam.ensures, c.get.ensures, c.exams-exam-end.ensures.count, c.exams.invariant)
+    grind (arith, common_steps, exam_nowhere)
 
 pub exams-preserved : goal.exams-preserved
 exams-preserved c =

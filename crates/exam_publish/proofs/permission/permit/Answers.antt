@@ -14,8 +14,8 @@ returns-in_err-found-clause-refused c =
 
 pub returns-in-Some-least-clause-refused : goal.returns-in-Some-least-clause-refused
 returns-in-Some-least-clause-refused c =
-    grind (arith, common_steps, none_unplaced, c.in_default.ensures.none, c.in_ok-found.ensures.listed, c.deref.ensures.value, c.first.ensures.value, c.in-Some-least.ensures)
+    grind (arith, common_steps, none_unplaced)
 
 pub returns-clause-ok : goal.returns-clause-ok
 returns-clause-ok c =
-    grind (arith, common_steps, none_unplaced, c.in_default.ensures.none, c.in_ok-found.ensures.listed, c.deref.ensures.value, c.first.ensures.value, c.in-None.ensures)
+    grind (arith, common_steps, none_unplaced)

@@ -12,11 +12,11 @@ use Rattle.exam_publish.proofs.place_shares.room_shares.Goals as goal
 
 pub overflow_cast-room : goal.overflow_cast-room
 overflow_cast-room c =
-    grind (arith, common_steps, length-map-range_with_len, c.deref-penalty-items.ensures.value, c.in_ok-penalties.ensures, c.lemma_limits.ensures.limits.counts.2.1)
+    grind (arith, common_steps, length-map-range_with_len)
 
 pub mixed_in-requires-clause-room : goal.mixed_in-requires-clause-room
 mixed_in-requires-clause-room c =
-    grind (arith, common_steps, length-map-range_with_len, c.deref-penalty-items.ensures.value, c.in_ok-penalties.ensures, c.new.ensures)
+    grind (arith, common_steps, length-map-range_with_len)
 
 pub rooms-preserved : goal.rooms-preserved
 rooms-preserved c =
@@ -47,4 +47,4 @@ rooms-preserved c =
 
 pub returns : goal.returns
 returns c =
-    grind (arith, common_steps, length-map-range_with_len, c.deref-penalty-items.ensures.value, c.in_ok-penalties.ensures, c.rooms.invariant)
+    grind (arith, common_steps, length-map-range_with_len)

@@ -10,7 +10,7 @@ use Rattle.exam_publish.proofs.seating.seat_all.Goals as goal
 
 pub entrants-init : goal.entrants-init
 entrants-init c =
-    grind (arith, common_steps, none_given, c.in_ok-last.ensures.items_if_clones_equal, c.periods.ensures.count, c.rooms.ensures.count, c.in_ok-rows.ensures.items)
+    grind (arith, common_steps, none_given)
 
 pub overflow_add-index : goal.overflow_add-index
 overflow_add-index c =

@@ -13,7 +13,7 @@ use Rattle.exam_publish.proofs.seating.seats.Goals as goal
 
 pub held_seats-requires : goal.held_seats-requires
 held_seats-requires c =
-    grind (arith, common_steps, entrants_exist, entrants_keep, entrants_placed, c.deref.ensures.value, c.in_ok-entrants.ensures, c.requires.fits, c.lemma_limits.ensures, c.requires.old_seated.within)
+    grind (arith, common_steps, entrants_exist, entrants_keep, entrants_placed)
 
 pub seat_all-requires : goal.seat_all-requires
 seat_all-requires c =
