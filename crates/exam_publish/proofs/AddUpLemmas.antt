@@ -10,7 +10,8 @@ use Rattle.std.proofs.lemmas.List.FromFn.{sum_by-map-range_with_len_more}
 use Rattle.std.proofs.lemmas.List.Sums.{sum_by-cons, sum_by_more, sum-map}
 use Rattle.std.proofs.lemmas.Option.{slice_get_past}
 use Rattle.exam_lists.proofs.Chains.{chain_from_index}
-use Rattle.exam_lists.proofs.Sums.{sum_by-add, sum_by-same, sum_by-times}
+use Rattle.exam_lists.proofs.Sums.{sum_by-add, sum_by-same, sum_by-times, sum_by-map}
+use Rattle.exam_lists.proofs.Booleans.{cond_below_or_none, cond_times}
 use Rattle.exam_model.specs.Fits.{period_of}
 use Rattle.exam_model.specs.Instance.{Session, IsInstance}
 use Rattle.exam_model.specs.Sums.{sum_below}
@@ -49,12 +50,6 @@ plain_sum f n =
     sum-map f (range_with_len 0 n) ∙ ap (sum_by f) (sym (map-id (range_with_len 0 n)))
     ∙ range_sum f (λ k. k) n
 
-sum_by_map : {X Y : Type 0} (g : Y → ℕ) (f : X → Y) (xs : List X)
-    → sum_by g (map f xs) ≡ sum_by (λ x. g (f x)) xs
-sum_by_map g f [] = refl
-sum_by_map g f (x ∷ xs) = sum_by-cons g (f x) (map f xs) ∙ ap (λ n. g (f x) + n) (sum_by_map g f xs)
-    ∙ sym (sum_by-cons (λ x. g (f x)) x xs)
-
 -- ---- periods and rooms
 
 by_index : (cost : Option Place → ℕ) (T : Placing) (n : ℕ) → n ≤ length T
@@ -63,10 +58,6 @@ by_index cost T zero h = refl
 by_index cost T (suc n) h =
     ap (λ k. sum_by cost (take k T)) (sym (add-one n)) ∙ sum_by_more cost T n None (omega arith)
     ∙ ap (λ k. k + cost (place_of T n)) (by_index cost T n (omega arith))
-
-times_test : (b : Bool) (w : ℕ) → cond b 1 0 * w ≡ cond b w 0
-times_test true w = one-mul w
-times_test false w = zero-mul w
 
 -- amounts by number, once for each exam there, add up to the costs of all exams
 by_places : (amount : ℕ → ℕ) (test : ℕ → Option Place → Bool) (cost : Option Place → ℕ)
@@ -78,15 +69,11 @@ by_places amount test cost n T one =
     sum_below-same _ _
     (λ k. mul_comm (amount k) (count_by (test k) T)
     ∙ sym (sum_by-times (λ o. cond (test k o) 1 0) (amount k) T)
-    ∙ sum_by-same _ _ (λ o. times_test (test k o) (amount k)) T) n
+    ∙ sum_by-same _ _ (λ o. cond_times (test k o) (amount k)) T) n
     ∙ sum_below-turned (λ k o. cond (test k o) (amount k) 0) n T
     ∙ sum_by-same _ _ one T
     ∙ ap (sum_by cost) (sym (take_all (length T) T (omega arith)))
     ∙ by_index cost T (length T) (omega arith)
-
-within_or_none : (amount : ℕ → ℕ) (x n : ℕ) → (n ≤ x → amount x ≡ 0)
-    → cond (ltb x n) (amount x) 0 ≡ amount x
-within_or_none amount x n past = grind (arith, common_steps, cases_lt, cond-true, lt-ltb, cond-false, le-ltb)
 
 one_period : (I : Session) (o : Option Place)
     → sum_below (length I.periods)
@@ -95,7 +82,7 @@ one_period : (I : Session) (o : Option Place)
 one_period I None = sum_below-zeros (length I.periods)
 one_period I (Some at) =
     sum_below-at (λ p. period_penalty (slice_get I.periods p)) at.period (length I.periods)
-    ∙ within_or_none (λ p. period_penalty (slice_get I.periods p)) at.period (length I.periods)
+    ∙ cond_below_or_none (λ p. period_penalty (slice_get I.periods p)) at.period (length I.periods)
     (λ past. ap period_penalty (slice_get_past I.periods at.period past))
 
 one_room : (I : Session) (o : Option Place)
@@ -104,7 +91,7 @@ one_room : (I : Session) (o : Option Place)
 one_room I None = sum_below-zeros (length I.rooms)
 one_room I (Some at) =
     sum_below-at (λ r. room_penalty (slice_get I.rooms r)) at.room (length I.rooms)
-    ∙ within_or_none (λ r. room_penalty (slice_get I.rooms r)) at.room (length I.rooms)
+    ∙ cond_below_or_none (λ r. room_penalty (slice_get I.rooms r)) at.room (length I.rooms)
     (λ past. ap room_penalty (slice_get_past I.rooms at.room past))
 
 period_sum : (I : Session) (T : Placing) → length T ≡ length I.exams
@@ -161,22 +148,22 @@ adds_up I rows T known are numbered =
     let students = students_of rows in
     let row : sum_by (λ share. share.1.row) (student_shares I rows)
     ≡ pair_part (row_cost I.periods I.weights) E (period_of T)
-    = sum_by_map (λ (share : ℕ × PersonalPenalty). share.1.row)
+    = sum_by-map (λ (share : ℕ × PersonalPenalty). share.1.row)
     (λ s. (s, share_of I.periods I.weights (rows_of s rows))) students
     ∙ student_sum (row_cost I.periods I.weights) I rows T known are numbered in
     let day : sum_by (λ share. share.1.day) (student_shares I rows)
     ≡ pair_part (day_cost I.periods I.weights) E (period_of T)
-    = sum_by_map (λ (share : ℕ × PersonalPenalty). share.1.day)
+    = sum_by-map (λ (share : ℕ × PersonalPenalty). share.1.day)
     (λ s. (s, share_of I.periods I.weights (rows_of s rows))) students
     ∙ student_sum (day_cost I.periods I.weights) I rows T known are numbered in
     let spread : sum_by (λ share. share.1.spread) (student_shares I rows)
     ≡ pair_part (spread_cost I.periods I.weights) E (period_of T)
-    = sum_by_map (λ (share : ℕ × PersonalPenalty). share.1.spread)
+    = sum_by-map (λ (share : ℕ × PersonalPenalty). share.1.spread)
     (λ s. (s, share_of I.periods I.weights (rows_of s rows))) students
     ∙ student_sum (spread_cost I.periods I.weights) I rows T known are numbered in
     let night : sum_by (λ share. share.1.night) (student_shares I rows)
     ≡ pair_part (night_cost I.periods I.weights) E (period_of T)
-    = sum_by_map (λ (share : ℕ × PersonalPenalty). share.1.night)
+    = sum_by-map (λ (share : ℕ × PersonalPenalty). share.1.night)
     (λ s. (s, share_of I.periods I.weights (rows_of s rows))) students
     ∙ student_sum (night_cost I.periods I.weights) I rows T known are numbered in
     let mixed : sum_by (λ share. share.mixed) (room_shares I T)

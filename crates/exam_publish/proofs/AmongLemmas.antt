@@ -9,7 +9,10 @@ use Rattle.std.proofs.lemmas.List.Elements.{All-from_recursion, recursion_from_A
 use Rattle.std.proofs.lemmas.List.Folds.{list_any_at, list_any_none}
 use Rattle.std.proofs.lemmas.List.Sorted.{searched}
 use Rattle.std.proofs.lemmas.List.Sums.{sum_by-cons}
-use Rattle.exam_lists.proofs.Chains.{chain_from_index}
+use Rattle.exam_lists.proofs.Chains.{chain_from_index, chain_filter, index_from_chain}
+use Rattle.exam_lists.proofs.Each.{each_filter}
+use Rattle.exam_lists.proofs.Filters.{length_filter-le, map_filter_agree}
+use Rattle.exam_lists.proofs.Sums.{sum_by-filter-le}
 use Rattle.exam_model.specs.Enrolments.{IsAscending, has_number}
 use Rattle.exam_model.specs.Instance.{Session}
 use Rattle.exam_model.specs.Timetable.{Placing}
@@ -20,30 +23,15 @@ use Rattle.exam_publish.specs.AddUp.{AreSmall, share_total}
 use Rattle.exam_publish.specs.Changed.{sorted_numbers, rows_among, rows_of, students_of}
 use Rattle.exam_publish.specs.Rows.{ArePublishedRows, IsAtExam, RowBefore}
 use Rattle.exam_publish.specs.Shares.{share_of, shares_among, shares_of, student_shares}
-use Rattle.exam_publish.proofs.ListLemmas.{ascending_from_chain, ascends, chain_ascending, chain_filter, each_filter, has_ascending, has_filter, index_from_chain}
+use Rattle.exam_publish.proofs.ListLemmas.{ascending_from_chain, ascends, chain_ascending, has_ascending, has_filter}
 use Rattle.exam_publish.proofs.ShareLemmas.{small_shares}
 
 -- ---- filtered lists
-
-filter_shorter : {X : Type 0} (t : X → Bool) (xs : List X) → length (filter t xs) ≤ length xs
-filter_shorter t [] = omega arith
-filter_shorter t (x ∷ xs) = grind (arith, common_steps, filter_shorter t xs)
 
 pub map_filter : {X Y : Type 0} (f : X → Y) (p : Y → Bool) (xs : List X)
     → map f (filter (λ x. p (f x)) xs) ≡ filter p (map f xs)
 map_filter f p [] = refl
 map_filter f p (x ∷ xs) = grind (arith, common_steps, map_filter f p xs)
-
--- two functions that agree on the elements that pass
-map_passing : {X Y : Type 0} (f g : X → Y) (p : X → Bool) → ((x : X) → p x ≡ true → f x ≡ g x)
-    → (xs : List X) → map f (filter p xs) ≡ map g (filter p xs)
-map_passing f g p same [] = refl
-map_passing f g p same (x ∷ xs) = grind (arith, common_steps, map_passing f g p same xs)
-
-less_sum : {X : Type 0} (f : X → ℕ) (t : X → Bool) (xs : List X)
-    → sum_by f (filter t xs) ≤ sum_by f xs
-less_sum f t [] = omega arith
-less_sum f t (x ∷ xs) = grind (arith, common_steps, sum_by-cons, less_sum f t xs)
 
 -- ---- a search among students
 
@@ -76,7 +64,7 @@ among_published I rows T students are =
       exams = are.exams;
       places = are.places;
       complete = are.complete;
-      few = let shorter = filter_shorter t rows in omega (arith, shorter, are.few);
+      few = let shorter = length_filter-le t rows in omega (arith, shorter, are.few);
       in_order = index_from_chain RowBefore (filter t rows)
           (chain_filter RowBefore t rows (chain_from_index RowBefore rows are.in_order));
       at_exams = All-from_recursion (IsAtExam T) (filter t rows)
@@ -111,7 +99,7 @@ among_shares I rows students =
     = λ s. (s, share_of I.periods I.weights (rows_of s (rows_among students rows))) in
     let all : ℕ → ℕ × PersonalPenalty = λ s. (s, share_of I.periods I.weights (rows_of s rows)) in
     ap (map own) (students_among rows students)
-    ∙ map_passing own all (has_number students)
+    ∙ map_filter_agree own all (has_number students)
     (λ s h. ap (λ rs. (s, share_of I.periods I.weights rs)) (own_among students s h rows))
     (students_of rows)
     ∙ map_filter all (λ share. has_number students share.0) (students_of rows)
@@ -121,6 +109,6 @@ pub among_small : (I : Session) (rows : List SeatRow) (T : Placing) (students : 
     → n ≡ 2 ^ 62 → share_total (shares_of I rows T) < n → AreSmall (shares_among I rows T students)
 among_small I rows T students n is small =
     small_shares n is (shares_among I rows T students)
-    (let less = less_sum (λ (share : ℕ × PersonalPenalty). personal_total share.1)
+    (let less = sum_by-filter-le (λ (share : ℕ × PersonalPenalty). personal_total share.1)
     (λ share. has_number students share.0) (student_shares I rows) in
     omega arith)

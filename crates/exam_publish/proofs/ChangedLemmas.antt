@@ -4,15 +4,17 @@ use Rattle.std.specs.List.{AllByRecursion}
 use Rattle.std.proofs.Common.{◌≡◌, ℕ, inl, inr, Bool, true, false, ◌&&◌, ◌||◌, eqb, List, [], ◌∷◌, ◌++◌, refl, sym, ◌∙◌, ap, subst, arith, rules}
 use Rattle.std.proofs.lemmas.Bool.Decides.{nat_tests}
 use Rattle.std.proofs.lemmas.List.Folds.{list_any-append}
-use Rattle.exam_lists.proofs.Chains.{IsChain, chain_from_index}
-use Rattle.exam_lists.proofs.Each.{each_weaker}
+use Rattle.std.proofs.Math.Bool.{or-false, or_assoc}
+use Rattle.exam_lists.proofs.Chains.{IsChain, chain_from_index, chain_filter}
+use Rattle.exam_lists.proofs.Each.{each_weaker, each_filter}
+use Rattle.exam_lists.proofs.Tests.{any_map}
 use Rattle.exam_model.specs.Enrolments.{IsAscending, has_number}
 use Rattle.exam_model.specs.Pairs.{Pair, ComesBefore}
 use Rattle.exam_model.proofs.SameSet.{same_list}
 use Rattle.exam_publish.specs.declared.seat_row.SeatRow.{SeatRow}
 use Rattle.exam_publish.specs.Rows.{is_pair_before, RowBefore, RowsInOrder, row_pair}
 use Rattle.exam_publish.specs.Changed.{rows_of, has_row, same_row, same_rows, is_changed, changed_students}
-use Rattle.exam_publish.proofs.ListLemmas.{each_filter, chain_filter, any_map, has_filter, has_ascending, chain_ascending, ascending_from_chain}
+use Rattle.exam_publish.proofs.ListLemmas.{has_filter, has_ascending, chain_ascending, ascending_from_chain}
 
 -- ---- the order of rows
 
@@ -77,19 +79,11 @@ pub start : (old new : List SeatRow) (found : List ℕ) → found ≡ [] → Row
     → RowsInOrder new → IsCompared old new old new found
 start old new found none up up' = grind (arith, common_steps, chain_from_index)
 
-or_assoc : (a b c : Bool) → ((a || b) || c) ≡ (a || (b || c))
-or_assoc true b c = refl
-or_assoc false b c = refl
-
-or_false : (a : Bool) → (a || false) ≡ a
-or_false true = refl
-or_false false = refl
-
 -- one more student
 pub has_push : (found : List ℕ) (t s : ℕ)
     → has_number (found ++ t ∷ []) s ≡ (has_number found s || eqb t s)
 has_push found t s = list_any-append (λ x. eqb x s) found (t ∷ [])
-    ∙ ap (λ b. has_number found s || b) (or_false (eqb t s))
+    ∙ ap (λ b. has_number found s || b) (or-false (eqb t s))
 
 pub step_left : {old new left right : List SeatRow} {found more : List ℕ} (r q : SeatRow)
     (rs qs : List SeatRow)

@@ -19,6 +19,7 @@ use Rattle.std.proofs.lemmas.List.Sums.{sum_by-cons, count_by-le-length}
 use Rattle.exam_lists.proofs.Chains.{IsChain, chain_weaker}
 use Rattle.exam_lists.proofs.Each.{each_weaker}
 use Rattle.exam_lists.proofs.Sums.{sum_by-agree, sum_by-once}
+use Rattle.exam_lists.proofs.Booleans.{same_tests}
 use Rattle.exam_model.specs.Instance.{Session}
 use Rattle.exam_model.specs.Sums.{sum_below}
 use Rattle.exam_model.specs.Timetable.{Placing}
@@ -28,7 +29,6 @@ use Rattle.exam_score.specs.Stays.{is_stay, StayExists, AreStays}
 use Rattle.exam_score.specs.declared.mixed.Stay.{Stay}
 use Rattle.exam_publish.specs.Durations.{is_in_slot, AreDurations}
 use Rattle.exam_publish.specs.Tallies.{AreTallied}
-use Rattle.exam_publish.proofs.ListLemmas.{alike}
 use Rattle.exam_model.proofs.PlaceLemmas.{slot_within}
 
 -- ---- the order of the stays
@@ -74,7 +74,7 @@ any_count p (x ∷ xs) = grind (arith, common_steps, sum_by-cons, nat_tests, any
 
 any_dedup : (p : Stay → Bool) (xs : List Stay) → list_any p (dedup stay_eq xs) ≡ list_any p xs
 any_dedup p xs =
-    alike (list_any p (dedup stay_eq xs)) (list_any p xs)
+    same_tests (list_any p (dedup stay_eq xs)) (list_any p xs)
     (λ h. moved (dedup stay_eq xs) xs (λ x there. Contains-from_dedup stay_eq xs x there) h)
     (λ h. moved xs (dedup stay_eq xs)
     (λ x there. Contains-dedup {E = stay_eq} equivalence same_stay xs x there) h)

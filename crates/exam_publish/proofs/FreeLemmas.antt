@@ -3,11 +3,13 @@ use Rattle.std.proofs.lemmas.Grind.{common_steps}
 use Rattle.std.specs.List.{list_any, position_or_len, range_with_len}
 use Rattle.std.specs.Prelude.{not}
 use Rattle.std.proofs.Common.{◌≡◌, ℕ, ◌+◌, ◌-◌, ◌<◌, ◌≤◌, inl, inr, Bool, true, false, cond, ◌&&◌, ◌||◌, eqb, List, [], ◌∷◌, length, get_or, refl, sym, ◌∙◌, ap, ap₂, arith}
-use Rattle.std.proofs.lemmas.Bool.{cases_eq, cases_lt, eq-eqb, ne_eqb, not-false, false_from_ne_true, or_right}
+use Rattle.std.proofs.lemmas.Bool.{cases_eq, cases_lt, eq-eqb, ne_eqb, not-false, false_from_ne_true, or_right, not-true}
 use Rattle.std.proofs.lemmas.Bool.Decides.{nat_tests}
 use Rattle.std.proofs.lemmas.List.FromFn.{length-range_with_len, get_or-range_with_len}
 use Rattle.std.proofs.lemmas.List.Sums.{position_or_len_is, fails_before_first, passes_at_first}
 use Rattle.std.proofs.lemmas.Map.Steps.{le-length_from_below}
+use Rattle.exam_lists.proofs.Booleans.{eqb_swap}
+use Rattle.exam_lists.proofs.Searches.{position-le-length}
 use Rattle.exam_terms.specs.declared.place.Place.{Place}
 use Rattle.exam_model.specs.Enrolments.{has_number}
 use Rattle.exam_rules.specs.Places.{is_one_place}
@@ -23,12 +25,9 @@ pub record IsLeastFree (taken : List ℕ) (n : ℕ) : Type 0 where
   pub free : has_number taken n ≡ false
   pub below : (k : ℕ) → 1 ≤ k → k < n → has_number taken k ≡ true
 
-turned : (k x : ℕ) → eqb k x ≡ eqb x k
-turned k x = grind (arith, nat_tests)
-
 any_turned : (k : ℕ) (xs : List ℕ) → list_any (eqb k) xs ≡ has_number xs k
 any_turned k [] = refl
-any_turned k (x ∷ xs) = ap₂ (λ a b. a || b) (turned k x) (any_turned k xs)
+any_turned k (x ∷ xs) = ap₂ (λ a b. a || b) (eqb_swap k x) (any_turned k xs)
 
 -- a list with all numbers from 1 to n has at least n elements
 pub le_taken : (n : ℕ) (xs : List ℕ)
@@ -41,10 +40,6 @@ le_taken n xs h =
           (any_turned q xs ∙ h q (omega arith) (omega arith))
     ]) in
     omega arith
-
-position_small : {X : Type 0} (p : X → Bool) (xs : List X) → position_or_len p xs ≤ length xs
-position_small p [] = omega arith
-position_small p (x ∷ xs) = grind (arith, common_steps, position_small p xs)
 
 abbrev is_free : List ℕ → ℕ → Bool
 is_free taken k = not (has_number taken k)
@@ -66,11 +61,7 @@ is_least taken n h =
     omega arith
 
 pub least_small : (taken : List ℕ) → least_free taken ≤ length taken + 1
-least_small taken = grind (arith, common_steps, length-range_with_len, position_small)
-
-turned_not : (b : Bool) → not b ≡ true → b ≡ false
-turned_not true h = sym h
-turned_not false h = refl
+least_small taken = grind (arith, common_steps, length-range_with_len, position-le-length)
 
 least_below : (taken : List ℕ) (k : ℕ) → 1 ≤ k → k < least_free taken → has_number taken k ≡ true
 least_below taken k low lt =
@@ -86,10 +77,10 @@ least_free_is taken =
     let n = length taken in
     let first = position_or_len (is_free taken) (range_with_len 1 n) in
     let long = length-range_with_len 1 n in
-    let most = position_small (is_free taken) (range_with_len 1 n) in
+    let most = position-le-length (is_free taken) (range_with_len 1 n) in
     elim (cases_lt first n) as (λ _. has_number taken (first + 1) ≡ false) [
       | inl less ↦
-          turned_not (has_number taken (first + 1))
+          not-true (has_number taken (first + 1))
           (ap (is_free taken) (sym (at_number n first less))
           ∙ passes_at_first (is_free taken) (range_with_len 1 n) 0 (omega arith))
       | inr past ↦

@@ -5,6 +5,7 @@ use Rattle.std.proofs.Common.{◌≡◌, ℕ, ◌+◌, ◌*◌, ◌<◌, ◌≤�
 use Rattle.std.proofs.lemmas.Bool.{cases_eq, and_parts, false_from_ne_true}
 use Rattle.std.proofs.lemmas.List.{at_drop_more, length-replicate, length-set, get_or-set_same, get_or-set_other}
 use Rattle.std.proofs.lemmas.Nat.{same_from_place}
+use Rattle.exam_lists.proofs.Searches.{get_or_same}
 use Rattle.exam_terms.specs.declared.place.Place.{Place}
 use Rattle.exam_model.specs.Fits.{slot_of}
 use Rattle.exam_model.proofs.PlaceLemmas.{slot_within}
@@ -16,7 +17,6 @@ use Rattle.exam_publish.specs.Seats.{seats_at, least_free, new_row, rows_after_e
 use Rattle.exam_publish.specs.Entrants.{old_rows}
 use Rattle.exam_publish.proofs.FreeLemmas.{IsNext, is_next, last_here, last_there, le_taken, length_seats}
 use Rattle.exam_publish.proofs.SeatLemmas.{same_place, length_filter_map}
-use Rattle.exam_publish.proofs.TallyLemmas.{zeros}
 
 -- the rows of the first i entrants, and the rows that are present for the later ones
 pub record AreGiven (xs : List Entrant) (periods rooms i : ℕ) (last : List ℕ)
@@ -32,7 +32,7 @@ none_given xs periods rooms n last rows is same none = record {
   current = old_rows xs;
   few = omega arith;
   seated = ap (λ rs. rs ++ rows_after_entrants (old_rows xs) xs) none;
-  table = grind (arith, common_steps, length-replicate, zeros);
+  table = grind (arith, common_steps, length-replicate, get_or_same);
 }
 
 left : (xs : List Entrant) (i : ℕ) (x : Entrant) → i < length xs → x ≡ get_or xs i x

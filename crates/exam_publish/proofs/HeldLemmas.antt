@@ -7,6 +7,7 @@ use Rattle.std.proofs.lemmas.List.{take_more}
 use Rattle.std.proofs.lemmas.List.Elements.{filter-append, filter_map-append, All-from_recursion, recursion_from_All}
 use Rattle.std.proofs.lemmas.List.Sorted.{list_any-IsPermutation, All-permutation}
 use Rattle.std.proofs.lemmas.Bool.Decides.{nat_tests}
+use Rattle.exam_lists.proofs.Each.{each_filter, each_map}
 use Rattle.exam_terms.specs.declared.place.Place.{Place}
 use Rattle.exam_model.specs.Enrolments.{has_number}
 use Rattle.exam_model.specs.Fits.{slot_of}
@@ -19,7 +20,6 @@ use Rattle.exam_publish.specs.Seating.{is_held, compare_held, AreHeld, AreNeeded
 use Rattle.exam_publish.specs.Seats.{seats_at}
 use Rattle.exam_publish.specs.Entrants.{old_rows}
 use Rattle.exam_publish.proofs.FreeLemmas.{has_seats}
-use Rattle.exam_publish.proofs.ListLemmas.{each_filter, each_map}
 use Rattle.exam_publish.proofs.SeatLemmas.{one_place}
 
 abbrev pub row_seat : SeatRow → Held

@@ -6,7 +6,8 @@ use Rattle.std.specs.Prelude.{nat_eq}
 use Rattle.std.proofs.lemmas.List.Elements.{All-from_recursion, recursion_from_All}
 use Rattle.std.proofs.lemmas.List.Folds.{Any-from_list_any, list_any_at}
 use Rattle.std.proofs.lemmas.List.Kept.{AllPairs-cons, Contains-dedup_nat, Contains-from_dedup}
-use Rattle.exam_lists.proofs.Chains.{IsChain}
+use Rattle.exam_lists.proofs.Chains.{IsChain, index_from_chain}
+use Rattle.exam_lists.proofs.Booleans.{same_tests}
 use Rattle.exam_model.specs.Enrolments.{IsAscending, has_number}
 use Rattle.exam_model.proofs.SameSet.{same_list}
 use Rattle.exam_model.proofs.StudentLemmas.{ascending-none, ascending-with, has-with}
@@ -14,38 +15,7 @@ use Rattle.exam_publish.specs.Changed.{sorted_numbers}
 
 -- ---- chains
 
-pub index_from_chain : {X : Type 0} (R : X → X → Type 0) (xs : List X)
-    → IsChain R xs → AllPairs R xs
-index_from_chain R [] h = λ i j d l m. absurd (omega arith)
-index_from_chain R (x ∷ xs) h =
-    AllPairs-cons R x xs (All-from_recursion (R x) xs h.0) (index_from_chain R xs h.1)
-
-pub each_filter : {X : Type 0} (P : X → Type 0) (t : X → Bool) (xs : List X) → AllByRecursion P xs
-    → AllByRecursion P (filter t xs)
-each_filter P t [] a = tt
-each_filter P t (x ∷ xs) a = grind (arith, common_steps, each_filter P t xs a.1)
-
-pub chain_filter : {X : Type 0} (R : X → X → Type 0) (t : X → Bool) (xs : List X) → IsChain R xs
-    → IsChain R (filter t xs)
-chain_filter R t [] h = tt
-chain_filter R t (x ∷ xs) h = grind (arith, common_steps, each_filter, chain_filter R t xs h.1)
-
-pub each_map : {X Y : Type 0} (P : Y → Type 0) (f : X → Y) (xs : List X)
-    → AllByRecursion (λ x. P (f x)) xs → AllByRecursion P (map f xs)
-each_map P f [] h = tt
-each_map P f (x ∷ xs) h = (h.0, each_map P f xs h.1)
-
-pub chain_map : {X Y : Type 0} (R : Y → Y → Type 0) (f : X → Y) (xs : List X)
-    → IsChain (λ x y. R (f x) (f y)) xs → IsChain R (map f xs)
-chain_map R f [] h = tt
-chain_map R f (x ∷ xs) h = (each_map (R (f x)) f xs h.0, chain_map R f xs h.1)
-
 -- ---- tests of a whole list
-
-pub any_map : {X Y : Type 0} (p : Y → Bool) (f : X → Y) (xs : List X)
-    → list_any p (map f xs) ≡ list_any (λ x. p (f x)) xs
-any_map p f [] = refl
-any_map p f (x ∷ xs) = ap (λ b. p (f x) || b) (any_map p f xs)
 
 any_cond : (b : Bool) (t x : ℕ) (xs : List ℕ)
     → has_number (cond b (x ∷ xs) xs) t ≡ ((b && (eqb x t)) || has_number xs t)
@@ -108,16 +78,10 @@ pub is_ascending : (xs ys : List ℕ) → IsAscending ys → ((t : ℕ) → has_
 is_ascending xs ys up same =
     same_list ys (sorted_numbers xs) up (ascends xs) (λ t. same t ∙ sym (has_ascending xs t))
 
--- two tests that follow from one another
-pub alike : (a b : Bool) → (a ≡ true → b ≡ true) → (b ≡ true → a ≡ true) → a ≡ b
-alike true b h k = sym (h refl)
-alike false true h k = k refl
-alike false false h k = refl
-
 -- a list without its repeats has the same numbers
 pub has_dedup : (xs : List ℕ) (t : ℕ) → has_number (dedup nat_eq xs) t ≡ has_number xs t
 has_dedup xs t =
-    alike (has_number (dedup nat_eq xs) t) (has_number xs t)
+    same_tests (has_number (dedup nat_eq xs) t) (has_number xs t)
     (λ h. moved (dedup nat_eq xs) xs (λ x there. Contains-from_dedup nat_eq xs x there) h)
     (λ h. moved xs (dedup nat_eq xs) (λ x there. Contains-dedup_nat xs x there) h)
   where

@@ -7,8 +7,9 @@ use Rattle.std.proofs.lemmas.Bool.{and_from, cases_eq, cases_lt, eq-eqb, ne_eqb,
 use Rattle.std.proofs.lemmas.List.{get_or_past, length-map}
 use Rattle.std.proofs.lemmas.List.Elements.{All-from_recursion}
 use Rattle.std.proofs.lemmas.List.FromFn.{length-map-range_with_len, get_or-map-range_with_len}
-use Rattle.exam_lists.proofs.Chains.{IsChain, chain_weaker}
-use Rattle.exam_lists.proofs.Each.{each_weaker}
+use Rattle.exam_lists.proofs.Chains.{IsChain, chain_weaker, index_from_chain}
+use Rattle.exam_lists.proofs.Each.{each_weaker, each_map}
+use Rattle.exam_lists.proofs.Tests.{any_map}
 use Rattle.exam_model.specs.Enrolments.{Enrolled, AreEnrolments, AreNumbers, has_number, students}
 use Rattle.exam_model.specs.Fits.{period_of}
 use Rattle.exam_model.specs.Pairs.{Pair, is_pair, pairs_at, pairs_from, pairs_of}
@@ -18,7 +19,7 @@ use Rattle.exam_score.specs.Regrouping.{periods_of, AreStudentsOf}
 use Rattle.exam_publish.specs.declared.seat_row.SeatRow.{SeatRow}
 use Rattle.exam_publish.specs.Rows.{row_pair, RowBefore, IsAtExam, students_in, enrolled_in}
 use Rattle.exam_publish.specs.Changed.{rows_of, has_row, students_of}
-use Rattle.exam_publish.proofs.ListLemmas.{any_map, has_ascending, chain_ascending, ascending_from_chain, index_from_chain, each_map}
+use Rattle.exam_publish.proofs.ListLemmas.{has_ascending, chain_ascending, ascending_from_chain}
 use Rattle.exam_publish.proofs.SeatingLemmas.{length_pairs}
 
 -- ---- one more row

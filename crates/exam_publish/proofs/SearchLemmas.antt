@@ -6,11 +6,13 @@ use Rattle.std.specs.Ordering.{nat_cmp, ordering_then, is_eq, is_lt}
 use Rattle.std.specs.Cmp.{then_total, on_total, nat_cmp_total, IsTotalOrder}
 use Rattle.std.specs.Prelude.{is_ok, ◌&&◌}
 use Rattle.std.proofs.Common.{◌≡◌, ℕ, zero, suc, ◌+◌, ◌<◌, ◌≤◌, ◌⊎◌, inl, inr, Bool, true, false, cond, eqb, List, [], ◌∷◌, length, get_or, Some, None, Result, Ok, Err, All, IsSorted, Ordering, Equal, refl, sym, ◌∙◌, ap, subst, arith, eqb-true, rules}
-use Rattle.std.proofs.lemmas.Bool.{cases_lt, cases_eq, and_parts, and_from, false_from_ne_true, true≢false}
+use Rattle.std.proofs.lemmas.Bool.{cases_lt, cases_eq, and_parts, and_from, false_from_ne_true, true≢false, and_right}
 use Rattle.std.proofs.lemmas.Bool.Decides.{nat_tests}
 use Rattle.std.proofs.lemmas.List.{get_or_default}
 use Rattle.std.proofs.lemmas.List.Folds.{list_any_at, list_any_none, Any-from_list_any}
 use Rattle.std.proofs.lemmas.List.Sorted.{searchable_from_sorted}
+use Rattle.exam_lists.proofs.Searches.{find_none, find_one}
+use Rattle.exam_lists.proofs.Tests.{any_agree}
 use Rattle.exam_model.specs.Pairs.{Pair, is_pair}
 use Rattle.exam_terms.specs.declared.place.Place.{Place}
 use Rattle.exam_rules.specs.Places.{is_one_place}
@@ -36,10 +38,6 @@ found R o key xs x d (Err i) sorted bound is =
       | inr above ↦ ap is_eq (parts.1 k e above lt)
     ]))
 
-any_same : {X : Type 0} (p q : X → Bool) → ((x : X) → p x ≡ q x) → (xs : List X)
-    → list_any p xs ≡ list_any q xs
-any_same p q h xs = λ i. list_any (λ x. h x i) xs
-
 -- ---- seats in order
 
 held_total : IsTotalOrder compare_held
@@ -57,7 +55,7 @@ pub held_found : (xs : List Held) (x : Held) (r : Result ℕ ℕ) → IsSorted c
     → is_ok r ≡ list_any (is_held (record { period = x.period; room = x.room }) x.seat) xs
 held_found xs x r sorted bound is =
     found compare_held held_total (λ y. y) xs x x r sorted bound is
-    ∙ any_same (λ y. is_eq (compare_held y x))
+    ∙ any_agree (λ y. is_eq (compare_held y x))
     (is_held (record { period = x.period; room = x.room }) x.seat) (is_this x) xs
 
 -- a held seat has a number of at most 100,000
@@ -73,23 +71,6 @@ held_small xs at n small any =
     omega arith
 
 -- ---- rows in order
-
-find_none : {X : Type 0} (t : X → Bool) (xs : List X)
-    → ((k : ℕ) (d : X) → k < length xs → t (get_or xs k d) ≡ false) → find t xs ≡ None
-find_none t [] h = refl
-find_none {X} t (x ∷ xs) h =
-    ap (λ b. cond b (Some x) (find t xs)) (h 0 x (omega arith))
-    ∙ find_none t xs (λ k d lt. h (suc k) d (omega arith))
-
-find_one : {X : Type 0} (t : X → Bool) (xs : List X) (i : ℕ) (x : X) → i < length xs
-    → x ≡ get_or xs i x → t x ≡ true
-    → ((k : ℕ) (d : X) → k < i → t (get_or xs k d) ≡ false) → find t xs ≡ Some x
-find_one t [] i x lt is here before = absurd (omega arith)
-find_one t (y ∷ ys) zero x lt is here before =
-    ap (λ b. cond b (Some y) (find t ys)) (ap t (sym is) ∙ here) ∙ ap (λ z. Some z) (sym is)
-find_one t (y ∷ ys) (suc i) x lt is here before =
-    ap (λ b. cond b (Some y) (find t ys)) (before 0 x (omega arith))
-    ∙ find_one t ys i x (omega arith) is here (λ k d l. before (suc k) d (omega arith))
 
 key_total : IsTotalOrder (λ (a b : ℕ × ℕ). ordering_then (nat_cmp a.0 b.0) (nat_cmp a.1 b.1))
 key_total = then_total (on_total (λ (a : ℕ × ℕ). a.0) nat_cmp_total)
@@ -114,10 +95,6 @@ other_row : (p : Pair) (at : Place) (row : SeatRow)
     → is_eq (ordering_then (nat_cmp row.exam p.exam) (nat_cmp row.student p.student)) ≡ false
     → is_row_at p at row ≡ false
 other_row p at row h = grind (arith, common_steps, false_from_ne_true, and_parts, eqb-true, nat_tests, true≢false)
-
-none_there : (a b : Bool) → b ≡ false → (a && b) ≡ false
-none_there true b h = h
-none_there false b h = refl
 
 pair_of : (row : SeatRow) (p : Pair)
     → ordering_then (nat_cmp row.exam p.exam) (nat_cmp row.student p.student) ≡ Equal
@@ -173,7 +150,7 @@ row_found xs p at i row order lt is equal = go (is_one_place at (row_place row))
         (λ k d within. elim (cases_eq k i) as (λ _. is_row_at p at (get_or xs k d) ≡ false) [
           | inl same ↦ ap (λ n. is_row_at p at (get_or xs n d)) same
               ∙ ap (is_row_at p at) (sym (is ∙ get_or_default xs i row d lt))
-              ∙ none_there (is_pair row.student row.exam p) (is_one_place at (row_place row)) away
+              ∙ and_right (is_pair row.student row.exam p) (is_one_place at (row_place row)) away
           | inr other ↦ others k d within other
         ])
 

@@ -3,15 +3,17 @@ use Rattle.std.proofs.lemmas.Grind.{common_steps}
 use Rattle.std.specs.List.{AllByRecursion, cons_option, find}
 use Rattle.std.specs.Prelude.{IfSome, IsSome, is_none, slice_get, nat_lt}
 use Rattle.std.proofs.Common.{◌≡◌, ℕ, zero, suc, ◌+◌, ◌<◌, ◌≤◌, inl, inr, Bool, true, false, cond, ◌&&◌, eqb, ltb, List, [], ◌∷◌, ◌++◌, length, map, get_or, Option, None, Some, option_map, count_by, filter_map, AllPairs, Contains, refl, sym, ◌∙◌, ap, subst, arith, lt-ltb, eqb-true, rules}
-use Rattle.std.proofs.lemmas.Bool.{and_parts, and_from, eq-eqb, cond-true, false_from_ne_true, false≢true, true≢false, cases_lt, cases_eq, or_left}
+use Rattle.std.proofs.lemmas.Bool.{and_parts, and_from, eq-eqb, cond-true, false_from_ne_true, false≢true, true≢false, cases_lt, cases_eq, or_left, ltb-false}
 use Rattle.std.proofs.lemmas.Bool.Decides.{nat_tests}
 use Rattle.std.proofs.lemmas.Option.{none-some}
 use Rattle.std.proofs.lemmas.List.{length-map, get_or_default}
 use Rattle.std.proofs.lemmas.List.Elements.{All-from_recursion, recursion_from_All, All-contains_itself, All-contains}
 use Rattle.std.proofs.lemmas.List.Sums.{sum_by-cons}
-use Rattle.exam_lists.proofs.Chains.{IsChain, chain_from_index, chain_weaker}
-use Rattle.exam_lists.proofs.Each.{each_weaker}
+use Rattle.exam_lists.proofs.Chains.{IsChain, chain_from_index, chain_weaker, chain_filter_map, chain_unmap, chain_with_each, index_from_chain}
+use Rattle.exam_lists.proofs.Each.{each_weaker, each_all, each_filter_map}
 use Rattle.exam_lists.proofs.Sums.{cond-sum_by, sum_by-agree}
+use Rattle.exam_lists.proofs.Members.{not_in_nil}
+use Rattle.exam_lists.proofs.Searches.{find_keeps, slice_get_none}
 use Rattle.exam_model.specs.Instance.{Session}
 use Rattle.exam_model.specs.Enrolments.{Enrolled, AreEnrolments, has_number}
 use Rattle.exam_model.specs.Fits.{Fits, PlaceExists}
@@ -37,69 +39,20 @@ use Rattle.exam_publish.specs.Rows.{row_pair, row_place, RowBefore, RowsInOrder,
 use Rattle.exam_publish.specs.Seats.{IsSeatOf, HasSeat, HaveOwnSeats, AreSeated, seats_at, least_free, new_row, rows_with_entrant, rows_after_entrants, seat_rows}
 use Rattle.exam_publish.specs.Entrants.{is_row_at, entrant, entrants, old_rows}
 use Rattle.exam_publish.proofs.FreeLemmas.{least_is, least_small, length_seats, has_seats, still_taken}
-use Rattle.exam_publish.proofs.ListLemmas.{index_from_chain}
 use Rattle.exam_publish.proofs.PermitLemmas.{neither, all_placed}
 use Rattle.exam_publish.proofs.SeatingLemmas.{length_pairs}
 
 -- ---- along a list whose elements may be missing
-
-each_filter_map : {X Y : Type 0} (P : Y → Type 0) (f : X → Option Y) (xs : List X)
-    → AllByRecursion (λ x. IfSome (f x) P) xs → AllByRecursion P (filter_map f xs)
-each_filter_map P f [] h = tt
-each_filter_map P f (x ∷ xs) h = grind (arith, common_steps, each_filter_map P f xs h.1)
-
-chain_filter_map : {X Y : Type 0} (R : Y → Y → Type 0) (f : X → Option Y) (xs : List X)
-    → IsChain (λ x y. IfSome (f x) (λ r. IfSome (f y) (R r))) xs → IsChain R (filter_map f xs)
-chain_filter_map R f [] h = tt
-chain_filter_map {X} R f (x ∷ xs) h = go (f x) h.0 (chain_filter_map R f xs h.1)
-  where
-    go : (o : Option _) → AllByRecursion (λ (y : X). IfSome o (λ r. IfSome (f y) (R r))) xs
-        → IsChain R (filter_map f xs) → IsChain R (cons_option o (filter_map f xs))
-    go None k more = more
-    go (Some r) k more = (each_filter_map (R r) f xs k, more)
-
-pub each_all : {X : Type 0} (P : X → Type 0) → ((x : X) → P x) → (xs : List X) → AllByRecursion P xs
-each_all P h [] = tt
-each_all P h (x ∷ xs) = (h x, each_all P h xs)
-
-both_each : {X : Type 0} (P Q : X → Type 0) (xs : List X) → AllByRecursion P xs
-    → AllByRecursion Q xs → AllByRecursion (λ x. P x × Q x) xs
-both_each P Q [] a b = tt
-both_each P Q (x ∷ xs) a b = ((a.0, b.0), both_each P Q xs a.1 b.1)
 
 pub length_filter_map : {X Y : Type 0} (f : X → Option Y) (xs : List X)
     → length (filter_map f xs) ≤ length xs
 length_filter_map f [] = omega arith
 length_filter_map f (x ∷ xs) = grind (arith, common_steps, length_filter_map f xs)
 
--- a chain whose elements all satisfy a condition
-chain_with_each : {X : Type 0} (P : X → Type 0) (R : X → X → Type 0) (xs : List X)
-    → AllByRecursion P xs → IsChain R xs
-    → IsChain (λ x y. P x × (P y × R x y)) xs
-chain_with_each P R [] a h = tt
-chain_with_each P R (x ∷ xs) a h =
-    (each_weaker (λ y. P y × R x y) (λ y. P x × (P y × R x y)) (λ y k. (a.0, k)) xs (both_each P (R x) xs a.1 h.0), chain_with_each P R xs a.1 h.1)
-
-each_unmap : {X Y : Type 0} (P : Y → Type 0) (f : X → Y) (xs : List X) → AllByRecursion P (map f xs)
-    → AllByRecursion (λ x. P (f x)) xs
-each_unmap P f [] h = tt
-each_unmap P f (x ∷ xs) h = (h.0, each_unmap P f xs h.1)
-
-chain_unmap : {X Y : Type 0} (R : Y → Y → Type 0) (f : X → Y) (xs : List X) → IsChain R (map f xs)
-    → IsChain (λ x y. R (f x) (f y)) xs
-chain_unmap R f [] h = tt
-chain_unmap R f (x ∷ xs) h = (each_unmap (R (f x)) f xs h.0, chain_unmap R f xs h.1)
-
 some_weaker : {X : Type 0} (P Q : X → Type 0) → ((x : X) → P x → Q x) → (o : Option X)
     → IfSome o P → IfSome o Q
 some_weaker P Q h None k = tt
 some_weaker P Q h (Some x) k = h x k
-
--- the element found passes, and satisfies the condition of all elements
-find_keeps : {X : Type 0} (P : X → Type 0) (t : X → Bool) (xs : List X) → AllByRecursion P xs
-    → IfSome (find t xs) (λ x. P x × (t x ≡ true))
-find_keeps P t [] a = tt
-find_keeps {X} P t (x ∷ xs) a = grind (arith, common_steps, find_keeps P t xs a.1)
 
 -- ---- entrants
 
@@ -399,13 +352,6 @@ loaded E T at are =
     ∙ cond-true (ltb p.exam n) (cond (t p.exam) 1 0) 0 (lt-ltb p.exam n lt))
     pairs (from_within n 0 E (omega arith))))
 
-no_first : {X : Type 0} (xs : List X) → slice_get xs 0 ≡ None → xs ≡ []
-no_first [] h = refl
-no_first (x ∷ xs) h = absurd (none-some x (sym h))
-
-not_in_nil : {X : Type 0} (xs : List X) (x : X) → xs ≡ [] → Contains xs x → ⊥
-not_in_nil xs x none h = let l : h.0 < length xs = h.1 in let e = ap length none in omega arith
-
 -- without a breach no room is overfull
 roomy : (I : Session) (E : Enrolled) (T : Placing) (e : ℕ) → length T ≡ length I.exams
     → breaches_of I E T ≡ [] → is_overfull I E T e ≡ false
@@ -414,14 +360,11 @@ roomy I E T e same none =
     false_from_ne_true (is_overfull I E T e) (λ h. not_in_nil (breaches_of I E T) b none
     ((breaches_have I E T same b).1 (and_from (eqb e e) (is_overfull I E T e) (eq-eqb e e refl) h)))
 
-not_more : (a b : ℕ) → nat_lt a b ≡ false → b ≤ a
-not_more a b h = grind (arith, nat_tests, h)
-
 within_room : (rooms : List Room) (r n load : ℕ) → r < length rooms
     → is_too_small (slice_get rooms r) load ≡ false → 1 ≤ n → n ≤ load
     → IsSeatOf (slice_get rooms r) n
 within_room [] r n load l h low high = absurd (omega arith)
-within_room (x ∷ xs) zero n load l h low high = let most = not_more x.capacity load h in
+within_room (x ∷ xs) zero n load l h low high = let most = ltb-false x.capacity load h in
     (low, omega arith)
 within_room (x ∷ xs) (suc r) n load l h low high = within_room xs r n load (omega arith) h low high
 
@@ -468,7 +411,7 @@ are_seats I E T old fits known permitted was =
     let rows : List SeatRow = seat_rows pairs T old in
     let are = are_pairs E known in
     let none = neither (first_unplaced T) (least_breach I E T) permitted in
-    let clean = no_first (breaches_of I E T) none.1 in
+    let clean = slice_get_none (breaches_of I E T) none.1 in
     let placed = all_placed T none.0 in
     let exist : AllByRecursion (λ p. p.exam < length T) pairs =
     from_within (length T) 0 E (omega (arith, fits.timetable, fits.enrolments)) in

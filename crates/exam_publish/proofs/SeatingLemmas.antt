@@ -5,7 +5,7 @@ use Rattle.std.proofs.Common.{◌≡◌, ℕ, ◌+◌, ◌<◌, inl, inr, Bool, 
 use Rattle.std.proofs.lemmas.Bool.Decides.{nat_tests}
 use Rattle.std.proofs.lemmas.List.{take_more, length-map, length-take}
 use Rattle.std.proofs.lemmas.List.Sums.{sum_by-cons, sum_by-append}
-use Rattle.exam_lists.proofs.Chains.{IsChain}
+use Rattle.exam_lists.proofs.Chains.{IsChain, chain_after, chain_before}
 use Rattle.exam_lists.proofs.Each.{each_weaker}
 use Rattle.exam_lists.proofs.Sums.{sum_by-agree, sum_by-none}
 use Rattle.exam_model.specs.Enrolments.{Enrolled, students, pair_count}
@@ -54,21 +54,6 @@ before_false p q h = elim h as (λ _. is_pair_before q p ≡ false)
 pub before_itself : (p : Pair) → is_pair_before p p ≡ false
 before_itself p = grind (arith, nat_tests)
 
-part_before : {X : Type 0} (R : X → X → Type 0) (xs : List X) (y : X) (ys : List X)
-    → IsChain R (xs ++ y ∷ ys) → AllByRecursion (λ x. R x y) xs
-part_before R [] y ys h = tt
-part_before R (x ∷ xs) y ys h = (at_middle R x xs y ys h.0, part_before R xs y ys h.1)
-  where
-    at_middle : {X : Type 0} (R : X → X → Type 0) (x : X) (xs : List X) (y : X) (ys : List X)
-        → AllByRecursion (R x) (xs ++ y ∷ ys) → R x y
-    at_middle R x [] y ys h = h.0
-    at_middle R x (z ∷ zs) y ys h = at_middle R x zs y ys h.1
-
-part_after : {X : Type 0} (R : X → X → Type 0) (xs : List X) (y : X) (ys : List X)
-    → IsChain R (xs ++ y ∷ ys) → AllByRecursion (R y) ys
-part_after R [] y ys h = h.0
-part_after R (x ∷ xs) y ys h = part_after R xs y ys h.1
-
 -- the pairs that come before y are those in front of it in the list
 counted_before : (t : Pair → Bool) (xs : List Pair) (y : Pair) (ys : List Pair)
     → IsChain ComesBefore (xs ++ y ∷ ys)
@@ -79,10 +64,10 @@ counted_before t xs y ys h =
     (λ q. cond (t q) 1 0) xs
     (each_weaker (λ q. ComesBefore q y) _
     (λ q b. ap (λ c. cond (c && t q) 1 0) (before_true q y b)) xs
-    (part_before ComesBefore xs y ys h)) in
+    (chain_before ComesBefore xs y ys h)) in
     let back = sum_by-none (λ (q : Pair). cond (is_pair_before q y && t q) 1 0) ys
     (each_weaker (ComesBefore y) _ (λ q b. ap (λ c. cond (c && t q) 1 0) (before_false y q b)) ys
-    (part_after ComesBefore xs y ys h)) in
+    (chain_after ComesBefore xs y ys h)) in
     let own : ◌≡◌ {A = ℕ} (cond (is_pair_before y y && t y) 1 0) 0 =
     ap (λ c. cond (c && t y) 1 0) (before_itself y) in
     let rest = sum_by-cons (λ (q : Pair). cond (is_pair_before q y && t q) 1 0) y ys in

@@ -7,6 +7,8 @@ use Rattle.std.proofs.lemmas.List.Elements.{All-from_recursion, recursion_from_A
 use Rattle.std.proofs.lemmas.List.FromFn.{length-map-range_with_len}
 use Rattle.std.proofs.lemmas.List.Sums.{sum_by-cons}
 use Rattle.exam_lists.proofs.Chains.{chain_from_index}
+use Rattle.exam_lists.proofs.Sums.{each_below_sum}
+use Rattle.exam_lists.proofs.Tests.{any_map}
 use Rattle.exam_model.specs.Enrolments.{Enrolled, IsAscending, has_number}
 use Rattle.exam_model.specs.Instance.{Session, IsInstance}
 use Rattle.exam_model.specs.Timetable.{Placing}
@@ -19,7 +21,7 @@ use Rattle.exam_publish.specs.AddUp.{AddUpTo, AreSmall, share_total}
 use Rattle.exam_publish.specs.Changed.{rows_of, has_row, same_row, same_rows, is_changed, students_of}
 use Rattle.exam_publish.specs.Rows.{RowBefore, AreNumbered, ArePublishedRows, students_in, enrolled_in}
 use Rattle.exam_publish.specs.Shares.{Sharing, share_of, student_shares}
-use Rattle.exam_publish.proofs.ListLemmas.{any_map, ascends, has_ascending}
+use Rattle.exam_publish.proofs.ListLemmas.{ascends, has_ascending}
 use Rattle.exam_publish.proofs.PlaceLemmas.{rows_exist}
 use Rattle.exam_publish.proofs.RowLemmas.{are_enrolments}
 
@@ -80,20 +82,14 @@ shares_seated I rows s = grind (arith, common_steps, sharing, has_ascending, any
 
 -- ---- how much
 
-each_below : {X : Type 0} (f : X → ℕ) (n : ℕ) (xs : List X) → sum_by f xs < n
-    → AllByRecursion (λ x. f x < n) xs
-each_below f n [] h = tt
-each_below f n (x ∷ xs) h = let c = sum_by-cons f x xs in
-    (omega arith, each_below f n xs (omega arith))
-
 pub small_shares : (n : ℕ) → n ≡ 2 ^ 62 → (shares : Sharing) → share_total shares < n
     → AreSmall shares
 small_shares n is shares h =
-    let a = each_below (λ (share : ℕ × PersonalPenalty). personal_total share.1) n shares.students
+    let a = each_below_sum (λ (share : ℕ × PersonalPenalty). personal_total share.1) n shares.students
     (omega arith) in
-    let b = each_below (λ (share : ℕ). share) n shares.exams (omega arith) in
-    let c = each_below (λ (share : ℕ). share) n shares.periods (omega arith) in
-    let d = each_below (λ (share : RoomShare). share.penalty + share.mixed) n shares.rooms
+    let b = each_below_sum (λ (share : ℕ). share) n shares.exams (omega arith) in
+    let c = each_below_sum (λ (share : ℕ). share) n shares.periods (omega arith) in
+    let d = each_below_sum (λ (share : RoomShare). share.penalty + share.mixed) n shares.rooms
     (omega arith) in
     record {
       students = subst

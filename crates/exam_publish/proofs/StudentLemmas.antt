@@ -10,8 +10,9 @@ use Rattle.std.proofs.lemmas.List.{get_or-take, get_or-drop, length-map, length-
 use Rattle.std.proofs.lemmas.List.Elements.{filter-append, filter_agree, recursion_from_All}
 use Rattle.std.proofs.lemmas.List.Folds.{list_any-append}
 use Rattle.std.proofs.lemmas.List.Sorted.{list_any-IsPermutation, IsNonDecreasingBy-from_sort}
-use Rattle.exam_lists.proofs.Chains.{IsChain, chain_from_index}
-use Rattle.exam_lists.proofs.Each.{each_weaker}
+use Rattle.exam_lists.proofs.Chains.{IsChain, chain_from_index, chain_length}
+use Rattle.exam_lists.proofs.Each.{each_weaker, each_filter}
+use Rattle.exam_lists.proofs.Tests.{any_map}
 use Rattle.exam_model.specs.Changes.{with_student}
 use Rattle.exam_model.specs.Enrolments.{has_number}
 use Rattle.exam_model.specs.Instance.{Session}
@@ -24,7 +25,7 @@ use Rattle.exam_publish.specs.Changed.{rows_of, has_row, students_of}
 use Rattle.exam_publish.specs.Groups.{AreSorted, IsRun, shares_in}
 use Rattle.exam_publish.specs.Rows.{RowBefore, ArePublishedRows}
 use Rattle.exam_publish.specs.Shares.{share_of, student_shares}
-use Rattle.exam_publish.proofs.ListLemmas.{any_map, has_ascending, ascends, each_filter}
+use Rattle.exam_publish.proofs.ListLemmas.{has_ascending, ascends}
 use Rattle.exam_publish.proofs.PlaceLemmas.{rows_exist}
 
 -- ---- a stable sort by student
@@ -241,13 +242,6 @@ shared_more I rows rest shares more r n was is some run added =
 
 -- ---- no student has more rows than there are exams
 
-bounded : (a n : ℕ) (xs : List ℕ) → a ≤ n → IsChain (λ x y. x < y) xs
-    → AllByRecursion (λ x. a ≤ x) xs → AllByRecursion (λ x. x < n) xs → length xs + a ≤ n
-bounded a n [] low up above below = omega arith
-bounded a n (x ∷ xs) low up above below =
-    let higher = each_weaker (λ y. x < y) (λ y. a + 1 ≤ y) (λ y h. omega arith) xs up.0 in
-    grind (arith, common_steps, bounded (a + 1) n xs (omega arith) up.1 higher below.1)
-
 later_exams : (r : SeatRow) (rs : List SeatRow) (s : ℕ) → r.student ≡ s
     → AllByRecursion (RowBefore r) rs
     → AllByRecursion (λ e. r.exam < e) (map (λ row. row.exam) (rows_of s rs))
@@ -265,7 +259,7 @@ few_rows I rows T s are few =
     let exams = map (λ (row : SeatRow). row.exam) (rows_of s rows) in
     let all = each_filter (λ row. row.exam < length I.exams) (λ row. eqb row.student s) rows
     (rows_exist I rows T are) in
-    let bound = bounded 0 (length I.exams) exams (omega arith)
+    let bound = chain_length 0 (length I.exams) exams (omega arith)
     (candidate_exams rows s (chain_from_index RowBefore rows are.in_order)) (each_low exams)
     (to_exams (rows_of s rows) all) in
     omega (arith, length-map (rows_of s rows) (λ (row : SeatRow). row.exam))

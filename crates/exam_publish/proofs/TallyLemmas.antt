@@ -5,15 +5,9 @@ use Rattle.std.proofs.Common.{◌≡◌, ℕ, zero, suc, ◌+◌, ◌*◌, ◌<�
 use Rattle.std.specs.Prelude.{slice_set, slice_index, replicate}
 use Rattle.std.proofs.lemmas.Bool.{cases_eq, eq-eqb, ne_eqb}
 use Rattle.std.proofs.lemmas.List.{length-set, get_or-set_same, get_or-set_other, ext_get_or}
-use Rattle.std.proofs.lemmas.List.FromFn.{length-map-range_with_len, get_or-map-range_with_len}
+use Rattle.std.proofs.lemmas.List.FromFn.{length-map-range_with_len, get_or-map-range_with_len, fill_by_all}
 use Rattle.std.proofs.lemmas.List.Sums.{sum_by_push}
 use Rattle.exam_publish.specs.Tallies.{AreTallied}
-
--- a table of zeros has a zero at each number
-pub zeros : (n k : ℕ) → ◌≡◌ {A = ℕ} (get_or (replicate n 0) k 0) 0
-zeros zero k = refl
-zeros (suc n) zero = refl
-zeros (suc n) (suc k) = zeros n k
 
 pub tally_more : {X : Type 0} (amount : ℕ → ℕ) (test : ℕ → X → Bool) (n : ℕ) (xs : List X)
     (sums : List ℕ) (x : X) (key new : ℕ)
@@ -58,17 +52,9 @@ tally_more {X} amount test n xs sums x key new was lt is few put = record {
         let here = get_or-set_other sums key k new 0 other in
         let h = was.small k in let l = length-append xs (x ∷ []) in omega arith
 
--- the list of a function's values, from its values one by one
-pub listed_from : {X : Type 0} (d : X) (f : ℕ → X) (n : ℕ) (xs : List X) → length xs ≡ n
-    → ((k : ℕ) → k < n → get_or xs k d ≡ f k) → xs ≡ map f (range_with_len 0 n)
-listed_from d f n xs long each =
-    ext_get_or d xs (map f (range_with_len 0 n)) (long ∙ sym (length-map-range_with_len f 0 n))
-    (λ k lt. each k (omega arith)
-    ∙ sym (get_or-map-range_with_len f 0 n k k d (omega arith) (omega arith)))
-
 pub tallied_list : {X : Type 0} (amount : ℕ → ℕ) (test : ℕ → X → Bool) (n : ℕ)
     (xs : List X) (sums : List ℕ)
     → AreTallied amount test n xs sums
     → sums ≡ map (λ k. amount k * count_by (test k) xs) (range_with_len 0 n)
 tallied_list amount test n xs sums are =
-    listed_from 0 (λ k. amount k * count_by (test k) xs) n sums are.count are.each
+    fill_by_all (λ k. amount k * count_by (test k) xs) sums n 0 are.count are.each
