@@ -3,7 +3,7 @@ use Rattle.std.proofs.lemmas.Grind.{common_steps}
 use Rattle.std.proofs.Common.{◌≡◌, ◌≢◌, ◌∙◌, ◌+◌, ◌≤◌, Bool, true, false, List, [], ◌∷◌, length, Option, None, Result, Ok, Err, refl, ap, sym, arith, if◌then◌else◌, rules}
 use Rattle.std.specs.Prelude.{◌↔◌, ◌||◌, nat_le, IfOk}
 use Rattle.std.specs.List.{list_all, list_any}
-use Rattle.std.proofs.lemmas.Bool.{le-leb}
+use Rattle.std.proofs.lemmas.Bool.{le-leb, or_parts}
 use Rattle.exam_terms.specs.Refusing.{◌>>=◌, unless}
 use Rattle.exam_model.specs.Enrolments.{Enrolled, AreEnrolments, pair_count}
 use Rattle.exam_model.specs.declared.change.Change.{Change}
@@ -15,10 +15,6 @@ use Rattle.office_enrolment.specs.AfterBatch.{lines_with_effect, has_effect_on, 
 use Rattle.office_enrolment.specs.declared.batch.AfterBatch.{AfterBatch}
 use Rattle.office_enrolment.proofs.KeptLemmas.{Ascend, they_ascend}
 use Rattle.office_enrolment.proofs.LineLemmas.{line_again}
-
-both_false : (a b : Bool) → (a || b) ≡ false → (a ≡ false) × (b ≡ false)
-both_false true b is = absurd cc
-both_false false b is = (refl, is)
 
 -- one line that doesn't act
 module _ (change : Change) (E : Enrolled) (n : Counts) (idle : has_effect change E ≡ false) where
@@ -36,7 +32,7 @@ idle_enrolled [] E n up few idle =
     let none : n.unchanged ≡ n.unchanged + 0 = omega arith in
     ap (λ k. enrolment_result [] E (record n { unchanged = k })) none
 idle_enrolled (change ∷ changes) E n up few idle =
-    let first = both_false (has_effect change E) (list_any (has_effect_on E) changes) idle in
+    let first = or_parts (has_effect change E) (list_any (has_effect_on E) changes) idle in
     let next : Counts = one_idle change E n first.0 in
     let long : n.unchanged + 1 + length changes ≡ n.unchanged + length (change ∷ changes)
     = omega arith in
@@ -54,7 +50,7 @@ pub idle_acting : (changes : List Change) (E : Enrolled) → Ascend E
     → list_any (has_effect_on E) changes ≡ false → lines_with_effect changes E ≡ []
 idle_acting [] E up idle = refl
 idle_acting (change ∷ changes) E up idle =
-    let first = both_false (has_effect change E) (list_any (has_effect_on E) changes) idle in
+    let first = or_parts (has_effect change E) (list_any (has_effect_on E) changes) idle in
     let later : List Change = lines_with_effect changes (after_change change E) in
     ap (λ b. if b then change ∷ later else later) first.0
     ∙ ap (lines_with_effect changes) (line_again change E up first.0)

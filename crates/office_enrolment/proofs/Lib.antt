@@ -1,4 +1,3 @@
-pub mod FilterLemmas
 pub mod PairRowLemmas
 pub mod KeptLemmas
 pub mod LineLemmas

@@ -3,7 +3,7 @@ use Rattle.std.proofs.lemmas.Grind.{common_steps}
 use Rattle.std.proofs.Common.{◌≡◌, ◌∙◌, ◌+◌, ◌<◌, ◌≤◌, Bool, true, false, List, [], ◌∷◌, length, Ok, Err, refl, ap, sym, arith, subst, if◌then◌else◌, rules}
 use Rattle.std.specs.Prelude.{not}
 use Rattle.std.specs.List.{AllByRecursion, list_all}
-use Rattle.std.proofs.lemmas.Bool.{leb-true, lt-leb}
+use Rattle.std.proofs.lemmas.Bool.{leb-true, lt-leb, not-false}
 use Rattle.std.proofs.lemmas.List.{length-set}
 use Rattle.exam_model.specs.Changes.{with_pair, without_pair}
 use Rattle.exam_model.specs.Enrolments.{Enrolled, AreEnrolments, has, pair_count}
@@ -14,20 +14,12 @@ use Rattle.office_model.specs.declared.fault.StoreFault.TheVariants.{TooMany}
 use Rattle.office_enrolment.specs.AfterBatch.{after_batch, after_line, lines_in, names_exam}
 use Rattle.office_enrolment.proofs.KeptLemmas.{Ascend, ascend_with, ascend_without, pair_again, no_pair_again, one_more_pair, enrolments_with, enrolments_without}
 
-pub not_true : (a : Bool) → not a ≡ true → a ≡ false
-not_true true is = absurd (cc)
-not_true false is = refl
-
-pub not_false : (a : Bool) → not a ≡ false → a ≡ true
-not_false true is = refl
-not_false false is = absurd (cc)
-
 -- ---- one line
 
 -- one that doesn't act changes nothing
 pub line_again : (change : Change) (E : Enrolled) → Ascend E → has_effect change E ≡ false
     → after_change change E ≡ E
-line_again change E up idle = grind (arith, common_steps, pair_again, not_false, no_pair_again)
+line_again change E up idle = grind (arith, common_steps, pair_again, not-false, no_pair_again)
 
 -- as many exams as before
 pub line_exams : (change : Change) (E : Enrolled) → length (after_change change E) ≡ length E

@@ -5,12 +5,13 @@ use Rattle.std.specs.Prelude.{◌==◌, ◌&&◌, not, IsPermutation}
 use Rattle.std.proofs.lemmas.Bool.{eq-eqb, ne_eqb, cases_eq, or_parts}
 use Rattle.std.proofs.lemmas.List.Elements.{filter-append, filter_agree}
 use Rattle.std.proofs.lemmas.List.Sorted.{IsPermutation-refl, IsPermutation-sym, IsPermutation-cons, IsPermutation-map, IsPermutation-trans, IsPermutation-middle, IsPermutation-append_left, IsPermutation-append_right}
+use Rattle.std.proofs.Math.Bool.{and-false, and-true}
+use Rattle.exam_lists.proofs.Filters.{filter-map}
 use Rattle.exam_model.specs.Changes.{with_student, without_student, with_pair, without_pair}
 use Rattle.exam_model.specs.Enrolments.{Enrolled, IsAscending, has_number, has}
 use Rattle.exam_model.specs.Pairs.{Pair, is_pair, pairs_at, pairs_from}
 use Rattle.exam_model.proofs.SameSet.{same_list}
 use Rattle.exam_model.proofs.StudentLemmas.{with_cases, has-with, has-without, ascending-with, ascending-without}
-use Rattle.office_enrolment.proofs.FilterLemmas.{filter-map}
 
 -- ---- one exam's students
 
@@ -69,20 +70,12 @@ pairs-with s e f (suc k) (xs ∷ rest) is lt isnt =
 abbrev pub is_other : ℕ → ℕ → Pair → Bool
 is_other s e p = not (is_pair s e p)
 
-and_false : (a : Bool) → (a && false) ≡ false
-and_false true = refl
-and_false false = refl
-
-and_true : (a : Bool) → (a && true) ≡ a
-and_true true = refl
-and_true false = refl
-
 -- another exam's pairs are others
 others_at : (s e f : ℕ) (xs : List ℕ) → f ≢ e
     → filter (is_other s e) (pairs_at f xs) ≡ pairs_at f xs
 others_at s e f [] apart = refl
 others_at s e f (x ∷ xs) apart =
-    rw (ne_eqb f e apart, and_false (x == s))
+    rw (ne_eqb f e apart, and-false (x == s))
     (ap (λ (ps : List Pair). pair f x ∷ ps) (others_at s e f xs apart))
 
 -- the pairs of greater exams are others
@@ -95,7 +88,7 @@ others_from s e f (xs ∷ rest) lt =
 -- the exam's own pairs, except the student's, are others
 own_at : (s e : ℕ) (xs : List ℕ)
     → filter (is_other s e) (pairs_at e xs) ≡ pairs_at e (without_student s xs)
-own_at s e xs = grind (arith, common_steps, filter-map, filter_agree, eq-eqb, and_true)
+own_at s e xs = grind (arith, common_steps, filter-map, filter_agree, eq-eqb, and-true)
 
 -- removing a pair leaves all others
 pub pairs-without : (s e f k : ℕ) (E : Enrolled) → e ≡ f + k

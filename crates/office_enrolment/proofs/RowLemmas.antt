@@ -2,9 +2,11 @@
 use Rattle.std.proofs.Common.{◌≡◌, ◌∙◌, ℕ, ◌<◌, Bool, true, false, List, [], ◌∷◌, filter, length, map, Ok, refl, ap, sym, arith, subst, if◌then◌else◌}
 use Rattle.std.specs.Prelude.{not, nat_lt, IsPermutation}
 use Rattle.std.specs.List.{list_all}
-use Rattle.std.proofs.lemmas.Bool.{and_parts, ltb-true}
+use Rattle.std.proofs.lemmas.Bool.{and_parts, ltb-true, not-true}
 use Rattle.std.proofs.lemmas.List.Elements.{filter_agree}
 use Rattle.std.proofs.lemmas.List.Sorted.{IsPermutation-cons, IsPermutation-map, IsPermutation-trans}
+use Rattle.exam_lists.proofs.Filters.{filter-map}
+use Rattle.exam_lists.proofs.Permutations.{IsPermutation-filter}
 use Rattle.exam_model.specs.Changes.{with_pair, without_pair}
 use Rattle.exam_model.specs.Enrolments.{Enrolled, AreEnrolments, has}
 use Rattle.exam_model.specs.Pairs.{Pair, pairs_of}
@@ -13,9 +15,8 @@ use Rattle.office_model.specs.BatchLines.{has_effect, after_change, after_change
 use Rattle.office_model.specs.declared.counts.Counts.{Counts}
 use Rattle.office_enrolment.specs.AfterBatch.{lines_with_effect, after_batch, names_exam}
 use Rattle.office_enrolment.specs.Rows.{RowKind, after_row, after_rows, pair_of}
-use Rattle.office_enrolment.proofs.FilterLemmas.{IsPermutation-filter, filter-map}
 use Rattle.office_enrolment.proofs.KeptLemmas.{Ascend, they_ascend}
-use Rattle.office_enrolment.proofs.LineLemmas.{accepted, all_after, line_again, line_ascends, line_exams, not_true}
+use Rattle.office_enrolment.proofs.LineLemmas.{accepted, all_after, line_again, line_ascends, line_exams}
 use Rattle.office_enrolment.proofs.PairRowLemmas.{is_other, pairs-with, pairs-without}
 
 module _ {X : Type 0} (kind : RowKind X) where
@@ -59,7 +60,7 @@ module _ {X : Type 0} (kind : RowKind X) where
       elim change.add as (λ b. (if b then not (has E s e) else has E s e) ≡ true
       → IsPermutation (if b then kind.row (pair_of change) ∷ rows else stay)
       (rows_of (if b then with_pair E s e else without_pair E s e))) [
-        | true ↦ λ new. row_comes s e E rows lt (not_true (has E s e) new) are
+        | true ↦ λ new. row_comes s e E rows lt (not-true (has E s e) new) are
         | false ↦ λ there. row_goes s e E rows are
       ] does
 

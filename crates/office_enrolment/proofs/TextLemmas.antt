@@ -5,6 +5,7 @@ use Rattle.std.proofs.Common.{◌≡◌, ℕ, zero, suc, ◌+◌, ◌≤◌, Boo
 use Rattle.std.specs.List.{AllByRecursion}
 use Rattle.std.proofs.lemmas.Bool.{leb-true}
 use Rattle.std.proofs.lemmas.List.{length-map}
+use Rattle.exam_lists.proofs.Parts.{length_choice-le}
 use Rattle.csv.specs.Reading.{default_config, is_bom, records_from, strip_bom}
 use Rattle.csv.specs.declared.parser.State.{State}
 use Rattle.exam_terms.specs.Refusing.{◌>>=◌, unless}
@@ -22,18 +23,13 @@ unfolding records_from
 few_records zero s xs = omega arith
 few_records (suc n) s xs = grind (arith, common_steps, few_records n)
 
-chosen_within : (b : Bool) (xs ys : List ℕ) → length xs ≤ length ys
-    → length (if b then xs else ys) ≤ length ys
-chosen_within true xs ys le = le
-chosen_within false xs ys le = omega arith
-
 without_mark : (b : List ℕ) → length (strip_bom b) ≤ length b
 unfolding strip_bom
 without_mark [] = omega arith
 without_mark (x ∷ []) = omega arith
 without_mark (x ∷ y ∷ []) = omega arith
 without_mark (x ∷ y ∷ z ∷ rest) =
-    chosen_within (is_bom x y z) rest (x ∷ y ∷ z ∷ rest) (omega arith)
+    length_choice-le (is_bom x y z) rest (x ∷ y ∷ z ∷ rest) (omega arith)
 
 -- the first record names the columns, and each other is a change
 pub few_changes : (b : List ℕ) (changes : List Change) → BatchText b changes
