@@ -3,6 +3,7 @@
 use Rattle.std.proofs.Common.{◌≡◌, ◌∙◌, ℕ, List, [], ◌∷◌, ◌++◌, Option, Result, Ok, Err, IfOk, IfErr, All}
 use Rattle.std.proofs.Common.{ap, refl, subst, sym}
 use Rattle.std.proofs.lemmas.List.Elements.{All-append, All-cons, All-head, All-nil, All-tail, All-weaker}
+use Rattle.exam_lists.proofs.Parts.{All-append_left, All-append_right}
 use Rattle.sqlite.specs.Held.{Held, state}
 use Rattle.sqlite.specs.State.{HasCleanDisk}
 use Rattle.sqlite.specs.Store.{Ghosts}
@@ -21,15 +22,6 @@ use Rattle.office_http.specs.Serving.{LeadsOffice}
 use Rattle.office_http.specs.Transcripts.{Entry, RepliesOwnView, transcript}
 use Rattle.office_http.proofs.IsolationLemmas.{Sees, all_alike, all_by_view, both_all, each_by_view, quiet_each, quiet_end}
 use Rattle.office_http.proofs.ServingLemmas.{serves_front_leads, serves_leads}
-
-All-left : {X : Type 0} (P : X → Type 0) (xs ys : List X) → All P (xs ++ ys) → All P xs
-All-left P [] ys all = All-nil P
-All-left P (x ∷ xs) ys all =
-    All-cons P x xs (All-head P x (xs ++ ys) all) (All-left P xs ys (All-tail P x (xs ++ ys) all))
-
-All-right : {X : Type 0} (P : X → Type 0) (xs ys : List X) → All P (xs ++ ys) → All P ys
-All-right P [] ys all = all
-All-right P (x ∷ xs) ys all = All-right P xs ys (All-tail P x (xs ++ ys) all)
 
 -- ---- the office serves what the desk serves
 
@@ -115,8 +107,8 @@ end_to s (Err Write) input before after old new (items, output, begins, x) q =
     let first = transcript x.whole old x.front x.mid x.trace in
     let last = transcript (x.last ∷ []) x.mid (x.sent ++ x.unsent) new x.last_trace in
     quiet_end s (x.last ∷ []) x.mid new (x.sent ++ x.unsent) x.last_trace
-    (All-right (IsOwnOrQuiet s) first last q)
-    ∙ quiet_end s x.whole old x.mid x.front x.trace (All-left (IsOwnOrQuiet s) first last q)
+    (All-append_right (IsOwnOrQuiet s) first last q)
+    ∙ quiet_end s x.whole old x.mid x.front x.trace (All-append_left (IsOwnOrQuiet s) first last q)
 end_to s (Err TooMany) input before after old new (items, output, begins, trace, written) q =
     quiet_end s items old new output trace q
 end_to s (Err NoMemory) input before after old new (items, output, begins, trace, written) q =
@@ -128,9 +120,9 @@ all_end s [] old new run q = ap (view_of s) run
 all_end s (v ∷ vs) old new (mid, served, rest) q =
     let first = entries_to v.ended v.input v.before v.after old mid served in
     let later = all_entries vs mid new rest in
-    all_end s vs mid new rest (All-right (IsOwnOrQuiet s) first later q)
+    all_end s vs mid new rest (All-append_right (IsOwnOrQuiet s) first later q)
     ∙ end_to s v.ended v.input v.before v.after old mid served
-    (All-left (IsOwnOrQuiet s) first later q)
+    (All-append_left (IsOwnOrQuiet s) first later q)
 
 -- entries that see a view, then entries that see the same view of a later office
 seen_on : (s : ℕ) (old mid : OfficeState) (first later : List Entry)
@@ -151,11 +143,11 @@ each_to s (Err Read) input before after old new (items, output, begins, trace, w
 each_to s (Err Write) input before after old new (items, output, begins, x) q =
     let first = transcript x.whole old x.front x.mid x.trace in
     let last = transcript (x.last ∷ []) x.mid (x.sent ++ x.unsent) new x.last_trace in
-    let here = All-left (IsOwnOrQuiet s) first last q in
+    let here = All-append_left (IsOwnOrQuiet s) first last q in
     seen_on s old x.mid first last (quiet_end s x.whole old x.mid x.front x.trace here)
     (quiet_each s x.whole old x.mid x.front x.trace here)
     (quiet_each s (x.last ∷ []) x.mid new (x.sent ++ x.unsent) x.last_trace
-    (All-right (IsOwnOrQuiet s) first last q))
+    (All-append_right (IsOwnOrQuiet s) first last q))
 each_to s (Err TooMany) input before after old new (items, output, begins, trace, written) q =
     quiet_each s items old new output trace q
 each_to s (Err NoMemory) input before after old new (items, output, begins, trace, written) q =
@@ -168,10 +160,10 @@ all_each s [] old new run q = All-nil (Sees s (view_of s old))
 all_each s (v ∷ vs) old new (mid, served, rest) q =
     let first = entries_to v.ended v.input v.before v.after old mid served in
     let later = all_entries vs mid new rest in
-    let here = All-left (IsOwnOrQuiet s) first later q in
+    let here = All-append_left (IsOwnOrQuiet s) first later q in
     seen_on s old mid first later (end_to s v.ended v.input v.before v.after old mid served here)
     (each_to s v.ended v.input v.before v.after old mid served here)
-    (all_each s vs mid new rest (All-right (IsOwnOrQuiet s) first later q))
+    (all_each s vs mid new rest (All-append_right (IsOwnOrQuiet s) first later q))
 
 pub all_quiet_by_view : (s : ℕ) (vs : List Visit) (old new : OfficeState)
     (run : ServesAll vs old new)

@@ -2,6 +2,7 @@
 use Rattle.std.proofs.Common.{◌≡◌, ◌∙◌, ℕ, true, Result, Ok, Err, ap, inl, inr, refl, sym, true≢false}
 use Rattle.std.specs.Prelude.{◌==◌}
 use Rattle.std.proofs.lemmas.Bool.{eq-eqb}
+use Rattle.exam_lists.proofs.Results.{IfOk_any}
 use Rattle.exam_draft.specs.declared.edit.Edit.{Edit}
 use Rattle.exam_draft.specs.declared.edit.Edit.TheVariants as edit
 use Rattle.office_messages.specs.Reply.{PlainReply}
@@ -20,7 +21,7 @@ use Rattle.office_model.specs.Loading.{load_session}
 use Rattle.office_model.specs.Office.{OfficeState}
 use Rattle.office_model.specs.Publishing.{draft_published}
 use Rattle.office_model.specs.Step.{Outcome}
-use Rattle.office_model.proofs.StepLemmas.{EditKeeps, Keeps, any_ok, step_law}
+use Rattle.office_model.proofs.StepLemmas.{EditKeeps, Keeps, step_law}
 use Rattle.office_replies.specs.Replies.{reply_to}
 use Rattle.office_http.specs.Replying.{Replies, RepliesTo}
 
@@ -31,24 +32,24 @@ Is503 answer = (code_of (reply_to answer).status == 503) ≡ true
 -- the reply to a change that was made is never a 503
 edits : (old : OfficeState) (d : ℕ) (change : Edit)
     → EditKeeps (λ new. new ≡ old) Is503 old d change
-edits old d change = any_ok _ (draft_edited d change old) (λ x q. absurd (true≢false (sym q)))
+edits old d change = IfOk_any _ (draft_edited d change old) (λ x q. absurd (true≢false (sym q)))
 
 changes : (old : OfficeState) (command : PlainCommand)
     → Keeps (λ new. new ≡ old) Is503 old command
 changes old (load (Given bytes)) =
-    any_ok _ (load_session bytes old) (λ x q. absurd (true≢false (sym q)))
+    IfOk_any _ (load_session bytes old) (λ x q. absurd (true≢false (sym q)))
 changes old (set_owner exam (Given dept)) =
-    any_ok _ (set_owner_result exam dept old) (λ x q. absurd (true≢false (sym q)))
+    IfOk_any _ (set_owner_result exam dept old) (λ x q. absurd (true≢false (sym q)))
 changes old (new_draft d (Given bytes)) =
-    any_ok _ (draft_made d bytes old) (λ x q. absurd (true≢false (sym q)))
-changes old (drop_draft d) = any_ok _ (draft_dropped d old) (λ x q. absurd (true≢false (sym q)))
+    IfOk_any _ (draft_made d bytes old) (λ x q. absurd (true≢false (sym q)))
+changes old (drop_draft d) = IfOk_any _ (draft_dropped d old) (λ x q. absurd (true≢false (sym q)))
 changes old (place d exam (Given at)) = edits old d (edit.Place exam at)
 changes old (move d exam (Given to)) = edits old d (edit.Move exam to)
 changes old (clear d exam) = edits old d (edit.Clear exam)
 changes old (swap d a b) = edits old d (edit.Swap a b)
-changes old (publish d) = any_ok _ (draft_published d old) (λ x q. absurd (true≢false (sym q)))
+changes old (publish d) = IfOk_any _ (draft_published d old) (λ x q. absurd (true≢false (sym q)))
 changes old (batch number (Given bytes)) =
-    any_ok _ (batch_enrolled number bytes old) (λ x q. absurd (true≢false (sym q)))
+    IfOk_any _ (batch_enrolled number bytes old) (λ x q. absurd (true≢false (sym q)))
 changes old _ = tt
 
 -- the command that a message asks for, if it is not refused unread
