@@ -2,6 +2,7 @@
 use Rattle.std.proofs.Common.{◌≡◌, ◌≤◌, ℕ, eqb, List, Option, Some, Ok, arith}
 use Rattle.std.specs.Prelude.{IsPermutation, is_some}
 use Rattle.std.proofs.lemmas.List.Sorted.{IsPermutation-cons}
+use Rattle.exam_lists.proofs.Permutations.{few_read}
 use Rattle.sqlite_trees.proofs.ListLemmas.{IsPermutation-filter, all-permutation}
 use Rattle.exam_model.specs.Enrolments.{Enrolled}
 use Rattle.exam_model.specs.Instance.{Session}
@@ -21,7 +22,7 @@ use Rattle.office_records.specs.BatchRows.{batch_put, enrol_rows}
 use Rattle.office_records.specs.Found.{AreDrafts}
 use Rattle.office_records.specs.Representation.{IsSound, TablesRepresentRecords, parts_of}
 use Rattle.office_records.specs.TableRows.{stored_batch}
-use Rattle.office_records.proofs.SameTables.{few_once, few_read}
+use Rattle.office_records.proofs.SameTables.{few_once}
 
 module _ (number : ℕ) (bytes : List ℕ) (changes : List Change) (r : Records)
     (done : Counts × Enrolled) (is : AreRecords r)

@@ -7,6 +7,7 @@ use Rattle.std.proofs.lemmas.Bool.{eq-eqb}
 use Rattle.std.proofs.lemmas.List.{get_or-map, length-map}
 use Rattle.std.proofs.lemmas.List.Elements.{All-from_recursion, recursion_from_All}
 use Rattle.std.proofs.lemmas.List.Sorted.{IsPermutation-refl, IsPermutation-sym, length_permutation}
+use Rattle.exam_lists.proofs.Each.{each_from_filter}
 use Rattle.sqlite_trees.proofs.ListLemmas.{all-map, all-permutation, all_both, all_from_map, all_weaker}
 use Rattle.office_tables.specs.Batch.{counts_of, FitsBatch}
 use Rattle.office_tables.specs.Tables.{Batch, Tables}
@@ -106,18 +107,6 @@ batch_rows found batches kept rows represents are = record {
 
 -- ---- each batch by its number
 
--- a fact about the batches of each number that is there holds for all
-picked_each : {X : Type 0} (P : X → Type 0) (q : X → Bool) (xs : List X)
-    → AllByRecursion P (filter q xs) → AllByRecursion (λ x. q x ≡ true → P x) xs
-picked_each P q [] all = tt
-picked_each {X} P q (x ∷ xs) all = go (q x) refl all (picked_each P q xs)
-  where
-    go : (b : Bool) → q x ≡ b → AllByRecursion P (cond b (x ∷ filter q xs) (filter q xs))
-        → (AllByRecursion P (filter q xs) → AllByRecursion (λ y. q y ≡ true → P y) xs)
-        → (q x ≡ true → P x) × AllByRecursion (λ y. q y ≡ true → P y) xs
-    go true is h more = (λ _. h.0, more h.1)
-    go false is h more = (λ no. absurd (true≢false (sym no ∙ is)), more h)
-
 pub each_by_number : (P : Batch → Type 0) (batches : List Batch)
     → AllByRecursion (λ (b : Batch). AllByRecursion P (filter (λ c. eqb c.no b.no) batches)) batches
     → All P batches
@@ -127,7 +116,7 @@ each_by_number P batches all k d within =
     let b = get_or batches k d in
     let here : Picked b = All-from_recursion Picked batches all k d within in
     let Same : Batch → Type 0 = λ c. eqb c.no b.no ≡ true → P c in
-    All-from_recursion Same batches (picked_each P (λ c. eqb c.no b.no) batches here) k d within
+    All-from_recursion Same batches (each_from_filter P (λ c. eqb c.no b.no) batches here) k d within
     (eq-eqb b.no b.no refl)
 
 pub short_by_rows : (found : List BatchCountsRow) (batches : List Batch)

@@ -9,6 +9,7 @@ use Rattle.std.proofs.lemmas.List.Elements.{recursion_from_All, All-from_recursi
 use Rattle.std.proofs.lemmas.List.Sorted.{IsPermutation-refl, length_permutation}
 use Rattle.std.specs.List.{list_all, list_any}
 use Rattle.std.specs.Prelude.{All, IsSome, IsPermutation, Option, Some, None, is_some}
+use Rattle.exam_lists.proofs.Passing.{all_pass, each_passes, found_one, none_pass, one_passes, passes_at, two_pass}
 use Rattle.exam_model.specs.Enrolments.{Enrolled}
 use Rattle.exam_model.specs.Fits.{Suits}
 use Rattle.exam_model.specs.Instance.{Session}
@@ -22,8 +23,6 @@ use Rattle.office_records.specs.declared.drafts.Draft.{Draft}
 use Rattle.office_model.specs.Office.{set_at}
 use Rattle.office_records.specs.Representation.{parts_of}
 use Rattle.office_records.specs.TableRows.{drafts_at, slots_at, slot_rows, number_if}
-use Rattle.office_records.proofs.PassLemmas.{none_pass, one_passes, found_one, passes_at}
-use Rattle.office_records.proofs.PassLemmas.{each_passes, all_pass, two_pass}
 
 abbrev no_of : DraftRow → ℕ
 no_of row = row.no

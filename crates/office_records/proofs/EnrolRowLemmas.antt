@@ -10,12 +10,12 @@ use Rattle.std.proofs.lemmas.List.Sorted.{IsPermutation-sym, length_permutation,
 use Rattle.std.proofs.lemmas.Map.Keys.{IsDistinct-IsPermutation}
 use Rattle.std.proofs.lemmas.Map.Made.{AllPairs-from_IsDistinct, IsDistinct-from_AllPairs}
 use Rattle.exam_lists.proofs.Tests.{any_map}
+use Rattle.exam_lists.proofs.Reordered.{reordered}
 use Rattle.exam_model.specs.Enrolments.{Adds, Enrolled, AreEnrolments, has, pair_count}
 use Rattle.exam_model.specs.Instance.{Session}
 use Rattle.exam_model.specs.Pairs.{Pair, pairs_of, ComesBefore}
 use Rattle.exam_model.proofs.PairLemmas.{are_pairs}
 use Rattle.office_tables.specs.declared.enrol.EnrolRow.{EnrolRow}
-use Rattle.office_records.proofs.ReorderLemmas.{reordered}
 use Rattle.office_records.specs.Found.{AreEnrolRows}
 use Rattle.office_records.specs.NextRow.{IsNewPair}
 use Rattle.office_records.specs.TableRows.{enrol_row}

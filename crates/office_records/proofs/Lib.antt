@@ -1,16 +1,12 @@
 pub mod DraftRowLemmas
 pub mod EnrolRowLemmas
-pub mod KeyLemmas
 pub mod MemoryLemmas
-pub mod PassLemmas
 pub mod SlotLemmas
 pub mod OwnerRowLemmas
-pub mod ReorderLemmas
 pub mod ResultLemmas
 pub mod RecordLemmas
 pub mod SameTables
 pub mod SessionLemmas
-pub mod RegroupLemmas
 pub mod BatchRowLemmas
 pub mod ReadableLemmas
 pub mod RepublicationLemmas

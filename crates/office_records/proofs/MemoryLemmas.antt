@@ -5,6 +5,7 @@ use Rattle.std.specs.Prelude.{IsPermutation, is_some}
 use Rattle.std.proofs.lemmas.List.{length-replicate}
 use Rattle.std.proofs.lemmas.List.Folds.{sum_by-replicate}
 use Rattle.std.proofs.lemmas.List.Sorted.{IsPermutation-sym, IsPermutation-trans, IsPermutation-map, All-permutation, list_any-IsPermutation}
+use Rattle.exam_lists.proofs.Permutations.{same_one}
 use Rattle.sqlite_value.specs.declared.value.Value.{Value}
 use Rattle.sqlite_value.specs.declared.value.Value.TheVariants.{Int, Blob}
 use Rattle.sqlite_value.specs.Order.{Row, column}
@@ -47,13 +48,6 @@ module _ {X : Type 0} (show : Row → Row) (row : X → Row) (back : Row → X)
       let mapped = IsPermutation-map back _ _ both in
       subst (λ l. IsPermutation l ys) (backs xs)
       (subst (λ l. IsPermutation (map back (map row xs)) l) (backs ys) mapped)
-
-pub same_one : {X : Type 0} (x y : X) → IsPermutation (x ∷ []) (y ∷ []) → y ≡ x
-same_one x y p = All-permutation (λ z. z ≡ x) (x ∷ []) (y ∷ []) p one 0 x (omega arith)
-  where
-    one : All (λ z. z ≡ x) (x ∷ [])
-    one zero d h = refl
-    one (suc k) d h = absurd (omega (arith, h))
 
 -- ---- the row of the session
 

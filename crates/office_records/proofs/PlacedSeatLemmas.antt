@@ -12,13 +12,12 @@ use Rattle.std.proofs.lemmas.List.{take_more}
 use Rattle.std.proofs.lemmas.List.Elements.{All-push}
 use Rattle.std.proofs.lemmas.List.Sorted.{IsPermutation-sym}
 use Rattle.std.proofs.lemmas.Map.Keys.{IsDistinct-IsPermutation}
-use Rattle.exam_lists.proofs.Chains.{IsChain, chain_from_index}
+use Rattle.exam_lists.proofs.Chains.{IsChain, chain_from_index, index_from_chain}
 use Rattle.sqlite_trees.proofs.ListLemmas.{all_weaker}
 use Rattle.exam_publish.specs.declared.seat_row.SeatRow.{SeatRow}
 use Rattle.exam_publish.specs.Rows.{RowBefore, RowsInOrder, is_pair_before, row_pair}
 use Rattle.exam_publish.specs.Seats.{HaveOwnSeats}
 use Rattle.exam_publish.proofs.ChangedLemmas.{before_from_test}
-use Rattle.exam_publish.proofs.ListLemmas.{index_from_chain}
 use Rattle.office_records.specs.FoundPublications.{is_same_seat}
 
 -- if each element is related to the next, it is to all later ones
@@ -223,8 +222,3 @@ own_seats_are rows sorted false moved order some = (
 )
 
 -- ---- row by row
-
-pub pushed : {X : Type 0} (P : X → Type 0) (xs : List X) (i : ℕ) (d : X) → i < length xs
-    → All P (take i xs) → P (get_or xs i d) → All P (take (i + 1) xs)
-pushed P xs i d within all here =
-    subst (All P) (sym (take_more xs i d within)) (All-push P (take i xs) (get_or xs i d) all here)

@@ -11,6 +11,7 @@ use Rattle.std.proofs.lemmas.List.Elements.{All-from_recursion, recursion_from_A
 use Rattle.std.proofs.lemmas.List.Folds.{list_any_at}
 use Rattle.std.proofs.lemmas.List.FromFn.{length-map-range_with_len}
 use Rattle.exam_lists.proofs.Chains.{chain_from_index}
+use Rattle.exam_lists.proofs.Keys.{all_of_key, each_key}
 use Rattle.sqlite.specs.Effect.{Database}
 use Rattle.sqlite_trees.proofs.ListLemmas.{all-permutation, all_weaker, all_both, all-map}
 use Rattle.sqlite_trees.proofs.ListLemmas.{all-append, all_from_map, all-slice_get}
@@ -57,34 +58,6 @@ use Rattle.office_records.specs.Representation.{RepresentsOffice, IsSound, Table
 use Rattle.office_records.specs.TableRows.{some_dept, number_if, slot_rows, slots_from, enrol_row}
 
 -- ---- lists
-
--- each row of a key has that key
-all_of_key : {X : Type 0} (key : X → ℕ) (k : ℕ) (xs : List X)
-    → AllByRecursion (λ x. key x ≡ k) (filter (λ x. eqb (key x) k) xs)
-all_of_key key k [] = tt
-all_of_key {X} key k (x ∷ xs) = go (eqb (key x) k) refl (all_of_key key k xs)
-  where
-    go : (b : Bool) → eqb (key x) k ≡ b
-        → AllByRecursion (λ x. key x ≡ k) (filter (λ x. eqb (key x) k) xs)
-        → AllByRecursion (λ x. key x ≡ k)
-        (cond b (x ∷ filter (λ x. eqb (key x) k) xs) (filter (λ x. eqb (key x) k) xs))
-    go true e more = (grind (arith, nat_tests, e), more)
-    go false e more = more
-
--- a fact about the rows of each key holds for all rows
-each_key : {X : Type 0} (key : X → ℕ) (P : X → Type 0) (xs : List X)
-    → ((k : ℕ) → AllByRecursion P (filter (λ x. eqb (key x) k) xs)) → AllByRecursion P xs
-each_key key P [] each = tt
-each_key {X} key P (x ∷ xs) each = (
-  (subst (λ b. AllByRecursion P (cond b (x ∷ filter (λ y. eqb (key y) (key x)) xs)
-      (filter (λ y. eqb (key y) (key x)) xs))) (eq-eqb (key x) (key x) refl) (each (key x))).0,
-  each_key key P xs (λ k. rest k (eqb (key x) k) (each k)),
-)
-  where
-    rest : (k : ℕ) (b : Bool) → AllByRecursion P (cond b (x ∷ filter (λ y. eqb (key y) k) xs)
-        (filter (λ y. eqb (key y) k) xs)) → AllByRecursion P (filter (λ y. eqb (key y) k) xs)
-    rest k true h = h.1
-    rest k false h = h
 
 -- ---- the rows of one key
 

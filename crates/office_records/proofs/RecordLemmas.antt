@@ -3,6 +3,7 @@ use Rattle.std.proofs.Common.{◌≡◌, ℕ, List, [], ◌∷◌, map, Some, No
 use Rattle.std.specs.Prelude.{is_some}
 use Rattle.std.proofs.lemmas.List.Sorted.{IsPermutation-sym, IsPermutation-trans}
 use Rattle.std.proofs.lemmas.Option.{none-some}
+use Rattle.exam_lists.proofs.Parts.{same_head}
 use Rattle.exam_model.specs.Enrolments.{Enrolled}
 use Rattle.exam_model.specs.Instance.{Session}
 use Rattle.exam_model.specs.Timetable.{Placing}
@@ -43,9 +44,6 @@ no_batch_kept = record {
 
 some_is : {X : Type 0} {x y : X} → Some x ≡ Some y → x ≡ y
 some_is e = cc
-
-head_is : {X : Type 0} {x y : X} {xs ys : List X} → x ∷ xs ≡ y ∷ ys → x ≡ y
-head_is e = cc
 
 -- the publication is one, if there is one
 is_published : (I : Session) (published : Option Publication) → ArePublished I published
@@ -160,7 +158,7 @@ module _ (found : Found) (batches : List Batch) where
     pub session_row : IsSessionRow (meta_from found.meta) r.session
     session_row = record {
       session = is.session;
-      text = ap (λ (m : Meta). m.instance) (head_is represents.meta);
+      text = ap (λ (m : Meta). m.instance) (same_head represents.meta);
     }
 
     module _ (I : Session) (read : IsSessionRow (meta_from found.meta) I) where
@@ -199,7 +197,7 @@ module _ (found : Found) (batches : List Batch) where
       pub published_rows : IsPublished I r.published
       published_rows = subst (λ J. IsPublished J r.published) same (record {
         rows = record {
-          marked = ap (λ (m : Meta). m.published) (head_is represents.meta);
+          marked = ap (λ (m : Meta). m.published) (same_head represents.meta);
           represents = represents.published;
         };
         is = are_published r.session r.published is.publication;

@@ -3,7 +3,8 @@
 use Rattle.std.proofs.Common.{◌≡◌, ◌<◌, ℕ, Bool, true, false, cond, not, ◌&&◌, ◌||◌, eqb, List, [], ◌∷◌, ◌++◌, map, filter, Option, Some, None, refl, sym, ◌∙◌, ap, ap₂, subst}
 use Rattle.std.specs.Prelude.{IsPermutation}
 use Rattle.std.proofs.lemmas.List.Sorted.{IsPermutation-trans, IsPermutation-sym, IsPermutation-append_right, IsPermutation-filter_both}
-use Rattle.exam_lists.proofs.Chains.{chain_from_index}
+use Rattle.exam_lists.proofs.Chains.{chain_from_index, chain_filter, chain_map, index_from_chain}
+use Rattle.exam_lists.proofs.Tests.{any_map}
 use Rattle.sqlite_trees.proofs.ListLemmas.{IsPermutation-filter, filter-map, map-map}
 use Rattle.exam_model.specs.Enrolments.{IsAscending, has_number}
 use Rattle.exam_model.specs.Instance.{Session}
@@ -13,7 +14,7 @@ use Rattle.exam_publish.specs.Changed.{changed_students, has_row, is_changed, ro
 use Rattle.exam_publish.specs.Rows.{RowBefore, RowsInOrder}
 use Rattle.exam_publish.specs.Shares.{share_of, student_shares}
 use Rattle.exam_publish.proofs.ChangedLemmas.{changed_has_row}
-use Rattle.exam_publish.proofs.ListLemmas.{any_map, ascending_from_chain, chain_ascending, chain_filter, chain_map, has_ascending, has_filter, index_from_chain}
+use Rattle.exam_publish.proofs.ListLemmas.{ascending_from_chain, chain_ascending, has_ascending, has_filter}
 use Rattle.exam_publish.proofs.ShareLemmas.{same_share}
 use Rattle.exam_score.specs.Personal.{personal_of}
 use Rattle.office_tables.specs.declared.share_student.StudentShareRow.{StudentShareRow}

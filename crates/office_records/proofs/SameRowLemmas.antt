@@ -1,6 +1,6 @@
 -- The meaning of `==` for two rows of shares.
 use Rattle.std.proofs.Common.{◌≡◌, ℕ, Bool, true, false, eqb, ◌&&◌, Decides, refl, ap₂, subst}
-use Rattle.std.proofs.lemmas.Bool.{eq-eqb, eqb-true}
+use Rattle.std.proofs.lemmas.Bool.{eq-eqb, eqb-true, and_from}
 use Rattle.office_tables.specs.declared.share_part.PartShareRow.{PartShareRow}
 use Rattle.office_tables.specs.declared.share_student.StudentShareRow.{StudentShareRow}
 use Rattle.office_tables.specs.contracts.share_student.StudentShareRowPartialEq.TheImpl as student
@@ -14,15 +14,12 @@ each_true true true false s h = cc
 each_true true false r s h = cc
 each_true false q r s h = cc
 
-both_true : (p q : Bool) → p ≡ true → q ≡ true → (p && q) ≡ true
-both_true p q is also = ap₂ (λ x y. x && y) is also
-
 same : (n : ℕ) → eqb n n ≡ true
 same n = eq-eqb n n refl
 
 four_same : (k l m n : ℕ) → (eqb k k && (eqb l l && (eqb m m && eqb n n))) ≡ true
 four_same k l m n =
-    both_true _ _ (same k) (both_true _ _ (same l) (both_true _ _ (same m) (same n)))
+    and_from _ _ (same k) (and_from _ _ (same l) (and_from _ _ (same m) (same n)))
 
 five_true : (p q r s t : Bool) → (p && (q && (r && (s && t)))) ≡ true
     → (p ≡ true) × (q ≡ true) × (r ≡ true) × (s ≡ true) × (t ≡ true)
@@ -32,7 +29,7 @@ five_true false q r s t h = cc
 
 five_same : (k l m n o : ℕ)
     → (eqb k k && (eqb l l && (eqb m m && (eqb n n && eqb o o)))) ≡ true
-five_same k l m n o = both_true _ _ (same k) (four_same l m n o)
+five_same k l m n o = and_from _ _ (same k) (four_same l m n o)
 
 pub student_decides : (a b : StudentShareRow) → Decides (student.eq-value.it a b) (a ≡ b)
 student_decides a b = (

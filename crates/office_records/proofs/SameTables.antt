@@ -5,6 +5,7 @@ use Rattle.std.specs.Prelude.{IsPermutation, is_some}
 use Rattle.std.proofs.lemmas.List.{nil_from_length, length-map}
 use Rattle.std.proofs.lemmas.List.Sorted.{IsPermutation-sym, IsPermutation-trans, IsPermutation-map}
 use Rattle.std.proofs.lemmas.List.Sorted.{length_permutation}
+use Rattle.exam_lists.proofs.Permutations.{few_read, same_few}
 use Rattle.sqlite_value.specs.Order.{Row}
 use Rattle.sqlite.specs.Effect.{Database}
 use Rattle.sqlite_trees.proofs.ListLemmas.{IsPermutation-filter, all-permutation}
@@ -33,25 +34,9 @@ use Rattle.office_tables.proofs.RecordsBack.{owner_of, enrol_of, slot_of, placem
 use Rattle.office_tables.proofs.RecordsBack.{seat_of, part_share_of, batch_of}
 use Rattle.office_records.specs.Representation.{IsScoredRow, IsSound, TablesRepresentOffice, TablesRepresentRecords}
 use Rattle.office_records.specs.TableRows.{some_dept, number_if}
-use Rattle.office_records.proofs.MemoryLemmas.{same_rows, same_one, meta_back, meta_is}
+use Rattle.office_records.proofs.MemoryLemmas.{same_rows, meta_back, meta_is}
 
 -- ---- lists
-
--- at most one element, in any order
-pub same_few : {X : Type 0} (xs ys : List X) → length xs ≤ 1 → IsPermutation xs ys → ys ≡ xs
-same_few [] ys few p = nil_from_length ys (length_permutation _ _ p)
-same_few (x ∷ z ∷ xs) ys few p = absurd (omega arith)
-same_few (x ∷ []) [] few p = absurd (let long = length_permutation _ _ p in omega (arith, long))
-same_few (x ∷ []) (y ∷ []) few p = ap (λ w. w ∷ []) (same_one x y p)
-same_few (x ∷ []) (y ∷ z ∷ ys) few p =
-    absurd (let long = length_permutation _ _ p in omega (arith, long))
-
--- the value of the rows, if there is at most one
-pub few_read : {X Y : Type 0} (f : X → Y) (xs ys : List X) (zs : List Y) → IsPermutation xs ys
-    → map f xs ≡ zs → length zs ≤ 1 → map f ys ≡ zs
-few_read f xs ys zs p is few =
-    same_few zs (map f ys) few
-    (subst (λ l. IsPermutation l (map f ys)) is (IsPermutation-map f _ _ p))
 
 few_depts : (n : ℕ) → length (some_dept n) ≤ 1
 few_depts n = go (eqb n 0)

@@ -4,20 +4,21 @@ use Rattle.std.specs.List.{AllByRecursion, list_any}
 use Rattle.std.proofs.Common.{◌≡◌, ℕ, ◌<◌, inl, inr, Bool, true, false, cond, not, ◌&&◌, ◌||◌, eqb, List, [], ◌∷◌, ◌++◌}
 use Rattle.std.proofs.Common.{map, filter, refl, sym, ◌∙◌, ap, ap₂, subst, arith, eqb-true, append_assoc}
 use Rattle.std.specs.Prelude.{IsPermutation}
-use Rattle.std.proofs.lemmas.Bool.{and_parts}
+use Rattle.std.proofs.lemmas.Bool.{and_parts, or_from, or_left}
 use Rattle.std.proofs.lemmas.Bool.Decides.{nat_tests}
 use Rattle.std.proofs.lemmas.List.{append-nil, map-append}
 use Rattle.std.proofs.lemmas.List.Sorted.{IsPermutation-append_right, IsPermutation-cons, IsPermutation-map}
 use Rattle.std.proofs.lemmas.List.Sorted.{IsPermutation-middle, IsPermutation-refl, IsPermutation-trans}
 use Rattle.exam_lists.proofs.Chains.{IsChain, chain_from_index}
-use Rattle.exam_lists.proofs.Each.{each_weaker}
+use Rattle.exam_lists.proofs.Each.{each_weaker, each_filter}
+use Rattle.exam_lists.proofs.Booleans.{eqb_swap}
+use Rattle.exam_lists.proofs.Tests.{any_map}
 use Rattle.sqlite_trees.proofs.ListLemmas.{IsPermutation-filter, filter-map}
 use Rattle.exam_model.specs.Pairs.{Pair, ComesBefore}
 use Rattle.exam_publish.specs.declared.seat_row.SeatRow.{SeatRow}
 use Rattle.exam_publish.specs.Changed.{same_row}
 use Rattle.exam_publish.specs.Rows.{RowBefore, RowsInOrder, is_pair_before, row_pair}
 use Rattle.exam_publish.proofs.ChangedLemmas.{before_from_test}
-use Rattle.exam_publish.proofs.ListLemmas.{any_map, each_filter}
 use Rattle.office_tables.specs.declared.seat.SeatRow as tables
 use Rattle.office_records.specs.Publications.{stored_seat}
 use Rattle.office_records.specs.SeatsStored.{has_same, rows_beside, seats_without}
@@ -71,26 +72,12 @@ equal_row a b h =
       seat = eqb-true a.seat b.seat s.1 i;
     }
 
-eqb_turned : (a b : ℕ) → eqb a b ≡ eqb b a
-eqb_turned a b = grind (arith, nat_tests)
-
 same_turned : (a b : SeatRow) → same_row a b ≡ same_row b a
 same_turned a b =
-    ap₂ (λ p q. p && q) (eqb_turned a.student b.student)
-    (ap₂ (λ p q. p && q) (eqb_turned a.exam b.exam)
-    (ap₂ (λ p q. p && q) (eqb_turned a.period b.period)
-    (ap₂ (λ p q. p && q) (eqb_turned a.room b.room) (eqb_turned a.seat b.seat))))
-
-same_self : (a : SeatRow) → same_row a a ≡ true
-same_self a = grind (arith, nat_tests)
-
-either : (p q : Bool) → p ≡ true → (p || q) ≡ true
-either true q h = refl
-either false q h = cc
-
-neither : (p q : Bool) → p ≡ false → q ≡ false → (p || q) ≡ false
-neither true q h k = cc
-neither false q h k = k
+    ap₂ (λ p q. p && q) (eqb_swap a.student b.student)
+    (ap₂ (λ p q. p && q) (eqb_swap a.exam b.exam)
+    (ap₂ (λ p q. p && q) (eqb_swap a.period b.period)
+    (ap₂ (λ p q. p && q) (eqb_swap a.room b.room) (eqb_swap a.seat b.seat))))
 
 -- ---- rows beside others
 
@@ -99,7 +86,7 @@ has_none : (row : SeatRow) (rows : List SeatRow) → AllByRecursion (RowBefore r
     → has_same rows row ≡ false
 has_none row [] a = refl
 has_none row (r ∷ rs) a =
-    neither (same_row r row) (has_same rs row) (apart_turned row r a.0) (has_none row rs a.1)
+    or_from (same_row r row) (has_same rs row) (apart_turned row r a.0) (has_none row rs a.1)
 
 -- a row before all of them is none of them
 beside_less : (q : SeatRow) (qs rows : List SeatRow) → AllByRecursion (RowBefore q) rows
@@ -187,12 +174,12 @@ taken {rows} {others} {left} {right} {stored} r q rs qs more was l m before b is
         ap (map stored_seat)
         (sym (beside_old right r rs
         (ap (λ xs. has_same xs r) m
-        ∙ either (same_row q r) (has_same qs r) (same_turned q r ∙ sym is))))
+        ∙ or_left (same_row q r) (has_same qs r) (same_turned q r ∙ sym is))))
     here false is above =
         ap (map stored_seat)
         (sym (beside_new right r rs
         (ap (λ xs. has_same xs r) m
-        ∙ neither (same_row q r) (has_same qs r) (same_turned q r ∙ sym is)
+        ∙ or_from (same_row q r) (has_same qs r) (same_turned q r ∙ sym is)
         (has_none r qs above))))
 
 -- the others are used up
@@ -235,7 +222,7 @@ no_pair : (row : SeatRow) (gone : List SeatRow) → AllByRecursion (RowBefore ro
     → has_pair gone row ≡ false
 no_pair row [] a = refl
 no_pair row (g ∷ gone) a =
-    neither (eqb row.student g.student && eqb row.exam g.exam) (has_pair gone row)
+    or_from (eqb row.student g.student && eqb row.exam g.exam) (has_pair gone row)
     (other_pair row g a.0) (no_pair row gone a.1)
 
 -- a seat before all of them deletes none
@@ -297,11 +284,11 @@ module _ (o n : SeatRow) (os ns : List SeatRow) (up : AllByRecursion (RowBefore 
     same_first : same_row o n ≡ true → IsPut os ns → IsPut (o ∷ os) (n ∷ ns)
     same_first same more =
         is_put (o ∷ os) (n ∷ ns) (rows_beside os ns) (o ∷ kept (rows_beside ns os) os)
-        (beside_old (o ∷ os) n ns (either (same_row o n) (has_same os n) same)
+        (beside_old (o ∷ os) n ns (or_left (same_row o n) (has_same os n) same)
         ∙ beside_less o os ns of_o)
         (ap (λ g. kept g (o ∷ os))
         (beside_old (n ∷ ns) o os
-        (either (same_row n o) (has_same ns o) (same_turned n o ∙ same))
+        (or_left (same_row n o) (has_same ns o) (same_turned n o ∙ same))
         ∙ beside_less n ns os of_n)
         ∙ stays_first o (rows_beside ns os) os
         (no_pair o (rows_beside ns os)
@@ -316,11 +303,11 @@ module _ (o n : SeatRow) (os ns : List SeatRow) (up : AllByRecursion (RowBefore 
     other_first other more =
         is_put (o ∷ os) (n ∷ ns) (n ∷ rows_beside os ns) (kept (rows_beside ns os) os)
         (beside_new (o ∷ os) n ns
-        (neither (same_row o n) (has_same os n) other (has_none n os of_n))
+        (or_from (same_row o n) (has_same os n) other (has_none n os of_n))
         ∙ ap (λ l. n ∷ l) (beside_less o os ns of_o))
         (ap (λ g. kept g (o ∷ os))
         (beside_new (n ∷ ns) o os
-        (neither (same_row n o) (has_same ns o) (same_turned n o ∙ other) (has_none o ns of_o))
+        (or_from (same_row n o) (has_same ns o) (same_turned n o ∙ other) (has_none o ns of_o))
         ∙ ap (λ l. o ∷ l) (beside_less n ns os of_n))
         ∙ gone_first o (rows_beside ns os) os up)
         (IsPermutation-cons n _ _ more)

@@ -4,7 +4,7 @@ use Rattle.std.specs.List.{AllByRecursion}
 use Rattle.std.specs.List.Sorted.{IsSortedByKey}
 use Rattle.std.specs.Prelude.{IsPermutation}
 use Rattle.std.proofs.lemmas.List.{get_or-map, length-map}
-use Rattle.exam_lists.proofs.Chains.{IsChain}
+use Rattle.exam_lists.proofs.Chains.{IsChain, chain_unmap}
 use Rattle.sqlite_keyed.proofs.ListLemmas.{ascending-map}
 use Rattle.exam_model.specs.Enrolments.{IsAscending}
 use Rattle.exam_publish.proofs.ListLemmas.{chain_from_ascending}
@@ -55,16 +55,6 @@ no_share_at rows shares all same i d within none =
 
 -- ---- sorted rows
 
-each_unmapped : {X Y : Type 0} (P : Y → Type 0) (f : X → Y) (xs : List X)
-    → AllByRecursion P (map f xs) → AllByRecursion (λ x. P (f x)) xs
-each_unmapped P f [] h = tt
-each_unmapped P f (x ∷ xs) h = (h.0, each_unmapped P f xs h.1)
-
-unmapped : {X Y : Type 0} (R : Y → Y → Type 0) (f : X → Y) (xs : List X) → IsChain R (map f xs)
-    → IsChain (λ x y. R (f x) (f y)) xs
-unmapped R f [] h = tt
-unmapped R f (x ∷ xs) h = (each_unmapped (R (f x)) f xs h.0, unmapped R f xs h.1)
-
 pub sorted_shares : (found sorted : List StudentShareRow) (shares : List Share)
     → IsAscending (map (λ (share : Share). share.0) shares)
     → IsPermutation found (map student_share_row shares) → IsPermutation found sorted
@@ -73,6 +63,6 @@ pub sorted_shares : (found sorted : List StudentShareRow) (shares : List Share)
 sorted_shares found sorted shares up same moved order =
     one_order (λ (row : StudentShareRow). row.student) found (map student_share_row shares) sorted
     (ascending-map (λ (x : StudentShareRow) y. x.student < y.student) student_share_row shares
-    (unmapped (λ x y. x < y) (λ (share : Share). share.0) shares
+    (chain_unmap (λ x y. x < y) (λ (share : Share). share.0) shares
     (chain_from_ascending (map (λ (share : Share). share.0) shares) up)))
     same moved order

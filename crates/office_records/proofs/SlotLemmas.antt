@@ -7,6 +7,8 @@ use Rattle.std.proofs.lemmas.List.{take_more, ext_get_or, length-set, length-tak
 use Rattle.std.proofs.lemmas.List.Elements.{filter-append, All-set}
 use Rattle.std.proofs.lemmas.List.Sorted.{IsPermutation-refl, IsPermutation-sym, IsPermutation-trans, IsPermutation-middle, IsPermutation-push_more, sum_by-IsPermutation}
 use Rattle.std.proofs.lemmas.List.Sums.{sum_by-append, sum_by-cons}
+use Rattle.std.proofs.lemmas.Option.{same_Some}
+use Rattle.exam_lists.proofs.Each.{each_at_middle}
 use Rattle.sqlite_trees.proofs.ListLemmas.{all-permutation}
 use Rattle.exam_model.specs.Fits.{PlaceExists}
 use Rattle.exam_model.specs.Instance.{Session}
@@ -72,9 +74,6 @@ rows_each P d k (Some x ∷ T) h = (
       (λ e at is. subst (λ n. P (slot_row d n at)) (omega arith) (h (suc e) at is)),
 )
 
-some_is : {X : Type 0} (x y : X) → Some x ≡ Some y → x ≡ y
-some_is x y e = cc
-
 -- a fact about the rows holds for each placed exam's row
 pub each_row : (P : SlotRow → Type 0) (d k e : ℕ) (at : Place) (T : Placing)
     → AllByRecursion P (slots_from d k T) → get_or T e None ≡ Some at → P (slot_row d (k + e) at)
@@ -82,7 +81,7 @@ each_row P d k e at [] all is = absurd cc
 each_row P d k zero at (None ∷ T) all is = absurd cc
 each_row P d k zero at (Some x ∷ T) all is =
     subst (λ n. P (slot_row d n at)) (omega arith)
-    (subst (λ y. P (slot_row d k y)) (some_is x at is) all.0)
+    (subst (λ y. P (slot_row d k y)) (same_Some x at is) all.0)
 each_row P d k (suc e) at (None ∷ T) all is =
     subst (λ n. P (slot_row d n at)) (omega arith) (each_row P d (k + 1) e at T all is)
 each_row P d k (suc e) at (Some x ∷ T) all is =
@@ -93,11 +92,6 @@ placed_within : (T : Placing) (e : ℕ) (at : Place) → get_or T e None ≡ Som
 placed_within [] e at is = absurd cc
 placed_within (x ∷ T) zero at is = omega arith
 placed_within (x ∷ T) (suc e) at is = let more = placed_within T e at is in omega (arith, more)
-
-all_at : {X : Type 0} (P : X → Type 0) (xs : List X) (x : X) (ys : List X)
-    → AllByRecursion P (xs ++ x ∷ ys) → P x
-all_at P [] x ys all = all.0
-all_at P (y ∷ xs) x ys all = all_at P xs x ys all.1
 
 -- the place of a row's exam
 abbrev pub place_in : SlotRow → Place
@@ -272,7 +266,7 @@ module _ (I : Session) (d : ℕ) (found : List SlotRow) (row : SlotRow) (T : Pla
       where
         placed_there : get_or U row.exam None ≡ Some (place_in row)
         placed_there =
-            all_at (λ (r : SlotRow). get_or U r.exam None ≡ Some (place_in r))
+            each_at_middle (λ (r : SlotRow). get_or U r.exam None ≡ Some (place_in r))
             (slots_at d found) row
             (slots_at d rest)
             (subst (AllByRecursion (λ (r : SlotRow). get_or U r.exam None ≡ Some (place_in r)))

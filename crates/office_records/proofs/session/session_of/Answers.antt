@@ -4,6 +4,7 @@ use Rattle.std.specs.Prelude.{IfErr}
 use Rattle.std.specs.Cmp.Lexicographic.{pointwise}
 use Rattle.std.specs.Result.{IsErrAnd}
 use Rattle.std.proofs.lemmas.Bool.{and_parts, eq-eqb, eqb-true}
+use Rattle.exam_lists.proofs.Tests.{pointwise_itself, same_pointwise}
 use Rattle.exam_model.specs.Instance.{Session}
 use Rattle.office_files.specs.declared.fault.FaultKind.TheVariants.{NoMemory}
 use Rattle.office_files.specs.declared.fault.FileFault.{FileFault}
@@ -29,15 +30,11 @@ refused m fault (Err e) named reads = λ bad I is.
     no_rows : BadRows ≡ text_fault NoMemory → ⊥
     no_rows same = absurd cc
 
-itself : (xs : List ℕ) → pointwise nat_eq xs xs ≡ true
-itself [] = refl
-itself (x ∷ xs) = ap (λ b. b && pointwise nat_eq xs xs) (eq-eqb x x refl) ∙ itself xs
-
 not_other : (xs ys : List ℕ) (other : Bool) → other ≡ not (pointwise nat_eq xs ys) → other ≡ true
     → xs ≡ ys → ⊥
 not_other xs ys other tested is_known same =
     let equal : pointwise nat_eq xs ys ≡ true
-    = subst (λ zs. pointwise nat_eq xs zs ≡ true) same (itself xs) in
+    = subst (λ zs. pointwise nat_eq xs zs ≡ true) same (pointwise_itself xs) in
     absurd (clash (sym is_known ∙ tested ∙ ap not equal))
   where
     clash : true ≡ false → ⊥
@@ -65,17 +62,9 @@ returns-then-ne-clause-none c bad I is =
 clash : true ≡ false → ⊥
 clash e = absurd cc
 
-one_list : (xs ys : List ℕ) → pointwise nat_eq xs ys ≡ true → xs ≡ ys
-one_list [] [] equal = refl
-one_list [] (y ∷ ys) equal = absurd (clash (sym equal))
-one_list (x ∷ xs) [] equal = absurd (clash (sym equal))
-one_list (x ∷ xs) (y ∷ ys) equal =
-    let parts = and_parts _ _ equal in
-    ap₂ (λ z zs. z ∷ zs) (eqb-true x y parts.0) (one_list xs ys parts.1)
-
 no_other : (xs ys : List ℕ) (other : Bool) → other ≡ not (pointwise nat_eq xs ys)
     → other ≡ false → xs ≡ ys
-no_other xs ys other tested is = one_list xs ys (equal (pointwise nat_eq xs ys) (sym is ∙ tested))
+no_other xs ys other tested is = same_pointwise xs ys (equal (pointwise nat_eq xs ys) (sym is ∙ tested))
   where
     equal : (b : Bool) → false ≡ not b → b ≡ true
     equal true e = refl

@@ -1,14 +1,10 @@
 use Rattle.std.proofs.Common.{[], None, Ok, Err, Result, replicate, sym, ◌∙◌, subst, ap}
 use Rattle.std.specs.Prelude.{IfErr}
+use Rattle.exam_lists.proofs.Results.{IfErr_any}
 use Rattle.office_records.specs.Found.{AreSlots}
 use Rattle.office_records.proofs.SlotLemmas.{no_slots, next_other, next_put, next_bad}
 use Rattle.office_records.proofs.timetable.timetable_of.Goals as goal
 use Rattle.office_records.proofs.timetable.timetable_of.Goals.{then-row-draft+in_ok-put_slot, else-row-draft}
-
--- a fact about each error holds for this one
-each_err : {X E : Type 0} (r : Result X E) (P : E → Type 0) → ((e : E) → P e) → IfErr r P
-each_err (Ok x) P h = tt
-each_err (Err e) P h = h e
 
 pub loop-row-init : goal.loop-row-init
 loop-row-init c =
@@ -18,7 +14,7 @@ loop-row-init c =
 
 pub returns-in_err-put_slot-clause-none : goal.returns-in_err-put_slot-clause-none
 returns-in_err-put_slot-clause-none c =
-    each_err c.from_residual-in_err-put_slot.result _
+    IfErr_any c.from_residual-in_err-put_slot.result _
     (λ _ _. next_bad c.args.instance.now c.args.draft c.loop-row.row-index c.args.slots.now _
     c.loop-row-test.true c.loop-row.timetable c.loop-row.invariant c.if-row-draft.true
     c.in_err-put_slot.ensures.bad)
