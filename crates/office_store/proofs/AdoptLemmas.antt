@@ -5,6 +5,7 @@ use Rattle.std.specs.Prelude.{All, AllPairs, IfErr, Ok, OnErr, OnOk, Result}
 use Rattle.std.proofs.lemmas.Result.{on_err_weaker, on_ok_weaker}
 use Rattle.std.proofs.lemmas.List.Elements.{All-from_recursion}
 use Rattle.std.proofs.lemmas.List.Kept.{AllPairs-cons}
+use Rattle.exam_lists.proofs.Results.{OnOk_any}
 use Rattle.sqlite.proofs.StateLemmas.{survives_then, survives_weaker}
 use Rattle.sqlite_trees.specs.Tree.{IsAscending, Trees}
 use Rattle.sqlite.specs.Effect.{Database, IsDatabase}
@@ -36,7 +37,7 @@ use Rattle.office_store.specs.Opening.{HoldsOffice, IsFoundOffice, DatabaseUpgra
 use Rattle.office_store.specs.declared.memory.OfficeMemory.{OfficeMemory}
 use Rattle.office_tables.specs.Alterations.{Undone, found_in}
 use Rattle.office_tables.proofs.AdoptLemmas.{one_version, unchanged_then}
-use Rattle.office_tables.proofs.Reading.{keeps_after, on_ok_both}
+use Rattle.office_tables.proofs.Reading.{keeps_after}
 use Rattle.office_store.specs.Running.{IsAtRest, IsCommitted}
 use Rattle.office_store.specs.Transactions.{BroughtUp}
 use Rattle.office_store.proofs.LeavingLemmas.{survives_on, survives_same}
@@ -178,7 +179,7 @@ module _ {S A E : Type 0} (g : Ghosts S) (found : Found) (old new : Held S) (r :
   brought_tables One ran clean batches held =
       on_ok_weaker r (λ done. (done.related batches held).0) (ran.done clean)
   brought_tables Two left clean batches held =
-      on_ok_both r (subst (λ h. HoldsTables (state g h).now (tables_of found batches)) (sym left.1)
+      OnOk_any r (subst (λ h. HoldsTables (state g h).now (tables_of found batches)) (sym left.1)
       held)
 
   pub brought_same : (v : Version) → BroughtUp v g found old new r → v ≡ Two → new ≡ old
@@ -190,7 +191,7 @@ module _ {S A E : Type 0} (g : Ghosts S) (found : Found) (old new : Held S) (r :
   brought_committed One ran clean was =
       on_ok_weaker r (λ done. (done.is_open, done.committed)) (ran.done clean)
   brought_committed Two left clean was =
-      on_ok_both r (subst (λ h. IsCommitted (state g h)) (sym left.1) was)
+      OnOk_any r (subst (λ h. IsCommitted (state g h)) (sym left.1) was)
 
   pub brought_undone : (v : Version) → BroughtUp v g found old new r → HasCleanDisk (state g new)
       → OnErr r (Undone (state g old) (state g new))

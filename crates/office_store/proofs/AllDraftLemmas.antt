@@ -1,6 +1,7 @@
 -- An office that is found: its drafts, what is in memory of it, its faults.
 use Rattle.std.proofs.Common.{◌≡◌, refl, sym, ◌∙◌, subst}
 use Rattle.std.specs.Prelude.{IfErr, IfSome, IsErrAnd, Result, Ok, Err, Some}
+use Rattle.exam_lists.proofs.Options.{none_no_some}
 use Rattle.office_tables.specs.Tables.{Tables}
 use Rattle.office_model.specs.Office.{AreRecords, Records}
 use Rattle.office_model.specs.declared.fault.StoreFault.{StoreFault}
@@ -12,7 +13,6 @@ use Rattle.office_records.specs.Memory.{AreSuited, AreTogether, Memory}
 use Rattle.office_records.specs.Representation.{IsSound, TablesRepresentRecords}
 use Rattle.office_records.specs.declared.fault.RecordFault.{RecordFault}
 use Rattle.office_records.specs.declared.fault.RecordFault.TheVariants.{NoMemory, BadRows}
-use Rattle.office_store.proofs.TogetherLemmas.{no_one}
 use Rattle.office_store.specs.Memory.{AreUnjudged, IsTogether}
 use Rattle.office_store.specs.declared.memory.OfficeMemory.{OfficeMemory}
 
@@ -37,7 +37,7 @@ found_together n exams suited found unjudged = record {
       subst (λ (k : Memory). IfSome k (λ k. AreSuited k.0 n.drafts)) kept suited;
   published = λ I E kept.
       subst (λ (k : Memory). IfSome k (λ k. AreFound k.0 (publication_from n.published))) kept found;
-  judged = λ I E kept d v there draft at. absurd (no_one (unjudged d) there);
+  judged = λ I E kept d v there draft at. absurd (none_no_some (unjudged d) there);
 }
 
 -- only invalid rows are refused as a wrong schema

@@ -2,6 +2,7 @@
 use Rattle.std.proofs.Common.{◌≡◌, ◌⊎◌, ◌≤◌, inl, inr, ℕ, Bool, true, false, List, [], ◌∷◌, map, Option, Some, None, option_map, Result, Ok, Err, refl, sym, subst, ap, ◌∙◌, arith}
 use Rattle.std.specs.Prelude.{is_some}
 use Rattle.std.proofs.lemmas.Bool.Decides.{nat_tests}
+use Rattle.exam_lists.proofs.Options.{none_from_test}
 use Rattle.sqlite.specs.Effect.{Database}
 use Rattle.exam_model.specs.Enrolments.{Enrolled}
 use Rattle.exam_model.specs.Instance.{Session}
@@ -50,11 +51,6 @@ pub has_records : (o : OfficeState) (m : OfficeMemory) → IsMemoryOf o m → is
 has_records None m e some =
     absurd (let is : is_some m.kept ≡ false = ap is_some (sym e.session) in cc)
 has_records (Some r) m e some = record { records = r; is = refl }
-
--- nothing is there
-nothing : {X : Type 0} (o : Option X) → is_some o ≡ false → o ≡ None
-nothing None e = refl
-nothing (Some x) e = absurd cc
 
 -- ---- what a command needs is there, or not
 
@@ -141,7 +137,7 @@ pub begun_kept : (a b : Database) (r : Records) (d : ℕ) (bytes : List ℕ) (be
 begun_kept a b r d bytes begun row slots begins number parts numbered free kept makes =
     let within = in_range d numbered in
     made_kept a b r d begun.timetable row slots number begins.rows (parts ∙ begins.scored)
-    (nothing (r.draft d) free) within.0 within.1 begins.fits kept makes
+    (none_from_test (r.draft d) free) within.0 within.1 begins.fits kept makes
 
 pub begun_made : (r : Records) (d : ℕ) (bytes : List ℕ) (begun : Draft) (slots : List SlotRow)
     (begins : Begins d bytes r.session r.enrolments begun slots) → true ≡ is_draft_number d

@@ -6,9 +6,10 @@ use Rattle.std.specs.Prelude.{◌||◌, IsPermutation, slice_get}
 use Rattle.std.proofs.Common.{append_assoc, add-one}
 use Rattle.std.proofs.Math.Seq.{drop-nil}
 use Rattle.std.proofs.lemmas.Bool.Decides.{nat_tests}
-use Rattle.std.proofs.lemmas.Bool.{and_parts}
+use Rattle.std.proofs.lemmas.Bool.{and_parts, or_from, or_parts}
 use Rattle.std.proofs.lemmas.List.Sorted.{IsPermutation-append_right, IsPermutation-cons, IsPermutation-middle}
 use Rattle.std.proofs.lemmas.List.Sorted.{IsPermutation-refl, IsPermutation-trans, length_permutation}
+use Rattle.exam_lists.proofs.Booleans.{eqb_swap}
 use Rattle.sqlite_trees.proofs.ListLemmas.{IsPermutation-filter}
 use Rattle.exam_model.specs.Enrolments.{has_number}
 use Rattle.exam_model.specs.Timetable.{Placing}
@@ -62,13 +63,10 @@ next_changed rows others changed i d within so_far b is =
 
 -- ---- exams
 
-eqb_turned : (a b : ℕ) → eqb a b ≡ eqb b a
-eqb_turned a b = grind (arith, nat_tests)
-
 same_turned : (a b : PlacedRow) → is_same_row a b ≡ is_same_row b a
 same_turned a b =
-    ap₂ (λ p q. p && q) (eqb_turned a.exam b.exam)
-    (ap₂ (λ p q. p && q) (eqb_turned a.period b.period) (eqb_turned a.room b.room))
+    ap₂ (λ p q. p && q) (eqb_swap a.exam b.exam)
+    (ap₂ (λ p q. p && q) (eqb_swap a.period b.period) (eqb_swap a.room b.room))
 
 equal_row : (a b : PlacedRow) → is_same_row a b ≡ true → a ≡ b
 equal_row a b h =
@@ -80,14 +78,6 @@ equal_row a b h =
       room = eqb-true a.room b.room rest.1 i;
     }
 
-neither : (p q : Bool) → (p || q) ≡ false → (p ≡ false) × (q ≡ false)
-neither true q h = cc
-neither false q h = (refl, h)
-
-both_false : (p q : Bool) → p ≡ false → q ≡ false → (p || q) ≡ false
-both_false true q p r = cc
-both_false false q p r = r
-
 -- no exam has two placements
 abbrev pub AreOwnExams : List PlacedRow → Type 0
 AreOwnExams [] = Unit {0}
@@ -98,11 +88,11 @@ no_more : (rows others : List PlacedRow) (n : ℕ) → has_number (exams_of rows
     → has_number (exams_of (changed_rows rows others)) n ≡ false
 no_more [] others n none = refl
 no_more (row ∷ rows) [] n none =
-    let parts = neither (eqb row.exam n) (has_number (exams_of rows) n) none in
-    both_false (eqb row.exam n) (has_number (exams_of (changed_rows rows [])) n) parts.0
+    let parts = or_parts (eqb row.exam n) (has_number (exams_of rows) n) none in
+    or_from (eqb row.exam n) (has_number (exams_of (changed_rows rows [])) n) parts.0
     (no_more rows [] n parts.1)
 no_more (row ∷ rows) (other ∷ others) n none =
-    let parts = neither (eqb row.exam n) (has_number (exams_of rows) n) none in
+    let parts = or_parts (eqb row.exam n) (has_number (exams_of rows) n) none in
     go (is_same_row row other) parts.0 (no_more rows others n parts.1)
   where
     go : (b : Bool) → eqb row.exam n ≡ false
@@ -111,7 +101,7 @@ no_more (row ∷ rows) (other ∷ others) n none =
         n ≡ false
     go true first more = more
     go false first more =
-        both_false (eqb row.exam n) (has_number (exams_of (changed_rows rows others)) n) first more
+        or_from (eqb row.exam n) (has_number (exams_of (changed_rows rows others)) n) first more
 
 -- an exam without a placement deletes none
 none_less : (n : ℕ) (gone : List ℕ) (rows : List PlacedRow) → has_number (exams_of rows) n ≡ false
@@ -121,10 +111,10 @@ none_less n gone (row ∷ rows) none =
     ap₂ (λ (b : Bool) rest. cond (not b) (row ∷ rest) rest) here (none_less n gone rows parts.1)
   where
     parts : (eqb row.exam n ≡ false) × (has_number (exams_of rows) n ≡ false)
-    parts = neither (eqb row.exam n) (has_number (exams_of rows) n) none
+    parts = or_parts (eqb row.exam n) (has_number (exams_of rows) n) none
 
     here : (eqb n row.exam || has_number gone row.exam) ≡ has_number gone row.exam
-    here = ap (λ b. b || has_number gone row.exam) (eqb_turned n row.exam ∙ parts.0)
+    here = ap (λ b. b || has_number gone row.exam) (eqb_swap n row.exam ∙ parts.0)
 
 -- a placement is deleted if its exam's placement is
 gone_first : (row : PlacedRow) (gone : List ℕ) (rows : List PlacedRow)
@@ -247,7 +237,7 @@ none_at n (row ∷ rows) few = go (eqb row.exam n) refl few (none_at n rows)
         → (length (at n rows) ≤ 0 → has_number (exams_of rows) n ≡ false)
         → (eqb row.exam n || has_number (exams_of rows) n) ≡ false
     go true is few more = absurd (omega (arith, few))
-    go false is few more = both_false (eqb row.exam n) (has_number (exams_of rows) n) is (more few)
+    go false is few more = or_from (eqb row.exam n) (has_number (exams_of rows) n) is (more few)
 
 own_of_single : (rows : List PlacedRow) → IsSingle rows → AreOwnExams rows
 own_of_single [] one = tt

@@ -7,7 +7,9 @@ use Rattle.std.proofs.lemmas.List.Elements.{All-from_recursion, filter_agree, re
 use Rattle.std.proofs.lemmas.List.Folds.{list_any-append}
 use Rattle.std.proofs.lemmas.List.Sorted.{IsPermutation-append_left, IsPermutation-append_right, IsPermutation-cons, IsPermutation-refl, IsPermutation-sym, IsPermutation-to_front, IsPermutation-trans, length_permutation}
 use Rattle.exam_lists.proofs.Chains.{IsChain}
-use Rattle.exam_lists.proofs.Each.{each_weaker}
+use Rattle.exam_lists.proofs.Each.{each_weaker, each_append, each_append_right}
+use Rattle.exam_lists.proofs.Filters.{filter_false}
+use Rattle.exam_lists.proofs.Permutations.{IsPermutation-filter_or}
 use Rattle.exam_model.specs.Changes.{exams_sat}
 use Rattle.exam_model.specs.Enrolments.{AreEnrolments, Enrolled, IsAscending, has, has_number, students}
 use Rattle.exam_model.specs.Pairs.{Pair, pairs_of}
@@ -18,33 +20,6 @@ use Rattle.exam_score.specs.Folds.{CanFollow, ComesEarlier, Folded, RepresentsPa
 use Rattle.office_store.specs.Folding.{pairs_of_students, students_of_exams}
 
 -- ---- tests on lists
-
--- the elements that pass one of two tests that exclude each other
-apart : {X : Type 0} (f g : X → Bool) (xs : List X) → ((x : X) → f x ≡ true → g x ≡ false)
-    → IsPermutation (filter (λ x. f x || g x) xs) (filter f xs ++ filter g xs)
-apart f g [] other = IsPermutation-refl []
-apart {X} f g (x ∷ xs) other = go (f x) (g x) (other x) (apart f g xs other)
-  where
-    both : List X
-    both = filter (λ x. f x || g x) xs
-
-    go : (a b : Bool) → (a ≡ true → b ≡ false)
-        → IsPermutation both (filter f xs ++ filter g xs)
-        → IsPermutation (cond (a || b) (x ∷ both) both)
-        (cond a (x ∷ filter f xs) (filter f xs) ++ cond b (x ∷ filter g xs) (filter g xs))
-    go true true only more = absurd (true≢false (only refl))
-    go true false only more = IsPermutation-cons x _ _ more
-    go false true only more =
-        IsPermutation-trans _ _ _ (IsPermutation-cons x _ _ more)
-        (IsPermutation-sym _ _ (subst (λ l. IsPermutation l (x ∷ (filter f xs ++ filter g xs)))
-        (append_assoc (filter f xs) (x ∷ []) (filter g xs))
-        (IsPermutation-append_left (filter g xs) (filter f xs ++ x ∷ []) (x ∷ filter f xs)
-        (IsPermutation-to_front (filter f xs) x))))
-    go false false only more = more
-
-none_pass : {X : Type 0} (xs : List X) → filter (λ _. false) xs ≡ []
-none_pass [] = refl
-none_pass (x ∷ xs) = none_pass xs
 
 -- a number below all numbers of a list is not in it
 not_above : (c s : ℕ) (ss : List ℕ) → AllByRecursion (λ t. c < t) ss → eqb c s ≡ true
@@ -65,14 +40,14 @@ pub gathered : (pairs : List Pair) (ss : List ℕ) → IsChain (λ x y. x < y) s
     → IsPermutation (filter (λ p. has_number ss p.student) pairs)
     (flat_map (pairs_of_student pairs) ss)
 gathered pairs [] h =
-    subst (λ l. IsPermutation l []) (sym (none_pass pairs)) (IsPermutation-refl [])
+    subst (λ l. IsPermutation l []) (sym (filter_false pairs)) (IsPermutation-refl [])
 gathered pairs (s ∷ ss) h =
     subst (λ l. IsPermutation (filter (λ p. has_number (s ∷ ss) p.student) pairs)
     (l ++ flat_map (pairs_of_student pairs) ss))
     (filter_agree (λ (p : Pair). eqb s p.student) (λ p. eqb p.student s)
     (λ p. turned s p.student) pairs)
     (IsPermutation-trans _ _ _
-    (apart (λ p. eqb s p.student) (λ p. has_number ss p.student) pairs
+    (IsPermutation-filter_or (λ p. eqb s p.student) (λ p. has_number ss p.student) pairs
     (λ p is. not_above s p.student ss h.0 is))
     (IsPermutation-append_right (filter (λ p. eqb s p.student) pairs) _ _ (gathered pairs ss h.1)))
   where
@@ -127,16 +102,6 @@ module _ (E : Enrolled) (known : AreEnrolments E)
 
 -- ---- the fold takes a student's exams
 
-pub each_append : {X : Type 0} (P : X → Type 0) (xs ys : List X) → AllByRecursion P xs
-    → AllByRecursion P ys → AllByRecursion P (xs ++ ys)
-each_append P [] ys h k = k
-each_append P (x ∷ xs) ys h k = (h.0, each_append P xs ys h.1 k)
-
-each_last : {X : Type 0} (P : X → Type 0) (xs ys : List X) → AllByRecursion P (xs ++ ys)
-    → AllByRecursion P ys
-each_last P [] ys h = h
-each_last P (x ∷ xs) ys h = each_last P xs ys h.1
-
 each_sat : (P : Pair → Type 0) (s : ℕ) (exams : List ℕ)
     → AllByRecursion (λ e. P (record { exam = e; student = s })) exams
     → AllByRecursion P (pairs_sat (Some s) exams)
@@ -163,7 +128,7 @@ pub can_follow : (fold : Folded) (pairs : List Pair) (s : ℕ) (exams : List ℕ
 can_follow fold pairs s exams i d lt up below h =
     let pair : Pair = record { exam = get_or exams i d; student = s } in
     All-from_recursion (λ p. ComesEarlier p pair) fold.current
-    (each_last (λ p. ComesEarlier p pair) h.closed fold.current
+    (each_append_right (λ p. ComesEarlier p pair) h.closed fold.current
     (subst (AllByRecursion (λ p. ComesEarlier p pair)) h.parts
     (each_append (λ p. ComesEarlier p pair) pairs (pairs_sat (Some s) (take i exams))
     (each_weaker (λ p. p.student < s) (λ p. ComesEarlier p pair) (λ p l. inl l) pairs

@@ -6,6 +6,11 @@ use Rattle.std.proofs.lemmas.Bool.Decides.{nat_tests}
 use Rattle.std.proofs.lemmas.List.{append-nil, take_more, length-take}
 use Rattle.std.proofs.lemmas.List.Elements.{filter-append}
 use Rattle.std.proofs.lemmas.List.Sorted.{IsPermutation-refl, IsPermutation-sym, IsPermutation-trans, IsPermutation-append, IsPermutation-map, IsPermutation-reverse, length_permutation}
+use Rattle.std.proofs.lemmas.Option.{same_Some}
+use Rattle.exam_lists.proofs.Each.{each_none_pass}
+use Rattle.exam_lists.proofs.Keys.{all_of_other, each_left, none_of}
+use Rattle.exam_lists.proofs.Maps.{map_to_nil}
+use Rattle.exam_lists.proofs.Permutations.{IsPermutation-nil, same_one}
 use Rattle.sqlite_trees.proofs.ListLemmas.{IsPermutation-filter}
 use Rattle.sqlite.specs.Effect.{Database}
 use Rattle.exam_model.specs.Fits.{Fits}
@@ -22,8 +27,6 @@ use Rattle.office_model.specs.Office.{OfficeState, Records, set_at}
 use Rattle.office_model.proofs.RecordLemmas.{left_records, made_records}
 use Rattle.office_records.specs.Representation.{TablesRepresentOffice, TablesRepresentRecords, IsSound, IsScoredRow, RepresentsOffice, parts_of}
 use Rattle.office_records.specs.TableRows.{drafts_at, slots_at, slots_from, slot_rows, slot_row, number_if}
-use Rattle.office_records.proofs.KeyLemmas.{none_of, all_of_other, each_left}
-use Rattle.office_records.proofs.MemoryLemmas.{same_one}
 
 -- ---- the rows of one draft
 
@@ -41,28 +44,6 @@ slots_are d n k false e (Some at ∷ T) =
     ap (λ c. cond c (slot_row d k at ∷ slots_at n (slots_from d (k + 1) T))
     (slots_at n (slots_from d (k + 1) T))) e
     ∙ slots_are d n (k + 1) false e T
-
-no_rows : {X : Type 0} (xs : List X) → IsPermutation xs [] → xs ≡ []
-no_rows [] p = refl
-no_rows (x ∷ xs) p = absurd (let long = length_permutation _ _ p in omega (arith, long))
-
-map_none : {A B : Type 0} (f : A → B) (xs : List A) → map f xs ≡ [] → xs ≡ []
-map_none f [] e = refl
-map_none f (x ∷ xs) e = absurd cc
-
--- each element that fails a test has a property, if no element passes
-none_pass : {X : Type 0} (p : X → Bool) (P Q : X → Type 0) → ((x : X) → P x → p x ≡ false → Q x)
-    → (xs : List X) → filter p xs ≡ [] → AllByRecursion P xs → AllByRecursion Q xs
-none_pass p P Q h [] e a = tt
-none_pass p P Q h (x ∷ xs) e a = go (p x) refl e (λ rest. none_pass p P Q h xs rest a.1)
-  where
-    go : (b : Bool) → p x ≡ b → cond b (x ∷ filter p xs) (filter p xs) ≡ []
-        → (filter p xs ≡ [] → AllByRecursion Q xs) → AllByRecursion Q (x ∷ xs)
-    go true f none more = absurd cc
-    go false f none more = (h x a.0 f, more none)
-
-pub some_is : {X : Type 0} (x y : X) → Some x ≡ Some y → x ≡ y
-some_is x y e = cc
 
 -- ---- a draft is inserted
 
@@ -109,7 +90,7 @@ module _ (t : Tables) (r : Records) (d : ℕ) (T : Placing) (row : DraftRow) (sl
       let same : d ≡ n = grind (arith, nat_tests, e) in
       let passes : eqb d n ≡ true = grind (arith, nat_tests, e) in
       let empty : slots_at n t.slot ≡ [] =
-      no_rows _ (subst (λ o. IsPermutation (slots_at n t.slot) (slot_rows n o)) (free_at n e)
+      IsPermutation-nil _ (subst (λ o. IsPermutation (slots_at n t.slot) (slot_rows n o)) (free_at n e)
       (h.slot n)) in
       let is : slots_at n (slots_from d 0 T) ++ slots_at n t.slot ≡ slot_rows n (Some T) =
       ap (λ l. l ++ slots_at n t.slot) (slots_are d n 0 true passes T)
@@ -137,14 +118,14 @@ module _ (t : Tables) (r : Records) (d : ℕ) (T : Placing) (row : DraftRow) (sl
   }
 
   none_there : drafts_at d t.draft ≡ []
-  none_there = map_none (λ (x : DraftRow). x.no) _ (h.draft d ∙ ap (λ o. number_if (is_some o) d) free)
+  none_there = map_to_nil (λ (x : DraftRow). x.no) _ (h.draft d ∙ ap (λ o. number_if (is_some o) d) free)
 
   made_sound : parts_of row ≡ track r.session r.enrolments T → IsSound t (Some r)
       → IsSound (draft_put row slots t) (Some (record r { draft = set_at d (Some T) r.draft }))
   made_sound scored sound = record {
     scored = (
       own,
-      none_pass (λ (x : DraftRow). eqb x.no d) (IsScoredRow r)
+      each_none_pass (λ (x : DraftRow). eqb x.no d) (IsScoredRow r)
           (IsScoredRow (record r { draft = set_at d (Some T) r.draft })) other t.draft none_there
           sound.scored,
     );
@@ -156,7 +137,7 @@ module _ (t : Tables) (r : Records) (d : ℕ) (T : Placing) (row : DraftRow) (sl
       own S e =
           let same : eqb row.no d ≡ true = grind (arith, nat_tests, number_is) in
           scored ∙ ap (track r.session r.enrolments)
-          (some_is T S (sym (ap (λ b. cond b (Some T) (r.draft row.no)) same) ∙ e))
+          (same_Some T S (sym (ap (λ b. cond b (Some T) (r.draft row.no)) same) ∙ e))
 
       other : (x : DraftRow) → IsScoredRow r x → eqb x.no d ≡ false
           → IsScoredRow (record r { draft = set_at d (Some T) r.draft }) x

@@ -2,6 +2,7 @@
 use Rattle.std.proofs.Common.{◌≡◌, ◌≤◌, ℕ, List, Option, Some, None, Result, Ok, Err, refl, sym, ◌∙◌, ap, subst, ◌⊎◌, inl, inr}
 use Rattle.std.proofs.Common.{map}
 use Rattle.std.specs.Prelude.{IsSome}
+use Rattle.std.proofs.lemmas.Option.{same_Some}
 use Rattle.sqlite.specs.Effect.{Database}
 use Rattle.exam_model.specs.Enrolments.{Enrolled}
 use Rattle.exam_model.specs.Fits.{Fits}
@@ -39,7 +40,6 @@ use Rattle.office_store.specs.declared.editing.EditedDraft.{EditedDraft}
 use Rattle.office_store.specs.declared.editing.Judged.{Judged}
 use Rattle.office_store.specs.declared.memory.OfficeMemory.{OfficeMemory}
 use Rattle.office_store.proofs.CommandLemmas.{Moves, Remembers}
-use Rattle.office_store.proofs.DraftLemmas.{some_is}
 use Rattle.office_store.proofs.EditLemmas.{edit_kept}
 use Rattle.office_store.proofs.RememberingLemmas.{next_is, one_changed}
 use Rattle.office_store.proofs.RunLemmas.{nothing_kept}
@@ -118,7 +118,7 @@ edit_refused d change r T e there (inr is) =
 module _ (r : Records) (I : Session) (E : Enrolled)
     (here : memory_of (Some r) ≡ Some (I, E)) where
   pub both : ◌≡◌ {A = Session × Enrolled} (r.session, r.enrolments) (I, E)
-  both = some_is (r.session, r.enrolments) (I, E) here
+  both = same_Some (r.session, r.enrolments) (I, E) here
 
   pub is_judged : (d : ℕ) (change : Edit) (judged : Judged) → IsThere r d judged.draft.now
       → edit_result I E judged.draft.now.timetable change ≡ Ok judged.new → IsJudged d change r judged

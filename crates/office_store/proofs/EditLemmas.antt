@@ -4,6 +4,7 @@ use Rattle.std.specs.Prelude.{IsPermutation, IsSome, is_some}
 use Rattle.std.specs.List.{AllByRecursion}
 use Rattle.std.proofs.lemmas.Bool.Decides.{nat_tests}
 use Rattle.std.proofs.lemmas.List.{get_or-set_other}
+use Rattle.exam_lists.proofs.Keys.{all_of_other, each_left, none_of}
 use Rattle.sqlite.specs.Effect.{Database}
 use Rattle.exam_model.specs.Enrolments.{Enrolled}
 use Rattle.exam_model.specs.Fits.{Fits}
@@ -27,7 +28,6 @@ use Rattle.exam_draft.specs.declared.edit.Edit.TheVariants as edit
 use Rattle.office_model.specs.Office.{Records, set_at}
 use Rattle.office_records.specs.Representation.{TablesRepresentRecords, IsSound, IsScoredRow, RepresentsOffice, parts_of}
 use Rattle.office_records.specs.TableRows.{drafts_at, slots_at, slots_from, slot_rows, number_if}
-use Rattle.office_records.proofs.KeyLemmas.{none_of, all_of_other, each_left}
 use Rattle.office_model.proofs.RecordLemmas.{made_records}
 use Rattle.office_store.proofs.SlotLemmas.{only_slots, others_as_before, places_put}
 

@@ -82,17 +82,6 @@ draft_scored I E drafts d scored = go (draft_at drafts d) refl
 
 -- ---- elements of a list
 
-pub same_within : {X : Type 0} (xs : List X) (i : ℕ) (a b : X) → i < length xs
-    → get_or xs i a ≡ get_or xs i b
-same_within [] i a b low = absurd (omega (arith, low))
-same_within (x ∷ xs) zero a b low = refl
-same_within (x ∷ xs) (suc i) a b low = same_within xs i a b (omega (arith, low))
-
-pub past_end : {X : Type 0} (xs : List X) (i : ℕ) (a : X) → length xs ≤ i → get_or xs i a ≡ a
-past_end [] i a high = refl
-past_end (x ∷ xs) zero a high = absurd (omega (arith, high))
-past_end (x ∷ xs) (suc i) a high = past_end xs i a (omega (arith, high))
-
 -- ---- rows of the drafts of the first numbers
 
 abbrev IsPricedBy : List (Option Draft) → DraftRow → Type 0

@@ -6,8 +6,8 @@ use Rattle.std.specs.List.{AllByRecursion, IsAllAdjacentAnswer, flat_map}
 use Rattle.std.proofs.lemmas.Bool.Decides.{nat_tests}
 use Rattle.std.proofs.lemmas.List.{append-nil, length-map}
 use Rattle.std.proofs.lemmas.List.Elements.{All-from_recursion, recursion_from_All}
-use Rattle.exam_lists.proofs.Chains.{IsChain}
-use Rattle.exam_lists.proofs.Each.{each_weaker}
+use Rattle.exam_lists.proofs.Chains.{IsChain, chain_from_next, index_from_chain}
+use Rattle.exam_lists.proofs.Each.{each_weaker, each_append}
 use Rattle.sqlite.specs.Held.{Held, state}
 use Rattle.sqlite.specs.State.{HasCleanDisk, IsUnchanged}
 use Rattle.sqlite.specs.Store.{Ghosts}
@@ -18,7 +18,7 @@ use Rattle.exam_model.specs.Timetable.{Placing}
 use Rattle.sqlite_trees.proofs.ListLemmas.{all-filter}
 use Rattle.sqlite_trees.specs.Tree as tree
 use Rattle.exam_model.specs.Pairs.{Pair}
-use Rattle.exam_publish.proofs.ListLemmas.{ascending_from_chain, ascends, chain_from_ascending, index_from_chain}
+use Rattle.exam_publish.proofs.ListLemmas.{ascending_from_chain, ascends, chain_from_ascending}
 use Rattle.exam_score.specs.Exchanges.{IsOfEdit, pairs_concerned}
 use Rattle.exam_score.specs.Folds.{Folded, IsFoldOf, RepresentsPairs, pairs_sat}
 use Rattle.exam_score.specs.Front.{AreSizes}
@@ -38,7 +38,7 @@ use Rattle.office_store.specs.Folding.{CanTake, HasTaken, IsEditOf, pairs_of_stu
 use Rattle.office_store.specs.Running.{ReturnsValue}
 use Rattle.office_store.specs.declared.editing.Judged.{Judged}
 use Rattle.office_store.specs.Viewing.{candidate_enrol_row}
-use Rattle.office_store.proofs.ConcernedLemmas.{concerned, each_append, students_few}
+use Rattle.office_store.proofs.ConcernedLemmas.{concerned, students_few}
 use Rattle.office_store.proofs.LeavingLemmas.{survives_on, survives_same}
 use Rattle.office_store.proofs.ViewLemmas.{exams_back, own_pairs, rows_read, sat_rise}
 
@@ -298,18 +298,6 @@ rise_on rest s others is up =
 
 -- ---- rows in order
 
-chain_from_next : {X : Type 0} (R : X → X → Type 0) → ((x y z : X) → R x y → R y z → R x z)
-    → (xs : List X)
-    → ((k : ℕ) (d : X) → k + 1 < length xs → R (get_or xs k d) (get_or xs (k + 1) d))
-    → IsChain R xs
-chain_from_next R trans [] next = tt
-chain_from_next R trans (x ∷ []) next = (tt, tt)
-chain_from_next R trans (x ∷ y ∷ xs) next =
-    let rest = chain_from_next R trans (y ∷ xs)
-    (λ k d within. rw add-one (rw add-one at (next (suc k) d (omega arith)))) in
-    let first : R x y = next 0 x (omega arith) in
-    ((first, each_weaker (R y) (R x) (λ z h. trans x y z first h) xs rest.0), rest)
-
 -- rows of smaller exams
 abbrev IsSooner : EnrolRow → EnrolRow → Type 0
 IsSooner x y = x.exam < y.exam
@@ -480,9 +468,3 @@ fold_of fold empty I old new edited on is = record {
 }
 
 -- ---- the students of exams
-
-pub flat_map_push : {X Y : Type 0} (f : X → List Y) (xs : List X) (x : X)
-    → flat_map f (xs ++ x ∷ []) ≡ flat_map f xs ++ f x
-flat_map_push f [] x = append-nil (f x)
-flat_map_push f (y ∷ ys) x =
-    ap (λ l. f y ++ l) (flat_map_push f ys x) ∙ sym (append_assoc (f y) (flat_map f ys) (f x))

@@ -6,7 +6,9 @@ use Rattle.std.specs.List.{AllByRecursion}
 use Rattle.std.specs.Prelude.{IsPermutation, ◌&&◌, nat_eq, not, option_to_list}
 use Rattle.std.proofs.lemmas.Bool.Decides.{nat_tests}
 use Rattle.std.proofs.lemmas.List.Sorted.{IsPermutation-sym}
+use Rattle.std.proofs.Math.Bool.{not-not}
 use Rattle.exam_lists.proofs.Chains.{IsChain, chain_from_index}
+use Rattle.exam_lists.proofs.Permutations.{same_few}
 use Rattle.sqlite_trees.proofs.ListLemmas.{IsPermutation-filter, filter-map}
 use Rattle.office_tables.specs.Batch.{batch_from}
 use Rattle.office_tables.specs.Tables.{Batch, Tables}
@@ -21,7 +23,6 @@ use Rattle.office_model.specs.declared.fault.StoreFault.TheVariants.{BatchDiffer
 use Rattle.office_model.specs.Office.{AreRecords, IsOffice, KeptBatch, OfficeState, Records}
 use Rattle.office_records.specs.Representation.{TablesRepresentOffice, TablesRepresentRecords}
 use Rattle.office_records.specs.TableRows.{stored_batch}
-use Rattle.office_records.proofs.SameTables.{same_few}
 use Rattle.office_store.specs.NewBatches.{IsRowOf, first_counts}
 use Rattle.office_store.specs.Running.{CommandOutcome}
 
@@ -140,16 +141,12 @@ bytes_same [] (y ∷ ys) = refl
 bytes_same (x ∷ xs) [] = refl
 bytes_same (x ∷ xs) (y ∷ ys) = ap (λ b. eqb x y && b) (bytes_same xs ys)
 
-twice : (b : Bool) → not (not b) ≡ b
-twice true = refl
-twice false = refl
-
 -- the result of a comparison of two texts
 pub returned_same : (xs bs ys : List ℕ) (other : Bool) → other ≡ not (pointwise nat_eq xs ys)
     → xs ≡ bs → same_bytes bs ys ≡ not other
 returned_same xs bs ys other tested is =
     sym (ap (λ l. same_bytes l ys) is) ∙ sym (bytes_same xs ys)
-    ∙ sym (twice (pointwise nat_eq xs ys)) ∙ sym (ap not tested)
+    ∙ sym (not-not (pointwise nat_eq xs ys)) ∙ sym (ap not tested)
 
 pub answer_is : (b : Batch) (bytes : List ℕ) (same : Bool) → same_bytes b.bytes bytes ≡ same
     → first_counts b bytes

@@ -191,10 +191,3 @@ latest_drafts db r m I (Some F) drafts rows kept is same exams scored are some =
 latest_drafts db r m I None drafts rows kept is same exams scored are some = absurd (some refl)
 
 -- ---- lists that are written
-
-pub taken_back : {X Y : Type 0} (put : X → Y) (row : Y → X) → ((x : X) → row (put x) ≡ x)
-    → (xs : List X) → map row (map put xs) ≡ xs
-taken_back put row is [] = refl
-taken_back {X} put row is (x ∷ xs) =
-    ap (λ y. y ∷ map row (map put xs)) (is x)
-    ∙ ap (λ (l : List X). x ∷ l) (taken_back put row is xs)

@@ -49,18 +49,6 @@ holds db there tables (inr held) = held
 pub fails : (b : Bool) (P : Type 0) → (P → IsTrue b) → b ≡ false → P → ⊥
 fails b P implies is holds = let never : true ≡ false = sym (implies holds) ∙ is in cc
 
--- what follows from two facts of a value follows of an Ok
-pub if_ok : {A E : Type 0} (result : Result A E) (P Q T : A → Type 0)
-    → ((a : A) → P a → Q a → T a) → IfOk result P → IfOk result Q → IfOk result T
-if_ok (Ok a) P Q T follows p q = follows a p q
-if_ok (Err e) P Q T follows p q = tt
-
--- the same for an Err
-pub if_err : {A E : Type 0} (result : Result A E) (P Q T : E → Type 0)
-    → ((e : E) → P e → Q e → T e) → IfErr result P → IfErr result Q → IfErr result T
-if_err (Ok a) P Q T follows p q = tt
-if_err (Err e) P Q T follows p q = follows e p q
-
 -- a fault of the database is `Store` or `BadSchema`
 pub or_none : {fault : StoreFault} {P : Type 0} → IsOfDatabase fault → (fault ≡ BadSchema → P)
     → (fault ≡ Store) ⊎ P

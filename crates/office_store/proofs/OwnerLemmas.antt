@@ -3,6 +3,8 @@ use Rattle.std.proofs.Common.{◌≡◌, ℕ, ◌<◌, ◌≤◌, Bool, true, fa
 use Rattle.std.proofs.lemmas.Bool.Decides.{nat_tests}
 use Rattle.std.specs.Prelude.{Option, Some, None, length, IsPermutation}
 use Rattle.std.proofs.lemmas.List.Sorted.{IsPermutation-map, length_permutation}
+use Rattle.exam_lists.proofs.Keys.{all_of_other, none_of}
+use Rattle.exam_lists.proofs.Permutations.{same_one}
 use Rattle.sqlite.specs.Effect.{Database}
 use Rattle.office_tables.specs.Alterations.{after_some}
 use Rattle.office_tables.specs.Tables.{Tables}
@@ -29,8 +31,6 @@ use Rattle.office_model.specs.declared.fault.Refusal.TheVariants.{Edit}
 use Rattle.office_model.specs.declared.fault.StoreFault.{StoreFault}
 use Rattle.office_model.specs.declared.fault.StoreFault.TheVariants.{Refused}
 use Rattle.office_store.specs.Running.{ReturnsValue}
-use Rattle.office_records.proofs.KeyLemmas.{none_of, all_of_other}
-use Rattle.office_records.proofs.MemoryLemmas.{same_one}
 
 -- the rows of the exam that is set, and of the others
 module _ (t : Tables) (r : Records) (e d : ℕ) (h : TablesRepresentRecords t r) where

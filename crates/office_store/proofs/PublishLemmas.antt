@@ -11,6 +11,8 @@ use Rattle.std.proofs.lemmas.Simd.{map-map}
 use Rattle.std.proofs.lemmas.List.Sorted.{IsPermutation-append, IsPermutation-refl}
 use Rattle.std.proofs.lemmas.List.Sorted.{length_permutation}
 use Rattle.std.proofs.lemmas.List.Sorted.{IsPermutation-reverse, IsPermutation-sym, IsPermutation-trans}
+use Rattle.exam_lists.proofs.Maps.{map_back}
+use Rattle.exam_lists.proofs.Tests.{any_map}
 use Rattle.sqlite.specs.Effect.{Database}
 use Rattle.exam_model.specs.Enrolments.{Enrolled, has_number}
 use Rattle.exam_model.specs.Fits.{Fits}
@@ -20,7 +22,6 @@ use Rattle.exam_publish.specs.Permit.{publish_refusal}
 use Rattle.exam_publish.specs.Rows.{RowsInOrder}
 use Rattle.exam_publish.specs.Shares.{student_shares}
 use Rattle.exam_publish.specs.declared.seat_row.SeatRow as publish
-use Rattle.exam_publish.proofs.ListLemmas.{any_map}
 use Rattle.exam_publish.proofs.PublishedLemmas.{same_enrolments}
 use Rattle.exam_score.specs.Penalty.{Penalty}
 use Rattle.exam_score.specs.Track.{track}
@@ -73,7 +74,6 @@ use Rattle.office_store.specs.declared.new_publication.NewPublication.{NewPublic
 use Rattle.office_store.proofs.ChangedPlacementLemmas.{AreOwnExams, own_exams, stored_put}
 use Rattle.office_store.proofs.CommandLemmas.{Moves, Remembers}
 use Rattle.office_store.proofs.RememberingLemmas.{next_is, published_changed}
-use Rattle.office_store.proofs.NewBatchLemmas.{taken_back}
 use Rattle.office_store.proofs.RunLemmas.{nothing_kept}
 
 -- ---- what the parts of the transaction make of the tables, one after the other
@@ -246,7 +246,7 @@ placed_in published rows before placed gone put away come were are =
     (ap (map (λ (it : DeletePlacement). it.exam)) away
     ∙ map-map (λ (it : DeletePlacement). it.exam) place_gone (changed_rows before rows))
     (ap (map (λ (it : InsertPlacement). it.row)) come
-    ∙ taken_back placement_put (λ (it : InsertPlacement). it.row) (λ x. refl)
+    ∙ map_back placement_put (λ (it : InsertPlacement). it.row) (λ x. refl)
     (changed_rows rows before)))
     (stored_put rows before placed (own_of published before were) are)
 
@@ -345,7 +345,7 @@ module _ (r : Records) (T : Placing) (is : AreRecords r) (fits : Fits r.session 
         (map (λ (it : InsertSeat). it.row) new.seats.items) come
         put.seats_gone
         (ap (map (λ (it : InsertSeat). it.row)) put.seats
-        ∙ taken_back _ (λ (it : InsertSeat). it.row) (λ x. refl) come))
+        ∙ map_back _ (λ (it : InsertSeat). it.row) (λ x. refl) come))
         (subst (λ l. IsPermutation (come ++ l) (map stored_seat new_one.rows))
         (sym (left_without gone t.seat))
         (differences.seats_put (publication_rows r.published) new_one.rows up up' t.seat stored))
@@ -361,9 +361,9 @@ module _ (r : Records) (T : Placing) (is : AreRecords r) (fits : Fits r.session 
         (map (λ (it : DeleteStudentShare). it.student) new.deleted_shares.items) before
         (map (λ (it : InsertStudentShare). it.row) new.students.items) (share_rows_of retimed all)
         (ap (map (λ (it : DeleteStudentShare). it.student)) put.deleted_shares
-        ∙ taken_back _ (λ (it : DeleteStudentShare). it.student) (λ x. refl) before)
+        ∙ map_back _ (λ (it : DeleteStudentShare). it.student) (λ x. refl) before)
         (ap (map (λ (it : InsertStudentShare). it.row)) put.students
-        ∙ taken_back _ (λ (it : InsertStudentShare). it.row) (λ x. refl)
+        ∙ map_back _ (λ (it : InsertStudentShare). it.row) (λ x. refl)
         (share_rows_of retimed all)))
         (subst (λ l. IsPermutation (share_rows_of retimed all ++ l) all)
         (sym (none_before r.session r.published retimed t.share_student stored))
@@ -394,7 +394,7 @@ module _ (r : Records) (T : Placing) (is : AreRecords r) (fits : Fits r.session 
         of_students = share_in h.shared.of_students;
         of_parts = put_in _ (part_share_rows r.session (Some new_one))
             (ap (map (λ (it : InsertPartShare). it.row)) put.parts
-            ∙ taken_back _ (λ (it : InsertPartShare). it.row) (λ x. refl)
+            ∙ map_back _ (λ (it : InsertPartShare). it.row) (λ x. refl)
             (part_share_rows r.session (Some new_one)));
       };
     }

@@ -2,6 +2,7 @@
 use Rattle.std.proofs.Common.{◌≡◌, ℕ, List, [], ◌∷◌, Some, None, Ok, Err, Result, refl, sym, ap, subst}
 use Rattle.std.specs.Prelude.{IsErrAnd, IsPermutation}
 use Rattle.std.proofs.lemmas.List.Sorted.{IsPermutation-sym, IsPermutation-trans}
+use Rattle.std.proofs.lemmas.Option.{same_Some}
 use Rattle.exam_model.specs.Enrolments.{Enrolled}
 use Rattle.exam_model.specs.Instance.{Session}
 use Rattle.office_tables.specs.Tables.{Tables}
@@ -17,7 +18,6 @@ use Rattle.office_model.specs.Commands.{CommandResult, session_shown}
 use Rattle.office_model.specs.DraftCommands.{draft_in}
 use Rattle.office_records.specs.Faults.{store_fault}
 use Rattle.office_store.specs.Running.{CommandOutcome, IsFault}
-use Rattle.office_store.proofs.DraftLemmas.{some_is}
 
 -- the rows of a draft's places that are read are those of its timetable
 pub places_read : (t : Tables) (o : OfficeState) (d : ℕ) (rows : List SlotRow)
@@ -59,4 +59,4 @@ pub session_returned : (o : OfficeState) (I : Session) (E : Enrolled) → memory
     → session_shown o ≡ Ok ((I, E), o)
 session_returned None I E here = absurd cc
 session_returned (Some r) I E here =
-    ap (λ (s : Session × Enrolled). Ok (s, Some r)) (some_is (r.session, r.enrolments) (I, E) here)
+    ap (λ (s : Session × Enrolled). Ok (s, Some r)) (same_Some (r.session, r.enrolments) (I, E) here)

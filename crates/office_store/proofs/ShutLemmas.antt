@@ -3,6 +3,7 @@ use Rattle.std.proofs.Common.{◌≡◌, ◌∙◌, ℕ, Bool, true, false, List
 use Rattle.std.proofs.Common.{Err, IfErr, IfOk, IsTrue, inl, inr, refl, subst, sym}
 use Rattle.std.specs.Prelude.{MatchBool}
 use Rattle.std.specs.Result.{result_err}
+use Rattle.std.proofs.lemmas.Bool.{false_from_ne_true}
 use Rattle.sqlite_trees.specs.declared.error.StoreError.{StoreError}
 use Rattle.sqlite_trees.specs.declared.error.StoreError.TheVariants.{OutOfMemory, Io, Corrupt, Full}
 use Rattle.sqlite_trees.specs.declared.error.StoreError.TheVariants.{Broken, Unstorable}
@@ -16,13 +17,9 @@ use Rattle.office_model.specs.declared.fault.StoreFault.{StoreFault}
 use Rattle.office_store.specs.Running.{IsAtRest, IsCommitted, StateUnchanged}
 use Rattle.office_store.specs.Shut.{IsShut}
 
-not_true : (b : Bool) → (IsTrue b → ⊥) → b ≡ false
-not_true true never = absurd (never refl)
-not_true false never = refl
-
 -- a store that was closed before is closed afterwards
 shut_on : (a b : State) → (IsTrue b.is_open → IsTrue a.is_open) → IsShut a → IsShut b
-shut_on a b was_open shut = not_true b.is_open
+shut_on a b was_open shut = false_from_ne_true b.is_open
     (λ opened. let never : true ≡ false = sym (was_open opened) ∙ shut in absurd cc)
 
 shut_by : (too_big : Type 0) (a b : State) (cause : StoreError)

@@ -8,6 +8,7 @@ use Rattle.std.proofs.lemmas.Grind.{get_or-set_at}
 use Rattle.std.proofs.lemmas.List.{ext_get_or, get_or-set_other}
 use Rattle.std.proofs.Math.ListN.{length-set}
 use Rattle.std.proofs.lemmas.List.Sorted.{IsPermutation-refl, IsPermutation-sym, IsPermutation-trans, IsPermutation-cons, IsPermutation-middle}
+use Rattle.exam_lists.proofs.Filters.{filter_swap}
 use Rattle.sqlite_trees.proofs.ListLemmas.{IsPermutation-filter, filter-filter}
 use Rattle.exam_model.specs.Timetable.{Placing, place_of}
 use Rattle.exam_terms.specs.declared.place.Place.{Place}
@@ -22,21 +23,6 @@ use Rattle.office_tables.specs.declared.slot.DeleteSlot.{DeleteSlot}
 use Rattle.office_tables.specs.Inserted.{InsertSlot}
 use Rattle.office_store.specs.Changes.{move_writes, new_place, slot_put, slots_put}
 use Rattle.office_records.specs.TableRows.{slots_at, slots_from, slot_row}
-
--- two filters, in either order
-filter_swap : {X : Type 0} (p q : X → Bool) (xs : List X)
-    → filter p (filter q xs) ≡ filter q (filter p xs)
-filter_swap p q [] = refl
-filter_swap p q (x ∷ xs) = elim (cases_Bool (p x)) [
-  | inl a ↦ elim (cases_Bool (q x)) [
-    | inl b ↦ rw (b, a, b) (ap (λ l. x ∷ l) (filter_swap p q xs))
-    | inr b ↦ rw (b, a, b) (filter_swap p q xs)
-  ]
-  | inr a ↦ elim (cases_Bool (q x)) [
-    | inl b ↦ rw (b, a) (filter_swap p q xs)
-    | inr b ↦ rw (b, a) (filter_swap p q xs)
-  ]
-]
 
 -- ---- the places of a timetable except one
 

@@ -4,6 +4,7 @@ use Rattle.std.specs.Prelude.{IfSome, Vec, nat_le}
 use Rattle.std.specs.declared.alloc.Global.{Global}
 use Rattle.std.proofs.lemmas.Bool.Decides.{nat_tests}
 use Rattle.std.proofs.lemmas.List.{get_or-set_same, get_or-set_other}
+use Rattle.exam_lists.proofs.Options.{none_no_some}
 use Rattle.exam_model.specs.Enrolments.{Enrolled}
 use Rattle.exam_model.specs.Fits.{Fits, Suits}
 use Rattle.exam_model.specs.Instance.{Session}
@@ -29,14 +30,11 @@ Publishing = Placing × Vec SeatRow Global
 some_is : {X : Type 0} {x y : X} → Some x ≡ Some y → x ≡ y
 some_is e = cc
 
-pub no_one : {X : Type 0} {x : X} {o : Option X} → o ≡ None → o ≡ Some x → ⊥
-no_one none some = cc
-
 -- ---- there is no draft
 
 pub none_suited : (I : Session) (drafts : List (Option Draft))
     → ((d : ℕ) → draft_at drafts d ≡ None) → AreSuited I drafts
-none_suited I drafts none d draft at = absurd (no_one (none d) at)
+none_suited I drafts none d draft at = absurd (none_no_some (none d) at)
 
 -- one draft more
 pub one_suited : (I : Session) (drafts : List (Option Draft)) (n : ℕ) (x : Option Draft)
@@ -58,9 +56,9 @@ pub loaded_together : (I : Session) (E : Enrolled) (n : OfficeMemory) → n.kept
     → length E ≡ length I.exams → ((d : ℕ) → draft_at n.drafts d ≡ None) → n.published ≡ None
     → IsTogether n
 loaded_together I E n kept exams none unpublished = record {
-  judged = λ J F is d found there draft at. absurd (no_one (none d) at);
+  judged = λ J F is d found there draft at. absurd (none_no_some (none d) at);
   exams = subst AreTogether (sym kept) exams;
-  drafts = λ J F is d draft at. absurd (no_one (none d) at);
+  drafts = λ J F is d draft at. absurd (none_no_some (none d) at);
   published = λ J F is.
       subst (λ (p : Option Publishing). AreFound J (publication_from p)) (sym unpublished) tt;
 }
@@ -68,9 +66,9 @@ loaded_together I E n kept exams none unpublished = record {
 pub unloaded_together : (n : OfficeMemory) → n.kept ≡ None
     → ((d : ℕ) → draft_at n.drafts d ≡ None) → n.published ≡ None → IsTogether n
 unloaded_together n kept none unpublished = record {
-  judged = λ J F is d found there draft at. absurd (no_one (none d) at);
+  judged = λ J F is d found there draft at. absurd (none_no_some (none d) at);
   exams = subst AreTogether (sym kept) tt;
-  drafts = λ J F is d draft at. absurd (no_one (none d) at);
+  drafts = λ J F is d draft at. absurd (none_no_some (none d) at);
   published = λ J F is.
       subst (λ (p : Option Publishing). AreFound J (publication_from p)) (sym unpublished) tt;
 }
@@ -99,7 +97,7 @@ module _ (d : ℕ) (m n : OfficeMemory) (x : Option Draft) (together : IsTogethe
       → found.items ≡ breaches_of I E draft.timetable
   judged_there put I E kept e true same found there draft at =
       let here : e ≡ d = grind (arith, nat_tests, same) in
-      absurd (no_one put.judged (ap (judged_at n.judged) (sym here) ∙ there))
+      absurd (none_no_some put.judged (ap (judged_at n.judged) (sym here) ∙ there))
   judged_there put I E kept e false same found there draft at =
       let other : e ≢ d
       = λ here. let there : eqb e d ≡ true = grind (arith, nat_tests, here) in cc in
@@ -250,7 +248,7 @@ renewed_together m n I E kept together None drafts renewed stays exams suited = 
       (together.published J G (kept ∙ sym renewed.0 ∙ is));
 }
 renewed_together m n I E kept together (Some F) drafts renewed stays exams suited = record {
-  judged = λ J G is d found there draft at. absurd (no_one (renewed.2 d) there);
+  judged = λ J G is d found there draft at. absurd (none_no_some (renewed.2 d) there);
   exams = subst AreTogether (sym renewed.0) exams;
   drafts = λ J G is.
       let session : I ≡ J

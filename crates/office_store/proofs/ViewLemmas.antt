@@ -35,7 +35,10 @@ use Rattle.office_store.specs.Viewing.{exams_in, candidate_enrol_row, place_in_r
 use Rattle.std.specs.Prelude.{◌^◌, All}
 use Rattle.std.proofs.Common.{inl, inr}
 use Rattle.std.proofs.lemmas.List.Elements.{All-from_recursion, recursion_from_All}
-use Rattle.exam_lists.proofs.Chains.{IsChain, chain_from_index}
+use Rattle.exam_lists.proofs.Chains.{IsChain, chain_from_index, chain_filter}
+use Rattle.exam_lists.proofs.Filters.{filter_eqb_above}
+use Rattle.exam_lists.proofs.Permutations.{same_few}
+use Rattle.exam_lists.proofs.Tests.{any_map}
 use Rattle.sqlite_trees.proofs.ListLemmas.{all-filter, all_from_map, filter-map, map-map}
 use Rattle.exam_model.specs.Instance.{Session}
 use Rattle.exam_score.specs.Folds.{pairs_sat}
@@ -46,7 +49,7 @@ use Rattle.exam_publish.specs.Rows.{AreNumbered, IsAtExam, RowBefore, row_place}
 use Rattle.exam_publish.specs.Shares.{share_of, shares_of, student_shares}
 use Rattle.exam_publish.specs.declared.seat_row.SeatRow as publish
 use Rattle.exam_publish.proofs.AddUpLemmas.{adds_up}
-use Rattle.exam_publish.proofs.ListLemmas.{any_map, chain_ascending, chain_filter, has_ascending}
+use Rattle.exam_publish.proofs.ListLemmas.{chain_ascending, has_ascending}
 use Rattle.exam_publish.proofs.ShareLemmas.{published_small}
 use Rattle.office_tables.specs.Seat.{StudentSeatsRise}
 use Rattle.office_tables.specs.declared.seat.SeatRow.{SeatRow}
@@ -59,7 +62,6 @@ use Rattle.office_model.specs.declared.views.ViewRow.{ViewRow}
 use Rattle.office_records.specs.Publications.{stored_seat}
 use Rattle.office_records.specs.SharesStored.{student_share_row, student_share_rows}
 use Rattle.office_records.specs.Representation.{IsSound}
-use Rattle.office_records.proofs.SameTables.{same_few}
 use Rattle.office_records.proofs.ReadableLemmas.{are_numbered}
 use Rattle.office_store.specs.OfficeRows.{student_rows_in}
 use Rattle.office_store.specs.Judging.{plain_list}
@@ -70,14 +72,6 @@ use Rattle.office_store.proofs.RunLemmas.{nothing_kept}
 use Rattle.office_store.specs.Viewing.{AreCandidateRows, no_share, share_in_row}
 
 -- ---- a number among ascending numbers
-
-none_above : (c : ℕ) (ss : List ℕ) → AllByRecursion (λ t. c < t) ss
-    → filter (λ t. eqb t c) ss ≡ []
-none_above c [] a = refl
-none_above c (t ∷ ss) a =
-    let other : eqb t c ≡ false = let h = a.0 in grind (arith, nat_tests, h) in
-    ap (λ b. cond b (t ∷ filter (λ t. eqb t c) ss) (filter (λ t. eqb t c) ss)) other
-    ∙ none_above c ss a.1
 
 -- the number is there once, or not at all
 pub found_once : (c : ℕ) (ss : List ℕ) → IsChain (λ x y. x < y) ss
@@ -90,7 +84,7 @@ found_once c (s ∷ ss) h = go (eqb s c) refl (found_once c ss h.1)
         ≡ number_if (b || has_number ss c) c
     go true e more =
         let same : s ≡ c = grind (arith, nat_tests, e) in
-        ap (λ l. s ∷ l) (none_above c ss (subst (λ n. AllByRecursion (λ t. n < t) ss) same h.0))
+        ap (λ l. s ∷ l) (filter_eqb_above c ss (subst (λ n. AllByRecursion (λ t. n < t) ss) same h.0))
         ∙ ap (λ n. n ∷ []) same
     go false e more = more
 

@@ -2,6 +2,7 @@ use Rattle.std.proofs.Common.{◌≡◌, ◌∙◌, ℕ, Vec, Err, None, Ok, Res
 use Rattle.std.specs.Prelude.{OnOk}
 use Rattle.exam_model.specs.Changes.{exams_sat}
 use Rattle.std.specs.declared.alloc.Global.{Global}
+use Rattle.exam_lists.proofs.Results.{OnOk_any}
 use Rattle.office_store.proofs.FoldingLemmas.{exams_are, ok_weaker, rows_fit, rows_had, sat_up}
 use Rattle.office_store.proofs.folding.read_exams.Goals as goal
 
@@ -29,13 +30,9 @@ returns-in_default-found-clause-fault g c E had =
     absurd (rows_fit g.S.Store c.args.conn.now c.ask.new.conn E had c.get-number.result c.in-Ok.found none
     c.in-Ok.ensures.rows)
 
-kept : {T E P : Type 0} (result : Result T E) → P → OnOk result P
-kept (Ok x) p = p
-kept (Err e) p = tt
-
 pub returns-clause-leaves : goal.returns-clause-leaves
 returns-clause-leaves g c = record {
   read = search rules;
-  same = kept c.exams_in_order.result
+  same = OnOk_any c.exams_in_order.result
       (λ clean t represents _. c.in-Ok.ensures.leaves.same clean t represents);
 }

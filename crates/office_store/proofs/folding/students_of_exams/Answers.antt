@@ -1,9 +1,9 @@
 use Rattle.std.proofs.Common.{◌∙◌, ◌++◌, ap, ap₂, sym, take, take_all}
 use Rattle.std.specs.List.{flat_map}
 use Rattle.std.proofs.lemmas.List.{take_more}
+use Rattle.exam_lists.proofs.Maps.{flat_map_push}
 use Rattle.exam_model.specs.Enrolments.{students}
 use Rattle.exam_publish.specs.Changed.{sorted_numbers}
-use Rattle.office_store.proofs.FoldingLemmas.{flat_map_push}
 use Rattle.office_store.proofs.folding.students_of_exams.Goals as goal
 
 pub loop-exam-preserved : goal.loop-exam-preserved

@@ -3,12 +3,12 @@ use Rattle.std.specs.List.{AllByRecursion}
 use Rattle.std.specs.Prelude.{IfErr, OnErr}
 use Rattle.std.proofs.lemmas.List.Elements.{recursion_from_All}
 use Rattle.std.proofs.lemmas.Result.{on_ok_weaker}
+use Rattle.exam_lists.proofs.Results.{OnOk_any}
 use Rattle.sqlite_trees.proofs.ListLemmas.{all-filter}
 use Rattle.office_tables.specs.Tables.{Batch}
 use Rattle.office_model.specs.declared.fault.StoreFault.{StoreFault}
 use Rattle.office_model.specs.declared.fault.StoreFault.TheVariants.{BadSchema}
 use Rattle.office_records.specs.FoundBatches.{IsShort}
-use Rattle.office_tables.proofs.Reading.{on_ok_both}
 use Rattle.office_store.proofs.AdoptLemmas.{tables_as}
 use Rattle.office_store.proofs.kept_bytes.check_batch.Goals as goal
 
@@ -38,5 +38,5 @@ returns-in-Err-clause-leaves g c version =
 
 pub returns-clause-leaves : goal.returns-clause-leaves
 returns-clause-leaves g c version =
-    tables_as version g.S.Store _ _ (λ P p. on_ok_both c.check_length.result p)
+    tables_as version g.S.Store _ _ (λ P p. OnOk_any c.check_length.result p)
     (c.in-Ok.ensures.leaves version)

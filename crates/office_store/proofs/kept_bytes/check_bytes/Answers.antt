@@ -1,12 +1,12 @@
 use Rattle.std.proofs.Common.{◌≡◌, All, Err, filter, eqb, rules, subst, arith}
 use Rattle.std.specs.List.{AllByRecursion}
 use Rattle.std.proofs.lemmas.List.{take_all}
+use Rattle.std.proofs.lemmas.List.Elements.{All-more}
 use Rattle.office_tables.specs.Tables.{Batch}
 use Rattle.office_tables.specs.TablesHeld.{HoldsSomeTables}
 use Rattle.office_tables.specs.declared.batch.BatchCountsRow.{BatchCountsRow}
 use Rattle.office_records.specs.FoundBatches.{IsShort}
 use Rattle.office_records.proofs.BatchRowLemmas.{no_row, short_by_rows}
-use Rattle.office_records.proofs.PlacedSeatLemmas.{pushed}
 use Rattle.office_store.proofs.RunLemmas.{clean_before}
 use Rattle.office_store.proofs.AdoptLemmas.{file_as, file_itself, file_of, file_then, held_still, some_still}
 use Rattle.sqlite.specs.Held.{state}
@@ -31,7 +31,7 @@ batches-preserved g c =
           (λ _. some_still g.S.Store old mid);
       short = λ clean version t held.
           let clean_mid = clean_before (c.check_batch.ensures.leaves version).survives clean in
-          pushed (λ (row : BatchCountsRow).
+          All-more (λ (row : BatchCountsRow).
           AllByRecursion IsShort (filter (λ (b : Batch). eqb b.no row.no) t.batch))
           c.args.batches.now c.batches.row-index no_row c.batches-test.true
           (before.short clean_mid version t held)

@@ -1,11 +1,12 @@
 use Rattle.std.proofs.Common.{◌≡◌, ◌<◌, ◌≤◌, Err, Ok, length, map, arith, refl, rules, sym, ◌∙◌, ap, subst}
+use Rattle.exam_lists.proofs.Maps.{map_back}
 use Rattle.exam_model.specs.Enrolments.{Enrolled}
 use Rattle.office_enrolment.specs.AfterBatch.{Refuses, lines_with_effect, after_batch, current_enrolments}
 use Rattle.office_enrolment.proofs.OfficeLemmas.{exams_after}
 use Rattle.office_store.specs.NewBatches.{Enrols, put_line}
 use Rattle.office_store.specs.declared.new_batch.PutLine.{PutLine}
 use Rattle.office_store.proofs.NewBatchLemmas.{latest_drafts, lines_refuse, made_exams, made_others, memory_scored, no_room}
-use Rattle.office_store.proofs.NewBatchLemmas.{same_enrolled, taken_back}
+use Rattle.office_store.proofs.NewBatchLemmas.{same_enrolled}
 use Rattle.office_store.proofs.new_batch.new_batch.Goals as goal
 
 pub returns-in_err-made-clause-enrols : goal.returns-in_err-made-clause-enrols
@@ -53,7 +54,7 @@ returns-clause-enrols c db r kept memory is_memory =
           ∙ ap (λ (E : Enrolled). Ok (made.counts, current_enrolments made.enrolments E)) (sym same.1);
       room = room;
       lines = ap (map (λ (it : PutLine). it.change)) c.in_ok-lines.ensures
-          ∙ taken_back put_line (λ (it : PutLine). it.change) (λ x. refl) c.deref.result.now
+          ∙ map_back put_line (λ (it : PutLine). it.change) (λ x. refl) c.deref.result.now
           ∙ c.deref.ensures.value ∙ c.in_ok-made.ensures.acting
           ∙ ap (lines_with_effect changes) (sym same.1);
       drafts = λ some. latest_drafts db r c.args.memory.now c.args.instance.now made.enrolments

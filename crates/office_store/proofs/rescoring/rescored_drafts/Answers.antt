@@ -1,9 +1,10 @@
 use Rattle.std.proofs.Common.{◌≡◌, ◌∙◌, None, Option, ap, arith, length-set, option_map, subst, sym}
 use Rattle.std.specs.Prelude.{IfSome}
+use Rattle.std.proofs.lemmas.List.{get_or_default, get_or_past}
 use Rattle.exam_score.specs.Track.{track}
 use Rattle.office_records.specs.declared.drafts.Draft.{Draft}
 use Rattle.office_store.specs.Memory.{rescored_draft}
-use Rattle.office_store.proofs.FillingLemmas.{all_made, draft_scored, none_made, one_made, past_end, same_within}
+use Rattle.office_store.proofs.FillingLemmas.{all_made, draft_scored, none_made, one_made}
 use Rattle.office_store.proofs.TogetherLemmas.{none_suited, one_suited}
 use Rattle.office_store.proofs.rescoring.rescored_drafts.Goals as goal
 
@@ -18,7 +19,7 @@ pub numbers-preserved : goal.numbers-preserved
 numbers-preserved c =
     let size = c.type_inv.drafts in
     let I = c.args.instance.now in
-    let is = same_within c.args.drafts.now c.numbers.number c.index-drafts-number.result None
+    let is = get_or_default c.args.drafts.now c.numbers.number c.index-drafts-number.result None
     (omega (arith, size, c.numbers-test.true)) in
     record {
       suited = one_suited I c.numbers.made c.numbers.number c.in_ok-made.field-0
@@ -40,4 +41,4 @@ returns-clause-rescored c = λ scored.
     let size = c.type_inv.drafts in
     all_made c.numbers.made c.numbers.number _ (c.numbers.invariant.made scored)
     (λ d high. ap (option_map (rescored_draft c.args.instance.now c.args.after.now))
-    (past_end c.args.drafts.now d None (omega (arith, size, high, c.numbers-test.false))))
+    (get_or_past c.args.drafts.now d None (omega (arith, size, high, c.numbers-test.false))))

@@ -1,10 +1,10 @@
 use Rattle.std.proofs.Common.{None, arith, map, subst, sym}
 use Rattle.std.specs.List.{AllByRecursion}
 use Rattle.std.proofs.lemmas.List.Elements.{All-from_recursion}
+use Rattle.std.proofs.lemmas.List.{get_or_default, get_or_past}
 use Rattle.office_tables.specs.Draft.{AreAmounts}
 use Rattle.office_tables.specs.declared.draft.InsertDraft.{InsertDraft}
 use Rattle.office_store.proofs.FillingLemmas.{AreFirstRows, all_rows, more_rows, no_rows}
-use Rattle.office_store.proofs.FillingLemmas.{past_end, same_within}
 use Rattle.office_store.proofs.rescoring.rows_put.Goals as goal
 
 pub numbers-init : goal.numbers-init
@@ -20,7 +20,7 @@ numbers-preserved c =
     let size = c.type_inv.drafts in
     let more = more_rows c.args.drafts.now c.numbers.number c.numbers.rows.items
     c.add_row.new.rows.items c.numbers.invariant.rows c.numbers.invariant.small _
-    (same_within c.args.drafts.now c.numbers.number None c.index-drafts-number.result
+    (get_or_default c.args.drafts.now c.numbers.number None c.index-drafts-number.result
     (omega (arith, size, c.numbers-test.true)))
     c.in_ok-add_row.ensures.none c.in_ok-add_row.ensures.some in
     record { rows = more.rows; small = more.amounts }
@@ -29,7 +29,7 @@ pub returns-clause-rows : goal.returns-clause-rows
 returns-clause-rows c =
     let size = c.type_inv.drafts in
     all_rows c.args.drafts.now c.numbers.number _ c.numbers.invariant.rows
-    (λ d high. past_end c.args.drafts.now d None (omega (arith, size, high, c.numbers-test.false)))
+    (λ d high. get_or_past c.args.drafts.now d None (omega (arith, size, high, c.numbers-test.false)))
 
 pub returns-clause-small : goal.returns-clause-small
 returns-clause-small c =

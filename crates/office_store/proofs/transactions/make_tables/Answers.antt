@@ -1,10 +1,10 @@
 use Rattle.std.proofs.Common.{rules, Ok, subst, ◌≡◌}
+use Rattle.exam_lists.proofs.Results.{OnErr_any}
 use Rattle.sqlite.specs.Effect.{Database}
 use Rattle.office_tables.specs.Alterations.{IsWritten, TransactionRan}
 use Rattle.office_tables.specs.Schema.{IsBlank, no_schema}
 use Rattle.office_tables.specs.Tables.{empty_tables}
 use Rattle.office_tables.proofs.TurnLemmas.{IsOfRows, done_by, survives_by, undone_by, written_in}
-use Rattle.office_tables.proofs.LookLemmas.{on_err}
 use Rattle.office_store.proofs.transactions.make_tables.Goals as goal
 
 abbrev IsMade : Database → Database → Type 0
@@ -42,7 +42,7 @@ returns-in_err-commit g c =
     let same : end ≡ c.conn-2-1.given.0 = search rules in
     subst (λ h. TransactionRan g.S.Store IsMade old h c.from_residual-in_err-commit.result) same (record {
       done = λ clean. search rules;
-      undone = λ clean. on_err c.from_residual-in_err-commit.result
+      undone = λ clean. OnErr_any c.from_residual-in_err-commit.result
           (undone_by g.S.Store old begun last end c.transaction-tx.ensures.begun
           c.create_tables.ensures.within c.commit.ensures.survives IsMade
           c.in_ok-create_tables.ensures.makes c.in_err-commit.field-0.0 (c.in_err-commit.ensures.err clean) clean);

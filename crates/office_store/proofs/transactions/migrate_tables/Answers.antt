@@ -1,4 +1,5 @@
 use Rattle.std.proofs.Common.{rules, Ok, refl, subst, ◌≡◌, IsTrue, [], ◌∷◌}
+use Rattle.exam_lists.proofs.Results.{OnErr_any}
 use Rattle.sqlite.specs.Effect.{Database}
 use Rattle.sqlite.specs.Held.{state}
 use Rattle.sqlite.specs.State.{State}
@@ -6,7 +7,6 @@ use Rattle.office_tables.specs.Alterations.{IsWritten, TransactionRan}
 use Rattle.office_tables.specs.Steps.{Leads}
 use Rattle.office_tables.specs.TablesHeld.{HoldsTables, HoldsOldTables}
 use Rattle.office_tables.specs.Tables.{Meta, Tables, empty_tables}
-use Rattle.office_tables.proofs.LookLemmas.{on_err}
 use Rattle.office_tables.proofs.TurnLemmas.{IsOfRows, done_by, survives_by, undone_by, written_in}
 use Rattle.office_store.proofs.transactions.migrate_tables.Goals as goal
 
@@ -59,7 +59,7 @@ returns-in_err-commit g c =
     let same : end ≡ c.conn-2-1.given.0 = search rules in
     subst (λ h. TransactionRan g.S.Store (AreMigrated row) old h c.from_residual-in_err-commit.result) same (record {
       done = λ clean. search rules;
-      undone = λ clean. on_err c.from_residual-in_err-commit.result
+      undone = λ clean. OnErr_any c.from_residual-in_err-commit.result
           (undone_by g.S.Store old begun last end c.transaction-tx.ensures.begun
           c.migrate.ensures.within c.commit.ensures.survives (AreMigrated row)
           (all_migrated row _ _ (state g.S.Store begun) (state g.S.Store last) c.in_ok-migrate.ensures.makes) c.in_err-commit.field-0.0 (c.in_err-commit.ensures.err clean) clean);

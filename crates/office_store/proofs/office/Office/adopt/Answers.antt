@@ -1,4 +1,5 @@
 use Rattle.std.proofs.Common.{◌≡◌, ◌∙◌, ◌⊎◌, inr, refl, Bool, Err, Ok, true, false, not, rules, subst, sym}
+use Rattle.exam_lists.proofs.Booleans.{false_from_not}
 use Rattle.office_model.specs.declared.fault.StoreFault.TheVariants.{Store}
 use Rattle.sqlite.specs.Held.{state}
 use Rattle.sqlite.specs.State.{IsUnchanged}
@@ -10,14 +11,10 @@ use Rattle.office_store.proofs.AdoptLemmas.{taken_over, undone_after, undone_rea
 use Rattle.office_tables.proofs.AdoptLemmas.{one_version}
 use Rattle.office_store.proofs.office.Office.adopt.Goals as goal
 
-at_rest : (answer within : Bool) → answer ≡ not within → answer ≡ true → within ≡ false
-at_rest answer true is meaning = absurd cc
-at_rest answer false is meaning = refl
-
 pub bring_up-requires : goal.bring_up-requires
 bring_up-requires g c = record {
   rests = c.in-Ok.ensures.leaves.mode
-      (at_rest _ _ c.is_autocommit.ensures.value c.if-not-is_autocommit.false);
+      (false_from_not _ _ c.is_autocommit.ensures.value c.if-not-is_autocommit.false);
 }
 
 -- what was found is represented in version 2
@@ -35,7 +32,7 @@ pub invariant_of-result : goal.invariant_of-result
 invariant_of-result g c = (
   brought_rests g.S.Store _ _ _ c.bring_up.result _ c.bring_up.ensures
       (c.in-Ok.ensures.leaves.mode
-      (at_rest _ _ c.is_autocommit.ensures.value c.if-not-is_autocommit.false)),
+      (false_from_not _ _ c.is_autocommit.ensures.value c.if-not-is_autocommit.false)),
   λ clean opened.
       let old = c.args.conn in
       let clean_mid = brought_clean g.S.Store _ _ _ c.bring_up.result _ c.bring_up.ensures clean in
