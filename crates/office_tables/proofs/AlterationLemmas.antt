@@ -2,6 +2,8 @@
 use Rattle.std.proofs.Common.{◌≡◌, List, [], ◌∷◌, ◌++◌, map, reverse, filter, not, Bool, true, false, cond, ◌==◌, ◌&&◌, ◌||◌, refl, sym, ap, ◌∙◌, append_assoc}
 use Rattle.std.specs.List.{list_any}
 use Rattle.std.proofs.lemmas.List.{reverse-append}
+use Rattle.exam_lists.proofs.Filters.{filter_not-filter_not, filter_true}
+use Rattle.exam_lists.proofs.Parts.{reverse_cons_append}
 use Rattle.office_tables.specs.Alterations.{after_all}
 use Rattle.office_tables.specs.Draft.{with_draft}
 use Rattle.office_tables.specs.Enrol.{with_enrol, with_enrols}
@@ -18,26 +20,19 @@ use Rattle.office_tables.specs.declared.share_student.DeleteStudentShare.{Delete
 use Rattle.office_tables.specs.declared.share_student.InsertStudentShare.{InsertStudentShare}
 use Rattle.office_tables.specs.Inserted.{InsertPartShare, InsertSeat, InsertPlacement, InsertEnrol, InsertSlot}
 
--- a row that comes before others comes last in their reverse
-pub first_last : {X : Type 0} (x : X) (xs ys : List X)
-    → reverse xs ++ (x ∷ ys) ≡ reverse (x ∷ xs) ++ ys
-first_last x xs ys =
-    sym (append_assoc (reverse xs) (x ∷ []) ys)
-    ∙ ap (λ l. l ++ ys) (sym (reverse-append (x ∷ []) xs))
-
 pub enrols_put : (its : List InsertEnrol) (t : Tables)
     → after_all (λ it. with_enrol it.row) its t ≡ with_enrols (map (λ it. it.row) its) t
 enrols_put [] t = refl
 enrols_put (it ∷ rest) t =
     enrols_put rest (with_enrol it.row t)
-    ∙ ap (λ l. record t { enrol = l }) (first_last it.row (map (λ x. x.row) rest) t.enrol)
+    ∙ ap (λ l. record t { enrol = l }) (reverse_cons_append it.row (map (λ x. x.row) rest) t.enrol)
 
 pub slots_put : (its : List InsertSlot) (t : Tables)
     → after_all (λ it. with_slot it.row) its t ≡ with_slots (map (λ it. it.row) its) t
 slots_put [] t = refl
 slots_put (it ∷ rest) t =
     slots_put rest (with_slot it.row t)
-    ∙ ap (λ l. record t { slot = l }) (first_last it.row (map (λ x. x.row) rest) t.slot)
+    ∙ ap (λ l. record t { slot = l }) (reverse_cons_append it.row (map (λ x. x.row) rest) t.slot)
 
 pub drafts_put : (its : List InsertDraft) (t : Tables)
     → after_all (λ it. with_draft it.row) its t
@@ -45,7 +40,7 @@ pub drafts_put : (its : List InsertDraft) (t : Tables)
 drafts_put [] t = refl
 drafts_put (it ∷ rest) t =
     drafts_put rest (with_draft it.row t)
-    ∙ ap (λ l. record t { draft = l }) (first_last it.row (map (λ x. x.row) rest) t.draft)
+    ∙ ap (λ l. record t { draft = l }) (reverse_cons_append it.row (map (λ x. x.row) rest) t.draft)
 
 pub placements_put : (its : List InsertPlacement) (t : Tables)
     → after_all (λ it. with_placement it.row) its t
@@ -53,7 +48,7 @@ pub placements_put : (its : List InsertPlacement) (t : Tables)
 placements_put [] t = refl
 placements_put (it ∷ rest) t =
     placements_put rest (with_placement it.row t)
-    ∙ ap (λ l. record t { placed = l }) (first_last it.row (map (λ x. x.row) rest) t.placed)
+    ∙ ap (λ l. record t { placed = l }) (reverse_cons_append it.row (map (λ x. x.row) rest) t.placed)
 
 pub seats_put : (its : List InsertSeat) (t : Tables)
     → after_all (λ it. with_seat it.row) its t
@@ -61,7 +56,7 @@ pub seats_put : (its : List InsertSeat) (t : Tables)
 seats_put [] t = refl
 seats_put (it ∷ rest) t =
     seats_put rest (with_seat it.row t)
-    ∙ ap (λ l. record t { seat = l }) (first_last it.row (map (λ x. x.row) rest) t.seat)
+    ∙ ap (λ l. record t { seat = l }) (reverse_cons_append it.row (map (λ x. x.row) rest) t.seat)
 
 pub student_shares_put : (its : List InsertStudentShare) (t : Tables)
     → after_all (λ it. with_student_share it.row) its t
@@ -70,7 +65,7 @@ student_shares_put [] t = refl
 student_shares_put (it ∷ rest) t =
     student_shares_put rest (with_student_share it.row t)
     ∙ ap (λ l. record t { share_student = l })
-    (first_last it.row (map (λ x. x.row) rest) t.share_student)
+    (reverse_cons_append it.row (map (λ x. x.row) rest) t.share_student)
 
 pub part_shares_put : (its : List InsertPartShare) (t : Tables)
     → after_all (λ it. with_part_share it.row) its t
@@ -79,44 +74,17 @@ part_shares_put [] t = refl
 part_shares_put (it ∷ rest) t =
     part_shares_put rest (with_part_share it.row t)
     ∙ ap (λ l. record t { share_part = l })
-    (first_last it.row (map (λ x. x.row) rest) t.share_part)
-
--- the rows that two tests leave, one after the other
-twice : {X : Type 0} (p q : X → Bool) (xs : List X)
-    → filter (λ x. not (q x)) (filter (λ x. not (p x)) xs) ≡ filter (λ x. not (p x || q x)) xs
-twice p q [] = refl
-twice {X} p q (x ∷ xs) = go (p x) (twice p q xs)
-  where
-    rest : List X
-    rest = filter (λ y. not (p y || q y)) xs
-
-    inner : (b : Bool) → filter (λ y. not (q y)) (filter (λ y. not (p y)) xs) ≡ rest
-        → cond (not b) (x ∷ filter (λ y. not (q y)) (filter (λ y. not (p y)) xs))
-        (filter (λ y. not (q y)) (filter (λ y. not (p y)) xs)) ≡ cond (not b) (x ∷ rest) rest
-    inner true more = more
-    inner false more = ap (λ l. x ∷ l) more
-
-    go : (b : Bool) → filter (λ y. not (q y)) (filter (λ y. not (p y)) xs) ≡ rest
-        → filter (λ y. not (q y)) (cond (not b) (x ∷ filter (λ y. not (p y)) xs)
-        (filter (λ y. not (p y)) xs))
-        ≡ cond (not (b || q x)) (x ∷ rest) rest
-    go true more = more
-    go false more = inner (q x) more
-
--- a filter that every row passes deletes none
-all_left : {X : Type 0} (xs : List X) → filter (λ _. true) xs ≡ xs
-all_left [] = refl
-all_left (x ∷ xs) = ap (λ l. x ∷ l) (all_left xs)
+    (reverse_cons_append it.row (map (λ x. x.row) rest) t.share_part)
 
 -- the placements of these exams are gone
 pub placements_gone : (its : List DeletePlacement) (t : Tables)
     → after_all (λ it. without_placement it.exam) its t
     ≡ record t { placed = filter (λ r. not (list_any (λ it. r.exam == it.exam) its)) t.placed }
-placements_gone [] t = ap (λ l. record t { placed = l }) (sym (all_left t.placed))
+placements_gone [] t = ap (λ l. record t { placed = l }) (sym (filter_true t.placed))
 placements_gone (it ∷ rest) t =
     placements_gone rest (without_placement it.exam t)
     ∙ ap (λ l. record t { placed = l })
-    (twice (λ r. r.exam == it.exam) (λ r. list_any (λ x. r.exam == x.exam) rest) t.placed)
+    (filter_not-filter_not (λ r. r.exam == it.exam) (λ r. list_any (λ x. r.exam == x.exam) rest) t.placed)
 
 -- the seats of these students in these exams are gone
 pub seats_gone : (its : List DeleteSeat) (t : Tables)
@@ -125,11 +93,11 @@ pub seats_gone : (its : List DeleteSeat) (t : Tables)
       seat = filter
           (λ r. not (list_any (λ it. (r.student == it.student) && (r.exam == it.exam)) its)) t.seat;
     }
-seats_gone [] t = ap (λ l. record t { seat = l }) (sym (all_left t.seat))
+seats_gone [] t = ap (λ l. record t { seat = l }) (sym (filter_true t.seat))
 seats_gone (it ∷ rest) t =
     seats_gone rest (without_seat it.student it.exam t)
     ∙ ap (λ l. record t { seat = l })
-    (twice (λ r. (r.student == it.student) && (r.exam == it.exam))
+    (filter_not-filter_not (λ r. (r.student == it.student) && (r.exam == it.exam))
     (λ r. list_any (λ x. (r.student == x.student) && (r.exam == x.exam)) rest) t.seat)
 
 -- the shares of these students are gone
@@ -140,9 +108,9 @@ pub student_shares_gone : (its : List DeleteStudentShare) (t : Tables)
           t.share_student;
     }
 student_shares_gone [] t =
-    ap (λ l. record t { share_student = l }) (sym (all_left t.share_student))
+    ap (λ l. record t { share_student = l }) (sym (filter_true t.share_student))
 student_shares_gone (it ∷ rest) t =
     student_shares_gone rest (without_student_share it.student t)
     ∙ ap (λ l. record t { share_student = l })
-    (twice (λ r. r.student == it.student) (λ r. list_any (λ x. r.student == x.student) rest)
+    (filter_not-filter_not (λ r. r.student == it.student) (λ r. list_any (λ x. r.student == x.student) rest)
     t.share_student)

@@ -4,6 +4,7 @@ use Rattle.std.specs.Prelude.{IfOk, IsPermutation, OnOk, Vec, nat_le, unwrap_or,
 use Rattle.std.specs.declared.alloc.Global.{Global}
 use Rattle.std.proofs.lemmas.List.{get_or-map, length-map}
 use Rattle.std.proofs.lemmas.Result.{IfOk-weaker}
+use Rattle.exam_lists.proofs.Booleans.{cond_same}
 use Rattle.sqlite_value.specs.Order.{Row}
 use Rattle.sqlite_value.specs.declared.keys.Key.{Key}
 use Rattle.sqlite_value.specs.declared.value.Value.TheVariants.{Null}
@@ -33,7 +34,6 @@ use Rattle.office_tables.specs.Versions.{schema_of}
 use Rattle.office_tables.specs.declared.version.Version.{Version}
 use Rattle.office_tables.specs.declared.version.Version.TheVariants.{Two}
 use Rattle.office_tables.proofs.LookLemmas.{was_open}
-use Rattle.office_tables.proofs.Queries.{both_alike}
 use Rattle.office_tables.proofs.SilentLemmas.{commits_never}
 
 -- ---- the effect of a reader
@@ -132,7 +132,7 @@ command_is q names (Err e) h = absurd h
 -- no tree is replaced
 pub overlay_none : (trees : Trees) → overlay trees [] ≡ trees
 overlay_none trees =
-    λ i t. ap (λ o. unwrap_or o (trees t)) (both_alike (nat_le (2 ^ 31) t) None) i
+    λ i t. ap (λ o. unwrap_or o (trees t)) (cond_same (nat_le (2 ^ 31) t) None) i
 
 -- a text shows an answer of the query that it means
 pub answers : (q : Query) (sql : List ℕ) (params : Row) (old mid new : State)

@@ -5,6 +5,7 @@ use Rattle.std.specs.List.{AllByRecursion}
 use Rattle.std.specs.declared.alloc.Global.{Global}
 use Rattle.std.proofs.lemmas.Bool.{and_parts, not-true}
 use Rattle.std.proofs.lemmas.List.Sorted.{IsPermutation-map}
+use Rattle.exam_lists.proofs.Maps.{map_agree, map_same}
 use Rattle.sqlite_schema.specs.declared.schema.Constraint.TheVariants.{Datatype, NotNull}
 use Rattle.sqlite_schema.specs.Rules.{are_typed, are_present, passes, suits}
 use Rattle.sqlite_sql.specs.Ops.{is_null}
@@ -23,7 +24,7 @@ use Rattle.office_tables.specs.Batch.{batch_columns}
 use Rattle.office_tables.specs.declared.batch.BatchCountsRow.{BatchCountsRow}
 use Rattle.office_tables.proofs.AskLemmas.{unmapped}
 use Rattle.office_tables.proofs.ListTexts.{counts_shown}
-use Rattle.office_tables.proofs.Queries.{column_later, id_map, map_agree}
+use Rattle.office_tables.proofs.Queries.{column_later}
 use Rattle.office_tables.proofs.RecordsBack.{batch_of, counts_in}
 use Rattle.office_tables.proofs.WholeRows.{dropped, rows_long}
 use Rattle.office_tables.proofs.WholeTables.{in_both}
@@ -121,7 +122,7 @@ module _ (version : Version) (db : Database) (is : db.schema ≡ schema_of versi
       let numbers : map counts_of (map batch_of u.0) ≡ found.items =
       map-map counts_of batch_of u.0 ∙ sym (map-map counts_in picked u.0)
       ∙ ap (map counts_in) (sym u.1) ∙ map-map counts_in counts_columns found.items
-      ∙ id_map (λ f. counts_in (counts_columns f)) (λ f. refl) found.items in (
+      ∙ map_same (λ f. counts_in (counts_columns f)) (λ f. refl) found.items in (
         map batch_of u.0,
         numbers,
         record { rowids = holds.rowids; same = subst (IsPermutation shown) rows u.2 },
@@ -135,9 +136,3 @@ module _ (version : Version) (db : Database) (is : db.schema ≡ schema_of versi
       rw (sym counts_listed, sym typed) (IsPermutation-map picked _ _ holds.same) in
       none (map counts_of batches) (all-map FitsCounts counts_of batches fit)
       (record { rowids = holds.rowids; same = same })
-
--- two facts about an `Ok` give a third about its value
-pub ok_both : {T E : Type 0} (r : Result T E) (Q : Type 0) (P R : T → Type 0) → OnOk r Q → IfOk r P
-    → ((x : T) → Q → P x → R x) → IfOk r R
-ok_both (Ok x) Q P R q p f = f x q p
-ok_both (Err e) Q P R q p f = tt

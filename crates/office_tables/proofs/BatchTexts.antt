@@ -5,6 +5,7 @@ use Rattle.std.specs.List.{AllByRecursion}
 use Rattle.std.proofs.lemmas.Bool.Decides.{nat_tests}
 use Rattle.std.proofs.lemmas.List.{length-map}
 use Rattle.std.proofs.lemmas.List.Sorted.{length_permutation}
+use Rattle.exam_lists.proofs.Searches.{last_only}
 use Rattle.sqlite_trees.specs.Tree.{IsAscending}
 use Rattle.sqlite_trees.proofs.ListLemmas.{ascending-filter}
 use Rattle.sqlite_value.specs.declared.value.Value.TheVariants.{Int}
@@ -110,16 +111,6 @@ one_at_most : (n : ℕ) (rows : List Batch) → AllByRecursion (λ r. r.no ≡ n
 one_at_most n [] all up = omega arith
 one_at_most n (r ∷ []) all up = omega arith
 one_at_most n (r ∷ s ∷ rows) all up = absurd (up.0.0 (all.0 ∙ sym all.1.0))
-
--- if there is at most one row, the last is all of them
-last_only : {X : Type 0} (xs rest : List X) (last : Option X) → xs ≡ rest ++ option_to_list last
-    → IsSome last ↔ (0 < length xs) → length xs ≤ 1 → xs ≡ option_to_list last
-last_only [] rest None is some few = refl
-last_only (x ∷ xs) rest None is some few = let there = some.1 (omega arith) in cc
-last_only xs [] (Some y) is some few = is
-last_only xs (z ∷ rest) (Some y) is some few =
-    let long = length-append rest (y ∷ []) in
-    absurd (omega (arith, few, long, ap length is))
 
 pub batch_of_read : (version : Version) (db : Database) (n : ℕ) (t : Tables)
     → HoldsTablesIn version db t

@@ -1,6 +1,8 @@
 -- The effect of the statements that delete rows of a table.
 use Rattle.std.proofs.Common.{◌≡◌, ◌≤◌, ℕ, zero, suc, pos, List, [], ◌∷◌, ◌++◌, map, length, filter, not, ◌==◌, ◌&&◌, OnOk, Result, Bool, true, false, Option, Some, None, Ok, arith, sym, subst, ap, ap₂, ◌∙◌, refl}
 use Rattle.std.specs.Prelude.{slice_get, slice_set}
+use Rattle.std.proofs.Math.Bool.{and-true}
+use Rattle.exam_lists.proofs.Maps.{map_same}
 use Rattle.sqlite_schema.specs.declared.schema.Table.{Table}
 use Rattle.sqlite_sql.specs.Ops.{binary, is_true}
 use Rattle.sqlite_sql.specs.declared.ops.BinaryOp.TheVariants.{Compare}
@@ -24,7 +26,7 @@ use Rattle.office_tables.specs.Tables.{Tables}
 use Rattle.office_tables.specs.TablesHeld.{all_columns}
 use Rattle.office_tables.proofs.Frames.{AllShown, all_shown, own_shown, shown_next, tables_held}
 use Rattle.office_tables.proofs.Inside.{changes_by}
-use Rattle.office_tables.proofs.Queries.{answered, column_later, column_less, equal_numbers, equals, id_map, left_of, none_left, one_table, passes, rowids, shown_filter}
+use Rattle.office_tables.proofs.Queries.{answered, column_later, column_less, equal_numbers, equals, left_of, none_left, one_table, passes, rowids, shown_filter}
 use Rattle.office_tables.proofs.Statements.{deletes, sound_after}
 use Rattle.office_tables.proofs.TableLemmas.{rowids_filter}
 
@@ -78,17 +80,13 @@ starts_later v w params row (suc n) at =
     ap (λ b. is_true (binary (Compare Eq Binary) (column row at) (column params at)) && b)
     (starts_later v w params row n (suc at))
 
-and_true : (b : Bool) → (b && true) ≡ b
-and_true true = refl
-and_true false = refl
-
 agree : (first key : List ℕ) (rest : Row) → length first ≤ length key
     → starts (map number first) 0 (length first) (map number key ++ rest) ≡ agrees first key
 agree [] key rest long = refl
 agree (p ∷ ps) [] rest long = absurd (omega arith)
 agree (p ∷ []) (k ∷ key) rest long = equal_numbers k p
 agree (p ∷ q ∷ ps) (k ∷ key) rest long =
-    ap₂ (λ a b. a && b) (sym (and_true _) ∙ equal_numbers k p)
+    ap₂ (λ a b. a && b) (sym (and-true _) ∙ equal_numbers k p)
     (starts_later (number p) (number k) (map number (q ∷ ps)) (map number key ++ rest)
     (length (q ∷ ps)) 0
     ∙ agree (q ∷ ps) key rest (omega arith))
@@ -158,7 +156,7 @@ pub cleared : {at : ℕ} {table : Table} (is : IsTable at table) (sql : List ℕ
 cleared {at} is sql means old new rows count all there shown h =
     subst (λ l. AllShown (slice_set all at l) new.now) (ap (map (λ (r : Row). r)) (none_left rows))
     (deleted is (λ (r : Row). r) (λ _. []) (λ r. (r, refl)) [] (λ _. omega arith) sql means old new
-    rows count all (rw (id_map (λ (r : Row). r) (λ _. refl) rows) there) shown h)
+    rows count all (rw (map_same (λ (r : Row). r) (λ _. refl) rows) there) shown h)
 
 -- the tables without the rows of one table that have these numbers
 pub rows_deleted : {X : Type 0} {at : ℕ} {table : Table} {columns_of : X → Row} {w : ℕ}

@@ -6,6 +6,7 @@ use Rattle.std.specs.List.{IsSplitAt}
 use Rattle.std.specs.Array.{IsFromFnResult, IsFromFnResultFrom}
 use Rattle.std.proofs.lemmas.List.{map-append}
 use Rattle.std.proofs.lemmas.List.Elements.{All-drop, All-take}
+use Rattle.exam_lists.proofs.Parts.{reverse_cons_append}
 use Rattle.sqlite_value.specs.declared.value.Value.TheVariants.{Int, Null}
 use Rattle.sqlite_schema.specs.declared.schema.Table.{Table}
 use Rattle.sqlite_value.specs.Order.{Row, column}
@@ -19,7 +20,6 @@ use Rattle.office_tables.specs.Stored.{shown_by}
 use Rattle.office_tables.specs.Steps.{Makes}
 use Rattle.office_tables.specs.Tables.{Tables}
 use Rattle.office_tables.specs.TablesHeld.{HoldsTables, all_columns}
-use Rattle.office_tables.proofs.AlterationLemmas.{first_last}
 use Rattle.office_tables.proofs.Frames.{AllShown, all_shown, own_shown, shown_next, tables_held}
 use Rattle.office_tables.proofs.ManyRows.{added_rows, after_append, values_there}
 use Rattle.office_tables.proofs.Statements.{sound_after}
@@ -116,7 +116,7 @@ module _ {R : Type 0} (it : Shape R) (w n : ℕ) (one several : List ℕ)
       ∙ ap (λ l. it.with_rows (reverse (map row_of rest) ++ l) (with_row it (row_of x) t))
       (about.read (row_of x ∷ it.rows t) t)
       ∙ about.over (row_of x ∷ it.rows t) (reverse (map row_of rest) ++ (row_of x ∷ it.rows t)) t
-      ∙ ap (λ l. it.with_rows l t) (first_last (row_of x) (map row_of rest) (it.rows t))
+      ∙ ap (λ l. it.with_rows l t) (reverse_cons_append (row_of x) (map row_of rest) (it.rows t))
 
 -- ---- the parameters of an array of rows, which a function gives at each index
 

@@ -2,6 +2,7 @@
 use Rattle.std.proofs.Common.{◌≡◌, ℕ, pos, List, [], ◌∷◌, ◌++◌, map, filter, flat_map, Bool, true, false, cond, ◌&&◌, ◌==◌, codes, refl, sym, ap, subst, ◌∙◌, IsPermutation}
 use Rattle.std.specs.List.{list_all}
 use Rattle.std.proofs.lemmas.List.Sorted.{IsPermutation-map, IsPermutation-trans}
+use Rattle.exam_lists.proofs.Maps.{map_agree}
 use Rattle.sqlite_sql.specs.declared.ops.BinaryOp.TheVariants.{Compare}
 use Rattle.sqlite_sql.specs.declared.ops.CompareOp.TheVariants.{Eq}
 use Rattle.sqlite_trees.specs.Tree.{Trees}
@@ -25,7 +26,7 @@ use Rattle.office_tables.specs.Stored.{keyed_columns, keyless_columns}
 use Rattle.office_tables.specs.Enrol.{enrol_columns}
 use Rattle.office_tables.specs.Selections.{AreListed}
 use Rattle.office_tables.proofs.OrderLemmas.{by_number, read, rising}
-use Rattle.office_tables.proofs.Queries.{column_less, column_later, equal_pairs, equals, map_agree}
+use Rattle.office_tables.proofs.Queries.{column_less, column_later, equal_pairs, equals}
 use Rattle.office_tables.proofs.RecordsBack.{placement_of}
 use Rattle.office_tables.proofs.Frames.{held_at}
 

@@ -4,6 +4,8 @@ use Rattle.std.specs.List.{AllByRecursion}
 use Rattle.std.specs.Prelude.{Vec, IfSome}
 use Rattle.std.specs.declared.alloc.Global.{Global}
 use Rattle.std.proofs.lemmas.List.Sorted.{IsPermutation-sym, IsPermutation-trans, IsPermutation-map}
+use Rattle.exam_lists.proofs.Filters.{filter_every}
+use Rattle.exam_lists.proofs.Maps.{map_agree_each}
 use Rattle.sqlite_trees.specs.Tree.{rowid, Trees}
 use Rattle.sqlite_trees.specs.View.{is_int}
 use Rattle.sqlite_trees.proofs.ListLemmas.{all_of, all_weaker, ascending-map, map-map, all_from_map, ascending_from_map, all-map, all-permutation, all-get_or}
@@ -25,7 +27,7 @@ use Rattle.office_tables.specs.Versions.{schema_of}
 use Rattle.office_tables.specs.Readers.{Keeps}
 use Rattle.office_tables.specs.Stored.{HasRowids}
 use Rattle.office_tables.proofs.AskLemmas.{arranged, command_is, overlay_none}
-use Rattle.office_tables.proofs.Queries.{every, matched, passes}
+use Rattle.office_tables.proofs.Queries.{matched, passes}
 use Rattle.office_tables.proofs.Reading.{kept_failed, kept_unchanged, shown_same}
 use Rattle.office_tables.proofs.Rising.{only_column, rising_from_sorted, rowids_from_rising}
 use Rattle.office_tables.proofs.Statements.{selects}
@@ -75,20 +77,10 @@ all_listed tree shown order trees rows answer =
     ≡ map (selected_columns shown) (trees tree) =
     ap (map (eval_all shown)) (matched [] [] (trees tree))
     ∙ map-map (eval_all shown) (λ r. [] ∷ r ∷ []) _
-    ∙ ap (map (selected_columns shown)) (every (passes [] []) (trees tree) (λ r. refl)) in
+    ∙ ap (map (selected_columns shown)) (filter_every (passes [] []) (trees tree) (λ r. refl)) in
     rw (sym found, a.1) (IsPermutation-map (eval_all shown) _ _ a.2)
 
-pub ok_gives : {T E : Type 0} (r : Result T E) (P : T → Type 0) (Q : Type 0) → ((x : T) → P x → Q)
-    → IfOk r P → OnOk r Q
-ok_gives (Ok x) P Q f h = f x h
-ok_gives (Err e) P Q f h = tt
-
 -- ---- lists
-
-pub same_map : {X Y : Type 0} (f g : X → Y) (xs : List X) → AllByRecursion (λ x. f x ≡ g x) xs
-    → map f xs ≡ map g xs
-same_map f g [] h = refl
-same_map f g (x ∷ xs) h = ap₂ (λ y ys. y ∷ ys) h.0 (same_map f g xs h.1)
 
 -- ---- from listed rows to stored rows
 
@@ -106,7 +98,7 @@ module _ (width : ℕ) (show : Row → Row) (terms : List Term) (stored rows : L
     (same : IsPermutation (map (selected_columns terms) stored) rows) where
   ids_listed : IsPermutation (map (only_column 0) stored) (map (only_column width) rows)
   ids_listed =
-      let ids = same_map (λ r. only_column width (selected_columns terms r)) (only_column 0) stored
+      let ids = map_agree_each (λ r. only_column width (selected_columns terms r)) (only_column 0) stored
       (all_weaker _ (λ r. only_column width (selected_columns terms r) ≡ only_column 0 r)
       (λ r k. ap (λ v. v ∷ []) k.number) stored whole) in
       subst (λ l. IsPermutation l (map (only_column width) rows))
@@ -125,7 +117,7 @@ module _ (width : ℕ) (show : Row → Row) (terms : List Term) (stored rows : L
 
   pub stored_columns : IsPermutation (map show stored) (map (columns_from 0 width) rows)
   stored_columns =
-      let each = same_map (λ r. columns_from 0 width (selected_columns terms r)) show stored
+      let each = map_agree_each (λ r. columns_from 0 width (selected_columns terms r)) show stored
       (all_weaker _ (λ r. columns_from 0 width (selected_columns terms r) ≡ show r) (λ r k. k.columns) stored
       whole) in
       subst (λ l. IsPermutation l (map (columns_from 0 width) rows))
@@ -217,7 +209,7 @@ read_rises fits row_of width at within terms stored rows number same rise (Some 
       rise.0,
       ap (map (λ r. column r at)) is
           ∙ map-map (λ r. column r at) (columns_from 0 width) rows
-          ∙ same_map (λ r. column (columns_from 0 width r) at) (λ r. column r width) rows alike
+          ∙ map_agree_each (λ r. column (columns_from 0 width r) at) (λ r. column r width) rows alike
           ∙ rise.1,
       rise.2,
     )

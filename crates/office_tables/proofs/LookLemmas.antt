@@ -33,7 +33,3 @@ pub look_plain_in : (old : State) (t : Tables) → HoldsTables old.now t
     → IsPlain (understood old.now.schema look_text)
 look_plain_in old t represents =
     subst (λ s. IsPlain (understood s look_text)) (sym represents.schema) look_plain
-
-pub on_err : {T E P : Type 0} (r : Result T E) → P → OnErr r P
-on_err (Ok x) p = tt
-on_err (Err e) p = p

@@ -3,6 +3,7 @@ use Rattle.std.proofs.Common.{◌≡◌, ◌+◌, ◌/◌, ◌≢◌, ℕ, suc, 
 use Rattle.std.proofs.lemmas.Bool.{and_parts}
 use Rattle.std.specs.List.{AllByRecursion}
 use Rattle.std.proofs.lemmas.List.{drop_at, take_at}
+use Rattle.exam_lists.proofs.Parts.{reverse_cons_append}
 use Rattle.sqlite_rules.specs.Action.{works}
 use Rattle.sqlite_rules.specs.Cast.{cast_row}
 use Rattle.sqlite_rules.specs.Edit.{numbered, put_all, with_rowid, edit_of, are_fresh, Applies}
@@ -24,7 +25,6 @@ use Rattle.office_tables.specs.Alterations.{after_all}
 pub use Rattle.office_tables.specs.Inserting.{next_params, terms_from}
 use Rattle.office_tables.specs.Stored.{Holds}
 use Rattle.office_tables.specs.Tables.{Tables}
-use Rattle.office_tables.proofs.AlterationLemmas.{first_last}
 use Rattle.office_tables.proofs.Statements.{inserts, simple_table}
 use Rattle.office_tables.proofs.TableLemmas.{holds_more}
 
@@ -120,7 +120,7 @@ module _ {X : Type 0} (columns source : X → Row) (show : Row → Row) (w v : �
         let new : Row = with_rowid Chosen stored (source r) in
         let parts = and_parts _ _ fresh in
         subst (λ l. Holds show (map columns l)
-        (put_all stored (numbered Chosen stored (map source (r ∷ rows))))) (first_last r rows held)
+        (put_all stored (numbered Chosen stored (map source (r ∷ rows))))) (reverse_cons_append r rows held)
         (holds_all rows (r ∷ held) (put_row new stored) parts.1
         (holds_more show (map columns held) stored new (columns r) (shown stored r) (int stored r)
         (and_true _ parts.0) h))

@@ -2,6 +2,7 @@
 use Rattle.std.proofs.Common.{◌≡◌, ◌≢◌, List, [], ◌∷◌, map, length, get_or, Option, Some, None, refl, sym, ap, subst, ◌∙◌, IsTrue, IsPermutation, arith}
 use Rattle.std.specs.List.{AllByRecursion}
 use Rattle.std.proofs.lemmas.List.Sorted.{IsPermutation-sym, IsPermutation-trans, length_permutation}
+use Rattle.exam_lists.proofs.Maps.{map_agree_each}
 use Rattle.sqlite_trees.specs.Tree.{rowid}
 use Rattle.sqlite_trees.specs.View.{is_int}
 use Rattle.sqlite_trees.proofs.ListLemmas.{all_from_map, all-map, all_of, all-permutation}
@@ -14,23 +15,11 @@ use Rattle.office_tables.specs.declared.version.Version.{Version}
 use Rattle.office_tables.specs.Versions.{schema_of}
 use Rattle.office_tables.specs.Tables.{Meta}
 use Rattle.office_tables.specs.Stored.{HasRowids, Holds, keyed_columns}
-use Rattle.office_tables.proofs.ListedTables.{same_map}
 use Rattle.office_tables.proofs.ListTexts.{meta_terms, meta_whole}
 use Rattle.office_tables.proofs.WholeRows.{dropped}
 
 one_same : {X : Type 0} (a b : X) → IsPermutation (a ∷ []) (b ∷ []) → a ≡ b
 one_same a b same = sym (all-permutation (λ v. v ≡ a) (a ∷ []) (b ∷ []) same (refl, tt)).0
-
-one_list : {X : Type 0} (xs : List X) (b : X) → IsPermutation xs (b ∷ []) → xs ≡ b ∷ []
-one_list [] b same = absurd (omega (arith, length_permutation _ _ same))
-one_list (x ∷ []) b same = ap (λ v. v ∷ []) (one_same x b same)
-one_list (x ∷ y ∷ xs) b same = absurd (omega (arith, length_permutation _ _ same))
-
-pub first_only : {X : Type 0} (xs : List X) (x : X) → length xs ≡ 1 → x ≡ get_or xs 0 x
-    → xs ≡ x ∷ []
-first_only [] x long first = absurd (omega (arith, long))
-first_only (y ∷ []) x long first = ap (λ v. v ∷ []) (sym first)
-first_only (y ∷ z ∷ xs) x long first = absurd (omega (arith, long))
 
 -- the only row has the number 0
 rowids_of_one : (version : Version) (stored : List Row) (m : Meta)
@@ -54,7 +43,7 @@ module _ (version : Version) (db : Database) (is : db.schema ≡ schema_of versi
     (list : IsPermutation (map (selected_columns meta_terms) (db.trees 0)) rows) where
   shown : IsPermutation (map keyed_columns (db.trees 0)) rows
   shown = subst (λ l. IsPermutation l rows)
-      (same_map (selected_columns meta_terms) keyed_columns (db.trees 0) (meta_whole version db is sound)) list
+      (map_agree_each (selected_columns meta_terms) keyed_columns (db.trees 0) (meta_whole version db is sound)) list
 
   pub not_single : length rows ≢ 1 → (m : Meta)
       → Holds keyed_columns (meta_columns version m ∷ []) (db.trees 0) → ⊥

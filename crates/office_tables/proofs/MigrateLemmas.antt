@@ -23,6 +23,8 @@ use Rattle.sqlite.specs.Term.{Term, lit, col}
 use Rattle.sqlite.proofs.Callers.{IsPlain, command_of}
 use Rattle.sqlite_tied.specs.Compute.{everything}
 use Rattle.std.specs.Fmt.{digits}
+use Rattle.exam_lists.proofs.Filters.{filter_every}
+use Rattle.exam_lists.proofs.Maps.{map_agree}
 use Rattle.office_schema.specs.Schema.{office_schema, schema_before, keyed_table, int}
 use Rattle.office_tables.specs.declared.draft.DraftRow.{DraftRow}
 use Rattle.office_tables.specs.declared.share_student.StudentShareRow.{StudentShareRow}
@@ -41,7 +43,7 @@ use Rattle.office_tables.proofs.Casts.{cast_int, cast_null}
 use Rattle.office_tables.proofs.Frames.{AllShown, OneShown, all_still, both_held, holds_none, night_tables, shown_next, tables_held}
 use Rattle.office_tables.proofs.DeleteLemmas.{cleared}
 use Rattle.office_tables.proofs.MetaLemmas.{delete_means}
-use Rattle.office_tables.proofs.Queries.{answered_by, every, map_agree, one_table, passes, shown_of}
+use Rattle.office_tables.proofs.Queries.{answered_by, one_table, passes, shown_of}
 use Rattle.office_tables.proofs.Rows.{draft_nights, meta_is, share_nights}
 use Rattle.office_tables.proofs.Statements.{inserts_from, simple_table, sound_after}
 use Rattle.office_tables.proofs.TableLemmas.{holds_more}
@@ -112,7 +114,7 @@ module _ (sql : List ℕ) (plain : IsPlain (understood office_schema sql)) (at t
       done.0 done.2 in
       let all : map (shown_of [] fill_terms) (filter (passes [] []) (old.now.trees from))
       ≡ map front (map keyed_columns (old.now.trees from)) =
-      ap (map (shown_of [] fill_terms)) (every (passes [] []) (old.now.trees from) (λ r. refl))
+      ap (map (shown_of [] fill_terms)) (filter_every (passes [] []) (old.now.trees from) (λ r. refl))
       ∙ sym (map-map front keyed_columns (old.now.trees from)) in
       let typed : map front (map columns_of xs) ≡ map fills (map key xs) =
       map-map front columns_of xs

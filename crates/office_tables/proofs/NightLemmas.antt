@@ -5,6 +5,7 @@ use Rattle.std.specs.Prelude.{Vec, IfSome}
 use Rattle.std.specs.declared.alloc.Global.{Global}
 use Rattle.std.proofs.lemmas.Int.{ints}
 use Rattle.std.proofs.lemmas.List.Sorted.{IsPermutation-map, IsPermutation-sym, IsPermutation-trans}
+use Rattle.exam_lists.proofs.Maps.{map_agree}
 use Rattle.sqlite_rules.specs.Edit.{id_in}
 use Rattle.sqlite_rules.specs.Lists.{Has}
 use Rattle.sqlite_rules.proofs.ListLemmas.{all_from, all_has}
@@ -19,7 +20,6 @@ use Rattle.office_tables.specs.Joining.{AreFound, AreNights, HaveRows, IsJoined,
 use Rattle.office_tables.specs.Nights.{bare_columns, night_columns, FitsNight}
 use Rattle.office_tables.specs.Readings.{ColumnRises}
 use Rattle.office_tables.specs.Stored.{Holds, keyed_columns}
-use Rattle.office_tables.proofs.Queries.{map_agree}
 use Rattle.office_tables.proofs.RecordLemmas.{full_night, IsFull}
 
 -- ---- numbers that rise strictly have no other order

@@ -3,6 +3,7 @@ use Rattle.std.proofs.Common.{◌≡◌, ◌≢◌, inl, inr, ℕ, pos, List, []
 use Rattle.std.specs.List.{AllByRecursion}
 use Rattle.std.proofs.lemmas.Bool.Decides.{nat_tests}
 use Rattle.std.proofs.lemmas.List.Sorted.{IsPermutation-map, IsPermutation-trans}
+use Rattle.exam_lists.proofs.Maps.{map_agree}
 use Rattle.sqlite_sql.specs.declared.ops.BinaryOp.TheVariants.{Compare}
 use Rattle.sqlite_sql.specs.declared.ops.CompareOp.TheVariants.{Eq}
 use Rattle.sqlite_rules.specs.Lists.{Has}
@@ -16,7 +17,6 @@ use Rattle.sqlite.specs.Query.{inner, end, matches}
 use Rattle.sqlite.specs.Term.{Term, col, op2, eval_all}
 use Rattle.office_tables.specs.Stored.{Holds, keyed_columns}
 use Rattle.office_tables.proofs.JoinedTexts.{both_pass, joined}
-use Rattle.office_tables.proofs.Queries.{map_agree}
 use Rattle.office_tables.proofs.TableLemmas.{keys_once}
 
 -- the two rows have the same number

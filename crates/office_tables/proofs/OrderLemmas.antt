@@ -9,6 +9,7 @@ use Rattle.std.proofs.lemmas.Cmp.{on_total, nat_list_cmp_total}
 use Rattle.std.proofs.lemmas.Int.{ints}
 use Rattle.std.proofs.lemmas.List.{get_or-map, length-map}
 use Rattle.std.proofs.lemmas.List.Sorted.{IsPermutation-map, IsPermutation-trans, IsPermutation-sym}
+use Rattle.exam_lists.proofs.Maps.{map_agree, map_same}
 use Rattle.sqlite_value.specs.declared.value.Value.{Value}
 use Rattle.sqlite_value.specs.declared.value.Value.TheVariants.{Int, Null}
 use Rattle.sqlite_value.specs.declared.keys.Collation.TheVariants.{Binary}
@@ -27,7 +28,7 @@ use Rattle.office_tables.specs.Asking.{select_query, IsReadOf}
 use Rattle.office_tables.specs.Records.{columns_from}
 use Rattle.office_tables.specs.Selections.{AreListed}
 use Rattle.office_tables.proofs.AskLemmas.{arranged, unmapped}
-use Rattle.office_tables.proofs.Queries.{matched, passes, map_agree, id_map}
+use Rattle.office_tables.proofs.Queries.{matched, passes}
 
 -- ---- an order by numbers
 
@@ -168,7 +169,7 @@ module _ {R : Type 0} (record_of : Row → R) (row_of : R → Row) (width : ℕ)
     (where_ shown : List Term) (by : List ℕ) (key : R → List ℕ)
     (keyed : (x : R) → map (column (row_of x)) by ≡ map int (key x)) where
   itself : (xs : List R) → map record_of (map row_of xs) ≡ xs
-  itself xs = map-map record_of row_of xs ∙ id_map (λ x. record_of (row_of x)) back xs
+  itself xs = map-map record_of row_of xs ∙ map_same (λ x. record_of (row_of x)) back xs
 
   -- if the matches show these typed rows, the records are those, and they rise
   pub read : (trees : Trees) (params : Row) (xs records : List R)

@@ -19,6 +19,9 @@ use Rattle.sqlite_rules.proofs.ListLemmas.{all_has, all_from, some_has, some_fro
 use Rattle.sqlite_rules.proofs.TableLemmas.{int_is}
 use Rattle.sqlite_rules.proofs.ProbeLemmas.{mapped_has}
 use Rattle.std.proofs.lemmas.Int.{ints}
+use Rattle.std.proofs.Math.Bool.{and-true}
+use Rattle.exam_lists.proofs.Booleans.{cond_same}
+use Rattle.exam_lists.proofs.Filters.{filter-filter}
 use Rattle.office_tables.specs.Stored.{HasRowids}
 pub use Rattle.office_tables.specs.Listings.{one_table}
 use Rattle.office_tables.proofs.TableLemmas.{rowid_once}
@@ -48,10 +51,6 @@ pub none_left : (xs : List Row) → filter (λ r. not true) xs ≡ []
 none_left [] = refl
 none_left (x ∷ xs) = none_left xs
 
-pub both_alike : {X : Type 0} (b : Bool) (x : X) → cond b x x ≡ x
-both_alike true x = refl
-both_alike false x = refl
-
 pub matched : (params : Row) (where_ : List Term) (rows : List Row)
     → flat_map (λ r. cond (passes params where_ r) ((params ∷ r ∷ []) ∷ []) []) rows
     ≡ map (λ r. params ∷ r ∷ []) (filter (passes params where_) rows)
@@ -76,7 +75,7 @@ pub answered_by : (collations : List Collation) (tree : ℕ) (where_ shown : Lis
 answered_by collations tree where_ shown order trees params rows a =
     let q = record (one_table tree where_ shown order) { collations = collations } in
     let over : overlay trees [] tree ≡ trees tree =
-    ap (λ o. unwrap_or o (trees tree)) (both_alike (nat_le (2 ^ 31) tree) None) in
+    ap (λ o. unwrap_or o (trees tree)) (cond_same (nat_le (2 ^ 31) tree) None) in
     let staged : a.staged
     ≡ map (λ r. params ∷ r ∷ []) (filter (passes params where_) (trees tree)) =
     a.grouped ∙ matched params where_ (overlay trees [] tree)
@@ -131,14 +130,6 @@ shown_filter show row_of test shown_test p one two stored xs h =
 
 -- ---- DELETE
 
-filter_twice : {X : Type 0} (p q : X → Bool) (xs : List X)
-    → filter p (filter q xs) ≡ filter (λ x. q x && p x) xs
-filter_twice p q [] = refl
-filter_twice p q (x ∷ xs) =
-    elim (q x) as (λ b. filter p (cond b (x ∷ filter q xs) (filter q xs))
-    ≡ cond (b && p x) (x ∷ filter (λ y. q y && p y) xs) (filter (λ y. q y && p y) xs))
-    [ true ↦ ap (λ l. cond (p x) (x ∷ l) l) (filter_twice p q xs) | false ↦ filter_twice p q xs ]
-
 abbrev is_gone : List ℤ → Row → Bool
 is_gone ids row = list_any (λ id. has_rowid id row) ids
 
@@ -147,7 +138,7 @@ without_is : (ids : List ℤ) (rows : List Row)
 without_is [] rows = sym (filter_all _ rows (all_from _ rows (λ r _. refl)))
 without_is (id ∷ ids) rows =
     without_is ids (without_rowid id rows)
-    ∙ filter_twice (λ r. not (is_gone ids r)) (λ r. not (has_rowid id r)) rows
+    ∙ filter-filter (λ r. not (is_gone ids r)) (λ r. not (has_rowid id r)) rows
     ∙ filter_same _ _ rows (all_from _ rows (λ r _. de_morgan (has_rowid id r) (is_gone ids r)))
   where
     de_morgan : (a b : Bool) → (not a && not b) ≡ not (a || b)
@@ -216,10 +207,6 @@ left_of test stored rows rowids same =
           let passed : test r ≡ true = ap test same_row ∙ other.1 in cc) ∙ sym failed
     ]
 
-and_true : (b : Bool) → (b && true) ≡ b
-and_true true = refl
-and_true false = refl
-
 truth_back : (b : Bool) → is_true (from_truth (Some b)) ≡ b
 truth_back true = refl
 truth_back false = refl
@@ -232,7 +219,7 @@ pub equal_numbers : (m n : ℕ)
     → (is_true (binary (Compare Eq Binary) (Int (pos m)) (Int (pos n))) && true) ≡ (m == n)
 unfolding binary
 equal_numbers m n =
-    and_true _ ∙ rw (value_cmp-Int (pos m) (pos n))
+    and-true _ ∙ rw (value_cmp-Int (pos m) (pos n))
     (truth_back (is_eq (int_cmp (pos m) (pos n))) ∙ same_number m n)
 
 -- the same for two tests, one after the other
@@ -240,19 +227,6 @@ pub equal_pairs : (m n k l : ℕ)
     → (is_true (binary (Compare Eq Binary) (Int (pos m)) (Int (pos n)))
     && (is_true (binary (Compare Eq Binary) (Int (pos k)) (Int (pos l))) && true))
     ≡ ((m == n) && (k == l))
-equal_pairs m n k l = ap₂ (λ a b. a && b) (sym (and_true _) ∙ equal_numbers m n) (equal_numbers k l)
+equal_pairs m n k l = ap₂ (λ a b. a && b) (sym (and-true _) ∙ equal_numbers m n) (equal_numbers k l)
 
 -- ---- lists
-
-pub map_agree : {X Y : Type 0} (f g : X → Y) → ((x : X) → f x ≡ g x) → (xs : List X)
-    → map f xs ≡ map g xs
-map_agree f g same [] = refl
-map_agree f g same (x ∷ xs) = ap₂ (λ y ys. y ∷ ys) (same x) (map_agree f g same xs)
-
-pub id_map : {X : Type 0} (f : X → X) → ((x : X) → f x ≡ x) → (xs : List X) → map f xs ≡ xs
-id_map f same [] = refl
-id_map f same (x ∷ xs) = ap₂ (λ y ys. y ∷ ys) (same x) (id_map f same xs)
-
-pub every : {X : Type 0} (p : X → Bool) (xs : List X) → ((x : X) → p x ≡ true) → filter p xs ≡ xs
-every p [] h = refl
-every p (x ∷ xs) h = rw (h x) (ap (λ l. x ∷ l) (every p xs h))

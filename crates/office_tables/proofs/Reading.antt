@@ -60,7 +60,3 @@ keeps_after a b c same h = record {
   committed = λ o. h.committed o ∙ same.0.committed_is;
   mode = λ m. h.mode (same.0.mode ∙ m);
 }
-
-pub on_ok_both : {T E P : Type 0} (r : Result T E) → P → OnOk r P
-on_ok_both (Ok x) p = p
-on_ok_both (Err e) p = tt

@@ -6,6 +6,7 @@ use Rattle.std.specs.Prelude.{IfSome}
 use Rattle.std.proofs.lemmas.Bool.Decides.{nat_tests}
 use Rattle.std.proofs.lemmas.Int.{ints}
 use Rattle.std.proofs.lemmas.List.{map-append, take-map}
+use Rattle.exam_lists.proofs.Each.{each_take}
 use Rattle.sqlite_rules.specs.Edit.{id_in}
 use Rattle.sqlite_rules.proofs.TableLemmas.{int_is}
 use Rattle.sqlite_trees.specs.Tree.{rowid, IsAscending}
@@ -193,16 +194,10 @@ none_more at rows row numbers last same ends none rise =
     none parts.0 parts.1
     (above_last numbers last parts.0 ends (subst (IsAscending Below) parts.2 rise.2))
 
-all-take : (P : ℤ → Type 0) (i : ℕ) (xs : List ℤ) → AllByRecursion P xs
-    → AllByRecursion P (take i xs)
-all-take P zero xs h = tt
-all-take P (suc i) [] h = tt
-all-take P (suc i) (x ∷ xs) h = (h.0, all-take P i xs h.1)
-
 ascending-take : (i : ℕ) (xs : List ℤ) → IsAscending Below xs → IsAscending Below (take i xs)
 ascending-take zero xs up = tt
 ascending-take (suc i) [] up = tt
-ascending-take (suc i) (x ∷ xs) up = (all-take (Below x) i xs up.0, ascending-take i xs up.1)
+ascending-take (suc i) (x ∷ xs) up = (each_take (Below x) i xs up.0, ascending-take i xs up.1)
 
 pub rising-take : (at i : ℕ) (rows : List Row) → ColumnRises at rows → ColumnRises at (take i rows)
 rising-take at i rows h = (

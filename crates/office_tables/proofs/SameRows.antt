@@ -2,6 +2,8 @@
 use Rattle.std.proofs.Common.{◌≡◌, ◌≢◌, ℕ, pos, List, [], ◌∷◌, map, filter, flat_map, Bool, true, false, ◌&&◌, ◌==◌, refl, sym, ap, ap₂, subst, ◌∙◌, IsPermutation}
 use Rattle.std.specs.List.{AllByRecursion}
 use Rattle.std.proofs.lemmas.List.Sorted.{IsPermutation-map, IsPermutation-sym, IsPermutation-trans}
+use Rattle.exam_lists.proofs.Filters.{filter_every}
+use Rattle.exam_lists.proofs.Maps.{map_agree, map_same}
 use Rattle.sqlite_trees.specs.Tree.{IsAscending}
 use Rattle.sqlite_trees.proofs.ListLemmas.{map-map, filter-map, flat_map-map, flat_map_same_on, IsPermutation-filter, IsPermutation-flat_map, IsPermutation-flat_map_each}
 use Rattle.sqlite_value.specs.declared.value.Value.{Value}
@@ -18,7 +20,6 @@ use Rattle.office_tables.specs.TablesHeld.{HoldsTablesIn}
 use Rattle.office_tables.specs.Stored.{Holds, keyed_columns}
 use Rattle.office_tables.specs.Tables.{Tables}
 use Rattle.office_tables.proofs.NightTexts.{paired}
-use Rattle.office_tables.proofs.Queries.{every, id_map, map_agree}
 use Rattle.office_tables.proofs.RecordsBack.{draft_of, student_share_of}
 use Rattle.office_tables.proofs.TableLemmas.{keys_once}
 use Rattle.office_tables.proofs.Frames.{held_at}
@@ -51,7 +52,7 @@ paired_moved nights others rows same_rows moved same =
 module _ {X : Type 0} (record_of : Row → X) (shown : X → Row)
     (back : (x : X) → record_of (shown x) ≡ x) where
   shown_back : (xs : List X) → map record_of (map shown xs) ≡ xs
-  shown_back xs = map-map record_of shown xs ∙ id_map (λ x. record_of (shown x)) back xs
+  shown_back xs = map-map record_of shown xs ∙ map_same (λ x. record_of (shown x)) back xs
 
   -- rows that show the same columns are the same
   alike : (xs ys : List X) → IsPermutation (map shown xs) (map shown ys) → IsPermutation xs ys
@@ -99,7 +100,7 @@ module _ {X : Type 0} (record_of : Row → X) (shown : X → Row)
         flat_map-map (with_amounts (map nights_of xs)) columns_of xs
         ∙ flat_map_same_on _ _ (one_paired xs) xs
         ∙ paired key (λ _. true) (λ x y. column (nights_of y) 1 ∷ columns_of x) xs once
-        ∙ ap (map (λ x. column (nights_of x) 1 ∷ columns_of x)) (every (λ _. true) xs (λ x. refl))
+        ∙ ap (map (λ x. column (nights_of x) 1 ∷ columns_of x)) (filter_every (λ _. true) xs (λ x. refl))
         ∙ map_agree (λ x. column (nights_of x) 1 ∷ columns_of x) shown whole xs
 
     pub alike_now : (stored nights_stored : List Row) (xs ys : List X)

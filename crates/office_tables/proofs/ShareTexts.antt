@@ -2,6 +2,7 @@
 use Rattle.std.proofs.Common.{◌≡◌, ℕ, pos, List, [], ◌∷◌, map, filter, true, ◌==◌, codes, refl, sym, ap, ap₂, subst, ◌∙◌, arith, IsPermutation}
 use Rattle.std.specs.List.{AllByRecursion}
 use Rattle.std.proofs.lemmas.List.Sorted.{IsPermutation-map, IsPermutation-sym}
+use Rattle.exam_lists.proofs.Filters.{filter_every}
 use Rattle.sqlite_trees.specs.Tree.{Trees}
 use Rattle.sqlite_trees.proofs.ListLemmas.{all_of, all-map, map-map}
 use Rattle.sqlite_value.specs.declared.value.Value.TheVariants.{Int}
@@ -28,7 +29,7 @@ use Rattle.office_tables.specs.Selections.{AreListed}
 use Rattle.office_tables.proofs.NightLemmas.{bare_columns_are, bare_holds, bare_rows, bare_shown, no_nights, none_over_night, shown_holds}
 use Rattle.office_tables.proofs.NightTexts.{joined_shown, same_number}
 use Rattle.office_tables.proofs.OrderLemmas.{Rises, by_number, columns_shown, int, read, rise_alike, rises_typed, rising, table_shown, typed}
-use Rattle.office_tables.proofs.Queries.{column_less, column_later, equal_pairs, equals, every}
+use Rattle.office_tables.proofs.Queries.{column_less, column_later, equal_pairs, equals}
 use Rattle.office_tables.proofs.RecordLemmas.{IsFull}
 use Rattle.office_tables.proofs.RecordsBack.{number, student_share_of, part_share_of}
 use Rattle.office_tables.proofs.SameRows.{alike_now}
@@ -129,7 +130,7 @@ first_read db xs rows holds is =
     rw (map-map columns_in bare_share xs)
     (subst (λ l. IsPermutation (map (eval_all first_terms)
     (matches db.trees [] (inner 11 end) ([] ∷ []))) (map share_student_columns l))
-    (every (λ _. true) xs (λ x. refl))
+    (filter_every (λ _. true) xs (λ x. refl))
     (table_shown share_student_columns keyed_columns first_picked [] 11 [] first_terms first_shown
     (λ x. refl) (λ _. true) (λ r. refl) (λ _. true) (λ x. refl) db.trees xs stored.same)) in
     let found = read bare_share_in columns_in 4 (λ x. refl) (λ x. refl) (inner 11 end) []
@@ -189,7 +190,7 @@ nights_read : (db : Database) (xs : List StudentShareRow) (nights : List NightRo
 nights_read db xs nights holds is =
     let shows = subst (λ l. IsPermutation (map (eval_all night_terms)
     (matches db.trees [] (inner 16 end) ([] ∷ []))) (map night_share_columns l))
-    (every (λ _. true) xs (λ x. refl))
+    (filter_every (λ _. true) xs (λ x. refl))
     (table_shown night_share_columns keyed_columns night_picked [] 16 [] night_terms night_shown (λ x. refl)
     (λ _. true) (λ r. refl) (λ _. true) (λ x. refl) db.trees xs holds.same) in
     rw is.1 (IsPermutation-sym _ _
@@ -330,7 +331,7 @@ part_shares_read db t represents found is =
     (λ x. refl) db.trees [] t.share_part found
     (subst (λ l. IsPermutation (map (eval_all share_part_terms)
     (matches db.trees [] (inner 12 end) ([] ∷ []))) (map share_part_columns l))
-    (every (λ _. true) t.share_part (λ x. refl))
+    (filter_every (λ _. true) t.share_part (λ x. refl))
     (table_shown share_part_columns keyless_columns share_part_picked [] 12 [] share_part_terms
     share_part_shown (λ x. refl)
     (λ _. true) (λ r. refl) (λ _. true) (λ x. refl) db.trees t.share_part

@@ -24,6 +24,7 @@ use Rattle.sqlite.specs.Does.{Tally, Does, lacks_sequence}
 use Rattle.sqlite.specs.Change.{created, next_tree, KeepsRows}
 use Rattle.sqlite.specs.Compile.{table_defined_by}
 use Rattle.std.specs.List.{AllByRecursion}
+use Rattle.exam_lists.proofs.Results.{same_Ok}
 pub use Rattle.office_tables.specs.Inserting.{simple_table}
 use Rattle.office_tables.specs.Schema.{HasRows}
 use Rattle.sqlite.specs.Rows.{Written}
@@ -35,9 +36,6 @@ pub went : {B E R : Type 0} {b : B} {Stops : E → Type 0}
     → ((stop : E) × Stops stop × (Ok b ≡ Err stop)) ⊎ R → R
 went (inl stopped) = absurd (let e = stopped.2 in cc)
 went (inr on) = on
-
-pub same_value : {B E : Type 0} {a b : B} → ◌≡◌ {A = Result B E} (Ok a) (Ok b) → a ≡ b
-same_value e = cc
 
 -- what a write leaves lists its schema and obeys it
 writes_sound : (command : Command) (old new : State) (text : List ℕ) (params : Row) (count : ℕ)
@@ -85,12 +83,12 @@ module _ (sql : List ℕ) (params : Row) (old new : State) (count : ℕ) (schema
       (record old.now { schema = s }) text None command (Ok (w.tally, new.now)))
       has w.changed in
       let done = went (rw found at all) in
-      let now = ap (λ (p : Tally × Database). p.1) (same_value (went (went done.2).2).2) in
+      let now = ap (λ (p : Tally × Database). p.1) (same_Ok (went (went done.2).2).2) in
       let given = went done.1 in
       let written = went (went given.2).2 in
       let counted = went written.2 in
       let trees : done.0.trees ≡ written.0 =
-      ap (λ (it : Written). it.trees) (same_value counted.2) ∙ same_value counted.1 in
+      ap (λ (it : Written). it.trees) (same_Ok counted.2) ∙ same_Ok counted.1 in
       let edit = edit_of old.now.trees table [] Chosen 0 given.0 in
       let applied : Applies schema Enforced old.now.trees edit written.0 =
       one_step schema Enforced old.now.trees written.0 edit
@@ -123,12 +121,12 @@ module _ (sql : List ℕ) (params : Row) (old new : State) (count : ℕ) (schema
       (record old.now { schema = s }) text None command (Ok (w.tally, new.now)))
       has w.changed in
       let done = went (rw found at all) in
-      let now = ap (λ (p : Tally × Database). p.1) (same_value (went (went done.2).2).2) in
+      let now = ap (λ (p : Tally × Database). p.1) (same_Ok (went (went done.2).2).2) in
       let given = went done.1 in
       let written = went (went given.2).2 in
       let counted = went written.2 in
       let trees : done.0.trees ≡ written.0 =
-      ap (λ (it : Written). it.trees) (same_value counted.2) ∙ same_value counted.1 in
+      ap (λ (it : Written). it.trees) (same_Ok counted.2) ∙ same_Ok counted.1 in
       let edit = edit_of old.now.trees table [] Chosen 0 given.0 in
       let applied : Applies schema Enforced old.now.trees edit written.0 =
       one_step schema Enforced old.now.trees written.0 edit
@@ -161,11 +159,11 @@ module _ (sql : List ℕ) (params : Row) (old new : State) (count : ℕ) (schema
       (record old.now { schema = s }) text None command (Ok (w.tally, new.now)))
       has w.changed in
       let done = went (rw found at all) in
-      let now = ap (λ (p : Tally × Database). p.1) (same_value (went (went done.2).2).2) in
+      let now = ap (λ (p : Tally × Database). p.1) (same_Ok (went (went done.2).2).2) in
       let given = went done.1 in
       let written = went given.2 in
       let trees : done.0.trees ≡ written.0 =
-      ap (λ (it : Written). it.trees) (same_value written.2) in
+      ap (λ (it : Written). it.trees) (same_Ok written.2) in
       let edit = edit_of old.now.trees table (ids_of given.0) Given 0 [] in
       let applied : Applies schema Enforced old.now.trees edit written.0 =
       one_step schema Enforced old.now.trees written.0 edit
@@ -217,12 +215,12 @@ creates sql old new count schema table trees none plain is whole defined uncount
     let all = went w.changed in
     let first = went all.1 in
     let made = first.1 in
-    let same : made.table ≡ table = same_value (sym made.defined ∙ defined) in
+    let same : made.table ≡ table = same_Ok (sym made.defined ∙ defined) in
     let schema_is : first.0.schema ≡ created schema table =
     made.is ∙ ap (λ s. created s made.table) has.schema_is ∙ ap (created schema) same in
     let fine : lacks_sequence first.0.schema ≡ false = ap lacks_sequence schema_is ∙ uncounted in
     let now : new.now ≡ first.0 =
-    ap (λ (p : Tally × Database). p.1) (same_value all.2) ∙ same_value (rw fine at first.2) in
+    ap (λ (p : Tally × Database). p.1) (same_Ok all.2) ∙ same_Ok (rw fine at first.2) in
     let empty : first.0.trees (next_tree schema) ≡ [] =
     subst (λ s. first.0.trees (next_tree s) ≡ []) has.schema_is made.empty in
     let kept = subst (λ s. KeepsRows s.tables old.now.trees first.0.trees)

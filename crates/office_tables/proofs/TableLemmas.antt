@@ -11,7 +11,7 @@ use Rattle.sqlite_trees.specs.View.{is_int}
 use Rattle.sqlite_trees.proofs.ListLemmas.{along_permutation, all-permutation, all-filter, all-map, ascending-filter, ascending-map, ascending_from_map, ascending_weaker}
 use Rattle.sqlite_rules.specs.Edit.{is_taken, are_fresh}
 use Rattle.office_tables.specs.Stored.{HasRowids, Holds, keyed_columns}
-use Rattle.std.proofs.lemmas.Bool.{and_parts, not-true}
+use Rattle.std.proofs.lemmas.Bool.{and_parts, not-true, or_parts}
 use Rattle.std.proofs.lemmas.Cmp.{tied_itself}
 use Rattle.sqlite_value.specs.declared.value.Value.{Value}
 use Rattle.sqlite_value.proofs.OrderLemmas.{value_cmp_total}
@@ -33,10 +33,6 @@ put_free new (r ∷ rows) free = go (value_cmp (rowid r) (rowid new)) free (put_
         (IsPermutation-middle (r ∷ []) new rows)
     go Equal f more = absurd (cc)
     go Greater f more = IsPermutation-refl _
-
-or_false : (a b : Bool) → (a || b) ≡ false → (a ≡ false) × (b ≡ false)
-or_false true b h = absurd (cc)
-or_false false b h = (refl, h)
 
 -- ---- distinct rowids
 
@@ -64,7 +60,7 @@ rowids_moved xs ys same h = record {
 misses : (new : Row) (rows : List Row) → is_taken rows new ≡ false → Misses (rowid new) rows
 misses new [] free = tt
 misses new (r ∷ rows) free =
-    let parts = or_false _ _ free in
+    let parts = or_parts _ _ free in
     (λ e. let tie = ap is_eq (ap (value_cmp (rowid r)) e ∙ tied_itself value_cmp_total (rowid r)) in absurd (let both = sym parts.0 ∙ tie in cc), misses new rows parts.1)
 
 pub rowids_put : (new : Row) (rows : List Row) → IsTrue (is_int (rowid new))

@@ -1,6 +1,7 @@
 use Rattle.std.proofs.lemmas.Result.{IfOk-weaker}
+use Rattle.exam_lists.proofs.Results.{OnOk_from_IfOk}
 use Rattle.sqlite.specs.Held.{state}
-use Rattle.office_tables.proofs.ListedTables.{listing, listed_same, listed_kept, listed_silent, ok_gives}
+use Rattle.office_tables.proofs.ListedTables.{listing, listed_same, listed_kept, listed_silent}
 use Rattle.office_tables.proofs.listing.list_rows.Goals as goal
 
 pub returns : goal.returns
@@ -11,7 +12,7 @@ returns g c version tree shown order lists =
       found = λ clean tables. IfOk-weaker c.query_all.result _ _
           (λ rows h. listing tree shown order _ version lists old new tables.schema rows.items h)
           (c.query_all.ensures.ok clean);
-      same = λ clean tables. ok_gives c.query_all.result _ _
+      same = λ clean tables. OnOk_from_IfOk c.query_all.result _ _
           (λ rows h. listed_same tree shown order _ version lists old new tables.schema rows.items
           h) (c.query_all.ensures.ok clean);
       looks = record {

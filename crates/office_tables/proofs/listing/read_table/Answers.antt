@@ -1,10 +1,10 @@
 use Rattle.std.proofs.Common.{rules, IsTrue, subst, subst₂, sym}
 use Rattle.std.proofs.lemmas.Result.{IfOk-weaker}
+use Rattle.exam_lists.proofs.Results.{OnOk_any}
 use Rattle.sqlite.specs.Held.{state}
 use Rattle.office_tables.specs.Readings.{IsRead, ColumnRises}
 use Rattle.office_tables.proofs.AdoptLemmas.{failed_first}
 use Rattle.office_tables.proofs.ListedTables.{adopted, all_listed, listed_rise, read_rises}
-use Rattle.office_tables.proofs.Reading.{on_ok_both}
 use Rattle.office_tables.proofs.listing.read_table.Goals as goal
 
 pub returns-in_err-rows-clause-adopts : goal.returns-in_err-rows-clause-adopts
@@ -55,7 +55,7 @@ returns-clause-adopts g c version tree show lists =
           (subst (λ rs. IsRead g.R.Record.fits g.R.Record.columns_of width rs found)
           c.deref-2.ensures.value is))
           c.read_each.ensures;
-      same = λ clean tables. on_ok_both c.read_each.result (listed.same clean tables);
+      same = λ clean tables. OnOk_any c.read_each.result (listed.same clean tables);
       looks = listed.looks;
     }
 

@@ -1,10 +1,11 @@
 use Rattle.std.proofs.Common.{rules, IsTrue}
+use Rattle.exam_lists.proofs.Results.{OnErr_any}
 use Rattle.sqlite.specs.Held.{state}
 use Rattle.sqlite.specs.State.{HasCleanDisk, IsUnchanged}
 use Rattle.office_tables.specs.Readers.{Keeps}
 use Rattle.office_tables.specs.Tables.{Tables}
 use Rattle.office_tables.specs.TablesHeld.{HoldsTables}
-use Rattle.office_tables.proofs.LookLemmas.{look_text, look_plain, look_plain_in, on_err, was_open}
+use Rattle.office_tables.proofs.LookLemmas.{look_text, look_plain, look_plain_in, was_open}
 use Rattle.office_tables.proofs.Reading.{commits_nothing, kept_failed, kept_unchanged, shown_same}
 use Rattle.office_tables.proofs.looking.look.Goals as goal
 
@@ -44,5 +45,5 @@ returns-in_err-_rows g c =
         mode = c.query_all.ensures.mode;
         survives = commits_nothing look_text _ old new look_plain c.query_all.ensures.survives;
       };
-      failed = λ clean. on_err c.from_residual.result (kept clean);
+      failed = λ clean. OnErr_any c.from_residual.result (kept clean);
     }

@@ -1,11 +1,12 @@
 use Rattle.std.proofs.Common.{◌≡◌, ◌≢◌, length, get_or, arith}
 use Rattle.std.proofs.lemmas.Result.{IfOk-weaker}
+use Rattle.exam_lists.proofs.Results.{OnOk_any}
+use Rattle.exam_lists.proofs.Searches.{first_only}
 use Rattle.sqlite.specs.Held.{state}
 use Rattle.office_tables.proofs.AdoptLemmas.{failed_first}
 use Rattle.office_tables.proofs.ListTexts.{meta_is}
 use Rattle.office_tables.proofs.ListedTables.{all_listed}
-use Rattle.office_tables.proofs.MetaFound.{single, first_only, not_single}
-use Rattle.office_tables.proofs.Reading.{on_ok_both}
+use Rattle.office_tables.proofs.MetaFound.{single, not_single}
 use Rattle.office_tables.proofs.meta.adopt_meta.Goals as goal
 
 pub returns-in_err-rows : goal.returns-in_err-rows
@@ -44,6 +45,6 @@ returns g c =
           (all_listed 0 _ _ old.now.trees _ (all.found clean tables)) row
           (first_only rows row long first))
           c.read_meta.ensures.ok;
-      same = λ clean tables. on_ok_both c.read_meta.result (all.same clean tables);
+      same = λ clean tables. OnOk_any c.read_meta.result (all.same clean tables);
       looks = all.looks;
     }

@@ -1,7 +1,7 @@
 use Rattle.std.proofs.lemmas.Result.{IfOk-weaker}
+use Rattle.exam_lists.proofs.Results.{OnOk_any}
 use Rattle.office_tables.specs.Stored.{keyed_columns}
 use Rattle.office_tables.proofs.AdoptLemmas.{failed_first}
-use Rattle.office_tables.proofs.Reading.{on_ok_both}
 use Rattle.office_tables.proofs.nights.add_nights.Goals as goal
 
 pub returns-in_err-nights : goal.returns-in_err-nights
@@ -22,6 +22,6 @@ returns g c version tree lists =
             is,
           ))
           c.join_lists.ensures;
-      same = λ clean tables. on_ok_both c.join_lists.result (all.same clean tables);
+      same = λ clean tables. OnOk_any c.join_lists.result (all.same clean tables);
       looks = all.looks;
     }
