@@ -42,7 +42,7 @@ impl<'a, C: Clock> Pace<'a, C> {
     }
 
     // The office is about to read: after a reply the next message is awaited.
-    pub(crate) fn is_to_send(&self) {
+    pub(crate) fn await_message(&self) {
         if self.awaited.get() == Awaited::Taking {
             self.begin(Awaited::Message);
         }
@@ -54,26 +54,26 @@ impl<'a, C: Clock> Pace<'a, C> {
     }
 
     // Bytes were received: if they are a message's first, its rest is awaited.
-    pub(crate) fn has_sent(&self) {
+    pub(crate) fn note_bytes(&self) {
         if self.awaited.get() == Awaited::Message {
             self.begin(Awaited::Rest);
         }
     }
 
     // The office is about to write.
-    pub(crate) fn is_to_take(&self) {
+    pub(crate) fn await_taking(&self) {
         if self.awaited.get() != Awaited::Taking {
             self.begin(Awaited::Taking);
         }
     }
 
     // A reply is made; the client has the full timeout to take it.
-    pub(crate) fn has_reply(&self) {
+    pub(crate) fn note_reply(&self) {
         self.begin(Awaited::Taking);
     }
 
     // Nothing received from now on is answered: it all counts as one rest.
-    pub(crate) fn is_left(&self) {
+    pub(crate) fn await_nothing(&self) {
         self.begin(Awaited::Rest);
     }
 

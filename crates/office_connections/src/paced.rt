@@ -49,12 +49,12 @@ impl<C: Clock, R: Read + Timed + Drop> Read for PacedReader<'_, C, R> {
     ghost remaining = { λ reader. R.remaining reader.inner };
 
     fn read(&mut self, buf: &mut [u8]) -> Result<usize> {
-        self.pace.is_to_send();
+        self.pace.await_message();
         let left = self.pace.left()?;
         self.set_limit(left)?;
         let count = self.inner.read(buf)?;
         if count > 0 {
-            self.pace.has_sent();
+            self.pace.note_bytes();
         }
         Ok(count)
     }
@@ -107,7 +107,7 @@ impl<C: Clock, W: Write + Timed + Drop> Write for PacedWriter<'_, C, W> {
     ghost contents = { λ writer. W.contents writer.inner };
 
     fn write(&mut self, buf: &[u8]) -> Result<usize> {
-        self.pace.is_to_take();
+        self.pace.await_taking();
         let left = self.pace.left()?;
         self.set_limit(left)?;
         self.inner.write(buf)
@@ -134,7 +134,7 @@ impl<C: Clock, M: Machine> Machine for PacedMachine<'_, '_, C, M> {
 
     fn answer(&mut self, alloc: Global, request: &Request<'_>) -> Reply {
         let reply = self.machine.answer(alloc, request);
-        self.pace.has_reply();
+        self.pace.note_reply();
         reply
     }
 }

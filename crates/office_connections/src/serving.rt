@@ -84,7 +84,7 @@ fn is_ended_by_office(served: Result<Served, ServeFault>) -> bool {
 // replies in transit are lost.
 fn leave<C: Clock, R: Read + Timed + Drop>(pace: &Pace<'_, C>, reader: &mut PacedReader<'_, C, R>) {
     if reader.end_sending().is_ok() {
-        pace.is_left();
+        pace.await_nothing();
         let mut turns = LAST_TURNS;
         let _ = drain(reader, &mut turns);
     }
