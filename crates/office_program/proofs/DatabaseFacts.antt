@@ -3,7 +3,7 @@ use Rattle.std.proofs.Common.{◌++◌, ◌∷◌, [], Bool, Err, IfErr, IfOk, L
 use Rattle.sqlite.specs.Held.{Held}
 use Rattle.sqlite.specs.Store.{Ghosts}
 use Rattle.office_messages.specs.Visits.{Visit}
-use Rattle.office_program.specs.Databases.{IfServe, IsAt, ServesIn, ServesNamed, UsesDatabase}
+use Rattle.office_program.specs.Databases.{IfUsing, IsAt, ServesIn, ServesNamed, UsesDatabase}
 use Rattle.office_program.specs.Endings.{EndsWithFault, WritesSolutionFaults}
 use Rattle.office_program.specs.FaultLines.{fault_line}
 use Rattle.office_program.specs.Sources.{Known}
@@ -58,47 +58,54 @@ served_err store old new AreOf errors_old errors_new (Err shown) database terms 
     inr (used store old new AreOf errors_old errors_new (Err shown) database terms before after
     opened given_back x)
 
--- what a server left holds until the line of its fault
-pub ends_server : {W : Type 0} (tells : W → List ℕ → Bool → W → Type 0) (task : Task)
-    (Left : W → ProgramFault → List ℕ → Terms → Type 0) (shown : ProgramFault) (before new : W)
-    (is_written : Bool) → tells before (fault_line shown ++ 10 ∷ []) is_written new
-    → IfServe task (Left before shown)
-    → IfServe task (λ database terms.
-    EndsWithFault tells (λ of mid. Left mid of database terms) new is_written)
-ends_server tells (Serve database terms) Left shown before new is_written line left = record {
-  shown = shown;
-  before = before;
-  left = left;
-  line = line;
-}
-ends_server tells (Check instance solution) Left shown before new is_written line left = tt
-ends_server tells (CheckAs instance solution form) Left shown before new is_written line left = tt
-ends_server tells (CheckAll session solutions form) Left shown before new is_written line left = tt
-ends_server tells (Places instance solution exam) Left shown before new is_written line left = tt
-ends_server tells (Compare session one other) Left shown before new is_written line left = tt
-ends_server tells (Load database instance) Left shown before new is_written line left = tt
-ends_server tells (Export database) Left shown before new is_written line left = tt
-ends_server tells (Explain words) Left shown before new is_written line left = tt
+-- what holds of a task that uses a database can be followed
+using_then : (task : Task) (This That Unused : Type 0) → (This → That)
+    → IfUsing task This Unused → IfUsing task That Unused
+using_then (Check instance solution) This That Unused follows x = x
+using_then (CheckAs instance solution form) This That Unused follows x = x
+using_then (CheckAll session solutions form) This That Unused follows x = x
+using_then (Places instance solution exam) This That Unused follows x = x
+using_then (Compare session before after) This That Unused follows x = x
+using_then (Load database instance) This That Unused follows x = follows x
+using_then (Serve database terms) This That Unused follows x = follows x
+using_then (Export database) This That Unused follows x = follows x
+using_then (Explain words) This That Unused follows x = x
 
--- a task with faulty solutions is no server
-pub no_server : {W : Type 0} (tells : W → List ℕ → Bool → W → Type 0) (stdin : Option (List ℕ))
+-- what a task left of its database holds until the line of its fault
+pub ends_using : {W : Type 0} (tells : W → List ℕ → Bool → W → Type 0) (task : Task)
+    (Left : W → ProgramFault → Type 0) (Unused : Type 0) (shown : ProgramFault) (before new : W)
+    (is_written : Bool) → tells before (fault_line shown ++ 10 ∷ []) is_written new
+    → Left before shown → IfUsing task (Unit {0}) Unused
+    → IfUsing task (EndsWithFault tells (λ of mid. Left mid of) new is_written) Unused
+ends_using tells task Left Unused shown before new is_written line left unused =
+    using_then task _ _ Unused (λ _. record {
+      shown = shown;
+      before = before;
+      left = left;
+      line = line;
+    }) unused
+
+-- a task with faulty solutions uses no database
+pub uses_none : {W : Type 0} (tells : W → List ℕ → Bool → W → Type 0) (stdin : Option (List ℕ))
     (files : List ℕ → Known) (task : Task) (old new : W) (printed_old printed_new : Option (List ℕ))
-    (is_written : Bool) (P : List ℕ → Terms → Type 0)
+    (is_written : Bool) (This Unused : Type 0)
     → WritesSolutionFaults tells stdin files task old new printed_old printed_new is_written
-    → IfServe task P
-no_server tells stdin files (Serve database terms) old new printed_old printed_new is_written P x =
-    absurd x
-no_server tells stdin files (Check instance solution) old new printed_old printed_new is_written P x =
-    tt
-no_server tells stdin files (CheckAs instance solution form) old new printed_old printed_new
-    is_written P x = tt
-no_server tells stdin files (CheckAll session solutions form) old new printed_old printed_new
-    is_written P x = tt
-no_server tells stdin files (Places instance solution exam) old new printed_old printed_new
-    is_written P x = tt
-no_server tells stdin files (Compare session before after) old new printed_old printed_new
-    is_written P x = tt
-no_server tells stdin files (Load database instance) old new printed_old printed_new is_written P x =
-    tt
-no_server tells stdin files (Export database) old new printed_old printed_new is_written P x = tt
-no_server tells stdin files (Explain words) old new printed_old printed_new is_written P x = tt
+    → IfUsing task (Unit {0}) Unused → IfUsing task This Unused
+uses_none tells stdin files (CheckAll session solutions form) old new printed_old printed_new
+    is_written This Unused x unused = unused
+uses_none tells stdin files (Check instance solution) old new printed_old printed_new is_written
+    This Unused x unused = unused
+uses_none tells stdin files (CheckAs instance solution form) old new printed_old printed_new
+    is_written This Unused x unused = unused
+uses_none tells stdin files (Places instance solution exam) old new printed_old printed_new
+    is_written This Unused x unused = unused
+uses_none tells stdin files (Compare session before after) old new printed_old printed_new
+    is_written This Unused x unused = unused
+uses_none tells stdin files (Load database instance) old new printed_old printed_new is_written
+    This Unused x unused = absurd x
+uses_none tells stdin files (Serve database terms) old new printed_old printed_new is_written
+    This Unused x unused = absurd x
+uses_none tells stdin files (Export database) old new printed_old printed_new is_written
+    This Unused x unused = absurd x
+uses_none tells stdin files (Explain words) old new printed_old printed_new is_written
+    This Unused x unused = unused

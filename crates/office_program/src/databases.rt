@@ -1,5 +1,5 @@
 // Databases by their paths.
-ghost use Rattle.std.specs.Prelude.{ℕ, IfErr, IfOk, IfSome, List, Option, ⊤};
+ghost use Rattle.std.specs.Prelude.{◌≡◌, ℕ, IfErr, IfNone, IfOk, IfSome, List, Option, ⊤};
 ghost use Rattle.office_program.specs.Databases.{IsAt, MayFailToOpen};
 
 use crate::notices::{LongWork, announce};
@@ -22,14 +22,19 @@ pub trait Databases {
     fn open_database(&mut self, path: &str) -> Result<Self::Opened, Error>
         ensures opened { IfOk result (λ conn. IsAt (known self.old path.now) conn) }
         ensures place { IfOk result (λ _. has_place self.new path.now) }
-        ensures failed { IfErr result (λ _. MayFailToOpen (known self.old path.now)) };
+        ensures failed { IfErr result (λ _. MayFailToOpen (known self.old path.now)) }
+        ensures kept { IfErr result (λ _. known self.new ≡ known self.old) };
 
     /// Opens the database at a path, and makes none. `None`: the file is empty.
     fn find_database(&mut self, path: &str) -> Result<Option<Self::Opened>, Error>
         ensures opened { IfOk result (λ found. IfSome found (λ conn.
             IsAt (known self.old path.now) conn)) }
         ensures place { IfOk result (λ found. IfSome found (λ _. has_place self.new path.now)) }
-        ensures failed { IfErr result (λ _. MayFailToOpen (known self.old path.now)) };
+        ensures empty { IfOk result (λ found. IfNone found
+            (MayFailToOpen (known self.old path.now))) }
+        ensures same { IfOk result (λ found. IfNone found (known self.new ≡ known self.old)) }
+        ensures failed { IfErr result (λ _. MayFailToOpen (known self.old path.now)) }
+        ensures kept { IfErr result (λ _. known self.new ≡ known self.old) };
 
     /// Takes back the connection to the database at a path.
     fn take_back(&mut self, path: &str, conn: Self::Opened)

@@ -8,7 +8,7 @@ ghost use Rattle.office_files.specs.CanonicalSolution.{canonical_solution};
 ghost use Rattle.office_model.specs.Office.{OfficeState};
 ghost use Rattle.office_store.specs.Opening.{HoldsOffice};
 ghost use Rattle.office_store.specs.Running.{CallRan};
-ghost use Rattle.office_program.specs.Databases.{ExportsIn, UsesDatabase};
+ghost use Rattle.office_program.specs.Databases.{ExportsIn, LeavesUnexported, UsesDatabase};
 ghost use Rattle.office_program.specs.Export.{ExportRan, Exports, IsWhole, PrintsSolution, RefusesExport};
 ghost use Rattle.office_program.specs.Export.{published_solution};
 ghost use Rattle.office_program.specs.Load.{MayUpgrade, connection_after};
@@ -48,6 +48,8 @@ pub(crate) fn export<'a, S: Alter, D: Databases<Opened = Connection<S>>, W: Writ
     ensures uses { IfOk result (λ _. UsesDatabase (D.known databases.old database.now)
         (D.known databases.new database.now)
         (ExportsIn S.Store (W.contents out.old) (W.contents out.new))) }
+    ensures leaves { IfErr result (LeavesUnexported S.Store (D.known databases.old)
+        (D.known databases.new) database.now) }
     ensures fault { IfErr result IsOfExport }
     ensures unwritten { IfErr result (λ fault. fault ≢ ProgramFault.CannotWrite
         → Keeps (W.contents out.old) (W.contents out.new)) }

@@ -7,8 +7,9 @@ ghost use Rattle.std.specs.declared.io.ErrorKind.TheVariants as failure;
 ghost use Rattle.clap.specs.Words.{kind_of};
 ghost use Rattle.clap.specs.declared.error.kind.ErrorKind.TheVariants as kind;
 ghost use Rattle.exam_terms.specs.declared.limits.TheConstants.{INSTANCE_BYTES};
-ghost use Rattle.office_program.specs.Databases.{IfServe, LoadsIn, ServesNamed, UsesDatabase};
-ghost use Rattle.office_program.specs.Databases.{UsesNamedDatabase};
+ghost use Rattle.office_program.specs.Databases.{IfUsing, IsUnread, LeavesNamedDatabase};
+ghost use Rattle.office_program.specs.Databases.{LeavesUnloaded, LoadsIn, ServesNamed};
+ghost use Rattle.office_program.specs.Databases.{UsesDatabase, UsesNamedDatabase};
 ghost use Rattle.office_program.specs.Endings.{AskForHelp, EndsWithFault};
 ghost use Rattle.office_program.specs.Endings.{IsQuiet, IsSilent, LeavesPrinted};
 ghost use Rattle.office_program.specs.Endings.{WritesConnectionFaults, WritesFault, WritesNoTaskFault};
@@ -152,22 +153,28 @@ pub fn run_words<
         (E.contents err.old) (E.contents err.new) (Ok result))
         task (O.contents out.old) (O.contents out.new) }
 
-    // If `serve` ends with status 1, that database could not be opened, and the fault says so; or
-    // it was opened and given back, and the same holds of the clients that were served. These are
-    // fewer than the words say, because listening or an accept failed; or a failed disk call has
-    // closed the store; or there are none, because of another fault. The fault whose line was tried
-    // to be written says which. If memory ran out for the words, or they ask for help, nothing was
-    // opened.
-    ensures unserved { result.status ≡ 1
+    // If one of these ends with status 1, that database was not opened, because of its fault or one
+    // of `load`'s file, and all are as they were. Or it was opened and given back. Then the office
+    // that `load` found, or `export`, is as it was, if nothing was uncommitted, unless only the
+    // line of the load could not be written; a crash leaves what was there, what opening makes of
+    // it, or the session of a text that is not refused. The same as above holds of the clients that
+    // `serve` has served. These are fewer than the words say, because listening or an accept
+    // failed; or a failed disk call has closed the store; or there are none, because of another
+    // fault. The fault whose line was tried to be written says which. If memory ran out for the
+    // words, or they ask for help, or the task is another, nothing was opened.
+    ensures leaves { result.status ≡ 1
         → ((databases.new ≡ databases.old) × WritesNoTaskFault E.tells
         (AskForHelp (map string_bytes words.now)) err.old err.new
         (O.contents out.old) (O.contents out.new) result.is_err_written)
         ⊎ ((task : Task) × IsTask (map string_bytes words.now) task
-        × IfServe task (λ database terms. EndsWithFault E.tells (λ shown before.
-        ServesNamed S.Store (D.known databases.old) (D.known databases.new)
+        × IfUsing task (EndsWithFault E.tells (λ shown before.
+        LeavesNamedDatabase S.Store (D.known databases.old) (D.known databases.new)
+        (T.known files.now)
+        (ServesNamed S.Store (D.known databases.old) (D.known databases.new)
         (λ port. AreOfPort (N.opens net.now port) C.accepts C.takes_back R.remaining W.contents)
-        (E.contents err.old) (E.contents before) (Err shown) database terms)
-        err.new result.is_err_written)) }
+        (E.contents err.old) (E.contents before) (Err shown))
+        task shown) err.new result.is_err_written)
+        (D.known databases.new ≡ D.known databases.old)) }
 
     // Status 1 comes with a try to write the line of a fault of the words to `err`, and
     // `is_err_written` says whether it was written whole; it is false only if `err` failed. A fault
@@ -231,10 +238,14 @@ fn run_task<
         (λ port. AreOfPort (N.opens net.now port) C.accepts C.takes_back R.remaining W.contents)
         (E.contents err.old) (E.contents err.new) (Ok ending))
         task.now (O.contents out.old) (O.contents out.new)) }
-    ensures unserved { IfErr result (λ shown. IfServe task.now
+    ensures leaves { IfErr result (λ shown.
+        LeavesNamedDatabase S.Store (D.known databases.old) (D.known databases.new)
+        (T.known files.now)
         (ServesNamed S.Store (D.known databases.old) (D.known databases.new)
         (λ port. AreOfPort (N.opens net.now port) C.accepts C.takes_back R.remaining W.contents)
-        (E.contents err.old) (E.contents err.new) (Err shown))) }
+        (E.contents err.old) (E.contents err.new) (Err shown))
+        task.now shown) }
+    ensures unused { IfUsing task.now (Unit {0}) (D.known databases.new ≡ D.known databases.old) }
     ensures quiet { IfOk result (λ ending. ending.status ≢ 1 → IsTrue ending.is_err_written
         → WritesConnectionFaults E.contents task.now err.old err.new) }
 
@@ -293,6 +304,12 @@ fn load<'a, S: Alter, T: Texts, D: Databases<Opened = Connection<S>>, W: Write>(
         × IsTextOf (T.known files.now instance.now) text
         × UsesDatabase (D.known databases.old database.now) (D.known databases.new database.now)
         (LoadsIn S.Store text (W.contents out.old) (W.contents out.new))) }
+    ensures leaves { IfErr result (λ shown.
+        IsUnread (D.known databases.old) (D.known databases.new) instance.now
+        (T.known files.now instance.now) shown
+        ⊎ ((text : List ℕ) × IsTextOf (T.known files.now instance.now) text
+        × LeavesUnloaded S.Store (D.known databases.old) (D.known databases.new) database.now
+        text shown)) }
 
     // A line that names a file names the instance's.
     ensures fault { IfErr result (IsOfLoad instance.now (T.known files.now)) }
@@ -332,6 +349,8 @@ fn load_text<'a, S: Alter, D: Databases<Opened = Connection<S>>, W: Write>(
     ensures uses { IfOk result (λ _. UsesDatabase (D.known databases.old database.now)
         (D.known databases.new database.now)
         (LoadsIn S.Store text.now (W.contents out.old) (W.contents out.new))) }
+    ensures leaves { IfErr result (LeavesUnloaded S.Store (D.known databases.old)
+        (D.known databases.new) database.now text.now) }
     ensures fault { IfErr result (IsOfOffice text.now) }
     ensures unwritten { IfErr result (λ fault. fault ≢ ProgramFault.CannotWrite
         → Keeps (W.contents out.old) (W.contents out.new)) }

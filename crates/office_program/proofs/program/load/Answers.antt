@@ -1,4 +1,4 @@
-use Rattle.std.proofs.Common.{inr, rules}
+use Rattle.std.proofs.Common.{inl, inr, refl, rules}
 use Rattle.office_program.proofs.EndingFacts.{if_ok}
 use Rattle.office_program.proofs.LoadFacts.{if_err}
 use Rattle.office_program.proofs.program.load.Goals as goal
@@ -15,3 +15,19 @@ pub returns-in-Ok-clause-uses : goal.returns-in-Ok-clause-uses
 returns-in-Ok-clause-uses g c =
     if_ok c.load_text.result _ _ (λ ending used. (c.deref.result.now, search rules, used))
     c.load_text.ensures.uses
+
+-- a fault leaves of the database what it leaves if its text is loaded
+pub returns-in-Ok-clause-leaves : goal.returns-in-Ok-clause-leaves
+returns-in-Ok-clause-leaves g c =
+    let leaves = c.load_text.ensures.leaves in
+    if_err c.load_text.result _ _ _ (λ shown left again.
+    inr (c.deref.result.now, search rules, left)) leaves leaves
+
+-- nor is a database opened if the text can't be taken
+pub returns-in-Err-clause-leaves : goal.returns-in-Err-clause-leaves
+returns-in-Err-clause-leaves g c = inl (record {
+  of = c.in-Err.fault;
+  cause = c.in-Err.ensures.refused;
+  line = c.fault_of_input.ensures;
+  kept = refl;
+})

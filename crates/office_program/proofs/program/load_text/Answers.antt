@@ -1,3 +1,4 @@
+use Rattle.std.proofs.Common.{inl, inr}
 use Rattle.office_program.proofs.program.load_text.Goals as goal
 
 -- nothing was written, unless the writer failed
@@ -14,3 +15,27 @@ returns-in-Ok-load_run-clause-uses g c = record {
   given_back = c.take_back.ensures.back;
   holds = c.in-Ok-load_run.ensures.done;
 }
+
+-- and so it is if the text is not loaded
+pub returns-in-Err-load_run-clause-leaves : goal.returns-in-Err-load_run-clause-leaves
+returns-in-Err-load_run-clause-leaves g c = inr (record {
+  before = c.in-Ok.conn;
+  after = c.in-Err-load_run.conn;
+  opened = c.in-Ok.ensures.opened;
+  given_back = c.take_back-in-Err-load_run.ensures.back;
+  holds = record {
+    of = c.in-Err-load_run.fault;
+    line = c.fault_of_load.ensures.line;
+    refused = c.in-Err-load_run.ensures.refused;
+    stays = c.in-Err-load_run.ensures.stays;
+    survives = c.in-Err-load_run.ensures.survives;
+  };
+})
+
+-- a database that can't be opened
+pub returns-in-Err-clause-leaves : goal.returns-in-Err-clause-leaves
+returns-in-Err-clause-leaves g c = inl (record {
+  failed = c.in-Err.ensures.failed;
+  kept = c.in-Err.ensures.kept;
+  line = (c.in-Err.error, c.fault_of_open.ensures.line);
+})

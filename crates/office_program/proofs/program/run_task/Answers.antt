@@ -108,9 +108,22 @@ returns-in-Export-clause-uses g c =
     (λ ending used zero. rw (c.in-Export.is, ← c.deref-in-Export.ensures) used)
     c.export.ensures.uses
 
--- the database of a server that failed
-pub returns-in-Serve-clause-unserved : goal.returns-in-Serve-clause-unserved
-returns-in-Serve-clause-unserved g c =
-    let unserved = c.open_and_serve.ensures.unserved in
+-- what a fault leaves of it
+pub returns-in-Load-clause-leaves : goal.returns-in-Load-clause-leaves
+returns-in-Load-clause-leaves g c =
+    let leaves = c.load.ensures.leaves in
+    if_err c.load.result _ _ _
+    (λ shown left again.
+    rw (c.in-Load.is, ← c.deref-in-Load.ensures, ← c.deref-in-Load-2.ensures) left) leaves leaves
+
+pub returns-in-Serve-clause-leaves : goal.returns-in-Serve-clause-leaves
+returns-in-Serve-clause-leaves g c =
+    let leaves = c.open_and_serve.ensures.unserved in
     if_err c.open_and_serve.result _ _ _
-    (λ shown left again. rw (c.in-Serve.is, ← c.deref-in-Serve.ensures) left) unserved unserved
+    (λ shown left again. rw (c.in-Serve.is, ← c.deref-in-Serve.ensures) left) leaves leaves
+
+pub returns-in-Export-clause-leaves : goal.returns-in-Export-clause-leaves
+returns-in-Export-clause-leaves g c =
+    let leaves = c.export.ensures.leaves in
+    if_err c.export.result _ _ _
+    (λ shown left again. rw (c.in-Export.is, ← c.deref-in-Export.ensures) left) leaves leaves

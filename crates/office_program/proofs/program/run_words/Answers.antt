@@ -1,7 +1,7 @@
 use Rattle.std.proofs.Common.{Err, inl, inr}
-use Rattle.office_program.specs.Databases.{ServesNamed}
+use Rattle.office_program.specs.Databases.{LeavesNamedDatabase, ServesNamed}
 use Rattle.office_program.specs.Serve.{AreOfPort}
-use Rattle.office_program.proofs.DatabaseFacts.{ends_server, no_server}
+use Rattle.office_program.proofs.DatabaseFacts.{ends_using, uses_none}
 use Rattle.office_program.proofs.EndingFacts.{not_one}
 use Rattle.office_program.proofs.program.run_words.Goals as goal
 
@@ -38,26 +38,29 @@ pub returns-in-Ok-run_task-clause-uses : goal.returns-in-Ok-run_task-clause-uses
 returns-in-Ok-run_task-clause-uses g c = λ zero valid.
     (c.in-Ok.task, c.in-Ok.ensures.task, c.in-Ok-run_task.ensures.uses zero)
 
--- and leaves, if it is a server that fails
-pub returns-in-Ok-run_task-clause-unserved : goal.returns-in-Ok-run_task-clause-unserved
-returns-in-Ok-run_task-clause-unserved g c = λ one. inr (
+-- and what a fault leaves of it
+pub returns-in-Ok-run_task-clause-leaves : goal.returns-in-Ok-run_task-clause-leaves
+returns-in-Ok-run_task-clause-leaves g c = λ one. inr (
   c.in-Ok.task,
   c.in-Ok.ensures.task,
-  no_server g.E.Lines.tells (g.I.Read.remaining c.args.stdin.now)
-      (g.T.Texts.known c.args.files.now) c.in-Ok.task _ _ _ _ _ _
-      (c.in-Ok-run_task.ensures.faulty one),
+  uses_none g.E.Lines.tells (g.I.Read.remaining c.args.stdin.now)
+      (g.T.Texts.known c.args.files.now) c.in-Ok.task _ _ _ _ _ _ _
+      (c.in-Ok-run_task.ensures.faulty one) c.run_task.ensures.unused,
 )
 
-pub returns-clause-unserved : goal.returns-clause-unserved
-returns-clause-unserved g c = λ one. inr (
+pub returns-clause-leaves : goal.returns-clause-leaves
+returns-clause-leaves g c = λ one. inr (
   c.in-Ok.task,
   c.in-Ok.ensures.task,
-  ends_server g.E.Lines.tells c.in-Ok.task
-      (λ before shown. ServesNamed g.S.Store (g.D.Databases.known c.args.databases.now)
+  ends_using g.E.Lines.tells c.in-Ok.task
+      (λ before shown. LeavesNamedDatabase g.S.Store (g.D.Databases.known c.args.databases.now)
+      (g.D.Databases.known c.run_task.new.databases) (g.T.Texts.known c.args.files.now)
+      (ServesNamed g.S.Store (g.D.Databases.known c.args.databases.now)
       (g.D.Databases.known c.run_task.new.databases)
       (λ port. AreOfPort (g.N.Ports.opens c.args.net.now port) g.C.Clients.accepts
       g.C.Clients.takes_back g.R.Read.remaining g.W.Write.contents)
       (g.E.Write.contents c.args.err.now) (g.E.Write.contents before) (Err shown))
-      c.in-Err-run_task.fault c.run_task.new.err _ _ c.complain-ending.ensures.err_line
-      c.in-Err-run_task.ensures.unserved,
+      c.in-Ok.task shown)
+      _ c.in-Err-run_task.fault c.run_task.new.err _ _ c.complain-ending.ensures.err_line
+      c.in-Err-run_task.ensures.leaves c.run_task.ensures.unused,
 )

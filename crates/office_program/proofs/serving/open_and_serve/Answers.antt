@@ -5,13 +5,15 @@ use Rattle.office_program.proofs.serving.open_and_serve.Goals as goal
 
 -- no database was opened
 pub returns-in-Err-clause-unserved : goal.returns-in-Err-clause-unserved
-returns-in-Err-clause-unserved g c = inl (record {
-  failed = c.in-Err.ensures.failed;
-  of = c.in-Err.error;
-  line = c.fault_of_open.ensures.line;
-  other = c.fault_of_open.ensures.other;
-  silent = refl;
-})
+returns-in-Err-clause-unserved g c = inl (
+  record {
+    failed = c.in-Err.ensures.failed;
+    kept = c.in-Err.ensures.kept;
+    line = (c.in-Err.error, c.fault_of_open.ensures.line);
+  },
+  c.fault_of_open.ensures.other,
+  refl,
+)
 
 -- the database that was opened is given back after the last client
 pub returns-clause-serves : goal.returns-clause-serves
