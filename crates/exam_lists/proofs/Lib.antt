@@ -6,7 +6,6 @@ pub mod Counts
 pub mod Filters
 pub mod Passing
 pub mod Keys
-pub mod Regrouped
 pub mod Permutations
 pub mod Reordered
 pub mod Members

@@ -16,7 +16,7 @@ use Rattle.exam_model.specs.declared.conflicts.Conflict.{Conflict}
 use Rattle.exam_model.proofs.ConflictLemmas.{conflicts_exist, sum_of_conflicts}
 use Rattle.exam_model.proofs.PlaceLemmas.{number_at}
 use Rattle.exam_model.specs.Instance.{Session, IsInstance}
-use Rattle.exam_score.specs.Kinds.{TableKind, in_table, over_night, cost_in, table_cost, table_amount, by_table, with_night}
+use Rattle.exam_score.specs.Kinds.{TableKind, in_table, over_night, cost_in, table_cost, table_amount, with_night}
 use Rattle.exam_score.specs.PairSums.{ArePairParts}
 use Rattle.exam_score.specs.declared.amounts.Amounts.{Amounts}
 use Rattle.exam_score.specs.CostOrder.{kind_cost-swap}
@@ -24,7 +24,7 @@ use Rattle.exam_score.specs.CostRows.{IsTable}
 use Rattle.exam_score.specs.declared.cost_rows.CostRow.{CostRow}
 use Rattle.exam_score.proofs.CostRowLemmas.{free_at, table_beyond}
 use Rattle.exam_score.proofs.CostLemmas.{cost_in-small}
-use Rattle.exam_score.proofs.KindLemmas.{at_table, of_kinds}
+use Rattle.exam_score.proofs.KindLemmas.{of_kinds}
 use Rattle.exam_model.specs.declared.parts.Period.{Period}
 use Rattle.exam_model.specs.declared.parts.Weights.{Weights}
 use Rattle.exam_score.specs.Cost.{night_cost}
@@ -62,15 +62,6 @@ cost_more cost T xs i x total one lt here was is =
     ap₂ (λ a b. a + b) was
     (mul_comm one x.students ∙ ap (λ n. x.students * n) is ∙ ap (conflict_cost cost T) here)
     ∙ sym (sum_by_more (conflict_cost cost T) xs i x lt)
-
--- the costs of its exams' periods
-pub between_at : (I : Session) (T : Placing) (x : Conflict) (costs : Amounts ℕ)
-    → costs ≡ by_table (λ k. cost_between (table_cost I k) (period_of T x.exam)
-    (period_of T x.other)) → (k : TableKind)
-    → table_amount costs k
-    ≡ cost_between (table_cost I k) (period_of T x.exam) (period_of T x.other)
-between_at I T x costs are k = ap (λ a. table_amount a k) are
-    ∙ at_table (λ k. cost_between (table_cost I k) (period_of T x.exam) (period_of T x.other)) k
 
 -- ---- costs by the numbers of periods
 

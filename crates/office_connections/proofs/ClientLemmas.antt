@@ -189,23 +189,6 @@ module _ (AreTheirs : Bool → List Visit → Type 0) (Serve : List Visit → Ty
     fewer = inr (inr (refl, none_failed _ _ _ _ x.failed (inr shut), shut));
   }
 
--- a consequence for the served connections holds for all
-pub clients_follow : (AreTheirs Those : Bool → List Visit → Type 0)
-    (Serve Others : List Visit → Type 0)
-    → ((has_failed : Bool) (vs : List Visit) → AreTheirs has_failed vs → Those has_failed vs)
-    → ((vs : List Visit) → Serve vs → Others vs)
-    → (service : Service) (errors_old errors_new : Option (List ℕ))
-    → ServesClients AreTheirs Serve service errors_old errors_new
-    → ServesClients Those Others service errors_old errors_new
-clients_follow AreTheirs Those Serve Others those follows service errors_old errors_new x = record {
-  visits = x.visits;
-  has_failed = x.has_failed;
-  theirs = those x.has_failed x.visits x.theirs;
-  count = x.count;
-  served = follows x.visits x.served;
-  printed = x.printed;
-}
-
 -- the lines that were printed are those of at most as many faults as clients were served
 pub prints_faults : (AreTheirs : Bool → List Visit → Type 0) (Serve : List Visit → Type 0)
     (service : Service) (errors_old errors_new : Option (List ℕ))

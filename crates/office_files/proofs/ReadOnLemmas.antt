@@ -13,7 +13,7 @@ use Rattle.std.proofs.Math.Nat.{pow-le-pow_right, pow-suc}
 use Rattle.std.proofs.lemmas.Bool.{eq-eqb, ne_eqb, and_parts, lt-ltb, le-leb, lt-leb}
 use Rattle.std.proofs.lemmas.Bool.{cases_lt, cases_eq}
 use Rattle.std.proofs.lemmas.List.{take-append-drop, take-take, length-take, length-take-le}
-use Rattle.std.proofs.lemmas.List.{length-append, append-nil, get_or-take}
+use Rattle.std.proofs.lemmas.List.{length-append, append-nil}
 use Rattle.std.proofs.lemmas.List.Sums.{prefix_len-le-length, prefix_len_passes, prefix_len_stops}
 use Rattle.std.proofs.lemmas.List.Folds.{list_all_at, list_all_more}
 use Rattle.std.proofs.lemmas.List.FromFn.{get_or-range_with_len, length-range_with_len}
@@ -232,18 +232,6 @@ eight_have text end value few ends is =
       omega (arith, same, small, room),
     )
 
--- fewer than eight digits at the front of eight bytes are those of the line
-pub few_front : (line : List ℕ) (value count : ℕ) → 8 < length line → count < 8
-    → HasDigits (take 8 line) value count → NoDigitAt (take 8 line) count → IsFront line value count
-few_front line value count long less has whole =
-    let size = length-take-le 8 line (omega arith) in
-    record {
-      has = has_front 8 line value count has;
-      few = omega arith;
-      whole = λ _ lt.
-          ap is_ascii_digit (sym (get_or-take 8 line count 0 less)) ∙ whole (omega arith);
-    }
-
 -- all of these bytes are digits
 eight_are : (line : List ℕ) (value count : ℕ) → 8 < length line → 8 ≤ count
     → HasDigits (take 8 line) value count → count ≡ 8
@@ -341,13 +329,6 @@ module _ (line : List ℕ) (value count : ℕ) (is : IsFront line value count) w
             few_digits-long (front ++ b ∷ more)
             (omega (arith, size, length-append front (b ∷ more)))
       ]
-
-  -- there is no digit
-  pub at_start : count ≡ 0 → few_digits (first_field (ended_parts 44 line)) ≡ None
-  at_start none =
-      no_digit line (λ lt.
-      ap (λ k. is_ascii_digit (get_or line k 0)) (sym none)
-      ∙ is.whole (omega arith) (omega arith))
 
 -- digits have no blanks at their end
 trim_end_digits : (ds : List ℕ) → AllDigits ds → trim_end ds ≡ ds

@@ -130,11 +130,3 @@ module _ {A : Type 0} (heading : Heading) (read : List A → List (List ℕ) →
       let counted = counted_lines heading.word limit (length s.body) s.header.text headed in
       let many = s.spelled.as_many in
       (omega arith, omega arith)
-
-  -- the same of one that was read
-  pub section_counted : (limit end : ℕ) (lines : List Located) (items : List A)
-      (after : List Located) →
-      heading.limit ≡ Some limit → section_in heading read end lines ≡ Ok (items, after) →
-      (1 ≤ length items) × (length items ≤ limit)
-  section_counted limit end lines items after limited e =
-      counted_section limit lines items after limited (section_is end lines items after e)

@@ -7,10 +7,8 @@ use Rattle.exam_publish.specs.declared.fault.PublishFault.TheVariants as publish
 use Rattle.office_messages.specs.Reply.{PlainReply}
 use Rattle.office_messages.specs.FixedReplies.{unavailable}
 use Rattle.office_requests.specs.Answering.{refusal_reply}
-use Rattle.office_requests.specs.Texts.{status_of}
 use Rattle.office_requests.specs.declared.requests.Refusal.{Refusal}
 use Rattle.office_requests.specs.declared.requests.Refusal.TheVariants as unread
-use Rattle.office_requests.specs.declared.texts.FixedError.{FixedError}
 use Rattle.office_requests.specs.declared.texts.FixedError.TheVariants as error
 use Rattle.office_model.specs.Answers as answer
 use Rattle.office_model.specs.Answers.{PlainAnswer}
@@ -21,25 +19,6 @@ use Rattle.office_replies.specs.Refusals.{edit_reply, fault_reply_of, publish_re
 use Rattle.office_replies.specs.Replies.{reply_to}
 use Rattle.office_desk.specs.Answers.{IsRefusal}
 use Rattle.office_http.specs.Replying.{IsDone, IsReplyOf}
-
-of_error : (e : FixedError) → IsDone (status_of e) → ⊥
-of_error error.Caller done = done
-of_error error.Body done = done
-of_error (error.Denied rule) done = done
-of_error error.Path done = done
-of_error error.Exam done = done
-of_error error.Draft done = done
-of_error error.Number done = done
-of_error error.Publication done = done
-of_error error.Method done = done
-of_error error.Loaded done = done
-of_error error.NotLoaded done = done
-of_error error.DraftTaken done = done
-of_error error.BatchDiffers done = done
-of_error error.TooMany done = done
-of_error error.AlreadyPlaced done = done
-of_error error.NotPlaced done = done
-of_error error.SameExam done = done
 
 of_edit : (f : EditFault) → IsDone (edit_reply f).status → ⊥
 of_edit edit.NoSuch done = done

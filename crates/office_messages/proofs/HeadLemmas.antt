@@ -1,11 +1,11 @@
 -- From the parser's result for the first bytes of a stream to the whole stream.
-use Rattle.std.proofs.Common.{◌≡◌, ℕ, ◌+◌, ◌-◌, ◌<◌, ◌≤◌, List, [], ◌++◌, length, take, drop, refl}
+use Rattle.std.proofs.Common.{◌≡◌, ℕ, ◌+◌, ◌-◌, ◌<◌, ◌≤◌, List, [], ◌++◌, length, take, drop}
 use Rattle.std.proofs.Common.{sym, ap, subst, ◌∙◌, append_assoc, arith, length-append}
-use Rattle.std.proofs.Common.{take-append-drop, length-take, length-drop, slice_range, Option, Some}
+use Rattle.std.proofs.Common.{take-append-drop, length-take, length-drop, Option, Some}
 use Rattle.std.proofs.Common.{None}
-use Rattle.std.proofs.lemmas.List.{length-map, take-append-le, drop-append-le, drop-drop}
-use Rattle.std.proofs.Math.Seq.{drop-append_seam, take-append-add}
-use Rattle.httparse.specs.Grammar.{RequestHead, ReadsRequest, HasNoRequest, print_request}
+use Rattle.std.proofs.lemmas.List.{length-map, take-append-le, drop-append-le}
+use Rattle.std.proofs.Math.Seq.{drop-append_seam}
+use Rattle.httparse.specs.Grammar.{RequestHead, ReadsRequest, print_request}
 use Rattle.httparse.specs.Grammar.{is_token_byte, IsToken}
 use Rattle.httparse.specs.Spans.{IsRequestAt, RequestOverflows, name_and_value, header_bytes}
 use Rattle.httparse.specs.declared.spans.HeaderSpan.{HeaderSpan}
@@ -16,9 +16,8 @@ use Rattle.std.proofs.lemmas.Bool.Decides.{nat_tests}
 use Rattle.std.proofs.lemmas.List.Elements.{All-weaker}
 use Rattle.std.proofs.lemmas.Str.{IsUtf8-from_ascii}
 use Rattle.std.proofs.lemmas.Str.Ascii.{IsAscii-from_all}
-use Rattle.office_messages.specs.Stream.{PlainRequest, HasHead, RequestAt, caller_of}
+use Rattle.office_messages.specs.Stream.{HasHead, caller_of}
 use Rattle.office_messages.specs.StreamFaults.{LacksHead}
-use Rattle.office_messages.specs.Stream.{request_of}
 use Rattle.office_messages.specs.Heads.{Covers, CallerAt, IsHeadOf, HeadAt}
 use Rattle.office_messages.specs.declared.head.Head.{Head}
 
@@ -56,17 +55,6 @@ head_of_front bytes n h len is room small r =
         length-take n bytes,
       );
     }
-
--- if the first bytes have no head, the stream has no head within the limit
-pub no_head_of_front : (bytes : List ℕ) → HasNoRequest (take 16384 bytes) → LacksHead bytes
-no_head_of_front bytes none h rest x =
-    let text = print_request h in
-    let room : 16384 ≡ length text + (16384 - length text) = omega (arith, x.fits) in
-    none h (take (16384 - length text) rest) (
-      x.reads.0,
-      ap (take 16384) x.reads.1 ∙ ap (λ n. take n (text ++ rest)) room
-          ∙ take-append-add text rest (16384 - length text),
-    )
 
 -- too many headers in the first bytes are too many in all
 pub overflows_of_front : (bytes : List ℕ) (n : ℕ) (room : ℕ) → RequestOverflows room (take n bytes)
@@ -183,27 +171,3 @@ pub token_text : (bytes : List ℕ) → IsToken bytes → IsUtf8 bytes
 token_text bytes token =
     IsUtf8-from_ascii bytes (IsAscii-from_all bytes
     (All-weaker (λ b. IsTrue (is_token_byte b)) (λ b. b < 128) token_is_ascii bytes token.1))
-
--- the body is after the head
-pub body_of : (bytes : List ℕ) (x : Head) → HeadAt bytes x → x.body.end ≤ length bytes
-    → slice_range bytes x.body.start x.body.end ≡ take (x.body.end - x.body.start)
-    (drop x.body.start bytes)
-body_of bytes x at whole = refl
-
-pub request_at : (bytes : List ℕ) (x : Head) (r : PlainRequest) (at : HeadAt bytes x)
-    → x.body.end ≤ length bytes
-    → r ≡ request_of at.head (take (x.body.end - x.body.start) (drop x.body.start bytes))
-    → RequestAt r x.closes bytes (drop x.body.end bytes)
-request_at bytes x r at whole e =
-    record {
-      head = at.head;
-      after = drop x.body.start bytes;
-      has_head = at.has_head;
-      size = x.body.end - x.body.start;
-      framed = at.parts.framed;
-      whole = omega (arith, length-drop x.body.start bytes, whole);
-      request = e;
-      closing = at.parts.closing;
-      rest_is = ap (λ (n : ℕ). drop n bytes) (omega (arith, at.parts.ordered))
-          ∙ sym (drop-drop (x.body.end - x.body.start) x.body.start bytes);
-    }

@@ -6,7 +6,7 @@ use Rattle.office_messages.specs.declared.connection.ServeFault.{ServeFault}
 use Rattle.office_messages.specs.Reply.{PlainReply}
 use Rattle.office_messages.specs.Serve.{Serves, ServesFront}
 use Rattle.office_messages.specs.Stream.{PlainRequest}
-use Rattle.office_messages.specs.Visits.{Visit, ServesVisit, ServesVisits, faults_of, with_fault}
+use Rattle.office_messages.specs.Visits.{Visit, ServesVisits, faults_of, with_fault}
 use Rattle.office_messages.proofs.RunLemmas.{Lends, serves_along, serves_front_along, trace_keeps}
 
 with_fault-append : (ended : Result Served ServeFault) (fs gs : List ServeFault)
@@ -20,16 +20,6 @@ pub faults_more : (vs : List Visit) (v : Visit)
 faults_more [] v = refl
 faults_more (w ∷ vs) v =
     ap (with_fault w.ended) (faults_more vs v) ∙ with_fault-append w.ended (faults_of vs) _
-
-module _ {S : Type 0} (Answers : S → PlainRequest → PlainReply → S → Type 0) where
-  -- one more connection
-  pub visits_more : (vs : List Visit) (v : Visit) (old mid new : S)
-      → ServesVisits Answers vs old mid → ServesVisit Answers v mid new
-      → ServesVisits Answers (vs ++ v ∷ []) old new
-  visits_more [] v old mid new is served =
-      (new, subst (λ (s : S). ServesVisit Answers v s new) is served, refl)
-  visits_more (w ∷ vs) v old mid new (next, first, rest) served =
-      (next, first, visits_more vs v next mid new rest served)
 
 -- ---- along a map of states that carries each answer
 

@@ -1,5 +1,5 @@
 -- Seats of a timetable: in order, at their exams' places, and no two equal.
-use Rattle.std.proofs.Common.{◌≡◌, ℕ, suc, ◌+◌, ◌<◌, inl, inr, Bool, true, false, not, ◌&&◌, eqb, List, [], ◌∷◌, length, take, get_or, All, Ordering, Less, Equal, Greater, is_lt, nat_cmp, refl, sym, ◌∙◌, ap, ap₂, subst, arith, add-one, true≢false}
+use Rattle.std.proofs.Common.{◌≡◌, ℕ, ◌+◌, ◌<◌, inl, inr, Bool, true, false, not, ◌&&◌, eqb, List, [], ◌∷◌, take, get_or, All, Ordering, Less, Equal, Greater, is_lt, nat_cmp, refl, sym, ◌∙◌, ap, ap₂, subst, arith, true≢false}
 use Rattle.std.specs.Cmp.{IsTotalOrder}
 use Rattle.std.specs.List.{IsAllAdjacentAnswer, IsDistinct}
 use Rattle.std.specs.List.Sorted.{IsSortedByKey}
@@ -12,26 +12,13 @@ use Rattle.std.proofs.lemmas.List.{take_more}
 use Rattle.std.proofs.lemmas.List.Elements.{All-push}
 use Rattle.std.proofs.lemmas.List.Sorted.{IsPermutation-sym}
 use Rattle.std.proofs.lemmas.Map.Keys.{IsDistinct-IsPermutation}
-use Rattle.exam_lists.proofs.Chains.{IsChain, chain_from_index, index_from_chain}
+use Rattle.exam_lists.proofs.Chains.{IsChain, chain_from_index, chain_from_next, index_from_chain}
 use Rattle.sqlite_trees.proofs.ListLemmas.{all_weaker}
 use Rattle.exam_publish.specs.declared.seat_row.SeatRow.{SeatRow}
 use Rattle.exam_publish.specs.Rows.{RowBefore, RowsInOrder, is_pair_before, row_pair}
 use Rattle.exam_publish.specs.Seats.{HaveOwnSeats}
 use Rattle.exam_publish.proofs.ChangedLemmas.{before_from_test}
 use Rattle.office_records.specs.FoundPublications.{is_same_seat}
-
--- if each element is related to the next, it is to all later ones
-chain_from_next : {X : Type 0} (R : X → X → Type 0) → ((x y z : X) → R x y → R y z → R x z)
-    → (xs : List X)
-    → ((k : ℕ) (d : X) → k + 1 < length xs → R (get_or xs k d) (get_or xs (k + 1) d))
-    → IsChain R xs
-chain_from_next R trans [] next = tt
-chain_from_next R trans (x ∷ []) next = (tt, tt)
-chain_from_next R trans (x ∷ y ∷ xs) next =
-    let rest = chain_from_next R trans (y ∷ xs)
-    (λ k d within. rw add-one (rw add-one at (next (suc k) d (omega arith)))) in
-    let first : R x y = next 0 x (omega arith) in
-    ((first, all_weaker (R y) (R x) (λ z h. trans x y z first h) xs rest.0), rest)
 
 -- ---- in order
 

@@ -34,7 +34,6 @@ use Rattle.exam_publish.proofs.PlaceLemmas.{row_exists, rows_exist}
 use Rattle.exam_publish.proofs.RowLemmas.{pairs_in, rows_numbered}
 use Rattle.exam_score.specs.Penalty.{PersonalPenalty}
 use Rattle.office_tables.specs.declared.version.Version.{Version}
-use Rattle.office_tables.specs.declared.version.Version.TheVariants.{Two}
 use Rattle.office_tables.specs.Adopting.{AreReadable, IsForeign}
 use Rattle.office_tables.specs.Owner.{FitsOwner}
 use Rattle.office_tables.specs.Enrol.{FitsEnrol}
@@ -54,7 +53,7 @@ use Rattle.office_model.specs.Publishing.{publication_rows}
 use Rattle.office_records.specs.Publications.{placed_from, placed_rows, stored_seat}
 use Rattle.office_records.specs.PartShares.{part_rows, part_share_rows, plain_rows, room_rows}
 use Rattle.office_records.specs.SharesStored.{student_share_row, student_share_rows}
-use Rattle.office_records.specs.Representation.{RepresentsOffice, IsSound, TablesRepresentOffice, RepresentsOfficeIn}
+use Rattle.office_records.specs.Representation.{IsSound, TablesRepresentOffice, RepresentsOfficeIn}
 use Rattle.office_records.specs.TableRows.{some_dept, number_if, slot_rows, slots_from, enrol_row}
 
 -- ---- lists
@@ -337,6 +336,3 @@ pub not_foreign_in : (version : Version) (db : Database) (o : OfficeState)
 not_foreign_in version db o kept foreign =
     foreign version kept.held (are_readable kept.held o kept.represents kept.sound kept.office)
     kept.tables
-
-pub not_foreign : (db : Database) (o : OfficeState) → RepresentsOffice db o → IsForeign db → ⊥
-not_foreign = not_foreign_in Two

@@ -1,5 +1,5 @@
 -- From the rows of each table to an office's records, and back.
-use Rattle.std.proofs.Common.{◌≡◌, ℕ, List, [], ◌∷◌, map, Some, None, Option, refl, sym, ◌∙◌, ap, arith, subst}
+use Rattle.std.proofs.Common.{◌≡◌, ℕ, List, [], ◌∷◌, map, Some, None, Option, refl, sym, ◌∙◌, ap, subst}
 use Rattle.std.specs.Prelude.{is_some}
 use Rattle.std.proofs.lemmas.List.Sorted.{IsPermutation-sym, IsPermutation-trans}
 use Rattle.std.proofs.lemmas.Option.{none-some}
@@ -16,7 +16,7 @@ use Rattle.office_tables.specs.declared.enrol.EnrolRow.{EnrolRow}
 use Rattle.office_records.specs.Found.{AreDrafts, AreEnrolRows}
 use Rattle.office_records.specs.FoundBatches.{AreBatchRows, AreFoundBatches}
 use Rattle.office_records.specs.Found.{AreOwners, ArePublication, IsSessionRow, IsUnloaded}
-use Rattle.office_model.specs.Office.{OfficeState, Publication, Records, AreKept, AreRecords, IsOffice, IsPublication}
+use Rattle.office_model.specs.Office.{OfficeState, Publication, Records, AreRecords, IsOffice, IsPublication}
 use Rattle.office_records.specs.FoundPublications.{ArePublished}
 use Rattle.office_records.specs.Memory.{AreScoredDrafts, draft_at, memory_of, published_in, scored_draft}
 use Rattle.office_records.specs.Representation.{IsSound, TablesRepresentOffice, TablesRepresentRecords}
@@ -33,14 +33,6 @@ pub one_set : (I : Session) (rows : List EnrolRow) (E F : Enrolled) → AreEnrol
 one_set I rows E F e f =
     same_enrolments I E F e.enrolled f.enrolled
     (IsPermutation-trans _ _ _ (IsPermutation-sym _ _ e.rows) f.rows)
-
--- no batches may be kept
-pub no_batch_kept : AreKept []
-no_batch_kept = record {
-  few = omega arith;
-  within = λ k b no. absurd (omega (arith, no));
-  numbers = λ j k b before no. absurd (omega (arith, no));
-}
 
 some_is : {X : Type 0} {x y : X} → Some x ≡ Some y → x ≡ y
 some_is e = cc

@@ -190,7 +190,3 @@ pub same_represents : (db : Database) (t u : Tables) → HoldsTables db t → Ho
     → (o : OfficeState)
     → TablesRepresentOffice t o → TablesRepresentOffice u o
 same_represents = same_represents_in Two
-
-pub same_sound : (db : Database) (t u : Tables) → HoldsTables db t → HoldsTables db u → (o : OfficeState)
-    → IsSound t o → IsSound u o
-same_sound = same_sound_in Two

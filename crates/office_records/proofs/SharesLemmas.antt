@@ -1,5 +1,5 @@
 -- The shares of a publication, read back from rows.
-use Rattle.std.proofs.Common.{◌≡◌, ℕ, ◌+◌, ◌<◌, ◌≤◌, ◌^◌, List, [], ◌∷◌, ◌++◌, length, map, take, drop, All, Some, sym, ◌∙◌, ap, ap₂, subst, arith, take-append-drop, length-take, length-drop}
+use Rattle.std.proofs.Common.{◌≡◌, ℕ, ◌+◌, ◌<◌, ◌≤◌, ◌^◌, List, [], ◌∷◌, ◌++◌, length, map, take, drop, All, Some, ◌∙◌, ap, arith, length-take, length-drop}
 use Rattle.std.specs.List.{AllByRecursion}
 use Rattle.std.specs.Prelude.{IsPermutation}
 use Rattle.std.proofs.lemmas.List.Elements.{All-from_recursion, recursion_from_All}
@@ -21,7 +21,7 @@ use Rattle.office_tables.specs.declared.share_part.PartShareRow.{PartShareRow}
 use Rattle.office_tables.specs.declared.share_student.StudentShareRow.{StudentShareRow}
 use Rattle.office_model.specs.Office.{IsPublication, Publication}
 use Rattle.office_records.specs.FoundPublications.{HasPlacesAndSeats}
-use Rattle.office_records.specs.SharesStored.{AreShared, AreSharesOf, IsShare, student_share_row}
+use Rattle.office_records.specs.SharesStored.{AreShared, IsShare, student_share_row}
 use Rattle.office_records.specs.PartShares.{HasFewParts, HasShareOfEach, part_rows, plain_rows, room_rows}
 use Rattle.office_records.proofs.PartRowLemmas.{exam_part, length-plain, length-rooms, long, period_part, room_part, same_plain, same_rooms}
 use Rattle.office_records.proofs.ShareRowLemmas.{same_shares}
@@ -108,15 +108,6 @@ in_order I p students sorted parts rows only_students only_parts shared = (
 
 -- ---- from rows to shares
 
--- rows part by part
-pub joined : (exams periods : ℕ) (rows a b c : List PartShareRow) → a ≡ take exams rows
-    → b ≡ take periods (drop exams rows) → c ≡ drop periods (drop exams rows)
-    → a ++ (b ++ c) ≡ rows
-joined exams periods rows a b c is_a is_b is_c =
-    ap₂ (λ x y. x ++ y) is_a
-    (ap₂ (λ x y. x ++ y) is_b is_c ∙ take-append-drop periods (drop exams rows))
-    ∙ take-append-drop exams rows
-
 -- the shares that were read, part by part
 pub record AreRead (students : List StudentShareRow) (rows : List PartShareRow) (exams periods : ℕ)
     (shares : Sharing) : Type 0 where
@@ -124,15 +115,6 @@ pub record AreRead (students : List StudentShareRow) (rows : List PartShareRow) 
   pub of_exams : plain_rows 0 0 shares.exams ≡ take exams rows
   pub of_periods : plain_rows 1 0 shares.periods ≡ take periods (drop exams rows)
   pub of_rooms : room_rows 0 shares.rooms ≡ drop periods (drop exams rows)
-
-pub shares_are : (found sorted : List StudentShareRow) (parts rows : List PartShareRow)
-    (exams periods : ℕ) (shares : Sharing) → IsPermutation found sorted → IsPermutation parts rows
-    → AreRead sorted rows exams periods shares → AreSharesOf found parts shares
-shares_are found sorted parts rows exams periods shares moved order read = record {
-  of_students = subst (IsPermutation found) (sym read.personal) moved;
-  of_parts = subst (IsPermutation parts)
-      (sym (joined exams periods rows _ _ _ read.of_exams read.of_periods read.of_rooms)) order;
-}
 
 -- each exam, period and room has one share
 pub each_has : (I : Session) (sorted : List StudentShareRow) (rows : List PartShareRow)

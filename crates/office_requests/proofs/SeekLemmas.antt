@@ -13,9 +13,6 @@ use Rattle.office_requests.specs.Patterns.{rest_of_segment}
 use Rattle.office_requests.proofs.Plain.{EndsSegment, ArePlain}
 
 module _ {K : Type 0} where
-  step_nil : (b : ℕ) → step {K = K} b [] ≡ []
-  step_nil b = refl
-
   param_nil : (path : List ℕ) → (param_step {K = K} [] path).1 ≡ []
   unfolding param_step
   param_nil path = go (has_slash path) refl

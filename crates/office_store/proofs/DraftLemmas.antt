@@ -5,12 +5,12 @@ use Rattle.std.specs.List.{AllByRecursion}
 use Rattle.std.proofs.lemmas.Bool.Decides.{nat_tests}
 use Rattle.std.proofs.lemmas.List.{append-nil, take_more, length-take}
 use Rattle.std.proofs.lemmas.List.Elements.{filter-append}
-use Rattle.std.proofs.lemmas.List.Sorted.{IsPermutation-refl, IsPermutation-sym, IsPermutation-trans, IsPermutation-append, IsPermutation-map, IsPermutation-reverse, length_permutation}
+use Rattle.std.proofs.lemmas.List.Sorted.{IsPermutation-refl, IsPermutation-sym, IsPermutation-trans, IsPermutation-append, IsPermutation-reverse}
 use Rattle.std.proofs.lemmas.Option.{same_Some}
 use Rattle.exam_lists.proofs.Each.{each_none_pass}
 use Rattle.exam_lists.proofs.Keys.{all_of_other, each_left, none_of}
 use Rattle.exam_lists.proofs.Maps.{map_to_nil}
-use Rattle.exam_lists.proofs.Permutations.{IsPermutation-nil, same_one}
+use Rattle.exam_lists.proofs.Permutations.{IsPermutation-nil}
 use Rattle.sqlite_trees.proofs.ListLemmas.{IsPermutation-filter}
 use Rattle.sqlite.specs.Effect.{Database}
 use Rattle.exam_model.specs.Fits.{Fits}
@@ -22,10 +22,9 @@ use Rattle.office_tables.specs.TablesHeld.{HoldsTables}
 use Rattle.office_tables.specs.declared.draft.DraftRow.{DraftRow}
 use Rattle.office_tables.specs.declared.slot.SlotRow.{SlotRow}
 use Rattle.office_store.specs.Changes.{draft_put, draft_removed}
-use Rattle.office_model.specs.DraftCommands.{draft_in}
-use Rattle.office_model.specs.Office.{OfficeState, Records, set_at}
+use Rattle.office_model.specs.Office.{Records, set_at}
 use Rattle.office_model.proofs.RecordLemmas.{left_records, made_records}
-use Rattle.office_records.specs.Representation.{TablesRepresentOffice, TablesRepresentRecords, IsSound, IsScoredRow, RepresentsOffice, parts_of}
+use Rattle.office_records.specs.Representation.{TablesRepresentRecords, IsSound, IsScoredRow, RepresentsOffice, parts_of}
 use Rattle.office_records.specs.TableRows.{drafts_at, slots_at, slots_from, slot_rows, slot_row, number_if}
 
 -- ---- the rows of one draft
@@ -217,28 +216,6 @@ left_kept a b r d kept makes = record {
 }
 
 -- ---- the draft that is read
-
-one_or_none : (b : Bool) (n : ℕ) (ys : List ℕ) → IsPermutation (number_if b n) ys → ys ≡ number_if b n
-one_or_none false n [] p = refl
-one_or_none false n (y ∷ ys) p = absurd (let long = length_permutation _ _ p in omega (arith, long))
-one_or_none true n [] p = absurd (let long = length_permutation _ _ p in omega (arith, long))
-one_or_none true n (y ∷ []) p = ap (λ z. z ∷ []) (same_one n y p)
-one_or_none true n (y ∷ z ∷ ys) p =
-    absurd (let long = length_permutation _ _ p in omega (arith, long))
-
-pub draft_read : (t : Tables) (o : OfficeState) (d : ℕ) (rows : List DraftRow)
-    → TablesRepresentOffice t o
-    → IsPermutation (filter (λ r. eqb r.no d) t.draft) rows
-    → map (λ (r : DraftRow). r.no) rows ≡ number_if (is_some (draft_in d o)) d
-draft_read t None d rows represents p =
-    one_or_none false d _ (subst (λ l. IsPermutation l (map (λ (r : DraftRow). r.no) rows))
-    (ap (λ (t : Tables). map (λ (r : DraftRow). r.no)
-    (filter (λ r. eqb r.no d) t.draft)) represents)
-    (IsPermutation-map (λ (r : DraftRow). r.no) _ _ p))
-draft_read t (Some r) d rows represents p =
-    one_or_none (is_some (r.draft d)) d _
-    (subst (λ l. IsPermutation l (map (λ (r : DraftRow). r.no) rows)) (represents.draft d)
-    (IsPermutation-map (λ (r : DraftRow). r.no) _ _ p))
 
 -- ---- the rows that are inserted
 

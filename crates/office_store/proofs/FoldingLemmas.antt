@@ -4,7 +4,7 @@ use Rattle.std.specs.Prelude.{◌↔◌, nat_lt, ok_or}
 use Rattle.std.specs.declared.alloc.Global.{Global}
 use Rattle.std.specs.List.{AllByRecursion, IsAllAdjacentAnswer, flat_map}
 use Rattle.std.proofs.lemmas.Bool.Decides.{nat_tests}
-use Rattle.std.proofs.lemmas.List.{append-nil, length-map}
+use Rattle.std.proofs.lemmas.List.{length-map}
 use Rattle.std.proofs.lemmas.List.Elements.{All-from_recursion, recursion_from_All}
 use Rattle.exam_lists.proofs.Chains.{IsChain, chain_from_next, index_from_chain}
 use Rattle.exam_lists.proofs.Each.{each_weaker, each_append}
@@ -39,39 +39,12 @@ use Rattle.office_store.specs.Running.{ReturnsValue}
 use Rattle.office_store.specs.declared.editing.Judged.{Judged}
 use Rattle.office_store.specs.Viewing.{candidate_enrol_row}
 use Rattle.office_store.proofs.ConcernedLemmas.{concerned, students_few}
-use Rattle.office_store.proofs.LeavingLemmas.{survives_on, survives_same}
+use Rattle.office_store.proofs.LeavingLemmas.{survives_on}
 use Rattle.office_store.proofs.ViewLemmas.{exams_back, own_pairs, rows_read, sat_rise}
 
 -- ---- a connection that reads once more
 
 module _ {S : Type 0} (store : Ghosts S) where
-  pub read_nothing : (a : Held S) → HasRead store a a
-  read_nothing a = record {
-    clean = λ k. k;
-    survives = survives_same (state store a);
-    was_open = λ _ o. o;
-    kept = λ _ t represents. record {
-      was_open = λ o. o;
-      now = λ _. inl refl;
-      committed = λ _. refl;
-      mode = λ m. m;
-    };
-    mode = λ m. m;
-  }
-
-  pub same_itself : (a : Held S) → RowsUnchanged store a a
-  same_itself a clean t represents is = (
-    record {
-      was_open = is;
-      is_open = is;
-      now_is = refl;
-      committed_is = refl;
-      mode = refl;
-    },
-    record { changes = refl; last_rowid = refl },
-    refl,
-  )
-
   module _ (a b c : Held S) (first : HasRead store a b) (same : RowsUnchanged store a b)
       (next : HasRead store b c) where
     -- the tables are still there
@@ -154,21 +127,6 @@ module _ {S : Type 0} (store : Ghosts S) where
 -- ---- students, one after another
 
 module _ {S : Type 0} (store : Ghosts S) (all : List ℕ) where
-  pub first_taken : (a : Held S) (fold : Folded) → RepresentsPairs fold []
-      → HasTaken store a a fold 0 all all
-  first_taken a fold represents = record {
-    pairs = [];
-    represents = represents;
-    counted = refl;
-    few = omega arith;
-    below = All-from_recursion (λ s. All (λ p. p.student < s) []) all (each all);
-    are = λ E had. refl;
-  }
-    where
-      each : (ss : List ℕ) → AllByRecursion (λ s. All (λ (p : Pair). p.student < s) []) ss
-      each [] = tt
-      each (s ∷ ss) = (All-from_recursion (λ (p : Pair). p.student < s) [] tt, each ss)
-
   -- there is room for the next student's exams
   pub next_taken : (a b : Held S) (fold : Folded) (count : ℕ) (rest : List ℕ) (s : ℕ)
       (others exams : List ℕ) → HasTaken store a b fold count all rest → rest ≡ s ∷ others
@@ -282,13 +240,6 @@ module _ {S : Type 0} (store : Ghosts S) (all : List ℕ) where
 
       mapped : length (pairs_sat (Some s) exams) ≡ length exams
       mapped = length-map exams (pair_sat s)
-
-  pub last_taken : (a b : Held S) (fold : Folded) (count : ℕ) (rest : List ℕ)
-      (taken : HasTaken store a b fold count all rest) → rest ≡ [] → (E : Enrolled)
-      → HadEnrolments store a b E → taken.pairs ≡ pairs_of_students E all
-  last_taken a b fold count rest taken is E had =
-      sym (append-nil taken.pairs) ∙ ap (λ l. taken.pairs ++ pairs_of_students E l) (sym is)
-      ∙ taken.are E had
 
 -- the rest ascends too
 pub rise_on : (rest : List ℕ) (s : ℕ) (others : List ℕ) → rest ≡ s ∷ others → IsAscending rest

@@ -119,12 +119,6 @@ memory_scored r m I E is kept d draft at =
 
 -- ---- enrolments that a batch made, or left
 
--- they are of the same number of exams
-pub latest_exams : (made : Option Enrolled) (E : Enrolled) (n : ℕ)
-    → IfSome made (λ F. length F ≡ n) → length E ≡ n → length (current_enrolments made E) ≡ n
-latest_exams (Some F) E n new old = new
-latest_exams None E n new old = old
-
 pub made_exams : (made : Option Enrolled) (E : Enrolled) (n : ℕ) → length (current_enrolments made E) ≡ n
     → IfSome made (λ F. length F ≡ n)
 made_exams (Some F) E n is = is

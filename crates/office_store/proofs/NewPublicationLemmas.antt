@@ -83,18 +83,7 @@ rows_among students shares =
 
 -- ---- the session
 
-pub same_session : (r : Records) (I : Session) (E : Enrolled)
-    → memory_of (Some r) ≡ Some (I, E) → r.session ≡ I
-same_session r I E memory = ap (λ (p : Session × Enrolled). p.0) both
-  where
-    both : ◌≡◌ {A = Session × Enrolled} (r.session, r.enrolments) (I, E)
-    both = cc
-
 -- ---- refusals
-
--- a failed statement, or out of memory, is not a refusal of the draft
-pub only_failed : (d : ℕ) (r : Records) (e : StoreFault) → e ≡ Store → Publishes d r (Err e)
-only_failed d r e is = subst (IsFault (draft_published d (Some r))) (sym is) tt
 
 -- a draft that may not be published is refused for that
 refused_so : (d : ℕ) (r : Records) (T : Placing) (fault : PublishFault) → r.draft d ≡ Some T

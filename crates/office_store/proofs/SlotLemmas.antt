@@ -204,8 +204,3 @@ all_moved d new [] t = refl
 all_moved d new (e ∷ exams) t =
     ap (after_all move_made (map (new_place d new) exams)) (one_moved d e (place_of new e) t)
     ∙ all_moved d new exams (slot_put d e (place_of new e) t)
-
-pub row_is : (d e n p r : ℕ) (at : Place) → n ≡ e → p ≡ at.period → r ≡ at.room
-    → (let row : SlotRow = record { draft = d; exam = n; period = p; room = r } in row)
-    ≡ slot_row d e at
-row_is d e n p r at exam period room = cc

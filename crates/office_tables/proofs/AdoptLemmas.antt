@@ -109,12 +109,6 @@ module _ {S X : Type 0} {version : Version} {store : Ghosts S} {is : Database �
       → Adopts version store js b c r → Adopts version store (λ db y. is db x × js db y) a c r
   both second = both_found second (λ db y p q. (p, q))
 
-  -- a second reader that failed
-  pub failed : {Y : Type 0} {js : Database → Y → Type 0} {c : Held S} {r : Result Y Error}
-      (e : Error) → Looks version (state store b) (state store c) → IsErrAnd r (λ y. y ≡ e)
-      → Adopts version store js a c r
-  failed {c = c} e looks err = failed_first e (looks_then c looks) err
-
 -- ---- any version
 
 pub one_version : (v w : Version) → schema_of v ≡ schema_of w → v ≡ w

@@ -1,6 +1,6 @@
 -- Two lists that are traversed together, by their numbers.
 use Rattle.std.proofs.Common.{◌≡◌, ◌≢◌, ◌≤◌, ◌<◌, ◌+◌, ℕ, List, [], ◌∷◌, ◌++◌, map, take, length, get_or, sym, ap, ap₂, ◌∙◌}
-use Rattle.std.proofs.lemmas.List.{get_or-map, length-map, map-append, map_more, take_all}
+use Rattle.std.proofs.lemmas.List.{get_or-map, map-append, map_more, take_all}
 use Rattle.sqlite_value.specs.Order.{Row}
 use Rattle.office_tables.specs.declared.nights.NightRow.{NightRow}
 use Rattle.office_tables.specs.Nights.{night_columns}
@@ -34,11 +34,6 @@ module _ {X : Type 0} (first second : X → Row) (number : X → ℕ) (rows : Li
         (sym same))
         ∙ sym (map_more night_columns nights i d within),
   )
-
-  -- lists of different lengths
-  pub uneven : length rows ≢ length nights → map number rows ≢ map number_of_night nights
-  uneven apart same =
-      apart (sym (length-map rows number) ∙ ap length same ∙ length-map nights number_of_night)
 
   -- a row and its amount over night have different numbers
   pub differ : (i : ℕ) (row : X) (d : NightRow) → i < length rows → i < length nights

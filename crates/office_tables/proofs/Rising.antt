@@ -14,7 +14,7 @@ use Rattle.sqlite_trees.specs.View.{is_int}
 use Rattle.sqlite_trees.proofs.ListLemmas.{all_weaker, ascending-append}
 use Rattle.sqlite_value.specs.declared.keys.Collation.TheVariants.{Binary}
 use Rattle.sqlite_value.specs.declared.value.Value.{Value}
-use Rattle.sqlite_value.specs.declared.value.Value.TheVariants.{Int, Null}
+use Rattle.sqlite_value.specs.declared.value.Value.TheVariants.{Int}
 use Rattle.sqlite_value.specs.Keys.{ascending}
 use Rattle.sqlite_value.specs.Order.{Row, column}
 use Rattle.sqlite_value.proofs.OrderLemmas.{value_cmp-Int}
@@ -205,9 +205,3 @@ rising-take at i rows h = (
   sym (take-map (λ r. column r at) i rows) ∙ ap (take i) h.1 ∙ take-map Int i h.0,
   ascending-take i h.0 h.2,
 )
-
--- a column beyond the end of a row is NULL
-pub past : (row : Row) (at : ℕ) → length row ≤ at → column row at ≡ Null
-past [] at h = refl
-past (v ∷ row) zero h = absurd (omega (arith, h))
-past (v ∷ row) (suc at) h = past row at (omega (arith, h))
