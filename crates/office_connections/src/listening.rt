@@ -16,15 +16,23 @@ pub trait Ports {
     /// The clients that connect to a port.
     type Opened: Clients + Drop;
 
-    // Listening on this port, 0 for any, gives these clients; none if it failed.
-    ghost opens: { Self → ℕ → Option Self.Opened → Type 0 };
+    // From the first state to the second these clients were got by listening on this port, 0 for
+    // any; none if it failed.
+    ghost opens: { Self → ℕ → Option Self.Opened → Self → Type 0 };
+
+    // From the first state to the second these clients were given back.
+    ghost closes: { Self → Self.Opened → Self → Type 0 };
 
     /// Listens on this port; 0 means any free port.
-    fn listen(&self, port: u16) -> io::Result<Listening<Self::Opened>>
+    fn listen(&mut self, port: u16) -> io::Result<Listening<Self::Opened>>
         ensures port { IfOk result (λ listening. IsPortOf port listening.port) }
         ensures opened { IfOk result (λ listening.
-            opens self.now port (Some listening.clients)) }
-        ensures failed { IfErr result (λ _. opens self.now port None) };
+            opens self.old port (Some listening.clients) self.new) }
+        ensures failed { IfErr result (λ _. opens self.old port None self.new) };
+
+    /// Takes back the clients of a port, and so the writers that were handed back to them.
+    fn close(&mut self, clients: Self::Opened)
+        ensures { closes self.old clients self.new };
 }
 
 /// A port that is listened on.
@@ -68,15 +76,17 @@ impl Clients for Sockets {
 }
 
 // The system's ports, of 127.0.0.1 only.
-impl Ports for HostRuntime {
+impl Ports for &HostRuntime {
     ghost use Rattle.std.specs.Prelude.{⊤};
 
     type Opened = Sockets;
 
-    ghost opens = { λ net port clients. ⊤ };
+    ghost opens = { λ old port clients new. ⊤ };
 
-    fn listen(&self, port: u16) -> io::Result<Listening<Sockets>> {
-        let listener = TcpListener::bind(self, SocketAddr::from((Ipv4Addr::LOCALHOST, port)))?;
+    ghost closes = { λ old clients new. ⊤ };
+
+    fn listen(&mut self, port: u16) -> io::Result<Listening<Sockets>> {
+        let listener = TcpListener::bind(*self, SocketAddr::from((Ipv4Addr::LOCALHOST, port)))?;
         let found = match port {
             0 => listener.local_addr()?.port(),
             asked => asked,
@@ -86,6 +96,9 @@ impl Ports for HostRuntime {
             clients: Sockets { listener },
         })
     }
+
+    // No longer listens.
+    fn close(&mut self, _clients: Sockets) {}
 }
 
 /// Prints `listening 127.0.0.1:PORT` and flushes.

@@ -1,4 +1,5 @@
 -- Outcomes of solutions, one after another.
+use Rattle.std.proofs.Math.Bool.{and-true, and_assoc, or-false, or-true}
 use Rattle.std.proofs.Common.{◌≡◌, ◌∙◌, List, [], ◌∷◌, ◌++◌, ℕ, Bool, true, false, Option}
 use Rattle.std.proofs.Common.{ap, ap₂, append-nil, codes, inl, inr, refl, string_bytes, subst, sym}
 use Rattle.std.specs.Prelude.{◌||◌, ◌&&◌}
@@ -21,22 +22,6 @@ use Rattle.office_program.specs.declared.faults.ProgramFault.{ProgramFault}
 use Rattle.office_program.specs.declared.judging.Found.{Found}
 use Rattle.office_program.specs.declared.judging.VerdictLine.{VerdictLine}
 
-or_false : (b : Bool) → (b || false) ≡ b
-or_false true = refl
-or_false false = refl
-
-or_true : (b : Bool) → (b || true) ≡ true
-or_true true = refl
-or_true false = refl
-
-and_true : (b : Bool) → b ≡ (b && true)
-and_true true = refl
-and_true false = refl
-
-and_then : (a b c : Bool) → ((a && b) && c) ≡ (a && (b && c))
-and_then true b c = refl
-and_then false b c = refl
-
 -- the line of one more fault
 told_more : {W : Type 0} (tells : W → List ℕ → Bool → W → Type 0) (os : List Outcome) (o : Outcome)
     (a b c : W) (before last : Bool) → TellsAll tells os a before b → TellsOne tells o b last c
@@ -47,7 +32,7 @@ told_more tells [] o a b c before last so_far next = (
   true,
   subst (λ s. TellsOne tells o s last c) so_far.1 next,
   (refl, refl),
-  ap (λ is. is && last) so_far.0 ∙ and_true last,
+  ap (λ is. is && last) so_far.0 ∙ sym (and-true last),
 )
 told_more tells (x ∷ os) o a b c before last so_far next = (
   so_far.0,
@@ -55,7 +40,7 @@ told_more tells (x ∷ os) o a b c before last so_far next = (
   so_far.2 && last,
   so_far.3,
   told_more tells os o so_far.0 b c so_far.2 last so_far.4 next,
-  ap (λ is. is && last) so_far.5 ∙ and_then so_far.1 so_far.2 last,
+  ap (λ is. is && last) so_far.5 ∙ and_assoc so_far.1 so_far.2 last,
 )
 
 -- a property of all outcomes and of one more
@@ -67,7 +52,7 @@ flat_more f os o =
 any_more : (p : Outcome → Bool) (os : List Outcome) (o : Outcome)
     → (list_any p os || p o) ≡ list_any p (os ++ o ∷ [])
 any_more p os o =
-    ap (λ b. list_any p os || b) (sym (or_false (p o))) ∙ sym (list_any-append p os (o ∷ []))
+    ap (λ b. list_any p os || b) (sym (or-false (p o))) ∙ sym (list_any-append p os (o ∷ []))
 
 module _ {W : Type 0} (tells : W → List ℕ → Bool → W → Type 0) (I : Session) (E : Enrolled)
     (files : List ℕ → Known) (form : LineForm) where
@@ -142,8 +127,8 @@ module _ {W : Type 0} (tells : W → List ℕ → Bool → W → Type 0) (I : Se
     printed = printed;
     is_written = true;
     told = (refl, refl);
-    said = and_true found.is_err_written;
-    fault = sym (or_false found.has_fault);
+    said = sym (and-true found.is_err_written);
+    fault = sym (or-false found.has_fault);
     breach = refl;
   }
 
@@ -180,6 +165,6 @@ module _ {W : Type 0} (tells : W → List ℕ → Bool → W → Type 0) (I : Se
     told = subst (λ line. tells errors_old (printed_name path ++ codes ": " ++ line ++ 10 ∷ []) is_err_written
         errors_new) is told;
     said = refl;
-    fault = sym (or_true found.has_fault);
-    breach = sym (or_false found.has_breach);
+    fault = sym (or-true found.has_fault);
+    breach = sym (or-false found.has_breach);
   }

@@ -7,3 +7,4 @@ mod SourceFacts
 mod CompareSources
 mod CheckAllFacts
 mod DatabaseFacts
+pub mod NoticeFacts

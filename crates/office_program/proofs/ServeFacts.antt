@@ -1,6 +1,6 @@
 -- Facts of an office, from the connections that it served.
 use Rattle.std.proofs.Common.{◌≡◌, ◌≢◌, ◌⊎◌, ◌∙◌, ℕ, Bool, true, false, List, [], Option}
-use Rattle.std.proofs.Common.{Result, Ok, Err, IfErr, IfOk, IsTrue, arith, inl, inr, refl, subst, sym}
+use Rattle.std.proofs.Common.{Some, Result, Ok, Err, IfErr, IfOk, IsTrue, arith, inl, inr, refl, subst, sym}
 use Rattle.std.proofs.lemmas.List.Elements.{All-nil}
 use Rattle.std.specs.Prelude.{MatchBool}
 use Rattle.std.specs.Io.KnownBytes.{Appends, Keeps}
@@ -8,7 +8,7 @@ use Rattle.std.proofs.KnownBytes.{Appends-nil}
 use Rattle.sqlite.specs.Held.{Held, state}
 use Rattle.sqlite.specs.Store.{Ghosts}
 use Rattle.sqlite.proofs.StateLemmas.{survives_then}
-use Rattle.office_connections.specs.Clients.{ServesWhileOpen}
+use Rattle.office_connections.specs.Clients.{AreOfClients, ServesWhileOpen}
 use Rattle.office_connections.specs.Lines.{IsPortOf, PrintsFaults, listening_line}
 use Rattle.office_connections.proofs.ClientLemmas.{prints_faults, served_open}
 use Rattle.office_connections.proofs.ClientLemmas.{visits_keep}
@@ -29,7 +29,8 @@ use Rattle.office_store.specs.Leaving.{LeavesAsItWas}
 use Rattle.office_store.specs.Running.{IsCommitted}
 use Rattle.office_store.proofs.LeavingLemmas.{survives_same}
 use Rattle.office_store.proofs.RunLemmas.{now_still}
-use Rattle.office_program.specs.Serve.{AsksWhetherShut, IsStoreShut, LeavesPort, OfficeServes}
+use Rattle.office_program.specs.Serve.{AreOfPort, AsksWhetherShut, IsStoreShut, LeavesPort}
+use Rattle.office_program.specs.Serve.{OfficeServes}
 use Rattle.office_program.specs.Serve.{PrintsServed, SaysWhetherShut, ServesTerms, is_said_shut}
 use Rattle.office_program.specs.declared.ending.Ending.{Ending}
 use Rattle.office_program.specs.declared.faults.ProgramFault.{ProgramFault}
@@ -136,6 +137,21 @@ terms_follow AreTheirs Those Serve Others IsClosed IsGone those follows gone ter
         | inr (inr closed) ↦ inr (inr (closed.0, closed.1, gone closed.2))
       ];
     }
+
+-- the clients of a port that was listened on, who were given back
+pub came_to : {N I R W : Type 0} (opens : N → Option I → N → Type 0) (closes : N → I → N → Type 0)
+    (accepts : I → Option (R × W) → I → Type 0) (takes_back : I → W → I → Type 0)
+    (remaining : R → Option (List ℕ)) (contents : W → Option (List ℕ)) (old during new : N)
+    (first last : I) → opens old (Some first) during → closes during last new
+    → (has_failed : Bool) (visits : List Visit)
+    → AreOfClients accepts takes_back remaining contents first last has_failed visits
+    → AreOfPort opens closes accepts takes_back remaining contents old new has_failed visits
+came_to opens closes accepts takes_back remaining contents old during new first last opened closed
+    false visits theirs =
+    inr (record { first = first; during = during; opened = opened; last = last; theirs = theirs; closed = closed })
+came_to opens closes accepts takes_back remaining contents old during new first last opened closed
+    true visits theirs =
+    inr (record { first = first; during = during; opened = opened; last = last; theirs = theirs; closed = closed })
 
 -- a fault of writing is none of listening
 pub write_is_no_listen : (shown : ProgramFault) → shown ≡ CannotWrite → shown ≢ CannotListen

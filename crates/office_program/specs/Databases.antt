@@ -1,6 +1,6 @@
 -- What is known of the database at a path, and what a task makes of it.
 use Rattle.std.specs.Prelude.{◌≡◌, ◌≢◌, ◌⊎◌, Bool, IsTrue, List, None, Option, Result, Ok, Err, Some}
-use Rattle.std.specs.Prelude.{string_bytes, ℕ}
+use Rattle.std.specs.Prelude.{[], false, string_bytes, ℕ}
 use Rattle.sqlite.specs.Held.{Held, state}
 use Rattle.sqlite.specs.State.{HasCleanDisk, Survives}
 use Rattle.sqlite.specs.Store.{Ghosts}
@@ -121,7 +121,8 @@ module _ {S : Type 0} (store : Ghosts S) where
       UsesDatabase (old database) (new database)
       (ServesIn (AreOf terms.port) terms errors_old errors_new (Ok ending))
   ServesNamed old new AreOf errors_old errors_new (Err shown) database terms =
-      (FailsToOpen old new database shown × (shown ≢ CannotListen) × (errors_new ≡ errors_old))
+      (FailsToOpen old new database shown × (shown ≢ CannotListen) × (errors_new ≡ errors_old)
+      × AreOf terms.port false [])
       ⊎ UsesDatabase (old database) (new database)
       (ServesIn (AreOf terms.port) terms errors_old errors_new (Err shown))
 

@@ -10,6 +10,8 @@ pub mod TaskFaults
 pub mod FaultLines
 pub mod Serve
 pub mod LongWork
+pub mod Surroundings
+pub mod Causes
 pub mod Tasks
 pub mod Endings
 pub mod CheckAllLine

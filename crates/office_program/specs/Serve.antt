@@ -73,18 +73,24 @@ FileServes store old new visits = HasCleanDisk (state store new)
     → (next : OfficeState) × ServesAllByView visits there next
     × (IsTrue (state store new).is_open → IsOfficeOf (state store new).now next)
 
-module _ {I R W : Type 0} (opens : Option I → Type 0) (accepts : I → Option (R × W) → I → Type 0)
-    (takes_back : I → W → I → Type 0)
-    (remaining : R → Option (List ℕ)) (contents : W → Option (List ℕ)) where
-  -- the connections are those of the clients of the port; there is none if no port was listened on,
-  -- or if that failed
+module _ {N I R W : Type 0} (opens : N → Option I → N → Type 0) (closes : N → I → N → Type 0)
+    (accepts : I → Option (R × W) → I → Type 0) (takes_back : I → W → I → Type 0)
+    (remaining : R → Option (List ℕ)) (contents : W → Option (List ℕ)) (old new : N) where
+  -- a port was listened on; the connections are those of its clients, to whom the writers were
+  -- handed back; then the clients were given back, of whom this is the last state
+  pub record CameTo (has_failed : Bool) (visits : List Visit) : Type 0 where
+    pub first : I
+    pub during : N
+    pub opened : opens old (Some first) during
+    pub last : I
+    pub theirs : AreOfClients accepts takes_back remaining contents first last has_failed visits
+    pub closed : closes during last new
+
+  -- the connections are those of the clients of the port; there is none, and nothing happened to
+  -- the port, if it was not listened on, or if that failed
   abbrev pub AreOfPort : Bool → List Visit → Type 0
-  AreOfPort false visits = (visits ≡ [])
-      ⊎ ((start : I) × opens (Some start) × (new : I)
-      × AreOfClients accepts takes_back remaining contents start new false visits)
-  AreOfPort true visits = (opens None × (visits ≡ []))
-      ⊎ ((start : I) × opens (Some start) × (new : I)
-      × AreOfClients accepts takes_back remaining contents start new true visits)
+  AreOfPort false visits = ((visits ≡ []) × (new ≡ old)) ⊎ CameTo false visits
+  AreOfPort true visits = (opens old None new × (visits ≡ [])) ⊎ CameTo true visits
 
 -- as many clients were served as the terms say; or no client was, because of another fault than of
 -- listening; or fewer were, because listening or an accept failed; or the store is closed after the

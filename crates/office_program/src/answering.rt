@@ -4,9 +4,12 @@ ghost use Rattle.office_messages.specs.Heads.{plain_request};
 ghost use Rattle.office_messages.specs.Reply.{PlainReply, plain_reply};
 ghost use Rattle.office_messages.specs.Stream.{PlainRequest};
 ghost use Rattle.office_model.specs.declared.fault.StoreFault.{StoreFault};
+ghost use Rattle.office_program.specs.LongWork.{publishing_line};
 ghost use Rattle.office_program.specs.Serve.{AsksWhetherShut, is_said_shut};
+ghost use Rattle.office_program.specs.Surroundings.{MayNoteLarge};
 
 use crate::notices::{LongWork, announce};
+use crate::surroundings::Surroundings;
 use office_connections::MayShut;
 use office_http::{Alter, Desk, Routes, StoreFault, reply};
 use office_messages::{Machine, Reply, Request, Status};
@@ -46,18 +49,40 @@ impl<S: Alter> RequestDesk for Desk<S> {
     }
 }
 
+/// A publication in the office of a database, about which a line may be written.
+#[derive(Drop)]
+pub(crate) struct Publishing<'a, H: Surroundings> {
+    host: &'a H,
+    database: &'a str,
+    ghost may: { MayNoteLarge (H.finds host.now) (H.shows host.now) (H.allows host.now)
+        database.now (publishing_line database.now) },
+}
+
+impl<'a, H: Surroundings> Publishing<'a, H> {
+    pub(crate) fn new(host: &'a H, database: &'a str) -> Publishing<'a, H>
+        requires { MayNoteLarge (H.finds host.now) (H.shows host.now) (H.allows host.now)
+            database.now (publishing_line database.now) }
+    {
+        Publishing { host, database }
+    }
+
+    // Writes that a publication begins, if the file is large and a terminal shows it.
+    fn announce(&self) {
+        announce(self.host, LongWork::Publishing(self.database));
+    }
+}
+
 /// The desk of an office in a database. It checks after each reply whether its store is closed.
 #[derive(Drop)]
-pub(crate) struct ServingDesk<'a, 'b, D> {
-    pub(crate) rt: &'b HostRuntime,
-    pub(crate) database: &'b str,
+pub(crate) struct ServingDesk<'a, 'b, D, H: Surroundings> {
+    pub(crate) publishing: &'b Publishing<'b, H>,
     pub(crate) desk: &'a mut D,
     pub(crate) routes: &'b Routes,
     /// Whether the store was closed after the last reply.
     pub(crate) is_shut: bool,
 }
 
-impl<D: RequestDesk> Machine for ServingDesk<'_, '_, D> {
+impl<D: RequestDesk, H: Surroundings> Machine for ServingDesk<'_, '_, D, H> {
     ghost use Rattle.std.specs.Prelude.{◌≡◌};
     ghost use Rattle.office_program.specs.Serve.{AsksWhetherShut};
 
@@ -69,7 +94,7 @@ impl<D: RequestDesk> Machine for ServingDesk<'_, '_, D> {
 
     fn answer(&mut self, alloc: Global, request: &Request<'_>) -> Reply {
         if asks_to_publish(request) {
-            announce(self.rt, LongWork::Publishing(self.database));
+            self.publishing.announce();
         }
         let answered = self.desk.reply_to(alloc, self.routes, request);
         self.is_shut = is_shut_after(answered.status, self.desk);
@@ -77,7 +102,7 @@ impl<D: RequestDesk> Machine for ServingDesk<'_, '_, D> {
     }
 }
 
-impl<D> MayShut for ServingDesk<'_, '_, D> {
+impl<D, H: Surroundings> MayShut for ServingDesk<'_, '_, D, H> {
     ghost is_shut = { λ m. m.is_shut };
 
     fn is_shut(&self) -> bool {

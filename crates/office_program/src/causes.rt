@@ -1,109 +1,108 @@
-// What is printed about the cause of a fault, after its line, on a terminal or to a journal.
+// What is written about the cause of a fault, after its line, to a terminal or to a journal.
+ghost use Rattle.std.specs.Prelude.{◌≡◌, ◌⊎◌, IsTrue, true};
+ghost use Rattle.office_check.specs.Names.{printed_name};
+ghost use Rattle.office_program.specs.Causes.{cause_name, database_path, input_name};
+ghost use Rattle.office_program.specs.Causes.{instance_path, solution_path, source_name};
+
+use crate::cause_lines::{Cause, Source};
 use crate::explaining::fault_words;
 use crate::faults::ProgramFault;
+use crate::readers::TextReader;
 use crate::sources::is_stdin;
+use crate::surroundings::{FoundKind, Surroundings};
+use crate::texts::Texts;
 use crate::words::Task;
-use office_check::FileName;
 use office_files::{FaultKind, FileFault, instance_text};
 use office_http::StoreFault;
 use office_model::kind_number;
 use sqlite::Error;
-use std::io::{IsTerminal, Read, Write};
-use std::{env, fmt, fs, io};
+use std::io;
 
-// Prints the cause of a task's fault, if standard error is a terminal or goes to a journal.
-pub(crate) fn announce_cause(rt: &HostRuntime, task: &Task, fault: &ProgramFault<'_>) {
-    let mut terminal = rt.stderr();
-    if terminal.is_terminal() || env::var(rt, "JOURNAL_STREAM").is_ok() {
-        // The fault's own line is printed whether or not this one can be.
-        let _ = print_cause(rt, task, fault, &mut terminal);
+// Writes the cause of a task's fault, if a terminal or a journal shows it.
+pub(crate) fn announce_cause<H: Surroundings, T: Texts>(
+    host: &H,
+    files: &T,
+    task: &Task,
+    fault: &ProgramFault<'_>,
+)
+    requires { H.shows host.now true ⊎ H.logs host.now true
+        → IsTrue (H.allows host.now (cause_name task.now fault.now)) }
+{
+    if host.is_terminal() || host.is_journal() {
+        note_cause(host, files, task, fault);
     }
 }
 
-// Prints the line of a fault's cause, if there is more to say about it.
-fn print_cause<W: Write>(
-    rt: &HostRuntime,
-    task: &Task,
-    fault: &ProgramFault<'_>,
-    out: &mut W,
-) -> io::Result<()> {
+// Writes the line of a fault's cause, if there is more to say about it.
+fn note_cause<H: Surroundings, T: Texts>(host: &H, files: &T, task: &Task, fault: &ProgramFault<'_>)
+    requires { IsTrue (H.allows host.now (cause_name task.now fault.now)) }
+{
     match fault {
-        ProgramFault::CannotRead(path) => print_unread(rt, input_of(task, path), out),
+        ProgramFault::CannotRead(path) => note_unread(host, files, input_of(task, path)),
         ProgramFault::Instance(fault) => {
-            print_faulty(rt, input_of(task, instance_of(task)), *fault, out)
+            note_faulty(host, files, input_of(task, instance_of(task)), *fault);
         }
         ProgramFault::Solution(fault) => {
-            print_faulty(rt, input_of(task, solution_of(task)), *fault, out)
+            note_faulty(host, files, input_of(task, solution_of(task)), *fault);
         }
         ProgramFault::SolutionAt(path, fault) => {
-            print_faulty(rt, input_of(task, path), *fault, out)
+            note_faulty(host, files, input_of(task, path), *fault);
         }
-        ProgramFault::CannotOpen(error) => print_unopened(rt, database_of(task), *error, out),
-        ProgramFault::Store(fault) => print_refused(database_of(task), *fault, out),
-        ProgramFault::CannotWrite => writeln!(out, "standard output: closed, or its disk is full"),
+        ProgramFault::CannotOpen(error) => note_unopened(host, files, database_of(task), *error),
+        ProgramFault::Store(fault) => note_refused(host, database_of(task), *fault),
+        ProgramFault::CannotWrite => {
+            host.note_cause(Source::Stdout, &Cause::Plain("closed, or its disk is full"));
+        }
         ProgramFault::NoExam(_)
         | ProgramFault::NoPublication
         | ProgramFault::CannotListen
-        | ProgramFault::NoMemory => Ok(()),
-    }
-}
-
-// What a task reads.
-#[derive(Clone, Copy)]
-enum Input<'a> {
-    Stdin,
-    File(&'a str),
-}
-
-impl fmt::Display for Input<'_> {
-    fn fmt<W: fmt::Write>(&self, f: &mut fmt::Formatter<W>) -> fmt::Result {
-        match self {
-            Input::Stdin => write!(f, "standard input"),
-            Input::File(path) => {
-                let name = FileName(path);
-                write!(f, "{name}")
-            }
-        }
+        | ProgramFault::NoMemory => {}
     }
 }
 
 // Returns what a task reads by this path.
-fn input_of<'a>(task: &Task, path: &'a str) -> Input<'a> {
+fn input_of<'a>(task: &Task, path: &'a str) -> Source<'a>
+    ensures { source_name result ≡ input_name task.now path.now }
+{
     match task {
-        Task::Load(..) => Input::File(path),
-        _ if is_stdin(path) => Input::Stdin,
-        _ => Input::File(path),
+        Task::Load(..) => Source::File(path),
+        _ if is_stdin(path) => Source::Stdin,
+        _ => Source::File(path),
     }
 }
 
-// Prints why an input can't be read.
-fn print_unread<W: Write>(rt: &HostRuntime, input: Input<'_>, out: &mut W) -> io::Result<()> {
-    match try_input(rt, input) {
-        Ok(()) => writeln!(out, "{input}: reading failed, or didn't end"),
-        Err(reason) => writeln!(out, "{input}: {reason}"),
+// Writes why an input can't be read.
+fn note_unread<H: Surroundings, T: Texts>(host: &H, files: &T, input: Source<'_>)
+    requires { IsTrue (H.allows host.now (source_name input)) }
+{
+    match try_input(host, files, input) {
+        Ok(()) => host.note_cause(input, &Cause::Plain("reading failed, or didn't end")),
+        Err(reason) => host.note_cause(input, &Cause::Unopened(&reason)),
     }
 }
 
 // Reads a byte of an input, if that is a file.
-fn try_input(rt: &HostRuntime, input: Input<'_>) -> io::Result<()> {
+fn try_input<H: Surroundings, T: Texts>(host: &H, files: &T, input: Source<'_>) -> io::Result<()> {
     match input {
-        Input::Stdin => Ok(()),
-        Input::File(path) => try_reading(rt, path),
+        Source::Stdin | Source::Stdout => Ok(()),
+        Source::File(path) => try_reading(host, files, path),
     }
 }
 
 // Reads a byte of a file or a folder. Other files, such as pipes, may not be opened twice.
-fn try_reading(rt: &HostRuntime, path: &str) -> io::Result<()> {
-    let found = fs::metadata(rt, path)?;
-    if found.is_file() || found.is_dir() {
+fn try_reading<H: Surroundings, T: Texts>(host: &H, files: &T, path: &str) -> io::Result<()> {
+    let found = host.look_at(path)?;
+    if found.kind != FoundKind::Other {
         let mut byte = [0u8; 1];
-        let _ = fs::open(rt, path)?.read(&mut byte)?;
+        let _ = files.open_text(path)?.read_text(&mut byte)?;
     }
     Ok(())
 }
 
 // Returns the path of the instance's file.
-fn instance_of(task: &Task) -> &str {
+fn instance_of(task: &Task) -> &str
+    ensures { result.now ≡ instance_path task.now }
+{
     match task {
         Task::Check(instance, _)
         | Task::CheckAs(instance, _, _)
@@ -116,7 +115,9 @@ fn instance_of(task: &Task) -> &str {
 }
 
 // Returns the path of the solution's file.
-fn solution_of(task: &Task) -> &str {
+fn solution_of(task: &Task) -> &str
+    ensures { result.now ≡ solution_path task.now }
+{
     match task {
         Task::Check(_, solution) | Task::CheckAs(_, solution, _) | Task::Places(_, solution, _) => {
             solution
@@ -126,44 +127,40 @@ fn solution_of(task: &Task) -> &str {
 }
 
 // Returns the path of the database's file.
-fn database_of(task: &Task) -> &str {
+fn database_of(task: &Task) -> &str
+    ensures { result.now ≡ database_path task.now }
+{
     match task {
         Task::Load(database, _) | Task::Serve(database, _) | Task::Export(database) => database,
         _ => "",
     }
 }
 
-// Prints a fault of a file in words, with the text of its line if the file can be read again.
-fn print_faulty<W: Write>(
-    rt: &HostRuntime,
-    input: Input<'_>,
-    fault: FileFault,
-    out: &mut W,
-) -> io::Result<()> {
+// Writes a fault of a file in words, with the text of its line if the file can be read again.
+fn note_faulty<H: Surroundings, T: Texts>(host: &H, files: &T, input: Source<'_>, fault: FileFault)
+    requires { IsTrue (H.allows host.now (source_name input)) }
+{
     let FileFault { line, what } = fault;
     if line == 0 {
-        let words = words_in_short(what);
-        return writeln!(out, "{input}: {words}");
+        return host.note_cause(input, &Cause::Plain(words_in_short(what)));
     }
-    let text = text_again(rt, input);
+    let text = text_again(host, files, input);
     match line_of(&text, line) {
         Some(found) => {
-            let words = words_with(what, found);
-            let shown = Shown { line: found };
-            writeln!(out, "{input} line {line}: {words}: {shown}")
+            host.note_cause(input, &Cause::Shown(line, words_with(what, found), found));
         }
         None => {
             let (words, mark) = (words_in_short(what), mark_before(input, fault));
-            writeln!(out, "{input} line {line}: {words}{mark}")
+            host.note_cause(input, &Cause::Line(line, words, mark));
         }
     }
 }
 
 // Says that a byte order mark may be what is wrong with the first line of standard input, which
 // isn't kept.
-fn mark_before(input: Input<'_>, fault: FileFault) -> &'static str {
+fn mark_before(input: Source<'_>, fault: FileFault) -> &'static str {
     match (input, fault.line, fault.what) {
-        (Input::Stdin, 1, FaultKind::MissingSection | FaultKind::BadNumber) => {
+        (Source::Stdin, 1, FaultKind::MissingSection | FaultKind::BadNumber) => {
             ", or a byte order mark is in front of the text"
         }
         _ => "",
@@ -182,21 +179,21 @@ fn words_in_short(what: FaultKind) -> &'static str {
 }
 
 // Returns the text of an input; empty if it can't be read again.
-fn text_again(rt: &HostRuntime, input: Input<'_>) -> Vec<u8> {
+fn text_again<H: Surroundings, T: Texts>(host: &H, files: &T, input: Source<'_>) -> Vec<u8> {
     let again = match input {
-        Input::Stdin => None,
-        Input::File(path) => read_again(rt, path),
+        Source::Stdin | Source::Stdout => None,
+        Source::File(path) => read_again(host, files, path),
     };
-    again.unwrap_or(Vec::new(rt.alloc()))
+    again.unwrap_or(Vec::new(host.allocator()))
 }
 
 // Returns the text of a file, if it can be read again.
-fn read_again(rt: &HostRuntime, path: &str) -> Option<Vec<u8>> {
-    if !fs::metadata(rt, path).ok()?.is_file() {
+fn read_again<H: Surroundings, T: Texts>(host: &H, files: &T, path: &str) -> Option<Vec<u8>> {
+    if host.look_at(path).ok()?.kind != FoundKind::File {
         return None;
     }
-    let mut file = fs::open(rt, path).ok()?;
-    instance_text(rt.alloc(), &mut file).ok()
+    let mut file = files.open_text(path).ok()?;
+    instance_text(host.allocator(), &mut file).ok()
 }
 
 // Returns the line of this number, from 1, if the text has it and it isn't blank.
@@ -234,47 +231,24 @@ fn is_place(line: &[u8]) -> bool {
             .all(|byte| byte.is_ascii_digit() || b", \t\r".contains(byte))
 }
 
-// The beginning of a line, with a blank for each byte that isn't printable.
-#[derive(Clone, Copy)]
-struct Shown<'a> {
-    line: &'a [u8],
-}
-
-impl fmt::Display for Shown<'_> {
-    fn fmt<W: fmt::Write>(&self, f: &mut fmt::Formatter<W>) -> fmt::Result {
-        for byte in self.line.trim_ascii_end().iter().take(SHOWN_BYTES) {
-            let printable = *byte == b' ' || byte.is_ascii_graphic();
-            f.write_char(if printable { char::from(*byte) } else { ' ' })?;
-        }
-        Ok(())
-    }
-}
-
 // What some programs put in front of a text in UTF-8.
 const BYTE_ORDER_MARK: &[u8] = b"\xef\xbb\xbf";
 
-// How much of a line is shown.
-const SHOWN_BYTES: usize = 200;
-
-// Prints why a database can't be opened.
-fn print_unopened<W: Write>(
-    rt: &HostRuntime,
-    path: &str,
-    error: Error,
-    out: &mut W,
-) -> io::Result<()> {
-    let name = FileName(path);
-    match try_reading(rt, path) {
-        Ok(()) => writeln!(out, "{name}: {error}"),
-        Err(reason) => writeln!(out, "{name}: {reason}"),
+// Writes why a database can't be opened.
+fn note_unopened<H: Surroundings, T: Texts>(host: &H, files: &T, path: &str, error: Error)
+    requires { IsTrue (H.allows host.now (printed_name path.now)) }
+{
+    match try_reading(host, files, path) {
+        Ok(()) => host.note_cause(Source::File(path), &Cause::NoDatabase(error)),
+        Err(reason) => host.note_cause(Source::File(path), &Cause::Unopened(&reason)),
     }
 }
 
-// Prints why an office refuses.
-fn print_refused<W: Write>(path: &str, fault: StoreFault, out: &mut W) -> io::Result<()> {
-    let name = FileName(path);
-    match fault_words("store", u32::from(fault.number())) {
-        Some(words) => writeln!(out, "{name}: {words}"),
-        None => Ok(()),
+// Writes why an office refuses.
+fn note_refused<H: Surroundings>(host: &H, path: &str, fault: StoreFault)
+    requires { IsTrue (H.allows host.now (printed_name path.now)) }
+{
+    if let Some(words) = fault_words("store", u32::from(fault.number())) {
+        host.note_cause(Source::File(path), &Cause::Plain(words));
     }
 }

@@ -1,9 +1,15 @@
 // Databases by their paths.
-ghost use Rattle.std.specs.Prelude.{◌≡◌, ℕ, IfErr, IfNone, IfOk, IfSome, List, Option, ⊤};
-ghost use Rattle.office_program.specs.Databases.{IsAt, MayFailToOpen};
+ghost use Rattle.std.specs.Prelude.{◌≡◌, ◌≢◌, ℕ, IfErr, IfOk, List, Option, false, ⊤};
+ghost use Rattle.office_program.specs.Databases.{FailsToOpen, IsAt, IsOfOpening, IsUnopened};
+ghost use Rattle.office_program.specs.Databases.{MayFailToOpen};
+ghost use Rattle.office_program.specs.LongWork.{opening_line};
+ghost use Rattle.office_program.specs.Surroundings.{MayNoteLarge};
 
+use crate::faults::{ProgramFault, fault_of_open};
 use crate::notices::{LongWork, announce};
-use sqlite::{Connection, Error, ErrorCode, File, FileStore};
+use crate::surroundings::Surroundings;
+use office_http::StoreFault;
+use sqlite::{Alter, Connection, Error, ErrorCode, File, FileStore};
 use std::fs;
 use std::io::{ErrorKind, Read};
 
@@ -18,21 +24,15 @@ pub trait Databases {
     // The connection to the database at a path may be given back.
     ghost has_place: { Self → List ℕ → Type 0 };
 
+    /// Returns whether a database is at a path. `false`: the file is empty.
+    fn has_database(&self, path: &str) -> Result<bool, Error>
+        ensures empty { IfOk result (λ has. has ≡ false → MayFailToOpen (known self.now path.now)) }
+        ensures failed { IfErr result (λ _. MayFailToOpen (known self.now path.now)) };
+
     /// Opens the database at a path, or makes one.
     fn open_database(&mut self, path: &str) -> Result<Self::Opened, Error>
         ensures opened { IfOk result (λ conn. IsAt (known self.old path.now) conn) }
         ensures place { IfOk result (λ _. has_place self.new path.now) }
-        ensures failed { IfErr result (λ _. MayFailToOpen (known self.old path.now)) }
-        ensures kept { IfErr result (λ _. known self.new ≡ known self.old) };
-
-    /// Opens the database at a path, and makes none. `None`: the file is empty.
-    fn find_database(&mut self, path: &str) -> Result<Option<Self::Opened>, Error>
-        ensures opened { IfOk result (λ found. IfSome found (λ conn.
-            IsAt (known self.old path.now) conn)) }
-        ensures place { IfOk result (λ found. IfSome found (λ _. has_place self.new path.now)) }
-        ensures empty { IfOk result (λ found. IfNone found
-            (MayFailToOpen (known self.old path.now))) }
-        ensures same { IfOk result (λ found. IfNone found (known self.new ≡ known self.old)) }
         ensures failed { IfErr result (λ _. MayFailToOpen (known self.old path.now)) }
         ensures kept { IfErr result (λ _. known self.new ≡ known self.old) };
 
@@ -58,18 +58,12 @@ impl Databases for SystemDatabases<'_> {
 
     ghost has_place = { λ databases path. ⊤ };
 
-    fn open_database(&mut self, path: &str) -> Result<Connection<FileStore<File>>, Error> {
-        announce(self.rt, LongWork::Opening(path));
-        office_database::open(self.rt, path)
+    fn has_database(&self, path: &str) -> Result<bool, Error> {
+        is_database(self.rt, path)
     }
 
-    fn find_database(&mut self, path: &str) -> Result<Option<Connection<FileStore<File>>>, Error> {
-        if !is_database(self.rt, path)? {
-            return Ok(None);
-        }
-        announce(self.rt, LongWork::Opening(path));
-        let conn = office_database::open(self.rt, path)?;
-        Ok(Some(conn))
+    fn open_database(&mut self, path: &str) -> Result<Connection<FileStore<File>>, Error> {
+        office_database::open(self.rt, path)
     }
 
     fn take_back(&mut self, path: &str, conn: Connection<FileStore<File>>)
@@ -77,6 +71,47 @@ impl Databases for SystemDatabases<'_> {
     {
         // A log that can't be copied into the file stays next to it, and is read there.
         let _ = conn.close();
+    }
+}
+
+// Opens the database at a path, or makes one.
+pub(crate) fn open_at<'a, H: Surroundings, S: Alter, D: Databases<Opened = Connection<S>>>(
+    host: &H,
+    databases: &mut D,
+    database: &str,
+) -> Result<Connection<S>, ProgramFault<'a>>
+    requires { MayNoteLarge (H.finds host.now) (H.shows host.now) (H.allows host.now)
+        database.now (opening_line database.now) }
+    ensures opened { IfOk result (λ conn. IsAt (D.known databases.old database.now) conn) }
+    ensures place { IfOk result (λ _. D.has_place databases.new database.now) }
+    ensures failed { IfErr result
+        (FailsToOpen (D.known databases.old) (D.known databases.new) database.now) }
+    ensures other { IfErr result (λ shown. shown ≢ ProgramFault.CannotListen) }
+{
+    announce(host, LongWork::Opening(database));
+    match databases.open_database(database) {
+        Ok(conn) => Ok(conn),
+        Err(error) => Err(fault_of_open(error)),
+    }
+}
+
+// Opens the database at a path, and makes none.
+pub(crate) fn open_found<'a, H: Surroundings, S: Alter, D: Databases<Opened = Connection<S>>>(
+    host: &H,
+    databases: &mut D,
+    database: &str,
+) -> Result<Connection<S>, ProgramFault<'a>>
+    requires { MayNoteLarge (H.finds host.now) (H.shows host.now) (H.allows host.now)
+        database.now (opening_line database.now) }
+    ensures opened { IfOk result (λ conn. IsAt (D.known databases.old database.now) conn) }
+    ensures place { IfOk result (λ _. D.has_place databases.new database.now) }
+    ensures failed { IfErr result (λ shown. IsUnopened (D.known databases.old)
+        (D.known databases.new) database.now (IsOfOpening shown)) }
+{
+    match databases.has_database(database) {
+        Ok(true) => open_at(host, databases, database),
+        Ok(false) => Err(ProgramFault::Store(StoreFault::BadSchema)),
+        Err(error) => Err(fault_of_open(error)),
     }
 }
 

@@ -12,12 +12,14 @@ ghost use Rattle.office_program.specs.Databases.{ExportsIn, LeavesUnexported, Us
 ghost use Rattle.office_program.specs.Export.{ExportRan, Exports, IsWhole, PrintsSolution, RefusesExport};
 ghost use Rattle.office_program.specs.Export.{published_solution};
 ghost use Rattle.office_program.specs.Load.{MayUpgrade, connection_after};
+ghost use Rattle.office_program.specs.Surroundings.{MayNoteOpening};
 ghost use Rattle.office_program.specs.TaskFaults.{IsOfExport};
 
-use crate::databases::Databases;
+use crate::databases::{Databases, open_found};
 use crate::ending::Ending;
-use crate::faults::{ProgramFault, fault_of_export, fault_of_open};
+use crate::faults::{ProgramFault, fault_of_export};
 use crate::notices::announce_upgrade;
+use crate::surroundings::Surroundings;
 use office_files::{FaultKind, write_solution};
 use office_http::{Alter, Connection, Office, StoreFault};
 use std::alloc::Global;
@@ -37,12 +39,14 @@ pub enum ExportFault {
 }
 
 // Runs `export`. The database's file must exist and hold an office: none is created.
-pub(crate) fn export<'a, S: Alter, D: Databases<Opened = Connection<S>>, W: Write>(
-    rt: &HostRuntime,
+pub(crate) fn export<'a, H: Surroundings, S: Alter, D: Databases<Opened = Connection<S>>, W: Write>(
+    host: &H,
     databases: &mut D,
     database: &str,
     out: &mut W,
 ) -> Result<Ending, ProgramFault<'a>>
+    requires opens { MayNoteOpening (H.finds host.now) (H.shows host.now) (H.allows host.now)
+        database.now }
     ensures status { IfOk result (λ ending. ending.status ≡ 0) }
     ensures printed { IfOk result (λ _. PrintsSolution (W.contents out.old) (W.contents out.new)) }
     ensures uses { IfOk result (λ _. UsesDatabase (D.known databases.old database.now)
@@ -54,13 +58,12 @@ pub(crate) fn export<'a, S: Alter, D: Databases<Opened = Connection<S>>, W: Writ
     ensures unwritten { IfErr result (λ fault. fault ≢ ProgramFault.CannotWrite
         → Keeps (W.contents out.old) (W.contents out.new)) }
 {
-    let conn = match databases.find_database(database) {
-        Ok(Some(conn)) => conn,
-        Ok(None) => return Err(fault_of_export(ExportFault::Store(StoreFault::BadSchema))),
-        Err(error) => return Err(fault_of_open(error)),
+    let conn = match open_found(host, databases, database) {
+        Ok(conn) => conn,
+        Err(fault) => return Err(fault),
     };
-    announce_upgrade(rt, database, &conn);
-    match export_run(rt.alloc(), conn, out) {
+    announce_upgrade(host, database, &conn);
+    match export_run(host.allocator(), conn, out) {
         Ok(conn) => {
             databases.take_back(database, conn);
             Ok(Ending::quiet(0))

@@ -3,6 +3,7 @@
 #![tactic(auto)]
 
 mod answering;
+mod cause_lines;
 mod causes;
 mod check_all_words;
 mod check_words;
@@ -29,9 +30,11 @@ mod readers;
 mod serving;
 mod shelf;
 mod sources;
+mod surroundings;
 mod texts;
 mod words;
 
+pub use cause_lines::{Cause, Source};
 pub use checking::CheckForm;
 pub use databases::{Databases, SystemDatabases};
 pub use ending::Ending;
@@ -40,9 +43,11 @@ pub use faults::ProgramFault;
 pub use folder::{Folder, FolderFile};
 pub use lines::Lines;
 pub use loading::{LoadFault, load_run};
+pub use notices::LongWork;
 pub use program::{refuse_arguments, run_program, run_words};
 pub use readers::TextReader;
 pub use serving::{listen_and_serve, serve_clients, serve_office};
 pub use shelf::Shelf;
+pub use surroundings::{Found, FoundKind, Surroundings};
 pub use texts::Texts;
 pub use words::{Task, Terms, read_words, words_of};

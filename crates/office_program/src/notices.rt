@@ -1,17 +1,18 @@
 // Lines for a terminal about work that takes long, and about a new or an old file.
-ghost use Rattle.std.specs.Prelude.{◌++◌, ◌∷◌, [], OnOk};
-ghost use Rattle.std.specs.Io.KnownBytes.{Appends};
-ghost use Rattle.office_program.specs.LongWork.{work_line};
+ghost use Rattle.std.specs.Prelude.{◌≡◌, IsTrue, true};
+ghost use Rattle.office_program.specs.LongWork.{making_line, upgrading_line};
+ghost use Rattle.office_program.specs.LongWork.{work_line, work_path};
+ghost use Rattle.office_program.specs.Surroundings.{IsLarge, MayNoteLarge};
 
+use crate::surroundings::Surroundings;
 use office_check::FileName;
 use office_store::is_of_version_1;
 use sqlite::{Alter, Connection};
-use std::io::{IsTerminal, Write};
-use std::{fmt, fs, io};
+use std::fmt;
 
 /// Work on a file, which the line names by its path.
 #[derive(Clone, Copy)]
-pub(crate) enum LongWork<'a> {
+pub enum LongWork<'a> {
     /// An instance is read and loaded.
     Loading(&'a str),
     /// The office of a database is found.
@@ -61,38 +62,51 @@ impl fmt::Display for LongWork<'_> {
 }
 
 // In bytes. Work on such a file takes a tenth of a second at least, and seconds at the limits.
-const LARGE: u64 = 500_000;
+pub const LARGE: u64 = 500_000;
 
-// Prints which work begins, if the file is large.
-pub(crate) fn announce(rt: &HostRuntime, work: LongWork<'_>) {
-    if is_large(rt, path_of(work)) {
-        say(rt, work);
+// Writes which work begins, if the file is large and a terminal shows it.
+pub(crate) fn announce<H: Surroundings>(host: &H, work: LongWork<'_>)
+    requires { MayNoteLarge (H.finds host.now) (H.shows host.now) (H.allows host.now)
+        (work_path work) (work_line work) }
+{
+    if is_large(host, path_of(work)) {
+        say(host, work);
     }
 }
 
-// Prints that the office of a file is new.
-pub(crate) fn announce_new(rt: &HostRuntime, path: &str) {
-    say(rt, LongWork::Making(path));
+// Writes that the office of a file is new, if a terminal shows it.
+pub(crate) fn announce_new<H: Surroundings>(host: &H, path: &str)
+    requires { H.shows host.now true → IsTrue (H.allows host.now (making_line path.now)) }
+{
+    say(host, LongWork::Making(path));
 }
 
-// Prints that the tables of a database have version 1, if so: opening migrates them.
-pub(crate) fn announce_upgrade<S: Alter>(rt: &HostRuntime, path: &str, conn: &Connection<S>) {
-    if let Ok(true) = is_of_version_1(rt.alloc(), conn) {
-        say(rt, LongWork::Upgrading(path));
+// Writes that the tables of a database have version 1, if so: opening migrates them.
+pub(crate) fn announce_upgrade<H: Surroundings, S: Alter>(
+    host: &H,
+    path: &str,
+    conn: &Connection<S>,
+)
+    requires { H.shows host.now true → IsTrue (H.allows host.now (upgrading_line path.now)) }
+{
+    if let Ok(true) = is_of_version_1(host.allocator(), conn) {
+        say(host, LongWork::Upgrading(path));
     }
 }
 
-// Prints the line of a work on standard error, if that is a terminal.
-fn say(rt: &HostRuntime, work: LongWork<'_>) {
-    let mut terminal = rt.stderr();
-    if terminal.is_terminal() {
-        // The work is done even if its line can't be printed.
-        let _ = print_work(work, &mut terminal);
+// Writes the line of a work, if a terminal shows it.
+fn say<H: Surroundings>(host: &H, work: LongWork<'_>)
+    requires { H.shows host.now true → IsTrue (H.allows host.now (work_line work)) }
+{
+    if host.is_terminal() {
+        host.note_work(work);
     }
 }
 
 // Returns the path of the file that the work is on.
-fn path_of(work: LongWork<'_>) -> &str {
+fn path_of(work: LongWork<'_>) -> &str
+    ensures { result.now ≡ work_path work.entry }
+{
     match work {
         LongWork::Loading(path)
         | LongWork::Opening(path)
@@ -103,17 +117,11 @@ fn path_of(work: LongWork<'_>) -> &str {
 }
 
 // Returns whether a file exists and is large.
-fn is_large(rt: &HostRuntime, path: &str) -> bool {
-    match fs::metadata(rt, path) {
-        Ok(found) => found.len() >= LARGE,
+fn is_large<H: Surroundings>(host: &H, path: &str) -> bool
+    ensures { IsTrue result → IsLarge (H.finds host.now) path.now }
+{
+    match host.look_at(path) {
+        Ok(found) => found.size >= LARGE,
         Err(_) => false,
     }
-}
-
-// Prints the line of the work that begins.
-fn print_work<W: Write>(work: LongWork<'_>, out: &mut W) -> io::Result<()>
-    ensures { OnOk result
-        (Appends (W.contents out.old) (W.contents out.new) (work_line work.entry ++ 10 ∷ [])) }
-{
-    writeln!(out, "{work}")
 }

@@ -1,12 +1,14 @@
 // The whole program, over a file system and two writers.
 ghost use Rattle.std.specs.Prelude.{◌≡◌, ◌≢◌, ◌≤◌, ◌↔◌, ◌⊎◌, ◌++◌, ◌∷◌, [], IfErr, IfOk, OnOk};
 ghost use Rattle.std.specs.Prelude.{ℕ, Err, IsTrue, List, None, Ok, length, map, string_bytes};
+ghost use Rattle.std.specs.Prelude.{true};
 ghost use Rattle.std.specs.Io.KnownBytes.{Appends, Keeps};
 ghost use Rattle.std.specs.IoError.{error_kind};
 ghost use Rattle.std.specs.declared.io.ErrorKind.TheVariants as failure;
 ghost use Rattle.clap.specs.Words.{kind_of};
 ghost use Rattle.clap.specs.declared.error.kind.ErrorKind.TheVariants as kind;
 ghost use Rattle.exam_terms.specs.declared.limits.TheConstants.{INSTANCE_BYTES};
+ghost use Rattle.office_program.specs.Causes.{cause_name};
 ghost use Rattle.office_program.specs.Databases.{IfUsing, IsUnread, LeavesNamedDatabase};
 ghost use Rattle.office_program.specs.Databases.{LeavesUnloaded, LoadsIn, ServesNamed};
 ghost use Rattle.office_program.specs.Databases.{UsesDatabase, UsesNamedDatabase};
@@ -16,9 +18,12 @@ ghost use Rattle.office_program.specs.Endings.{WritesConnectionFaults, WritesFau
 ghost use Rattle.office_program.specs.Endings.{WritesSolutionFaults};
 ghost use Rattle.office_program.specs.FaultLines.{fault_line, not_text_line};
 ghost use Rattle.office_program.specs.Load.{PrintsCounts};
+ghost use Rattle.office_program.specs.LongWork.{loading_line};
 ghost use Rattle.office_program.specs.Program.{AreAnswered, IsMistake, IsTask, fault_of_words};
 ghost use Rattle.office_program.specs.Serve.{AreOfPort};
 ghost use Rattle.office_program.specs.Sources.{IsTextOf};
+ghost use Rattle.office_program.specs.Surroundings.{MayNoteLarge, MayNoteOpening, MayNoteWork};
+ghost use Rattle.office_program.specs.Surroundings.{may_note_work_is_fact};
 ghost use Rattle.office_program.specs.TaskFaults.{IsOfLoad, IsOfOffice, IsTextCause};
 ghost use Rattle.office_program.specs.Tasks.{IsOfTask, Prints, PrintsBroken};
 ghost use Rattle.office_program.specs.declared.words.Task.{Task};
@@ -26,11 +31,11 @@ ghost use Rattle.office_program.specs.declared.words.Task.{Task};
 use crate::causes::announce_cause;
 use crate::checking::{check, check_as};
 use crate::comparing::compare;
-use crate::databases::{Databases, SystemDatabases};
+use crate::databases::{Databases, SystemDatabases, open_at};
 use crate::ending::Ending;
 use crate::explaining::explain;
 use crate::exporting::export;
-use crate::faults::{ProgramFault, fault_of_input, fault_of_load, fault_of_open};
+use crate::faults::{ProgramFault, fault_of_input, fault_of_load};
 use crate::inputs::text_of;
 use crate::judging::check_all;
 use crate::lines::Lines;
@@ -39,6 +44,7 @@ use crate::loading::load_run;
 use crate::notices::{LongWork, announce, announce_upgrade};
 use crate::readers::TextReader;
 use crate::serving::open_and_serve;
+use crate::surroundings::Surroundings;
 use crate::texts::Texts;
 use crate::words::{Task, read_words};
 use clap::Error;
@@ -49,6 +55,7 @@ use office_files::InputFault;
 use sqlite::{Alter, Connection};
 use std::alloc::Global;
 use std::io::{self, Read, Write};
+use std::time::Clock;
 
 /// Does what the words say; the first word is the program's name. The lines of faults, including
 /// those of connections, and the text of a mistake are written to `err`, everything else to `out`.
@@ -78,11 +85,22 @@ pub fn run_program<O: Write, E: Write + Lines>(
         (O.contents out.old) (O.contents out.new) result.is_err_written }
 {
     let mut databases = SystemDatabases { rt };
-    run_words(rt, rt, &mut databases, rt, &mut rt.stdin(), words, out, err)
+    let mut net = rt;
+    run_words(
+        rt,
+        rt,
+        &mut databases,
+        &mut net,
+        &mut rt.stdin(),
+        words,
+        out,
+        err,
+    )
 }
 
 /// Does what the words say, with these files, databases and ports and this standard input.
 pub fn run_words<
+    H: Surroundings + Clock,
     S: Alter,
     T: Texts,
     D: Databases<Opened = Connection<S>>,
@@ -94,15 +112,27 @@ pub fn run_words<
     O: Write,
     E: Write + Lines,
 >(
-    rt: &HostRuntime,
+    host: &H,
     files: &T,
     databases: &mut D,
-    net: &N,
+    net: &mut N,
     stdin: &mut I,
     words: &[String],
     out: &mut O,
     err: &mut E,
 ) -> Ending
+    // Lines about a task's work may be written, where the host writes them, only if standard error
+    // may be a terminal: that a file which is loaded or opened is large, or a database in which a
+    // draft is published, that a database is new, or that its tables become version 2. Of the cause
+    // of a fault a line may be written that begins with the name of what the fault is of, only if
+    // standard error may be a terminal or go to a journal. No other line is.
+    requires works { (task : Task) → IsTask (map string_bytes words.now) task
+        → MayNoteWork (H.finds host.now) (H.shows host.now) (H.allows host.now) task }
+    requires causes { (task : Task) → IsTask (map string_bytes words.now) task
+        → (shown : ProgramFault)
+        → IsOfTask (I.remaining stdin.now) (T.known files.now) task shown
+        → H.shows host.now true ⊎ H.logs host.now true
+        → IsTrue (H.allows host.now (cause_name task shown)) }
     ensures within { result.status ≤ 3 }
 
     // Status 0 is a command that is done, or a call for help or the version. Status 2 is a mistake
@@ -149,7 +179,8 @@ pub fn run_words<
         × UsesNamedDatabase S.Store (D.known databases.old) (D.known databases.new)
         (T.known files.now)
         (ServesNamed S.Store (D.known databases.old) (D.known databases.new)
-        (λ port. AreOfPort (N.opens net.now port) C.accepts C.takes_back R.remaining W.contents)
+        (λ port. AreOfPort (λ old. N.opens old port) N.closes C.accepts C.takes_back
+        R.remaining W.contents net.old net.new)
         (E.contents err.old) (E.contents err.new) (Ok result))
         task (O.contents out.old) (O.contents out.new) }
 
@@ -171,7 +202,8 @@ pub fn run_words<
         LeavesNamedDatabase S.Store (D.known databases.old) (D.known databases.new)
         (T.known files.now)
         (ServesNamed S.Store (D.known databases.old) (D.known databases.new)
-        (λ port. AreOfPort (N.opens net.now port) C.accepts C.takes_back R.remaining W.contents)
+        (λ port. AreOfPort (λ old. N.opens old port) N.closes C.accepts C.takes_back
+        R.remaining W.contents net.old net.new)
         (E.contents err.old) (E.contents before) (Err shown))
         task shown) err.new result.is_err_written)
         (D.known databases.new ≡ D.known databases.old)) }
@@ -188,22 +220,32 @@ pub fn run_words<
         (map string_bytes words.now) err.old err.new
         (O.contents out.old) (O.contents out.new) result.is_err_written }
 {
-    let task = match read_words(rt.alloc(), words) {
+    let task = match read_words(host.allocator(), words) {
         Ok(task) => task,
         Err(error) => return refuse_words(&error, out, err),
     };
-    match run_task(rt, files, databases, net, stdin, &task, out, err) {
+    let job = Job { host, task: &task };
+    match run_task(&job, files, databases, net, stdin, out, err) {
         Ok(ending) => ending,
         Err(fault) => {
             let ending = complain(&fault, err);
-            announce_cause(rt, &task, &fault);
+            announce_cause(host, files, &task, &fault);
             ending
         }
     }
 }
 
+// A task, and the host that it runs on, which takes the lines about its work.
+#[derive(Drop)]
+struct Job<'a, H: Surroundings> {
+    host: &'a H,
+    task: &'a Task,
+    ghost may: { MayNoteWork (H.finds host.now) (H.shows host.now) (H.allows host.now) task.now } by { may_note_work_is_fact (H.finds host.now) (H.shows host.now) (H.allows host.now) task.now },
+}
+
 fn run_task<
     'a,
+    H: Surroundings + Clock,
     S: Alter,
     T: Texts,
     D: Databases<Opened = Connection<S>>,
@@ -215,53 +257,55 @@ fn run_task<
     O: Write,
     E: Write + Lines,
 >(
-    rt: &HostRuntime,
+    job: &Job<'a, H>,
     files: &T,
     databases: &mut D,
-    net: &N,
+    net: &mut N,
     stdin: &mut I,
-    task: &'a Task,
     out: &mut O,
     err: &mut E,
 ) -> Result<Ending, ProgramFault<'a>>
     ensures status { IfOk result (λ ending. (ending.status ≤ 3) × (ending.status ≢ 2)) }
     ensures broken { IfOk result (λ ending. ending.status ≡ 3
-        → PrintsBroken (I.remaining stdin.old) (T.known files.now) task.now
+        → PrintsBroken (I.remaining stdin.old) (T.known files.now) job.now.task.now
         (O.contents out.old) (O.contents out.new)) }
     ensures done { IfOk result (λ ending. ending.status ≡ 0
-        → Prints (I.remaining stdin.old) (T.known files.now) task.now
+        → Prints (I.remaining stdin.old) (T.known files.now) job.now.task.now
         (O.contents out.old) (O.contents out.new)) }
     ensures uses { IfOk result (λ ending. ending.status ≡ 0
         → UsesNamedDatabase S.Store (D.known databases.old) (D.known databases.new)
         (T.known files.now)
         (ServesNamed S.Store (D.known databases.old) (D.known databases.new)
-        (λ port. AreOfPort (N.opens net.now port) C.accepts C.takes_back R.remaining W.contents)
+        (λ port. AreOfPort (λ old. N.opens old port) N.closes C.accepts C.takes_back
+        R.remaining W.contents net.old net.new)
         (E.contents err.old) (E.contents err.new) (Ok ending))
-        task.now (O.contents out.old) (O.contents out.new)) }
+        job.now.task.now (O.contents out.old) (O.contents out.new)) }
     ensures leaves { IfErr result (λ shown.
         LeavesNamedDatabase S.Store (D.known databases.old) (D.known databases.new)
         (T.known files.now)
         (ServesNamed S.Store (D.known databases.old) (D.known databases.new)
-        (λ port. AreOfPort (N.opens net.now port) C.accepts C.takes_back R.remaining W.contents)
+        (λ port. AreOfPort (λ old. N.opens old port) N.closes C.accepts C.takes_back
+        R.remaining W.contents net.old net.new)
         (E.contents err.old) (E.contents err.new) (Err shown))
-        task.now shown) }
-    ensures unused { IfUsing task.now (Unit {0}) (D.known databases.new ≡ D.known databases.old) }
+        job.now.task.now shown) }
+    ensures unused { IfUsing job.now.task.now (Unit {0}) (D.known databases.new ≡ D.known databases.old) }
     ensures quiet { IfOk result (λ ending. ending.status ≢ 1 → IsTrue ending.is_err_written
-        → WritesConnectionFaults E.contents task.now err.old err.new) }
+        → WritesConnectionFaults E.contents job.now.task.now err.old err.new) }
 
     // An `Ok` has status 1 only if solutions have faults.
     ensures faulty { IfOk result (λ ending. ending.status ≡ 1
-        → WritesSolutionFaults E.tells (I.remaining stdin.old) (T.known files.now) task.now
+        → WritesSolutionFaults E.tells (I.remaining stdin.old) (T.known files.now) job.now.task.now
         err.old err.new (O.contents out.old) (O.contents out.new) ending.is_err_written) }
 
     // A line that names a file names one of the task's.
     ensures fault { IfErr result
-        (IsOfTask (I.remaining stdin.old) (T.known files.now) task.now) }
-    ensures silent { IsSilent task.now err.old err.new }
+        (IsOfTask (I.remaining stdin.old) (T.known files.now) job.now.task.now) }
+    ensures silent { IsSilent job.now.task.now err.old err.new }
     ensures unwritten { IfErr result (λ fault. fault ≢ ProgramFault.CannotWrite
-        → LeavesPrinted task.now (O.contents out.old) (O.contents out.new)) }
+        → LeavesPrinted job.now.task.now (O.contents out.old) (O.contents out.new)) }
 {
-    let alloc = rt.alloc();
+    let (host, task) = (job.host, job.task);
+    let alloc = host.allocator();
     match task {
         Task::Check(instance, solution) => {
             check(alloc, files, stdin, &Report, instance, solution, out)
@@ -278,24 +322,28 @@ fn run_task<
         Task::Compare(session, before, after) => {
             compare(alloc, files, stdin, session, before, after, out)
         }
-        Task::Load(database, instance) => load(rt, files, databases, database, instance, out),
+        Task::Load(database, instance) => load(host, files, databases, database, instance, out),
         Task::Serve(database, terms) => {
-            open_and_serve(rt, net, databases, database, *terms, out, err)
+            open_and_serve(host, net, databases, database, *terms, out, err)
         }
-        Task::Export(database) => export(rt, databases, database, out),
+        Task::Export(database) => export(host, databases, database, out),
         Task::Explain(words) => explain(words, out),
     }
 }
 
 // Runs `load`. The instance's file is read before the database is opened.
-fn load<'a, S: Alter, T: Texts, D: Databases<Opened = Connection<S>>, W: Write>(
-    rt: &HostRuntime,
+fn load<'a, H: Surroundings, S: Alter, T: Texts, D: Databases<Opened = Connection<S>>, W: Write>(
+    host: &H,
     files: &T,
     databases: &mut D,
     database: &str,
     instance: &'a str,
     out: &mut W,
 ) -> Result<Ending, ProgramFault<'a>>
+    requires loads { MayNoteLarge (H.finds host.now) (H.shows host.now) (H.allows host.now)
+        instance.now (loading_line instance.now) }
+    requires opens { MayNoteOpening (H.finds host.now) (H.shows host.now) (H.allows host.now)
+        database.now }
     ensures status { IfOk result (λ ending. ending.status ≡ 0) }
     ensures printed { IfOk result (λ _. (text : List ℕ)
         × IsTextOf (T.known files.now instance.now) text
@@ -316,9 +364,9 @@ fn load<'a, S: Alter, T: Texts, D: Databases<Opened = Connection<S>>, W: Write>(
     ensures unwritten { IfErr result (λ fault. fault ≢ ProgramFault.CannotWrite
         → Keeps (W.contents out.old) (W.contents out.new)) }
 {
-    announce(rt, LongWork::Loading(instance));
-    match text_at(rt.alloc(), files, instance) {
-        Ok(text) => load_text(rt, databases, database, &text, out),
+    announce(host, LongWork::Loading(instance));
+    match text_at(host.allocator(), files, instance) {
+        Ok(text) => load_text(host, databases, database, &text, out),
         Err(fault) => Err(fault_of_input(fault, instance)),
     }
 }
@@ -336,13 +384,15 @@ fn text_at<T: Texts>(alloc: Global, files: &T, path: &str) -> Result<Vec<u8>, In
 }
 
 // Loads an instance's text into the office of the database at a path.
-fn load_text<'a, S: Alter, D: Databases<Opened = Connection<S>>, W: Write>(
-    rt: &HostRuntime,
+fn load_text<'a, H: Surroundings, S: Alter, D: Databases<Opened = Connection<S>>, W: Write>(
+    host: &H,
     databases: &mut D,
     database: &str,
     text: &[u8],
     out: &mut W,
 ) -> Result<Ending, ProgramFault<'a>>
+    requires opens { MayNoteOpening (H.finds host.now) (H.shows host.now) (H.allows host.now)
+        database.now }
     ensures status { IfOk result (λ ending. ending.status ≡ 0) }
     ensures printed { IfOk result (λ _.
         PrintsCounts text.now (W.contents out.old) (W.contents out.new)) }
@@ -355,12 +405,12 @@ fn load_text<'a, S: Alter, D: Databases<Opened = Connection<S>>, W: Write>(
     ensures unwritten { IfErr result (λ fault. fault ≢ ProgramFault.CannotWrite
         → Keeps (W.contents out.old) (W.contents out.new)) }
 {
-    let conn = match databases.open_database(database) {
+    let conn = match open_at(host, databases, database) {
         Ok(conn) => conn,
-        Err(error) => return Err(fault_of_open(error)),
+        Err(fault) => return Err(fault),
     };
-    announce_upgrade(rt, database, &conn);
-    match load_run(rt.alloc(), conn, text, out) {
+    announce_upgrade(host, database, &conn);
+    match load_run(host.allocator(), conn, text, out) {
         Ok(conn) => {
             databases.take_back(database, conn);
             Ok(Ending::quiet(0))

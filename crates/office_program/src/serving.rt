@@ -1,29 +1,32 @@
 // `serve`: serves the office of a database's file over sockets.
-ghost use Rattle.std.specs.Prelude.{◌≡◌, ◌≢◌, ◌*◌, ◌^◌, ◌⊎◌, Err, IfErr, IfOk, Ok};
+ghost use Rattle.std.specs.Prelude.{◌≡◌, ◌≢◌, ◌*◌, ◌^◌, ◌⊎◌, Err, IfErr, IfOk, IsTrue, None, Ok, true};
 ghost use Rattle.std.specs.Duration.{as_nanos};
 ghost use Rattle.std.specs.Io.KnownBytes.{Appends, Keeps};
 ghost use Rattle.office_connections.specs.Clients.{AreOfClients};
 ghost use Rattle.office_connections.specs.Lines.{listening_line};
 ghost use Rattle.office_program.specs.Databases.{ServesNamed};
+ghost use Rattle.office_program.specs.LongWork.{making_line, publishing_line};
 ghost use Rattle.office_program.specs.Serve.{AreOfPort, FileServes, IsStoreShut, LeavesPort};
 ghost use Rattle.office_program.specs.Serve.{OfficeServes, PrintsServed, ServesTerms};
+ghost use Rattle.office_program.specs.Surroundings.{MayNoteLarge, MayNoteOpening};
 ghost use Rattle.office_program.specs.TaskFaults.{IsOfServe};
 
-use crate::answering::ServingDesk;
-use crate::databases::Databases;
+use crate::answering::{Publishing, ServingDesk};
+use crate::databases::{Databases, open_at};
 use crate::ending::Ending;
-use crate::faults::{ProgramFault, fault_of_open, fault_of_run};
+use crate::faults::{ProgramFault, fault_of_run};
 use crate::notices::{announce_new, announce_upgrade};
+use crate::surroundings::Surroundings;
 use crate::words::Terms;
-use office_connections::{Clients, Plan, Ports, Timed, announce_and_accept};
+use office_connections::{Clients, Listening, Plan, Ports, Timed, announce_and_accept};
 use office_http::{Alter, Connection, Desk, Office, Routes};
-use std::fs;
 use std::io::{Read, Write};
-use std::time::Duration;
+use std::time::{Clock, Duration};
 
 // Runs `serve`. It opens the database, and finds or creates its office, before it opens the port.
 pub(crate) fn open_and_serve<
     'a,
+    H: Surroundings + Clock,
     S: Alter,
     D: Databases<Opened = Connection<S>>,
     R: Read + Timed + Drop,
@@ -33,25 +36,33 @@ pub(crate) fn open_and_serve<
     O: Write,
     E: Write,
 >(
-    rt: &HostRuntime,
-    net: &N,
+    host: &H,
+    net: &mut N,
     databases: &mut D,
     database: &str,
     terms: Terms,
     out: &mut O,
     err: &mut E,
 ) -> Result<Ending, ProgramFault<'a>>
+    requires new { H.finds host.now database.now None → H.shows host.now true
+        → IsTrue (H.allows host.now (making_line database.now)) }
+    requires opens { MayNoteOpening (H.finds host.now) (H.shows host.now) (H.allows host.now)
+        database.now }
+    requires publishes { MayNoteLarge (H.finds host.now) (H.shows host.now) (H.allows host.now)
+        database.now (publishing_line database.now) }
     // However the call ends, the database at the path was opened, and given back after the last
     // client; or the fault is that it could not be opened. As for `serve_office`, its office served
     // as many clients of the port of the terms as these say, or the fault says why not, and it
     // represents the office that they led to.
     ensures serves { IfOk result (λ ending.
         ServesNamed S.Store (D.known databases.old) (D.known databases.new)
-        (λ port. AreOfPort (N.opens net.now port) I.accepts I.takes_back R.remaining W.contents)
+        (λ port. AreOfPort (λ old. N.opens old port) N.closes I.accepts I.takes_back
+        R.remaining W.contents net.old net.new)
         (E.contents err.old) (E.contents err.new) (Ok ending) database.now terms) }
     ensures unserved { IfErr result (λ shown.
         ServesNamed S.Store (D.known databases.old) (D.known databases.new)
-        (λ port. AreOfPort (N.opens net.now port) I.accepts I.takes_back R.remaining W.contents)
+        (λ port. AreOfPort (λ old. N.opens old port) N.closes I.accepts I.takes_back
+        R.remaining W.contents net.old net.new)
         (E.contents err.old) (E.contents err.new) (Err shown) database.now terms) }
     ensures served { IfOk result (PrintsServed terms (O.contents out.old) (O.contents out.new)
         (E.contents err.old) (E.contents err.new)) }
@@ -59,16 +70,16 @@ pub(crate) fn open_and_serve<
     ensures port { IfErr result
         (LeavesPort terms (O.contents out.old) (O.contents out.new)) }
 {
-    let is_new = fs::metadata(rt, database).is_err();
-    let conn = match databases.open_database(database) {
+    let is_new = host.look_at(database).is_err();
+    let conn = match open_at(host, databases, database) {
         Ok(conn) => conn,
-        Err(error) => return Err(fault_of_open(error)),
+        Err(fault) => return Err(fault),
     };
     if is_new {
-        announce_new(rt, database);
+        announce_new(host, database);
     }
-    announce_upgrade(rt, database, &conn);
-    let (conn, done) = serve_office(rt, net, database, conn, terms, out, err);
+    announce_upgrade(host, database, &conn);
+    let (conn, done) = serve_office(host, net, database, conn, terms, out, err);
     databases.take_back(database, conn);
     done
 }
@@ -77,6 +88,7 @@ pub(crate) fn open_and_serve<
 /// database has no table, index or view.
 pub fn serve_office<
     'a,
+    H: Surroundings + Clock,
     S: Alter,
     R: Read + Timed + Drop,
     W: Write + Timed + Drop,
@@ -85,20 +97,24 @@ pub fn serve_office<
     O: Write,
     E: Write,
 >(
-    rt: &HostRuntime,
-    net: &N,
+    host: &H,
+    net: &mut N,
     database: &str,
     conn: Connection<S>,
     terms: Terms,
     out: &mut O,
     err: &mut E,
 ) -> (Connection<S>, Result<Ending, ProgramFault<'a>>)
+    // A line about a publication may be written on a terminal, if the database is large.
+    requires publishes { MayNoteLarge (H.finds host.now) (H.shows host.now) (H.allows host.now)
+        database.now (publishing_line database.now) }
     // Assuming the disk returns what was written, and the database had nothing uncommitted: however
     // the call ends, the database represents an office that serving the clients of the port leads
     // to from the one found. As for `serve_clients`, each of them is sent the office's replies to
     // its own messages, and as many are served as the terms say, or the fault says why not.
     ensures reached { ServesTerms
-        (AreOfPort (N.opens net.now terms.port) I.accepts I.takes_back R.remaining W.contents)
+        (AreOfPort (λ old. N.opens old terms.port) N.closes I.accepts I.takes_back
+        R.remaining W.contents net.old net.new)
         (FileServes S.Store conn result.0) (IsStoreShut S.Store result.0) terms result.1
         (E.contents err.old) (E.contents err.new) }
     // The same as for `listen_and_serve`.
@@ -108,18 +124,19 @@ pub fn serve_office<
     ensures port { IfErr result.1
         (LeavesPort terms (O.contents out.old) (O.contents out.new)) }
 {
-    let office = match Office::open(rt.alloc(), conn) {
+    let office = match Office::open(host.allocator(), conn) {
         Ok(office) => office,
         Err((fault, conn)) => return (conn, Err(ProgramFault::Store(fault))),
     };
     let mut desk = Desk::new(office);
-    let done = listen_and_serve(rt, net, database, terms, &mut desk, out, err);
+    let done = listen_and_serve(host, net, database, terms, &mut desk, out, err);
     (desk.into_office().release(), done)
 }
 
 /// Serves the office at a desk to the clients of a port, one after another, as the terms say.
 pub fn listen_and_serve<
     'a,
+    H: Surroundings + Clock,
     S: Alter,
     R: Read + Timed + Drop,
     W: Write + Timed + Drop,
@@ -128,18 +145,22 @@ pub fn listen_and_serve<
     O: Write,
     E: Write,
 >(
-    rt: &HostRuntime,
-    net: &N,
+    host: &H,
+    net: &mut N,
     database: &str,
     terms: Terms,
     desk: &mut Desk<S>,
     out: &mut O,
     err: &mut E,
 ) -> Result<Ending, ProgramFault<'a>>
+    // A line about a publication may be written on a terminal, if the database is large.
+    requires publishes { MayNoteLarge (H.finds host.now) (H.shows host.now) (H.allows host.now)
+        database.now (publishing_line database.now) }
     // As for `serve_clients`, with the clients of the port of the terms. This holds however the
     // call ends; the contracts of the system's sockets say nothing about their bytes.
     ensures reached { ServesTerms
-        (AreOfPort (N.opens net.now terms.port) I.accepts I.takes_back R.remaining W.contents)
+        (AreOfPort (λ old. N.opens old terms.port) N.closes I.accepts I.takes_back
+        R.remaining W.contents net.old net.new)
         (OfficeServes S.Store desk.old desk.new) (IsStoreShut S.Store desk.new) terms result
         (E.contents err.old) (E.contents err.new) }
     // The line of the port was printed: the requested port, or any if that was 0. If no write
@@ -152,25 +173,19 @@ pub fn listen_and_serve<
     ensures port { IfErr result
         (LeavesPort terms (O.contents out.old) (O.contents out.new)) }
 {
-    let Ok(mut listening) = net.listen(terms.port) else {
+    let Ok(Listening { port, mut clients }) = net.listen(terms.port) else {
         return Err(ProgramFault::CannotListen);
     };
-    serve_clients(
-        rt,
-        database,
-        terms,
-        listening.port,
-        &mut listening.clients,
-        desk,
-        out,
-        err,
-    )
+    let done = serve_clients(host, database, terms, port, &mut clients, desk, out, err);
+    net.close(clients);
+    done
 }
 
 /// Serves the office at a desk to clients, each a reader and a writer, in the order of arrival:
 /// prints the port, then serves as many clients as the terms say, while the store is open.
 pub fn serve_clients<
     'a,
+    H: Surroundings + Clock,
     S: Alter,
     R: Read + Timed + Drop,
     W: Write + Timed + Drop,
@@ -178,7 +193,7 @@ pub fn serve_clients<
     O: Write,
     E: Write,
 >(
-    rt: &HostRuntime,
+    host: &H,
     database: &str,
     terms: Terms,
     port: u16,
@@ -187,6 +202,9 @@ pub fn serve_clients<
     out: &mut O,
     err: &mut E,
 ) -> Result<Ending, ProgramFault<'a>>
+    // A line about a publication may be written on a terminal, if the database is large.
+    requires publishes { MayNoteLarge (H.finds host.now) (H.shows host.now) (H.allows host.now)
+        database.now (publishing_line database.now) }
     // However the call ends, assuming the disk returns what was written, and for any office that
     // was found: what is added to each client's writer, until it is handed back, are the office's
     // replies to the messages of that client's whole stream, in whatever pieces and at whatever
@@ -208,18 +226,27 @@ pub fn serve_clients<
         → Keeps (O.contents out.old) (O.contents out.new)
         ⊎ Appends (O.contents out.old) (O.contents out.new) (listening_line port)) }
 {
-    let Ok(routes) = Routes::new(rt.alloc()) else {
+    let Ok(routes) = Routes::new(host.allocator()) else {
         return Err(ProgramFault::NoMemory);
     };
+    let publishing = Publishing::new(host, database);
     let mut machine = ServingDesk {
-        rt,
-        database,
+        publishing: &publishing,
         desk,
         routes: &routes,
         is_shut: false,
     };
     let plan = plan_of(terms);
-    match announce_and_accept(rt.alloc(), rt, port, clients, plan, &mut machine, out, err) {
+    match announce_and_accept(
+        host.allocator(),
+        host,
+        port,
+        clients,
+        plan,
+        &mut machine,
+        out,
+        err,
+    ) {
         Ok(unwritten) => Ok(Ending {
             status: 0,
             is_err_written: unwritten == 0,

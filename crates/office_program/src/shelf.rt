@@ -25,22 +25,20 @@ impl Databases for Shelf<'_> {
 
     ghost has_place = { λ shelf path. IsTrue (bytes_eq shelf.path.now path) };
 
+    fn has_database(&self, path: &str) -> Result<bool, Error> {
+        if self.path == path && self.conn.is_some() {
+            Ok(true)
+        } else {
+            Err(Error::SqliteFailure(ErrorCode::CannotOpen))
+        }
+    }
+
     fn open_database(&mut self, path: &str) -> Result<Connection<MemStore>, Error> {
         if self.path != path {
             return Err(Error::SqliteFailure(ErrorCode::CannotOpen));
         }
         match self.conn.take() {
             Some(conn) => Ok(conn),
-            None => Err(Error::SqliteFailure(ErrorCode::CannotOpen)),
-        }
-    }
-
-    fn find_database(&mut self, path: &str) -> Result<Option<Connection<MemStore>>, Error> {
-        if self.path != path {
-            return Err(Error::SqliteFailure(ErrorCode::CannotOpen));
-        }
-        match self.conn.take() {
-            Some(conn) => Ok(Some(conn)),
             None => Err(Error::SqliteFailure(ErrorCode::CannotOpen)),
         }
     }

@@ -65,7 +65,8 @@ fn a_candidate_asks_over_a_socket(rt: HostRuntime) -> Result<(), Fail> {
         },
         left: u32::MAX,
     };
-    let mut listening = rt.listen(0)?;
+    let mut net = &rt;
+    let mut listening = net.listen(0)?;
     let to = SocketAddr::from((Ipv4Addr::LOCALHOST, listening.port));
     let mut asking = TcpStream::connect(&rt, to)?;
     asking.write_all(REQUEST)?;

@@ -2,6 +2,8 @@
 #![tactic(auto)]
 
 #[cfg(test)]
+mod desktop;
+#[cfg(test)]
 mod runs;
 #[cfg(test)]
 mod screen;

@@ -1,6 +1,7 @@
 // An office in a database in memory, from the load of its session to the export of its timetable.
+use crate::desktop::Desktop;
 use crate::screen::Screen;
-use crate::visitors::{OnePort, Visitor};
+use crate::visitors::{OnePort, Visitor, Waiting};
 use office_program::{Folder, FolderFile, Shelf, run_words};
 use sqlite::Connection;
 use std::alloc::{AllocError, Global};
@@ -50,46 +51,54 @@ const PAGE: &[u8] = b"HTTP/1.1 200 OK\r\nContent-Type: application/json\r\n\
     {\"date\":\"2005-04-15\",\"exam\":1,\"period\":1,\"room\":0,\"seat\":1,\"start\":\"14:00:00\",\
     \"state\":\"seated\"}],\"penalty\":8}";
 
-// The words of a run, and what the test expects of it: the status, and the texts of the two writers.
-type Run<'a> = (&'a [&'a str], u8, &'a str, &'a str);
+// The words of a run, and what the test expects of it: the status, and the texts of the two writers
+// and of the machine's terminal.
+type Run<'a> = (&'a [&'a str], u8, &'a str, &'a str, &'a str);
 
 const RUNS: &[Run<'static>] = &[
-    (&["check", "small.exam", "small.sol"], 0, REPORTS, ""),
+    (&["check", "small.exam", "small.sol"], 0, REPORTS, "", ""),
     (
         &["load", "--db", "term.db", "none.exam"],
         1,
         "",
         "examoffice: cannot read none.exam\n",
+        "none.exam: entity not found\n",
     ),
     (
         &["load", "--db", "other.db", "small.exam"],
         1,
         "",
         "examoffice: cannot open database\n",
+        "examoffice: loading small.exam, which takes a while\nother.db: entity not found\n",
     ),
     (
         &["export", "--db", "term.db"],
         1,
         "",
         "examoffice: store fault 9\n",
+        "term.db: no office: the tables in the database are not those of an office\n",
     ),
     (
         &["load", "--db", "term.db", "small.exam"],
         0,
         "loaded exams 4 pairs 6 periods 4 rooms 2\n",
         "",
+        "examoffice: loading small.exam, which takes a while\n",
     ),
     (
         &["load", "--db", "term.db", "small.exam"],
         1,
         "",
         "examoffice: store fault 1\n",
+        "examoffice: loading small.exam, which takes a while\n\
+        term.db: loaded: the office has a session already\n",
     ),
     (
         &["export", "--db", "term.db"],
         1,
         "",
         "examoffice: no publication\n",
+        "",
     ),
     (
         &[
@@ -104,6 +113,7 @@ const RUNS: &[Run<'static>] = &[
         1,
         "",
         "examoffice: cannot listen\n",
+        "",
     ),
     (
         &[
@@ -118,6 +128,7 @@ const RUNS: &[Run<'static>] = &[
         1,
         "",
         "examoffice: cannot open database\n",
+        "other.db: entity not found\n",
     ),
     (
         &[
@@ -132,17 +143,20 @@ const RUNS: &[Run<'static>] = &[
         0,
         "listening 127.0.0.1:8080\n",
         "",
+        "",
     ),
     (
         &["export", "--db", "other.db"],
         1,
         "",
         "examoffice: cannot open database\n",
+        "other.db: entity not found\n",
     ),
     (
         &["export", "--db", "term.db"],
         0,
         "0, 0\r\n1, 0\r\n3, 1\r\n2, 0\r\n",
+        "",
         "",
     ),
 ];
@@ -154,73 +168,96 @@ fn an_office_in_memory_is_loaded_served_and_exported(rt: HostRuntime) -> Result<
         path: "term.db",
         conn: Some(conn),
     };
-    let (office, candidate) = (Cell::new(None), Cell::new(None));
-    let visitors = [
-        Visitor {
-            sent: PUBLISHING,
-            kept: &office,
-        },
-        Visitor {
-            sent: ASKING,
-            kept: &candidate,
-        },
-    ];
-    let net = OnePort {
-        alloc: rt.alloc(),
-        number: 8080,
-        visitors: &visitors,
-    };
+    let mut net = port_of(rt.alloc(), &[PUBLISHING, ASKING])?;
     for run in RUNS {
-        assert_outcome(&rt, &outcome_of(&rt, &mut shelf, &net, run.0)?, run);
+        assert_outcome(
+            &rt,
+            &outcome_of(rt.alloc(), &mut shelf, &mut net, run.0)?,
+            run,
+        );
     }
-    assert_kept(&rt, &office, PUBLISHED);
-    assert_kept(&rt, &candidate, PAGE);
+    assert_received(&rt, &net, &[PUBLISHED, PAGE]);
     Ok(())
 }
 
-// What a run did: the status, and the bytes of the two writers.
+// Returns a port at which clients wait who send these bytes.
+fn port_of<'a>(alloc: Global, sent: &[&'a [u8]]) -> Result<OnePort<'a>, AllocError> {
+    let mut visitors = Vec::new(alloc);
+    for bytes in sent {
+        visitors.push(Visitor {
+            sent: bytes,
+            received: None,
+        })?;
+    }
+    Ok(OnePort {
+        number: 8080,
+        waiting: Some(Waiting {
+            alloc,
+            visitors,
+            turn: 0,
+        }),
+    })
+}
+
+// What a run did: the status, and the bytes of the two writers and of the terminal.
 #[derive(Drop)]
 struct Outcome {
     status: u8,
     out: Vec<u8>,
     err: Vec<u8>,
+    lines: Vec<u8>,
 }
 
-// Runs the program with the files, this database and this port.
+// Runs the program on a machine with a terminal, with the files, this database and this port.
 fn outcome_of(
-    rt: &HostRuntime,
+    alloc: Global,
     shelf: &mut Shelf<'_>,
-    net: &OnePort<'_>,
+    net: &mut OnePort<'_>,
     words: &[&str],
 ) -> Result<Outcome, AllocError> {
-    let words = program_words(rt.alloc(), words)?;
-    let (mut out, mut err) = (Vec::new(rt.alloc()), Screen::new(rt.alloc()));
+    let words = program_words(alloc, words)?;
+    let (mut out, mut err) = (Vec::new(alloc), Screen::new(alloc));
     let files = Folder { files: FILES };
+    let lines = Cell::new(None);
+    let desktop = Desktop {
+        alloc,
+        large: "small.exam",
+        small: "term.db",
+        has_terminal: true,
+        lines: &lines,
+    };
     let mut stdin = b"".as_slice();
     let ending = run_words(
-        rt, &files, shelf, net, &mut stdin, &words, &mut out, &mut err,
+        &desktop, &files, shelf, net, &mut stdin, &words, &mut out, &mut err,
     );
     Ok(Outcome {
         status: ending.status,
         out,
         err: err.bytes,
+        lines: lines.take().unwrap_or(Vec::new(alloc)),
     })
 }
 
 // Ends the test if a run did something else than expected.
 fn assert_outcome(rt: &impl Abort, found: &Outcome, run: &Run<'_>) {
-    let (words, status, out, err) = *run;
+    let (words, status, out, err, lines) = *run;
     assert_eq!(rt; found.status, status, "{words:?}");
     assert_eq!(rt; found.out.as_slice(), out.as_bytes(), "{words:?}");
     assert_eq!(rt; found.err.as_slice(), err.as_bytes(), "{words:?}");
+    assert_eq!(rt; found.lines.as_slice(), lines.as_bytes(), "{words:?}");
 }
 
-// Ends the test if a client was sent other bytes than these until its writer was handed back.
-fn assert_kept(rt: &impl Abort, kept: &Cell<Option<Vec<u8>>>, expected: &[u8]) {
-    let found = kept.take();
-    assert!(rt; found.is_some());
-    if let Some(bytes) = found {
-        assert_eq!(rt; bytes.as_slice(), expected);
+// Ends the test if the clients of the port were sent other bytes than these.
+fn assert_received(rt: &impl Abort, net: &OnePort<'_>, expected: &[&[u8]]) {
+    assert!(rt; net.waiting.is_some());
+    if let Some(waiting) = &net.waiting {
+        assert_eq!(rt; waiting.visitors.len(), expected.len());
+        for (visitor, bytes) in waiting.visitors.iter().zip(expected) {
+            assert!(rt; visitor.received.is_some());
+            if let Some(received) = &visitor.received {
+                assert_eq!(rt; received.as_slice(), *bytes);
+            }
+        }
     }
 }
 

@@ -1,97 +1,106 @@
 // Clients in memory, who wait at a port.
-ghost use Rattle.std.specs.Prelude.{◌≡◌, ◌≢◌, ◌+◌, ◌≤◌, [], IfNone, IfSome, Some, length};
-ghost use Rattle.std.specs.Prelude.{option_map, slice_get};
+ghost use Rattle.std.specs.Prelude.{ℕ, ◌≡◌, ◌≢◌, ◌+◌, ◌≤◌, [], IfNone, IfSome, None, Some, length};
+ghost use Rattle.std.specs.Prelude.{map, option_map, slice_get};
 
 use office_connections::{Clients, Listening, Ports, Timed};
 use std::alloc::Global;
-use std::cell::Cell;
 use std::io::{Error, ErrorKind, Read, Result, Write};
 use std::time::Duration;
 
-/// A client: what it sends, and where the bytes that it was sent are once its turn is over.
-#[derive(Clone, Copy)]
+/// A client: what it sends, and the bytes that it was sent, once its turn is over.
+#[derive(Drop)]
 pub(crate) struct Visitor<'a> {
     pub(crate) sent: &'a [u8],
-    pub(crate) kept: &'a Cell<Option<Vec<u8>>>,
+    pub(crate) received: Option<Vec<u8>>,
 }
 
-/// A port with clients who come in this order, and no further one. Nobody can listen on another.
-#[derive(Clone, Copy)]
+/// A port with clients, of whom none has come; none while it is listened on. Nobody can listen on
+/// another.
+#[derive(Drop)]
 pub(crate) struct OnePort<'a> {
-    pub(crate) alloc: Global,
     pub(crate) number: u16,
-    pub(crate) visitors: &'a [Visitor<'a>],
+    pub(crate) waiting: Option<Waiting<'a>>,
 }
 
 impl<'a> Ports for OnePort<'a> {
-    ghost use Rattle.std.specs.Prelude.{◌≡◌, ◌≢◌, IfNone, IfSome};
+    ghost use Rattle.std.specs.Prelude.{◌≡◌, ◌≢◌, ◌⊎◌, IfNone, IfSome, None, Some};
 
     type Opened = Waiting<'a>;
 
-    ghost opens = { λ net port clients.
-        IfSome clients (λ waiting.
-        (port ≡ net.number) × (waiting.visitors.now ≡ net.visitors.now) × (waiting.turn ≡ 0))
-        × IfNone clients (port ≢ net.number) };
+    ghost opens = { λ old port clients new.
+        (new.number ≡ old.number)
+        × IfSome clients (λ waiting.
+        (port ≡ old.number) × (old.waiting ≡ Some waiting) × (new.waiting ≡ None))
+        × IfNone clients (((port ≢ old.number) ⊎ (old.waiting ≡ None))
+        × (new.waiting ≡ old.waiting)) };
 
-    fn listen(&self, port: u16) -> Result<Listening<Waiting<'a>>> {
+    ghost closes = { λ old clients new.
+        (new.number ≡ old.number) × (new.waiting ≡ Some clients) };
+
+    fn listen(&mut self, port: u16) -> Result<Listening<Waiting<'a>>> {
         if port != self.number {
             return Err(Error::from(ErrorKind::AddrInUse));
         }
-        Ok(Listening {
-            port,
-            clients: Waiting {
-                alloc: self.alloc,
-                visitors: self.visitors,
-                turn: 0,
-            },
-        })
+        match self.waiting.take() {
+            Some(clients) => Ok(Listening { port, clients }),
+            None => Err(Error::from(ErrorKind::AddrInUse)),
+        }
+    }
+
+    fn close(&mut self, clients: Waiting<'a>) {
+        self.waiting = Some(clients);
     }
 }
 
-/// The clients of a port, some of whom have come.
+/// The clients of a port, some of whom have come, in their order.
 #[derive(Drop)]
 pub(crate) struct Waiting<'a> {
-    alloc: Global,
-    visitors: &'a [Visitor<'a>],
+    pub(crate) alloc: Global,
+    pub(crate) visitors: Vec<Visitor<'a>>,
     // How many have come.
-    turn: usize,
+    pub(crate) turn: usize,
 }
 
 impl<'a> Clients for Waiting<'a> {
-    ghost use Rattle.std.specs.Prelude.{◌≡◌, ◌+◌, ◌≤◌, [], IfNone, IfSome, Some, length};
+    ghost use Rattle.std.specs.Prelude.{ℕ, ◌≡◌, ◌+◌, ◌≤◌, [], IfNone, IfSome, Some, length};
     ghost use Rattle.std.specs.Prelude.{option_map, slice_get};
 
     type Reader = Sending<'a>;
 
-    type Writer = Receiving<'a>;
+    type Writer = Receiving;
 
     // The next client sends what it has to send, and was sent nothing so far.
     ghost accepts = { λ old client new.
         IfSome client (λ ends.
-        (option_map (λ visitor. visitor.sent.now) (slice_get old.visitors.now old.turn)
+        (option_map (λ visitor. visitor.sent.now) (slice_get old.visitors.items old.turn)
         ≡ Some ends.0.bytes.now) × (ends.1.bytes.items ≡ [])
-        × (new.visitors ≡ old.visitors) × (new.turn ≡ old.turn + 1))
-        × IfNone client (length old.visitors.now ≤ old.turn) };
+        × (new.visitors.items ≡ old.visitors.items) × (new.turn ≡ old.turn + 1))
+        × IfNone client (length old.visitors.items ≤ old.turn) };
 
-    // Nobody comes. That the bytes are kept no clause can say, as a cell has no value.
-    ghost takes_back = { λ old to new. new ≡ old };
+    // The client whose turn it was has the bytes, and the next one's turn is next.
+    ghost takes_back = { λ old to new.
+        (new.turn ≡ old.turn)
+        × ((before : ℕ) → old.turn ≡ before + 1 → before + 1 ≤ length old.visitors.items
+        → option_map (λ visitor. visitor.received) (slice_get new.visitors.items before)
+        ≡ Some (Some to.bytes)) };
 
-    fn accept(&mut self) -> Option<(Sending<'a>, Receiving<'a>)> {
-        let visitor = self.visitors.get(self.turn)?;
+    fn accept(&mut self) -> Option<(Sending<'a>, Receiving)> {
+        let sent = self.visitors.get(self.turn)?.sent;
         self.turn += 1;
-        let from = Sending {
-            bytes: visitor.sent,
-        };
+        let from = Sending { bytes: sent };
         let to = Receiving {
             bytes: Vec::new(self.alloc),
-            kept: visitor.kept,
         };
         Some((from, to))
     }
 
-    fn hand_back(&mut self, to: Receiving<'a>) {
-        let Receiving { bytes, kept } = to;
-        kept.set(Some(bytes));
+    fn hand_back(&mut self, to: Receiving) {
+        let Receiving { bytes } = to;
+        if let Some(before) = self.turn.checked_sub(1) {
+            if let Some(visitor) = self.visitors.get_mut(before) {
+                visitor.received = Some(bytes);
+            }
+        }
     }
 }
 
@@ -113,12 +122,11 @@ impl Read for Sending<'_> {
 
 /// What a client was sent.
 #[derive(Drop)]
-pub(crate) struct Receiving<'a> {
+pub(crate) struct Receiving {
     bytes: Vec<u8>,
-    kept: &'a Cell<Option<Vec<u8>>>,
 }
 
-impl Write for Receiving<'_> {
+impl Write for Receiving {
     ghost use Rattle.std.specs.Prelude.{Some};
 
     ghost contents = { λ to. Some to.bytes.items };
@@ -147,7 +155,7 @@ impl Timed for Sending<'_> {
     }
 }
 
-impl Timed for Receiving<'_> {
+impl Timed for Receiving {
     fn set_read_limit(&self, _limit: Duration) -> Result<()> {
         Ok(())
     }

@@ -33,9 +33,8 @@ returns-in-Err-load_run-clause-leaves g c = inr (record {
 })
 
 -- a database that can't be opened
+pub returns-in-Err-clause-fault : goal.returns-in-Err-clause-fault
+returns-in-Err-clause-fault g c = inl c.in-Err.ensures.failed.line
+
 pub returns-in-Err-clause-leaves : goal.returns-in-Err-clause-leaves
-returns-in-Err-clause-leaves g c = inl (record {
-  failed = c.in-Err.ensures.failed;
-  kept = c.in-Err.ensures.kept;
-  line = (c.in-Err.error, c.fault_of_open.ensures.line);
-})
+returns-in-Err-clause-leaves g c = inl c.in-Err.ensures.failed

@@ -127,3 +127,29 @@ returns-in-Export-clause-leaves g c =
     let leaves = c.export.ensures.leaves in
     if_err c.export.result _ _ _
     (λ shown left again. rw (c.in-Export.is, ← c.deref-in-Export.ensures) left) leaves leaves
+
+-- the lines about the work of the task may be written
+pub load-requires-clause-loads : goal.load-requires-clause-loads
+load-requires-clause-loads g c =
+    let works = rw c.in-Load.is at c.args.job.now.may in rw c.deref-in-Load-2.ensures works.0
+
+pub load-requires-clause-opens : goal.load-requires-clause-opens
+load-requires-clause-opens g c =
+    let works = rw c.in-Load.is at c.args.job.now.may in rw c.deref-in-Load.ensures works.1
+
+pub open_and_serve-requires-clause-new : goal.open_and_serve-requires-clause-new
+open_and_serve-requires-clause-new g c =
+    let works = rw c.in-Serve.is at c.args.job.now.may in rw c.deref-in-Serve.ensures works.0
+
+pub open_and_serve-requires-clause-opens : goal.open_and_serve-requires-clause-opens
+open_and_serve-requires-clause-opens g c =
+    let works = rw c.in-Serve.is at c.args.job.now.may in rw c.deref-in-Serve.ensures works.1
+
+pub open_and_serve-requires-clause-publishes : goal.open_and_serve-requires-clause-publishes
+open_and_serve-requires-clause-publishes g c =
+    let works = rw c.in-Serve.is at c.args.job.now.may in rw c.deref-in-Serve.ensures works.2
+
+pub export-requires : goal.export-requires
+export-requires g c = record {
+  opens = let works = rw c.in-Export.is at c.args.job.now.may in rw c.deref-in-Export.ensures works;
+}

@@ -57,10 +57,17 @@ returns-clause-leaves g c = λ one. inr (
       (g.D.Databases.known c.run_task.new.databases) (g.T.Texts.known c.args.files.now)
       (ServesNamed g.S.Store (g.D.Databases.known c.args.databases.now)
       (g.D.Databases.known c.run_task.new.databases)
-      (λ port. AreOfPort (g.N.Ports.opens c.args.net.now port) g.C.Clients.accepts
-      g.C.Clients.takes_back g.R.Read.remaining g.W.Write.contents)
+      (λ port. AreOfPort (λ old. g.N.Ports.opens old port) g.N.Ports.closes g.C.Clients.accepts
+      g.C.Clients.takes_back g.R.Read.remaining g.W.Write.contents c.args.net.now
+      c.run_task.new.net)
       (g.E.Write.contents c.args.err.now) (g.E.Write.contents before) (Err shown))
       c.in-Ok.task shown)
       _ c.in-Err-run_task.fault c.run_task.new.err _ _ c.complain-ending.ensures.err_line
       c.in-Err-run_task.ensures.leaves c.run_task.ensures.unused,
 )
+
+-- the lines about its work, and about the cause of its fault, may be written
+pub announce_cause-requires : goal.announce_cause-requires
+announce_cause-requires g c =
+    c.requires.causes c.in-Ok.task c.in-Ok.ensures.task c.in-Err-run_task.fault
+    c.in-Err-run_task.ensures.fault

@@ -4,30 +4,28 @@ use Rattle.office_program.proofs.DatabaseFacts.{served_err, served_ok}
 use Rattle.office_program.proofs.serving.open_and_serve.Goals as goal
 
 -- no database was opened
+pub returns-in-Err-clause-fault : goal.returns-in-Err-clause-fault
+returns-in-Err-clause-fault g c = inl c.in-Err.ensures.failed.line
+
 pub returns-in-Err-clause-unserved : goal.returns-in-Err-clause-unserved
-returns-in-Err-clause-unserved g c = inl (
-  record {
-    failed = c.in-Err.ensures.failed;
-    kept = c.in-Err.ensures.kept;
-    line = (c.in-Err.error, c.fault_of_open.ensures.line);
-  },
-  c.fault_of_open.ensures.other,
-  refl,
-)
+returns-in-Err-clause-unserved g c =
+    inl (c.in-Err.ensures.failed, c.in-Err.ensures.other, refl, inl (refl, refl))
 
 -- the database that was opened is given back after the last client
 pub returns-clause-serves : goal.returns-clause-serves
 returns-clause-serves g c = served_ok g.S.Store (g.D.Databases.known c.args.databases.now)
     (g.D.Databases.known c.take_back.new.self)
-    (λ port. AreOfPort (g.N.Ports.opens c.args.net.now port) g.I.Clients.accepts
-    g.I.Clients.takes_back g.R.Read.remaining g.W.Write.contents)
+    (λ port. AreOfPort (λ old. g.N.Ports.opens old port) g.N.Ports.closes g.I.Clients.accepts
+    g.I.Clients.takes_back g.R.Read.remaining g.W.Write.contents c.args.net.now
+    c.serve_office-conn.new.net)
     _ _ _ c.args.database.now c.args.terms c.in-Ok.conn c.serve_office-conn.result.0
     c.in-Ok.ensures.opened c.take_back.ensures.back c.serve_office-conn.ensures.reached
 
 pub returns-clause-unserved : goal.returns-clause-unserved
 returns-clause-unserved g c = served_err g.S.Store (g.D.Databases.known c.args.databases.now)
     (g.D.Databases.known c.take_back.new.self)
-    (λ port. AreOfPort (g.N.Ports.opens c.args.net.now port) g.I.Clients.accepts
-    g.I.Clients.takes_back g.R.Read.remaining g.W.Write.contents)
+    (λ port. AreOfPort (λ old. g.N.Ports.opens old port) g.N.Ports.closes g.I.Clients.accepts
+    g.I.Clients.takes_back g.R.Read.remaining g.W.Write.contents c.args.net.now
+    c.serve_office-conn.new.net)
     _ _ _ c.args.database.now c.args.terms c.in-Ok.conn c.serve_office-conn.result.0
     c.in-Ok.ensures.opened c.take_back.ensures.back c.serve_office-conn.ensures.reached

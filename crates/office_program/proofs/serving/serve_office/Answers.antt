@@ -10,7 +10,7 @@ use Rattle.office_program.proofs.serving.serve_office.Goals as goal
 
 -- no office was found, and the tables are unchanged
 pub returns-in-Err-clause-reached : goal.returns-in-Err-clause-reached
-returns-in-Err-clause-reached g c = serves_nobody _ _ _ _ _ (inl refl)
+returns-in-Err-clause-reached g c = serves_nobody _ _ _ _ _ (inl (refl, refl))
     (λ clean kept there is. (
       there,
       nobody_served there,
