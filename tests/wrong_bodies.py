@@ -377,8 +377,8 @@ def wanted_of(name):
 
 
 def misplaced(name):
-    """The places of a crate's edits that aren't there, or not once."""
-    return [(at, place) for at in edits_of(name) for place in Edit(name, at).places
+    """The places of a crate's edits, also of those that wait, that aren't there, or not once."""
+    return [(at, place) for at in edits_of(name) + waiting(name) for place in Edit(name, at).places
             if place.found_in((TOP / "crates" / name / place.file).read_text()) is None]
 
 
