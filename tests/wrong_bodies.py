@@ -6,6 +6,9 @@
         them, or are due
     python3 tests/wrong_bodies.py current
         lists those that have to be tried, and counts those that are due
+    python3 tests/wrong_bodies.py renamed COMMIT OLD=NEW..
+        notes those that were refused at a commit, if what decides them is the same since but for
+        these names, of which no new one was a word there
 
 A crate is proved first, without an edit. Then its edits are tried in a copy, over what that proof
 kept, so that a check proves what an edit touches; each must be refused by the prover. A function is
@@ -24,6 +27,7 @@ another, it is due: `current` counts it; there are none when a version is cut. T
 wrong-bodies/waiting/ are new, or were refused with earlier sources, and wait for a longer run:
 `current` counts them, and `try` takes them back."""
 import hashlib
+import json
 import os
 import re
 import shutil
@@ -39,7 +43,7 @@ from pathlib import Path
 from queue import Empty, SimpleQueue
 
 from cases import Cases
-from meaning import deciding, index_of, parts_of, seeds_of
+from meaning import WORD, deciding, index_of, parts_of, seeds_of
 from sources import FOLDERS, TOP, below, files_of, items, listed
 
 # the head lines of an edit: they say what it is about, and change nothing
@@ -56,6 +60,11 @@ def main(words):
     crates = crates_with_edits()
     if words == ["current"]:
         return say_current(crates)
+    if words[:1] == ["refused"]:
+        print(json.dumps(refused_with(crates, dict(pair.split("=") for pair in words[1:]))))
+        return 0
+    if words[:1] == ["renamed"]:
+        return note_renamed(crates, words[1], words[2:])
     if words[:1] != ["try"]:
         print(__doc__, file=sys.stderr)
         return 2
@@ -96,6 +105,45 @@ def say_current(crates):
               file=sys.stderr)
     late = sum(len(due(name)) for name in crates)
     return judged.end(f"edits, {late} due because of a crate below")
+
+
+def note_renamed(crates, commit, pairs):
+    """Notes as refused those edits that differ by names alone from what was refused at a commit;
+    what decided there may be more."""
+    names = dict(pair.split("=") for pair in pairs)
+    with tempfile.TemporaryDirectory() as copy:
+        files = subprocess.run(["git", "archive", commit], cwd=TOP, stdout=subprocess.PIPE,
+                               check=True).stdout
+        subprocess.run(["tar", "-x"], cwd=copy, input=files, check=True)
+        for new in names.values():
+            if not run(["grep", "-rqw", "--", new, "crates"], copy).returncode:
+                print(f"wrong bodies: {new} was a word of that commit", file=sys.stderr)
+                return 1
+        for file in TOP.glob("tests/*.py"):
+            shutil.copy(file, Path(copy, "tests"))
+        before = json.loads(run([sys.executable, "tests/wrong_bodies.py", "refused", *pairs],
+                                copy).stdout)
+    for name in crates:
+        wanted = wanted_of(name)
+        same = {at.name for at in wanted if f"{name}/{at.name}" in before
+                and set(before[f"{name}/{at.name}"]).issuperset(with_names(name, at, names))}
+        if wanted:
+            print(f"wrong bodies: {name}: {len(same)} of {len(wanted)} differ by names alone")
+            keep(name, hashes(name), same)
+    return 0
+
+
+def refused_with(crates, names):
+    """For each edit that was refused what decides it, with other names."""
+    return {f"{name}/{at.name}": with_names(name, at, names) for name in crates
+            for at in set(edits_of(name)).difference(wanted_of(name))}
+
+
+def with_names(name, at, names):
+    """A hash of each text that decides an edit, with other names, however it is laid out."""
+    texts = [WORD.sub(lambda word: names.get(word[0], word[0]), text)
+             for found in texts_of(name, at) for text in found]
+    return [hash_of([re.sub(r",(?=[)\]}])", "", re.sub(r"\s", "", text))])[:16] for text in texts]
 
 
 def try_all(names):
@@ -419,11 +467,17 @@ def forget():
 
 
 def hashes_of(name, at):
+    own, others = texts_of(name, at)
+    return hash_of(own)[:16], hash_of(others)[:8]
+
+
+def texts_of(name, at):
+    """An edit and what decides it in its crate, and the kit and what decides it below."""
     edit = Edit(name, at)
     seeds = seeds_of(name, edit.functions, [place.old for place in edit.places])
     own, others = deciding((name, *sorted(below(name))), seeds or set(parts_of(name)))
     kit = (TOP / "release" / "KIT").read_text()
-    return hash_of([plain_text(at), *own])[:16], hash_of([kit, *others])[:8]
+    return [plain_text(at), *own], [kit, *others]
 
 
 def hash_of(texts):
