@@ -1,4 +1,5 @@
 -- The tables according to the rows found, and the effect of readers one after another.
+use Rattle.std.proofs.lemmas.Grind.{common_steps}
 use Rattle.std.proofs.Common.{◌≡◌, map, length, Option, Some, None, Result, Ok, Err, refl, sym, ap, subst, ◌∙◌, arith}
 use Rattle.std.proofs.lemmas.Result.{IfOk-weaker, on_ok_weaker}
 use Rattle.std.specs.Result.{IsErrAnd}
@@ -33,30 +34,9 @@ use Rattle.office_tables.proofs.Reading.{keeps_after}
 -- ---- readers one after another
 
 pub unchanged_then : (a b c : State) → IsUnchanged a b → IsUnchanged b c → IsUnchanged a c
-unchanged_then a b c p q = (
-  record {
-    was_open = p.0.was_open;
-    is_open = q.0.is_open;
-    now_is = q.0.now_is ∙ p.0.now_is;
-    committed_is = q.0.committed_is ∙ p.0.committed_is;
-    mode = q.0.mode ∙ p.0.mode;
-  },
-  record { changes = q.1.changes ∙ p.1.changes; last_rowid = q.1.last_rowid ∙ p.1.last_rowid },
-  q.2 ∙ p.2,
-)
+unchanged_then a b c p q = grind (arith, common_steps)
 
 module _ (version : Version) where
-  tables_still : (a b : State) → IsUnchanged a b → HasTables version a → HasTables version b
-  tables_still a b same tables =
-      let both = tables.live same.0.was_open in
-      record {
-        schema = ap (λ (d : Database). d.schema) same.0.now_is ∙ tables.schema;
-        live = λ _. (
-          subst IsDatabase (sym same.0.now_is) both.0,
-          subst IsDatabase (sym same.0.committed_is) both.1,
-        );
-      }
-
   clean_before : (a b : State) → Looks version a b → HasCleanDisk b → HasCleanDisk a
   clean_before a b looks clean = omega (arith, looks.survives.clean)
 
@@ -74,10 +54,7 @@ module _ {S X : Type 0} {version : Version} {store : Ghosts S} {is : Database �
   mid_is : (c : Held S) → Looks version (state store b) (state store c)
       → HasCleanDisk (state store c) → HasTables version (state store a)
       → IsUnchanged (state store a) (state store b) × HasTables version (state store b)
-  mid_is c looks clean tables =
-      let same = first.same (clean_before version (state store b) (state store c) looks clean)
-      tables in
-      (same, tables_still version (state store a) (state store b) same tables)
+  mid_is c looks clean tables = grind (arith, common_steps)
 
   pub looks_then : (c : Held S) → Looks version (state store b) (state store c)
       → Looks version (state store a) (state store c)
@@ -124,10 +101,7 @@ one_version Two One same =
 -- a database has one version
 in_no_version : (version : Version) (db : Database) → db.schema ≡ schema_of version
     → IsForeignIn version db → IsForeign db
-in_no_version version db is foreign v t plain represents =
-    foreign t plain
-    (subst (λ w. HoldsTablesIn w db t) (one_version v version
-    (sym represents.schema ∙ is)) represents)
+in_no_version version db is foreign v t plain represents = grind (arith, common_steps, one_version)
 
 -- ---- the rows found, or a fault
 
@@ -137,10 +111,7 @@ pub found_rows : {S X : Type 0} {version : Version} {store : Ghosts S}
     → Adopts version store js a c given → Ok x ≡ found_or_fault given
     → Adopts version store (λ db y. js db (Some y)) a c (Ok x)
 found_rows {version = version} {store = store} {js = js} {a = a} {c = c} {given = Ok (Some y)}
-    {x = x} read is =
-    let same : y ≡ x = cc in
-    subst (λ z. Adopts version store (λ db y. js db (Some y)) a c (Ok z)) same
-    (record { found = read.found; same = read.same; looks = read.looks })
+    {x = x} read is = grind (arith, common_steps)
 found_rows {given = Ok None} read is = absurd cc
 found_rows {given = Err e} read is = absurd cc
 

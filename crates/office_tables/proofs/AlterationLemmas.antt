@@ -1,5 +1,6 @@
 -- The effect of insertions and deletions on the tables, one after the other.
-use Rattle.std.proofs.Common.{◌≡◌, List, [], ◌∷◌, ◌++◌, map, reverse, filter, not, Bool, true, false, cond, ◌==◌, ◌&&◌, ◌||◌, refl, sym, ap, ◌∙◌, append_assoc}
+use Rattle.std.proofs.lemmas.Grind.{common_steps}
+use Rattle.std.proofs.Common.{◌≡◌, List, [], ◌∷◌, ◌++◌, map, reverse, filter, not, Bool, true, false, cond, ◌==◌, ◌&&◌, ◌||◌, refl, sym, ap, ◌∙◌, append_assoc, arith}
 use Rattle.std.specs.List.{list_any}
 use Rattle.std.proofs.lemmas.List.{reverse-append}
 use Rattle.exam_lists.proofs.Filters.{filter_not-filter_not, filter_true}
@@ -24,57 +25,48 @@ pub enrols_put : (its : List InsertEnrol) (t : Tables)
     → after_all (λ it. with_enrol it.row) its t ≡ with_enrols (map (λ it. it.row) its) t
 enrols_put [] t = refl
 enrols_put (it ∷ rest) t =
-    enrols_put rest (with_enrol it.row t)
-    ∙ ap (λ l. record t { enrol = l }) (reverse_cons_append it.row (map (λ x. x.row) rest) t.enrol)
+    grind (arith, common_steps, reverse_cons_append, enrols_put rest (with_enrol it.row t))
 
 pub slots_put : (its : List InsertSlot) (t : Tables)
     → after_all (λ it. with_slot it.row) its t ≡ with_slots (map (λ it. it.row) its) t
 slots_put [] t = refl
 slots_put (it ∷ rest) t =
-    slots_put rest (with_slot it.row t)
-    ∙ ap (λ l. record t { slot = l }) (reverse_cons_append it.row (map (λ x. x.row) rest) t.slot)
+    grind (arith, common_steps, reverse_cons_append, slots_put rest (with_slot it.row t))
 
 pub drafts_put : (its : List InsertDraft) (t : Tables)
     → after_all (λ it. with_draft it.row) its t
     ≡ record t { draft = reverse (map (λ it. it.row) its) ++ t.draft }
 drafts_put [] t = refl
 drafts_put (it ∷ rest) t =
-    drafts_put rest (with_draft it.row t)
-    ∙ ap (λ l. record t { draft = l }) (reverse_cons_append it.row (map (λ x. x.row) rest) t.draft)
+    grind (arith, common_steps, reverse_cons_append, drafts_put rest (with_draft it.row t))
 
 pub placements_put : (its : List InsertPlacement) (t : Tables)
     → after_all (λ it. with_placement it.row) its t
     ≡ record t { placed = reverse (map (λ it. it.row) its) ++ t.placed }
 placements_put [] t = refl
 placements_put (it ∷ rest) t =
-    placements_put rest (with_placement it.row t)
-    ∙ ap (λ l. record t { placed = l }) (reverse_cons_append it.row (map (λ x. x.row) rest) t.placed)
+    grind (arith, common_steps, reverse_cons_append, placements_put rest (with_placement it.row t))
 
 pub seats_put : (its : List InsertSeat) (t : Tables)
     → after_all (λ it. with_seat it.row) its t
     ≡ record t { seat = reverse (map (λ it. it.row) its) ++ t.seat }
 seats_put [] t = refl
 seats_put (it ∷ rest) t =
-    seats_put rest (with_seat it.row t)
-    ∙ ap (λ l. record t { seat = l }) (reverse_cons_append it.row (map (λ x. x.row) rest) t.seat)
+    grind (arith, common_steps, reverse_cons_append, seats_put rest (with_seat it.row t))
 
 pub student_shares_put : (its : List InsertStudentShare) (t : Tables)
     → after_all (λ it. with_student_share it.row) its t
     ≡ record t { share_student = reverse (map (λ it. it.row) its) ++ t.share_student }
 student_shares_put [] t = refl
 student_shares_put (it ∷ rest) t =
-    student_shares_put rest (with_student_share it.row t)
-    ∙ ap (λ l. record t { share_student = l })
-    (reverse_cons_append it.row (map (λ x. x.row) rest) t.share_student)
+    grind (arith, common_steps, reverse_cons_append, student_shares_put rest (with_student_share it.row t))
 
 pub part_shares_put : (its : List InsertPartShare) (t : Tables)
     → after_all (λ it. with_part_share it.row) its t
     ≡ record t { share_part = reverse (map (λ it. it.row) its) ++ t.share_part }
 part_shares_put [] t = refl
 part_shares_put (it ∷ rest) t =
-    part_shares_put rest (with_part_share it.row t)
-    ∙ ap (λ l. record t { share_part = l })
-    (reverse_cons_append it.row (map (λ x. x.row) rest) t.share_part)
+    grind (arith, common_steps, reverse_cons_append, part_shares_put rest (with_part_share it.row t))
 
 -- the placements of these exams are gone
 pub placements_gone : (its : List DeletePlacement) (t : Tables)

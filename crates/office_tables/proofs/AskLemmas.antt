@@ -1,4 +1,5 @@
 -- The effect of a reader, and the answers of any query.
+use Rattle.std.proofs.lemmas.Grind.{common_steps}
 use Rattle.std.proofs.Common.{◌≡◌, ◌+◌, IsSorted, is_lt, subst₂, inl, inr, ℕ, List, [], ◌∷◌, map, false, None, Ok, Err, Result, arith, subst, refl, sym, ap, ◌∙◌, IsTrue}
 use Rattle.std.specs.Prelude.{IfOk, IsPermutation, OnOk, Vec, nat_le, unwrap_or, ◌^◌}
 use Rattle.std.specs.declared.alloc.Global.{Global}
@@ -60,10 +61,6 @@ module _ (q : Query) (sql : List ℕ) (means : Means office_schema q sql) (old n
   pub means_in : (t : Tables) → HoldsTables old.now t → Means old.now.schema q sql
   means_in t represents = subst (λ s. Means s q sql) (sym represents.schema) means
 
-  pub silent_in : Survives old new (λ _. IsPlain (understood office_schema sql) → ⊥)
-      → Survives old new (λ _. ⊥)
-  silent_in = survives_weaker old new _ _ (λ _ db h. h means.plain)
-
 -- under the schema of a version
 module _ (version : Version) (q : Query) (sql : List ℕ) (means : Means (schema_of version) q sql)
     (old : State) (t : Tables) (represents : HoldsTablesIn version old.now t) where
@@ -79,16 +76,7 @@ pub leaves_in : {S X Y : Type 0} {asked : Result X Error} {result : Result Y Err
     → Means (schema_of version) q sql → Means office_schema q sql → (old new : Held S)
     → LeavesIfPlain sql g old new asked → ((P : Type 0) → OnOk asked P → OnOk result P)
     → LeavesTablesIn version g old new result
-leaves_in version g q sql means also old new h on_ok = record {
-  open_on_ok = λ clean. on_ok _ (h.open_on_ok clean);
-  was_open = h.was_open;
-  same = λ clean t represents. on_ok _
-      (h.same clean (plain_at version q sql means (state g old) t represents));
-  kept = λ clean t represents.
-      h.kept clean (plain_at version q sql means (state g old) t represents);
-  mode = h.mode;
-  survives = silent_in q sql also (state g old) (state g new) h.survives;
-}
+leaves_in version g q sql means also old new h on_ok = grind (arith, common_steps, was_open)
 
 -- the same of version 2
 pub leaves_after : {S X Y : Type 0} {asked : Result X Error} {result : Result Y Error}

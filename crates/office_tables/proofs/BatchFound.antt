@@ -1,4 +1,5 @@
 -- The stored batches, according to the numbers found.
+use Rattle.std.proofs.lemmas.Grind.{common_steps}
 use Rattle.std.proofs.Common.{◌≡◌, ℕ, List, [], ◌∷◌, map, take, drop, length, codes, not, ◌&&◌, Option, Some, None, true, false, Result, Ok, Err, IfOk, OnOk, pos, refl, sym, ap, ap₂, subst, ◌∙◌, arith, IsPermutation}
 use Rattle.std.specs.Prelude.{Vec}
 use Rattle.std.specs.List.{AllByRecursion}
@@ -50,13 +51,7 @@ whole : (r : Row) → length r ≡ 6 → are_typed batch_table.key 0 batch_table
 whole [] long typed present = absurd (omega (arith, long))
 whole (a ∷ []) long typed present = absurd (omega (arith, long))
 whole (a ∷ b ∷ []) long typed present = absurd (omega (arith, long))
-whole (a ∷ b ∷ v ∷ row) long typed present =
-    let five : length (keyed_columns (a ∷ b ∷ v ∷ row)) ≡ 5 = omega (arith, long) in
-    let suited = (and_parts _ _ (and_parts _ _ typed).1).0 in
-    let given : (not (is_null v) && are_present batch_table.key 2 (drop 2 batch_table.columns)
-    (a ∷ b ∷ v ∷ row)) ≡ true = present in
-    let there = bytes_there v suited (not-true (is_null v) (and_parts _ _ given).0) in
-    record { long = five; bytes = there.0; blob = there.1 }
+whole (a ∷ b ∷ v ∷ row) long typed present = grind (arith, common_steps, and_parts, bytes_there, not-true)
 
 -- ---- one batch
 
@@ -65,12 +60,7 @@ picked q = column q 0 ∷ column q 2 ∷ column q 3 ∷ column q 4 ∷ []
 
 is_batch : (q : Row) → IsWhole q → (found : BatchCountsRow) × (picked q ≡ counts_columns found)
     → q ≡ batch_columns (batch_of q)
-is_batch q whole (found, is) =
-    let no : column q 0 ≡ Int (pos found.no) = ap (λ (l : Row). column l 0) is in
-    let added : column q 2 ≡ Int (pos found.added) = ap (λ (l : Row). column l 1) is in
-    let dropped_is : column q 3 ≡ Int (pos found.dropped) = ap (λ (l : Row). column l 2) is in
-    let unchanged : column q 4 ≡ Int (pos found.unchanged) = ap (λ (l : Row). column l 3) is in
-    dropped 0 5 q whole.long ∙ rw (no, whole.blob, added, dropped_is, unchanged) refl
+is_batch q whole (found, is) = grind (arith, common_steps, pos, dropped)
 
 all_same : (f : Row → Row) (rows : List Row) → AllByRecursion (λ q. q ≡ f q) rows
     → rows ≡ map f rows

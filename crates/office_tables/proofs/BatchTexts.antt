@@ -1,10 +1,13 @@
 -- The rows that queries read from the table of batches.
+use Rattle.std.proofs.lemmas.Grind.{common_steps}
 use Rattle.std.proofs.Common.{◌≡◌, ◌≢◌, ◌≤◌, ◌<◌, ℕ, pos, Bool, true, false, cond, List, [], ◌∷◌, ◌++◌, map, filter, length, ◌==◌, codes, Option, Some, None, refl, sym, ap, ◌∙◌, ◌↔◌, arith, length-append, IsPermutation}
 use Rattle.std.specs.Prelude.{option_to_list, IsSome}
 use Rattle.std.specs.List.{AllByRecursion}
 use Rattle.std.proofs.lemmas.Bool.Decides.{nat_tests}
 use Rattle.std.proofs.lemmas.List.{length-map}
 use Rattle.std.proofs.lemmas.List.Sorted.{length_permutation}
+use Rattle.exam_lists.proofs.Keys.{all_of_key}
+use Rattle.exam_lists.proofs.Permutations.{same_few}
 use Rattle.exam_lists.proofs.Searches.{last_only}
 use Rattle.sqlite_trees.specs.Tree.{IsAscending}
 use Rattle.sqlite_trees.proofs.ListLemmas.{ascending-filter}
@@ -14,7 +17,6 @@ use Rattle.sqlite.specs.Effect.{Database}
 use Rattle.sqlite.specs.Listing.{understood}
 use Rattle.sqlite.specs.Query.{Query, inner, end}
 use Rattle.sqlite.specs.Term.{Term, col}
-use Rattle.sqlite.proofs.Callers.{one_permutation}
 use Rattle.sqlite_tied.specs.Compute.{everything}
 use Rattle.office_tables.specs.declared.version.Version.{Version}
 use Rattle.office_tables.specs.declared.version.Version.TheVariants.{One, Two}
@@ -70,12 +72,7 @@ picked row = column row 0 ∷ column row 1 ∷ column row 2 ∷ column row 3 ∷
 
 shown_is : (r : Row) → column r 0 ∷ column r 2 ∷ column r 3 ∷ column r 4 ∷ column r 5 ∷ []
     ≡ picked (keyed_columns r)
-shown_is r = rw (
-  column_later r 0,
-  column_later r 1,
-  column_later r 2,
-  column_later r 3,
-) refl
+shown_is r = grind (arith, common_steps, column_later)
 
 rows_read : (version : Version) (db : Database) (n : ℕ) (t : Tables) → HoldsTablesIn version db t
     → (found : List Batch)
@@ -90,21 +87,6 @@ rows_read version db n t represents found is =
     (λ x. refl) (passes params (equals 0 0 ∷ [])) (λ r. refl)
     (λ r. r.no == n) (λ x. equal_numbers x.no n) db.trees t.batch
     (held_at 9 represents).same) is).0
-
-is_number : (m n : ℕ) → (m == n) ≡ true → m ≡ n
-is_number m n e = grind (arith, nat_tests)
-
-passing : (n : ℕ) (rows : List Batch)
-    → AllByRecursion (λ r. r.no ≡ n) (filter (λ r. r.no == n) rows)
-passing n [] = tt
-passing n (r ∷ rows) = go (r.no == n) (is_number r.no n) (passing n rows)
-  where
-    go : (b : Bool) → (b ≡ true → r.no ≡ n)
-        → AllByRecursion (λ x. x.no ≡ n) (filter (λ x. x.no == n) rows)
-        → AllByRecursion (λ x. x.no ≡ n)
-        (cond b (r ∷ filter (λ x. x.no == n) rows) (filter (λ x. x.no == n) rows))
-    go true is more = (is refl, more)
-    go false is more = more
 
 one_at_most : (n : ℕ) (rows : List Batch) → AllByRecursion (λ r. r.no ≡ n) rows
     → IsAscending (λ a b. a.no ≢ b.no) rows → length rows ≤ 1
@@ -124,16 +106,10 @@ batch_of_read version db n t represents found rest last is ends some =
     let same : IsPermutation kept (map batch_from found) =
     rows_read version db n t represents (map batch_from found)
     (typed batch_columns batch_from 5 (Int (pos n) ∷ []) batch_of_query db.trees found is) in
-    let few = one_at_most n kept (passing n t.batch)
+    let few = one_at_most n kept (all_of_key (λ (r : Batch). r.no) n t.batch)
     (ascending-filter (λ a b. a.no ≢ b.no) (λ r. r.no == n) t.batch
     (kept_once version db t represents)) in
     let long = length_permutation _ _ same in
     let single : found ≡ option_to_list last = last_only found rest last ends some
     (omega (arith, few, long, length-map found batch_from)) in
-    sym (few_same _ _ few same) ∙ ap (map batch_from) single
-  where
-    few_same : (xs ys : List Batch) → length xs ≤ 1 → IsPermutation xs ys → ys ≡ xs
-    few_same [] [] few same = refl
-    few_same [] (y ∷ ys) few same = absurd (omega (arith, length_permutation _ _ same))
-    few_same (x ∷ []) ys few same = one_permutation x ys same
-    few_same (x ∷ z ∷ xs) ys few same = absurd (omega (arith, few))
+    sym (same_few _ _ few same) ∙ ap (map batch_from) single

@@ -1,7 +1,9 @@
 -- The effect of the statements that delete rows of a table.
+use Rattle.std.proofs.lemmas.Grind.{common_steps}
 use Rattle.std.proofs.Common.{◌≡◌, ◌≤◌, ℕ, zero, suc, pos, List, [], ◌∷◌, ◌++◌, map, length, filter, not, ◌==◌, ◌&&◌, OnOk, Result, Bool, true, false, Option, Some, None, Ok, arith, sym, subst, ap, ap₂, ◌∙◌, refl}
 use Rattle.std.specs.Prelude.{slice_get, slice_set}
 use Rattle.std.proofs.Math.Bool.{and-true}
+use Rattle.exam_lists.proofs.Filters.{filter_false}
 use Rattle.exam_lists.proofs.Maps.{map_same}
 use Rattle.sqlite_schema.specs.declared.schema.Table.{Table}
 use Rattle.sqlite_sql.specs.Ops.{binary, is_true}
@@ -26,7 +28,7 @@ use Rattle.office_tables.specs.Tables.{Tables}
 use Rattle.office_tables.specs.TablesHeld.{all_columns}
 use Rattle.office_tables.proofs.Frames.{AllShown, all_shown, own_shown, shown_next, tables_held}
 use Rattle.office_tables.proofs.Inside.{changes_by}
-use Rattle.office_tables.proofs.Queries.{answered, column_later, column_less, equal_numbers, equals, left_of, none_left, one_table, passes, rowids, shown_filter}
+use Rattle.office_tables.proofs.Queries.{answered, column_later, column_less, equal_numbers, equals, left_of, one_table, passes, rowids, shown_filter}
 use Rattle.office_tables.proofs.Statements.{deletes, sound_after}
 use Rattle.office_tables.proofs.TableLemmas.{rowids_filter}
 
@@ -86,10 +88,7 @@ agree [] key rest long = refl
 agree (p ∷ ps) [] rest long = absurd (omega arith)
 agree (p ∷ []) (k ∷ key) rest long = equal_numbers k p
 agree (p ∷ q ∷ ps) (k ∷ key) rest long =
-    ap₂ (λ a b. a && b) (sym (and-true _) ∙ equal_numbers k p)
-    (starts_later (number p) (number k) (map number (q ∷ ps)) (map number key ++ rest)
-    (length (q ∷ ps)) 0
-    ∙ agree (q ∷ ps) key rest (omega arith))
+    grind (arith, common_steps, and-true, equal_numbers, starts_later, agree (q ∷ ps) key rest (omega arith))
 
 -- ---- DELETE
 
@@ -154,7 +153,7 @@ pub cleared : {at : ℕ} {table : Table} (is : IsTable at table) (sql : List ℕ
     (all : List (List Row)) → slice_get all at ≡ Some rows → AllShown all old.now
     → Executes sql [] old new (Ok count) → AllShown (slice_set all at []) new.now
 cleared {at} is sql means old new rows count all there shown h =
-    subst (λ l. AllShown (slice_set all at l) new.now) (ap (map (λ (r : Row). r)) (none_left rows))
+    subst (λ l. AllShown (slice_set all at l) new.now) (ap (map (λ (r : Row). r)) (filter_false rows))
     (deleted is (λ (r : Row). r) (λ _. []) (λ r. (r, refl)) [] (λ _. omega arith) sql means old new
     rows count all (rw (map_same (λ (r : Row). r) (λ _. refl) rows) there) shown h)
 

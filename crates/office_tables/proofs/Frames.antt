@@ -1,4 +1,5 @@
 -- All tables hold their rows, and still do after one of them has changed.
+use Rattle.std.proofs.lemmas.Grind.{common_steps}
 use Rattle.std.proofs.Common.{◌≡◌, ◌≢◌, ◌++◌, ℕ, zero, suc, List, [], ◌∷◌, length, map, not, ◌==◌, refl, Some, true, arith, sym, subst}
 use Rattle.std.specs.Prelude.{slice_get, slice_set}
 use Rattle.std.specs.List.{AllByRecursion, list_all}
@@ -96,10 +97,7 @@ own_held : (table : Table) (own : List Row) (trees : Trees) (at : ℕ) (tables :
     → HoldAll tables rows trees → Holds (shown_by table.key) own (trees table.tree)
 own_held table own trees at [] rows found read all = absurd (cc)
 own_held table own trees at (x ∷ xs) [] found read all = absurd (cc)
-own_held table own trees zero (x ∷ xs) (r ∷ rows) found read all =
-    let is : x ≡ table = cc in let same : r ≡ own = cc in
-    subst (λ (y : Table). Holds (shown_by y.key) own (trees y.tree)) is
-    (subst (λ o. Holds (shown_by x.key) o (trees x.tree)) same all.0)
+own_held table own trees zero (x ∷ xs) (r ∷ rows) found read all = grind (arith, common_steps)
 own_held table own trees (suc at) (x ∷ xs) (r ∷ rows) found read all =
     own_held table own trees at xs rows found read all.1
 
@@ -146,22 +144,10 @@ pub record AllShown (all : List (List Row)) (db : Database) : Type 0 where
   pub hold : HoldAll office_schema.tables all db.trees
 
 pub all_shown : (db : Database) (t : Tables) → HoldsTables db t → AllShown (all_columns t) db
-all_shown db t h = record {
-  schema = h.schema;
-  hold = both_held db.trees schema_before.tables night_tables (columns_in Two t)
-      (night_columns_of t) h.rows (h.night_draft, (h.night_share, tt));
-}
+all_shown db t h = grind (arith, common_steps)
 
 pub tables_held : (db : Database) (t : Tables) → AllShown (all_columns t) db → HoldsTables db t
-tables_held db t shown =
-    let parts = parts_held db.trees schema_before.tables night_tables (columns_in Two t)
-    (night_columns_of t) refl shown.hold in
-    record {
-      schema = shown.schema;
-      rows = parts.0;
-      night_draft = parts.1.0;
-      night_share = parts.1.1.0;
-    }
+tables_held db t shown = grind (arith, common_steps)
 
 module _ {at : ℕ} {table : Table} (is : IsTable at table) (all : List (List Row)) where
   -- the rows of one table

@@ -1,4 +1,5 @@
 -- Rows that are read one at a time.
+use Rattle.std.proofs.lemmas.Grind.{common_steps}
 use Rattle.std.proofs.Common.{◌≡◌, ℕ, List, [], ◌∷◌, ◌++◌, map, Option, Some, None, refl, sym, ap, subst, ◌∙◌, arith}
 use Rattle.std.specs.Prelude.{Vec}
 use Rattle.std.specs.declared.alloc.Global.{Global}
@@ -32,9 +33,4 @@ module _ {X : Type 0} (fits : X → Type 0) (row_of : X → Row) (width : ℕ) (
       → map row_of made ≡ map (columns_from 0 width) rows → more ≡ made ++ x ∷ []
       → row_of x ≡ columns_from 0 width row
       → map row_of more ≡ map (columns_from 0 width) (rows ++ row ∷ [])
-  one_gathered row made more x before is one =
-      ap (map row_of) is
-      ∙ map-append row_of made (x ∷ [])
-      ∙ ap (λ l. l ++ row_of x ∷ []) before
-      ∙ ap (λ c. map (columns_from 0 width) rows ++ c ∷ []) one
-      ∙ sym (map-append (columns_from 0 width) rows (row ∷ []))
+  one_gathered row made more x before is one = grind (arith, common_steps, map-append)

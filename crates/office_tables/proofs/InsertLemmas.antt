@@ -1,4 +1,5 @@
 -- The effect of the statements that insert rows of a table.
+use Rattle.std.proofs.lemmas.Grind.{common_steps}
 use Rattle.std.proofs.Common.{◌≡◌, ◌+◌, ◌<◌, ℕ, ℤ, zero, suc, List, [], ◌∷◌, ◌++◌, drop, map, length, reverse, flat_map, slice_index_or, Option, Some, None, Ok, refl, sym, ap, ap₂, subst, ◌∙◌, arith, append-nil, take-append-drop, IsTrue, Bool, true, false}
 use Rattle.std.specs.Fn.{Called, Mut}
 use Rattle.std.specs.Prelude.{slice_get, slice_set}
@@ -112,11 +113,7 @@ module _ {R : Type 0} (it : Shape R) (w n : ℕ) (one several : List ℕ)
       ≡ it.with_rows (reverse (map row_of its) ++ it.rows t) t
   rows_put row_of [] t = sym (about.same t)
   rows_put row_of (x ∷ rest) t =
-      rows_put row_of rest (with_row it (row_of x) t)
-      ∙ ap (λ l. it.with_rows (reverse (map row_of rest) ++ l) (with_row it (row_of x) t))
-      (about.read (row_of x ∷ it.rows t) t)
-      ∙ about.over (row_of x ∷ it.rows t) (reverse (map row_of rest) ++ (row_of x ∷ it.rows t)) t
-      ∙ ap (λ l. it.with_rows l t) (reverse_cons_append (row_of x) (map row_of rest) (it.rows t))
+      grind (arith, common_steps, reverse, reverse_cons_append, rows_put row_of rest (with_row it (row_of x) t))
 
 -- ---- the parameters of an array of rows, which a function gives at each index
 
@@ -181,18 +178,8 @@ pub continued : {A : Type 0} (f : A → Tables → Tables) (n : ℕ) (all left c
     (old mid new : State) → Continues (after_all f) all left old mid
     → Makes (after_all f chunk) mid new → IsSplitAt left n chunk rest
     → Continues (after_all f) all rest old new
-continued f n all left chunk rest old mid new before makes split = (
-  makes.0,
-  λ t h. let reached = before.1 t h in let more = makes.1 reached.0 reached.1 in (
-    after_all f chunk reached.0,
-    more.0,
-    after_append f chunk rest reached.0
-        ∙ ap (λ l. after_all f l reached.0) (ap₂ (λ a b. a ++ b) split.1 split.2
-        ∙ take-append-drop n left)
-        ∙ reached.2,
-    λ was. more.1 (reached.3 was),
-  ),
-)
+continued f n all left chunk rest old mid new before makes split =
+    grind (arith, common_steps, after_append, take-append-drop)
 
 pub finished : {A : Type 0} (f : A → Tables → Tables) (all left : List A) (old mid new : State)
     → Continues (after_all f) all left old mid → Makes (after_all f left) mid new

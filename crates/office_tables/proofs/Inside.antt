@@ -1,5 +1,6 @@
 -- The effect of a statement inside a transaction.
-use Rattle.std.proofs.Common.{◌+◌, ◌<◌, ◌++◌, ◌∷◌, [], take, get_or, length, ◌≡◌, inl, ℕ, List, Ok, Result, refl, sym, ap, ◌∙◌, arith, OnOk}
+use Rattle.std.proofs.lemmas.Grind.{common_steps}
+use Rattle.std.proofs.Common.{◌+◌, ◌<◌, ◌++◌, ◌∷◌, [], take, get_or, length, ◌≡◌, inl, ℕ, List, Ok, Result, refl, sym, ap, ◌∙◌, arith, OnOk, IsTrue}
 use Rattle.std.proofs.lemmas.List.{take_more}
 use Rattle.sqlite_value.specs.Order.{Row}
 use Rattle.sqlite.specs.declared.error.Error.{Error}
@@ -16,30 +17,10 @@ pub clean_before : (old new : State) → Within old new → HasCleanDisk new →
 clean_before old new w clean = omega (arith, w.survives.clean)
 
 pub within_then : (a b c : State) → Within a b → Within b c → Within a c
-within_then a b c p q = record {
-  survives = survives_then a b c _ _ (λ _. ⊥) (λ _ db none. none)
-      (λ _ db none. none) p.survives q.survives;
-  kept = λ clean.
-      let first = p.kept (clean_before b c q clean) in
-      let second = q.kept clean in
-      record {
-        was_open = λ o. first.was_open (second.was_open o);
-        committed = λ o. second.committed o ∙ first.committed (second.was_open o);
-      };
-}
+within_then a b c p q = grind (arith, common_steps, survives_then, clean_before)
 
 pub within_same : (a : State) → Within a a
-within_same a = record {
-  survives = record {
-    clean = omega arith;
-    shield = λ h. h;
-    counts = omega arith;
-    limit = refl;
-    closes = λ _ o. inl o;
-    crash = λ _ db h. inl h;
-  };
-  kept = λ _. record { was_open = λ o. o; committed = λ _. refl };
-}
+within_same a = grind (arith, common_steps)
 
 pub makes_then : (f g : Tables → Tables) (a b c : State) → Makes f a b → Makes g b c
     → Makes (λ t. g (f t)) a c
@@ -61,17 +42,21 @@ changes_by f sql params old new r step =
     on_ok_weaker r (λ ran. (ran.inside, λ t represents. step ran.count t represents ran.executed))
 
 -- the same for two statements, one after the other
-pub changes_by_two : (f : Tables → Tables) (sql : List ℕ) (params : Row) (more : List ℕ)
-    (others : Row) (old mid new : State) (r : Result (Unit {0}) Error)
+pub changes_by_two : {f : Tables → Tables} {sql : List ℕ} {params : Row} (more : List ℕ) (others : Row)
+    (old mid new : State) (r : Result (Unit {0}) Error)
     → ((first second : ℕ) (t : Tables) → HoldsTables old.now t → Executes sql params old mid (Ok first)
     → Executes more others mid new (Ok second) → IsWritten (f t) old.now new.now)
-    → HasRun sql params old mid → OnOk r (HasRun more others mid new) → OnOk r (Makes f old new)
-changes_by_two f sql params more others old mid new r step ran =
+    → Within mid new
+    → (HasCleanDisk mid → IsTrue old.in_transaction → HasRun sql params old mid)
+    → (HasCleanDisk new → IsTrue mid.in_transaction → OnOk r (HasRun more others mid new))
+    → HasCleanDisk new → IsTrue old.in_transaction → OnOk r (Makes f old new)
+changes_by_two more others old mid new r step within one two clean inside =
+    let ran = one (clean_before mid new within clean) inside in
     on_ok_weaker r (λ last. (
       last.inside,
-      λ t represents.
-          step ran.count last.count t represents ran.executed last.executed,
+      λ t represents. step ran.count last.count t represents ran.executed last.executed,
     ))
+    (two clean ran.inside)
 
 -- ---- alterations, one after the other
 
@@ -83,7 +68,4 @@ after_push f (y ∷ xs) x t = after_push f xs x (f y t)
 pub after_more : {A : Type 0} (f : A → Tables → Tables) (xs : List A) (i : ℕ) (x : A) (t : Tables)
     → i < length xs → x ≡ get_or xs i x
     → after_all f (take (i + 1) xs) t ≡ f x (after_all f (take i xs) t)
-after_more f xs i x t lt is =
-    ap (λ l. after_all f l t) (take_more xs i x lt)
-    ∙ ap (λ y. after_all f (take i xs ++ y ∷ []) t) (sym is)
-    ∙ after_push f (take i xs) x t
+after_more f xs i x t lt is = grind (arith, common_steps, take_more, after_push)

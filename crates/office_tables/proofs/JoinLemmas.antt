@@ -1,5 +1,6 @@
 -- Two lists that are traversed together, by their numbers.
-use Rattle.std.proofs.Common.{◌≡◌, ◌≢◌, ◌≤◌, ◌<◌, ◌+◌, ℕ, List, [], ◌∷◌, ◌++◌, map, take, length, get_or, sym, ap, ap₂, ◌∙◌}
+use Rattle.std.proofs.lemmas.Grind.{common_steps}
+use Rattle.std.proofs.Common.{◌≡◌, ◌≢◌, ◌≤◌, ◌<◌, ◌+◌, ℕ, List, [], ◌∷◌, ◌++◌, map, take, length, get_or, sym, ap, ap₂, ◌∙◌, arith}
 use Rattle.std.proofs.lemmas.List.{get_or-map, map-append, map_more, take_all}
 use Rattle.sqlite_value.specs.Order.{Row}
 use Rattle.office_tables.specs.declared.nights.NightRow.{NightRow}
@@ -24,16 +25,7 @@ module _ {X : Type 0} (first second : X → Row) (number : X → ℕ) (rows : Li
       → second x ≡ night_columns (record { number = number row; night = (get_or nights i d).night })
       → AreJoinedTo i first second number rows nights made
       → AreJoinedTo (i + 1) first second number rows nights grown
-  next made grown i row x d low within is grows same one two was = (
-    ap (map first) grows ∙ map-append first made (x ∷ [])
-        ∙ ap₂ (λ vs v. vs ++ v ∷ []) was.0 (one ∙ ap first is)
-        ∙ sym (map_more first rows i row low),
-    ap (map second) grows ∙ map-append second made (x ∷ [])
-        ∙ ap₂ (λ vs v. vs ++ v ∷ []) was.1
-        (two ∙ ap (λ n. night_columns (record { number = n; night = (get_or nights i d).night }))
-        (sym same))
-        ∙ sym (map_more night_columns nights i d within),
-  )
+  next made grown i row x d low within is grows same one two was = grind (arith, common_steps, map-append, map_more)
 
   -- a row and its amount over night have different numbers
   pub differ : (i : ℕ) (row : X) (d : NightRow) → i < length rows → i < length nights
@@ -49,7 +41,4 @@ module _ {X : Type 0} (first second : X → Row) (number : X → ℕ) (rows : Li
   pub all_joined : (made : List X) (i : ℕ) → length rows ≤ i → length nights ≤ i
       → AreJoinedTo i first second number rows nights made
       → (map first made ≡ map first rows) × (map second made ≡ map night_columns nights)
-  all_joined made i high end was = (
-    was.0 ∙ ap (map first) (take_all i rows high),
-    was.1 ∙ ap (map night_columns) (take_all i nights end),
-  )
+  all_joined made i high end was = grind (arith, common_steps, take_all)

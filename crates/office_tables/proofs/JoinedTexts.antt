@@ -1,7 +1,10 @@
 -- The rows that queries read from enrolments and published placements together.
-use Rattle.std.proofs.Common.{◌≡◌, ℕ, pos, List, [], ◌∷◌, ◌++◌, map, filter, flat_map, Bool, true, false, cond, ◌&&◌, ◌==◌, codes, refl, sym, ap, subst, ◌∙◌, IsPermutation}
+use Rattle.std.proofs.lemmas.Grind.{common_steps}
+use Rattle.std.proofs.Common.{◌≡◌, ℕ, pos, List, [], ◌∷◌, ◌++◌, map, filter, flat_map, Bool, true, false, cond, ◌&&◌, ◌==◌, codes, refl, sym, ap, subst, ◌∙◌, IsPermutation, arith}
 use Rattle.std.specs.List.{list_all}
 use Rattle.std.proofs.lemmas.List.Sorted.{IsPermutation-map, IsPermutation-trans}
+use Rattle.std.proofs.lemmas.List.{map-append}
+use Rattle.exam_lists.proofs.Filters.{filter_false}
 use Rattle.exam_lists.proofs.Maps.{map_agree}
 use Rattle.sqlite_sql.specs.declared.ops.BinaryOp.TheVariants.{Compare}
 use Rattle.sqlite_sql.specs.declared.ops.CompareOp.TheVariants.{Eq}
@@ -39,14 +42,7 @@ second_matched : (params : Row) (where_ : List Term) (r : Row) (rows : List Row)
     → flat_map (λ s. cond (both_pass params where_ r s) ((params ∷ r ∷ s ∷ []) ∷ []) []) rows
     ≡ map (λ s. params ∷ r ∷ s ∷ []) (filter (both_pass params where_ r) rows)
 second_matched params where_ r [] = refl
-second_matched params where_ r (s ∷ rows) =
-    elim (both_pass params where_ r s) as (λ b. cond b ((params ∷ r ∷ s ∷ []) ∷ []) [] ++
-    flat_map (λ x. cond (both_pass params where_ r x) ((params ∷ r ∷ x ∷ []) ∷ []) []) rows
-    ≡ map (λ x. params ∷ r ∷ x ∷ []) (cond b (s ∷ filter (both_pass params where_ r) rows)
-    (filter (both_pass params where_ r) rows))) [
-      | true ↦ ap (λ l. (params ∷ r ∷ s ∷ []) ∷ l) (second_matched params where_ r rows)
-      | false ↦ second_matched params where_ r rows
-    ]
+second_matched params where_ r (s ∷ rows) = grind (arith, common_steps, flat_map, second_matched params where_ r rows)
 
 -- the matches of a join are the pairs of rows that pass
 pub joined : (params : Row) (where_ : List Term) (trees : Trees) (one two : ℕ)
@@ -55,6 +51,66 @@ pub joined : (params : Row) (where_ : List Term) (trees : Trees) (one two : ℕ)
     (filter (both_pass params where_ r) (trees two))) (trees one)
 joined params where_ trees one two =
     flat_map_same_on _ _ (λ r. second_matched params where_ r (trees two)) (trees one)
+
+-- ---- what a join shows
+
+module _ {X Y : Type 0} (columns_of : X → Row) (others_of : Y → Row) (show show_other : Row → Row)
+    (params : Row) (one two : ℕ) (tests terms : List Term) (suits : Row → Row → Bool) (picked : Row → Row → Row)
+    -- the tests and the shown columns of two stored rows depend only on what their tables show
+    (same_test : (r s : Row) → both_pass params tests r s ≡ suits (show r) (show_other s))
+    (same_shown : (r s : Row) → eval_all terms (params ∷ r ∷ s ∷ []) ≡ picked (show r) (show_other s))
+    (t : X → Y → Bool) (tested : (x : X) (y : Y) → suits (columns_of x) (others_of y) ≡ t x y) where
+  -- the columns shown of the rows that match a first row
+  abbrev suited : Trees → Row → List Row
+  suited trees q = map (picked q) (filter (suits q) (map show_other (trees two)))
+
+  one_suited : (trees : Trees) (r : Row)
+      → map (eval_all terms) (map (λ s. params ∷ r ∷ s ∷ [])
+      (filter (both_pass params tests r) (trees two)))
+      ≡ suited trees (show r)
+  one_suited trees r =
+      map-map (eval_all terms) (λ s. params ∷ r ∷ s ∷ []) _
+      ∙ map_agree _ (λ s. picked (show r) (show_other s)) (same_shown r) _
+      ∙ ap (λ p. map (λ s. picked (show r) (show_other s)) (filter p (trees two)))
+      (λ i s. same_test r s i)
+      ∙ sym (map-map (picked (show r)) show_other _)
+      ∙ ap (map (picked (show r))) (sym (filter-map (suits (show r)) show_other (trees two)))
+
+  all_suited : (trees : Trees)
+      → map (eval_all terms) (matches trees tests (inner one (inner two end)) (params ∷ []))
+      ≡ flat_map (suited trees) (map show (trees one))
+  all_suited trees =
+      ap (map (eval_all terms)) (joined params tests trees one two)
+      ∙ map-flat_map (eval_all terms) _ (trees one)
+      ∙ flat_map_same_on _ (λ r. suited trees (show r)) (one_suited trees) (trees one)
+      ∙ sym (flat_map-map (suited trees) show (trees one))
+
+  one_typed : (trees : Trees) (ys : List Y)
+      → IsPermutation (map show_other (trees two)) (map others_of ys) → (x : X)
+      → IsPermutation (suited trees (columns_of x))
+      (map (λ y. picked (columns_of x) (others_of y)) (filter (t x) ys))
+  one_typed trees ys same x =
+      let kept = IsPermutation-map (picked (columns_of x)) _ _
+      (IsPermutation-filter (suits (columns_of x)) _ _ same) in
+      let typed : map (picked (columns_of x)) (filter (suits (columns_of x)) (map others_of ys))
+      ≡ map (λ y. picked (columns_of x) (others_of y)) (filter (t x) ys) =
+      ap (map (picked (columns_of x))) (filter-map (suits (columns_of x)) others_of ys)
+      ∙ map-map (picked (columns_of x)) others_of _
+      ∙ ap (λ p. map (λ y. picked (columns_of x) (others_of y)) (filter p ys)) (λ i y. tested x y i) in
+      subst (IsPermutation _) typed kept
+
+  -- a SELECT from two tables shows the pairs of rows that pass
+  pub pairs_shown : (trees : Trees) (xs : List X) (ys : List Y)
+      → IsPermutation (map show (trees one)) (map columns_of xs)
+      → IsPermutation (map show_other (trees two)) (map others_of ys)
+      → IsPermutation
+      (map (eval_all terms) (matches trees tests (inner one (inner two end)) (params ∷ [])))
+      (flat_map (λ x. map (λ y. picked (columns_of x) (others_of y)) (filter (t x) ys)) xs)
+  pairs_shown trees xs ys first second =
+      let stored = IsPermutation-flat_map (suited trees) _ _ first in
+      let typed = IsPermutation-flat_map_each _ _ (one_typed trees ys second) xs in
+      rw (all_suited trees)
+      (IsPermutation-trans _ _ _ stored (rw (flat_map-map (suited trees) columns_of xs) typed))
 
 -- ---- SELECT .. FROM enrol, placed
 
@@ -89,53 +145,12 @@ suits params q s =
 abbrev picked : Row → Row
 picked row = column row 0 ∷ column row 1 ∷ column row 2 ∷ []
 
--- the shown columns of the placements that match an enrolment
-abbrev suited : Row → Trees → Row → List Row
-suited params trees q = map picked (filter (suits params q) (map keyed_columns (trees 7)))
+test_is : (params r s : Row)
+    → both_pass params tests r s ≡ suits params (keyless_columns r) (keyed_columns s)
+test_is params r s = rw (column_less r 0, column_less r 1) refl
 
-module _ (params : Row) (trees : Trees) where
-  test_is : (r s : Row) → both_pass params tests r s ≡ suits params (keyless_columns r) (keyed_columns s)
-  test_is r s = rw (column_less r 0, column_less r 1) refl
-
-  shown_is : (r s : Row) → eval_all columns (params ∷ r ∷ s ∷ []) ≡ picked (keyed_columns s)
-  shown_is r s = rw (column_later s 0, column_later s 1) refl
-
-  one_suited : (r : Row)
-      → map (eval_all columns) (map (λ s. params ∷ r ∷ s ∷ [])
-      (filter (both_pass params tests r) (trees 7)))
-      ≡ suited params trees (keyless_columns r)
-  one_suited r =
-      map-map (eval_all columns) (λ s. params ∷ r ∷ s ∷ []) _
-      ∙ map_agree _ (λ s. picked (keyed_columns s)) (shown_is r) _
-      ∙ ap (λ p. map (λ s. picked (keyed_columns s)) (filter p (trees 7))) (λ i s. test_is r s i)
-      ∙ sym (map-map picked keyed_columns _)
-      ∙ ap (map picked) (sym (filter-map (suits params (keyless_columns r)) keyed_columns (trees 7)))
-
-  all_suited : map (eval_all columns) (matches trees tests (inner 2 (inner 7 end)) (params ∷ []))
-      ≡ flat_map (suited params trees) (map keyless_columns (trees 2))
-  all_suited =
-      ap (map (eval_all columns)) (joined params tests trees 2 7)
-      ∙ map-flat_map (eval_all columns) _ (trees 2)
-      ∙ flat_map_same_on _ (λ r. suited params trees (keyless_columns r)) one_suited (trees 2)
-      ∙ sym (flat_map-map (suited params trees) keyless_columns (trees 2))
-
--- the placements of a table that match an enrolment
-one_placed : (student : ℕ) (trees : Trees) (placed : List PlacedRow)
-    → IsPermutation (map keyed_columns (trees 7)) (map placed_columns placed) → (e : EnrolRow)
-    → IsPermutation (suited (Int (pos student) ∷ []) trees (enrol_columns e))
-    (map placed_columns (filter (λ p. (e.student == student) && (p.exam == e.exam)) placed))
-one_placed student trees placed same e =
-    let params : Row = Int (pos student) ∷ [] in
-    let kept = IsPermutation-map picked _ _
-    (IsPermutation-filter (suits params (enrol_columns e)) _ _
-    same) in
-    let typed : map picked (filter (suits params (enrol_columns e)) (map placed_columns placed))
-    ≡ map placed_columns (filter (λ p. (e.student == student) && (p.exam == e.exam)) placed) =
-    ap (map picked) (filter-map (suits params (enrol_columns e)) placed_columns placed)
-    ∙ map-map picked placed_columns _
-    ∙ ap (λ p. map placed_columns (filter p placed))
-    (λ i p. equal_pairs e.student student p.exam e.exam i) in
-    subst (IsPermutation _) typed kept
+shown_is : (params r s : Row) → eval_all columns (params ∷ r ∷ s ∷ []) ≡ picked (keyed_columns s)
+shown_is params r s = rw (column_later s 0, column_later s 1) refl
 
 -- no placement matches an enrolment of another student
 only_rows_of_student : (student : ℕ) (placed : List PlacedRow) (enrols : List EnrolRow)
@@ -145,28 +160,17 @@ only_rows_of_student : (student : ℕ) (placed : List PlacedRow) (enrols : List 
     (filter (λ e. e.student == student) enrols))
 only_rows_of_student student placed [] = refl
 only_rows_of_student student placed (e ∷ enrols) =
-    sym (map-flat_map placed_columns
-    (λ x. filter (λ p. (x.student == student) && (p.exam == x.exam))
-    placed) (e ∷ enrols))
-    ∙ ap (map placed_columns) (go (e ∷ enrols))
+    one (e.student == student) (filter (λ x. x.student == student) enrols)
+    (only_rows_of_student student placed enrols)
   where
-    none : (xs : List PlacedRow) → filter (λ _. false) xs ≡ []
-    none [] = refl
-    none (x ∷ xs) = none xs
-
-    one : (b : Bool) (x : EnrolRow) (rest : List PlacedRow) (later : List EnrolRow)
-        → rest ≡ flat_map (λ y. filter (λ p. p.exam == y.exam) placed) later
-        → filter (λ p. b && (p.exam == x.exam)) placed ++ rest
-        ≡ flat_map (λ y. filter (λ p. p.exam == y.exam) placed) (cond b (x ∷ later) later)
-    one true x rest later is = ap (λ l. filter (λ p. p.exam == x.exam) placed ++ l) is
-    one false x rest later is = ap (λ l. l ++ rest) (none placed) ∙ is
-
-    go : (es : List EnrolRow)
-        → flat_map (λ x. filter (λ p. (x.student == student) && (p.exam == x.exam)) placed) es
-        ≡ flat_map (λ x. filter (λ p. p.exam == x.exam) placed)
-        (filter (λ x. x.student == student) es)
-    go [] = refl
-    go (x ∷ es) = one (x.student == student) x _ _ (go es)
+    one : (b : Bool) (later : List EnrolRow) {rest : List Row}
+        → rest ≡ map placed_columns (flat_map (λ x. filter (λ p. p.exam == x.exam) placed) later)
+        → map placed_columns (filter (λ p. b && (p.exam == e.exam)) placed) ++ rest
+        ≡ map placed_columns (flat_map (λ x. filter (λ p. p.exam == x.exam) placed) (cond b (e ∷ later) later))
+    one true later is =
+        ap (λ l. map placed_columns (filter (λ p. p.exam == e.exam) placed) ++ l) is
+        ∙ sym (map-append placed_columns (filter (λ p. p.exam == e.exam) placed) _)
+    one false later {rest} is = ap (λ l. map placed_columns l ++ rest) (filter_false placed) ∙ is
 
 pub placements_of_read : (db : Database) (student : ℕ) (t : Tables) → HoldsTables db t
     → (found : List PlacedRow)
@@ -174,15 +178,12 @@ pub placements_of_read : (db : Database) (student : ℕ) (t : Tables) → HoldsT
     → AreListed PlacementsRise (placed_of student t) found
 placements_of_read db student t represents found is =
     let params : Row = Int (pos student) ∷ [] in
-    let stored = IsPermutation-flat_map (suited params db.trees) _ _ (held_at 2 represents).same in
-    let typed = IsPermutation-flat_map_each _ _ (one_placed student db.trees t.placed
-    (held_at 5 represents).same) t.enrol in
-    let rows : IsPermutation (map (eval_all columns)
-    (matches db.trees tests (inner 2 (inner 7 end)) (params ∷ [])))
-    (map placed_columns (placed_of student t)) =
-    rw (all_suited params db.trees, sym (only_rows_of_student student t.placed t.enrol))
-    (IsPermutation-trans _ _ _ stored
-    (rw (flat_map-map (suited params db.trees) enrol_columns t.enrol) typed)) in
+    let rows = subst (IsPermutation _) (only_rows_of_student student t.placed t.enrol)
+    (pairs_shown enrol_columns placed_columns keyless_columns keyed_columns params 2 7 tests columns
+    (suits params) (λ _ s. picked s) (test_is params) (shown_is params)
+    (λ e p. (e.student == student) && (p.exam == e.exam))
+    (λ e p. equal_pairs e.student student p.exam e.exam) db.trees t.enrol t.placed
+    (held_at 2 represents).same (held_at 5 represents).same) in
     by_number (λ (x : PlacedRow). x.exam) _ found
     (read placement_of placed_columns 3 (λ x. refl) (λ x. refl) (inner 2 (inner 7 end)) tests columns
     (0 ∷ []) (λ (x : PlacedRow). x.exam ∷ []) (λ x. refl) db.trees params

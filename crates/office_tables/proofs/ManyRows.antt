@@ -1,4 +1,5 @@
 -- The effect of a statement that inserts many rows, for any table.
+use Rattle.std.proofs.lemmas.Grind.{common_steps}
 use Rattle.std.proofs.Common.{◌≡◌, ◌+◌, ◌/◌, ◌≢◌, ℕ, suc, List, [], ◌∷◌, ◌++◌, map, length, take, drop, reverse, flat_map, slice_get, Some, Bool, true, false, ◌&&◌, Ok, refl, sym, ap, ap₂, subst, ◌∙◌, arith, append_assoc, length-append}
 use Rattle.std.proofs.lemmas.Bool.{and_parts}
 use Rattle.std.specs.List.{AllByRecursion}
@@ -34,19 +35,7 @@ pub values_there : (pre cs post : Row)
     → eval_all (next_params (length cs) (length pre)) ((pre ++ (cs ++ post)) ∷ []) ≡ cs
 values_there pre [] post = refl
 values_there pre (c ∷ cs) post =
-    let longer : length (pre ++ c ∷ []) ≡ suc (length pre) =
-    length-append pre (c ∷ []) ∙ omega arith in
-    let more = values_there (pre ++ c ∷ []) cs post in
-    let same : (pre ++ c ∷ []) ++ (cs ++ post) ≡ pre ++ ((c ∷ cs) ++ post) =
-    append_assoc pre (c ∷ []) (cs ++ post) in
-    let rest : eval_all (next_params (length cs) (suc (length pre)))
-    ((pre ++ ((c ∷ cs) ++ post)) ∷ []) ≡ cs =
-    rw (longer, same) at more in
-    rw (first pre (cs ++ post), rest) refl
-  where
-    first : (pre vs : Row) → column (pre ++ c ∷ vs) (length pre) ≡ c
-    first [] vs = refl
-    first (x ∷ pre) vs = first pre vs
+    grind (arith, common_steps, length-append, append_assoc, values_there (pre ++ c ∷ []) cs post)
 
 -- ---- rows of a table
 

@@ -3,6 +3,7 @@ use Rattle.std.proofs.Common.{◌≡◌, ◌≢◌, List, [], ◌∷◌, map, le
 use Rattle.std.specs.List.{AllByRecursion}
 use Rattle.std.proofs.lemmas.List.Sorted.{IsPermutation-sym, IsPermutation-trans, length_permutation}
 use Rattle.exam_lists.proofs.Maps.{map_agree_each}
+use Rattle.exam_lists.proofs.Permutations.{same_one}
 use Rattle.sqlite_trees.specs.Tree.{rowid}
 use Rattle.sqlite_trees.specs.View.{is_int}
 use Rattle.sqlite_trees.proofs.ListLemmas.{all_from_map, all-map, all_of, all-permutation}
@@ -17,9 +18,6 @@ use Rattle.office_tables.specs.Tables.{Meta}
 use Rattle.office_tables.specs.Stored.{HasRowids, Holds, keyed_columns}
 use Rattle.office_tables.proofs.ListTexts.{meta_terms, meta_whole}
 use Rattle.office_tables.proofs.WholeRows.{dropped}
-
-one_same : {X : Type 0} (a b : X) → IsPermutation (a ∷ []) (b ∷ []) → a ≡ b
-one_same a b same = sym (all-permutation (λ v. v ≡ a) (a ∷ []) (b ∷ []) same (refl, tt)).0
 
 -- the only row has the number 0
 rowids_of_one : (version : Version) (stored : List Row) (m : Meta)
@@ -67,8 +65,8 @@ module _ (version : Version) (db : Database) (is : db.schema ≡ schema_of versi
       record { rowids = rowids_of_one version (db.trees 0) (meta_from m) here; same = here }
   single row one None none = λ m holds.
       let long = (subst (AllByRecursion (λ r. length r ≡ 4)) one four).0 in
-      let same = one_same row (meta_columns version m)
+      let same = same_one row (meta_columns version m)
       (IsPermutation-trans _ _ _
       (IsPermutation-sym _ _ (subst (IsPermutation (map keyed_columns (db.trees 0))) one shown))
       holds.same) in
-      none (omega (arith, long)) m (sym (dropped 0 4 row long) ∙ same)
+      none (omega (arith, long)) m (sym (dropped 0 4 row long) ∙ sym same)

@@ -1,4 +1,5 @@
 -- From version 1 to version 2: an amount of 0 for each row, and the row of the version.
+use Rattle.std.proofs.lemmas.Grind.{common_steps}
 use Rattle.std.proofs.Common.{◌≡◌, ℕ, pos, List, [], ◌∷◌, ◌++◌, map, filter, drop, ◌&&◌, codes, true, Ok, refl, sym, ap, ap₂, subst, subst₂, ◌∙◌, append-nil, arith, IsPermutation}
 use Rattle.std.specs.List.{AllByRecursion}
 use Rattle.std.specs.Prelude.{slice_set}
@@ -208,18 +209,7 @@ still_none (r ∷ stored) holds =
 begun : (t : Tables) (db : Database) → IsWidened t db
     → AllShown (slice_set (slice_set (slice_set (all_columns t) 0 (map (meta_columns One) t.meta))
     10 []) 11 []) db
-begun t db wide = let b = wide.represents in let same = wide.widened.rows in
-    let ten = all_first (λ (x : Table). db.trees x.tree ≡ without_nights wide.before.trees x.tree)
-    schema_before.tables night_tables same in
-    record {
-      schema = wide.widened.schema_is;
-      hold = both_held db.trees schema_before.tables night_tables (columns_in One t)
-          ([] ∷ [] ∷ [])
-          (all_still schema_before.tables (columns_in One t) wide.before.trees db.trees ten b.rows) (
-            holds_none _ _ same.1.1.1.1.1.1.1.1.1.1.0,
-            (holds_none _ _ same.1.1.1.1.1.1.1.1.1.1.1.0, tt),
-          );
-    }
+begun t db wide = grind (arith, common_steps, all_first, night_tables, both_held, all_still, holds_none)
 
 -- the three statements migrate all rows but the one about the office
 pub nights_filled : (t : Tables) (a b c d : State) (first second third : ℕ) → IsWidened t a.now
@@ -252,7 +242,4 @@ nights_filled t a b c d first second third wide h k l =
 -- the state before the two CREATEs
 pub begins : (db : Database) (t : Tables) → HoldsOldTables db t
     → HasRows schema_before (without_nights db.trees) db
-begins db t before = record {
-  schema_is = before.schema;
-  rows = (refl, (refl, (refl, (refl, (refl, (refl, (refl, (refl, (refl, (refl, tt))))))))));
-}
+begins db t before = grind (arith, common_steps)

@@ -1,16 +1,18 @@
 -- Rows of two tables with the same numbers, as the rows of one list.
-use Rattle.std.proofs.Common.{◌≡◌, ◌≢◌, inl, inr, ◌<ℤ◌, ℕ, ℤ, pos, List, [], ◌∷◌, map, Option, Some, None, refl, sym, ap, ap₂, subst, ◌∙◌, arith, IsPermutation}
+use Rattle.std.proofs.lemmas.Grind.{common_steps}
+use Rattle.std.proofs.Common.{◌≡◌, ◌≢◌, ◌<ℤ◌, int_cmp, Less, ℕ, ℤ, pos, List, [], ◌∷◌, map, Option, Some, None, refl, sym, ap, ap₂, subst, ◌∙◌, arith, IsPermutation}
 use Rattle.std.specs.List.{AllByRecursion}
 use Rattle.std.specs.Prelude.{Vec, IfSome}
 use Rattle.std.specs.declared.alloc.Global.{Global}
+use Rattle.std.specs.List.Sorted.{IsStrictlySortedBy}
+use Rattle.std.proofs.lemmas.Cmp.{int_cmp_total}
 use Rattle.std.proofs.lemmas.Int.{ints}
-use Rattle.std.proofs.lemmas.List.Sorted.{IsPermutation-map, IsPermutation-sym, IsPermutation-trans}
-use Rattle.exam_lists.proofs.Maps.{map_agree}
+use Rattle.std.proofs.lemmas.List.Sorted.{Contains-permutation, IsPermutation-map, IsPermutation-sym, IsPermutation-trans}
+use Rattle.exam_lists.proofs.Maps.{map_agree, map_back}
+use Rattle.exam_lists.proofs.Sorted.{same_sorted, sorted_cons, sorted_nil}
 use Rattle.sqlite_rules.specs.Edit.{id_in}
-use Rattle.sqlite_rules.specs.Lists.{Has}
-use Rattle.sqlite_rules.proofs.ListLemmas.{all_from, all_has}
 use Rattle.sqlite_trees.specs.Tree.{IsAscending}
-use Rattle.sqlite_trees.proofs.ListLemmas.{all_of, all-map, all-permutation, map-map}
+use Rattle.sqlite_trees.proofs.ListLemmas.{all_of, all-map, all-permutation, all_weaker, map-map}
 use Rattle.sqlite_value.specs.declared.value.Value.TheVariants.{Int}
 use Rattle.sqlite_value.specs.Order.{Row, column}
 use Rattle.office_tables.specs.declared.nights.NightRow.{NightRow}
@@ -27,74 +29,32 @@ use Rattle.office_tables.proofs.RecordLemmas.{full_night, IsFull}
 abbrev Below : ℤ → ℤ → Type 0
 Below a b = a <ℤ b
 
-not_itself : (n : ℤ) → n <ℤ n → ⊥
-not_itself n h = grind (arith, ints)
-
-not_both : (a b : ℤ) → a <ℤ b → b <ℤ a → ⊥
-not_both a b p q = grind (arith, ints)
-
-abbrev Within : List ℤ → List ℤ → Type 0
-Within xs ys = (v : ℤ) → Has xs v → Has ys v
-
-same_first : (x y : ℤ) (xs ys : List ℤ) → AllByRecursion (Below x) xs → AllByRecursion (Below y) ys
-    → Has (y ∷ ys) x → Has (x ∷ xs) y → x ≡ y
-same_first x y xs ys low high (inl same) there = same
-same_first x y xs ys low high (inr later) (inl same) = sym same
-same_first x y xs ys low high (inr later) (inr there) =
-    absurd (not_both x y (all_has (Below x) xs y low there) (all_has (Below y) ys x high later))
-
-later_within : (x : ℤ) (xs ys : List ℤ) → AllByRecursion (Below x) xs → Within (x ∷ xs) (x ∷ ys)
-    → Within xs ys
-later_within x xs ys low into v h = go (into v (inr h))
+rising_sorted : (xs : List ℤ) → IsAscending Below xs → IsStrictlySortedBy int_cmp xs
+rising_sorted [] up = sorted_nil int_cmp
+rising_sorted (x ∷ xs) up =
+    sorted_cons int_cmp x xs (all_weaker (Below x) (λ y. int_cmp x y ≡ Less) (less x) xs up.0)
+    (rising_sorted xs up.1)
   where
-    go : Has (x ∷ ys) v → Has ys v
-    go (inl same) =
-        absurd (not_itself v (subst (λ w. w <ℤ v) (sym same) (all_has (Below x) xs v low h)))
-    go (inr later) = later
-
-one_list : (xs ys : List ℤ) → IsAscending Below xs → IsAscending Below ys → Within xs ys
-    → Within ys xs → xs ≡ ys
-one_list [] [] p q into back = refl
-one_list [] (y ∷ ys) p q into back = absurd (back y (inl refl))
-one_list (x ∷ xs) [] p q into back = absurd (into x (inl refl))
-one_list (x ∷ xs) (y ∷ ys) p q into back =
-    let same = same_first x y xs ys p.0 q.0 (into x (inl refl)) (back y (inl refl)) in
-    let low : AllByRecursion (Below x) ys =
-    subst (λ v. AllByRecursion (Below v) ys) (sym same) q.0 in
-    ap₂ (λ v vs. v ∷ vs) same
-    (one_list xs ys p.1 q.1
-    (later_within x xs ys p.0 (subst (λ v. Within (x ∷ xs) (v ∷ ys)) (sym same) into))
-    (later_within x ys xs low (subst (λ v. Within (v ∷ ys) (x ∷ xs)) (sym same) back)))
-
-moved_within : (xs ys : List ℤ) → IsPermutation xs ys → Within xs ys
-moved_within xs ys same v h =
-    let all =
-    all-permutation (Has ys) ys xs (IsPermutation-sym _ _ same) (all_from (Has ys) ys (λ x k. k))
-    in all_has (Has ys) xs v all h
+    less : (a b : ℤ) → a <ℤ b → int_cmp a b ≡ Less
+    less a b low = grind (arith, ints)
 
 pub one_order : (xs ys : List ℤ) → IsAscending Below xs → IsAscending Below ys → IsPermutation xs ys
     → xs ≡ ys
 one_order xs ys p q same =
-    one_list xs ys p q (moved_within xs ys same) (moved_within ys xs (IsPermutation-sym _ _ same))
+    same_sorted int_cmp_total xs ys (rising_sorted xs p) (rising_sorted ys q)
+    (λ x. Contains-permutation xs ys x same) (λ x. Contains-permutation ys xs x (IsPermutation-sym _ _ same))
 
 same_ints : (xs ys : List ℤ) → map Int xs ≡ map Int ys → xs ≡ ys
 same_ints xs ys same =
-    sym (each xs) ∙ ap (map id_in) same ∙ each ys
-  where
-    each : (zs : List ℤ) → map id_in (map Int zs) ≡ zs
-    each [] = refl
-    each (z ∷ zs) = ap (λ l. z ∷ l) (each zs)
+    sym (map_back Int id_in (λ _. refl) xs) ∙ ap (map id_in) same ∙ map_back Int id_in (λ _. refl) ys
 
 same_numbers : (xs ys : List ℕ) → map pos xs ≡ map pos ys → xs ≡ ys
-same_numbers xs ys same = sym (each xs) ∙ ap (map back) same ∙ each ys
+same_numbers xs ys same =
+    sym (map_back pos back (λ _. refl) xs) ∙ ap (map back) same ∙ map_back pos back (λ _. refl) ys
   where
     back : ℤ → ℕ
     back (pos n) = n
     back _ = 0
-
-    each : (zs : List ℕ) → map back (map pos zs) ≡ zs
-    each [] = refl
-    each (z ∷ zs) = ap (λ l. z ∷ l) (each zs)
 
 -- numbers in a column that rises rise
 pub keys_rise : {X : Type 0} (row_of : X → Row) (at : ℕ) (key : X → ℕ)
@@ -107,6 +67,14 @@ keys_rise row_of at key is xs rise =
     ∙ sym (map-map Int (λ x. pos (key x)) xs) ∙ ap (map Int) (sym (map-map pos key xs)) in
     subst (IsAscending Below) (same_ints rise.0 (map pos (map key xs)) (sym rise.1 ∙ shown)) rise.2
 
+ids_of_rows : {X : Type 0} (row_of : X → Row) (key : X → ℕ)
+    → ((x : X) → column (row_of x) 0 ≡ Int (pos (key x))) → (xs : List X)
+    → map (λ r. id_in (column r 0)) (map row_of xs) ≡ map pos (map key xs)
+ids_of_rows row_of key is xs =
+    map-map (λ r. id_in (column r 0)) row_of xs
+    ∙ map_agree (λ x. id_in (column (row_of x) 0)) (λ x. pos (key x)) (λ x. ap id_in (is x)) xs
+    ∙ sym (map-map pos key xs)
+
 -- the numbers of rows are those of any order of their columns
 pub keys_moved : {X Y : Type 0} (row_of : X → Row) (key : X → ℕ)
     → ((x : X) → column (row_of x) 0 ≡ Int (pos (key x)))
@@ -115,17 +83,8 @@ pub keys_moved : {X Y : Type 0} (row_of : X → Row) (key : X → ℕ)
     → (xs : List X) (ys : List Y) → IsPermutation (map row_of xs) (map other_of ys)
     → IsPermutation (map pos (map key xs)) (map pos (map number ys))
 keys_moved row_of key is other_of number are xs ys same =
-    let ids = IsPermutation-map (λ r. id_in (column r 0)) _ _ same in
-    let left : map (λ r. id_in (column r 0)) (map row_of xs) ≡ map pos (map key xs) =
-    map-map (λ r. id_in (column r 0)) row_of xs
-    ∙ map_agree (λ x. id_in (column (row_of x) 0)) (λ x. pos (key x)) (λ x. ap id_in (is x)) xs
-    ∙ sym (map-map pos key xs) in
-    let right : map (λ r. id_in (column r 0)) (map other_of ys) ≡ map pos (map number ys) =
-    map-map (λ r. id_in (column r 0)) other_of ys
-    ∙ map_agree (λ y. id_in (column (other_of y) 0)) (λ y. pos (number y))
-    (λ y. ap id_in (are y)) ys
-    ∙ sym (map-map pos number ys) in
-    rw (sym left, sym right) ids
+    rw (sym (ids_of_rows row_of key is xs), sym (ids_of_rows other_of number are ys))
+    (IsPermutation-map (λ r. id_in (column r 0)) _ _ same)
 
 -- ---- rows whose amount over night is 0
 
@@ -135,10 +94,7 @@ module _ {X : Type 0} (fits : X → Type 0) (shown columns_of nights_of : X → 
   pub no_nights : (rows : List X) → AllByRecursion IsFull (map shown rows)
       → AllByRecursion (λ x. night x ≡ 0) rows
   no_nights [] full = tt
-  no_nights (x ∷ xs) full = (
-    full_night (night x) (columns_of x) (subst IsFull (splits.shown_is x) full.0),
-    no_nights xs full.1,
-  )
+  no_nights (x ∷ xs) full = grind (arith, common_steps, full_night, no_nights xs full.1)
 
   pub none_over_night : (stored : List Row) (rows : List X)
       → IsPermutation (map keyed_columns stored) (map shown rows)
@@ -151,10 +107,7 @@ module _ {X : Type 0} (fits : X → Type 0) (shown columns_of nights_of : X → 
   pub bare_columns_are : (rows : List X) → AllByRecursion (λ x. night x ≡ 0) rows
       → map shown rows ≡ map columns_of rows
   bare_columns_are [] none = refl
-  bare_columns_are (x ∷ xs) none =
-      ap₂ (λ r rs. r ∷ rs)
-      (splits.shown_is x ∙ ap (λ n. bare_columns n (columns_of x)) none.0)
-      (bare_columns_are xs none.1)
+  bare_columns_are (x ∷ xs) none = grind (arith, common_steps, bare_columns_are xs none.1)
 
   pub bare_holds : (stored : List Row) (rows : List X) → Holds keyed_columns (map shown rows) stored
       → Holds keyed_columns (map columns_of rows) stored

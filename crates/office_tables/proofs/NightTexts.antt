@@ -1,22 +1,22 @@
 -- The rows that queries read from two tables, if the rows of both have the same numbers.
+use Rattle.std.proofs.lemmas.Grind.{common_steps}
 use Rattle.std.proofs.Common.{◌≡◌, ◌≢◌, inl, inr, ℕ, pos, List, [], ◌∷◌, ◌++◌, map, filter, flat_map, Bool, true, false, cond, ◌&&◌, ◌==◌, refl, sym, ap, subst, ◌∙◌, arith, IsPermutation}
 use Rattle.std.specs.List.{AllByRecursion}
 use Rattle.std.proofs.lemmas.Bool.Decides.{nat_tests}
-use Rattle.std.proofs.lemmas.List.Sorted.{IsPermutation-map, IsPermutation-trans}
+use Rattle.exam_lists.proofs.Filters.{filter_false}
 use Rattle.exam_lists.proofs.Maps.{map_agree}
 use Rattle.sqlite_sql.specs.declared.ops.BinaryOp.TheVariants.{Compare}
 use Rattle.sqlite_sql.specs.declared.ops.CompareOp.TheVariants.{Eq}
 use Rattle.sqlite_rules.specs.Lists.{Has}
 use Rattle.sqlite_rules.proofs.ListLemmas.{all_from, all_has}
 use Rattle.sqlite_trees.specs.Tree.{Trees, IsAscending}
-use Rattle.sqlite_trees.proofs.ListLemmas.{map-map, map-flat_map, flat_map-map, flat_map_same_on, filter-map, IsPermutation-filter, IsPermutation-flat_map, IsPermutation-flat_map_each}
 use Rattle.sqlite_value.specs.declared.keys.Collation.TheVariants.{Binary}
 use Rattle.sqlite_value.specs.declared.value.Value.TheVariants.{Int}
 use Rattle.sqlite_value.specs.Order.{Row, column}
 use Rattle.sqlite.specs.Query.{inner, end, matches}
 use Rattle.sqlite.specs.Term.{Term, col, op2, eval_all}
 use Rattle.office_tables.specs.Stored.{Holds, keyed_columns}
-use Rattle.office_tables.proofs.JoinedTexts.{both_pass, joined}
+use Rattle.office_tables.proofs.JoinedTexts.{both_pass, pairs_shown}
 use Rattle.office_tables.proofs.TableLemmas.{keys_once}
 
 -- the two rows have the same number
@@ -35,10 +35,7 @@ module _ {X : Type 0} (key : X → ℕ) where
   no_partner : (x : X) (xs : List X) → AllByRecursion (λ y. key x ≢ key y) xs
       → filter (λ y. key y == key x) xs ≡ []
   no_partner x [] all = refl
-  no_partner x (y ∷ ys) all =
-      ap (λ b. cond b (y ∷ filter (λ z. key z == key x) ys) (filter (λ z. key z == key x) ys))
-      (other (key y) (key x) (λ e. all.0 (sym e)))
-      ∙ no_partner x ys all.1
+  no_partner x (y ∷ ys) all = grind (arith, common_steps, no_partner x ys all.1)
 
   one_partner : (xs : List X) → IsAscending (λ a b. key a ≢ key b) xs → (x : X) → Has xs x
       → filter (λ y. key y == key x) xs ≡ x ∷ []
@@ -48,23 +45,16 @@ module _ {X : Type 0} (key : X → ℕ) where
       (ap (λ b. cond b (y ∷ filter (λ z. key z == key y) ys) (filter (λ z. key z == key y) ys))
       (itself (key y))
       ∙ ap (λ l. y ∷ l) (no_partner y ys once.0))
-  one_partner (y ∷ ys) once x (inr later) =
-      ap (λ b. cond b (y ∷ filter (λ z. key z == key x) ys) (filter (λ z. key z == key x) ys))
-      (other (key y) (key x) (all_has (λ z. key y ≢ key z) ys x once.0 later))
-      ∙ one_partner ys once.1 x later
+  one_partner (y ∷ ys) once x (inr later) = grind (arith, common_steps, all_has, one_partner ys once.1 x later)
 
   module _ {Y : Type 0} (t : X → Bool) (f : X → X → Y) (xs : List X) where
-    none : (ys : List X) → filter (λ _. false) ys ≡ []
-    none [] = refl
-    none (y ∷ ys) = none ys
-
     one_pair : (b : Bool) (x : X) → filter (λ y. key y == key x) xs ≡ x ∷ []
         → (rest : List Y) (later : List X) → rest ≡ map (λ z. f z z) later
         → map (f x) (filter (λ y. b && (key y == key x)) xs) ++ rest
         ≡ map (λ z. f z z) (cond b (x ∷ later) later)
     one_pair true x single rest later is =
         ap (λ l. map (f x) l ++ rest) single ∙ ap (λ l. f x x ∷ l) is
-    one_pair false x single rest later is = ap (λ l. map (f x) l ++ rest) (none xs) ∙ is
+    one_pair false x single rest later is = ap (λ l. map (f x) l ++ rest) (filter_false xs) ∙ is
 
     pairs_of : (zs : List X) → AllByRecursion (λ x. filter (λ y. key y == key x) xs ≡ x ∷ []) zs
         → flat_map (λ x. map (f x) (filter (λ y. t x && (key y == key x)) xs)) zs
@@ -90,49 +80,6 @@ module _ {X : Type 0} (key : X → ℕ) (columns_of nights_of shown_of : X → R
     (tested : (x y : X) → both_pass params tests (columns_of x) (nights_of y)
     ≡ (t x && (key y == key x)))
     (whole : (x : X) → picked (columns_of x) (nights_of x) ≡ shown_of x) where
-  -- the columns shown of the rows that match a first row
-  abbrev suited : Trees → Row → List Row
-  suited trees q = map (picked q) (filter (both_pass params tests q) (map keyed_columns (trees two)))
-
-  one_suited : (trees : Trees) (r : Row)
-      → map (eval_all terms) (map (λ s. params ∷ r ∷ s ∷ [])
-      (filter (both_pass params tests r) (trees two)))
-      ≡ suited trees (keyed_columns r)
-  one_suited trees r =
-      map-map (eval_all terms) (λ s. params ∷ r ∷ s ∷ []) _
-      ∙ map_agree _ (λ s. picked (keyed_columns r) (keyed_columns s)) (same_shown r) _
-      ∙ ap (λ p. map (λ s. picked (keyed_columns r) (keyed_columns s)) (filter p (trees two)))
-      (λ i s. same_test r s i)
-      ∙ sym (map-map (picked (keyed_columns r)) keyed_columns _)
-      ∙ ap (map (picked (keyed_columns r)))
-      (sym (filter-map (both_pass params tests (keyed_columns r)) keyed_columns (trees two)))
-
-  all_suited : (trees : Trees)
-      → map (eval_all terms) (matches trees tests (inner one (inner two end)) (params ∷ []))
-      ≡ flat_map (suited trees) (map keyed_columns (trees one))
-  all_suited trees =
-      ap (map (eval_all terms)) (joined params tests trees one two)
-      ∙ map-flat_map (eval_all terms) _ (trees one)
-      ∙ flat_map_same_on _ (λ r. suited trees (keyed_columns r)) (one_suited trees) (trees one)
-      ∙ sym (flat_map-map (suited trees) keyed_columns (trees one))
-
-  one_typed : (trees : Trees) (xs : List X)
-      → IsPermutation (map keyed_columns (trees two)) (map nights_of xs) → (x : X)
-      → IsPermutation (suited trees (columns_of x))
-      (map (λ y. picked (columns_of x) (nights_of y)) (filter (λ y. t x && (key y == key x)) xs))
-  one_typed trees xs same x =
-      let kept = IsPermutation-map (picked (columns_of x)) _ _
-      (IsPermutation-filter (both_pass params tests (columns_of x)) _ _ same) in
-      let typed : map (picked (columns_of x))
-      (filter (both_pass params tests (columns_of x)) (map nights_of xs))
-      ≡ map (λ y. picked (columns_of x) (nights_of y)) (filter (λ y. t x && (key y == key x)) xs) =
-      ap (map (picked (columns_of x)))
-      (filter-map (both_pass params tests (columns_of x)) nights_of xs)
-      ∙ map-map (picked (columns_of x)) nights_of _
-      ∙ ap (λ p. map (λ y. picked (columns_of x) (nights_of y)) (filter p xs))
-      (λ i y. tested x y i) in
-      subst (IsPermutation _) typed kept
-
   -- a SELECT from both tables shows the rows that pass
   pub joined_shown : (trees : Trees) (xs : List X) → Holds keyed_columns (map columns_of xs) (trees one)
       → Holds keyed_columns (map nights_of xs) (trees two)
@@ -141,11 +88,11 @@ module _ {X : Type 0} (key : X → ℕ) (columns_of nights_of shown_of : X → R
       (map shown_of (filter t xs))
   joined_shown trees xs holds nights =
       let once = keys_once columns_of key first xs (trees one) holds in
-      let stored = IsPermutation-flat_map (suited trees) _ _ holds.same in
-      let typed = IsPermutation-flat_map_each _ _ (one_typed trees xs nights.same) xs in
       let rows : flat_map (λ x. map (λ y. picked (columns_of x) (nights_of y))
       (filter (λ y. t x && (key y == key x)) xs)) xs ≡ map shown_of (filter t xs) =
       paired key t (λ x y. picked (columns_of x) (nights_of y)) xs once
       ∙ map_agree (λ x. picked (columns_of x) (nights_of x)) shown_of whole (filter t xs) in
-      rw (all_suited trees, sym rows)
-      (IsPermutation-trans _ _ _ stored (rw (flat_map-map (suited trees) columns_of xs) typed))
+      subst (IsPermutation _) rows
+      (pairs_shown columns_of nights_of keyed_columns keyed_columns params one two tests terms
+      (both_pass params tests) picked same_test same_shown (λ x y. t x && (key y == key x)) tested trees xs xs
+      holds.same nights.same)

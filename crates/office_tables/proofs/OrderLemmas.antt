@@ -1,4 +1,5 @@
 -- Rows in the order of ORDER BY, as records in the order of their numbers.
+use Rattle.std.proofs.lemmas.Grind.{common_steps}
 use Rattle.std.proofs.Common.{◌≡◌, ◌≤◌, ℕ, zero, suc, ◌+◌, ◌<◌, pos, Bool, false, List, [], ◌∷◌, map, filter, length, get_or, nat_cmp, int_cmp, Ordering, Less, is_lt, refl, sym, ap, ap₂, subst, subst₂, ◌∙◌, arith, IsPermutation}
 use Rattle.std.specs.Prelude.{slice_index_or, IsSortedByKey}
 use Rattle.std.specs.List.{AllByRecursion}
@@ -9,7 +10,7 @@ use Rattle.std.proofs.lemmas.Cmp.{on_total, nat_list_cmp_total}
 use Rattle.std.proofs.lemmas.Int.{ints}
 use Rattle.std.proofs.lemmas.List.{get_or-map, length-map}
 use Rattle.std.proofs.lemmas.List.Sorted.{IsPermutation-map, IsPermutation-trans, IsPermutation-sym}
-use Rattle.exam_lists.proofs.Maps.{map_agree, map_same}
+use Rattle.exam_lists.proofs.Maps.{map_agree, map_back}
 use Rattle.sqlite_value.specs.declared.value.Value.{Value}
 use Rattle.sqlite_value.specs.declared.value.Value.TheVariants.{Int, Null}
 use Rattle.sqlite_value.specs.declared.keys.Collation.TheVariants.{Binary}
@@ -17,8 +18,7 @@ use Rattle.sqlite_value.specs.declared.keys.Key.{Key}
 use Rattle.sqlite_value.specs.Keys.{ascending}
 use Rattle.sqlite_value.specs.Order.{Row, column, value_cmp}
 use Rattle.sqlite_value.proofs.OrderLemmas.{value_cmp-Int}
-use Rattle.sqlite_trees.proofs.ListLemmas.{map-map, all_of, all-map, all-permutation, filter-map, filter_same, IsPermutation-filter, ascending_weaker}
-use Rattle.sqlite_rules.proofs.ListLemmas.{all_from}
+use Rattle.sqlite_trees.proofs.ListLemmas.{map-map, all_of, all-map, all-permutation, ascending_weaker}
 use Rattle.sqlite_keyed.proofs.SortLemmas.{sorted_unique}
 use Rattle.sqlite_sql.proofs.QueryLemmas.{key_cmp_shift}
 use Rattle.sqlite_trees.specs.Tree.{Trees, IsAscending}
@@ -28,7 +28,7 @@ use Rattle.office_tables.specs.Asking.{select_query, IsReadOf}
 use Rattle.office_tables.specs.Records.{columns_from}
 use Rattle.office_tables.specs.Selections.{AreListed}
 use Rattle.office_tables.proofs.AskLemmas.{arranged, unmapped}
-use Rattle.office_tables.proofs.Queries.{matched, passes}
+use Rattle.office_tables.proofs.Queries.{matched, passes, shown_filter}
 
 -- ---- an order by numbers
 
@@ -78,9 +78,7 @@ by_numbers shown [] [] (m ∷ ms) p q = absurd (omega arith)
 by_numbers shown (at ∷ by) [] ms p q = absurd (omega arith)
 by_numbers shown (at ∷ by) (n ∷ ns) [] p q = absurd (omega arith)
 by_numbers shown (at ∷ by) (n ∷ ns) (m ∷ ms) p q =
-    ap₂ ordering_then (in_order n m)
-    (key_cmp_shift (map (λ (k : Term × Key). k.1) (rising shown by)) 0 (int n) (int m) (map int ns)
-    (map int ms) ∙ by_numbers shown by ns ms (omega arith) (omega arith))
+    grind (arith, common_steps, in_order, key_cmp_shift, by_numbers shown by ns ms (omega arith) (omega arith))
 
 as_many : (by : List ℕ) (row : Row) (ns : List ℕ) → map (column row) by ≡ map int ns
     → length ns ≡ length by
@@ -90,10 +88,7 @@ sort_is : (shown : List Term) (by : List ℕ) (x y : Env) (ns ms : List ℕ)
     → map (column (eval_all shown x)) by ≡ map int ns
     → map (column (eval_all shown y)) by ≡ map int ms
     → sort_cmp (rising shown by) x y ≡ numbers_cmp ns ms
-sort_is shown by x y ns ms p q =
-    ap₂ (key_cmp 0 (map (λ (k : Term × Key). k.1) (rising shown by))) (sorted_by shown by x ∙ p)
-    (sorted_by shown by y ∙ q)
-    ∙ by_numbers shown by ns ms (as_many by _ ns p) (as_many by _ ms q)
+sort_is shown by x y ns ms p q = grind (arith, common_steps, sorted_by, by_numbers, as_many)
 
 -- records that rise strictly don't rise in any other order
 pub only_order : {R : Type 0} (key : R → List ℕ) (xs ys : List R) → StrictlyRises key xs
@@ -168,9 +163,6 @@ module _ {R : Type 0} (record_of : Row → R) (row_of : R → Row) (width : ℕ)
     (whole : (x : R) → columns_from 0 width (row_of x) ≡ row_of x) (from : Join)
     (where_ shown : List Term) (by : List ℕ) (key : R → List ℕ)
     (keyed : (x : R) → map (column (row_of x)) by ≡ map int (key x)) where
-  itself : (xs : List R) → map record_of (map row_of xs) ≡ xs
-  itself xs = map-map record_of row_of xs ∙ map_same (λ x. record_of (row_of x)) back xs
-
   -- if the matches show these typed rows, the records are those, and they rise
   pub read : (trees : Trees) (params : Row) (xs records : List R)
       → IsPermutation (map (eval_all shown) (matches trees where_ from (params ∷ [])))
@@ -188,7 +180,8 @@ module _ {R : Type 0} (record_of : Row → R) (row_of : R → Row) (width : ℕ)
       ∙ map-map (columns_from 0 width) row_of u.0
       ∙ map_agree (λ x. columns_from 0 width (row_of x)) row_of whole u.0 in
       let is : records ≡ u.0 =
-      sym (itself records) ∙ ap (map record_of) columns ∙ itself u.0 in
+      sym (map_back row_of record_of back records) ∙ ap (map record_of) columns
+      ∙ map_back row_of record_of back u.0 in
       let long : length found ≡ length u.0 =
       sym (length-map found (eval_all shown)) ∙ ap length u.1 ∙ length-map u.0 row_of in
       let at : (k : ℕ) (d : R) → k < length u.0
@@ -236,15 +229,7 @@ passed : {R : Type 0} (row_of : R → Row) (show : Row → Row) (sees : Row → 
     (stored : List Row) (xs : List R) → IsPermutation (map show stored) (map row_of xs)
     → IsPermutation (map sees (filter pass stored)) (map row_of (filter p xs))
 passed row_of show sees pick picks picked pass test tests p tested stored xs h =
-    let left : filter test (map show stored) ≡ map show (filter pass stored) =
-    filter-map test show stored
-    ∙ ap (map show) (sym (filter_same pass (λ r. test (show r)) stored
-    (all_from _ stored (λ r _. tests r)))) in
-    let right : filter test (map row_of xs) ≡ map row_of (filter p xs) =
-    filter-map test row_of xs
-    ∙ ap (map row_of) (filter_same (λ x. test (row_of x)) p xs (all_from _ xs (λ x _. tested x))) in
-    let kept : IsPermutation (map show (filter pass stored)) (map row_of (filter p xs)) =
-    rw (sym left, sym right) (IsPermutation-filter test _ _ h) in
+    let kept = shown_filter show row_of pass test p tests tested stored xs h in
     let shows : map pick (map show (filter pass stored)) ≡ map sees (filter pass stored) =
     map-map pick show _ ∙ map_agree _ sees (λ r. sym (picks r)) _ in
     let rows : map pick (map row_of (filter p xs)) ≡ map row_of (filter p xs) =

@@ -1,4 +1,5 @@
 -- The answer of a query over one table, and the rows that a DELETE by such a query leaves.
+use Rattle.std.proofs.lemmas.Grind.{common_steps}
 use Rattle.std.proofs.Common.{◌≡◌, inl, inr, ℕ, ℤ, suc, pos, List, [], ◌∷◌, ◌++◌, map, filter, flat_map, drop, not, Bool, true, false, cond, ◌&&◌, ◌||◌, ◌==◌, ◌^◌, Some, None, refl, sym, ap, ap₂, subst, ◌∙◌, arith, Ordering, Less, Equal, Greater, is_eq, int_cmp}
 use Rattle.std.specs.List.{list_any, list_all}
 use Rattle.std.specs.Prelude.{IsPermutation, nat_le, unwrap_or}
@@ -47,23 +48,11 @@ passes params where_ row = list_all (holds (params ∷ row ∷ [])) where_
 abbrev pub shown_of : Row → List Term → Row → Row
 shown_of params shown row = eval_all shown (params ∷ row ∷ [])
 
-pub none_left : (xs : List Row) → filter (λ r. not true) xs ≡ []
-none_left [] = refl
-none_left (x ∷ xs) = none_left xs
-
 pub matched : (params : Row) (where_ : List Term) (rows : List Row)
     → flat_map (λ r. cond (passes params where_ r) ((params ∷ r ∷ []) ∷ []) []) rows
     ≡ map (λ r. params ∷ r ∷ []) (filter (passes params where_) rows)
 matched params where_ [] = refl
-matched params where_ (r ∷ rows) =
-    elim (passes params where_ r)
-    as (λ b. cond b ((params ∷ r ∷ []) ∷ []) []
-    ++ flat_map (λ x. cond (passes params where_ x) ((params ∷ x ∷ []) ∷ []) []) rows
-    ≡ map (λ x. params ∷ x ∷ [])
-    (cond b (r ∷ filter (passes params where_) rows) (filter (passes params where_) rows))) [
-      | true ↦ ap (λ l. (params ∷ r ∷ []) ∷ l) (matched params where_ rows)
-      | false ↦ matched params where_ rows
-    ]
+matched params where_ (r ∷ rows) = grind (arith, common_steps, flat_map, matched params where_ rows)
 
 -- the rows that pass are shown, in some order
 pub answered_by : (collations : List Collation) (tree : ℕ) (where_ shown : List Term)

@@ -1,5 +1,6 @@
 -- The effect of a reader.
-use Rattle.std.proofs.Common.{inl, inr, ℕ, List, Some, None, Ok, Err, Result, OnOk, Option, subst, ◌∙◌}
+use Rattle.std.proofs.lemmas.Grind.{common_steps}
+use Rattle.std.proofs.Common.{inl, inr, ℕ, List, Some, None, Ok, Err, Result, OnOk, Option, subst, ◌∙◌, arith}
 use Rattle.sqlite_value.specs.Order.{Row}
 use Rattle.sqlite.specs.declared.error.Error.{Error}
 use Rattle.sqlite_schema.specs.declared.command.Returning.{Returning}
@@ -53,10 +54,4 @@ commits_nothing sql params old new plain =
     (λ _ db h. commits_never office_schema sql params old db plain h)
 
 pub keeps_after : (a b c : State) → IsUnchanged a b → Keeps b c → Keeps a c
-keeps_after a b c same h = record {
-  was_open = λ _. same.0.was_open;
-  now = λ o. elim (h.now o)
-      [ inl here ↦ inl (here ∙ same.0.now_is) | inr there ↦ inr (there ∙ same.0.committed_is) ];
-  committed = λ o. h.committed o ∙ same.0.committed_is;
-  mode = λ m. h.mode (same.0.mode ∙ m);
-}
+keeps_after a b c same h = grind (arith, common_steps)

@@ -1,5 +1,6 @@
 -- Rows that are read as records.
-use Rattle.std.proofs.Common.{◌≡◌, ℕ, zero, suc, ◌+◌, List, [], ◌∷◌, ◌++◌, map, take, get_or, ap, refl, sym, ◌<◌, length, ◌∙◌}
+use Rattle.std.proofs.lemmas.Grind.{common_steps}
+use Rattle.std.proofs.Common.{◌≡◌, ℕ, zero, suc, ◌+◌, List, [], ◌∷◌, ◌++◌, map, take, get_or, ap, refl, sym, ◌<◌, length, ◌∙◌, arith}
 use Rattle.std.proofs.lemmas.List.{map-append, take_more}
 use Rattle.sqlite_value.specs.Order.{Row}
 use Rattle.office_tables.specs.Nights.{bare_columns}
@@ -20,10 +21,4 @@ pub one_read : {T : Type 0} (row_of : T → Row) (shown : Row → Row) (made : L
     (x : T) (more : List T) → at < length rows → more ≡ made ++ x ∷ []
     → row_of x ≡ shown (get_or rows at d)
     → map row_of made ≡ map shown (take at rows) → map row_of more ≡ map shown (take (at + 1) rows)
-one_read row_of shown made rows at d x more below is one before =
-    ap (map row_of) is
-    ∙ map-append row_of made (x ∷ [])
-    ∙ ap (λ l. l ++ row_of x ∷ []) before
-    ∙ ap (λ r. map shown (take at rows) ++ r ∷ []) one
-    ∙ sym (ap (map shown) (take_more rows at d below)
-    ∙ map-append shown (take at rows) (get_or rows at d ∷ []))
+one_read row_of shown made rows at d x more below is one before = grind (arith, common_steps, map-append, take_more)

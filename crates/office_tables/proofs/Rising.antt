@@ -1,4 +1,5 @@
 -- Numbers of rows that rise, and numbers that are distinct.
+use Rattle.std.proofs.lemmas.Grind.{common_steps}
 use Rattle.std.proofs.Common.{◌≡◌, ◌≢◌, ◌≤◌, ◌<ℤ◌, ℕ, zero, suc, ℤ, List, [], ◌∷◌, ◌++◌, map, take, drop, length, Option, Some, None, Ordering, Less, Equal, Greater, is_lt, int_cmp, add-one, false, refl, sym, ap, ap₂, subst, ◌∙◌, IsSorted, arith}
 use Rattle.std.specs.List.{AllByRecursion}
 use Rattle.std.specs.Ordering.{ordering_then}
@@ -55,10 +56,7 @@ apart_from : (at : ℕ) (a : Row) (n : ℤ) → column a at ≡ Int n → (rows 
 apart_from at a n is [] numbers same low = tt
 apart_from at a n is (r ∷ rows) [] same low = absurd (cc)
 apart_from at a n is (r ∷ rows) (m ∷ numbers) same low =
-    let here : column r at ≡ Int m = ap (λ (l : Row). column l 0) same in (
-      λ e. not_itself n (subst (Below n) (same_int m n (sym here ∙ sym e ∙ is)) low.0),
-      apart_from at a n is rows numbers (ap (drop 1) same) low.1,
-    )
+    grind (arith, common_steps, not_itself, same_int, apart_from at a n is rows numbers (ap (drop 1) same) low.1)
 
 rowids_of : (at : ℕ) (rows : List Row) (numbers : List ℤ)
     → map (λ r. column r at) rows ≡ map Int numbers → IsAscending Below numbers
@@ -66,12 +64,7 @@ rowids_of : (at : ℕ) (rows : List Row) (numbers : List ℤ)
 rowids_of at [] numbers same up = record { ints = tt; apart = tt }
 rowids_of at (r ∷ rows) [] same up = absurd (cc)
 rowids_of at (r ∷ rows) (n ∷ numbers) same up =
-    let here : column r at ≡ Int n = ap (λ (l : Row). column l 0) same in
-    let rest = rowids_of at rows numbers (ap (drop 1) same) up.1 in
-    record {
-      ints = (ap is_int here, rest.ints);
-      apart = (apart_from at r n here rows numbers (ap (drop 1) same) up.0, rest.apart);
-    }
+    grind (arith, common_steps, ints, apart_from, rowids_of at rows numbers (ap (drop 1) same) up.1)
 
 pub rowids_from_rising : (at : ℕ) (rows : List Row) → ColumnRises at rows
     → HasRowids (map (only_column at) rows)
@@ -96,10 +89,7 @@ module _ (shown : List Term) (at : ℕ) where
   ordered : (x y : Env) (a b : ℤ) → column (eval_all shown x) at ≡ Int a
       → column (eval_all shown y) at ≡ Int b
       → is_lt (sort_cmp (ordered_by shown at) y x) ≡ false → a ≢ b → a <ℤ b
-  ordered x y a b p q low apart =
-      let is = by_one _ _ b a (sym (shown_column shown at y) ∙ q)
-      (sym (shown_column shown at x) ∙ p)
-      in not_less a b (sym (ap is_lt is) ∙ low) apart
+  ordered x y a b p q low apart = grind (arith, common_steps, by_one, shown_column, not_less, is_lt)
 
   first_below : (x : Env) (n : ℤ) → column (eval_all shown x) at ≡ Int n
       → (envs : List Env) (numbers : List ℤ) → IsSorted (sort_cmp (ordered_by shown at)) (x ∷ envs)
@@ -177,10 +167,7 @@ split [] [] v h = absurd (cc)
 split [] (n ∷ []) v h = (n, ap (λ (l : Row). column l 0) h, refl)
 split [] (n ∷ m ∷ all) v h = absurd (omega (arith, ap length h))
 split (m ∷ numbers) [] v h = absurd (cc)
-split (m ∷ numbers) (n ∷ all) v h =
-    let rest = split numbers all v (ap (drop 1) h) in
-    let same : m ≡ n = same_int m n (ap (λ (l : Row). column l 0) h) in
-    (rest.0, rest.1, ap₂ (λ x xs. x ∷ xs) (sym same) rest.2)
+split (m ∷ numbers) (n ∷ all) v h = grind (arith, common_steps, same_int, split numbers all v (ap (drop 1) h))
 
 -- if a row has no number greater than the last, the numbers don't rise with this row
 pub none_more : (at : ℕ) (rows : List Row) (row : Row) (numbers : List ℤ) (last : Option ℤ)

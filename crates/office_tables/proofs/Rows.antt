@@ -1,5 +1,6 @@
 -- What each table stores.
-use Rattle.std.proofs.Common.{refl}
+use Rattle.std.proofs.lemmas.Grind.{common_steps}
+use Rattle.std.proofs.Common.{refl, arith}
 use Rattle.office_schema.specs.Schema.{meta_table, owner_table, enrol_table, draft_table, slot_table, placed_table, seat_table, share_student_table, share_part_table, batch_table, night_draft_table, night_share_table}
 use Rattle.office_tables.specs.Inserting.{IsTable, Stores}
 use Rattle.office_tables.specs.Owner.{owner_columns}
@@ -17,111 +18,34 @@ pub meta_is : IsTable 0 meta_table
 meta_is = record { found = refl; own_tree = refl; quiet = λ _ _. refl }
 
 pub owners : Stores 1 owner_table owner_columns 2
-owners = record {
-  is = record { found = refl; own_tree = refl; quiet = λ _ _. refl };
-  wide = λ _. refl;
-  filled = (1, refl);
-  int = λ _ _. refl;
-  shown = λ _ _. refl;
-  cast = λ _. simp (cast_null, cast_int);
-}
+owners = grind (arith, common_steps, cast_null, cast_int)
 
 pub enrols : Stores 2 enrol_table enrol_columns 2
-enrols = record {
-  is = record { found = refl; own_tree = refl; quiet = λ _ _. refl };
-  wide = λ _. refl;
-  filled = (1, refl);
-  int = λ _ _. refl;
-  shown = λ _ _. refl;
-  cast = λ _. simp (cast_null, cast_int);
-}
+enrols = grind (arith, common_steps, cast_null, cast_int)
 
 pub drafts : Stores 3 draft_table draft_columns 8
-drafts = record {
-  is = record { found = refl; own_tree = refl; quiet = λ _ _. refl };
-  wide = λ _. refl;
-  filled = (7, refl);
-  int = λ _ _. refl;
-  shown = λ _ _. refl;
-  cast = λ _. simp (cast_null, cast_int);
-}
+drafts = grind (arith, common_steps, cast_null, cast_int)
 
 pub slots : Stores 4 slot_table slot_columns 4
-slots = record {
-  is = record { found = refl; own_tree = refl; quiet = λ _ _. refl };
-  wide = λ _. refl;
-  filled = (3, refl);
-  int = λ _ _. refl;
-  shown = λ _ _. refl;
-  cast = λ _. simp (cast_null, cast_int);
-}
+slots = grind (arith, common_steps, cast_null, cast_int)
 
 pub placements : Stores 5 placed_table placed_columns 3
-placements = record {
-  is = record { found = refl; own_tree = refl; quiet = λ _ _. refl };
-  wide = λ _. refl;
-  filled = (2, refl);
-  int = λ _ _. refl;
-  shown = λ _ _. refl;
-  cast = λ _. simp (cast_null, cast_int);
-}
+placements = grind (arith, common_steps, cast_null, cast_int)
 
 pub seats : Stores 6 seat_table seat_columns 5
-seats = record {
-  is = record { found = refl; own_tree = refl; quiet = λ _ _. refl };
-  wide = λ _. refl;
-  filled = (4, refl);
-  int = λ _ _. refl;
-  shown = λ _ _. refl;
-  cast = λ _. simp (cast_null, cast_int);
-}
+seats = grind (arith, common_steps, cast_null, cast_int)
 
 pub student_shares : Stores 7 share_student_table share_student_columns 4
-student_shares = record {
-  is = record { found = refl; own_tree = refl; quiet = λ _ _. refl };
-  wide = λ _. refl;
-  filled = (3, refl);
-  int = λ _ _. refl;
-  shown = λ _ _. refl;
-  cast = λ _. simp (cast_null, cast_int);
-}
+student_shares = grind (arith, common_steps, cast_null, cast_int)
 
 pub part_shares : Stores 8 share_part_table share_part_columns 4
-part_shares = record {
-  is = record { found = refl; own_tree = refl; quiet = λ _ _. refl };
-  wide = λ _. refl;
-  filled = (3, refl);
-  int = λ _ _. refl;
-  shown = λ _ _. refl;
-  cast = λ _. simp (cast_null, cast_int);
-}
+part_shares = grind (arith, common_steps, cast_null, cast_int)
 
 pub batches : Stores 9 batch_table batch_columns 5
-batches = record {
-  is = record { found = refl; own_tree = refl; quiet = λ _ _. refl };
-  wide = λ _. refl;
-  filled = (4, refl);
-  int = λ _ _. refl;
-  shown = λ _ _. refl;
-  cast = λ _. simp (cast_null, cast_int);
-}
+batches = grind (arith, common_steps, cast_null, cast_int)
 
 pub draft_nights : Stores 10 night_draft_table night_draft_columns 2
-draft_nights = record {
-  is = record { found = refl; own_tree = refl; quiet = λ _ _. refl };
-  wide = λ _. refl;
-  filled = (1, refl);
-  int = λ _ _. refl;
-  shown = λ _ _. refl;
-  cast = λ _. simp (cast_null, cast_int);
-}
+draft_nights = grind (arith, common_steps, cast_null, cast_int)
 
 pub share_nights : Stores 11 night_share_table night_share_columns 2
-share_nights = record {
-  is = record { found = refl; own_tree = refl; quiet = λ _ _. refl };
-  wide = λ _. refl;
-  filled = (1, refl);
-  int = λ _ _. refl;
-  shown = λ _ _. refl;
-  cast = λ _. simp (cast_null, cast_int);
-}
+share_nights = grind (arith, common_steps, cast_null, cast_int)

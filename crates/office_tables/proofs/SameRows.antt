@@ -1,9 +1,10 @@
 -- Tables that one database holds have the same drafts and the same shares of students.
-use Rattle.std.proofs.Common.{◌≡◌, ◌≢◌, ℕ, pos, List, [], ◌∷◌, map, filter, flat_map, Bool, true, false, ◌&&◌, ◌==◌, refl, sym, ap, ap₂, subst, ◌∙◌, IsPermutation}
+use Rattle.std.proofs.lemmas.Grind.{common_steps}
+use Rattle.std.proofs.Common.{◌≡◌, ◌≢◌, ℕ, pos, List, [], ◌∷◌, map, filter, flat_map, Bool, true, false, ◌&&◌, ◌==◌, refl, sym, ap, ap₂, subst, ◌∙◌, IsPermutation, arith}
 use Rattle.std.specs.List.{AllByRecursion}
 use Rattle.std.proofs.lemmas.List.Sorted.{IsPermutation-map, IsPermutation-sym, IsPermutation-trans}
 use Rattle.exam_lists.proofs.Filters.{filter_every}
-use Rattle.exam_lists.proofs.Maps.{map_agree, map_same}
+use Rattle.exam_lists.proofs.Maps.{map_agree, map_back}
 use Rattle.sqlite_trees.specs.Tree.{IsAscending}
 use Rattle.sqlite_trees.proofs.ListLemmas.{map-map, filter-map, flat_map-map, flat_map_same_on, IsPermutation-filter, IsPermutation-flat_map, IsPermutation-flat_map_each}
 use Rattle.sqlite_value.specs.declared.value.Value.{Value}
@@ -51,14 +52,11 @@ paired_moved nights others rows same_rows moved same =
 
 module _ {X : Type 0} (record_of : Row → X) (shown : X → Row)
     (back : (x : X) → record_of (shown x) ≡ x) where
-  shown_back : (xs : List X) → map record_of (map shown xs) ≡ xs
-  shown_back xs = map-map record_of shown xs ∙ map_same (λ x. record_of (shown x)) back xs
-
   -- rows that show the same columns are the same
   alike : (xs ys : List X) → IsPermutation (map shown xs) (map shown ys) → IsPermutation xs ys
   alike xs ys same =
-      subst (λ l. IsPermutation l ys) (shown_back xs)
-      (subst (IsPermutation _) (shown_back ys) (IsPermutation-map record_of _ _ same))
+      subst (λ l. IsPermutation l ys) (map_back shown record_of back xs)
+      (subst (IsPermutation _) (map_back shown record_of back ys) (IsPermutation-map record_of _ _ same))
 
   -- the same if each amount over night is 0
   alike_before : (columns_of : X → Row) (night : X → ℕ)

@@ -1,5 +1,6 @@
 -- The rows that a query reads from the table seat.
-use Rattle.std.proofs.Common.{◌≡◌, ℕ, pos, List, [], ◌∷◌, filter, true, ◌&&◌, ◌==◌, codes, refl, ap}
+use Rattle.std.proofs.lemmas.Grind.{common_steps}
+use Rattle.std.proofs.Common.{◌≡◌, ℕ, pos, List, [], ◌∷◌, filter, true, ◌&&◌, ◌==◌, codes, refl, ap, arith}
 use Rattle.sqlite_sql.specs.declared.ops.BinaryOp.TheVariants.{Compare}
 use Rattle.sqlite_sql.specs.declared.ops.CompareOp.TheVariants.{Eq}
 use Rattle.sqlite_sql.specs.Ops.{binary, is_true}
@@ -32,14 +33,7 @@ seat_picked row = column row 0 ∷ column row 1 ∷ column row 2 ∷ column row 
 
 seat_shown : (r : Row) → column r 1 ∷ column r 2 ∷ column r 3 ∷ column r 4 ∷ column r 5 ∷ []
     ≡ seat_picked (keyless_columns r)
-seat_shown r = rw (
-  column_less r 0,
-  column_less r 1,
-  column_less r 2,
-  column_less r 3,
-  column_less r
-      4,
-) refl
+seat_shown r = grind (arith, common_steps, column_less)
 
 -- ---- SELECT student, exam, period, room, seat FROM seat WHERE student = ?1 ORDER BY exam
 

@@ -1,4 +1,5 @@
 -- The rows that queries read from the tables of shares.
+use Rattle.std.proofs.lemmas.Grind.{common_steps}
 use Rattle.std.proofs.Common.{◌≡◌, ℕ, pos, List, [], ◌∷◌, map, filter, true, ◌==◌, codes, refl, sym, ap, ap₂, subst, ◌∙◌, arith, IsPermutation}
 use Rattle.std.specs.List.{AllByRecursion}
 use Rattle.std.proofs.lemmas.List.Sorted.{IsPermutation-map, IsPermutation-sym}
@@ -204,14 +205,12 @@ same_numbers : (xs ys : List StudentShareRow)
     → map share_student_columns xs ≡ map share_student_columns ys
     → map (λ (x : StudentShareRow). x.student ∷ []) xs
     ≡ map (λ (x : StudentShareRow). x.student ∷ []) ys
-same_numbers xs ys same = sym (each xs) ∙ ap (map number_in) same ∙ each ys
+same_numbers xs ys same =
+    sym (map-map number_in share_student_columns xs) ∙ ap (map number_in) same
+    ∙ map-map number_in share_student_columns ys
   where
     number_in : Row → List ℕ
     number_in row = number (column row 0) ∷ []
-
-    each : (zs : List StudentShareRow) → map number_in (map share_student_columns zs)
-        ≡ map (λ (x : StudentShareRow). x.student ∷ []) zs
-    each zs = map-map number_in share_student_columns zs
 
 pub student_shares_read : (db : Database) (t : Tables) → HoldsTables db t
     → (found : List StudentShareRow)
@@ -251,12 +250,7 @@ share_student_picked q s = column s 1 ∷ column q 0 ∷ column q 1 ∷ column q
 share_student_shown : (r s : Row)
     → column s 2 ∷ column r 0 ∷ column r 2 ∷ column r 3 ∷ column r 4 ∷ []
     ≡ share_student_picked (keyed_columns r) (keyed_columns s)
-share_student_shown r s = rw (
-  column_later s 0,
-  column_later r 0,
-  column_later r 1,
-  column_later r 2,
-) refl
+share_student_shown r s = grind (arith, common_steps, column_later)
 
 abbrev pub student_shares_of_text : List ℕ
 student_shares_of_text = codes

@@ -1,5 +1,6 @@
 -- A text that has no RETURNING under one schema has none under any.
-use Rattle.std.proofs.Common.{◌≡◌, ◌⊎◌, ◌+◌, inl, inr, ℕ, Bool, true, false, List, length, Option, None, Some, Ok, Err, refl, sym, ap, subst, ◌∙◌}
+use Rattle.std.proofs.lemmas.Grind.{common_steps}
+use Rattle.std.proofs.Common.{◌≡◌, ◌⊎◌, ◌+◌, inl, inr, ℕ, Bool, true, false, List, length, Option, None, Some, Ok, Err, refl, sym, ap, subst, ◌∙◌, arith}
 use Rattle.std.specs.Prelude.{◌==◌, if◌then◌else◌, IsSome, Result}
 use Rattle.sqlite_ast.specs.declared.Shown.{Shown}
 use Rattle.sqlite_ast.specs.declared.Statement.{Statement}
@@ -46,11 +47,7 @@ never_none : (s : Schema) (a : ℕ) (name : Name) (shown : List Shown)
     and_then (returned s table a shown) (λ r. and_then (source_of s (length r.0) r.1) (λ row.
     Ok (Some (record { names = r.0; row = row }))))))) (Ok None)
     → ⊥
-never_none s a name shown =
-    and_then_never (target s name) _ (λ at.
-    and_then_never (table_at s at) _ (λ table.
-    and_then_never (returned s table a shown) _ (λ r.
-    and_then_never (source_of s (length r.0) r.1) _ (λ row. some_none _))))
+never_none s a name shown = grind (arith, common_steps, and_then_never, some_none)
 
 by_test : (empty : Bool) (x y : Checked (Option Returning)) → (x ≡ Ok None → ⊥)
     → (if empty then Ok None else x) ≡ Ok None → (r : Option Returning)
@@ -93,41 +90,19 @@ returning_none s t a b (written.RollbackTo name) = λ _ r is. sym (ok_is is)
 meaning_returns : (s : Schema) (p : Parsed) (a : ℕ) (found : Command × Option Returning)
     → meaning s p a ≡ Ok found → returning_by s a p.statement ≡ Ok found.1
 unfolding meaning returning
-meaning_returns s p a found is =
-    let shown = and_then_ok (returning_by s a p.statement)
-    (λ r. and_then (command s p.formats a p.statement) (λ c. Ok (c, r))) found is in
-    let last = and_then_ok (command s p.formats a p.statement) (λ c. Ok (c, shown.0)) found
-    shown.2 in
-    shown.1 ∙ ap (λ (r : Option Returning). Ok r)
-    (ap (λ (it : Command × Option Returning). it.1) (ok_is last.2))
+meaning_returns s p a found is = grind (arith, common_steps, and_then_ok, ok_is)
 
 planned_returns : (s : Schema) (p : Parsed) (plan : List Name × (Command × Option Returning))
     → planned s p ≡ Ok plan → (a : ℕ) × (returning_by s a p.statement ≡ Ok plan.1.1)
 unfolding planned
-planned_returns s p plan is =
-    let formats = timed s p.formats p.statement in
-    let a = small p.names + small formats in
-    let means = and_then_ok (meaning s p a) (λ found. Ok (formats, found)) plan is in (
-      a,
-      meaning_returns s p a means.0 means.1
-          ∙ ap (λ (it : List Name × (Command × Option Returning)). Ok it.1.1) (ok_is means.2),
-    )
+planned_returns s p plan is = grind (arith, common_steps, and_then_ok, meaning_returns, ok_is)
 
 -- a compiled text has the RETURNING of its statement
 compiled_returns : (s : Schema) (sql : List ℕ) (c : Compiled) → compiled s sql ≡ Ok c
     → (p : Parsed) × (first sql ≡ Ok p) × (a : ℕ)
     × (returning_by s a p.statement ≡ Ok c.returning)
 unfolding compiled
-compiled_returns s sql c is =
-    let read = and_then_ok (first sql)
-    (λ p. and_then (planned s p) (λ plan. Ok (with_command p plan))) c is in
-    let plan = and_then_ok (planned s read.0) (λ plan. Ok (with_command read.0 plan)) c read.2 in
-    let returns_it = planned_returns s read.0 plan.0 plan.1 in (
-      read.0,
-      read.1,
-      returns_it.0,
-      returns_it.1 ∙ ap (λ (it : Compiled). Ok it.returning) (ok_is plan.2),
-    )
+compiled_returns s sql c is = grind (arith, common_steps, and_then_ok, planned_returns, ok_is)
 
 chosen : (select : Bool) (c d : Compiled) (e : CompileError)
     → (if select then Ok c else Err e) ≡ Ok d → ◌≡◌ {A = Checked Compiled} (Ok c) (Ok d)
@@ -154,13 +129,7 @@ understood_compiled s sql c is =
 returns_none : (s t : Schema) (sql : List ℕ) (c d : Compiled) → understood s sql ≡ Ok c
     → c.returning ≡ None → understood t sql ≡ Ok d → d.returning ≡ None
 returns_none s t sql c d one none two =
-    let first_under = understood_compiled s sql c one in
-    let next_under = understood_compiled t sql d two in
-    let a = compiled_returns first_under.0 sql c first_under.1 in
-    let b = compiled_returns next_under.0 sql d next_under.1 in
-    let same : b.0 ≡ a.0 = ok_is (sym b.1 ∙ a.1) in
-    returning_none first_under.0 next_under.0 a.2 b.2 a.0.statement (a.3 ∙ ap Ok none) d.returning
-    (subst (λ (p : Parsed). returning_by next_under.0 b.2 p.statement ≡ Ok d.returning) same b.3)
+    grind (arith, common_steps, understood_compiled, compiled_returns, ok_is, returning_none)
 
 plain_returns : (s t : Schema) (sql : List ℕ) (d : Compiled) → (r : Result Compiled CompileError)
     → understood s sql ≡ r → IsPlain r → understood t sql ≡ Ok d → d.returning ≡ None

@@ -1,4 +1,5 @@
 -- A whole transaction, from a connection at rest to its commit.
+use Rattle.std.proofs.lemmas.Grind.{common_steps}
 use Rattle.std.proofs.Common.{◌≡◌, ◌∙◌, inl, inr, refl, sym, subst, IsTrue, Result, OnOk, arith, true, false, []}
 use Rattle.std.proofs.lemmas.Result.{on_ok_weaker}
 use Rattle.sqlite.specs.declared.error.Error.{Error}
@@ -30,12 +31,7 @@ trees_hold db found t is held =
 -- and they list that schema and obey it
 pub written_in : (old new : Database) (found : Trees) (t : Tables) → found ≡ new.trees
     → IsWritten t old new → IsWritten t old (found_in found)
-written_in old new found t is made = (
-  trees_hold new found t is made.0,
-  λ was. subst (λ s. IsDatabase (record { schema = s; trees = found })) made.0.schema
-      (subst (λ trees. IsDatabase (record { schema = new.schema; trees = trees })) (sym is)
-      (made.1 was)),
-)
+written_in old new found t is made = grind (arith, common_steps, trees_hold)
 
 pub changed_rows : (f : Tables → Tables) → IsOfRows (TablesChanged f)
 changed_rows f old new found is made t held = written_in old new found (f t) is (made t held)
@@ -54,16 +50,7 @@ module _ {S : Type 0} (g : Ghosts S) (old begun last end : Held S)
 
   -- a crash leaves what it would have left before the transaction
   begun_survives : Survives (state g old) (state g last) (λ _. ⊥)
-  begun_survives =
-      let inside = (subst (λ h. Within (state g h) (state g last)) begins within).survives in
-      record {
-        clean = inside.clean;
-        shield = inside.shield;
-        counts = inside.counts;
-        limit = inside.limit;
-        closes = inside.closes;
-        crash = inside.crash;
-      }
+  begun_survives = grind (arith, common_steps)
 
   module _ (Related : Database → Database → Type 0)
       (makes : HasCleanDisk (state g last) → IsTrue begun.in_transaction
@@ -80,53 +67,22 @@ module _ {S : Type 0} (g : Ghosts S) (old begun last end : Held S)
         × Shows (state g last) (state g end) (state g last).now (state g last).now false
         × KeepsCounts (state g last) (state g end) × ((state g end).marks ≡ [])))
         → HasCleanDisk (state g end) → OnOk r (Committed Related (state g old) (state g end))
-    done_by r ok clean =
-        let before = last_clean clean in
-        on_ok_weaker r (λ done. record {
-          was_open = (begun_kept before).was_open done.1.was_open;
-          is_open = done.1.is_open;
-          committed = done.1.now_is ∙ sym done.1.committed_is;
-          related = subst (Related (state g old).now) (sym done.1.now_is) (made before).1;
-        }) (ok clean)
+    done_by r ok clean = grind (arith, common_steps, on_ok_weaker)
 
     -- or after its failure
     pub undone_by : (e : Error) → FailsToCommit (state g last) (state g end) e
         → HasCleanDisk (state g end) → Undone (state g old) (state g end)
-    undone_by e (inl fails) clean =
-        let kept = begun_kept (last_clean clean) in
-        let back = fails.3 in
-        record {
-          was_open = λ opened. kept.was_open (back.was_open opened);
-          now = λ opened. (back.undone opened).0 ∙ kept.committed (back.was_open opened);
-          committed = λ opened. (back.undone opened).1 ∙ kept.committed (back.was_open opened);
-        }
+    undone_by e (inl fails) clean = grind (arith, common_steps)
     undone_by e (inr outside) clean =
         absurd (let never : true ≡ false = sym (made (last_clean clean)).0 ∙ outside.1 in cc)
 
     -- a later opening may find what is committed
     pub survives_by : IsOfRows Related → Survives (state g old) (state g end)
         (λ found. Related (state g old).now (found_in found))
-    survives_by of_rows =
-        survives_then (state g old) (state g last) (state g end) (λ _. ⊥)
-        (λ trees. trees ≡ (state g last).now.trees) _ (λ _ trees none. absurd none)
-        (λ clean trees is. of_rows _ (state g last).now trees is (made (last_clean clean)).1)
-        begun_survives survives
+    survives_by of_rows = grind (arith, common_steps, survives_then)
 
 -- a relation that follows from another
 pub ran_weaker : {S A E : Type 0} (g : Ghosts S) (old new : Held S) (result : Result A E)
     (P Q : Database → Database → Type 0) → ((a b : Database) → P a b → Q a b)
     → TransactionRan g P old new result → TransactionRan g Q old new result
-ran_weaker g old new result P Q weaker ran = record {
-  done = λ clean. on_ok_weaker result (λ done. record {
-    was_open = done.was_open;
-    is_open = done.is_open;
-    committed = done.committed;
-    related = weaker _ _ done.related;
-  }) (ran.done clean);
-  undone = ran.undone;
-  rests = ran.rests;
-  clean = ran.clean;
-  sound = ran.sound;
-  survives = survives_weaker (state g old) (state g new) _ _ (λ _ found. weaker _ (found_in found))
-      ran.survives;
-}
+ran_weaker g old new result P Q weaker ran = grind (arith, common_steps, on_ok_weaker, survives_weaker)

@@ -1,4 +1,5 @@
 -- Each stored row of the tables has its columns, and no more.
+use Rattle.std.proofs.lemmas.Grind.{common_steps}
 use Rattle.std.proofs.Common.{◌≡◌, ◌≤◌, ◌<◌, ◌+◌, ◌++◌, ◌&&◌, ◌||◌, not, ℕ, zero, suc, List, [], ◌∷◌, drop, length, Bool, true, false, if◌then◌else◌, Option, refl, sym, ap, subst, ◌∙◌, arith, length-append}
 use Rattle.std.specs.List.{AllByRecursion}
 use Rattle.std.proofs.lemmas.Bool.{and_parts}
@@ -64,11 +65,7 @@ last_present : (key : Option ℕ) (at k : ℕ) (cols : List Column) (c : Column)
     → at + length cols ≡ k
     → are_present key at (cols ++ c ∷ []) row ≡ true → is_key key k ≡ false → c.not_null ≡ true
     → is_null (column row (k + 1)) ≡ false
-last_present key at k [] c row at_is h unkeyed present =
-    let same : at ≡ k = omega (arith, at_is) in
-    last_is (is_key key k) c.not_null (is_null (column row (k + 1)))
-    (subst (λ i. ((is_key key i || not c.not_null || not (is_null (column row (i + 1)))) && true) ≡
-    true) same h) unkeyed present
+last_present key at k [] c row at_is h unkeyed present = grind (arith, common_steps, last_is)
 last_present key at k (x ∷ cols) c row at_is h unkeyed present =
     last_present key (at + 1) k cols c row (omega (arith, at_is)) (and_parts _ _ h).1 unkeyed
     present

@@ -1,4 +1,5 @@
 -- A text that lists all rows of a table, each with its number.
+use Rattle.std.proofs.lemmas.Grind.{common_steps}
 use Rattle.std.proofs.Common.{◌≡◌, ◌+◌, ◌++◌, ℕ, zero, suc, List, [], ◌∷◌, length, Option, Some, None, true, false, sym, ap, ap₂, subst, ◌∙◌, refl, arith, length-append}
 use Rattle.std.specs.Prelude.{slice_get}
 use Rattle.std.specs.List.{AllByRecursion}
@@ -81,18 +82,7 @@ at_end (w ∷ l) v = at_end l v
 
 pub one_listed : (key : Option ℕ) (n : ℕ) (r : Row) → length (shown_by key r) ≡ n
     → IsListed n (shown_by key) r (selected_columns (column_terms key 0 n ++ col 1 0 ∷ []) r)
-one_listed key n r long =
-    let l = shown_by key r in
-    let end = column r 0 ∷ [] in
-    let is : selected_columns (column_terms key 0 n ++ col 1 0 ∷ []) r ≡ l ++ end =
-    terms_show key r n 0 ∙ ap (λ x. x ++ end) (sym (dropped 0 n l (omega (arith, long)))) in
-    record {
-      columns = ap (columns_from 0 n) is ∙ ap (λ k. columns_from 0 k (l ++ end)) (sym long)
-          ∙ front l end;
-      number = ap (λ x. column x n) is ∙ ap (column (l ++ end)) (sym long)
-          ∙ at_end l (column r 0);
-      wide = omega (arith, ap length is, length-append l end);
-    }
+one_listed key n r long = grind (arith, common_steps, terms_show, dropped, front, at_end, length-append)
 
 shown_long : (key : Option ℕ) (n : ℕ) (row : Row) → length row ≡ 2 + n
     → length (shown_by key row) ≡ n + 1

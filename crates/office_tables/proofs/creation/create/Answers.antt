@@ -1,4 +1,5 @@
-use Rattle.std.proofs.Common.{refl, subst, ◌∙◌, ◌+◌, drop}
+use Rattle.std.proofs.lemmas.Grind.{common_steps}
+use Rattle.std.proofs.Common.{refl, subst, ◌∙◌, ◌+◌, drop, arith}
 use Rattle.std.proofs.lemmas.List.{at_drop_more, drop_all}
 use Rattle.sqlite.specs.Held.{state}
 use Rattle.office_tables.proofs.Creates.{Creating, created_last, created_next}
@@ -6,12 +7,7 @@ use Rattle.office_tables.proofs.Inside.{within_then, within_same, clean_before}
 use Rattle.office_tables.proofs.creation.create.Goals as goal
 
 pub loop-text-init : goal.loop-text-init
-loop-text-init g c = record {
-  same = refl;
-  makes = λ clean inside.
-      (inside, λ schema tables trees means has. (schema, tables, means, refl, has, λ was. was));
-  within = within_same _;
-}
+loop-text-init g c = grind (arith, common_steps, within_same)
 
 pub loop-text-preserved : goal.loop-text-preserved
 loop-text-preserved g c =

@@ -1,3 +1,4 @@
+use Rattle.std.proofs.lemmas.Grind.{common_steps}
 use Rattle.std.proofs.Common.{◌≡◌, ◌+◌, ◌∷◌, ◌++◌, [], None, arith, map, take, sym, ap, ap₂, refl, subst, ◌∙◌, to_z, of_z, to_z-of_z, w64}
 use Rattle.std.proofs.lemmas.List.{map-append, map_more, take_all, take_more}
 use Rattle.sqlite_value.specs.declared.value.Value.TheVariants.{Int}
@@ -39,7 +40,4 @@ returns-in_default c =
     )
 
 pub returns : goal.returns
-returns c =
-    let was = c.loop-row.invariant in
-    let all = take_all c.loop-row.row-index c.args.rows.now c.loop-row-test.false in
-    (λ yes. (was.0, ap (map (λ r. column r c.args.at)) (sym all) ∙ was.1, was.2), λ rise. refl)
+returns c = grind (arith, common_steps, take_all)

@@ -1,4 +1,5 @@
-use Rattle.std.proofs.Common.{◌≢◌, ◌≤◌, ◌∙◌, ap, length, map, subst}
+use Rattle.std.proofs.lemmas.Grind.{common_steps}
+use Rattle.std.proofs.Common.{◌≢◌, ◌≤◌, ◌∙◌, ap, length, map, subst, arith}
 use Rattle.std.proofs.lemmas.List.{take_all}
 use Rattle.office_tables.specs.Records.{columns_from}
 use Rattle.office_tables.proofs.ListedTables.{unread}
@@ -18,15 +19,7 @@ returns-in-Err g c wide made fit same =
     c.loop-row-test.true refused wide made fit same
 
 pub loop-row-preserved : goal.loop-row-preserved
-loop-row-preserved g c =
-    let shown = columns_from 0 g.R.Record.WIDTH in
-    one_read g.R.Record.columns_of shown c.loop-row.records.items c.args.rows.now
-    c.loop-row.row-index
-    c.row-item.result c.in-Ok.record _ c.loop-row-test.true c.in_ok-push-in-Ok.ensures.items
-    (c.in-Ok.ensures.columns ∙ ap shown c.row-item.is) c.loop-row.invariant
+loop-row-preserved g c = grind (arith, common_steps, one_read)
 
 pub returns : goal.returns
-returns g c =
-    c.loop-row.invariant
-    ∙ ap (map (columns_from 0 g.R.Record.WIDTH))
-    (take_all c.loop-row.row-index c.args.rows.now c.loop-row-test.false)
+returns g c = grind (arith, common_steps, take_all)

@@ -7,17 +7,16 @@ use Rattle.office_tables.specs.ShareStudent.{night_share_columns, share_student_
 use Rattle.office_tables.specs.declared.share_student.InsertStudentShare.{InsertStudentShare}
 use Rattle.office_tables.proofs.AlterationLemmas.{student_shares_put}
 use Rattle.office_tables.proofs.InsertLemmas.{flat_rows, rows_valued}
-use Rattle.office_tables.proofs.Inside.{changes_by_two, clean_before}
+use Rattle.office_tables.proofs.Inside.{changes_by_two}
 use Rattle.office_tables.proofs.ShareLemmas.{sixteen_added}
 use Rattle.office_tables.proofs.share_student.insert_sixteen.Goals as goal
 
 pub returns-clause-makes : goal.returns-clause-makes
-returns-clause-makes g c clean inside =
+returns-clause-makes g c =
     let its = c.args.rows.now in
     let old = state g.S.Store c.args.tx.now.conn.now in
     let mid = state g.S.Store c.run_with.new.tx.conn.now in
     let new = state g.S.Store c.run_with-2.new.tx.conn.now in
-    let clean_mid = clean_before mid new c.run_with-2.ensures.within clean in
     let students : map Int c.as_flattened.result.now
     ≡ flat_map share_student_columns (map (λ (x : InsertStudentShare). x.row) its) =
     ap (map Int) c.as_flattened.ensures.value
@@ -32,10 +31,10 @@ returns-clause-makes g c clean inside =
     c.from_fn-nights.result 16 (λ i y q call. search rules) c.requires.count
     c.from_fn-nights.ensures.items
     ∙ flat_rows (λ (x : InsertStudentShare). x.row) night_share_columns its in
-    let first = rw students at (c.in_ok-run_with.ensures.ran clean_mid inside) in
-    changes_by_two _ _ _ _ _ old mid new c.run_with-2.result
+    changes_by_two _ _ old mid new c.run_with-2.result
     (λ one two t represents h k. subst (λ all. IsWritten all old.now new.now)
     (sym (student_shares_put its t))
     (sixteen_added old mid new (map (λ (x : InsertStudentShare). x.row) its) one two t
     (length-map its (λ (x : InsertStudentShare). x.row) ∙ c.requires.count) represents h k))
-    first (rw nights at (c.run_with-2.ensures.ran clean first.inside))
+    c.run_with-2.ensures.within (rw students at c.in_ok-run_with.ensures.ran)
+    (rw nights at c.run_with-2.ensures.ran)

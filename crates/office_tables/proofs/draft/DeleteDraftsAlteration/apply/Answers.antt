@@ -1,15 +1,9 @@
-use Rattle.sqlite.specs.Held.{state}
-use Rattle.office_tables.proofs.Inside.{changes_by_two, clean_before}
+use Rattle.office_tables.proofs.Inside.{changes_by_two}
 use Rattle.office_tables.proofs.DraftLemmas.{all_gone}
 use Rattle.office_tables.proofs.draft.DeleteDraftsAlteration.apply.Goals as goal
 
 pub returns-clause-makes : goal.returns-clause-makes
-returns-clause-makes g c clean inside =
-    let old = state g.S.Store c.args.tx.now.conn.now in
-    let mid = state g.S.Store c.run.new.tx.conn.now in
-    let new = state g.S.Store c.run-2.new.tx.conn.now in
-    let clean_1 = clean_before mid new c.run-2.ensures.within clean in
-    let first = c.in_ok-run.ensures.ran clean_1 inside in
-    changes_by_two _ _ _ _ _ old mid new c.run-2.result
-    (all_gone old mid new)
-    first (c.run-2.ensures.ran clean first.inside)
+returns-clause-makes g c =
+    changes_by_two _ _ _ _ _ _ (all_gone _ _ _) c.run-2.ensures.within
+    c.in_ok-run.ensures.ran
+    c.run-2.ensures.ran

@@ -1,4 +1,5 @@
-use Rattle.std.proofs.Common.{refl}
+use Rattle.std.proofs.lemmas.Grind.{common_steps}
+use Rattle.std.proofs.Common.{refl, arith}
 use Rattle.sqlite.specs.Listing.{understood}
 use Rattle.sqlite_tied.specs.Compute.{everything}
 use Rattle.office_tables.proofs.Rows.{seats}
@@ -6,13 +7,4 @@ use Rattle.office_tables.proofs.seat.SeatRowTable516.inserts.Goals as goal
 
 pub returns : goal.returns
 unfolding understood everything
-returns c = record {
-  stores = seats;
-  listed = λ _. refl;
-  changed = λ _ _. refl;
-  same = λ _. refl;
-  read = λ _ _. refl;
-  over = λ _ _ _. refl;
-  one = record { is = refl; plain = (refl, refl); many = refl };
-  several = record { is = refl; plain = (refl, refl); many = refl };
-}
+returns c = grind (arith, common_steps, seats)

@@ -1,4 +1,5 @@
-use Rattle.std.proofs.Common.{refl, rules, true, ◌∙◌}
+use Rattle.std.proofs.lemmas.Grind.{common_steps}
+use Rattle.std.proofs.Common.{refl, rules, true, ◌∙◌, arith}
 use Rattle.std.proofs.lemmas.Result.{on_ok_weaker}
 use Rattle.sqlite.specs.Held.{state}
 use Rattle.office_tables.specs.ShareStudent.{AreStudentAmounts, with_student_share}
@@ -8,12 +9,7 @@ use Rattle.office_tables.proofs.Inside.{within_then, within_same, clean_before}
 use Rattle.office_tables.proofs.share_student.InsertStudentSharesAlteration.apply.Goals as goal
 
 pub chunks-init : goal.chunks-init
-chunks-init g c = record {
-  same = refl;
-  makes = λ clean inside. (inside, λ t h. (t, h, refl, λ was. was));
-  within = within_same _;
-  fits = c.requires.fits;
-}
+chunks-init g c = grind (arith, common_steps, within_same)
 
 pub chunks-preserved : goal.chunks-preserved
 chunks-preserved g c =

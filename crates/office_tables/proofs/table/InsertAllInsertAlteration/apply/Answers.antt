@@ -1,4 +1,5 @@
-use Rattle.std.proofs.Common.{refl, rules, ◌∙◌}
+use Rattle.std.proofs.lemmas.Grind.{common_steps}
+use Rattle.std.proofs.Common.{refl, rules, ◌∙◌, arith}
 use Rattle.std.proofs.lemmas.Result.{on_ok_weaker}
 use Rattle.sqlite.specs.Held.{state}
 use Rattle.office_tables.specs.Inserting.{with_row}
@@ -7,12 +8,7 @@ use Rattle.office_tables.proofs.Inside.{within_then, within_same, clean_before}
 use Rattle.office_tables.proofs.table.InsertAllInsertAlteration.apply.Goals as goal
 
 pub chunks-init : goal.chunks-init
-chunks-init g c = record {
-  same = refl;
-  makes = λ clean inside. (inside, λ t h. (t, h, refl, λ was. was));
-  within = within_same _;
-  fits = c.requires.fits;
-}
+chunks-init g c = grind (arith, common_steps, within_same)
 
 pub chunks-preserved : goal.chunks-preserved
 chunks-preserved g c =
@@ -33,16 +29,10 @@ chunks-preserved g c =
     }
 
 pub insert_many-requires : goal.insert_many-requires
-insert_many-requires g c =
-    let fits = (parts_fit g.R.Table.limited g.R.Table.fits (λ it. it.row) g.row.N c.chunks.left.now
-    c.in-Some.chunk.now c.in-Some.rest.now c.in-Some.ensures.cases c.chunks.invariant.fits).0 in
-    search rules
+insert_many-requires g c = grind (arith, common_steps, parts_fit)
 
 pub apply-requires : goal.apply-requires
-apply-requires g c = record {
-  fits = one_fits g.R.Table.limited g.R.Table.fits (λ it. it.row) c.chunks.left.now
-      c.chunks.invariant.fits;
-}
+apply-requires g c = grind (arith, common_steps, one_fits)
 
 pub returns-in_err-insert_many-clause-same_reference : goal.returns-in_err-insert_many-clause-same_reference
 returns-in_err-insert_many-clause-same_reference g c =
