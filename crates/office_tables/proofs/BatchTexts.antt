@@ -54,18 +54,8 @@ batch_of_query = select_query (inner 14 end) (equals 0 0 ∷ []) columns (rising
 
 pub batch_of_means : (version : Version) → Means (schema_of version) batch_of_query batch_of_text
 unfolding understood everything
-batch_of_means One = record {
-  names = codes "no" ∷ codes "bytes" ∷ codes "added" ∷ codes "dropped" ∷ codes "unchanged" ∷ [];
-  selects = refl;
-  unlisted = refl;
-  plain = (refl, refl);
-}
-batch_of_means Two = record {
-  names = codes "no" ∷ codes "bytes" ∷ codes "added" ∷ codes "dropped" ∷ codes "unchanged" ∷ [];
-  selects = refl;
-  unlisted = refl;
-  plain = (refl, refl);
-}
+batch_of_means One = record { names = _; selects = refl; unlisted = refl; plain = (refl, refl) }
+batch_of_means Two = record { names = _; selects = refl; unlisted = refl; plain = (refl, refl) }
 
 abbrev picked : Row → Row
 picked row = column row 0 ∷ column row 1 ∷ column row 2 ∷ column row 3 ∷ column row 4 ∷ []

@@ -175,3 +175,18 @@ rows_deleted {columns_of} about key keyed first short sql means rows f listed ch
           (all_columns t) (listed t) (all_shown old.now t represents) h)),
       λ _. delete_sound means _ old new count represents.schema h,
     ))
+
+-- the tables without the rows of one table
+pub rows_cleared : {at : ℕ} {table : Table} (is : IsTable at table) (sql : List ℕ) → IsDelete at table 0 sql
+    → (rows : Tables → List Row) (f : Tables → Tables)
+    → ((t : Tables) → slice_get (all_columns t) at ≡ Some (rows t))
+    → ((t : Tables) → all_columns (f t) ≡ slice_set (all_columns t) at [])
+    → (old new : State) (r : Result (Unit {0}) Error)
+    → OnOk r (HasRun sql [] old new) → OnOk r (Makes f old new)
+rows_cleared is sql means rows f listed changed old new r =
+    changes_by f sql [] old new r (λ count t represents h. (
+      tables_held new.now (f t) (subst (λ all. AllShown all new.now) (sym (changed t))
+          (cleared is sql means old new (rows t) count (all_columns t) (listed t)
+          (all_shown old.now t represents) h)),
+      λ _. delete_sound means _ old new count represents.schema h,
+    ))

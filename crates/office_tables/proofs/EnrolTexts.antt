@@ -47,12 +47,7 @@ enrols_of_query =
 
 pub enrols_of_means : Means office_schema enrols_of_query enrols_of_text
 unfolding understood everything
-enrols_of_means = record {
-  names = codes "student" ∷ codes "exam" ∷ [];
-  selects = refl;
-  unlisted = refl;
-  plain = (refl, refl);
-}
+enrols_of_means = record { names = _; selects = refl; unlisted = refl; plain = (refl, refl) }
 
 -- the rows read from the table: those of one student
 module _ (db : Database) (number : ℕ) (t : Tables) (represents : HoldsTables db t) where

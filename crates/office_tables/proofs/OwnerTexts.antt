@@ -30,12 +30,7 @@ owners_of_query = select_query (inner 1 end) (equals 0 0 ∷ []) columns (rising
 
 pub owners_of_means : Means office_schema owners_of_query owners_of_text
 unfolding understood everything
-owners_of_means = record {
-  names = codes "exam" ∷ codes "dept" ∷ [];
-  selects = refl;
-  unlisted = refl;
-  plain = (refl, refl);
-}
+owners_of_means = record { names = _; selects = refl; unlisted = refl; plain = (refl, refl) }
 
 abbrev picked : Row → Row
 picked row = column row 0 ∷ column row 1 ∷ []

@@ -47,12 +47,7 @@ seats_of_query =
 
 pub seats_of_means : Means office_schema seats_of_query seats_of_text
 unfolding understood everything
-seats_of_means = record {
-  names = codes "student" ∷ codes "exam" ∷ codes "period" ∷ codes "room" ∷ codes "seat" ∷ [];
-  selects = refl;
-  unlisted = refl;
-  plain = (refl, refl);
-}
+seats_of_means = record { names = _; selects = refl; unlisted = refl; plain = (refl, refl) }
 
 pub seats_of_read : (db : Database) (number : ℕ) (t : Tables) → HoldsTables db t → (found : List SeatRow)
     → IsReadOf seat_columns 5 (Int (pos number) ∷ []) seats_of_query db.trees found

@@ -52,12 +52,7 @@ student_shares_query = select_query (inner 11 end) [] first_terms (rising first_
 
 pub student_shares_means : Means office_schema student_shares_query student_shares_text
 unfolding understood everything
-student_shares_means = record {
-  names = codes "student" ∷ codes "in_row" ∷ codes "in_day" ∷ codes "spread" ∷ [];
-  selects = refl;
-  unlisted = refl;
-  plain = (refl, refl);
-}
+student_shares_means = record { names = _; selects = refl; unlisted = refl; plain = (refl, refl) }
 
 abbrev first_picked : Row → Row
 first_picked row = column row 0 ∷ column row 1 ∷ column row 2 ∷ column row 3 ∷ []
@@ -170,12 +165,7 @@ share_nights_query = select_query (inner 16 end) [] night_terms (rising night_te
 
 pub share_nights_means : Means office_schema share_nights_query share_nights_text
 unfolding understood everything
-share_nights_means = record {
-  names = codes "student" ∷ codes "night" ∷ [];
-  selects = refl;
-  unlisted = refl;
-  plain = (refl, refl);
-}
+share_nights_means = record { names = _; selects = refl; unlisted = refl; plain = (refl, refl) }
 
 abbrev night_picked : Row → Row
 night_picked row = column row 0 ∷ column row 1 ∷ []
@@ -263,12 +253,7 @@ student_shares_of_query =
 
 pub student_shares_of_means : Means office_schema student_shares_of_query student_shares_of_text
 unfolding understood everything
-student_shares_of_means = record {
-  names = codes "night" ∷ codes "student" ∷ codes "in_row" ∷ codes "in_day" ∷ codes "spread" ∷ [];
-  selects = refl;
-  unlisted = refl;
-  plain = (refl, refl);
-}
+student_shares_of_means = record { names = _; selects = refl; unlisted = refl; plain = (refl, refl) }
 
 pub student_shares_of_read : (db : Database) (number : ℕ) (t : Tables) → HoldsTables db t
     → (found : List StudentShareRow)
@@ -309,12 +294,7 @@ part_shares_query = select_query (inner 12 end) [] share_part_terms []
 
 pub part_shares_means : Means office_schema part_shares_query part_shares_text
 unfolding understood everything
-part_shares_means = record {
-  names = codes "kind" ∷ codes "no" ∷ codes "penalty" ∷ codes "mixed" ∷ [];
-  selects = refl;
-  unlisted = refl;
-  plain = (refl, refl);
-}
+part_shares_means = record { names = _; selects = refl; unlisted = refl; plain = (refl, refl) }
 
 pub part_shares_read : (db : Database) (t : Tables) → HoldsTables db t → (found : List PartShareRow)
     → IsReadOf share_part_columns 4 [] part_shares_query db.trees found
