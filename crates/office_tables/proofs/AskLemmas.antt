@@ -64,9 +64,6 @@ module _ (q : Query) (sql : List ℕ) (means : Means office_schema q sql) (old n
 -- under the schema of a version
 module _ (version : Version) (q : Query) (sql : List ℕ) (means : Means (schema_of version) q sql)
     (old : State) (t : Tables) (represents : HoldsTablesIn version old.now t) where
-  pub plain_at : IsPlain (understood old.now.schema sql)
-  plain_at = subst (λ s. IsPlain (understood s sql)) (sym represents.schema) means.plain
-
   pub means_at : Means old.now.schema q sql
   means_at = subst (λ s. Means s q sql) (sym represents.schema) means
 

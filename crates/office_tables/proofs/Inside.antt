@@ -11,6 +11,7 @@ use Rattle.office_tables.specs.Alterations.{IsWritten, after_all}
 use Rattle.office_tables.specs.Tables.{Tables}
 use Rattle.office_tables.specs.TablesHeld.{HoldsTables}
 use Rattle.office_tables.specs.Steps.{Within, HasRun, Makes}
+use Rattle.office_tables.proofs.ManyRows.{after_append}
 
 -- a state that is clean now was clean before
 pub clean_before : (old new : State) → Within old new → HasCleanDisk new → HasCleanDisk old
@@ -60,12 +61,7 @@ changes_by_two more others old mid new r step within one two clean inside =
 
 -- ---- alterations, one after the other
 
-after_push : {A : Type 0} (f : A → Tables → Tables) (xs : List A) (x : A) (t : Tables)
-    → after_all f (xs ++ x ∷ []) t ≡ f x (after_all f xs t)
-after_push f [] x t = refl
-after_push f (y ∷ xs) x t = after_push f xs x (f y t)
-
 pub after_more : {A : Type 0} (f : A → Tables → Tables) (xs : List A) (i : ℕ) (x : A) (t : Tables)
     → i < length xs → x ≡ get_or xs i x
     → after_all f (take (i + 1) xs) t ≡ f x (after_all f (take i xs) t)
-after_more f xs i x t lt is = grind (arith, common_steps, take_more, after_push)
+after_more f xs i x t lt is = grind (arith, common_steps, take_more, after_append f (take i xs) (x ∷ []) t)

@@ -29,9 +29,6 @@ module _ {X : Type 0} (key : X → ℕ) where
   itself : (n : ℕ) → (n == n) ≡ true
   itself n = grind (arith, nat_tests)
 
-  other : (m n : ℕ) → m ≢ n → (m == n) ≡ false
-  other m n apart = grind (arith, nat_tests)
-
   no_partner : (x : X) (xs : List X) → AllByRecursion (λ y. key x ≢ key y) xs
       → filter (λ y. key y == key x) xs ≡ []
   no_partner x [] all = refl

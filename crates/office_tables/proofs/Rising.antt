@@ -7,7 +7,7 @@ use Rattle.std.specs.Prelude.{IfSome}
 use Rattle.std.proofs.lemmas.Bool.Decides.{nat_tests}
 use Rattle.std.proofs.lemmas.Int.{ints}
 use Rattle.std.proofs.lemmas.List.{map-append, take-map}
-use Rattle.exam_lists.proofs.Each.{each_take}
+use Rattle.exam_lists.proofs.Each.{each_at_middle, each_take}
 use Rattle.sqlite_rules.specs.Edit.{id_in}
 use Rattle.sqlite_rules.proofs.TableLemmas.{int_is}
 use Rattle.sqlite_trees.specs.Tree.{rowid, IsAscending}
@@ -128,16 +128,11 @@ abbrev pub EndsWith : Option ℤ → List ℤ → Type 0
 EndsWith None numbers = numbers ≡ []
 EndsWith (Some top) numbers = (before : List ℤ) × (numbers ≡ before ++ top ∷ [])
 
-at_end : (P : ℤ → Type 0) (before : List ℤ) (top : ℤ)
-    → AllByRecursion P (before ++ top ∷ []) → P top
-at_end P [] top h = h.0
-at_end P (x ∷ before) top h = at_end P before top h.1
-
 all_low : (before : List ℤ) (top n : ℤ) → IsAscending Below (before ++ top ∷ []) → top <ℤ n
     → AllByRecursion (λ x. AllByRecursion (Below x) (n ∷ [])) (before ++ top ∷ [])
 all_low [] top n up low = ((low, tt), tt)
 all_low (x ∷ before) top n up low = (
-  (later_too x top n (at_end (Below x) before top up.0) low, tt),
+  (later_too x top n (each_at_middle (Below x) before top [] up.0) low, tt),
   all_low before top n up.1 low,
 )
 

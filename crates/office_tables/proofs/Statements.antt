@@ -1,5 +1,5 @@
 -- The effect of a statement of a known form, for any table.
-use Rattle.std.proofs.Common.{◌≡◌, ◌/◌, ◌⊎◌, inl, inr, ℕ, List, [], ◌∷◌, ◌++◌, length, slice_get, false, Some, None, Ok, Err, Result, sym, ap, subst, subst₂, ◌∙◌, append-nil}
+use Rattle.std.proofs.Common.{◌≡◌, ◌/◌, ◌⊎◌, inl, inr, ℕ, List, [], ◌∷◌, ◌++◌, length, slice_get, false, Some, None, Ok, Err, Result, sym, ap, subst, ◌∙◌, append-nil}
 use Rattle.sqlite_trees.specs.Tree.{Trees}
 use Rattle.sqlite_schema.specs.declared.schema.Table.{Table}
 use Rattle.sqlite_schema.specs.declared.schema.Schema.{Schema}
@@ -8,6 +8,7 @@ use Rattle.sqlite_value.specs.Order.{Row}
 use Rattle.sqlite_rules.specs.declared.error.Rowids.TheVariants.{Chosen, Given}
 use Rattle.sqlite_rules.specs.Edit.{edit_of, taken_by, Applies}
 use Rattle.sqlite_rules.specs.Action.{works}
+use Rattle.sqlite.specs.Source.{Source}
 use Rattle.sqlite.specs.Source.TheVariants as source
 use Rattle.sqlite.specs.Source.TheVariants.{Values}
 use Rattle.sqlite.specs.Calls.{IsWrite}
@@ -19,7 +20,7 @@ use Rattle.sqlite.specs.Program.{overlay}
 use Rattle.sqlite_value.specs.declared.value.Value.TheVariants.{Null}
 use Rattle.sqlite_rules.specs.Calls.{ids_of}
 use Rattle.sqlite.specs.Listing.{understood, reads_listing}
-use Rattle.sqlite.specs.Effect.{Database, IsDatabase, value_rows}
+use Rattle.sqlite.specs.Effect.{Database, IsDatabase, IsSource, value_rows}
 use Rattle.sqlite.specs.Does.{Tally, Does, lacks_sequence}
 use Rattle.sqlite.specs.Change.{created, next_tree, KeepsRows}
 use Rattle.sqlite.specs.Compile.{table_defined_by}
@@ -65,16 +66,14 @@ module _ (sql : List ℕ) (params : Row) (old new : State) (count : ℕ) (schema
   abbrev table : Table
   table = simple_table base
 
-  pub inserts : (terms : List Term) (width : ℕ)
-      → command_of (understood schema sql) ≡ Insert at (Values terms width)
+  inserts_rows : (from : Source) → command_of (understood schema sql) ≡ Insert at from
       → ((taken news : List Row) → works schema Enforced 0 base.tree taken news ≡ [])
       → Executes sql params old new (Ok count)
-      → (new.now.schema ≡ schema)
-      × Applies schema Enforced old.now.trees
-      (edit_of old.now.trees (simple_table base) [] Chosen 0
-      (value_rows params width (length terms / width) terms)) new.now.trees
-  inserts terms width is quiet h =
-      let command = Insert at (Values terms width) in
+      → (rows : List Row) × IsSource (record { schema = schema; trees = old.now.trees }) params from rows
+      × (new.now.schema ≡ schema)
+      × Applies schema Enforced old.now.trees (edit_of old.now.trees table [] Chosen 0 rows) new.now.trees
+  inserts_rows from is quiet h =
+      let command = Insert at from in
       let text = statement_of sql (understood schema sql) in
       let w : Writes old new None command text params count =
       runs_as sql params old new schema has command is plain count h in
@@ -92,14 +91,28 @@ module _ (sql : List ℕ) (params : Row) (old new : State) (count : ℕ) (schema
       let edit = edit_of old.now.trees table [] Chosen 0 given.0 in
       let applied : Applies schema Enforced old.now.trees edit written.0 =
       one_step schema Enforced old.now.trees written.0 edit
-      (quiet (taken_by old.now.trees edit) edit.news) written.1 in
-      let rows = given.1.1
-      ∙ ap (λ ps. value_rows ps width (length terms / width) terms) (append-nil params) in (
+      (quiet (taken_by old.now.trees edit) edit.news) written.1 in (
+        given.0,
+        subst (λ ps. IsSource (record { schema = schema; trees = old.now.trees }) ps from given.0)
+            (append-nil params) given.1,
         ap (λ (d : Database). d.schema) now,
-        subst₂ (λ xs t. Applies schema Enforced old.now.trees
-            (edit_of old.now.trees table [] Chosen 0 xs) t)
-            rows
+        subst (Applies schema Enforced old.now.trees edit)
             (sym trees ∙ sym (ap (λ (d : Database). d.trees) now)) applied,
+      )
+
+  pub inserts : (terms : List Term) (width : ℕ)
+      → command_of (understood schema sql) ≡ Insert at (Values terms width)
+      → ((taken news : List Row) → works schema Enforced 0 base.tree taken news ≡ [])
+      → Executes sql params old new (Ok count)
+      → (new.now.schema ≡ schema)
+      × Applies schema Enforced old.now.trees
+      (edit_of old.now.trees (simple_table base) [] Chosen 0
+      (value_rows params width (length terms / width) terms)) new.now.trees
+  inserts terms width is quiet h =
+      let done = inserts_rows (Values terms width) is quiet h in (
+        done.2,
+        subst (λ xs. Applies schema Enforced old.now.trees
+            (edit_of old.now.trees table [] Chosen 0 xs) new.now.trees) done.1.1 done.3,
       )
 
   -- the same for rows that a query gives
@@ -112,34 +125,8 @@ module _ (sql : List ℕ) (params : Row) (old new : State) (count : ℕ) (schema
       × Applies schema Enforced old.now.trees
       (edit_of old.now.trees (simple_table base) [] Chosen 0 rows) new.now.trees
   inserts_from q is quiet h =
-      let command = Insert at (source.Query (record { lets = []; body = q })) in
-      let text = statement_of sql (understood schema sql) in
-      let w : Writes old new None command text params count =
-      runs_as sql params old new schema has command is plain count h in
-      let all = subst
-      (λ s. Does old.step_limit (mode_of old) params
-      (record old.now { schema = s }) text None command (Ok (w.tally, new.now)))
-      has w.changed in
-      let done = went (rw found at all) in
-      let now = ap (λ (p : Tally × Database). p.1) (same_Ok (went (went done.2).2).2) in
-      let given = went done.1 in
-      let written = went (went given.2).2 in
-      let counted = went written.2 in
-      let trees : done.0.trees ≡ written.0 =
-      ap (λ (it : Written). it.trees) (same_Ok counted.2) ∙ same_Ok counted.1 in
-      let edit = edit_of old.now.trees table [] Chosen 0 given.0 in
-      let applied : Applies schema Enforced old.now.trees edit written.0 =
-      one_step schema Enforced old.now.trees written.0 edit
-      (quiet (taken_by old.now.trees edit) edit.news) written.1 in
-      let answer : IsAnswer q (overlay old.now.trees []) params given.0 =
-      subst (λ ps. IsAnswer q (overlay old.now.trees []) ps given.0) (append-nil params)
-      (given.1.answer Null) in (
-        given.0,
-        ap (λ (d : Database). d.schema) now,
-        answer,
-        subst (Applies schema Enforced old.now.trees edit)
-            (sym trees ∙ sym (ap (λ (d : Database). d.trees) now)) applied,
-      )
+      let done = inserts_rows (source.Query (record { lets = []; body = q })) is quiet h in
+      (done.0, done.2, done.1.answer Null, done.3)
 
   pub deletes : (q : Query) → command_of (understood schema sql)
       ≡ Delete at (record { lets = []; body = q })

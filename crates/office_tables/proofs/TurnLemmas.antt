@@ -5,7 +5,7 @@ use Rattle.std.proofs.lemmas.Result.{on_ok_weaker}
 use Rattle.sqlite.specs.declared.error.Error.{Error}
 use Rattle.sqlite.specs.Effect.{Database, IsDatabase}
 use Rattle.sqlite.specs.Held.{Held, state}
-use Rattle.sqlite.specs.State.{HasCleanDisk, KeepsCommit, KeepsCounts, Shows, Survives}
+use Rattle.sqlite.specs.State.{HasCleanDisk, KeepsCounts, Shows, Survives}
 use Rattle.sqlite.specs.Steps.{FailsToCommit}
 use Rattle.sqlite.specs.Store.{Ghosts}
 use Rattle.sqlite.proofs.StateLemmas.{survives_then, survives_weaker}
@@ -42,15 +42,6 @@ module _ {S : Type 0} (g : Ghosts S) (old begun last end : Held S)
     (survives : Survives (state g last) (state g end) (λ db. db ≡ (state g last).now.trees)) where
   last_clean : HasCleanDisk (state g end) → HasCleanDisk (state g last)
   last_clean clean = omega (arith, survives.clean, clean)
-
-  begun_kept : HasCleanDisk (state g last) → KeepsCommit (state g old) (state g last)
-  begun_kept clean =
-      let kept = (subst (λ h. Within (state g h) (state g last)) begins within).kept clean in
-      record { was_open = kept.was_open; committed = kept.committed }
-
-  -- a crash leaves what it would have left before the transaction
-  begun_survives : Survives (state g old) (state g last) (λ _. ⊥)
-  begun_survives = grind (arith, common_steps)
 
   module _ (Related : Database → Database → Type 0)
       (makes : HasCleanDisk (state g last) → IsTrue begun.in_transaction
