@@ -1,9 +1,9 @@
 -- The tables according to the rows found, and the effect of readers one after another.
 use Rattle.std.proofs.lemmas.Grind.{common_steps}
-use Rattle.std.proofs.Common.{◌≡◌, map, length, Option, Some, None, Result, Ok, Err, refl, sym, ap, subst, ◌∙◌, arith}
+use Rattle.std.proofs.Common.{◌≡◌, map, length, Option, Some, None, Result, Ok, Err, refl, ap, subst, arith}
 use Rattle.std.proofs.lemmas.Result.{IfOk-weaker, on_ok_weaker}
 use Rattle.std.specs.Result.{IsErrAnd}
-use Rattle.sqlite.specs.Effect.{Database, IsDatabase}
+use Rattle.sqlite.specs.Effect.{Database}
 use Rattle.sqlite.specs.declared.error.Error.{Error}
 use Rattle.sqlite.specs.Held.{Held, state}
 use Rattle.sqlite.specs.Store.{Ghosts}
@@ -26,7 +26,6 @@ use Rattle.sqlite_schema.specs.declared.schema.Schema.{Schema}
 use Rattle.office_schema.specs.Schema.{office_schema, schema_before}
 use Rattle.office_tables.specs.declared.version.Version.{Version}
 use Rattle.office_tables.specs.declared.version.Version.TheVariants.{One, Two}
-use Rattle.office_tables.specs.TablesHeld.{HoldsTablesIn}
 use Rattle.office_tables.specs.Versions.{schema_of}
 use Rattle.office_tables.specs.Stored.{Holds, keyed_columns, keyless_columns}
 use Rattle.office_tables.proofs.Reading.{keeps_after}

@@ -1,8 +1,7 @@
 -- The effect of insertions and deletions on the tables, one after the other.
 use Rattle.std.proofs.lemmas.Grind.{common_steps}
-use Rattle.std.proofs.Common.{◌≡◌, List, [], ◌∷◌, ◌++◌, map, reverse, filter, not, Bool, true, false, cond, ◌==◌, ◌&&◌, ◌||◌, refl, sym, ap, ◌∙◌, append_assoc, arith}
+use Rattle.std.proofs.Common.{◌≡◌, List, [], ◌∷◌, ◌++◌, map, reverse, filter, not, ◌==◌, ◌&&◌, refl, sym, ap, ◌∙◌, arith}
 use Rattle.std.specs.List.{list_any}
-use Rattle.std.proofs.lemmas.List.{reverse-append}
 use Rattle.exam_lists.proofs.Filters.{filter_not-filter_not, filter_true}
 use Rattle.exam_lists.proofs.Parts.{reverse_cons_append}
 use Rattle.office_tables.specs.Alterations.{after_all}

@@ -1,6 +1,6 @@
 -- The stored batches, according to the numbers found.
 use Rattle.std.proofs.lemmas.Grind.{common_steps}
-use Rattle.std.proofs.Common.{◌≡◌, ℕ, List, [], ◌∷◌, map, take, drop, length, codes, not, ◌&&◌, Option, Some, None, true, false, Result, Ok, Err, IfOk, OnOk, pos, refl, sym, ap, ap₂, subst, ◌∙◌, arith, IsPermutation}
+use Rattle.std.proofs.Common.{◌≡◌, ℕ, List, [], ◌∷◌, map, take, drop, length, codes, Option, Some, None, true, false, pos, refl, sym, ap, ap₂, subst, ◌∙◌, arith, IsPermutation}
 use Rattle.std.specs.Prelude.{Vec}
 use Rattle.std.specs.List.{AllByRecursion}
 use Rattle.std.specs.declared.alloc.Global.{Global}

@@ -1,9 +1,8 @@
 -- The rows that queries read from the table of batches.
 use Rattle.std.proofs.lemmas.Grind.{common_steps}
-use Rattle.std.proofs.Common.{◌≡◌, ◌≢◌, ◌≤◌, ◌<◌, ℕ, pos, Bool, true, false, cond, List, [], ◌∷◌, ◌++◌, map, filter, length, ◌==◌, codes, Option, Some, None, refl, sym, ap, ◌∙◌, ◌↔◌, arith, length-append, IsPermutation}
+use Rattle.std.proofs.Common.{◌≡◌, ◌≢◌, ◌≤◌, ◌<◌, ℕ, pos, List, [], ◌∷◌, ◌++◌, map, filter, length, ◌==◌, codes, Option, refl, sym, ap, ◌∙◌, ◌↔◌, arith, IsPermutation}
 use Rattle.std.specs.Prelude.{option_to_list, IsSome}
 use Rattle.std.specs.List.{AllByRecursion}
-use Rattle.std.proofs.lemmas.Bool.Decides.{nat_tests}
 use Rattle.std.proofs.lemmas.List.{length-map}
 use Rattle.std.proofs.lemmas.List.Sorted.{length_permutation}
 use Rattle.exam_lists.proofs.Keys.{all_of_key}

@@ -1,6 +1,6 @@
 -- All tables hold their rows, and still do after one of them has changed.
 use Rattle.std.proofs.lemmas.Grind.{common_steps}
-use Rattle.std.proofs.Common.{◌≡◌, ◌≢◌, ◌++◌, ℕ, zero, suc, List, [], ◌∷◌, length, map, not, ◌==◌, refl, Some, true, arith, sym, subst}
+use Rattle.std.proofs.Common.{◌≡◌, ◌≢◌, ◌++◌, ℕ, zero, suc, List, [], ◌∷◌, length, map, not, ◌==◌, Some, true, arith, sym, subst}
 use Rattle.std.specs.Prelude.{slice_get, slice_set}
 use Rattle.std.specs.List.{AllByRecursion, list_all}
 use Rattle.std.proofs.lemmas.Bool.{and_parts}
@@ -13,10 +13,9 @@ use Rattle.sqlite.specs.Effect.{Database}
 use Rattle.office_schema.specs.Schema.{night_draft_table, night_share_table, office_schema, schema_before}
 use Rattle.office_tables.specs.Inserting.{IsTable, Others, has_own_tree, simple_table}
 use Rattle.office_tables.specs.Tables.{Tables}
-use Rattle.office_tables.specs.TablesHeld.{HoldsTables, HoldsTablesIn, all_columns, columns_in, night_columns_of}
+use Rattle.office_tables.specs.TablesHeld.{HoldsTables, HoldsTablesIn, all_columns, columns_in}
 use Rattle.office_tables.specs.Stored.{HoldAll, Holds, shown_by}
 use Rattle.office_tables.specs.declared.version.Version.{Version}
-use Rattle.office_tables.specs.declared.version.Version.TheVariants.{Two}
 
 -- a statement has changed one table, which now holds these rows
 pub record OneShown (table : Table) (rows : List Row) (old new : Database) : Type 0 where

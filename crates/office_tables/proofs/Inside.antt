@@ -1,6 +1,6 @@
 -- The effect of a statement inside a transaction.
 use Rattle.std.proofs.lemmas.Grind.{common_steps}
-use Rattle.std.proofs.Common.{◌+◌, ◌<◌, ◌++◌, ◌∷◌, [], take, get_or, length, ◌≡◌, inl, ℕ, List, Ok, Result, refl, sym, ap, ◌∙◌, arith, OnOk, IsTrue}
+use Rattle.std.proofs.Common.{◌+◌, ◌<◌, ◌∷◌, [], take, get_or, length, ◌≡◌, ℕ, List, Ok, Result, arith, OnOk, IsTrue}
 use Rattle.std.proofs.lemmas.List.{take_more}
 use Rattle.sqlite_value.specs.Order.{Row}
 use Rattle.sqlite.specs.declared.error.Error.{Error}

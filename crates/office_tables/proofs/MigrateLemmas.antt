@@ -36,7 +36,7 @@ use Rattle.office_tables.specs.Inserting.{IsTable}
 use Rattle.office_tables.specs.Migrating.{IsWidened, without_nights}
 use Rattle.office_tables.specs.Schema.{HasRows}
 use Rattle.office_tables.specs.ShareStudent.{share_student_columns, night_share_columns}
-use Rattle.office_tables.specs.TablesHeld.{HoldsTables, HoldsOldTables, all_columns, columns_in}
+use Rattle.office_tables.specs.TablesHeld.{HoldsTables, HoldsOldTables, all_columns}
 use Rattle.office_tables.specs.Stored.{Holds, keyed_columns}
 use Rattle.office_tables.specs.Tables.{Tables}
 use Rattle.office_tables.proofs.AskLemmas.{unmapped}

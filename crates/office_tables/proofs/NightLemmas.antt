@@ -1,6 +1,6 @@
 -- Rows of two tables with the same numbers, as the rows of one list.
 use Rattle.std.proofs.lemmas.Grind.{common_steps}
-use Rattle.std.proofs.Common.{◌≡◌, ◌≢◌, ◌<ℤ◌, int_cmp, Less, ℕ, ℤ, pos, List, [], ◌∷◌, map, Option, Some, None, refl, sym, ap, ap₂, subst, ◌∙◌, arith, IsPermutation}
+use Rattle.std.proofs.Common.{◌≡◌, ◌≢◌, ◌<ℤ◌, int_cmp, Less, ℕ, ℤ, pos, List, [], ◌∷◌, map, Option, Some, None, refl, sym, ap, subst, ◌∙◌, arith, IsPermutation}
 use Rattle.std.specs.List.{AllByRecursion}
 use Rattle.std.specs.Prelude.{Vec, IfSome}
 use Rattle.std.specs.declared.alloc.Global.{Global}
@@ -19,7 +19,7 @@ use Rattle.office_tables.specs.declared.nights.NightRow.{NightRow}
 use Rattle.office_tables.specs.declared.version.Version.TheVariants.{One, Two}
 use Rattle.office_tables.specs.Finders.{IsFound}
 use Rattle.office_tables.specs.Joining.{AreFound, AreNights, HaveRows, IsJoined, IsJoinedWith, Splits}
-use Rattle.office_tables.specs.Nights.{bare_columns, night_columns, FitsNight}
+use Rattle.office_tables.specs.Nights.{night_columns, FitsNight}
 use Rattle.office_tables.specs.Readings.{ColumnRises}
 use Rattle.office_tables.specs.Stored.{Holds, keyed_columns}
 use Rattle.office_tables.proofs.RecordLemmas.{full_night, IsFull}

@@ -1,6 +1,6 @@
 -- The answer of a query over one table, and the rows that a DELETE by such a query leaves.
 use Rattle.std.proofs.lemmas.Grind.{common_steps}
-use Rattle.std.proofs.Common.{◌≡◌, inl, inr, ℕ, ℤ, suc, pos, List, [], ◌∷◌, ◌++◌, map, filter, flat_map, drop, not, Bool, true, false, cond, ◌&&◌, ◌||◌, ◌==◌, ◌^◌, Some, None, refl, sym, ap, ap₂, subst, ◌∙◌, arith, Ordering, Less, Equal, Greater, is_eq, int_cmp}
+use Rattle.std.proofs.Common.{◌≡◌, inl, inr, ℕ, ℤ, suc, pos, List, [], ◌∷◌, map, filter, flat_map, drop, not, Bool, true, false, cond, ◌&&◌, ◌||◌, ◌==◌, ◌^◌, Some, None, refl, sym, ap, ap₂, subst, ◌∙◌, arith, Ordering, Less, Equal, Greater, is_eq, int_cmp}
 use Rattle.std.specs.List.{list_any, list_all}
 use Rattle.std.specs.Prelude.{IsPermutation, nat_le, unwrap_or}
 use Rattle.std.proofs.lemmas.Bool.{cases_Bool, false_from_ne_true}

@@ -1,6 +1,6 @@
 -- The effect of a reader.
 use Rattle.std.proofs.lemmas.Grind.{common_steps}
-use Rattle.std.proofs.Common.{inl, inr, ℕ, List, Some, None, Ok, Err, Result, OnOk, Option, subst, ◌∙◌, arith}
+use Rattle.std.proofs.Common.{inl, inr, ℕ, List, Some, None, Option, subst, ◌∙◌, arith}
 use Rattle.sqlite_value.specs.Order.{Row}
 use Rattle.sqlite.specs.declared.error.Error.{Error}
 use Rattle.sqlite_schema.specs.declared.command.Returning.{Returning}

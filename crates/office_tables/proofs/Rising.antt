@@ -1,6 +1,6 @@
 -- Numbers of rows that rise, and numbers that are distinct.
 use Rattle.std.proofs.lemmas.Grind.{common_steps}
-use Rattle.std.proofs.Common.{◌≡◌, ◌≢◌, ◌≤◌, ◌<ℤ◌, ℕ, zero, suc, ℤ, List, [], ◌∷◌, ◌++◌, map, take, drop, length, Option, Some, None, Ordering, Less, Equal, Greater, is_lt, int_cmp, add-one, false, refl, sym, ap, ap₂, subst, ◌∙◌, IsSorted, arith}
+use Rattle.std.proofs.Common.{◌≡◌, ◌≢◌, ◌<ℤ◌, ℕ, zero, suc, ℤ, List, [], ◌∷◌, ◌++◌, map, take, drop, length, Option, Some, None, Ordering, Less, Equal, Greater, is_lt, int_cmp, add-one, false, refl, sym, ap, ap₂, subst, ◌∙◌, IsSorted, arith}
 use Rattle.std.specs.List.{AllByRecursion}
 use Rattle.std.specs.Ordering.{ordering_then}
 use Rattle.std.specs.Prelude.{IfSome}
@@ -11,7 +11,6 @@ use Rattle.exam_lists.proofs.Each.{each_at_middle, each_take}
 use Rattle.sqlite_rules.specs.Edit.{id_in}
 use Rattle.sqlite_rules.proofs.TableLemmas.{int_is}
 use Rattle.sqlite_trees.specs.Tree.{rowid, IsAscending}
-use Rattle.sqlite_trees.specs.View.{is_int}
 use Rattle.sqlite_trees.proofs.ListLemmas.{all_weaker, ascending-append}
 use Rattle.sqlite_value.specs.declared.keys.Collation.TheVariants.{Binary}
 use Rattle.sqlite_value.specs.declared.value.Value.{Value}

@@ -1,6 +1,5 @@
 -- Tables that one database holds have the same drafts and the same shares of students.
-use Rattle.std.proofs.lemmas.Grind.{common_steps}
-use Rattle.std.proofs.Common.{◌≡◌, ◌≢◌, ℕ, pos, List, [], ◌∷◌, map, filter, flat_map, Bool, true, false, ◌&&◌, ◌==◌, refl, sym, ap, ap₂, subst, ◌∙◌, IsPermutation, arith}
+use Rattle.std.proofs.Common.{◌≡◌, ◌≢◌, ℕ, pos, List, [], ◌∷◌, map, filter, flat_map, Bool, true, false, ◌&&◌, ◌==◌, refl, sym, ap, ap₂, subst, ◌∙◌, IsPermutation}
 use Rattle.std.specs.List.{AllByRecursion}
 use Rattle.std.proofs.lemmas.List.Sorted.{IsPermutation-map, IsPermutation-sym, IsPermutation-trans}
 use Rattle.exam_lists.proofs.Filters.{filter_every}

@@ -1,6 +1,6 @@
 -- A text that has no RETURNING under one schema has none under any.
 use Rattle.std.proofs.lemmas.Grind.{common_steps}
-use Rattle.std.proofs.Common.{◌≡◌, ◌⊎◌, ◌+◌, inl, inr, ℕ, Bool, true, false, List, length, Option, None, Some, Ok, Err, refl, sym, ap, subst, ◌∙◌, arith}
+use Rattle.std.proofs.Common.{◌≡◌, ◌⊎◌, inl, inr, ℕ, Bool, true, false, List, length, Option, None, Some, Ok, Err, refl, sym, arith}
 use Rattle.std.specs.Prelude.{◌==◌, if◌then◌else◌, IsSome, Result}
 use Rattle.sqlite_ast.specs.declared.Shown.{Shown}
 use Rattle.sqlite_ast.specs.declared.Statement.{Statement}
@@ -11,7 +11,7 @@ use Rattle.sqlite_schema.specs.declared.schema.Schema.{Schema}
 use Rattle.sqlite_syntax.specs.declared.statement.Parsed.{Parsed}
 use Rattle.sqlite_trees.specs.Tree.{Trees}
 use Rattle.sqlite_value.specs.Order.{Row}
-use Rattle.sqlite_resolve.specs.Compile.{command, compiled, first, meaning, planned, returning, returning_by, shows, small, source_of, target, timed, with_command}
+use Rattle.sqlite_resolve.specs.Compile.{command, compiled, first, meaning, planned, returning, returning_by, shows, source_of, target}
 use Rattle.sqlite_resolve.specs.Body.{table_at}
 use Rattle.sqlite_resolve.specs.Given.{returned}
 use Rattle.sqlite_resolve.specs.Lowering.{Checked, and_then}

@@ -1,5 +1,5 @@
 use Rattle.std.proofs.lemmas.Grind.{common_steps}
-use Rattle.std.proofs.Common.{refl, subst, ◌∙◌, ◌+◌, drop, arith}
+use Rattle.std.proofs.Common.{subst, ◌∙◌, ◌+◌, drop, arith}
 use Rattle.std.proofs.lemmas.List.{at_drop_more, drop_all}
 use Rattle.sqlite.specs.Held.{state}
 use Rattle.office_tables.proofs.Creates.{Creating, created_last, created_next}

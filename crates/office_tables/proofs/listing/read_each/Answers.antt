@@ -1,5 +1,5 @@
 use Rattle.std.proofs.lemmas.Grind.{common_steps}
-use Rattle.std.proofs.Common.{◌≢◌, ◌≤◌, ◌∙◌, ap, length, map, subst, arith}
+use Rattle.std.proofs.Common.{◌≢◌, ◌≤◌, length, subst, arith}
 use Rattle.std.proofs.lemmas.List.{take_all}
 use Rattle.office_tables.specs.Records.{columns_from}
 use Rattle.office_tables.proofs.ListedTables.{unread}

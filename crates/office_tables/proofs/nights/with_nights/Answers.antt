@@ -1,5 +1,5 @@
 use Rattle.std.proofs.lemmas.Grind.{common_steps}
-use Rattle.std.proofs.Common.{◌<◌, ◌≤◌, ap, map, subst, sym, ◌∙◌, arith}
+use Rattle.std.proofs.Common.{◌<◌, subst, sym, ◌∙◌, arith}
 use Rattle.office_tables.proofs.JoinLemmas.{all_joined, differ, next}
 use Rattle.office_tables.proofs.nights.with_nights.Goals as goal
 

@@ -1,7 +1,6 @@
 use Rattle.std.proofs.lemmas.Grind.{common_steps}
-use Rattle.std.proofs.Common.{◌+◌, ◌++◌, [], ◌∷◌, take, map, pos, ap, ap₂, sym, ◌∙◌, arith}
+use Rattle.std.proofs.Common.{pos, arith}
 use Rattle.std.proofs.lemmas.List.{length-set, map-append, take-map, take_more, take_more_set}
-use Rattle.sqlite_value.specs.declared.value.Value.TheVariants.{Int}
 use Rattle.office_tables.proofs.running.parameters.Goals as goal
 
 pub loop-i-preserved : goal.loop-i-preserved

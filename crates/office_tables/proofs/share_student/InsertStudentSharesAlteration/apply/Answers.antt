@@ -1,5 +1,5 @@
 use Rattle.std.proofs.lemmas.Grind.{common_steps}
-use Rattle.std.proofs.Common.{refl, rules, true, ◌∙◌, arith}
+use Rattle.std.proofs.Common.{rules, true, ◌∙◌, arith}
 use Rattle.std.proofs.lemmas.Result.{on_ok_weaker}
 use Rattle.sqlite.specs.Held.{state}
 use Rattle.office_tables.specs.ShareStudent.{AreStudentAmounts, with_student_share}
