@@ -161,16 +161,7 @@ rows_found db found schema meta owner enrol drafts slot placed seat shares part 
   batches.1,
   record {
     schema = schema;
-    rows = (
-      meta,
-      (
-        owner,
-        (
-          enrol,
-          (drafts.first, (slot, (placed, (seat, (shares.first, (part, (batches.2, tt))))))),
-        ),
-      ),
-    );
+    rows = (meta, (owner, (enrol, (drafts.first, (slot, (placed, (seat, (shares.first, (part, (batches.2, tt))))))))));
     night_draft = drafts.second;
     night_share = shares.second;
   },

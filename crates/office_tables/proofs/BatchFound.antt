@@ -12,7 +12,7 @@ use Rattle.sqlite_schema.specs.Rules.{are_typed, are_present, passes, suits}
 use Rattle.sqlite_sql.specs.Ops.{is_null}
 use Rattle.sqlite_trees.proofs.ListLemmas.{map-map, all_of, all_both, all-map, all_from_map, all-permutation}
 use Rattle.sqlite_value.specs.declared.value.Value.{Value}
-use Rattle.sqlite_value.specs.declared.value.Value.TheVariants.{Null, Int, Real, Text, Blob}
+use Rattle.sqlite_value.specs.declared.value.Value.TheVariants.{Blob}
 use Rattle.sqlite_value.specs.Order.{Row, column}
 use Rattle.sqlite.specs.Effect.{Database, IsDatabase}
 use Rattle.office_schema.specs.Schema.{int, blob, batch_table}
@@ -40,11 +40,8 @@ record IsWhole (q : Row) : Type 0 where
 
 bytes_there : (v : Value) → suits (blob (codes "bytes")) v ≡ true → is_null v ≡ false
     → (bytes : List ℕ) × (v ≡ Blob bytes)
-bytes_there Null suits present = absurd (cc)
-bytes_there (Int n) suits present = absurd (cc)
-bytes_there (Real x) suits present = absurd (cc)
-bytes_there (Text t) suits present = absurd (cc)
 bytes_there (Blob bytes) suits present = (bytes, refl)
+bytes_there _ suits present = absurd (cc)
 
 whole : (r : Row) → length r ≡ 6 → are_typed batch_table.key 0 batch_table.columns (drop 1 r) ≡ true
     → are_present batch_table.key 0 batch_table.columns r ≡ true → IsWhole (keyed_columns r)

@@ -106,20 +106,18 @@ module _ (trees : Trees) where
       → HoldAll tables rows trees → HoldAll more others trees
       → HoldAll (tables ++ more) (rows ++ others) trees
   both_held [] more [] others held last = last
-  both_held [] more (r ∷ rows) others held last = absurd held
-  both_held (x ∷ tables) more [] others held last = absurd held
   both_held (x ∷ tables) more (r ∷ rows) others held last =
       (held.0, both_held tables more rows others held.1 last)
+  both_held _ more _ others held last = absurd held
 
   parts_held : (tables more : List Table) (rows others : List (List Row))
       → length tables ≡ length rows → HoldAll (tables ++ more) (rows ++ others) trees
       → HoldAll tables rows trees × HoldAll more others trees
   parts_held [] more [] others long held = (tt, held)
-  parts_held [] more (r ∷ rows) others long held = absurd (omega (arith, long))
-  parts_held (x ∷ tables) more [] others long held = absurd (omega (arith, long))
   parts_held (x ∷ tables) more (r ∷ rows) others long held =
       let parts = parts_held tables more rows others (omega (arith, long)) held.1 in
       ((held.0, parts.0), parts.1)
+  parts_held _ more _ others long held = absurd (omega (arith, long))
 
 -- the tables are as they were
 pub all_still : (tables : List Table) (rows : List (List Row)) (old new : Trees)

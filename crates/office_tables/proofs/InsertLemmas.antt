@@ -134,22 +134,22 @@ module _ {A F : Type 0} (g : Mut F (ℕ × Unit {0}) (List ℤ)) (f : F) (column
       let there : i + suc j ≡ (i + 1) + j = omega arith in
       rw there (each_is q fact.0 (i + 1) m later j (omega (arith, below)) d e)
 
-pub rows_valued : {A F : Type 0} (g : Mut F (ℕ × Unit {0}) (List ℤ)) (f : F)
-    (columns : A → Row) (xs : List A) (ys : List (List ℤ)) (n : ℕ)
+pub rows_valued : {A B F : Type 0} (g : Mut F (ℕ × Unit {0}) (List ℤ)) (f : F)
+    (row_of : A → B) (columns : B → Row) (xs : List A) (ys : List (List ℤ)) (n : ℕ)
     → ((i : ℕ) (y : List ℤ) (q : F) → Called g f (i, tt) y q
-    → (q ≡ f) × ((d : A) → map Int y ≡ columns (slice_index_or xs i d)))
+    → (q ≡ f) × ((d : A) → map Int y ≡ columns (row_of (slice_index_or xs i d))))
     → length xs ≡ n → IsFromFnResult g f ys n
-    → map Int (flat_map (λ y. y) ys) ≡ flat_map columns xs
-rows_valued {A} g f columns xs ys n one long is =
+    → map Int (flat_map (λ y. y) ys) ≡ flat_map columns (map row_of xs)
+rows_valued {A} g f row_of columns xs ys n one long is =
     go xs ys (long ∙ sym is.long) (λ i d e below.
     let there : 0 + i ≡ i = omega arith in
-    subst (λ k. map Int (slice_index_or ys k e) ≡ columns (slice_index_or xs k d)) there
-    (each_is g f columns xs ys one f refl 0 n is.each i (omega (arith, below, long)) d e))
+    subst (λ k. map Int (slice_index_or ys k e) ≡ columns (row_of (slice_index_or xs k d))) there
+    (each_is g f (λ x. columns (row_of x)) xs ys one f refl 0 n is.each i (omega (arith, below, long)) d e))
   where
     go : (xs : List A) (ys : List (List ℤ)) → length xs ≡ length ys
         → ((i : ℕ) (d : A) (e : List ℤ) → i < length xs
-        → map Int (slice_index_or ys i e) ≡ columns (slice_index_or xs i d))
-        → map Int (flat_map (λ y. y) ys) ≡ flat_map columns xs
+        → map Int (slice_index_or ys i e) ≡ columns (row_of (slice_index_or xs i d)))
+        → map Int (flat_map (λ y. y) ys) ≡ flat_map columns (map row_of xs)
     go [] [] same at = refl
     go [] (y ∷ ys) same at = absurd (omega (arith, same))
     go (x ∷ xs) [] same at = absurd (omega (arith, same))
@@ -157,12 +157,6 @@ rows_valued {A} g f columns xs ys n one long is =
         map-append _ y (flat_map (λ y. y) ys)
         ∙ ap₂ (λ a b. a ++ b) (at 0 x y (omega arith))
         (go xs ys (omega (arith, same)) (λ i d e lt. at (suc i) d e (omega (arith, lt))))
-
-pub flat_rows : {A B : Type 0} (row_of : A → B) (columns : B → Row) (xs : List A)
-    → flat_map (λ x. columns (row_of x)) xs ≡ flat_map columns (map row_of xs)
-flat_rows row_of columns [] = refl
-flat_rows row_of columns (x ∷ xs) =
-    ap (λ l. columns (row_of x) ++ l) (flat_rows row_of columns xs)
 
 -- ---- some rows after others
 

@@ -1,8 +1,7 @@
 -- The texts that list whole tables.
-use Rattle.std.proofs.Common.{◌≡◌, ℕ, List, [], ◌∷◌, codes, take, length, refl, sym, ap, arith}
+use Rattle.std.proofs.Common.{◌≡◌, ℕ, List, [], ◌∷◌, codes, take, refl, sym, ap, arith}
 use Rattle.std.specs.List.{AllByRecursion}
 use Rattle.sqlite_schema.specs.declared.schema.Constraint.TheVariants.{Datatype, NotNull}
-use Rattle.sqlite_schema.specs.declared.schema.Table.{Table}
 use Rattle.sqlite_trees.proofs.ListLemmas.{all_of, all_weaker}
 use Rattle.sqlite_value.specs.Order.{Row, column}
 use Rattle.sqlite.specs.Effect.{Database, IsDatabase}
@@ -16,58 +15,43 @@ use Rattle.office_tables.specs.Versions.{schema_of}
 use Rattle.office_schema.specs.Schema.{int, blob, meta_table, owner_table, enrol_table, draft_table, slot_table, placed_table, seat_table, share_student_table, share_part_table, night_draft_table, night_share_table}
 use Rattle.office_tables.specs.Stored.{keyed_columns, keyless_columns}
 use Rattle.office_tables.proofs.WholeRows.{dropped, rows_long}
-use Rattle.office_tables.proofs.WholeTables.{in_both, in_second, list_terms, lists_table}
-
--- in this version the text lists the table with the rows' numbers, in their order
-abbrev ListsAll : Version → Table → List ℕ → Type 0
-ListsAll version table =
-    Lists version table.tree (list_terms table)
-    (ordered_by (list_terms table) (length table.columns))
+use Rattle.office_tables.proofs.WholeTables.{ListsAll, in_both, in_second, lists_both, lists_table}
 
 -- ---- owner
 
 abbrev pub owner_text : List ℕ
 owner_text = codes "SELECT exam, dept, rowid FROM owner ORDER BY rowid"
 
-owner_is : (version : Version) → ListsAll version owner_table owner_text
-unfolding understood everything
-owner_is One = record { names = _; selects = refl; unlisted = refl; plain = (refl, refl) }
-owner_is Two = record { names = _; selects = refl; unlisted = refl; plain = (refl, refl) }
-
 pub owner_lists : (version : Version) → ListsTable version 2 1 keyed_columns owner_text
-owner_lists version =
-    lists_table version owner_table (in_both version 1 owner_table refl)
-    (take 1 owner_table.columns) (int (codes "dept")) refl refl refl owner_text (owner_is version)
+unfolding understood everything
+owner_lists =
+    lists_both 1 owner_table refl (take 1 owner_table.columns) (int (codes "dept")) refl refl refl owner_text
+    (record { names = _; selects = refl; unlisted = refl; plain = (refl, refl) })
+    (record { names = _; selects = refl; unlisted = refl; plain = (refl, refl) })
 
 -- ---- enrol
 
 abbrev pub enrol_text : List ℕ
 enrol_text = codes "SELECT student, exam, rowid FROM enrol ORDER BY rowid"
 
-enrol_is : (version : Version) → ListsAll version enrol_table enrol_text
-unfolding understood everything
-enrol_is One = record { names = _; selects = refl; unlisted = refl; plain = (refl, refl) }
-enrol_is Two = record { names = _; selects = refl; unlisted = refl; plain = (refl, refl) }
-
 pub enrol_lists : (version : Version) → ListsTable version 2 2 keyless_columns enrol_text
-enrol_lists version =
-    lists_table version enrol_table (in_both version 2 enrol_table refl)
-    (take 1 enrol_table.columns) (int (codes "exam")) refl refl refl enrol_text (enrol_is version)
+unfolding understood everything
+enrol_lists =
+    lists_both 2 enrol_table refl (take 1 enrol_table.columns) (int (codes "exam")) refl refl refl enrol_text
+    (record { names = _; selects = refl; unlisted = refl; plain = (refl, refl) })
+    (record { names = _; selects = refl; unlisted = refl; plain = (refl, refl) })
 
 -- ---- draft
 
 abbrev pub draft_text : List ℕ
 draft_text = codes "SELECT no, in_row, in_day, spread, mixed, front, period, room, rowid FROM draft ORDER BY rowid"
 
-draft_is : (version : Version) → ListsAll version draft_table draft_text
-unfolding understood everything
-draft_is One = record { names = _; selects = refl; unlisted = refl; plain = (refl, refl) }
-draft_is Two = record { names = _; selects = refl; unlisted = refl; plain = (refl, refl) }
-
 pub draft_lists : (version : Version) → ListsKeyed version 0 8 4 keyed_columns draft_text
+unfolding understood everything
 draft_lists version = record {
-  table = lists_table version draft_table (in_both version 3 draft_table refl)
-      (take 7 draft_table.columns) (int (codes "room")) refl refl refl draft_text (draft_is version);
+  table = lists_both 3 draft_table refl (take 7 draft_table.columns) (int (codes "room")) refl refl refl draft_text
+      (record { names = _; selects = refl; unlisted = refl; plain = (refl, refl) })
+      (record { names = _; selects = refl; unlisted = refl; plain = (refl, refl) }) version;
   within = omega arith;
   number = λ _. refl;
 }
@@ -77,60 +61,49 @@ draft_lists version = record {
 abbrev pub slot_text : List ℕ
 slot_text = codes "SELECT draft, exam, period, room, rowid FROM slot ORDER BY rowid"
 
-slot_is : (version : Version) → ListsAll version slot_table slot_text
-unfolding understood everything
-slot_is One = record { names = _; selects = refl; unlisted = refl; plain = (refl, refl) }
-slot_is Two = record { names = _; selects = refl; unlisted = refl; plain = (refl, refl) }
-
 pub slot_lists : (version : Version) → ListsTable version 4 5 keyless_columns slot_text
-slot_lists version =
-    lists_table version slot_table (in_both version 4 slot_table refl)
-    (take 3 slot_table.columns) (int (codes "room")) refl refl refl slot_text (slot_is version)
+unfolding understood everything
+slot_lists =
+    lists_both 4 slot_table refl (take 3 slot_table.columns) (int (codes "room")) refl refl refl slot_text
+    (record { names = _; selects = refl; unlisted = refl; plain = (refl, refl) })
+    (record { names = _; selects = refl; unlisted = refl; plain = (refl, refl) })
 
 -- ---- placed
 
 abbrev pub placed_text : List ℕ
 placed_text = codes "SELECT exam, period, room, rowid FROM placed ORDER BY rowid"
 
-placed_is : (version : Version) → ListsAll version placed_table placed_text
-unfolding understood everything
-placed_is One = record { names = _; selects = refl; unlisted = refl; plain = (refl, refl) }
-placed_is Two = record { names = _; selects = refl; unlisted = refl; plain = (refl, refl) }
-
 pub placed_lists : (version : Version) → ListsTable version 3 7 keyed_columns placed_text
-placed_lists version =
-    lists_table version placed_table (in_both version 5 placed_table refl)
-    (take 2 placed_table.columns) (int (codes "room")) refl refl refl placed_text (placed_is version)
+unfolding understood everything
+placed_lists =
+    lists_both 5 placed_table refl (take 2 placed_table.columns) (int (codes "room")) refl refl refl placed_text
+    (record { names = _; selects = refl; unlisted = refl; plain = (refl, refl) })
+    (record { names = _; selects = refl; unlisted = refl; plain = (refl, refl) })
 
 -- ---- seat
 
 abbrev pub seat_text : List ℕ
 seat_text = codes "SELECT student, exam, period, room, seat, rowid FROM seat ORDER BY rowid"
 
-seat_is : (version : Version) → ListsAll version seat_table seat_text
-unfolding understood everything
-seat_is One = record { names = _; selects = refl; unlisted = refl; plain = (refl, refl) }
-seat_is Two = record { names = _; selects = refl; unlisted = refl; plain = (refl, refl) }
-
 pub seat_lists : (version : Version) → ListsTable version 5 8 keyless_columns seat_text
-seat_lists version =
-    lists_table version seat_table (in_both version 6 seat_table refl)
-    (take 4 seat_table.columns) (int (codes "seat")) refl refl refl seat_text (seat_is version)
+unfolding understood everything
+seat_lists =
+    lists_both 6 seat_table refl (take 4 seat_table.columns) (int (codes "seat")) refl refl refl seat_text
+    (record { names = _; selects = refl; unlisted = refl; plain = (refl, refl) })
+    (record { names = _; selects = refl; unlisted = refl; plain = (refl, refl) })
 
 -- ---- share_student
 
 abbrev pub share_student_text : List ℕ
 share_student_text = codes "SELECT student, in_row, in_day, spread, rowid FROM share_student ORDER BY rowid"
 
-share_student_is : (version : Version) → ListsAll version share_student_table share_student_text
-unfolding understood everything
-share_student_is One = record { names = _; selects = refl; unlisted = refl; plain = (refl, refl) }
-share_student_is Two = record { names = _; selects = refl; unlisted = refl; plain = (refl, refl) }
-
 pub share_student_lists : (version : Version) → ListsKeyed version 0 4 11 keyed_columns share_student_text
+unfolding understood everything
 share_student_lists version = record {
-  table = lists_table version share_student_table (in_both version 7 share_student_table refl)
-      (take 3 share_student_table.columns) (int (codes "spread")) refl refl refl share_student_text (share_student_is version);
+  table = lists_both 7 share_student_table refl (take 3 share_student_table.columns) (int (codes "spread"))
+      refl refl refl share_student_text
+      (record { names = _; selects = refl; unlisted = refl; plain = (refl, refl) })
+      (record { names = _; selects = refl; unlisted = refl; plain = (refl, refl) }) version;
   within = omega arith;
   number = λ _. refl;
 }
@@ -140,15 +113,13 @@ share_student_lists version = record {
 abbrev pub share_part_text : List ℕ
 share_part_text = codes "SELECT kind, no, penalty, mixed, rowid FROM share_part ORDER BY rowid"
 
-share_part_is : (version : Version) → ListsAll version share_part_table share_part_text
-unfolding understood everything
-share_part_is One = record { names = _; selects = refl; unlisted = refl; plain = (refl, refl) }
-share_part_is Two = record { names = _; selects = refl; unlisted = refl; plain = (refl, refl) }
-
 pub share_part_lists : (version : Version) → ListsTable version 4 12 keyless_columns share_part_text
-share_part_lists version =
-    lists_table version share_part_table (in_both version 8 share_part_table refl)
-    (take 3 share_part_table.columns) (int (codes "mixed")) refl refl refl share_part_text (share_part_is version)
+unfolding understood everything
+share_part_lists =
+    lists_both 8 share_part_table refl (take 3 share_part_table.columns) (int (codes "mixed"))
+    refl refl refl share_part_text
+    (record { names = _; selects = refl; unlisted = refl; plain = (refl, refl) })
+    (record { names = _; selects = refl; unlisted = refl; plain = (refl, refl) })
 
 -- ---- night_draft
 

@@ -24,7 +24,7 @@ use Rattle.sqlite.specs.Term.{Term, lit, col}
 use Rattle.sqlite.proofs.Callers.{IsPlain, command_of}
 use Rattle.sqlite_tied.specs.Compute.{everything}
 use Rattle.std.specs.Fmt.{digits}
-use Rattle.exam_lists.proofs.Filters.{filter_every}
+use Rattle.exam_lists.proofs.Filters.{filter_true}
 use Rattle.exam_lists.proofs.Maps.{map_agree}
 use Rattle.office_schema.specs.Schema.{office_schema, schema_before, keyed_table, int}
 use Rattle.office_tables.specs.declared.draft.DraftRow.{DraftRow}
@@ -44,6 +44,7 @@ use Rattle.office_tables.proofs.Casts.{cast_int, cast_null}
 use Rattle.office_tables.proofs.Frames.{AllShown, OneShown, all_still, both_held, holds_none, night_tables, shown_next, tables_held}
 use Rattle.office_tables.proofs.DeleteLemmas.{cleared}
 use Rattle.office_tables.proofs.MetaLemmas.{delete_means}
+use Rattle.office_tables.proofs.OrderLemmas.{passed}
 use Rattle.office_tables.proofs.Queries.{answered_by, one_table, passes, shown_of}
 use Rattle.office_tables.proofs.Rows.{draft_nights, meta_is, share_nights}
 use Rattle.office_tables.proofs.Statements.{inserts_from, simple_table, sound_after}
@@ -113,24 +114,16 @@ module _ (sql : List ℕ) (plain : IsPlain (understood office_schema sql)) (at t
       let answer =
       answered_by (Binary ∷ Binary ∷ Binary ∷ []) from [] fill_terms [] old.now.trees []
       done.0 done.2 in
-      let all : map (shown_of [] fill_terms) (filter (passes [] []) (old.now.trees from))
-      ≡ map front (map keyed_columns (old.now.trees from)) =
-      ap (map (shown_of [] fill_terms)) (filter_every (passes [] []) (old.now.trees from) (λ r. refl))
-      ∙ sym (map-map front keyed_columns (old.now.trees from)) in
-      let typed : map front (map columns_of xs) ≡ map fills (map key xs) =
-      map-map front columns_of xs
-      ∙ map_agree (λ x. front (columns_of x)) (λ x. fills (key x))
-      (λ x. ap (λ v. v ∷ Null ∷ Int (pos 0) ∷ []) (firsts x)) xs
-      ∙ sym (map-map fills key xs) in
-      let typed_rows : IsPermutation (map front (map keyed_columns (old.now.trees from)))
+      let typed : IsPermutation (map (shown_of [] fill_terms) (filter (passes [] []) (old.now.trees from)))
       (map fills (map key xs)) =
-      subst (IsPermutation (map front (map keyed_columns (old.now.trees from)))) typed
-      (IsPermutation-map front _ _ holds.same) in
-      let listed : IsPermutation (map front (map keyed_columns (old.now.trees from))) done.0 =
-      subst (λ l. IsPermutation l done.0) all answer in
-      let moved : IsPermutation (map fills (map key xs)) done.0 =
-      IsPermutation-trans _ _ _ (IsPermutation-sym _ _ typed_rows) listed in
-      let u = unmapped fills (map key xs) done.0 moved in
+      rw (map-map fills key xs) (subst
+      (λ l. IsPermutation (map (shown_of [] fill_terms) (filter (passes [] []) (old.now.trees from)))
+      (map (λ x. fills (key x)) l)) (filter_true xs)
+      (passed columns_of keyed_columns (shown_of [] fill_terms) front (λ _. refl) (λ x. fills (key x))
+      (λ x. ap (λ v. v ∷ Null ∷ Int (pos 0) ∷ []) (firsts x)) (passes [] []) (λ _. true) (λ _. refl)
+      (λ _. true) (λ _. refl) (old.now.trees from) xs holds.same)) in
+      let u = unmapped fills (map key xs) done.0
+      (IsPermutation-trans _ _ _ (IsPermutation-sym _ _ typed) answer) in
       let cast : map (λ s. cast_row table (drop 0 s)) done.0 ≡ map fills u.0 =
       ap (map (λ s. cast_row table (drop 0 s))) u.1
       ∙ map-map (λ s. cast_row table (drop 0 s)) fills u.0

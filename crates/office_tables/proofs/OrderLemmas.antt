@@ -73,12 +73,9 @@ by_numbers : (shown : List Term) (by ns ms : List ℕ) → length ns ≡ length 
     → length ms ≡ length by
     → key_cmp 0 (map (λ k. k.1) (rising shown by)) (map int ns) (map int ms) ≡ numbers_cmp ns ms
 by_numbers shown [] [] [] p q = refl
-by_numbers shown [] (n ∷ ns) ms p q = absurd (omega arith)
-by_numbers shown [] [] (m ∷ ms) p q = absurd (omega arith)
-by_numbers shown (at ∷ by) [] ms p q = absurd (omega arith)
-by_numbers shown (at ∷ by) (n ∷ ns) [] p q = absurd (omega arith)
 by_numbers shown (at ∷ by) (n ∷ ns) (m ∷ ms) p q =
     grind (arith, common_steps, in_order, key_cmp_shift, by_numbers shown by ns ms (omega arith) (omega arith))
+by_numbers shown _ _ _ p q = absurd (omega arith)
 
 as_many : (by : List ℕ) (row : Row) (ns : List ℕ) → map (column row) by ≡ map int ns
     → length ns ≡ length by
@@ -221,19 +218,19 @@ columns_shown row_of width whole long from where_ shown order trees params xs ro
 
 -- ---- from a table to matches
 
--- if a table shows these typed rows, those that pass a test show the typed rows that pass it
-passed : {R : Type 0} (row_of : R → Row) (show : Row → Row) (sees : Row → Row) (pick : Row → Row)
-    (picks : (r : Row) → sees r ≡ pick (show r)) (picked : (x : R) → pick (row_of x) ≡ row_of x)
+-- if a table shows these typed rows, the columns seen of rows that pass a test are those of the typed rows that pass
+pub passed : {R : Type 0} (row_of : R → Row) (show : Row → Row) (sees : Row → Row) (pick : Row → Row)
+    (picks : (r : Row) → sees r ≡ pick (show r)) (seen : R → Row) (picked : (x : R) → pick (row_of x) ≡ seen x)
     (pass test : Row → Bool) (tests : (r : Row) → pass r ≡ test (show r))
     (p : R → Bool) (tested : (x : R) → test (row_of x) ≡ p x)
     (stored : List Row) (xs : List R) → IsPermutation (map show stored) (map row_of xs)
-    → IsPermutation (map sees (filter pass stored)) (map row_of (filter p xs))
-passed row_of show sees pick picks picked pass test tests p tested stored xs h =
+    → IsPermutation (map sees (filter pass stored)) (map seen (filter p xs))
+passed row_of show sees pick picks seen picked pass test tests p tested stored xs h =
     let kept = shown_filter show row_of pass test p tests tested stored xs h in
     let shows : map pick (map show (filter pass stored)) ≡ map sees (filter pass stored) =
     map-map pick show _ ∙ map_agree _ sees (λ r. sym (picks r)) _ in
-    let rows : map pick (map row_of (filter p xs)) ≡ map row_of (filter p xs) =
-    map-map pick row_of _ ∙ map_agree _ row_of picked _ in
+    let rows : map pick (map row_of (filter p xs)) ≡ map seen (filter p xs) =
+    map-map pick row_of _ ∙ map_agree _ seen picked _ in
     rw (sym shows, sym rows) (IsPermutation-map pick _ _ kept)
 
 -- the same for a text about one table
@@ -249,5 +246,5 @@ pub table_shown : {R : Type 0} (row_of : R → Row) (show pick : Row → Row) (p
 table_shown row_of show pick params tree where_ shown picks picked test tests p tested trees xs h =
     let is = ap (map (eval_all shown)) (matched params where_ (trees tree))
     ∙ map-map (eval_all shown) (λ r. params ∷ r ∷ []) _ in
-    rw is (passed row_of show (λ r. eval_all shown (params ∷ r ∷ [])) pick picks picked
+    rw is (passed row_of show (λ r. eval_all shown (params ∷ r ∷ [])) pick picks row_of picked
     (passes params where_) test tests p tested (trees tree) xs h)

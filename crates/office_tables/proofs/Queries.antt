@@ -1,6 +1,6 @@
 -- The answer of a query over one table, and the rows that a DELETE by such a query leaves.
 use Rattle.std.proofs.lemmas.Grind.{common_steps}
-use Rattle.std.proofs.Common.{◌≡◌, inl, inr, ℕ, ℤ, suc, pos, List, [], ◌∷◌, map, filter, flat_map, drop, not, Bool, true, false, cond, ◌&&◌, ◌||◌, ◌==◌, ◌^◌, Some, None, refl, sym, ap, ap₂, subst, ◌∙◌, arith, Ordering, Less, Equal, Greater, is_eq, int_cmp}
+use Rattle.std.proofs.Common.{◌≡◌, inl, inr, ℕ, ℤ, suc, pos, List, [], ◌∷◌, map, filter, flat_map, drop, not, Bool, true, false, cond, ◌&&◌, ◌||◌, ◌==◌, ◌^◌, Some, None, refl, sym, ap, ap₂, subst, ◌∙◌, arith, Ordering, Equal, is_eq, int_cmp}
 use Rattle.std.specs.List.{list_any, list_all}
 use Rattle.std.specs.Prelude.{IsPermutation, nat_le, unwrap_or}
 use Rattle.std.proofs.lemmas.Bool.{cases_Bool, false_from_ne_true}
@@ -135,9 +135,8 @@ without_is (id ∷ ids) rows =
     de_morgan false b = refl
 
 is_equal : (o : Ordering) → is_eq o ≡ true → o ≡ Equal
-is_equal Less h = absurd (cc)
 is_equal Equal h = refl
-is_equal Greater h = absurd (cc)
+is_equal _ h = absurd (cc)
 
 unmapped : {A B : Type 0} (f : A → B) (xs : List A) (y : B) → Has (map f xs) y
     → (x : A) × Has xs x × (y ≡ f x)

@@ -4,7 +4,7 @@ use Rattle.sqlite_value.specs.declared.value.Value.TheVariants.{Int}
 use Rattle.sqlite.specs.Listing.{understood}
 use Rattle.sqlite.specs.State.{State, Executes}
 use Rattle.sqlite_tied.specs.Compute.{everything}
-use Rattle.office_schema.specs.Schema.{share_student_table, night_share_table}
+use Rattle.office_schema.specs.Schema.{night_share_table}
 use Rattle.office_tables.specs.declared.share_student.StudentShareRow.{StudentShareRow}
 use Rattle.office_tables.specs.ShareStudent.{share_student_columns, night_share_columns}
 use Rattle.office_tables.specs.Inserting.{IsInsert}
@@ -21,10 +21,6 @@ use Rattle.office_tables.proofs.Rows.{student_shares, share_nights}
 abbrev pub insert_text : List ℕ
 insert_text = codes "INSERT INTO share_student (student, in_row, in_day, spread) VALUES (?1, ?2, ?3, ?4)"
 
-insert_means : IsInsert 7 share_student_table.key 4 1 insert_text
-unfolding understood everything
-insert_means = record { is = refl; plain = (refl, refl); many = refl }
-
 abbrev pub insert_night_text : List ℕ
 insert_night_text = codes "INSERT INTO night_share (student, night) VALUES (?1, ?2)"
 
@@ -36,9 +32,10 @@ pub added : (old mid new : State) (row : StudentShareRow) (first second : ℕ) (
     → HoldsTables old.now t → Executes insert_text (share_student_columns row) old mid (Ok first)
     → Executes insert_night_text (night_share_columns row) mid new (Ok second)
     → IsWritten (record t { share_student = row ∷ t.share_student }) old.now new.now
+unfolding understood everything
 added old mid new row first second t represents h k =
-    let one = row_added student_shares _ insert_means old mid row t.share_student first (all_columns t) refl
-    (all_shown old.now t represents) h in (
+    let one = row_added student_shares insert_text (record { is = refl; plain = (refl, refl); many = refl }) old mid row
+    t.share_student first (all_columns t) refl (all_shown old.now t represents) h in (
       tables_held new.now (record t { share_student = row ∷ t.share_student })
           (row_added share_nights _ insert_night_means mid new row t.share_student second _ refl one k),
       λ _. insert_sound insert_night_means _ mid new second one.schema k,
@@ -49,10 +46,6 @@ added old mid new row first second t represents h k =
 abbrev pub sixteen_text : List ℕ
 sixteen_text =
     codes "INSERT INTO share_student (student, in_row, in_day, spread) VALUES (?, ?, ?, ?), (?, ?, ?, ?), (?, ?, ?, ?), (?, ?, ?, ?), (?, ?, ?, ?), (?, ?, ?, ?), (?, ?, ?, ?), (?, ?, ?, ?), (?, ?, ?, ?), (?, ?, ?, ?), (?, ?, ?, ?), (?, ?, ?, ?), (?, ?, ?, ?), (?, ?, ?, ?), (?, ?, ?, ?), (?, ?, ?, ?)"
-
-sixteen_means : IsInsert 7 share_student_table.key 4 16 sixteen_text
-unfolding understood everything
-sixteen_means = record { is = refl; plain = (refl, refl); many = refl }
 
 abbrev pub sixteen_nights_text : List ℕ
 sixteen_nights_text =
@@ -67,9 +60,10 @@ pub sixteen_added : (old mid new : State) (rows : List StudentShareRow) (first s
     → Executes sixteen_text (flat_map share_student_columns rows) old mid (Ok first)
     → Executes sixteen_nights_text (flat_map night_share_columns rows) mid new (Ok second)
     → IsWritten (record t { share_student = reverse rows ++ t.share_student }) old.now new.now
+unfolding understood everything
 sixteen_added old mid new rows first second t long represents h k =
-    let one = rows_added student_shares 16 _ sixteen_means old mid rows t.share_student long first
-    (all_columns t) refl (all_shown old.now t represents) h in (
+    let one = rows_added student_shares 16 sixteen_text (record { is = refl; plain = (refl, refl); many = refl }) old
+    mid rows t.share_student long first (all_columns t) refl (all_shown old.now t represents) h in (
       tables_held new.now (record t { share_student = reverse rows ++ t.share_student })
           (rows_added share_nights 16 _ sixteen_nights_means mid new rows t.share_student long
           second _ refl one k),
@@ -80,10 +74,6 @@ sixteen_added old mid new rows first second t long represents h k =
 
 abbrev pub delete_text : List ℕ
 delete_text = codes "DELETE FROM share_student WHERE student = ?1"
-
-delete_means : IsDelete 7 share_student_table 1 delete_text
-unfolding understood everything
-delete_means = record { is = refl; plain = (refl, refl) }
 
 abbrev pub delete_night_text : List ℕ
 delete_night_text = codes "DELETE FROM night_share WHERE student = ?1"
@@ -96,10 +86,12 @@ pub gone : (old mid new : State) (number first second : ℕ) (t : Tables) → Ho
     → Executes delete_text (Int (pos number) ∷ []) old mid (Ok first)
     → Executes delete_night_text (Int (pos number) ∷ []) mid new (Ok second)
     → IsWritten (record t { share_student = filter (λ r. not (r.student == number)) t.share_student }) old.now new.now
+unfolding understood everything
 gone old mid new number first second t represents h k =
     let key = λ (x : StudentShareRow). x.student ∷ [] in
-    let one = deleted student_shares.is share_student_columns key (λ _. (_, refl)) (number ∷ []) (λ _. omega arith) _
-    delete_means old mid t.share_student first (all_columns t) refl (all_shown old.now t represents) h in (
+    let one = deleted student_shares.is share_student_columns key (λ _. (_, refl)) (number ∷ []) (λ _. omega arith)
+    delete_text (record { is = refl; plain = (refl, refl) }) old mid t.share_student first (all_columns t) refl
+    (all_shown old.now t represents) h in (
       tables_held new.now (record t { share_student = filter (λ r. not (r.student == number)) t.share_student })
           (deleted share_nights.is night_share_columns key (λ _. (_, refl)) (number ∷ []) (λ _. omega arith) _ delete_night_means
           mid new t.share_student second _ refl one k),

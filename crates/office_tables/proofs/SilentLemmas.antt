@@ -68,22 +68,7 @@ returning_none s t a b (written.Insert how name columns rows clauses shown) =
     shows_none s t a b name shown
 returning_none s t a b (written.Update name sets test shown) = shows_none s t a b name shown
 returning_none s t a b (written.Delete name test shown) = shows_none s t a b name shown
-returning_none s t a b written.Empty = λ _ r is. sym (ok_is is)
-returning_none s t a b (written.Select query) = λ _ r is. sym (ok_is is)
-returning_none s t a b (written.Pragma name value) = λ _ r is. sym (ok_is is)
-returning_none s t a b (written.CreateTable table) = λ _ r is. sym (ok_is is)
-returning_none s t a b (written.CreateIndex index) = λ _ r is. sym (ok_is is)
-returning_none s t a b (written.CreateView if_missing name columns query) =
-    λ _ r is. sym (ok_is is)
-returning_none s t a b (written.DropTable if_exists name) = λ _ r is. sym (ok_is is)
-returning_none s t a b (written.DropIndex if_exists name) = λ _ r is. sym (ok_is is)
-returning_none s t a b (written.DropView if_exists name) = λ _ r is. sym (ok_is is)
-returning_none s t a b written.Begin = λ _ r is. sym (ok_is is)
-returning_none s t a b written.Commit = λ _ r is. sym (ok_is is)
-returning_none s t a b written.Rollback = λ _ r is. sym (ok_is is)
-returning_none s t a b (written.Savepoint name) = λ _ r is. sym (ok_is is)
-returning_none s t a b (written.Release name) = λ _ r is. sym (ok_is is)
-returning_none s t a b (written.RollbackTo name) = λ _ r is. sym (ok_is is)
+returning_none s t a b _ = λ _ r is. sym (ok_is is)
 
 -- ---- a text
 

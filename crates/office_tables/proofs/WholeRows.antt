@@ -30,12 +30,10 @@ shift v vs (suc n) at = ap (λ l. column vs at ∷ l) (shift v vs n (suc at))
 
 pub dropped : (k n : ℕ) (row : Row) → length row ≡ k + n → drop k row ≡ columns_from k n row
 dropped zero zero [] h = refl
-dropped zero zero (v ∷ vs) h = absurd (omega (arith, h))
-dropped zero (suc n) [] h = absurd (omega (arith, h))
 dropped zero (suc n) (v ∷ vs) h = ap (λ l. v ∷ l) (dropped zero n vs (omega (arith, h))
     ∙ sym (shift v vs n 0))
-dropped (suc k) n [] h = absurd (omega (arith, h))
 dropped (suc k) n (v ∷ vs) h = dropped k n vs (omega (arith, h)) ∙ sym (shift v vs n k)
+dropped _ _ _ h = absurd (omega (arith, h))
 
 -- ---- how long a row is
 
@@ -56,10 +54,8 @@ there (v ∷ row) (suc k) h = let more = there row k h in omega (arith, more)
 
 last_is : (key present null : Bool) → ((key || not present || not null) && true) ≡ true
     → key ≡ false → present ≡ true → null ≡ false
-last_is true present null h k p = absurd (cc)
-last_is false false null h k p = absurd (cc)
-last_is false true true h k p = absurd (cc)
 last_is false true false h k p = refl
+last_is _ _ _ h k p = absurd (cc)
 
 last_present : (key : Option ℕ) (at k : ℕ) (cols : List Column) (c : Column) (row : Row)
     → at + length cols ≡ k

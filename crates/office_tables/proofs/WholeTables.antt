@@ -16,7 +16,7 @@ use Rattle.sqlite.specs.Effect.{Database, IsDatabase}
 use Rattle.sqlite.specs.Term.{Term, col, eval_all}
 use Rattle.office_schema.specs.Schema.{office_schema, schema_before}
 use Rattle.office_tables.specs.declared.version.Version.{Version}
-use Rattle.office_tables.specs.declared.version.Version.TheVariants.{Two}
+use Rattle.office_tables.specs.declared.version.Version.TheVariants.{One, Two}
 use Rattle.office_tables.specs.Stored.{shown_by}
 use Rattle.office_tables.specs.Listings.{Lists, ListsTable, IsListed, selected_columns, ordered_by}
 use Rattle.office_tables.specs.Records.{columns_from}
@@ -117,3 +117,24 @@ module _ (version : Version) (table : Table) (obeys : Obeys version table) (cols
     whole = λ db has sound. all_weaker _ _ (λ r. one_listed table.key (length table.columns) r)
         (db.trees table.tree) (long db has sound);
   }
+
+-- in this version the text lists the table with the rows' numbers, in their order
+abbrev pub ListsAll : Version → Table → List ℕ → Type 0
+ListsAll version table =
+    Lists version table.tree (list_terms table)
+    (ordered_by (list_terms table) (length table.columns))
+
+pub in_version : (table : Table) (sql : List ℕ) → ListsAll One table sql → ListsAll Two table sql
+    → (version : Version) → ListsAll version table sql
+in_version table sql one two One = one
+in_version table sql one two Two = two
+
+-- a table of both versions
+abbrev pub lists_both : (at : ℕ) (table : Table) → slice_get schema_before.tables at ≡ Some table
+    → (cols : List Column) (c : Column) → table.columns ≡ cols ++ c ∷ []
+    → is_key table.key (length cols) ≡ false → c.not_null ≡ true → (sql : List ℕ)
+    → ListsAll One table sql → ListsAll Two table sql → (version : Version)
+    → ListsTable version (length table.columns) table.tree (shown_by table.key) sql
+lists_both at table found cols c is unkeyed present sql one two version =
+    lists_table version table (in_both version at table found) cols c is unkeyed present sql
+    (in_version table sql one two version)

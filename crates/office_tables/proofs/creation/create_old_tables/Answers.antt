@@ -13,43 +13,14 @@ returns-clause-makes g c =
     subst (λ s. Grows g.S.Store (IsBlank no_schema) (IsBlank s) c.args.tx.now.conn.now
     c.create.new.tx.conn.now c.create.result) ten
     (c.create.ensures.makes no_schema schema_before.tables (λ _. []) (
-      record { command = refl; whole = refl; defined = refl; plain = (refl, refl); uncounted = refl },
-      refl,
-      (
-        record { command = refl; whole = refl; defined = refl; plain = (refl, refl); uncounted = refl },
-        refl,
-        (
-          record { command = refl; whole = refl; defined = refl; plain = (refl, refl); uncounted = refl },
-          refl,
-          (
-            record { command = refl; whole = refl; defined = refl; plain = (refl, refl); uncounted = refl },
-            refl,
-            (
-              record { command = refl; whole = refl; defined = refl; plain = (refl, refl); uncounted = refl },
-              refl,
-              (
-                record { command = refl; whole = refl; defined = refl; plain = (refl, refl); uncounted = refl },
-                refl,
-                (
-                  record { command = refl; whole = refl; defined = refl; plain = (refl, refl); uncounted = refl },
-                  refl,
-                  (
-                    record { command = refl; whole = refl; defined = refl; plain = (refl, refl); uncounted = refl },
-                    refl,
-                    (
-                      record { command = refl; whole = refl; defined = refl; plain = (refl, refl); uncounted = refl },
-                      refl,
-                      (
-                        record { command = refl; whole = refl; defined = refl; plain = (refl, refl); uncounted = refl },
-                        refl,
-                        tt,
-                      ),
-                    ),
-                  ),
-                ),
-              ),
-            ),
-          ),
-        ),
-      ),
+      record { command = refl; whole = refl; defined = refl; plain = (refl, refl); uncounted = refl }, refl, (
+      record { command = refl; whole = refl; defined = refl; plain = (refl, refl); uncounted = refl }, refl, (
+      record { command = refl; whole = refl; defined = refl; plain = (refl, refl); uncounted = refl }, refl, (
+      record { command = refl; whole = refl; defined = refl; plain = (refl, refl); uncounted = refl }, refl, (
+      record { command = refl; whole = refl; defined = refl; plain = (refl, refl); uncounted = refl }, refl, (
+      record { command = refl; whole = refl; defined = refl; plain = (refl, refl); uncounted = refl }, refl, (
+      record { command = refl; whole = refl; defined = refl; plain = (refl, refl); uncounted = refl }, refl, (
+      record { command = refl; whole = refl; defined = refl; plain = (refl, refl); uncounted = refl }, refl, (
+      record { command = refl; whole = refl; defined = refl; plain = (refl, refl); uncounted = refl }, refl, (
+      record { command = refl; whole = refl; defined = refl; plain = (refl, refl); uncounted = refl }, refl, tt)))))))))
     ))

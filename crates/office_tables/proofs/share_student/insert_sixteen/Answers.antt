@@ -6,7 +6,7 @@ use Rattle.office_tables.specs.Alterations.{IsWritten}
 use Rattle.office_tables.specs.ShareStudent.{night_share_columns, share_student_columns}
 use Rattle.office_tables.specs.declared.share_student.InsertStudentShare.{InsertStudentShare}
 use Rattle.office_tables.proofs.AlterationLemmas.{student_shares_put}
-use Rattle.office_tables.proofs.InsertLemmas.{flat_rows, rows_valued}
+use Rattle.office_tables.proofs.InsertLemmas.{rows_valued}
 use Rattle.office_tables.proofs.Inside.{changes_by_two}
 use Rattle.office_tables.proofs.ShareLemmas.{sixteen_added}
 use Rattle.office_tables.proofs.share_student.insert_sixteen.Goals as goal
@@ -20,17 +20,15 @@ returns-clause-makes g c =
     let students : map Int c.as_flattened.result.now
     ≡ flat_map share_student_columns (map (λ (x : InsertStudentShare). x.row) its) =
     ap (map Int) c.as_flattened.ensures.value
-    ∙ rows_valued _ _ (λ (x : InsertStudentShare). share_student_columns x.row) its
+    ∙ rows_valued _ _ (λ (x : InsertStudentShare). x.row) share_student_columns its
     c.from_fn-students.result 16 (λ i y q call. search rules) c.requires.count
-    c.from_fn-students.ensures.items
-    ∙ flat_rows (λ (x : InsertStudentShare). x.row) share_student_columns its in
+    c.from_fn-students.ensures.items in
     let nights : map Int c.as_flattened-2.result.now
     ≡ flat_map night_share_columns (map (λ (x : InsertStudentShare). x.row) its) =
     ap (map Int) c.as_flattened-2.ensures.value
-    ∙ rows_valued _ _ (λ (x : InsertStudentShare). night_share_columns x.row) its
+    ∙ rows_valued _ _ (λ (x : InsertStudentShare). x.row) night_share_columns its
     c.from_fn-nights.result 16 (λ i y q call. search rules) c.requires.count
-    c.from_fn-nights.ensures.items
-    ∙ flat_rows (λ (x : InsertStudentShare). x.row) night_share_columns its in
+    c.from_fn-nights.ensures.items in
     changes_by_two _ _ old mid new c.run_with-2.result
     (λ one two t represents h k. subst (λ all. IsWritten all old.now new.now)
     (sym (student_shares_put its t))
