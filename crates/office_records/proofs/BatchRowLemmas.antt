@@ -1,14 +1,15 @@
 -- Rows of the batches that were accepted.
-use Rattle.std.proofs.Common.{◌≡◌, ◌≤◌, Bool, true, false, cond, eqb, List, [], ◌∷◌, map}
-use Rattle.std.proofs.Common.{filter, length, get_or, Some, None, refl, sym, ◌∙◌, ap, arith, subst, true≢false}
-use Rattle.std.specs.Prelude.{All, IsPermutation}
+use Rattle.std.proofs.Common.{◌≡◌, ◌≢◌, ◌≤◌, true, eqb, List, map, filter, length, get_or, Some, None, refl, sym, ap, arith, subst}
+use Rattle.std.specs.Prelude.{All}
 use Rattle.std.specs.List.{AllByRecursion}
 use Rattle.std.proofs.lemmas.Bool.{eq-eqb}
-use Rattle.std.proofs.lemmas.List.{get_or-map, length-map}
+use Rattle.std.proofs.lemmas.List.{length-map}
 use Rattle.std.proofs.lemmas.List.Elements.{All-from_recursion, recursion_from_All}
-use Rattle.std.proofs.lemmas.List.Sorted.{IsPermutation-refl, IsPermutation-sym, length_permutation}
+use Rattle.std.proofs.lemmas.List.Sorted.{IsPermutation-sym, length_permutation}
+use Rattle.exam_lists.proofs.Chains.{chain_from_index, chain_map, index_from_chain}
 use Rattle.exam_lists.proofs.Each.{each_from_filter}
-use Rattle.sqlite_trees.proofs.ListLemmas.{all-map, all-permutation, all_both, all_from_map, all_weaker}
+use Rattle.exam_lists.proofs.Maps.{map_back}
+use Rattle.sqlite_trees.proofs.ListLemmas.{IsPermutation-same, all-map, all-permutation, all_both, all_from_map, all_weaker}
 use Rattle.office_tables.specs.Batch.{counts_of, FitsBatch}
 use Rattle.office_tables.specs.Tables.{Batch, Tables}
 use Rattle.office_tables.specs.declared.batch.BatchCountsRow.{BatchCountsRow}
@@ -25,15 +26,6 @@ kept_batch b = record {
   counts = record { added = b.added; dropped = b.dropped; unchanged = b.unchanged };
 }
 
-stored_again : (batches : List Batch) → map stored_batch (map kept_batch batches) ≡ batches
-stored_again [] = refl
-stored_again (b ∷ bs) = ap (λ (l : List Batch). b ∷ l) (stored_again bs)
-
--- no rows means no batches
-pub no_batches : (batches : List Batch) → map counts_of batches ≡ [] → batches ≡ []
-no_batches [] none = refl
-no_batches (b ∷ bs) none = absurd cc
-
 -- the default row if there is none
 abbrev pub no_row : BatchCountsRow
 no_row = record { no = 0; added = 0; dropped = 0; unchanged = 0 }
@@ -49,7 +41,7 @@ module _ (found : List BatchCountsRow) (batches : List Batch) (are : AreBatchRow
 
   pub batches_represent : RowsRepresentBatches batches (map kept_batch batches)
   batches_represent = record {
-    same = subst (IsPermutation batches) (sym (stored_again batches)) (IsPermutation-refl batches);
+    same = IsPermutation-same _ _ (sym (map_back kept_batch stored_batch (λ b. refl) batches));
     fit = all_weaker (λ (b : Batch). IsBatchRow (counts_of b)) FitsBatch (λ b is. is.fits) batches
         each_row;
   }
@@ -69,13 +61,9 @@ batches_kept found batches are these = record {
       (λ b row short. record { number = row.number; size = short }) batches
       (each_row found batches are these.rows)
       (recursion_from_All IsShort batches these.short)));
-  numbers = λ i j d before within same.
-      let n = length-map batches kept_batch in
-      let p = stored_batch d in
-      let one = get_or-map kept_batch batches i p d (omega (arith, n, before, within)) in
-      let other = get_or-map kept_batch batches j p d (omega (arith, n, within)) in
-      these.apart i j p before (omega (arith, n, within))
-      (ap (λ (b : KeptBatch). b.no) (sym one) ∙ same ∙ ap (λ (b : KeptBatch). b.no) other);
+  numbers = index_from_chain (λ (b c : KeptBatch). b.no ≢ c.no) _
+      (chain_map (λ (b c : KeptBatch). b.no ≢ c.no) kept_batch batches
+      (chain_from_index (λ (b c : Batch). b.no ≢ c.no) batches these.apart));
 }
 
 -- ---- from the batches to their rows
@@ -107,29 +95,20 @@ batch_rows found batches kept rows represents are = record {
 
 -- ---- each batch by its number
 
-pub each_by_number : (P : Batch → Type 0) (batches : List Batch)
-    → AllByRecursion (λ (b : Batch). AllByRecursion P (filter (λ c. eqb c.no b.no) batches)) batches
-    → All P batches
-each_by_number P batches all k d within =
-    let Picked : Batch → Type 0
-    = λ b. AllByRecursion P (filter (λ (c : Batch). eqb c.no b.no) batches) in
-    let b = get_or batches k d in
-    let here : Picked b = All-from_recursion Picked batches all k d within in
-    let Same : Batch → Type 0 = λ c. eqb c.no b.no ≡ true → P c in
-    All-from_recursion Same batches (each_from_filter P (λ c. eqb c.no b.no) batches here) k d within
-    (eq-eqb b.no b.no refl)
-
 pub short_by_rows : (found : List BatchCountsRow) (batches : List Batch)
     → map counts_of batches ≡ found
     → All (λ (row : BatchCountsRow).
     AllByRecursion IsShort (filter (λ (b : Batch). eqb b.no row.no) batches)) found
     → All IsShort batches
-short_by_rows found batches rows all =
+short_by_rows found batches rows all k d within =
     let Picked : BatchCountsRow → Type 0
     = λ row. AllByRecursion IsShort (filter (λ (b : Batch). eqb b.no row.no) batches) in
-    each_by_number IsShort batches
+    let b = get_or batches k d in
+    let here = All-from_recursion (λ (b : Batch). Picked (counts_of b)) batches
     (all_from_map Picked counts_of batches
-    (subst (AllByRecursion Picked) (sym rows) (recursion_from_All Picked found all)))
+    (subst (AllByRecursion Picked) (sym rows) (recursion_from_All Picked found all))) k d within in
+    All-from_recursion (λ (c : Batch). eqb c.no b.no ≡ true → IsShort c) batches
+    (each_from_filter IsShort (λ c. eqb c.no b.no) batches here) k d within (eq-eqb b.no b.no refl)
 
 -- an office's batches are not too long
 pub stored_short : (t : Tables) (o : OfficeState) → TablesRepresentOffice t o → IsOffice o

@@ -1,24 +1,29 @@
 -- Rows of enrolments, one after another.
-use Rattle.std.proofs.Common.{◌≡◌, ◌≢◌, ℕ, ◌<◌, Bool, true, false, ◌&&◌, ◌||◌, eqb, ltb, Decides, List, [], ◌∷◌, ◌++◌, map, length, get_or, take, refl, sym, ◌∙◌, ap, ap₂, arith, subst, inl, inr}
-use Rattle.std.specs.Prelude.{All, AllPairs, Contains}
-use Rattle.std.specs.List.{list_any}
-use Rattle.std.proofs.lemmas.Bool.{and_from, and_parts, both_ways, ltb-true, ltb-false, eq-eqb, eqb-true, false_from_ne_true}
-use Rattle.std.proofs.lemmas.Bool.Decides.{Decides-like, same_from_decides}
-use Rattle.std.proofs.lemmas.List.{get_or_default, length_push, get_or-map, get_or-take, get_or_past, length-map, length-take}
-use Rattle.std.proofs.lemmas.List.Folds.{Any-from_list_any, list_any-append, list_any_at}
+use Rattle.std.proofs.lemmas.Grind.{common_steps}
+use Rattle.std.proofs.Common.{◌≡◌, ◌≢◌, ℕ, suc, ◌<◌, inl, inr, Bool, true, false, ◌&&◌, ◌||◌, eqb, Decides, List, [], ◌∷◌, ◌++◌, map, length, get_or, take, drop, refl, sym, ◌∙◌, ap, arith, subst}
+use Rattle.std.specs.Prelude.{All, Contains}
+use Rattle.std.specs.List.{AllByRecursion, list_any}
+use Rattle.std.proofs.Math.Seq.{split_at}
+use Rattle.std.proofs.lemmas.Bool.{false_from_ne_true}
+use Rattle.std.proofs.lemmas.List.{length-map, length-take}
+use Rattle.std.proofs.lemmas.List.Elements.{All-from_recursion}
+use Rattle.std.proofs.lemmas.List.Folds.{Any-from_list_any, list_any_at}
 use Rattle.std.proofs.lemmas.List.Sorted.{IsPermutation-sym, length_permutation, list_any-IsPermutation}
-use Rattle.std.proofs.lemmas.Map.Keys.{IsDistinct-IsPermutation}
-use Rattle.std.proofs.lemmas.Map.Made.{AllPairs-from_IsDistinct, IsDistinct-from_AllPairs}
+use Rattle.exam_lists.proofs.Chains.{IsChain, chain_before, chain_from_index, chain_map, chain_weaker, index_from_chain}
+use Rattle.exam_lists.proofs.Each.{each_weaker}
 use Rattle.exam_lists.proofs.Tests.{any_map}
 use Rattle.exam_lists.proofs.Reordered.{reordered}
+use Rattle.sqlite_keyed.proofs.ListLemmas.{any_from_none}
+use Rattle.sqlite_trees.proofs.ListLemmas.{all-map, all-permutation}
 use Rattle.exam_model.specs.Enrolments.{Adds, Enrolled, AreEnrolments, has, pair_count}
 use Rattle.exam_model.specs.Instance.{Session}
 use Rattle.exam_model.specs.Pairs.{Pair, pairs_of, ComesBefore}
-use Rattle.exam_model.proofs.PairLemmas.{are_pairs}
+use Rattle.exam_model.proofs.PairLemmas.{are_pairs, from_within}
 use Rattle.office_tables.specs.declared.enrol.EnrolRow.{EnrolRow}
 use Rattle.office_records.specs.Found.{AreEnrolRows}
 use Rattle.office_records.specs.NextRow.{IsNewPair}
 use Rattle.office_records.specs.TableRows.{enrol_row}
+use Rattle.office_records.proofs.ListLemmas.{chain_moved}
 
 -- ---- a row among rows
 
@@ -26,33 +31,19 @@ use Rattle.office_records.specs.TableRows.{enrol_row}
 abbrev pub is_row : ℕ → ℕ → EnrolRow → Bool
 is_row s e row = eqb row.student s && eqb row.exam e
 
-abbrev is_same : EnrolRow → EnrolRow → Bool
-is_same x y = is_row y.student y.exam x
+row_decides : (s e : ℕ) (row : EnrolRow)
+    → Decides (is_row s e row) (row ≡ record { student = s; exam = e })
+row_decides s e row = grind (arith, common_steps)
 
-is_itself : (x : EnrolRow) → is_same x x ≡ true
-is_itself x = and_from _ _ (eq-eqb x.student x.student refl) (eq-eqb x.exam x.exam refl)
-
-is_same_decides : (x y : EnrolRow) → Decides (is_same x y) (x ≡ y)
-is_same_decides x y = (
-  λ is.
-      let both = and_parts (eqb x.student y.student) (eqb x.exam y.exam) is in
-      let make : ℕ → ℕ → EnrolRow = λ (s e : ℕ). record { student = s; exam = e } in
-      ap₂ make (eqb-true x.student y.student both.0) (eqb-true x.exam y.exam both.1),
-  λ is. subst (λ z. is_same x z ≡ true) is (is_itself x),
-)
-
-flips : (x y : EnrolRow) → is_same x y ≡ is_same y x
-flips x y =
-    same_from_decides (is_same x y) (is_same y x) (is_same_decides x y)
-    (Decides-like (is_same y x) (λ is. sym is) (λ is. sym is) (is_same_decides y x))
+is_itself : (row : EnrolRow) → is_row row.student row.exam row ≡ true
+is_itself row = (row_decides row.student row.exam row).1 refl
 
 -- a row that is found among rows is one of them
 contains_row : (s e : ℕ) (rows : List EnrolRow) → list_any (is_row s e) rows ≡ true
     → Contains rows (record { student = s; exam = e })
 contains_row s e rows some =
     let found = Any-from_list_any (is_row s e) rows some in
-    let row : EnrolRow = record { student = s; exam = e } in
-    subst (Contains rows) ((is_same_decides found.1 row).0 found.4) (found.0, found.2, found.3)
+    subst (Contains rows) ((row_decides s e found.1).0 found.4) (found.0, found.2, found.3)
 
 -- ---- the rows of all pairs
 
@@ -68,19 +59,15 @@ module _ (E : Enrolled) (is : AreEnrolments E) where
   as_many = length-map (pairs_of E) enrol_row ∙ (are_pairs E is).count
 
   -- no two rows are equal
-  rows_apart : AllPairs (λ x y. x ≢ y) (rows_of E)
-  rows_apart i j d before within same =
-      let p : Pair = record { exam = d.exam; student = d.student } in
-      let ps = pairs_of E in
-      let n = length-map ps enrol_row in
-      let one = get_or-map enrol_row ps i p d (omega arith) in
-      let other = get_or-map enrol_row ps j p d (omega arith) in
-      let equal = sym one ∙ same ∙ other in
-      let exams = ap (λ (r : EnrolRow). r.exam) equal in
-      let sitters = ap (λ (r : EnrolRow). r.student) equal in
-      let order : ComesBefore (get_or ps i p) (get_or ps j p)
-      = (are_pairs E is).ordered i j p before (omega arith) in
-      elim order [ inl less ↦ omega arith | inr less ↦ omega (arith, less.1) ]
+  rows_apart : IsChain (λ x y. x ≢ y) (rows_of E)
+  rows_apart =
+      chain_map (λ x y. x ≢ y) enrol_row (pairs_of E)
+      (chain_weaker ComesBefore (λ p q. enrol_row p ≢ enrol_row q) apart (pairs_of E)
+      (chain_from_index ComesBefore (pairs_of E) (are_pairs E is).ordered))
+    where
+      apart : (p q : Pair) → ComesBefore p q → enrol_row p ≢ enrol_row q
+      apart p q (inl less) same = omega (arith, less, ap (λ (r : EnrolRow). r.exam) same)
+      apart p q (inr tie) same = omega (arith, tie.1, ap (λ (r : EnrolRow). r.student) same)
 
 -- ---- rows read one by one
 
@@ -101,15 +88,7 @@ or_flip false false = refl
 pub taken_more : (n : ℕ) (done : List EnrolRow) (E F : Enrolled) (row : EnrolRow)
     → AreTaken n done E → IsNewPair E row → Adds E F row.student row.exam → AreEnrolments F
     → AreTaken n (done ++ row ∷ []) F
-taken_more n done E F row taken fresh adds is = record {
-  set = is;
-  exams = adds.exams ∙ taken.exams;
-  pairs = let more = rw fresh.lacking at adds.pairs in
-      omega (arith, taken.pairs, length_push done row);
-  members = λ s e. adds.members s e ∙ or_flip (is_row s e row) (has E s e)
-      ∙ ap (λ b. b || (is_row s e row || false)) (taken.members s e)
-      ∙ sym (list_any-append (is_row s e) done (row ∷ []));
-}
+taken_more n done E F row taken fresh adds is = grind (arith, common_steps)
 
 -- the rows are those of the enrolments
 pub rows_taken : (I : Session) (rows : List EnrolRow) (E : Enrolled)
@@ -120,7 +99,7 @@ rows_taken I rows E taken = record {
     exams = taken.exams;
   };
   rows = reordered (rows_of E) rows (omega (arith, as_many E taken.set, taken.pairs))
-      (rows_apart E taken.set) inside;
+      (index_from_chain (λ x y. x ≢ y) (rows_of E) (rows_apart E taken.set)) inside;
 }
   where
     inside : All (Contains rows) (rows_of E)
@@ -133,54 +112,42 @@ rows_taken I rows E taken = record {
 -- ---- rows that enrolments have
 
 module _ (I : Session) (rows : List EnrolRow) (F : Enrolled) (are : AreEnrolRows I rows F) where
-  -- each is the row of a pair
-  is_pair_of : (i : ℕ) (d : EnrolRow) → i < length rows
-      → has F (get_or rows i d).student (get_or rows i d).exam ≡ true
-  is_pair_of i d within =
-      let row = get_or rows i d in
-      sym (has_row F are.enrolled.set row.student row.exam)
-      ∙ sym (list_any-IsPermutation (is_row row.student row.exam) rows (rows_of F) are.rows)
-      ∙ list_any_at (is_row row.student row.exam) rows i d within (is_itself row)
-
-  apart : AllPairs (λ x y. x ≢ y) rows
+  apart : IsChain (λ x y. x ≢ y) rows
   apart =
-      AllPairs-from_IsDistinct is_same_decides rows
-      (IsDistinct-IsPermutation is_same flips (rows_of F) rows
+      chain_moved (λ (x y : EnrolRow). x ≢ y) (λ x y other same. other (sym same)) (rows_of F) rows
+      (IsPermutation-sym rows (rows_of F) are.rows) (rows_apart F are.enrolled.set)
+
+  each_exists : AllByRecursion (λ row. row.exam < length F) rows
+  each_exists =
+      all-permutation (λ (row : EnrolRow). row.exam < length F) (rows_of F) rows
       (IsPermutation-sym rows (rows_of F) are.rows)
-      (IsDistinct-from_AllPairs is_same_decides (rows_of F) (rows_apart F are.enrolled.set)))
-
-  -- no row equals one before it
-  comes_once : (i : ℕ) (d : EnrolRow) → i < length rows → Contains (take i rows) (get_or rows i d)
-      → ⊥
-  comes_once i d within found =
-      let row = get_or rows i d in
-      let long = length-take i rows in
-      apart found.0 i row (omega (arith, found.1)) within
-      (sym (get_or-take i rows found.0 row (omega (arith, found.1))) ∙ found.2
-      ∙ get_or_default rows i d row within)
-
-  pair_exists : (s e : ℕ) → has F s e ≡ true → (b : Bool) → ltb e (length F) ≡ b → e < length F
-  pair_exists s e sits true is = ltb-true e (length F) is
-  pair_exists s e sits false is =
-      let none = get_or_past F e [] (ltb-false e (length F) is) in
-      absurd (both_ways (has F s e) (ap (λ l. list_any (λ t. eqb t s) l) none) sits)
+      (all-map (λ (row : EnrolRow). row.exam < length F) enrol_row (pairs_of F)
+      (from_within (length F) 0 F (omega arith)))
 
   -- each row is a new pair after those before it
   pub row_new : (i : ℕ) (d : EnrolRow) (E : Enrolled) → i < length rows
       → AreTaken (length I.exams) (take i rows) E → IsNewPair E (get_or rows i d)
   row_new i d E within taken =
       let row = get_or rows i d in
-      let sits = is_pair_of i d within in
-      let exists = pair_exists row.student row.exam sits (ltb row.exam (length F)) refl in
+      let passes = is_row row.student row.exam in
+      let set = are.enrolled.set in
+      let sits : has F row.student row.exam ≡ true
+      = sym (has_row F set row.student row.exam)
+      ∙ sym (list_any-IsPermutation passes rows (rows_of F) are.rows)
+      ∙ list_any_at passes rows i d within (is_itself row) in
+      let exists = All-from_recursion (λ (row : EnrolRow). row.exam < length F) rows each_exists i d
+      within in
+      let others = chain_before (λ (x y : EnrolRow). x ≢ y) (take i rows) row (drop (suc i) rows)
+      (subst (IsChain (λ (x y : EnrolRow). x ≢ y)) (split_at rows i d within) apart) in
       let long = length-take i rows in
       let pairs = length_permutation rows (rows_of F) are.rows in
       record {
         exam = omega (arith, exists, taken.exams, are.enrolled.exams);
-        student = are.enrolled.set.numbers row.exam row.student sits;
+        student = set.numbers row.exam row.student sits;
         lacking = taken.members row.student row.exam
-            ∙ false_from_ne_true (list_any (is_row row.student row.exam) (take i rows))
-            (λ some. comes_once i d within
-            (contains_row row.student row.exam (take i rows) some));
-        room = let set = are.enrolled.set in
-            omega (arith, taken.pairs, pairs, as_many F set, set.pairs);
+            ∙ any_from_none passes (take i rows)
+            (each_weaker (λ x. x ≢ row) (λ x. passes x ≡ false) (λ x other.
+            false_from_ne_true (passes x)
+            (λ is. other ((row_decides row.student row.exam x).0 is))) (take i rows) others);
+        room = omega (arith, taken.pairs, pairs, as_many F set, set.pairs);
       }

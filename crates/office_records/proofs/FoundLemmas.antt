@@ -1,9 +1,9 @@
 -- The publication found is the only one with these rows.
-use Rattle.std.proofs.Common.{◌≡◌, Bool, true, false, List, [], length, map, nat_eq, Option, Some, None, Result, Ok, Err, sym, ◌∙◌, ap, subst, true≢false}
+use Rattle.std.proofs.lemmas.Grind.{common_steps}
+use Rattle.std.proofs.Common.{◌≡◌, Bool, true, false, List, [], length, map, nat_eq, Option, Some, None, Result, Ok, Err, sym, ◌∙◌, ap, subst, true≢false, arith}
 use Rattle.std.specs.Prelude.{◌↔◌, IfErr, IsPermutation, IsTrue, OnErr, Vec}
 use Rattle.std.specs.declared.alloc.Global.{Global}
-use Rattle.std.proofs.lemmas.List.{nil_from_length}
-use Rattle.std.proofs.lemmas.List.Sorted.{length_permutation}
+use Rattle.exam_lists.proofs.Permutations.{IsPermutation-nil}
 use Rattle.exam_model.specs.Instance.{Session}
 use Rattle.exam_model.specs.Timetable.{Placing}
 use Rattle.exam_publish.specs.declared.seat_row.SeatRow as publish
@@ -31,9 +31,6 @@ pub not_empty : {X : Type 0} (xs : List X) (is_known : Bool) → is_known ≡ na
 not_empty xs is_known is untrue none =
     true≢false (sym (is ∙ ap (λ l. nat_eq (length l) 0) none) ∙ untrue)
 
-pub no_rows : {X : Type 0} (xs : List X) → IsPermutation xs [] → xs ≡ []
-no_rows xs same = nil_from_length xs (sym (length_permutation xs [] same))
-
 module _ (I : Session) (mark : Bool) (places : List PlacedRow) (seats : List SeatRow) where
   -- no publication of the session has these rows
   abbrev pub NoneHas : Type 0
@@ -57,7 +54,7 @@ module _ (I : Session) (mark : Bool) (places : List PlacedRow) (seats : List Sea
       where
         each : (places ≡ [] → seats ≡ [] → ⊥) → NoneHas
         each bad None are is =
-            bad (no_rows places are.represents.placed) (no_rows seats are.represents.seat)
+            bad (IsPermutation-nil places are.represents.placed) (IsPermutation-nil seats are.represents.seat)
         each bad (Some p) are is = true≢false (sym are.marked ∙ unmarked)
 
   -- ---- something is published
@@ -66,14 +63,10 @@ module _ (I : Session) (mark : Bool) (places : List PlacedRow) (seats : List Sea
     marked_none : ArePublicationRows mark places seats None → ⊥
     marked_none are = true≢false (sym marked ∙ are.marked)
 
-    places_are : (p : Publication) → ArePublicationRows mark places seats (Some p)
+    pub places_are : (p : Publication) → ArePublicationRows mark places seats (Some p)
         → IsPublication I p
         → ArePlaces I places p.timetable
-    places_are p are is = record {
-      exams = is.rows.exams;
-      places = is.rows.places;
-      rows = are.represents.placed;
-    }
+    places_are p are is = grind (arith, common_steps)
 
     -- no seats have these rows
     pub no_seats : ((own : List publish.SeatRow) → RowsInOrder own → AreNumbered own
@@ -114,7 +107,14 @@ pub of_same : {X Y : Type 0} (P : List X → List Y → Type 0) {xs us : List X}
 of_same P {us = us} {ys = ys} same other p =
     subst (λ l. P us l) other (subst (λ l. P l ys) same p)
 
+-- shares of the same publication in the same rows
+pub shared_same : {I : Session} {o p : Option Publication} {students others : List StudentShareRow}
+    {parts rows : List PartShareRow} → o ≡ p → students ≡ others → parts ≡ rows
+    → AreShared I o students parts → AreShared I p others rows
+shared_same {I} {p = p} {students = students} {parts = parts} same one other are =
+    of_same (AreShared I p) one other (subst (λ o. AreShared I o students parts) same are)
+
 -- if nothing is published, there is no share
 pub no_shares : (I : Session) (students : List StudentShareRow) (parts : List PartShareRow)
     → AreShared I None students parts → (students ≡ []) × (parts ≡ [])
-no_shares I students parts are = (no_rows students are.of_students, no_rows parts are.of_parts)
+no_shares I students parts are = (IsPermutation-nil students are.of_students, IsPermutation-nil parts are.of_parts)

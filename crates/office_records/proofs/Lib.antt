@@ -1,3 +1,5 @@
+pub mod ListLemmas
+pub mod NumberedLemmas
 pub mod DraftRowLemmas
 pub mod EnrolRowLemmas
 pub mod MemoryLemmas

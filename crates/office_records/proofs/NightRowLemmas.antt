@@ -1,5 +1,5 @@
 -- An office whose weight of exams over night is 0 has no share with an amount over night.
-use Rattle.std.proofs.Common.{◌≡◌, ℕ, ◌≤◌, ◌*◌, List, length, Option, Some, None, sym, ap, subst, ◌∙◌, arith, mul-zero}
+use Rattle.std.proofs.Common.{◌≡◌, ℕ, ◌≤◌, ◌*◌, List, length, Option, Some, None, sym, ap, subst, ◌∙◌, arith, mul-zero, rules}
 use Rattle.std.proofs.lemmas.List.Sorted.{IsPermutation-sym}
 use Rattle.sqlite_trees.proofs.ListLemmas.{all-map, all-permutation, all_of}
 use Rattle.exam_model.specs.Instance.{Session}
@@ -7,18 +7,15 @@ use Rattle.exam_model.specs.declared.parts.Period.{Period}
 use Rattle.exam_model.specs.declared.parts.Weights.{Weights}
 use Rattle.exam_model.proofs.SumLemmas.{sum_pairs-le}
 use Rattle.exam_score.specs.Cost.{night_cost}
-use Rattle.exam_score.specs.Penalty.{PersonalPenalty}
 use Rattle.exam_score.specs.Regrouping.{candidate_cost}
 use Rattle.exam_score.proofs.NightLemmas.{night_weightless}
-use Rattle.exam_publish.specs.Changed.{rows_of, students_of}
-use Rattle.exam_publish.specs.Shares.{share_of}
 use Rattle.office_tables.specs.ShareStudent.{HaveNoNight}
 use Rattle.office_tables.specs.Tables.{Tables}
 use Rattle.office_tables.specs.declared.share_student.StudentShareRow.{StudentShareRow}
 use Rattle.office_model.specs.Office.{OfficeState, Publication}
 use Rattle.office_records.specs.Memory.{HasNoNightWeight, memory_of}
 use Rattle.office_records.specs.Representation.{IsSound, TablesRepresentOffice}
-use Rattle.office_records.specs.SharesStored.{student_share_row, student_share_rows}
+use Rattle.office_records.specs.SharesStored.{student_share_rows}
 
 -- all periods of a candidate
 nights_free : (periods : List Period) (weights : Weights) (at : List ℕ) → weights.night ≡ 0
@@ -36,12 +33,7 @@ nights_free periods weights at none =
 publication_free : (I : Session) (published : Option Publication) → I.weights.night ≡ 0
     → HaveNoNight (student_share_rows I published)
 publication_free I None none = tt
-publication_free I (Some p) none =
-    let share = λ (s : ℕ). share_of I.periods I.weights (rows_of s p.rows) in
-    all-map (λ (r : StudentShareRow). r.night ≡ 0) student_share_row _
-    (all-map (λ (it : ℕ × PersonalPenalty). it.1.night ≡ 0) (λ s. (s, share s)) (students_of p.rows)
-    (all_of (λ s. (share s).night ≡ 0) (λ s. nights_free I.periods I.weights _ none)
-    (students_of p.rows)))
+publication_free I (Some p) none = search (rules, all-map, all_of, nights_free)
 
 -- the rows of shares
 pub no_night : (t : Tables) (o : OfficeState) → TablesRepresentOffice t o → IsSound t o

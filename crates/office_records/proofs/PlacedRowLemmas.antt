@@ -1,7 +1,8 @@
 -- The places of a publication, row by row, and as those of a draft.
-use Rattle.std.proofs.Common.{◌≡◌, ℕ, ◌+◌, ◌<◌, List, [], ◌∷◌, ◌++◌, length, map, take, get_or, Option, Some, None, refl, sym, ◌∙◌, ap, subst, arith}
+use Rattle.std.proofs.lemmas.Grind.{common_steps}
+use Rattle.std.proofs.Common.{◌≡◌, ℕ, ◌+◌, ◌<◌, List, [], ◌∷◌, ◌++◌, length, map, option_map, take, get_or, Option, Some, None, refl, sym, ◌∙◌, ap, subst, arith}
+use Rattle.std.specs.List.{cons_option}
 use Rattle.std.specs.Prelude.{IsPermutation}
-use Rattle.std.proofs.lemmas.List.{append-nil, length-take, take_more}
 use Rattle.std.proofs.lemmas.List.Sorted.{IsPermutation-map}
 use Rattle.exam_model.specs.Instance.{Session}
 use Rattle.exam_model.specs.Timetable.{Placing}
@@ -12,6 +13,8 @@ use Rattle.office_records.specs.Found.{AreSlots}
 use Rattle.office_records.specs.Publications.{placed_from, placed_row}
 use Rattle.office_records.specs.FoundPublications.{ArePlaces, placed_slot}
 use Rattle.office_records.specs.TableRows.{slots_at, slots_from}
+use Rattle.office_records.proofs.ListLemmas.{moved_back}
+use Rattle.office_records.proofs.NumberedLemmas.{AreRowsOf, rows_next}
 use Rattle.office_records.proofs.SlotLemmas.{same_timetable}
 
 -- ---- as places of draft 0
@@ -19,14 +22,11 @@ use Rattle.office_records.proofs.SlotLemmas.{same_timetable}
 abbrev place_back : SlotRow → PlacedRow
 place_back row = record { exam = row.exam; period = row.period; room = row.room }
 
-places_back : (places : List PlacedRow) → map place_back (map placed_slot places) ≡ places
-places_back [] = refl
-places_back (row ∷ places) = ap (λ l. row ∷ l) (places_back places)
-
-slots_are : (e : ℕ) (T : Placing) → map placed_slot (placed_from e T) ≡ slots_from 0 e T
-slots_are e [] = refl
-slots_are e (None ∷ T) = slots_are (e + 1) T
-slots_are e (Some at ∷ T) = ap (λ l. placed_slot (placed_row e at) ∷ l) (slots_are (e + 1) T)
+pub placed_slots : (e : ℕ) (T : Placing) → map placed_slot (placed_from e T) ≡ slots_from 0 e T
+placed_slots e [] = refl
+placed_slots e (None ∷ T) = placed_slots (e + 1) T
+placed_slots e (Some at ∷ T) =
+    ap (λ l. placed_slot (placed_row e at) ∷ l) (placed_slots (e + 1) T)
 
 -- all are of draft 0
 all_own : (places : List PlacedRow) → slots_at 0 (map placed_slot places) ≡ map placed_slot places
@@ -39,7 +39,7 @@ module _ (I : Session) (found : List PlacedRow) (T : Placing) where
     exams = are.exams;
     places = are.places;
     rows = subst (λ l. IsPermutation l (slots_from 0 0 T)) (sym (all_own found))
-        (subst (IsPermutation (map placed_slot found)) (slots_are 0 T)
+        (subst (IsPermutation (map placed_slot found)) (placed_slots 0 T)
         (IsPermutation-map placed_slot _ _ are.rows));
   }
 
@@ -47,11 +47,9 @@ module _ (I : Session) (found : List PlacedRow) (T : Placing) where
   places_from_slots are = record {
     exams = are.exams;
     places = are.places;
-    rows = subst (λ l. IsPermutation l (placed_from 0 T)) (places_back found)
-        (subst (IsPermutation (map place_back (map placed_slot found)))
-        (ap (map place_back) (sym (slots_are 0 T)) ∙ places_back (placed_from 0 T))
-        (IsPermutation-map place_back _ _
-        (subst (λ l. IsPermutation l (slots_from 0 0 T)) (all_own found) are.rows)));
+    rows = moved_back placed_slot place_back (λ row. refl) found (placed_from 0 T)
+        (subst (IsPermutation (map placed_slot found)) (sym (placed_slots 0 T))
+        (subst (λ l. IsPermutation l (slots_from 0 0 T)) (all_own found) are.rows));
   }
 
 -- rows are the places of one timetable at most
@@ -63,31 +61,13 @@ same_places I found T U t u =
 
 -- ---- row by row
 
-placed-append : (k : ℕ) (T U : Placing)
-    → placed_from k (T ++ U) ≡ placed_from k T ++ placed_from (k + length T) U
-placed-append k [] U = ap (λ n. placed_from n U) (omega arith)
-placed-append k (None ∷ T) U =
-    placed-append (k + 1) T U
-    ∙ ap (λ n. placed_from (k + 1) T ++ placed_from n U) (omega arith)
-placed-append k (Some at ∷ T) U =
-    ap (λ l. placed_row k at ∷ l) (placed-append (k + 1) T U
-    ∙ ap (λ n. placed_from (k + 1) T ++ placed_from n U) (omega arith))
+placed_are : AreRowsOf placed_from (λ e o. option_map (placed_row e) o)
+placed_are = grind (arith, common_steps)
 
-module _ (e : ℕ) (T : Placing) (within : e < length T) where
-  next : (o : Option Place) → get_or T e None ≡ o
-      → placed_from 0 (take (e + 1) T) ≡ placed_from 0 (take e T) ++ placed_from e (o ∷ [])
-  next o is =
-      ap (placed_from 0) (take_more T e None within ∙ ap (λ x. take e T ++ x ∷ []) is)
-      ∙ placed-append 0 (take e T) (o ∷ [])
-      ∙ ap (λ n. placed_from 0 (take e T) ++ placed_from n (o ∷ []))
-      (let long = length-take e T in omega (arith, long, within))
-
-  -- the next exam has a place
-  pub placed_more : (at : Place) → get_or T e None ≡ Some at
-      → placed_from 0 (take (e + 1) T) ≡ placed_from 0 (take e T) ++ placed_row e at ∷ []
-  placed_more at is = next (Some at) is
-
-  -- the next exam has no place
-  pub placed_same : get_or T e None ≡ None
-      → placed_from 0 (take (e + 1) T) ≡ placed_from 0 (take e T)
-  placed_same is = next None is ∙ append-nil (placed_from 0 (take e T))
+-- the next exam has this place or none
+pub placed_next : (e : ℕ) (T : Placing) → e < length T → (o : Option Place) → get_or T e None ≡ o
+    → placed_from 0 (take (e + 1) T)
+    ≡ placed_from 0 (take e T) ++ cons_option (option_map (placed_row e) o) []
+placed_next e T within o is =
+    rows_next placed_are T e None within
+    ∙ ap (λ o. placed_from 0 (take e T) ++ cons_option (option_map (placed_row e) o) []) is

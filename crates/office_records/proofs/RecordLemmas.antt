@@ -1,8 +1,9 @@
 -- From the rows of each table to an office's records, and back.
-use Rattle.std.proofs.Common.{◌≡◌, ℕ, List, [], ◌∷◌, map, Some, None, Option, refl, sym, ◌∙◌, ap, subst}
+use Rattle.std.proofs.lemmas.Grind.{common_steps}
+use Rattle.std.proofs.Common.{◌≡◌, ℕ, List, [], ◌∷◌, map, Some, None, Option, refl, ap, subst, arith}
 use Rattle.std.specs.Prelude.{is_some}
 use Rattle.std.proofs.lemmas.List.Sorted.{IsPermutation-sym, IsPermutation-trans}
-use Rattle.std.proofs.lemmas.Option.{none-some}
+use Rattle.std.proofs.lemmas.Option.{none-some, same_Some}
 use Rattle.exam_lists.proofs.Parts.{same_head}
 use Rattle.exam_model.specs.Enrolments.{Enrolled}
 use Rattle.exam_model.specs.Instance.{Session}
@@ -13,17 +14,15 @@ use Rattle.office_tables.specs.Meta.{meta_from}
 use Rattle.office_tables.specs.Tables.{Tables, Meta, Batch, empty_tables}
 use Rattle.office_tables.specs.declared.found.Found.{Found}
 use Rattle.office_tables.specs.declared.enrol.EnrolRow.{EnrolRow}
-use Rattle.office_records.specs.Found.{AreDrafts, AreEnrolRows}
+use Rattle.office_records.specs.Found.{AreDrafts, AreEnrolRows, AreOwners, ArePublication, IsSessionRow, IsUnloaded}
 use Rattle.office_records.specs.FoundBatches.{AreBatchRows, AreFoundBatches}
-use Rattle.office_records.specs.Found.{AreOwners, ArePublication, IsSessionRow, IsUnloaded}
 use Rattle.office_model.specs.Office.{OfficeState, Publication, Records, AreRecords, IsOffice, IsPublication}
 use Rattle.office_records.specs.FoundPublications.{ArePublished}
 use Rattle.office_records.specs.Memory.{AreScoredDrafts, draft_at, memory_of, published_in, scored_draft}
 use Rattle.office_records.specs.Representation.{IsSound, TablesRepresentOffice, TablesRepresentRecords}
 use Rattle.office_records.specs.TableRows.{meta_row}
 use Rattle.office_records.specs.declared.drafts.Draft.{Draft}
-use Rattle.office_records.proofs.BatchRowLemmas.{batch_rows, batches_kept, batches_represent}
-use Rattle.office_records.proofs.BatchRowLemmas.{kept_batch, no_batches}
+use Rattle.office_records.proofs.BatchRowLemmas.{batch_rows, batches_kept, batches_represent, kept_batch}
 use Rattle.office_records.proofs.MemoryLemmas.{same_enrolments}
 use Rattle.office_records.proofs.SessionLemmas.{one_session}
 
@@ -34,65 +33,47 @@ one_set I rows E F e f =
     same_enrolments I E F e.enrolled f.enrolled
     (IsPermutation-trans _ _ _ (IsPermutation-sym _ _ e.rows) f.rows)
 
-some_is : {X : Type 0} {x y : X} → Some x ≡ Some y → x ≡ y
-some_is e = cc
-
 -- the publication is one, if there is one
 is_published : (I : Session) (published : Option Publication) → ArePublished I published
     → (p : Publication) → published ≡ Some p → IsPublication I p
 is_published I None is p same = absurd (none-some p same)
-is_published I (Some q) is p same = subst (IsPublication I) (some_is same) is
+is_published I (Some q) is p same = subst (IsPublication I) (same_Some q p same) is
 
 are_published : (I : Session) (published : Option Publication)
     → ((p : Publication) → published ≡ Some p → IsPublication I p) → ArePublished I published
 are_published I None each = tt
 are_published I (Some p) each = each p refl
 
+-- these rows, with the bytes of their batches, are of an office with these records
+pub record AreRowsOfOffice (found : Found) (r : Records) : Type 0 where
+  pub batches : List Batch
+  pub counts : map counts_of batches ≡ found.batches.items
+  pub represents : TablesRepresentRecords (tables_of found batches) r
+  pub sound : IsSound (tables_of found batches) (Some r)
+  pub is : AreRecords r
+
 module _ (found : Found) (batches : List Batch) where
   abbrev pub t : Tables
   t = tables_of found batches
 
-  -- the rows of a publication and its shares, with the flag whether something is published
-  abbrev pub IsPublished : Session → Option Publication → Type 0
-  IsPublished I published =
-      ArePublication I found.meta.published found.placements.items found.seats.items
-      found.student_shares.items found.part_shares.items published
-
   -- ---- before a load
 
   pub unloaded : map counts_of batches ≡ found.batches.items → t ≡ empty_tables → IsUnloaded found
-  unloaded rows represents =
-      let none : batches ≡ [] = ap (λ (u : Tables). u.batch) represents in
-      record {
-        batches = sym rows ∙ ap (map counts_of) none;
-        tables = subst (λ l. tables_of found l ≡ empty_tables) none represents;
-      }
+  unloaded rows represents = grind (arith, common_steps)
 
   pub nothing_loaded : IsUnloaded found → AreFoundBatches found.batches.items batches
       → (drafts : List (Option Draft)) → ((d : ℕ) → draft_at drafts d ≡ None)
       → (office : OfficeState) × TablesRepresentOffice t office × IsSound t office × IsOffice office
       × (memory_of office ≡ None) × (published_in office ≡ None)
       × ((d : ℕ) → draft_at drafts d ≡ scored_draft d office)
-  nothing_loaded is these drafts no_draft =
-      let none = no_batches batches (these.rows ∙ is.batches) in (
-        None,
-        subst (λ l. tables_of found l ≡ empty_tables) (sym none) is.tables,
-        tt,
-        tt,
-        refl,
-        refl,
-        no_draft,
-      )
+  nothing_loaded is these drafts no_draft = grind (arith, common_steps)
 
   -- ---- from the rows to the office
 
   row_is : (I : Session) → IsSessionRow (meta_from found.meta) I → (published : Option Publication)
       → found.meta.published ≡ is_some published
       → meta_from found.meta ≡ meta_row (is_some published) I
-  row_is I session published marked = λ i. record {
-    published = marked i;
-    instance = session.text i;
-  }
+  row_is I session published marked = grind (arith, common_steps)
 
   pub office_of : (I : Session) (E : Enrolled) → IsSessionRow (meta_from found.meta) I
       → (owner_of : ℕ → ℕ) × AreOwners I found.owners.items owner_of
@@ -100,7 +81,8 @@ module _ (found : Found) (batches : List Batch) where
       → (drafts : List (Option Draft))
       → (draft : ℕ → Option Placing) × AreDrafts I E found.drafts.items found.slots.items draft
       × AreScoredDrafts I E draft drafts
-      → (published : Option Publication) → IsPublished I published
+      → (published : Option Publication) → ArePublication I found.meta.published found.placements.items
+      found.seats.items found.student_shares.items found.part_shares.items published
       → AreBatchRows found.batches.items → AreFoundBatches found.batches.items batches
       → (office : OfficeState) × TablesRepresentOffice t office × IsSound t office × IsOffice office
       × (memory_of office ≡ Some (I, E)) × (published_in office ≡ published)
@@ -139,59 +121,57 @@ module _ (found : Found) (batches : List Batch) where
     drafts.2,
   )
 
-  -- ---- from the office to its rows
+-- ---- from the office to its rows
 
-  module _ (r : Records) (represents : TablesRepresentRecords t r) (sound : IsSound t (Some r))
-      (is : AreRecords r) where
-    pub kept_rows : map counts_of batches ≡ found.batches.items → AreBatchRows found.batches.items
-    kept_rows rows =
-        batch_rows found.batches.items batches r.batches rows represents.batches is.batches
+module _ {found : Found} {r : Records} (of : AreRowsOfOffice found r) where
+  pub kept_rows : AreBatchRows found.batches.items
+  kept_rows =
+      batch_rows found.batches.items of.batches r.batches of.counts of.represents.batches
+      of.is.batches
 
-    pub session_row : IsSessionRow (meta_from found.meta) r.session
-    session_row = record {
-      session = is.session;
-      text = ap (λ (m : Meta). m.instance) (same_head represents.meta);
-    }
+  session_row : IsSessionRow (meta_from found.meta) r.session
+  session_row = grind (arith, common_steps)
 
-    module _ (I : Session) (read : IsSessionRow (meta_from found.meta) I) where
-      same : r.session ≡ I
-      same = one_session (meta_from found.meta) r.session I session_row read
+  module _ {I : Session} (read : IsSessionRow (meta_from found.meta) I) where
+    same : r.session ≡ I
+    same = one_session (meta_from found.meta) r.session I session_row read
 
-      pub owner_rows : AreOwners I found.owners.items r.owner_of
-      owner_rows = subst (λ J. AreOwners J found.owners.items r.owner_of) same (record {
-        rows = represents.owner;
-        departments = is.departments;
-        owned = is.owned;
-      })
+    pub owner_rows : AreOwners I found.owners.items r.owner_of
+    owner_rows = subst (λ J. AreOwners J found.owners.items r.owner_of) same (record {
+      rows = of.represents.owner;
+      departments = of.is.departments;
+      owned = of.is.owned;
+    })
 
-      pub enrol_rows : AreEnrolRows I found.enrols.items r.enrolments
-      enrol_rows = subst (λ J. AreEnrolRows J found.enrols.items r.enrolments) same (record {
-        enrolled = is.enrolled;
-        rows = represents.enrol;
-      })
+    pub enrol_rows : AreEnrolRows I found.enrols.items r.enrolments
+    enrol_rows = subst (λ J. AreEnrolRows J found.enrols.items r.enrolments) same (record {
+      enrolled = of.is.enrolled;
+      rows = of.represents.enrol;
+    })
 
-      pub draft_rows : (E : Enrolled) → AreEnrolRows I found.enrols.items E
-          → AreDrafts I E found.drafts.items found.slots.items r.draft
-      draft_rows E rows =
-          let whose : AreDrafts r.session r.enrolments found.drafts.items found.slots.items r.draft
-          = record {
-            numbered = is.numbered;
-            fits = is.drafts;
-            rows = represents.draft;
-            slots = represents.slot;
-            scored = sound.scored;
-          } in
-          subst (λ F. AreDrafts I F found.drafts.items found.slots.items r.draft)
-          (one_set I found.enrols.items r.enrolments E enrol_rows rows)
-          (subst (λ J. AreDrafts J r.enrolments found.drafts.items found.slots.items r.draft) same
-          whose)
+    pub draft_rows : (E : Enrolled) → AreEnrolRows I found.enrols.items E
+        → AreDrafts I E found.drafts.items found.slots.items r.draft
+    draft_rows E rows =
+        subst (λ F. AreDrafts I F found.drafts.items found.slots.items r.draft)
+        (one_set I found.enrols.items r.enrolments E enrol_rows rows)
+        (subst (λ J. AreDrafts J r.enrolments found.drafts.items found.slots.items r.draft) same
+        (record {
+          numbered = of.is.numbered;
+          fits = of.is.drafts;
+          rows = of.represents.draft;
+          slots = of.represents.slot;
+          scored = of.sound.scored;
+        }))
 
-      pub published_rows : IsPublished I r.published
-      published_rows = subst (λ J. IsPublished J r.published) same (record {
-        rows = record {
-          marked = ap (λ (m : Meta). m.published) (same_head represents.meta);
-          represents = represents.published;
-        };
-        is = are_published r.session r.published is.publication;
-        shared = sound.shared;
-      })
+    pub published_rows : ArePublication I found.meta.published found.placements.items
+        found.seats.items found.student_shares.items found.part_shares.items r.published
+    published_rows = subst (λ J. ArePublication J found.meta.published found.placements.items
+        found.seats.items found.student_shares.items found.part_shares.items r.published) same
+        (record {
+          rows = record {
+            marked = ap (λ (m : Meta). m.published) (same_head of.represents.meta);
+            represents = of.represents.published;
+          };
+          is = are_published r.session r.published of.is.publication;
+          shared = of.sound.shared;
+        })

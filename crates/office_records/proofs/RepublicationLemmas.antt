@@ -1,22 +1,24 @@
 -- A republication that rewrites only the shares of the candidates whose exams or periods differ
 -- stores the right shares.
-use Rattle.std.proofs.Common.{◌≡◌, ◌<◌, ℕ, Bool, true, false, cond, not, ◌&&◌, ◌||◌, eqb, List, [], ◌∷◌, ◌++◌, map, filter, Option, Some, None, refl, sym, ◌∙◌, ap, ap₂, subst}
+use Rattle.std.proofs.lemmas.Grind.{common_steps}
+use Rattle.std.proofs.Common.{◌≡◌, ℕ, Bool, true, false, not, ◌&&◌, eqb, List, [], ◌∷◌, map, filter, Option, Some, None, refl, sym, ◌∙◌, ap, ap₂, subst, arith}
 use Rattle.std.specs.Prelude.{IsPermutation}
 use Rattle.std.proofs.lemmas.List.Sorted.{IsPermutation-trans, IsPermutation-sym, IsPermutation-append_right, IsPermutation-filter_both}
 use Rattle.exam_lists.proofs.Chains.{chain_from_index, chain_filter, chain_map, index_from_chain}
+use Rattle.std.proofs.lemmas.Bool.{not-true}
+use Rattle.exam_lists.proofs.Filters.{map_filter_agree}
 use Rattle.exam_lists.proofs.Tests.{any_map}
 use Rattle.sqlite_trees.proofs.ListLemmas.{IsPermutation-filter, filter-map, map-map}
 use Rattle.exam_model.specs.Enrolments.{IsAscending, has_number}
 use Rattle.exam_model.specs.Instance.{Session}
 use Rattle.exam_model.proofs.SameSet.{same_list}
 use Rattle.exam_publish.specs.declared.seat_row.SeatRow.{SeatRow}
-use Rattle.exam_publish.specs.Changed.{changed_students, has_row, is_changed, rows_of, same_rows, sorted_numbers, students_of}
+use Rattle.exam_publish.specs.Changed.{changed_students, has_row, is_changed, rows_of, same_rows, students_of}
 use Rattle.exam_publish.specs.Rows.{RowBefore, RowsInOrder}
 use Rattle.exam_publish.specs.Shares.{share_of, student_shares}
 use Rattle.exam_publish.proofs.ChangedLemmas.{changed_has_row}
 use Rattle.exam_publish.proofs.ListLemmas.{ascending_from_chain, chain_ascending, has_ascending, has_filter}
 use Rattle.exam_publish.proofs.ShareLemmas.{same_share}
-use Rattle.exam_score.specs.Personal.{personal_of}
 use Rattle.office_tables.specs.declared.share_student.StudentShareRow.{StudentShareRow}
 use Rattle.office_model.specs.Office.{Publication}
 use Rattle.office_model.specs.Publishing.{publication_rows}
@@ -31,12 +33,7 @@ some_row (r ∷ rs) = true
 
 has_some : (rows : List SeatRow) (s : ℕ) → has_row rows s ≡ some_row (rows_of s rows)
 has_some [] s = refl
-has_some (r ∷ rs) s = go (eqb r.student s) (has_some rs s)
-  where
-    go : (b : Bool) → has_row rs s ≡ some_row (rows_of s rs)
-        → (b || has_row rs s) ≡ some_row (cond b (r ∷ rows_of s rs) (rows_of s rs))
-    go true more = refl
-    go false more = more
+has_some (r ∷ rs) s = grind (arith, common_steps, has_some rs s)
 
 both_some : (rs qs : List SeatRow) → not (same_rows rs qs) ≡ false → some_row rs ≡ some_row qs
 both_some [] [] h = refl
@@ -57,10 +54,7 @@ module _ (old new : List SeatRow) where
   has_changed s = has_number changed s
 
   is_listed : (s : ℕ) → has_changed s ≡ is_changed old new s
-  is_listed s =
-      has_filter (is_changed old new) (students_of (old ++ new)) s
-      ∙ ap (λ b. is_changed old new s && b) (is_seated (old ++ new) s)
-      ∙ changed_has_row old new s
+  is_listed s = grind (arith, common_steps, has_filter, is_seated, changed_has_row)
 
   -- a candidate who didn't change has the same seats as before
   still_seated : (s : ℕ) (b : Bool) → is_changed old new s ≡ b
@@ -85,10 +79,7 @@ module _ (old new : List SeatRow) where
       (λ s. has_others old s ∙ still_seated s (is_changed old new s) refl ∙ sym (has_others new s))
     where
       ascends : (rows : List SeatRow) → IsAscending (others rows)
-      ascends rows =
-          ascending_from_chain (others rows)
-          (chain_filter (λ x y. x < y) (λ s. not (has_changed s))
-          (students_of rows) (chain_ascending (map (λ (row : SeatRow). row.student) rows)))
+      ascends rows = grind (arith, common_steps, ascending_from_chain, chain_filter, chain_ascending)
 
   -- ---- their shares
 
@@ -107,21 +98,10 @@ module _ (old new : List SeatRow) where
     same_rows_for : (xs : List ℕ)
         → map (row_for old) (filter (λ s. not (has_changed s)) xs)
         ≡ map (row_for new) (filter (λ s. not (has_changed s)) xs)
-    same_rows_for [] = refl
-    same_rows_for (x ∷ xs) = go (has_changed x) refl (same_rows_for xs)
-      where
-        rest : List ℕ
-        rest = filter (λ s. not (has_changed s)) xs
-
-        go : (b : Bool) → has_changed x ≡ b → map (row_for old) rest ≡ map (row_for new) rest
-            → map (row_for old) (cond (not b) (x ∷ rest) rest)
-            ≡ map (row_for new) (cond (not b) (x ∷ rest) rest)
-        go true is more = more
-        go false is more =
-            ap₂ (λ r rs. r ∷ rs)
-            (ap (λ share. student_share_row (x, share))
-            (same_share I old new x (sym (is_listed x) ∙ is)))
-            more
+    same_rows_for =
+        map_filter_agree (row_for old) (row_for new) (λ s. not (has_changed s))
+        (λ s stays. ap (λ share. student_share_row (s, share)) (same_share I old new s
+        (sym (is_listed s) ∙ not-true (has_changed s) stays)))
 
     -- the rows that are left are those of the others
     left : (stored : List StudentShareRow)
@@ -170,18 +150,7 @@ timed_in_order rows up =
 -- and give the same shares
 timed_shares : (I : Session) (rows : List SeatRow)
     → student_shares I (map timed rows) ≡ student_shares I rows
-timed_shares I rows =
-    λ i. map (λ (s : ℕ). (s, personal_of I.periods I.weights (periods_are s i))) (students_are i)
-  where
-    students_are : students_of (map timed rows) ≡ students_of rows
-    students_are = ap sorted_numbers (map-map (λ (row : SeatRow). row.student) timed rows)
-
-    periods_are : (s : ℕ) → map (λ (row : SeatRow). row.period) (rows_of s (map timed rows))
-        ≡ map (λ (row : SeatRow). row.period) (rows_of s rows)
-    periods_are s =
-        ap (map (λ (row : SeatRow). row.period))
-        (filter-map (λ (row : SeatRow). eqb row.student s) timed rows)
-        ∙ map-map (λ (row : SeatRow). row.period) timed (rows_of s rows)
+timed_shares I rows = grind (arith, common_steps, map-map, filter-map)
 
 -- the old shares of the candidates whose exams or periods differ, replaced by their new ones: the
 -- shares of all

@@ -1,12 +1,12 @@
 -- Tables represented by one database represent the same offices.
-use Rattle.std.proofs.Common.{◌≡◌, ℕ, ◌≤◌, Bool, true, false, List, [], ◌∷◌, map, length, Some}
-use Rattle.std.proofs.Common.{None, refl, ap, arith, subst, eqb, cond}
+use Rattle.std.proofs.lemmas.Grind.{common_steps}
+use Rattle.std.proofs.Common.{◌≡◌, ℕ, zero, suc, ◌≤◌, pos, Bool, true, false, List, [], ◌∷◌, map, length, Some, None, refl, ap, arith, eqb}
 use Rattle.std.specs.Prelude.{IsPermutation, is_some}
-use Rattle.std.proofs.lemmas.List.{nil_from_length, length-map}
-use Rattle.std.proofs.lemmas.List.Sorted.{IsPermutation-sym, IsPermutation-trans, IsPermutation-map}
-use Rattle.std.proofs.lemmas.List.Sorted.{length_permutation}
-use Rattle.exam_lists.proofs.Permutations.{few_read, same_few}
-use Rattle.sqlite_value.specs.Order.{Row}
+use Rattle.std.proofs.lemmas.List.Sorted.{IsPermutation-sym, IsPermutation-trans}
+use Rattle.exam_lists.proofs.Permutations.{few_read}
+use Rattle.sqlite_value.specs.Order.{Row, column}
+use Rattle.sqlite_value.specs.declared.value.Value.{Value}
+use Rattle.sqlite_value.specs.declared.value.Value.TheVariants.{Int}
 use Rattle.sqlite.specs.Effect.{Database}
 use Rattle.sqlite_trees.proofs.ListLemmas.{IsPermutation-filter, all-permutation}
 use Rattle.office_tables.specs.Batch.{FitsBatch, batch_columns}
@@ -19,64 +19,53 @@ use Rattle.office_tables.proofs.Frames.{held_at}
 use Rattle.office_tables.proofs.SameRows.{same_drafts, same_student_shares}
 use Rattle.office_tables.specs.Owner.{owner_columns}
 use Rattle.office_tables.specs.Enrol.{enrol_columns}
-use Rattle.office_tables.specs.Draft.{draft_columns}
 use Rattle.office_tables.specs.Slot.{slot_columns}
 use Rattle.office_tables.specs.Placed.{placed_columns}
 use Rattle.office_tables.specs.Seat.{seat_columns}
-use Rattle.office_tables.specs.ShareStudent.{share_student_columns}
 use Rattle.office_tables.specs.SharePart.{share_part_columns}
-use Rattle.office_tables.specs.Meta.{meta_columns}
+use Rattle.office_tables.specs.Meta.{flag, meta_columns}
 use Rattle.office_tables.specs.declared.owner.OwnerRow.{OwnerRow}
 use Rattle.office_tables.specs.declared.draft.DraftRow.{DraftRow}
 use Rattle.office_tables.specs.declared.slot.SlotRow.{SlotRow}
 use Rattle.office_model.specs.Office.{OfficeState, Records}
-use Rattle.office_tables.proofs.RecordsBack.{owner_of, enrol_of, slot_of, placement_of}
-use Rattle.office_tables.proofs.RecordsBack.{seat_of, part_share_of, batch_of}
+use Rattle.office_tables.proofs.RecordsBack.{bytes_in, owner_of, enrol_of, slot_of, placement_of, seat_of, part_share_of, batch_of}
 use Rattle.office_records.specs.Representation.{IsScoredRow, IsSound, TablesRepresentOffice, TablesRepresentRecords}
-use Rattle.office_records.specs.TableRows.{some_dept, number_if}
-use Rattle.office_records.proofs.MemoryLemmas.{same_rows, meta_back, meta_is}
-
--- ---- lists
+use Rattle.office_records.specs.TableRows.{meta_row, some_dept, number_if}
+use Rattle.office_records.proofs.ListLemmas.{few_moved, moved_back}
 
 few_depts : (n : ℕ) → length (some_dept n) ≤ 1
-few_depts n = go (eqb n 0)
-  where
-    go : (b : Bool) → length (cond b [] (n ∷ [])) ≤ 1
-    go true = omega arith
-    go false = omega arith
+few_depts n = grind (arith, common_steps)
 
 pub few_once : (b : Bool) (n : ℕ) → length (number_if b n) ≤ 1
 few_once true n = omega arith
 few_once false n = omega arith
 
--- a table without rows
-none_held : {X : Type 0} (show : Row → Row) (row : X → Row) (xs ys : List X) (stored : List Row)
-    → Holds show (map row xs) stored → Holds show (map row ys) stored → xs ≡ [] → ys ≡ []
-none_held show row xs ys stored p q none =
-    nil_from_length ys
-    (let long = length_permutation _ _ p.same in
-    let other = length_permutation _ _ q.same in
-    let short : length xs ≡ 0 = ap length none in
-    omega (arith, long, other, short, length-map xs row, length-map ys row))
+-- two lists of rows that one table holds are the same, up to order
+same_rows : {X : Type 0} (show : Row → Row) (row : X → Row) (back : Row → X)
+    → ((x : X) → back (row x) ≡ x) → (xs ys : List X) (stored : List Row)
+    → Holds show (map row xs) stored → Holds show (map row ys) stored → IsPermutation xs ys
+same_rows show row back is xs ys stored p q =
+    moved_back row back is xs ys (IsPermutation-trans _ _ _ (IsPermutation-sym _ _ p.same) q.same)
+
+-- ---- the row of the session
+
+is_one : Value → Bool
+is_one (Int (pos (suc zero))) = true
+is_one _ = false
+
+meta_back : Row → Meta
+meta_back row = record { published = is_one (column row 2); instance = bytes_in (column row 3) }
+
+flags : (b : Bool) → is_one (Int (pos (flag b))) ≡ b
+unfolding is_one
+flags true = refl
+flags false = refl
+
+meta_is : (version : Version) (m : Meta) → meta_back (meta_columns version m) ≡ m
+unfolding meta_back
+meta_is version m = ap (λ b. record { published = b; instance = m.instance }) (flags m.published)
 
 -- ---- the tables
-
--- ten tables, empty except for the row about the office
-pub all_empty : (t : Tables) → t.meta ≡ empty_tables.meta → t.owner ≡ [] → t.enrol ≡ []
-    → t.draft ≡ [] → t.slot ≡ [] → t.placed ≡ [] → t.seat ≡ [] → t.share_student ≡ []
-    → t.share_part ≡ [] → t.batch ≡ [] → t ≡ empty_tables
-all_empty t m o e d s p z x y b = λ i. record {
-  meta = m i;
-  owner = o i;
-  enrol = e i;
-  draft = d i;
-  slot = s i;
-  placed = p i;
-  seat = z i;
-  share_student = x i;
-  share_part = y i;
-  batch = b i;
-}
 
 module _ (version : Version) (db : Database) (t u : Tables) (p : HoldsTablesIn version db t)
     (q : HoldsTablesIn version db u) where
@@ -111,43 +100,28 @@ module _ (version : Version) (db : Database) (t u : Tables) (p : HoldsTablesIn v
   batch_rows : IsPermutation t.batch u.batch
   batch_rows = same_rows keyed_columns batch_columns batch_of (λ r. refl) _ _ _ (held_at 9 p) (held_at 9 q)
 
-  one_meta : (m : Meta) → t.meta ≡ m ∷ [] → u.meta ≡ m ∷ []
-  one_meta m is =
-      same_few (m ∷ []) u.meta (omega arith) (subst (λ l. IsPermutation l u.meta) is metas)
-
-  no_owner : t.owner ≡ [] → u.owner ≡ []
-  no_owner = none_held keyed_columns owner_columns _ _ _ (held_at 1 p) (held_at 1 q)
-
-  no_placed : t.placed ≡ [] → u.placed ≡ []
-  no_placed = none_held keyed_columns placed_columns _ _ _ (held_at 5 p) (held_at 5 q)
-
-  no_seat : t.seat ≡ [] → u.seat ≡ []
-  no_seat = none_held keyless_columns seat_columns _ _ _ (held_at 6 p) (held_at 6 q)
-
-  no_share_student : t.share_student ≡ [] → u.share_student ≡ []
-  no_share_student = none_held keyed_columns share_student_columns _ _ _ (held_at 7 p) (held_at 7 q)
-
-  no_share_part : t.share_part ≡ [] → u.share_part ≡ []
-  no_share_part = none_held keyless_columns share_part_columns _ _ _ (held_at 8 p) (held_at 8 q)
-
-  no_batch : t.batch ≡ [] → u.batch ≡ []
-  no_batch = none_held keyed_columns batch_columns _ _ _ (held_at 9 p) (held_at 9 q)
-
   empty : t ≡ empty_tables → u ≡ empty_tables
-  empty is =
-      all_empty u (one_meta _ (ap (λ (t : Tables). t.meta) is))
-      (no_owner (ap (λ (t : Tables). t.owner) is))
-      (none_held keyless_columns enrol_columns _ _ _ (held_at 2 p) (held_at 2 q) (ap (λ (t : Tables). t.enrol) is))
-      (none_held keyed_columns draft_columns _ _ _ (held_at 3 p) (held_at 3 q) (ap (λ (t : Tables). t.draft) is))
-      (none_held keyless_columns slot_columns _ _ _ (held_at 4 p) (held_at 4 q) (ap (λ (t : Tables). t.slot) is))
-      (no_placed (ap (λ (t : Tables). t.placed) is)) (no_seat (ap (λ (t : Tables). t.seat) is))
-      (no_share_student (ap (λ (t : Tables). t.share_student) is))
-      (no_share_part (ap (λ (t : Tables). t.share_part) is))
-      (no_batch (ap (λ (t : Tables). t.batch) is))
+  empty is = λ i. record {
+    meta = none (λ t. t.meta) (omega arith) metas i;
+    owner = none (λ t. t.owner) (omega arith) owners i;
+    enrol = none (λ t. t.enrol) (omega arith) enrols i;
+    draft = none (λ t. t.draft) (omega arith) drafts i;
+    slot = none (λ t. t.slot) (omega arith) slots i;
+    placed = none (λ t. t.placed) (omega arith) placements i;
+    seat = none (λ t. t.seat) (omega arith) seats i;
+    share_student = none (λ t. t.share_student) (omega arith) student_shares i;
+    share_part = none (λ t. t.share_part) (omega arith) part_shares i;
+    batch = none (λ t. t.batch) (omega arith) batch_rows i;
+  }
+    where
+      none : {X : Type 0} (rows : Tables → List X) → length (rows empty_tables) ≤ 1
+          → IsPermutation (rows t) (rows u) → rows u ≡ rows empty_tables
+      none rows few = few_moved (rows t) (rows empty_tables) (rows u) (ap rows is) few
 
   loaded : (r : Records) → TablesRepresentRecords t r → TablesRepresentRecords u r
   loaded r h = record {
-    meta = one_meta _ h.meta;
+    meta = few_moved t.meta (meta_row (is_some r.published) r.session ∷ []) u.meta h.meta
+        (omega arith) metas;
     owner = λ e. few_read (λ (o : OwnerRow). o.dept) _ _ _
         (IsPermutation-filter (λ o. eqb o.exam e) _ _ owners) (h.owner e)
         (few_depts (r.owner_of e));

@@ -1,62 +1,63 @@
 -- The shares of a publication, read back from rows.
-use Rattle.std.proofs.Common.{◌≡◌, ℕ, ◌+◌, ◌<◌, ◌≤◌, ◌^◌, List, [], ◌∷◌, ◌++◌, length, map, take, drop, All, Some, ◌∙◌, ap, arith, length-take, length-drop}
+use Rattle.std.proofs.lemmas.Grind.{common_steps}
+use Rattle.std.proofs.Common.{◌≡◌, ℕ, ◌+◌, ◌<◌, ◌≤◌, ◌^◌, List, [], ◌∷◌, ◌++◌, length, map, take, drop, All, Some, refl, sym, ◌∙◌, ap, arith, length-append, length-take, length-drop, rules}
 use Rattle.std.specs.List.{AllByRecursion}
 use Rattle.std.specs.Prelude.{IsPermutation}
+use Rattle.std.proofs.lemmas.List.{drop_at, take_at}
 use Rattle.std.proofs.lemmas.List.Elements.{All-from_recursion, recursion_from_All}
 use Rattle.std.proofs.lemmas.List.FromFn.{length-map-range_with_len}
+use Rattle.exam_lists.proofs.Each.{each_map}
 use Rattle.exam_model.specs.Enrolments.{IsAscending}
 use Rattle.exam_model.specs.Instance.{IsInstance, Session}
 use Rattle.exam_model.proofs.StudentLemmas.{each_with}
 use Rattle.exam_score.specs.Penalty.{PersonalPenalty, personal_total}
 use Rattle.exam_publish.specs.AddUp.{AreSmall}
-use Rattle.exam_publish.specs.Changed.{rows_of, students_of}
-use Rattle.exam_publish.specs.Shares.{Sharing, period_share, room_share, share_of, shares_of, student_shares}
-use Rattle.exam_publish.specs.Rows.{enrolled_in}
+use Rattle.exam_publish.specs.Changed.{rows_of, sorted_numbers, students_of}
+use Rattle.exam_publish.specs.Shares.{Sharing, share_of, shares_of, student_shares}
 use Rattle.exam_publish.specs.declared.seat_row.SeatRow.{SeatRow}
 use Rattle.exam_publish.proofs.AddUpLemmas.{adds_up}
 use Rattle.exam_publish.proofs.ShareLemmas.{published_small, shares_ascend}
 use Rattle.exam_model.specs.Timetable.{Placing}
-use Rattle.exam_score.specs.FrontLoad.{exam_front}
 use Rattle.office_tables.specs.declared.share_part.PartShareRow.{PartShareRow}
 use Rattle.office_tables.specs.declared.share_student.StudentShareRow.{StudentShareRow}
-use Rattle.office_model.specs.Office.{IsPublication, Publication}
+use Rattle.office_model.specs.Office.{Publication}
 use Rattle.office_records.specs.FoundPublications.{HasPlacesAndSeats}
 use Rattle.office_records.specs.SharesStored.{AreShared, IsShare, student_share_row}
 use Rattle.office_records.specs.PartShares.{HasFewParts, HasShareOfEach, part_rows, plain_rows, room_rows}
-use Rattle.office_records.proofs.PartRowLemmas.{exam_part, length-plain, length-rooms, long, period_part, room_part, same_plain, same_rooms}
-use Rattle.office_records.proofs.ShareRowLemmas.{same_shares}
+use Rattle.office_records.proofs.ListLemmas.{same_back}
+use Rattle.office_records.proofs.NumberedLemmas.{length-rows, rows_same}
+use Rattle.office_records.proofs.PartRowLemmas.{plain_are, room_share_back, rooms_are}
+use Rattle.office_records.proofs.ShareRowLemmas.{share_back}
 
 -- ---- how many
 
 module _ (I : Session) (rows : List SeatRow) (T : Placing) where
-  abbrev own : Sharing
+  abbrev pub own : Sharing
   own = shares_of I rows T
 
-  pub count_exams : length own.exams ≡ length I.exams
-  count_exams =
-      length-map-range_with_len (exam_front I (enrolled_in (length I.exams) rows) T) 0
-      (length I.exams)
-
-  pub count_periods : length own.periods ≡ length I.periods
-  count_periods = length-map-range_with_len (period_share I T) 0 (length I.periods)
-
-  pub count_rooms : length own.rooms ≡ length I.rooms
-  count_rooms = length-map-range_with_len (room_share I T) 0 (length I.rooms)
+  pub own_each : HasShareOfEach I own
+  own_each = grind (arith, common_steps, length-map-range_with_len)
 
   pub few_parts : IsInstance I → HasFewParts own
-  few_parts known = record {
-    exams = let n = count_exams in let h = known.limits.counts.0.1 in omega (arith, n, h);
-    periods = let n = count_periods in let h = known.limits.counts.1.1 in omega (arith, n, h);
-    rooms = let n = count_rooms in let h = known.limits.counts.2.1 in omega (arith, n, h);
-  }
+  few_parts known =
+      let n = own_each in
+      let h = known.limits.counts in
+      record { exams = omega arith; periods = omega arith; rooms = omega arith }
 
 -- ---- numbers and amounts
 
-each_student : (P : ℕ → Type 0) (rows : List SeatRow)
+-- a fact of numbers holds for them in order, each once
+pub each_sorted : (P : ℕ → Type 0) (ss : List ℕ) → AllByRecursion P ss
+    → AllByRecursion P (sorted_numbers ss)
+each_sorted P [] a = tt
+each_sorted P (s ∷ ss) a = each_with P s (sorted_numbers ss) a.0 (each_sorted P ss a.1)
+
+-- a fact of each row's student
+pub each_student : (P : ℕ → Type 0) (rows : List SeatRow)
     → AllByRecursion (λ (row : SeatRow). P row.student) rows → AllByRecursion P (students_of rows)
-each_student P [] a = tt
-each_student P (row ∷ rows) a =
-    each_with P row.student (students_of rows) a.0 (each_student P rows a.1)
+each_student P rows a =
+    each_sorted P (map (λ (row : SeatRow). row.student) rows)
+    (each_map P (λ (row : SeatRow). row.student) rows a)
 
 both : (f : ℕ → PersonalPenalty) (xs : List ℕ) → AllByRecursion (λ s. s ≤ 999999999) xs
     → AllByRecursion (λ (share : ℕ × PersonalPenalty). personal_total share.1 < 2 ^ 62)
@@ -67,10 +68,7 @@ both f (x ∷ xs) a b = (record { student = a.0; total = b.0 }, both f xs a.1 b.
 
 pub small : (I : Session) (p : Publication) → IsInstance I → HasPlacesAndSeats I p
     → AreSmall (shares_of I p.rows p.timetable)
-small I p known has =
-    published_small I p.rows p.timetable
-    (shares_of I p.rows p.timetable) known has.rows has.numbered
-    (adds_up I p.rows p.timetable known has.rows has.numbered)
+small I p known has = search (rules, published_small, adds_up)
 
 pub are_personal : (I : Session) (p : Publication) → IsInstance I → HasPlacesAndSeats I p
     → All IsShare (student_shares I p.rows)
@@ -83,112 +81,112 @@ are_personal I p known has =
     (recursion_from_All (λ (share : ℕ × PersonalPenalty). personal_total share.1 < 2 ^ 62)
     (student_shares I p.rows) (small I p known has).students))
 
--- ---- rows of no publication
+-- ---- from rows to shares
 
--- no publication has these rows
-abbrev pub AreOfNone : Session → List StudentShareRow → List PartShareRow → Type 0
-AreOfNone I students parts =
-    (p : Publication) → IsPublication I p → AreShared I (Some p) students parts → ⊥
+-- the shares that were read, part by part
+pub record AreRead (I : Session) (students : List StudentShareRow) (rows : List PartShareRow)
+    (shares : Sharing) : Type 0 where
+  pub count : length rows ≡ length I.exams + length I.periods + length I.rooms
+  pub personal : map student_share_row shares.students ≡ students
+  pub of_exams : plain_rows 0 0 shares.exams ≡ take (length I.exams) rows
+  pub of_periods : plain_rows 1 0 shares.periods
+      ≡ take (length I.periods) (drop (length I.exams) rows)
+  pub of_rooms : room_rows 0 shares.rooms ≡ drop (length I.periods) (drop (length I.exams) rows)
 
--- the rows of a publication in their orders
-pub in_order : (I : Session) (p : Publication) (students sorted : List StudentShareRow)
-    (parts rows : List PartShareRow)
+-- each exam, period and room has one share
+pub each_has : (I : Session) (sorted : List StudentShareRow) (rows : List PartShareRow)
+    (shares : Sharing) → AreRead I sorted rows shares → HasShareOfEach I shares
+each_has I sorted rows shares read =
+    let others = drop (length I.exams) rows in
+    let after = length-drop (length I.exams) rows in
+    let count = read.count in
+    record {
+      exams = omega (
+        arith,
+        length-rows (plain_are 0) 0 shares.exams,
+        ap length read.of_exams,
+        length-take (length I.exams) rows,
+      );
+      periods = omega (
+        arith,
+        length-rows (plain_are 1) 0 shares.periods,
+        ap length read.of_periods,
+        length-take (length I.periods) others,
+      );
+      rooms = omega (
+        arith,
+        length-rows rooms_are 0 shares.rooms,
+        ap length read.of_rooms,
+        length-drop (length I.periods) others,
+      );
+    }
+
+-- the rows of a publication in their orders are those of its shares
+pub own_read : {I : Session} {p : Publication} {students sorted : List StudentShareRow}
+    {parts rows : List PartShareRow}
     → ((shares : List (ℕ × PersonalPenalty))
     → IsAscending (map (λ (share : ℕ × PersonalPenalty). share.0) shares)
     → IsPermutation students (map student_share_row shares)
     → sorted ≡ map student_share_row shares)
     → ((shares : Sharing) → IsPermutation parts (part_rows shares) → rows ≡ part_rows shares)
     → AreShared I (Some p) students parts
-    → (sorted ≡ map student_share_row (student_shares I p.rows))
-    × (rows ≡ part_rows (shares_of I p.rows p.timetable))
-in_order I p students sorted parts rows only_students only_parts shared = (
-  only_students (student_shares I p.rows) (shares_ascend I p.rows) shared.of_students,
-  only_parts (shares_of I p.rows p.timetable) shared.of_parts,
-)
+    → AreRead I sorted rows (shares_of I p.rows p.timetable)
+own_read {I} {p} {rows = rows} only_students only_parts shared = record {
+  count = omega (
+    arith,
+    ap length same,
+    length-append of_exams (of_periods ++ of_rooms),
+    length-append of_periods of_rooms,
+    exams,
+    periods,
+    length-rows rooms_are 0 whole.rooms,
+    each.rooms,
+  );
+  personal = sym (only_students (student_shares I p.rows) (shares_ascend I p.rows)
+      shared.of_students);
+  of_exams = sym (ap (take (length I.exams)) same ∙ take_at of_exams _ _ exams);
+  of_periods = sym (ap (take (length I.periods)) others ∙ take_at of_periods _ _ periods);
+  of_rooms = sym (ap (drop (length I.periods)) others ∙ drop_at of_periods _ _ periods);
+}
+  where
+    whole : Sharing
+    whole = shares_of I p.rows p.timetable
 
--- ---- from rows to shares
+    of_exams : List PartShareRow
+    of_exams = plain_rows 0 0 whole.exams
 
--- the shares that were read, part by part
-pub record AreRead (students : List StudentShareRow) (rows : List PartShareRow) (exams periods : ℕ)
-    (shares : Sharing) : Type 0 where
-  pub personal : map student_share_row shares.students ≡ students
-  pub of_exams : plain_rows 0 0 shares.exams ≡ take exams rows
-  pub of_periods : plain_rows 1 0 shares.periods ≡ take periods (drop exams rows)
-  pub of_rooms : room_rows 0 shares.rooms ≡ drop periods (drop exams rows)
+    of_periods : List PartShareRow
+    of_periods = plain_rows 1 0 whole.periods
 
--- each exam, period and room has one share
-pub each_has : (I : Session) (sorted : List StudentShareRow) (rows : List PartShareRow)
-    (shares : Sharing) → length rows ≡ length I.exams + length I.periods + length I.rooms
-    → AreRead sorted rows (length I.exams) (length I.periods) shares → HasShareOfEach I shares
-each_has I sorted rows shares count read =
-    let others = drop (length I.exams) rows in
-    let after = length-drop (length I.exams) rows in
-    record {
-      exams = omega (
-        arith,
-        length-plain 0 0 shares.exams,
-        ap length read.of_exams,
-        length-take (length I.exams) rows,
-        count,
-      );
-      periods = omega (
-        arith,
-        length-plain 1 0 shares.periods,
-        ap length read.of_periods,
-        length-take (length I.periods) others,
-        after,
-        count,
-      );
-      rooms = omega (
-        arith,
-        length-rooms 0 shares.rooms,
-        ap length read.of_rooms,
-        length-drop (length I.periods) others,
-        after,
-        count,
-      );
-    }
+    of_rooms : List PartShareRow
+    of_rooms = room_rows 0 whole.rooms
 
-module _ (I : Session) (p : Publication) (sorted : List StudentShareRow)
-    (rows : List PartShareRow)
-    (of_students : sorted ≡ map student_share_row (student_shares I p.rows))
-    (of_parts : rows ≡ part_rows (shares_of I p.rows p.timetable)) where
-  abbrev whole : Sharing
-  whole = shares_of I p.rows p.timetable
+    each : HasShareOfEach I whole
+    each = own_each I p.rows p.timetable
 
-  pub exam_rows : take (length I.exams) rows ≡ plain_rows 0 0 whole.exams
-  exam_rows =
-      exam_part whole rows of_parts (length I.exams) (length I.periods)
-      (count_exams I p.rows p.timetable) (count_periods I p.rows p.timetable)
+    same : rows ≡ part_rows whole
+    same = only_parts whole shared.of_parts
 
-  pub period_rows : take (length I.periods) (drop (length I.exams) rows)
-      ≡ plain_rows 1 0 whole.periods
-  period_rows =
-      period_part whole rows of_parts (length I.exams) (length I.periods)
-      (count_exams I p.rows p.timetable) (count_periods I p.rows p.timetable)
+    exams : length of_exams ≡ length I.exams
+    exams = length-rows (plain_are 0) 0 whole.exams ∙ each.exams
 
-  pub rooms_rows : drop (length I.periods) (drop (length I.exams) rows) ≡ room_rows 0 whole.rooms
-  rooms_rows =
-      room_part whole rows of_parts (length I.exams) (length I.periods)
-      (count_exams I p.rows p.timetable) (count_periods I p.rows p.timetable)
+    periods : length of_periods ≡ length I.periods
+    periods = length-rows (plain_are 1) 0 whole.periods ∙ each.periods
 
-  pub as_long : length rows ≡ length I.exams + length I.periods + length I.rooms
-  as_long =
-      let n = long whole rows of_parts in
-      let e = count_exams I p.rows p.timetable in
-      let q = count_periods I p.rows p.timetable in
-      let r = count_rooms I p.rows p.timetable in
-      omega (arith, n, e, q, r)
+    others : drop (length I.exams) rows ≡ of_periods ++ of_rooms
+    others = ap (drop (length I.exams)) same ∙ drop_at of_exams _ _ exams
 
-  pub only_shares : (shares : Sharing)
-      → AreRead sorted rows (length I.exams) (length I.periods) shares → shares ≡ whole
-  only_shares shares read =
-      parts
-      (same_shares shares.students whole.students (read.personal ∙ of_students))
-      (same_plain 0 0 shares.exams whole.exams (read.of_exams ∙ exam_rows))
-      (same_plain 1 0 shares.periods whole.periods (read.of_periods ∙ period_rows))
-      (same_rooms 0 shares.rooms whole.rooms (read.of_rooms ∙ rooms_rows))
-    where
-      parts : shares.students ≡ whole.students → shares.exams ≡ whole.exams
-          → shares.periods ≡ whole.periods → shares.rooms ≡ whole.rooms → shares ≡ whole
-      parts a b c d = λ i. record { students = a i; exams = b i; periods = c i; rooms = d i }
+-- rows are those of one list of shares
+pub one_read : {I : Session} {students : List StudentShareRow} {rows : List PartShareRow}
+    {shares others : Sharing} → AreRead I students rows shares → AreRead I students rows others
+    → shares ≡ others
+one_read {shares = a} {others = b} is also = λ i. record {
+  students = same_back student_share_row share_back (λ x. refl) a.students b.students
+      (is.personal ∙ sym also.personal) i;
+  exams = rows_same (plain_are 0) (λ (row : PartShareRow). row.penalty) (λ n x. refl) 0 a.exams
+      b.exams (is.of_exams ∙ sym also.of_exams) i;
+  periods = rows_same (plain_are 1) (λ (row : PartShareRow). row.penalty) (λ n x. refl) 0
+      a.periods b.periods (is.of_periods ∙ sym also.of_periods) i;
+  rooms = rows_same rooms_are room_share_back (λ n x. refl) 0 a.rooms b.rooms
+      (is.of_rooms ∙ sym also.of_rooms) i;
+}

@@ -1,8 +1,7 @@
-use Rattle.std.proofs.Common.{◌∙◌, Some, arith, sym, subst}
+use Rattle.std.proofs.Common.{◌∙◌, Some, sym, subst}
 use Rattle.std.proofs.lemmas.List.{length-set, take_all}
 use Rattle.std.proofs.lemmas.Result.{err_from_is_err_and}
-use Rattle.office_records.proofs.DraftRowLemmas.{Begun, begun_none, begun_next, begun_all}
-use Rattle.office_records.proofs.DraftRowLemmas.{each_slot, next_row, scored_row}
+use Rattle.office_records.proofs.DraftRowLemmas.{Begun, begun_none, begun_next, begun_all, each_slot, next_row, scored_row}
 use Rattle.office_records.proofs.drafts.drafts_of.Goals as goal
 
 pub rows-init : goal.rows-init

@@ -2,7 +2,7 @@ use Rattle.std.proofs.Common.{get_or, subst, arith}
 use Rattle.std.proofs.lemmas.List.{take_all}
 use Rattle.office_records.specs.Found.{AreOwners}
 use Rattle.office_records.specs.NextRow.{IsFirstOwner}
-use Rattle.office_records.proofs.OwnerRowLemmas.{owner_first_at, owners_named}
+use Rattle.office_records.proofs.OwnerRowLemmas.{owner_first, owners_named}
 use Rattle.office_records.proofs.ResultLemmas.{nothing_has}
 use Rattle.office_records.proofs.owners.check_owners.Goals as goal
 
@@ -16,7 +16,7 @@ returns-in_err-note_owner-clause-none c =
     = subst (λ l. IsFirstOwner l row → ⊥) c.deref_mut.ensures.value
     c.in_err-note_owner.ensures.refused in
     nothing_has _ (AreOwners I rows) (λ owner_of owners. refused
-    (owner_first_at I rows c.loop-row.row-index _ c.loop-row.departments.items owner_of
+    (owner_first I rows c.loop-row.row-index _ c.loop-row.departments.items owner_of
     c.loop-row-test.true c.loop-row.invariant owners))
 
 -- all rows are named

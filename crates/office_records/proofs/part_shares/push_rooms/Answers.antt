@@ -1,16 +1,16 @@
 use Rattle.std.proofs.Common.{ℕ, [], ◌∷◌, ◌++◌, get_or, ap, ◌∙◌}
 use Rattle.office_tables.specs.declared.share_part.PartShareRow.{PartShareRow}
-use Rattle.office_records.proofs.PartRowLemmas.{no_share, room_added}
+use Rattle.office_records.proofs.NumberedLemmas.{rows_added}
+use Rattle.office_records.proofs.PartRowLemmas.{no_share, rooms_are}
 use Rattle.office_records.proofs.part_shares.push_rooms.Goals as goal
 
 pub shares-preserved : goal.shares-preserved
 shares-preserved c =
-    let shares = c.args.shares.now in
     let at = c.shares.at in
     let rows = c.shares.rows.items in
-    let share = get_or shares at no_share in
+    let share = get_or c.args.shares.now at no_share in
     let row : ℕ → PartShareRow
     = λ k. record { kind = k; no = at; penalty = share.penalty; mixed = share.mixed } in
-    room_added shares at no_share c.args.rows.now.items rows c.push.new.self.items
-    c.shares-test.true c.shares.invariant
+    rows_added rooms_are c.args.shares.now at no_share c.args.rows.now.items rows
+    c.push.new.self.items c.shares-test.true c.shares.invariant
     (c.in_ok-push.ensures.items ∙ ap (λ (k : ℕ). rows ++ row k ∷ []) c.number.ensures)

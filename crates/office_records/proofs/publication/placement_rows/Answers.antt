@@ -1,8 +1,9 @@
 use Rattle.std.proofs.Common.{ℕ, ◌<◌, ◌++◌, List, [], ◌∷◌, Global, Vec, length, sym, ◌∙◌, ap, ap₂, arith}
+use Rattle.std.proofs.lemmas.List.{append-nil}
 use Rattle.exam_model.specs.Timetable.{place_of}
 use Rattle.office_tables.specs.declared.placed.PlacedRow.{PlacedRow}
 use Rattle.office_records.specs.Publications.{placed_row}
-use Rattle.office_records.proofs.PlacedRowLemmas.{placed_more, placed_same}
+use Rattle.office_records.proofs.PlacedRowLemmas.{placed_next}
 use Rattle.office_records.proofs.publication.placement_rows.Goals as goal
 use Rattle.office_records.proofs.publication.placement_rows.Goals.{in-Some+in_ok-push, in_default}
 
@@ -22,8 +23,8 @@ exams-preserved c =
           ∙ ap₂ (λ p r. c.exams.rows.items ++ row p r ∷ []) w.get-in-Some.ensures
           w.get-in-Some-2.ensures
           ∙ ap (λ l. l ++ placed_row e w.in-Some.place ∷ []) c.exams.invariant
-          ∙ sym (placed_more e T within w.in-Some.place (is_known ∙ w.in-Some.is)))
+          ∙ sym (placed_next e T within _ (is_known ∙ w.in-Some.is)))
       | in_default w ↦
           ap items w.rows-is ∙ c.exams.invariant
-          ∙ sym (placed_same e T within (is_known ∙ w.in_default.is))
+          ∙ sym (placed_next e T within _ (is_known ∙ w.in_default.is) ∙ append-nil _)
     ]

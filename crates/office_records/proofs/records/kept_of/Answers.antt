@@ -1,5 +1,4 @@
-use Rattle.std.proofs.Common.{◌≡◌, ◌↔◌, ℕ, Bool, false, List, map, IsTrue, Result, Ok, Err, Some, None, sym}
-use Rattle.std.proofs.Common.{◌∙◌, subst}
+use Rattle.std.proofs.Common.{◌≡◌, ◌↔◌, ℕ, Bool, false, List, map, IsTrue, Result, Ok, Err, Some, None, sym, ◌∙◌, subst}
 use Rattle.std.specs.Prelude.{IfErr, Option}
 use Rattle.std.specs.Result.{IsErrAnd}
 use Rattle.exam_model.specs.Enrolments.{Enrolled}
@@ -16,14 +15,13 @@ use Rattle.office_records.specs.FoundBatches.{AreBatchRows}
 use Rattle.office_records.specs.FoundPublications.{publication_from}
 use Rattle.office_records.specs.Memory.{AreScoredDrafts}
 use Rattle.office_records.specs.declared.drafts.Draft.{Draft}
-use Rattle.office_model.specs.Office.{OfficeState, Records, AreRecords, IsOffice}
-use Rattle.office_records.specs.Representation.{IsSound, TablesRepresentOffice, TablesRepresentRecords}
+use Rattle.office_model.specs.Office.{OfficeState, Records, IsOffice}
+use Rattle.office_records.specs.Representation.{IsSound, TablesRepresentOffice}
 use Rattle.office_records.specs.declared.fault.RecordFault.{RecordFault}
 use Rattle.office_records.specs.declared.fault.RecordFault.TheVariants.{BadRows}
 use Rattle.office_records.proofs.DraftRowLemmas.{drafts_suited}
-use Rattle.office_records.proofs.RecordLemmas.{draft_rows, enrol_rows, kept_rows, office_of}
-use Rattle.office_records.proofs.RecordLemmas.{nothing_loaded, owner_rows, published_rows}
-use Rattle.office_records.proofs.RecordLemmas.{unloaded as unloaded_found}
+use Rattle.office_records.proofs.FoundLemmas.{of_same}
+use Rattle.office_records.proofs.RecordLemmas.{AreRowsOfOffice, draft_rows, enrol_rows, kept_rows, office_of, nothing_loaded, owner_rows, published_rows, unloaded as unloaded_found}
 use Rattle.office_records.proofs.records.kept_of.Goals as goal
 
 -- the drafts in memory are those of these rows
@@ -40,15 +38,13 @@ RepresentsNone found =
     → IsOffice office → ⊥
 
 -- the rows are neither an office with a session nor one without
-refused : {X : Type 0} (found : Found) (unloaded : Bool) (fault : RecordFault)
-    (r : Result X RecordFault)
-    → (IsTrue unloaded ↔ IsUnloaded found) → unloaded ≡ false → IsErrAnd r (λ e. e ≡ fault)
-    → (fault ≡ BadRows → (batches : List Batch) → map counts_of batches ≡ found.batches.items
-    → (r : Records) → TablesRepresentRecords (tables_of found batches) r
-    → IsSound (tables_of found batches) (Some r) → AreRecords r → ⊥)
+refused : {X : Type 0} {found : Found} {unloaded : Bool} (fault : RecordFault)
+    (r : Result X RecordFault) → (IsTrue unloaded ↔ IsUnloaded found) → unloaded ≡ false
+    → IsErrAnd r (λ e. e ≡ fault)
+    → (fault ≡ BadRows → (r : Records) → AreRowsOfOffice found r → ⊥)
     → IfErr r (λ e. e ≡ BadRows → RepresentsNone found)
-refused found unloaded fault (Ok x) empty is same none = tt
-refused found unloaded fault (Err e) empty is same none =
+refused fault (Ok x) empty is same none = tt
+refused {found = found} fault (Err e) empty is same none =
     λ bad batches rows o. each batches rows o bad
   where
     each : (batches : List Batch) → map counts_of batches ≡ found.batches.items
@@ -57,70 +53,58 @@ refused found unloaded fault (Err e) empty is same none =
     each batches rows None bad represents sound office =
         let was = empty.1 (unloaded_found found batches rows represents) in absurd cc
     each batches rows (Some r) bad represents sound office =
-        none (sym same ∙ bad) batches rows r represents sound office
+        none (sym same ∙ bad) r (record {
+          batches = batches;
+          counts = rows;
+          represents = represents;
+          sound = sound;
+          is = office;
+        })
 
 pub returns-in_err-check_owners-clause-none : goal.returns-in_err-check_owners-clause-none
 returns-in_err-check_owners-clause-none c =
-    let found = c.args.found.now in
     let none = c.in_err-check_owners.ensures.none in
-    refused found c.is_unloaded.result c.in_err-check_owners.field-0.0
-    c.from_residual-in_err-check_owners.result c.is_unloaded.ensures c.if-is_unloaded.false
-    c.from_residual-in_err-check_owners.ensures.1
-    (λ bad batches same r represents sound is. none bad r.owner_of
+    refused c.in_err-check_owners.field-0.0 c.from_residual-in_err-check_owners.result
+    c.is_unloaded.ensures c.if-is_unloaded.false c.from_residual-in_err-check_owners.ensures.1
+    (λ bad r of. none bad r.owner_of
     (subst (λ rows. AreOwners c.in_ok-instance.instance rows r.owner_of) (sym c.deref.ensures.value)
-    (owner_rows found batches r represents sound is c.in_ok-instance.instance
-    c.in_ok-instance.ensures.is)))
+    (owner_rows of c.in_ok-instance.ensures.is)))
 
 pub returns-in_err-enrolments-clause-none : goal.returns-in_err-enrolments-clause-none
 returns-in_err-enrolments-clause-none c =
-    let found = c.args.found.now in
     let none = c.in_err-enrolments.ensures.none in
-    refused found c.is_unloaded.result c.in_err-enrolments.field-0.0
-    c.from_residual-in_err-enrolments.result c.is_unloaded.ensures c.if-is_unloaded.false
-    c.from_residual-in_err-enrolments.ensures.1
-    (λ bad batches same r represents sound is. none bad r.enrolments
+    refused c.in_err-enrolments.field-0.0 c.from_residual-in_err-enrolments.result
+    c.is_unloaded.ensures c.if-is_unloaded.false c.from_residual-in_err-enrolments.ensures.1
+    (λ bad r of. none bad r.enrolments
     (subst (λ rows. AreEnrolRows c.in_ok-instance.instance rows r.enrolments)
-    (sym c.deref-2.ensures.value)
-    (enrol_rows found batches r represents sound is c.in_ok-instance.instance
-    c.in_ok-instance.ensures.is)))
+    (sym c.deref-2.ensures.value) (enrol_rows of c.in_ok-instance.ensures.is)))
 
 pub returns-in_err-drafts-clause-none : goal.returns-in_err-drafts-clause-none
 returns-in_err-drafts-clause-none c =
-    let found = c.args.found.now in
     let I = c.in_ok-instance.instance in
     let E = c.in_ok-enrolments.enrolments in
     let none = c.in_err-drafts.ensures.none in
     let enrolled = subst (λ rows. AreEnrolRows I rows E) c.deref-2.ensures.value
     c.in_ok-enrolments.ensures.are in
-    refused found c.is_unloaded.result c.in_err-drafts.field-0.0
-    c.from_residual-in_err-drafts.result c.is_unloaded.ensures c.if-is_unloaded.false
-    c.from_residual-in_err-drafts.ensures.1
-    (λ bad batches same r represents sound is. none bad r.draft
-    (subst (λ rows. AreDrafts I E rows c.deref-4.result.now r.draft) (sym c.deref-3.ensures.value)
-    (subst (λ rows. AreDrafts I E found.drafts.items rows r.draft) (sym c.deref-4.ensures.value)
-    (draft_rows found batches r represents sound is I c.in_ok-instance.ensures.is E enrolled))))
+    refused c.in_err-drafts.field-0.0 c.from_residual-in_err-drafts.result
+    c.is_unloaded.ensures c.if-is_unloaded.false c.from_residual-in_err-drafts.ensures.1
+    (λ bad r of. none bad r.draft
+    (of_same (λ rows slots. AreDrafts I E rows slots r.draft) (sym c.deref-3.ensures.value)
+    (sym c.deref-4.ensures.value) (draft_rows of c.in_ok-instance.ensures.is E enrolled)))
 
 pub returns-in_err-published-clause-none : goal.returns-in_err-published-clause-none
 returns-in_err-published-clause-none c =
-    let found = c.args.found.now in
     let none = c.in_err-published.ensures.none in
-    refused found c.is_unloaded.result c.in_err-published.field-0.0
-    c.from_residual-in_err-published.result c.is_unloaded.ensures c.if-is_unloaded.false
-    c.from_residual-in_err-published.ensures.1
-    (λ bad batches same r represents sound is. none bad r.published
-    (published_rows found batches r represents sound is c.in_ok-instance.instance
-    c.in_ok-instance.ensures.is))
+    refused c.in_err-published.field-0.0 c.from_residual-in_err-published.result
+    c.is_unloaded.ensures c.if-is_unloaded.false c.from_residual-in_err-published.ensures.1
+    (λ bad r of. none bad r.published (published_rows of c.in_ok-instance.ensures.is))
 
 pub returns-in_err-check_batches-clause-none : goal.returns-in_err-check_batches-clause-none
 returns-in_err-check_batches-clause-none c =
-    let found = c.args.found.now in
     let none : AreBatchRows c.deref-5.result.now → ⊥ = c.in_err-check_batches.ensures.none in
-    refused found c.is_unloaded.result c.in_err-check_batches.field-0.0
-    c.from_residual-in_err-check_batches.result c.is_unloaded.ensures c.if-is_unloaded.false
-    c.from_residual-in_err-check_batches.ensures.1
-    (λ bad batches same r represents sound is. none
-    (subst AreBatchRows (sym c.deref-5.ensures.value)
-    (kept_rows found batches r represents sound is same)))
+    refused c.in_err-check_batches.field-0.0 c.from_residual-in_err-check_batches.result
+    c.is_unloaded.ensures c.if-is_unloaded.false c.from_residual-in_err-check_batches.ensures.1
+    (λ bad r of. none (subst AreBatchRows (sym c.deref-5.ensures.value) (kept_rows of)))
 
 pub returns-clause-are : goal.returns-clause-are
 returns-clause-are c batches these =
@@ -132,10 +116,8 @@ returns-clause-are c batches these =
     c.in_ok-check_owners.ensures.are)
     (subst (λ rows. AreEnrolRows I rows E) c.deref-2.ensures.value c.in_ok-enrolments.ensures.are)
     c.in_ok-drafts.drafts
-    (subst (λ rows. Drafted I E found.drafts.items rows c.in_ok-drafts.drafts)
-    c.deref-4.ensures.value
-    (subst (λ rows. Drafted I E rows c.deref-4.result.now c.in_ok-drafts.drafts)
-    c.deref-3.ensures.value c.in_ok-drafts.ensures.are))
+    (of_same (λ rows slots. Drafted I E rows slots c.in_ok-drafts.drafts) c.deref-3.ensures.value
+    c.deref-4.ensures.value c.in_ok-drafts.ensures.are)
     (publication_from c.in_ok-published.published) c.in_ok-published.ensures.are
     (subst AreBatchRows c.deref-5.ensures.value c.in_ok-check_batches.ensures.are) these
 

@@ -1,5 +1,4 @@
-use Rattle.std.proofs.Common.{◌∙◌, ap₂, subst, sym}
-use Rattle.exam_publish.specs.Changed.{changed_students}
+use Rattle.std.proofs.Common.{◌∙◌, subst, sym}
 use Rattle.exam_publish.specs.Rows.{RowsInOrder}
 use Rattle.office_records.proofs.RepublicationLemmas.{timed_in_order}
 use Rattle.office_records.proofs.retimed.retimed_students.Goals as goal

@@ -1,9 +1,9 @@
-use Rattle.std.proofs.Common.{◌≡◌, ◌≢◌, ℕ, Bool, true, false, not, ◌&&◌, List, [], ◌∷◌, Result, Ok}
-use Rattle.std.proofs.Common.{Err, refl, sym, ◌∙◌, ap, ap₂, subst, nat_eq}
+use Rattle.std.proofs.Common.{◌≡◌, ◌≢◌, true, Result, Ok, Err, sym, ◌∙◌, ap, subst, nat_eq}
 use Rattle.std.specs.Prelude.{IfErr}
 use Rattle.std.specs.Cmp.Lexicographic.{pointwise}
 use Rattle.std.specs.Result.{IsErrAnd}
-use Rattle.std.proofs.lemmas.Bool.{and_parts, eq-eqb, eqb-true}
+use Rattle.std.proofs.lemmas.Bool.{both_ways}
+use Rattle.exam_lists.proofs.Booleans.{false_from_not, true_from_not}
 use Rattle.exam_lists.proofs.Tests.{pointwise_itself, same_pointwise}
 use Rattle.exam_model.specs.Instance.{Session}
 use Rattle.office_files.specs.declared.fault.FaultKind.TheVariants.{NoMemory}
@@ -30,16 +30,6 @@ refused m fault (Err e) named reads = λ bad I is.
     no_rows : BadRows ≡ text_fault NoMemory → ⊥
     no_rows same = absurd cc
 
-not_other : (xs ys : List ℕ) (other : Bool) → other ≡ not (pointwise nat_eq xs ys) → other ≡ true
-    → xs ≡ ys → ⊥
-not_other xs ys other tested is_known same =
-    let equal : pointwise nat_eq xs ys ≡ true
-    = subst (λ zs. pointwise nat_eq xs zs ≡ true) same (pointwise_itself xs) in
-    absurd (clash (sym is_known ∙ tested ∙ ap not equal))
-  where
-    clash : true ≡ false → ⊥
-    clash e = absurd cc
-
 pub returns-in_err-instance-clause-none : goal.returns-in_err-instance-clause-none
 returns-in_err-instance-clause-none c =
     let fault = c.in_err-instance.field-0.0 in
@@ -56,26 +46,17 @@ returns-then-ne-clause-none c bad I is =
     c.in_ok-instance.ensures.exact in
     let same : J ≡ I = row_of m J I _ read is in
     let row : session_text J ≡ m.instance = ap session_text same ∙ sym is.text in
-    not_other c.as_slice.result.now c.as_slice-2.result.now c.ne.result c.ne.ensures c.if-ne.true
-    (c.as_slice.ensures.value ∙ c.in_ok-text.ensures.text ∙ row ∙ sym c.as_slice-2.ensures.value)
-
-clash : true ≡ false → ⊥
-clash e = absurd cc
-
-no_other : (xs ys : List ℕ) (other : Bool) → other ≡ not (pointwise nat_eq xs ys)
-    → other ≡ false → xs ≡ ys
-no_other xs ys other tested is = same_pointwise xs ys (equal (pointwise nat_eq xs ys) (sym is ∙ tested))
-  where
-    equal : (b : Bool) → false ≡ not b → b ≡ true
-    equal true e = refl
-    equal false e = absurd (clash (sym e))
+    let texts = c.as_slice.ensures.value ∙ c.in_ok-text.ensures.text ∙ row
+    ∙ sym c.as_slice-2.ensures.value in
+    both_ways _ (false_from_not c.ne.result _ c.ne.ensures c.if-ne.true)
+    (subst (λ l. pointwise nat_eq c.as_slice.result.now l ≡ true) texts
+    (pointwise_itself c.as_slice.result.now))
 
 -- the text that was read is the session's own
 pub returns-clause-is : goal.returns-clause-is
 returns-clause-is c =
-    let same : c.as_slice.result.now ≡ c.as_slice-2.result.now
-    = no_other c.as_slice.result.now c.as_slice-2.result.now c.ne.result c.ne.ensures c.if-ne.false
-    in
+    let same = same_pointwise c.as_slice.result.now c.as_slice-2.result.now
+    (true_from_not c.ne.result _ c.ne.ensures c.if-ne.false) in
     record {
       session = c.in_ok-text.ensures.instance;
       text = sym c.as_slice-2.ensures.value ∙ sym same ∙ c.as_slice.ensures.value

@@ -3,102 +3,63 @@ use Rattle.exam_publish.specs.Shares.{shares_of, student_shares}
 use Rattle.office_records.specs.PartShares.{HasShareOfEach}
 use Rattle.office_records.proofs.PublicationLemmas.{has_places_and_seats}
 use Rattle.office_records.proofs.ResultLemmas.{passed_on}
-use Rattle.office_records.proofs.SharesLemmas.{AreOfNone, are_personal, as_long, each_has, exam_rows, in_order, only_shares, period_rows, rooms_rows}
+use Rattle.office_records.proofs.SharesLemmas.{are_personal, each_has, one_read, own_read}
 use Rattle.office_records.proofs.shares.shares_of.Goals as goal
 
 pub returns-then-len-exams-clause-none : goal.returns-then-len-exams-clause-none
 returns-then-len-exams-clause-none c _ p is shared =
-    let I = c.args.instance.now in
-    let sorted = c.in_ok-students.students.items in
-    let rows = c.in_ok-parts.parts.items in
-    let own = in_order I p c.args.students.now sorted c.args.parts.now rows
-    c.in_ok-students.ensures.only c.in_ok-parts.ensures.only shared in
-    let long = as_long I p sorted rows own.0 own.1 in
-    let exams = c.exams-exams.ensures.count in
-    let periods = c.periods-periods.ensures.count in
-    let rooms = c.rooms-rooms.ensures.count in
-    absurd (omega (arith, long, exams, periods, rooms, c.len.ensures))
+    let own = own_read c.in_ok-students.ensures.only c.in_ok-parts.ensures.only shared in
+    absurd (omega (
+      arith,
+      own.count,
+      c.exams-exams.ensures.count,
+      c.periods-periods.ensures.count,
+      c.rooms-rooms.ensures.count,
+      c.len.ensures,
+    ))
 
 pub returns-in_err-personal-clause-none : goal.returns-in_err-personal-clause-none
 returns-in_err-personal-clause-none c =
     let I = c.args.instance.now in
-    let students = c.args.students.now in
-    let parts = c.args.parts.now in
-    let sorted = c.in_ok-students.students.items in
-    let rows = c.in_ok-parts.parts.items in
-    passed_on c.from_residual-in_err-personal.result c.in_err-personal.field-0.0
-    (AreOfNone I students parts) c.from_residual-in_err-personal.ensures.1
+    passed_on c.from_residual-in_err-personal.result c.in_err-personal.field-0.0 _
+    c.from_residual-in_err-personal.ensures.1
     (λ bad p is shared.
-    let own = in_order I p students sorted parts rows c.in_ok-students.ensures.only
-    c.in_ok-parts.ensures.only shared in
+    let own = own_read c.in_ok-students.ensures.only c.in_ok-parts.ensures.only shared in
     c.in_err-personal.ensures.none bad (student_shares I p.rows)
     (are_personal I p c.exams-exams.ensures.kept (has_places_and_seats I p is))
-    (sym own.0 ∙ sym c.deref.ensures.value))
+    (own.personal ∙ sym c.deref.ensures.value))
 
 pub returns-in_err-exam_shares-clause-none : goal.returns-in_err-exam_shares-clause-none
 returns-in_err-exam_shares-clause-none c =
-    let I = c.args.instance.now in
-    let students = c.args.students.now in
-    let parts = c.args.parts.now in
-    let sorted = c.in_ok-students.students.items in
-    let rows = c.in_ok-parts.parts.items in
-    let front : c.split_at.result.0.now ≡ take (length I.exams) rows
-    = c.split_at.ensures.front ∙ ap₂ take c.exams-exams.ensures.count c.deref-2.ensures.value in
-    passed_on c.from_residual-in_err-exam_shares.result c.in_err-exam_shares.field-0.0
-    (AreOfNone I students parts) c.from_residual-in_err-exam_shares.ensures.1
+    passed_on c.from_residual-in_err-exam_shares.result c.in_err-exam_shares.field-0.0 _
+    c.from_residual-in_err-exam_shares.ensures.1
     (λ bad p is shared.
-    let own = in_order I p students sorted parts rows c.in_ok-students.ensures.only
-    c.in_ok-parts.ensures.only shared in
-    c.in_err-exam_shares.ensures.none bad (shares_of I p.rows p.timetable).exams
-    (sym (front ∙ exam_rows I p sorted rows own.0 own.1)))
+    let own = own_read c.in_ok-students.ensures.only c.in_ok-parts.ensures.only shared in
+    c.in_err-exam_shares.ensures.none bad
+    (shares_of c.args.instance.now p.rows p.timetable).exams (let are = own.of_exams in cc))
 
 pub returns-in_err-period_shares-clause-none : goal.returns-in_err-period_shares-clause-none
 returns-in_err-period_shares-clause-none c =
-    let I = c.args.instance.now in
-    let students = c.args.students.now in
-    let parts = c.args.parts.now in
-    let sorted = c.in_ok-students.students.items in
-    let rows = c.in_ok-parts.parts.items in
-    let back : c.split_at.result.1.now ≡ drop (length I.exams) rows
-    = c.split_at.ensures.back ∙ ap₂ drop c.exams-exams.ensures.count c.deref-2.ensures.value in
-    let front : c.split_at-2.result.0.now ≡ take (length I.periods) (drop (length I.exams) rows)
-    = c.split_at-2.ensures.front ∙ ap₂ take c.periods-periods.ensures.count back in
-    passed_on c.from_residual-in_err-period_shares.result c.in_err-period_shares.field-0.0
-    (AreOfNone I students parts) c.from_residual-in_err-period_shares.ensures.1
+    passed_on c.from_residual-in_err-period_shares.result c.in_err-period_shares.field-0.0 _
+    c.from_residual-in_err-period_shares.ensures.1
     (λ bad p is shared.
-    let own = in_order I p students sorted parts rows c.in_ok-students.ensures.only
-    c.in_ok-parts.ensures.only shared in
-    c.in_err-period_shares.ensures.none bad (shares_of I p.rows p.timetable).periods
-    (sym (front ∙ period_rows I p sorted rows own.0 own.1)))
+    let own = own_read c.in_ok-students.ensures.only c.in_ok-parts.ensures.only shared in
+    c.in_err-period_shares.ensures.none bad
+    (shares_of c.args.instance.now p.rows p.timetable).periods (let are = own.of_periods in cc))
 
 pub returns-in_err-room_shares-clause-none : goal.returns-in_err-room_shares-clause-none
 returns-in_err-room_shares-clause-none c =
-    let I = c.args.instance.now in
-    let students = c.args.students.now in
-    let parts = c.args.parts.now in
-    let sorted = c.in_ok-students.students.items in
-    let rows = c.in_ok-parts.parts.items in
-    let others : c.split_at.result.1.now ≡ drop (length I.exams) rows
-    = c.split_at.ensures.back ∙ ap₂ drop c.exams-exams.ensures.count c.deref-2.ensures.value in
-    let back : c.split_at-2.result.1.now ≡ drop (length I.periods) (drop (length I.exams) rows)
-    = c.split_at-2.ensures.back ∙ ap₂ drop c.periods-periods.ensures.count others in
-    passed_on c.from_residual-in_err-room_shares.result c.in_err-room_shares.field-0.0
-    (AreOfNone I students parts) c.from_residual-in_err-room_shares.ensures.1
+    passed_on c.from_residual-in_err-room_shares.result c.in_err-room_shares.field-0.0 _
+    c.from_residual-in_err-room_shares.ensures.1
     (λ bad p is shared.
-    let own = in_order I p students sorted parts rows c.in_ok-students.ensures.only
-    c.in_ok-parts.ensures.only shared in
-    c.in_err-room_shares.ensures.none bad (shares_of I p.rows p.timetable).rooms
-    (sym (back ∙ rooms_rows I p sorted rows own.0 own.1)))
+    let own = own_read c.in_ok-students.ensures.only c.in_ok-parts.ensures.only shared in
+    c.in_err-room_shares.ensures.none bad
+    (shares_of c.args.instance.now p.rows p.timetable).rooms (let are = own.of_rooms in cc))
 
 pub returns-clause-only : goal.returns-clause-only
 returns-clause-only c p shared =
     let I = c.args.instance.now in
-    let students = c.args.students.now in
-    let parts = c.args.parts.now in
-    let sorted = c.in_ok-students.students.items in
     let rows = c.in_ok-parts.parts.items in
-    let own = in_order I p students sorted parts rows c.in_ok-students.ensures.only
-    c.in_ok-parts.ensures.only shared in
     let exams : c.split_at.result.0.now ≡ take (length I.exams) rows
     = c.split_at.ensures.front ∙ ap₂ take c.exams-exams.ensures.count c.deref-2.ensures.value in
     let others : c.split_at.result.1.now ≡ drop (length I.exams) rows
@@ -108,24 +69,25 @@ returns-clause-only c p shared =
     let rooms : c.split_at-2.result.1.now ≡ drop (length I.periods) (drop (length I.exams) rows)
     = c.split_at-2.ensures.back ∙ ap₂ drop c.periods-periods.ensures.count others in
     c.of.ensures
-    ∙ only_shares I p sorted rows own.0 own.1
-    (record {
-      students = c.in_ok-personal.personal.items;
-      exams = c.in_ok-exam_shares.exam_shares.items;
-      periods = c.in_ok-period_shares.period_shares.items;
-      rooms = c.in_ok-room_shares.room_shares.items;
-    })
-    (record {
+    ∙ one_read (record {
+      count = omega (
+        arith,
+        c.len.ensures,
+        c.exams-exams.ensures.count,
+        c.periods-periods.ensures.count,
+        c.rooms-rooms.ensures.count,
+        c.if-len-exams.false,
+      );
       personal = c.in_ok-personal.ensures.are ∙ c.deref.ensures.value;
       of_exams = c.in_ok-exam_shares.ensures.are ∙ exams;
       of_periods = c.in_ok-period_shares.ensures.are ∙ periods;
       of_rooms = c.in_ok-room_shares.ensures.are ∙ rooms;
     })
+    (own_read c.in_ok-students.ensures.only c.in_ok-parts.ensures.only shared)
 
 pub returns-clause-fits : goal.returns-clause-fits
 returns-clause-fits c =
     let I = c.args.instance.now in
-    let sorted = c.in_ok-students.students.items in
     let rows = c.in_ok-parts.parts.items in
     let exams : c.split_at.result.0.now ≡ take (length I.exams) rows
     = c.split_at.ensures.front ∙ ap₂ take c.exams-exams.ensures.count c.deref-2.ensures.value in
@@ -136,16 +98,16 @@ returns-clause-fits c =
     let rooms : c.split_at-2.result.1.now ≡ drop (length I.periods) (drop (length I.exams) rows)
     = c.split_at-2.ensures.back ∙ ap₂ drop c.periods-periods.ensures.count others in
     subst (HasShareOfEach I) (sym c.of.ensures)
-    (each_has I sorted rows _
-    (omega (
-      arith,
-      c.len.ensures,
-      c.exams-exams.ensures.count,
-      c.periods-periods.ensures.count,
-      c.rooms-rooms.ensures.count,
-      c.if-len-exams.false,
-    ))
+    (each_has I c.in_ok-students.students.items rows _
     (record {
+      count = omega (
+        arith,
+        c.len.ensures,
+        c.exams-exams.ensures.count,
+        c.periods-periods.ensures.count,
+        c.rooms-rooms.ensures.count,
+        c.if-len-exams.false,
+      );
       personal = c.in_ok-personal.ensures.are ∙ c.deref.ensures.value;
       of_exams = c.in_ok-exam_shares.ensures.are ∙ exams;
       of_periods = c.in_ok-period_shares.ensures.are ∙ periods;

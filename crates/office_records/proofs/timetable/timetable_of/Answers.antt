@@ -1,5 +1,4 @@
-use Rattle.std.proofs.Common.{[], None, Ok, Err, Result, replicate, sym, ◌∙◌, subst, ap}
-use Rattle.std.specs.Prelude.{IfErr}
+use Rattle.std.proofs.Common.{[], None, replicate, sym, ◌∙◌, subst, ap}
 use Rattle.exam_lists.proofs.Results.{IfErr_any}
 use Rattle.office_records.specs.Found.{AreSlots}
 use Rattle.office_records.proofs.SlotLemmas.{no_slots, next_other, next_put, next_bad}
