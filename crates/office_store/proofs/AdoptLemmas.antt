@@ -1,6 +1,5 @@
 -- What reading all tables leaves unchanged, and what the migration makes of the tables.
-use Rattle.std.proofs.Common.{◌≡◌, ◌≢◌, ◌⊎◌, inl, inr, false, List, [], ◌∷◌, map, IsTrue}
-use Rattle.std.proofs.Common.{refl, sym, ◌∙◌, arith, subst}
+use Rattle.std.proofs.Common.{◌≡◌, ◌≢◌, ◌⊎◌, inl, inr, false, List, ◌∷◌, map, IsTrue, [], refl, sym, ◌∙◌, arith, subst}
 use Rattle.std.specs.Prelude.{All, AllPairs, IfErr, Ok, OnErr, OnOk, Result}
 use Rattle.std.proofs.lemmas.Result.{on_err_weaker, on_ok_weaker}
 use Rattle.std.proofs.lemmas.List.Elements.{All-from_recursion}
@@ -61,20 +60,15 @@ module _ {S : Type 0} (g : Ghosts S) (old mid : Held S) where
   some_still some same = (some.0, some.1, held_still some.0 some.1 same some.2)
 
   module _ (new : Held S) where
-    pub same_then : (mid ≡ old) ⊎ IsUnchanged (state g old) (state g mid)
-        → IsUnchanged (state g mid) (state g new)
-        → (new ≡ old) ⊎ IsUnchanged (state g old) (state g new)
-    same_then (inl same) still = inr (subst (λ h. IsUnchanged (state g h) (state g new)) same still)
-    same_then (inr first) second =
-        inr (unchanged_then (state g old) (state g mid) (state g new) first second)
-
     -- what one reader leaves, and then another
     pub both_same : (mid ≡ old) ⊎ IsUnchanged (state g old) (state g mid)
         → (new ≡ mid) ⊎ IsUnchanged (state g mid) (state g new)
         → (new ≡ old) ⊎ IsUnchanged (state g old) (state g new)
     both_same first (inl same) =
         subst (λ h. (h ≡ old) ⊎ IsUnchanged (state g old) (state g h)) (sym same) first
-    both_same first (inr still) = same_then first still
+    both_same (inl same) (inr still) = inr (subst (λ h. IsUnchanged (state g h) (state g new)) same still)
+    both_same (inr first) (inr still) =
+        inr (unchanged_then (state g old) (state g mid) (state g new) first still)
 
     pub keeps_still : (mid ≡ old) ⊎ IsUnchanged (state g old) (state g mid)
         → Keeps (state g mid) (state g new) → Keeps (state g old) (state g new)
@@ -98,10 +92,10 @@ file_itself Given g a = record {
 }
 
 -- what a reader of tables of either version leaves
-pub file_of : {S X E : Type 0} {r : Result X E} (g : Ghosts S) (a b : Held S)
+pub file_of : {S X E : Type 0} {r : Result X E} {g : Ghosts S} {a b : Held S}
     → ((version : Version) → LeavesTablesIn version g a b r)
     → LeavesFile (HoldsSomeTables (state g a).now) g a b r
-file_of {r = r} g a b leaves = record {
+file_of {r = r} leaves = record {
   same = λ clean some. on_ok_weaker r (λ still. inr still)
       ((leaves some.0).same clean some.1 some.2);
   kept = λ clean some. (leaves some.0).kept clean some.1 some.2;
@@ -110,11 +104,11 @@ file_of {r = r} g a b leaves = record {
 }
 
 -- what readers leave, one after another
-pub file_then : {S X Y E F : Type 0} {x : X} {r : Result Y F} (Given Next : Type 0) (g : Ghosts S)
-    (a b c : Held S) → LeavesFile {E = E} Given g a b (Ok x) → LeavesFile Next g b c r
+pub file_then : {S X Y E F : Type 0} {x : X} {r : Result Y F} {Given Next : Type 0} {g : Ghosts S}
+    {a b c : Held S} → LeavesFile {E = E} Given g a b (Ok x) → LeavesFile Next g b c r
     → (HasCleanDisk (state g b) → Given → (b ≡ a) ⊎ IsUnchanged (state g a) (state g b) → Next)
     → LeavesFile Given g a c r
-file_then {r = r} Given Next g a b c first later next = record {
+file_then {r = r} {g = g} {a = a} {b = b} {c = c} first later next = record {
   same = λ clean given.
       let mid = clean_before later.survives clean in
       let was = first.same mid given in
@@ -128,20 +122,20 @@ file_then {r = r} Given Next g a b c first later next = record {
 }
 
 -- the same, with a result that is an `Ok` only if the other is
-pub file_as : {S X Y E F : Type 0} {r : Result X E} {s : Result Y F} (Given : Type 0)
-    (g : Ghosts S) (a b : Held S) → ((P : Type 0) → OnOk r P → OnOk s P)
+pub file_as : {S X Y E F : Type 0} {r : Result X E} {s : Result Y F} {Given : Type 0}
+    {g : Ghosts S} {a b : Held S} → ((P : Type 0) → OnOk r P → OnOk s P)
     → LeavesFile Given g a b r → LeavesFile Given g a b s
-file_as Given g a b on_ok leaves = record {
+file_as on_ok leaves = record {
   same = λ clean given. on_ok _ (leaves.same clean given);
   kept = leaves.kept;
   mode = leaves.mode;
   survives = leaves.survives;
 }
 
-pub tables_as : {S X Y E F : Type 0} {r : Result X E} {s : Result Y F} (version : Version)
-    (g : Ghosts S) (a b : Held S) → ((P : Type 0) → OnOk r P → OnOk s P)
+pub tables_as : {S X Y E F : Type 0} {r : Result X E} {s : Result Y F} {version : Version}
+    {g : Ghosts S} {a b : Held S} → ((P : Type 0) → OnOk r P → OnOk s P)
     → LeavesTablesIn version g a b r → LeavesTablesIn version g a b s
-tables_as version g a b on_ok leaves = record {
+tables_as on_ok leaves = record {
   open_on_ok = λ clean. on_ok _ (leaves.open_on_ok clean);
   was_open = leaves.was_open;
   same = λ clean t held. on_ok _ (leaves.same clean t held);
@@ -151,12 +145,12 @@ tables_as version g a b on_ok leaves = record {
 }
 
 -- a reader of the tables that were found
-pub found_then : {S Y E F : Type 0} {r : Result Y F} (g : Ghosts S) (a b c : Held S)
-    (found : Found) → (HasCleanDisk (state g b) → IsAdopted (state g a).now (Ok found))
+pub found_then : {S Y E F : Type 0} {r : Result Y F} {g : Ghosts S} {a b c : Held S}
+    {found : Found} → (HasCleanDisk (state g b) → IsAdopted (state g a).now (Ok found))
     → LeavesFile {E = E} (Unit {0}) g a b (Ok found)
     → LeavesFile (HoldsSomeTables (state g b).now) g b c r → LeavesFile (Unit {0}) g a c r
-found_then g a b c found adopts first later =
-    file_then (Unit {0}) (HoldsSomeTables (state g b).now) g a b c first later
+found_then {g = g} {a = a} {b = b} {found = found} adopts first later =
+    file_then first later
     (λ clean _ same. let adopted = adopts clean in
     some_still g a b (found.version, tables_of found adopted.0, adopted.2) same)
 

@@ -1,55 +1,194 @@
--- A batch that is accepted.
-use Rattle.std.proofs.Common.{◌≡◌, ◌≢◌, ◌≤◌, ◌+◌, ◌<◌, ℕ, true, false, List, [], ◌∷◌, map, reverse, length}
-use Rattle.std.proofs.Common.{filter, not, if◌then◌else◌, Some, None, Result, Ok, Err, refl, sym, ◌∙◌, ap, subst, arith}
-use Rattle.std.specs.Prelude.{◌==◌, ◌&&◌, IfSome, nat_lt}
+-- A batch: what refuses it, and what an accepted one writes.
+use Rattle.std.proofs.Common.{◌≡◌, ◌≢◌, ◌⊎◌, inl, inr, ◌≤◌, ℕ, true, false, List, ◌∷◌, length, Option, Some, None, option_map, Result, Ok, Err, refl, sym, ◌∙◌, ap, subst, arith, [], ◌+◌, ◌<◌, map, reverse, filter, not, if◌then◌else◌}
+use Rattle.std.specs.Prelude.{IfSome, is_some, nat_le, nat_lt, ◌==◌, ◌&&◌}
+use Rattle.std.specs.List.{list_all}
 use Rattle.std.proofs.lemmas.Bool.Decides.{nat_tests}
+use Rattle.std.proofs.lemmas.Option.{same_Some, some_pair_parts}
 use Rattle.std.proofs.lemmas.List.{append-nil}
 use Rattle.std.proofs.lemmas.List.Sorted.{IsPermutation-reverse}
-use Rattle.exam_terms.specs.Refusing.{◌>>=◌, unless}
-use Rattle.exam_model.specs.Enrolments.{AreEnrolments, Enrolled}
-use Rattle.exam_model.specs.Instance.{Session}
-use Rattle.exam_model.specs.declared.change.Change.{Change}
 use Rattle.sqlite.specs.Effect.{Database}
+use Rattle.sqlite_trees.proofs.ListLemmas.{all_weaker}
+use Rattle.exam_terms.specs.Refusing.{◌>>=◌, unless}
+use Rattle.exam_model.specs.Enrolments.{AreEnrolments, Enrolled, has_number, pair_count}
+use Rattle.exam_model.specs.Instance.{Session}
+use Rattle.exam_model.specs.Timetable.{Placing}
+use Rattle.exam_model.specs.declared.change.Change.{Change}
+use Rattle.exam_draft.specs.declared.fault.EditFault.TheVariants.{NoSuch}
+use Rattle.exam_score.specs.Rescoring.{OthersUnchanged}
+use Rattle.exam_score.specs.Track.{track}
+use Rattle.office_tables.specs.declared.draft.DraftRow.{DraftRow}
+use Rattle.office_enrolment.specs.AfterBatch.{Refuses, lines_with_effect, after_batch, current_enrolments, names_exam, lines_in}
+use Rattle.office_enrolment.specs.Keeping.{batch_stored}
+use Rattle.office_enrolment.proofs.OfficeLemmas.{as_office}
+use Rattle.office_enrolment.proofs.OthersLemmas.{others_after}
+use Rattle.office_model.specs.BatchLines.{after_change, counts_after, enrolment_result, no_counts, has_effect, after_changes}
+use Rattle.office_model.specs.Batches.{newly_enrolled, batch_enrolled, batch_of_number, batch_numbered}
+use Rattle.office_model.specs.Commands.{CommandResult}
+use Rattle.office_model.specs.Office.{Records, AreRecords, IsOffice, OfficeState}
+use Rattle.office_model.specs.declared.counts.Counts.{Counts}
+use Rattle.office_model.specs.declared.fault.StoreFault.{StoreFault}
+use Rattle.office_model.specs.declared.fault.StoreFault.TheVariants.{Refused, TooMany}
+use Rattle.office_records.specs.Memory.{draft_at, memory_of, scored_by}
+use Rattle.office_records.specs.Representation.{RepresentsOffice, IsSound, TablesRepresentRecords}
+use Rattle.office_records.specs.TableRows.{number_if, enrol_row, stored_batch}
+use Rattle.office_records.specs.declared.drafts.Draft.{Draft}
+use Rattle.office_store.specs.Memory.{AreDraftRows, AreRescored, AreScored, IsMemoryOf, rescored_draft, IsRenewed}
+use Rattle.office_store.specs.NewBatches.{AreDraftsWith, students_of, Enrols, IsNewFor, drafts_after, line_put, new_batch_put}
+use Rattle.office_store.specs.Running.{IsFault}
+use Rattle.office_store.specs.declared.memory.OfficeMemory.{OfficeMemory}
+use Rattle.office_store.proofs.RememberingLemmas.{is_some-map, twice, after_lines, next_is}
+use Rattle.office_store.proofs.EditCallLemmas.{there_of}
 use Rattle.office_batches.specs.BatchText.{batch_in}
 use Rattle.office_tables.specs.Alterations.{after_all}
 use Rattle.office_tables.specs.Draft.{no_drafts, with_draft}
 use Rattle.office_tables.specs.Batch.{with_batch}
 use Rattle.office_tables.specs.Enrol.{with_enrol, without_enrol}
 use Rattle.office_tables.specs.Tables.{Batch, Tables}
-use Rattle.office_tables.specs.TablesHeld.{HoldsTables}
 use Rattle.office_tables.specs.declared.draft.InsertDraft.{InsertDraft}
-use Rattle.office_tables.specs.declared.draft.DraftRow.{DraftRow}
 use Rattle.office_tables.specs.declared.enrol.EnrolRow.{EnrolRow}
 use Rattle.office_tables.proofs.AlterationLemmas.{drafts_put}
-use Rattle.office_enrolment.specs.AfterBatch.{current_enrolments, lines_with_effect, after_batch, lines_in}
-use Rattle.office_enrolment.specs.Keeping as keeping
 use Rattle.office_enrolment.specs.Rows.{after_row, after_rows, pair_of}
 use Rattle.office_enrolment.proofs.KeptLemmas.{Ascend, they_ascend}
 use Rattle.office_enrolment.proofs.LineLemmas.{accepted, all_after, line_again, line_ascends}
-use Rattle.office_enrolment.proofs.OfficeLemmas.{as_office}
-use Rattle.office_model.specs.BatchLines.{has_effect, after_change, after_changes, no_counts}
-use Rattle.office_model.specs.Batches.{batch_enrolled, batch_of_number, batch_numbered, newly_enrolled}
-use Rattle.office_model.specs.Office.{AreRecords, IsOffice, OfficeState, Records}
-use Rattle.office_model.specs.declared.counts.Counts.{Counts}
-use Rattle.office_model.specs.declared.fault.StoreFault.{StoreFault}
-use Rattle.office_model.specs.declared.fault.StoreFault.TheVariants.{TooMany}
 use Rattle.office_records.specs.BatchRows.{batch_put, enrol_rows}
 use Rattle.office_records.specs.Found.{AreDrafts}
-use Rattle.office_records.specs.Memory.{memory_of}
-use Rattle.office_records.specs.Representation.{RepresentsOffice, IsSound, TablesRepresentRecords}
-use Rattle.office_records.specs.TableRows.{enrol_row, stored_batch}
 use Rattle.office_records.proofs.BatchPutLemmas.{batch_sound, batch_represents, drafts_moved}
-use Rattle.office_store.specs.NewBatches.{AreDraftsWith, Enrols, IsNewFor, drafts_after, line_put, new_batch_put}
-use Rattle.office_store.specs.Memory.{AreRescored, AreScored, IsMemoryOf, IsRenewed}
-use Rattle.office_store.specs.Running.{IsFault}
-use Rattle.office_store.specs.declared.memory.OfficeMemory.{OfficeMemory}
 use Rattle.office_store.specs.declared.new_batch.NewBatch.{NewBatch}
 use Rattle.office_store.specs.declared.new_batch.PutLine.{PutLine}
-use Rattle.office_store.proofs.AllDraftLemmas.{drafts_stored}
-use Rattle.office_store.proofs.CommandLemmas.{Denies, Moves, Remembers}
-use Rattle.office_store.proofs.NewBatchLemmas.{memory_scored}
-use Rattle.office_store.proofs.RememberingLemmas.{after_lines, next_is}
+use Rattle.office_store.proofs.CommandLemmas.{Denies, MovesBy, Remembers}
 use Rattle.office_store.proofs.RunLemmas.{kept_of}
+use Rattle.office_model.specs.declared.fault.Refusal.TheVariants as refusal
+use Rattle.office_enrolment.specs.Keeping as keeping
+
+-- lines are refused only for too many pairs
+lines_fault : (changes : List Change) (E : Enrolled) (n : Counts) (fault : StoreFault)
+    → enrolment_result changes E n ≡ Err fault → fault ≡ TooMany
+lines_fault [] E n fault is = absurd (cc is)
+lines_fault (change ∷ changes) E n fault is =
+    let rest : Result (Counts × Enrolled) StoreFault
+    = enrolment_result changes (after_change change E) (counts_after change E n) in
+    elim (nat_le (pair_count (after_change change E)) 200000) as (λ b.
+    (unless b TooMany >>= λ _. rest) ≡ Err fault → fault ≡ TooMany) [
+      | true ↦ λ later. lines_fault changes (after_change change E) (counts_after change E n) fault later
+      | false ↦ λ here. cc here
+    ] is
+
+batch_fault : (changes : List Change) (E : Enrolled) (fault : StoreFault)
+    → after_batch changes E ≡ Err fault
+    → (fault ≡ Refused (refusal.Edit NoSuch)) ⊎ (fault ≡ TooMany)
+batch_fault changes E fault is =
+    elim (list_all (names_exam E) changes) as (λ b.
+    (unless b (Refused (refusal.Edit NoSuch)) >>= λ _. enrolment_result changes E no_counts) ≡ Err fault
+    → (fault ≡ Refused (refusal.Edit NoSuch)) ⊎ (fault ≡ TooMany)) [
+      | true ↦ λ later. inr (lines_fault changes E no_counts fault later)
+      | false ↦ λ here. inl (cc here)
+    ] is
+
+module _ (number : ℕ) (bytes : List ℕ) (changes : List Change) (r : Records)
+    (exams : length r.enrolments ≡ length r.session.exams) where
+  abbrev newly : CommandResult Counts
+  newly = newly_enrolled number bytes changes r
+
+  judged_so : (judged : Result (Counts × Enrolled) StoreFault)
+      → after_batch changes r.enrolments ≡ judged
+      → newly ≡ (judged >>= batch_stored number bytes r)
+  judged_so judged is =
+      as_office number bytes changes r exams
+      ∙ ap (λ (j : Result (Counts × Enrolled) StoreFault). j >>= batch_stored number bytes r) is
+
+  -- the batch is refused for its lines, or memory runs out
+  pub lines_refuse : (fault : StoreFault) → Refuses (after_batch changes r.enrolments) fault
+      → IsFault newly fault
+  lines_refuse fault (inr memory) = subst (IsFault newly) (sym memory) tt
+  lines_refuse fault (inl is) =
+      let refused : newly ≡ Err fault = judged_so (Err fault) is in
+      elim (batch_fault changes r.enrolments fault is) [
+        | inl none ↦ subst (IsFault newly) (sym none) (refused ∙ ap Err none)
+        | inr many ↦ subst (IsFault newly) (sym many) (refused ∙ ap Err many)
+      ]
+
+  -- there is no room
+  pub no_room : (done : Counts × Enrolled) → after_batch changes r.enrolments ≡ Ok done
+      → 10000 ≤ length r.batches → newly ≡ Err TooMany
+  no_room done is full =
+      let none : nat_lt (length r.batches) 10000 ≡ false = grind (arith, nat_tests, full) in
+      judged_so (Ok done) is ∙ rw none refl
+
+-- the enrolments in memory are those of the records
+pub same_enrolled : (r : Records) (I : Session) (E : Enrolled)
+    → ◌≡◌ {A = Option (Session × Enrolled)} (Some (r.session, r.enrolments)) (Some (I, E))
+    → (r.session ≡ I) × (r.enrolments ≡ E)
+same_enrolled r I E is = some_pair_parts r.session I r.enrolments E is
+
+-- the drafts in memory have their penalties by the enrolments in memory
+pub memory_scored : (r : Records) (m : OfficeMemory) (I : Session) (E : Enrolled)
+    → IsMemoryOf (Some r) m → memory_of (Some r) ≡ Some (I, E) → AreScored I E m.drafts
+memory_scored r m I E is kept d draft at =
+    (there_of d r draft (sym (is.drafts d) ∙ at)).scored
+    ∙ ap (λ (s : Session × Enrolled). track s.0 s.1 draft.timetable) (same_Some _ _ kept)
+
+-- ---- enrolments that a batch made, or left
+
+pub made_exams : (made : Option Enrolled) (E : Enrolled) (n : ℕ) → length (current_enrolments made E) ≡ n
+    → IfSome made (λ F. length F ≡ n)
+made_exams (Some F) E n is = is
+made_exams None E n is = tt
+
+-- only the students of acting lines sit other exams
+pub made_others : (changes : List Change) (E : Enrolled) (made : Option Enrolled) (counts : Counts)
+    (lines : List Change) → AreEnrolments E → after_batch changes E ≡ Ok (counts, current_enrolments made E)
+    → lines ≡ lines_with_effect changes E → IfSome made (OthersUnchanged (students_of lines) E)
+made_others changes E (Some F) counts lines known is are = λ s e other.
+    others_after changes E (counts, F) known is s e
+    (subst (λ (l : List Change). has_number (students_of l) s ≡ false) are other)
+made_others changes E None counts lines known is are = tt
+
+-- ---- drafts with other enrolments
+
+-- rows of rescored drafts are an office's drafts with these enrolments
+rows_rewritten : (db : Database) (r : Records) (m : OfficeMemory) (F : Enrolled)
+    (made : List (Option Draft)) (rows : List DraftRow) → RepresentsOffice db (Some r)
+    → IsMemoryOf (Some r) m
+    → length F ≡ length r.session.exams → AreRescored r.session F m.drafts made
+    → AreDraftRows made rows → AreDraftsWith r F rows
+rows_rewritten db r m F made rows kept is exams scored are = record {
+  slots = kept.held.slot;
+  are = record {
+    numbered = kept.office.numbered;
+    fits = λ d T there.
+        let fits = kept.office.drafts d T there in
+        record { enrolments = exams; timetable = fits.timetable; places = fits.places };
+    rows = λ d. are.numbers d ∙ ap (λ b. number_if b d) (there_too d);
+    slots = kept.represents.slot;
+    scored = all_weaker _ _
+        (λ row priced T there. priced (scored_by r.session F T) (at row.no T there))
+        rows are.scored;
+  };
+}
+  where
+    made_at : (d : ℕ) → draft_at made d ≡ option_map (scored_by r.session F) (r.draft d)
+    made_at d = scored d ∙ ap (option_map (rescored_draft r.session F)) (is.drafts d)
+        ∙ twice r.session r.session r.enrolments F (r.draft d)
+
+    there_too : (d : ℕ) → is_some (draft_at made d) ≡ is_some (r.draft d)
+    there_too d = ap is_some (made_at d) ∙ is_some-map (scored_by r.session F) (r.draft d)
+
+    at : (d : ℕ) (T : Placing) → r.draft d ≡ Some T
+        → draft_at made d ≡ Some (scored_by r.session F T)
+    at d T there = made_at d ∙ ap (option_map (scored_by r.session F)) there
+
+-- the drafts in memory are the rescored ones, if the batch made any
+pub latest_drafts : (db : Database) (r : Records) (m : OfficeMemory) (I : Session)
+    (made : Option Enrolled) (drafts : List (Option Draft)) (rows : List DraftRow)
+    → RepresentsOffice db (Some r) → IsMemoryOf (Some r) m → r.session ≡ I
+    → IfSome made (λ F. length F ≡ length I.exams)
+    → IfSome made (λ F. AreRescored I F m.drafts drafts) → AreDraftRows drafts rows
+    → made ≢ None → AreDraftsWith r (current_enrolments made r.enrolments) rows
+latest_drafts db r m I (Some F) drafts rows kept is same exams scored are some =
+    rows_rewritten db r m F drafts rows kept is
+    (subst (λ (J : Session). length F ≡ length J.exams) (sym same) exams)
+    (subst (λ J. AreRescored J F m.drafts drafts) (sym same) scored) are
+latest_drafts db r m I None drafts rows kept is same exams scored are some = absurd (some refl)
 
 -- ---- what the parts of the transaction make of the tables, one after the other
 
@@ -161,6 +300,17 @@ idle_batch changes E done is judged none =
     all_after changes E no_counts done (accepted changes E done judged).1
     ∙ idle_lines changes E (they_ascend E is) none
 
+-- the rows of an office are those of its drafts
+drafts_stored : (t : Tables) (r : Records) → TablesRepresentRecords t r → AreRecords r
+    → IsSound t (Some r) → AreDrafts r.session r.enrolments t.draft t.slot r.draft
+drafts_stored t r represents is sound = record {
+  numbered = is.numbered;
+  fits = is.drafts;
+  rows = represents.draft;
+  slots = represents.slot;
+  scored = sound.scored;
+}
+
 -- the drafts after the lines are those of the office, rescored or as they were
 left_drafts : (r : Records) (t : Tables) (changes : List Change) (done : Counts × Enrolled)
     → AreRecords r → TablesRepresentRecords t r → IsSound t (Some r)
@@ -184,7 +334,7 @@ left_drafts r t changes done is represents sound judged (it ∷ its) new_rows li
 
 -- ---- what the command returns
 
-module _ (number : ℕ) (bytes : List ℕ) (changes : List Change)
+module _ (number : ℕ) (bytes : List ℕ) {changes : List Change}
     (spelled : batch_in bytes ≡ Ok changes) where
   gives_new : (r : Records) → batch_numbered number r.batches ≡ None
       → batch_enrolled number bytes (Some r) ≡ newly_enrolled number bytes changes r
@@ -205,109 +355,106 @@ module _ (number : ℕ) (bytes : List ℕ) (changes : List Change)
 
   -- ---- the command, by what is in memory and the database that is read
 
-  module _ (I : Session) (E : Enrolled) (a : Database) (m : OfficeMemory) where
+  module _ {I : Session} {E : Enrolled} {a : Database} (m : OfficeMemory)
+      (at_hand : m.kept ≡ Some (I, E))
+      (is_new : (o : OfficeState) → RepresentsOffice a o → batch_of_number o number ≡ None) where
     -- the writes are those of the command, whatever records the database represents
     abbrev pub Comes : Result NewBatch StoreFault → Type 0
     Comes result = (r : Records) → RepresentsOffice a (Some r) → memory_of (Some r) ≡ Some (I, E)
         → IsMemoryOf (Some r) m → Enrols changes r result
 
-    module _ (at_hand : m.kept ≡ Some (I, E))
-        (is_new : (o : OfficeState) → RepresentsOffice a o → batch_of_number o number ≡ None) where
-      pub enrol_denied : (e : StoreFault) → Comes (Err e)
-          → Denies (batch_enrolled number bytes) e a m
-      enrol_denied e comes o kept is =
-          let of = kept_of o I E (is.session ∙ at_hand) in
+    -- the records of an office with this memory
+    record IsOf (o : OfficeState) : Type 0 where
+      records : Records
+      is : o ≡ Some records
+      here : RepresentsOffice a (Some records)
+      kept : memory_of (Some records) ≡ Some (I, E)
+      memory : IsMemoryOf (Some records) m
+
+    records_of : (o : OfficeState) → RepresentsOffice a o → IsMemoryOf o m → IsOf o
+    records_of o kept is =
+        let of = kept_of o I E (is.session ∙ at_hand) in
+        record {
+          records = of.records;
+          is = of.is;
+          here = subst (RepresentsOffice a) of.is kept;
+          kept = subst (λ o. memory_of o ≡ Some (I, E)) of.is (is.session ∙ at_hand);
+          memory = subst (λ o. IsMemoryOf o m) of.is is;
+        }
+
+    pub enrol_denied : (e : StoreFault) → Comes (Err e) → Denies (batch_enrolled number bytes) e a m
+    enrol_denied e comes o kept is =
+        let of = records_of o kept is in
+        subst (λ gives. IsFault gives e)
+        (sym (ap (batch_enrolled number bytes) of.is
+        ∙ gives_new of.records (is_new (Some of.records) of.here)))
+        (comes of.records of.here of.kept of.memory number bytes)
+
+    module _ (small : number ≤ 999999999)
+        (counted : (changes : List Change) (E : Enrolled) (done : Counts × Enrolled)
+        → after_batch changes E ≡ Ok done → lines_in done.0 ≡ length changes)
+        (few : (bytes : List ℕ) (changes : List Change) → batch_in bytes ≡ Ok changes
+        → length changes ≤ 1048576)
+        (leaves : (number : ℕ) (bytes : List ℕ) (old new : OfficeState) (counts : Counts)
+        → number ≤ 999999999 → IsOffice old → batch_enrolled number bytes old ≡ Ok (counts, new)
+        → IsOffice new) {new : NewBatch} (comes : Comes (Ok new)) where
+      abbrev row : Batch
+      row = stored_batch (record { no = number; bytes = bytes; counts = new.counts })
+
+      abbrev done : Records → Counts × Enrolled
+      done r = (new.counts, current_enrolments new.enrolments r.enrolments)
+
+      abbrev next : Records → Records
+      next r = keeping.records_with_batch number bytes r (done r)
+
+      gives : (r : Records) → RepresentsOffice a (Some r) → IsNewFor changes r new
+          → batch_enrolled number bytes (Some r) ≡ Ok (new.counts, Some (next r))
+      gives r here made =
+          gives_new r (is_new (Some r) here)
+          ∙ new_gives r (done r) here.office.enrolled.exams made.after made.room
+
+      pub enrol_moves : MovesBy (new_batch_put number bytes new) (batch_enrolled number bytes) new.counts a m
+      enrol_moves b makes o kept is =
+          let of = records_of o kept is in
           let r = of.records in
-          let here = subst (RepresentsOffice a) of.is kept in
-          subst (λ gives. IsFault gives e)
-          (sym (ap (batch_enrolled number bytes) of.is ∙ gives_new r (is_new (Some r) here)))
-          (comes r here (subst (λ o. memory_of o ≡ Some (I, E)) of.is (is.session ∙ at_hand))
-          (subst (λ o. IsMemoryOf o m) of.is is) number bytes)
+          let here = of.here in
+          let made = comes r here of.kept of.memory in
+          let left : List DraftRow = drafts_after new.lines.items
+          (map (λ (it : InsertDraft). it.row) new.drafts.items) here.held.draft in
+          let again : AreDraftsWith r (done r).1 left
+          = left_drafts r here.held changes (done r) here.office here.represents here.sound made.after
+          new.lines.items _ made.lines made.drafts in (
+            Some (next r),
+            ap (batch_enrolled number bytes) of.is ∙ gives r here made,
+            record {
+              held = new_batch_put number bytes new here.held;
+              tables = makes here.held here.tables;
+              represents = subst (λ (l : List Change).
+                  TablesRepresentRecords (batch_put l left row here.held) (next r)) (sym made.lines)
+                  (batch_represents number bytes changes r (done r) here.office made.after here.held
+                  left again.slots again.are small
+                  (let each = counted changes r.enrolments (done r) made.after in
+                  let all = few bytes changes spelled in omega (arith, each, all)) here.represents);
+              sound = subst (λ (l : List Change). IsSound (batch_put l left row here.held)
+                  (Some (next r))) (sym made.lines)
+                  (batch_sound number bytes changes r (done r) here.office made.after here.held left
+                  again.slots again.are here.sound);
+              office = leaves number bytes (Some r) (Some (next r)) new.counts small here.office
+                  (gives r here made);
+            },
+          )
 
-      module _ (small : number ≤ 999999999)
-          (counted : (E : Enrolled) (done : Counts × Enrolled) → after_batch changes E ≡ Ok done
-          → lines_in done.0 ≤ 1048576)
-          (leaves : (old new : OfficeState) (counts : Counts) → IsOffice old
-          → batch_enrolled number bytes old ≡ Ok (counts, new) → IsOffice new)
-          (b : Database) (new : NewBatch) where
-        abbrev pub row : Batch
-        row = stored_batch (record { no = number; bytes = bytes; counts = new.counts })
-
-        abbrev done : Records → Counts × Enrolled
-        done r = (new.counts, current_enrolments new.enrolments r.enrolments)
-
-        module _ (r : Records) (here : RepresentsOffice a (Some r))
-            (made : IsNewFor changes r new) where
-          gives : batch_enrolled number bytes (Some r)
-              ≡ Ok (new.counts, Some (keeping.records_with_batch number bytes r (done r)))
-          gives =
-              gives_new r (is_new (Some r) here)
-              ∙ new_gives r (done r) here.office.enrolled.exams made.after made.room
-
-          abbrev rows : List DraftRow
-          rows = map (λ (it : InsertDraft). it.row) new.drafts.items
-
-          abbrev left : List DraftRow
-          left = drafts_after new.lines.items rows here.held.draft
-
-          again : AreDraftsWith r (done r).1 left
-          again = left_drafts r here.held changes (done r) here.office here.represents here.sound
-              made.after new.lines.items rows made.lines made.drafts
-
-          enrolled_kept : ((t : Tables) → HoldsTables a t
-              → HoldsTables b (new_batch_put number bytes new t))
-              → RepresentsOffice b (Some (keeping.records_with_batch number bytes r (done r)))
-          enrolled_kept makes = record {
-            held = new_batch_put number bytes new here.held;
-            tables = makes here.held here.tables;
-            represents = subst (λ (l : List Change). TablesRepresentRecords
-                (batch_put l left row here.held)
-                (keeping.records_with_batch number bytes r (done r)))
-                (sym made.lines)
-                (batch_represents number bytes changes r (done r) here.office made.after here.held
-                left again.slots again.are small (counted r.enrolments (done r) made.after)
-                here.represents);
-            sound = subst (λ (l : List Change). IsSound (batch_put l left row here.held)
-                (Some (keeping.records_with_batch number bytes r (done r)))) (sym made.lines)
-                (batch_sound number bytes changes r (done r) here.office made.after here.held
-                left again.slots again.are here.sound);
-            office = leaves (Some r)
-                (Some (keeping.records_with_batch number bytes r (done r))) new.counts
-                here.office gives;
-          }
-
-        pub enrol_moves : Comes (Ok new)
-            → ((t : Tables) → HoldsTables a t → HoldsTables b (new_batch_put number bytes new t))
-            → Moves (batch_enrolled number bytes) new.counts a b m
-        enrol_moves comes makes o kept is =
-            let of = kept_of o I E (is.session ∙ at_hand) in
-            let r = of.records in
-            let here = subst (RepresentsOffice a) of.is kept in
-            let made = comes r here
-            (subst (λ o. memory_of o ≡ Some (I, E)) of.is (is.session ∙ at_hand))
-            (subst (λ o. IsMemoryOf o m) of.is is) in (
-              Some (keeping.records_with_batch number bytes r (done r)),
-              ap (batch_enrolled number bytes) of.is ∙ gives r here made,
-              enrolled_kept r here made makes,
-            )
-
-        pub enrol_remembers : Comes (Ok new) → (n : OfficeMemory) → n.batches ≡ m.batches + 1
-            → n.published ≡ m.published → n.priced ≡ m.priced
-            → IsRenewed I E new.enrolments new.rescored m n
-            → (AreScored I E m.drafts
-            → IfSome new.enrolments (λ F. AreRescored I F m.drafts new.rescored))
-            → Remembers (batch_enrolled number bytes) new.counts a m n
-        enrol_remembers comes n batches published priced renewed rescored o kept is next is_next =
-            let of = kept_of o I E (is.session ∙ at_hand) in
-            let r = of.records in
-            let s = keeping.records_with_batch number bytes r (done r) in
-            let here = subst (RepresentsOffice a) of.is kept in
-            let memory = subst (λ o. IsMemoryOf o m) of.is is in
-            let kept_too = subst (λ o. memory_of o ≡ Some (I, E)) of.is (is.session ∙ at_hand) in
-            let made = comes r here kept_too memory in
-            let more : length s.batches ≡ length r.batches + 1 = omega arith in
-            subst (λ o. IsMemoryOf o n)
-            (next_is (ap (batch_enrolled number bytes) (sym of.is) ∙ is_next) (gives r here made))
-            (after_lines r s m n I E at_hand new.rescored memory refl refl more batches refl
-            published priced
-            new.enrolments refl renewed (rescored (memory_scored r m I E memory kept_too)))
+      pub enrol_remembers : {n : OfficeMemory} → n.batches ≡ m.batches + 1 → n.published ≡ m.published
+          → n.priced ≡ m.priced → IsRenewed I E new.enrolments new.rescored m n
+          → (AreScored I E m.drafts
+          → IfSome new.enrolments (λ F. AreRescored I F m.drafts new.rescored))
+          → Remembers (batch_enrolled number bytes) new.counts a m n
+      enrol_remembers {n = n} batches published priced renewed rescored o kept is after is_next =
+          let of = records_of o kept is in
+          let r = of.records in
+          let more : length (next r).batches ≡ length r.batches + 1 = omega arith in
+          subst (λ o. IsMemoryOf o n)
+          (next_is (ap (batch_enrolled number bytes) (sym of.is) ∙ is_next)
+          (gives r of.here (comes r of.here of.kept of.memory)))
+          (after_lines at_hand of.memory (next r).batches new.rescored more batches published priced
+          new.enrolments renewed (rescored (memory_scored r m I E of.memory of.kept)))

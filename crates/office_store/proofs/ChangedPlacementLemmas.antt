@@ -1,22 +1,18 @@
 -- Changed placements are written in place of those that they differ from: all placements are then
 -- the new ones.
-use Rattle.std.proofs.Common.{◌≡◌, ℕ, ◌+◌, ◌<◌, ◌≤◌, zero, suc, ◌&&◌, Bool, true, false, cond, not, eqb, List, [], ◌∷◌, ◌++◌}
-use Rattle.std.proofs.Common.{filter, length, drop, get_or, Some, None, refl, sym, ◌∙◌, ap, ap₂, subst, arith, eqb-true}
+use Rattle.std.proofs.Common.{◌≡◌, ℕ, ◌+◌, ◌<◌, ◌≤◌, zero, suc, ◌&&◌, Bool, true, false, cond, not, eqb, List, ◌∷◌, ◌++◌, [], filter, length, drop, get_or, Option, Some, None, option_map, refl, sym, ◌∙◌, ap, ap₂, subst, arith, eqb-true, append_assoc, add-one}
 use Rattle.std.specs.Prelude.{◌||◌, IsPermutation, slice_get}
-use Rattle.std.proofs.Common.{append_assoc, add-one}
 use Rattle.std.proofs.Math.Seq.{drop-nil}
 use Rattle.std.proofs.lemmas.Bool.Decides.{nat_tests}
 use Rattle.std.proofs.lemmas.Bool.{and_parts, or_from, or_parts}
-use Rattle.std.proofs.lemmas.List.Sorted.{IsPermutation-append_right, IsPermutation-cons, IsPermutation-middle}
-use Rattle.std.proofs.lemmas.List.Sorted.{IsPermutation-refl, IsPermutation-trans, length_permutation}
+use Rattle.std.proofs.lemmas.List.Sorted.{IsPermutation-append_right, IsPermutation-cons, IsPermutation-middle, IsPermutation-refl, IsPermutation-trans, length_permutation}
 use Rattle.exam_lists.proofs.Booleans.{eqb_swap}
 use Rattle.sqlite_trees.proofs.ListLemmas.{IsPermutation-filter}
 use Rattle.exam_model.specs.Enrolments.{has_number}
-use Rattle.exam_model.specs.Timetable.{Placing}
+use Rattle.exam_model.specs.Timetable.{Placing, place_of}
 use Rattle.office_tables.specs.declared.placed.PlacedRow.{PlacedRow}
-use Rattle.office_records.specs.Publications.{placed_from}
-use Rattle.office_store.specs.ChangedPlacements.{changed_rows, exams_of, is_same_row, is_there}
-use Rattle.office_store.specs.ChangedPlacements.{placements_without}
+use Rattle.office_records.specs.Publications.{placed_from, placed_row}
+use Rattle.office_store.specs.ChangedPlacements.{changed_rows, exams_of, is_same_row, is_there, placements_without}
 
 -- ---- row by row
 
@@ -201,32 +197,43 @@ at n rows = filter (λ row. eqb row.exam n) rows
 abbrev IsSingle : List PlacedRow → Type 0
 IsSingle rows = (n : ℕ) → length (at n rows) ≤ 1
 
-none_below : (e : ℕ) (T : Placing) (n : ℕ) → n < e → length (at n (placed_from e T)) ≡ 0
-none_below e [] n below = refl
-none_below e (None ∷ T) n below = none_below (e + 1) T n (omega arith)
-none_below e (Some place ∷ T) n below =
-    ap (λ b. length (cond b (record { exam = e; period = place.period; room = place.room }
-    ∷ at n (placed_from (e + 1) T)) (at n (placed_from (e + 1) T)))) other
-    ∙ none_below (e + 1) T n (omega arith)
-  where
-    other : eqb e n ≡ false
-    other = grind (arith, nat_tests, below)
+abbrev pub one_or_none : Option PlacedRow → List PlacedRow
+one_or_none None = []
+one_or_none (Some row) = row ∷ []
 
-single : (e : ℕ) (T : Placing) → IsSingle (placed_from e T)
-single e [] n = omega arith
-single e (None ∷ T) n = single (e + 1) T n
-single e (Some place ∷ T) n = go (eqb e n) refl (single (e + 1) T n)
-  where
-    rest : List PlacedRow
-    rest = at n (placed_from (e + 1) T)
+none_before : (m k : ℕ) (T : Placing) → m < k → at m (placed_from k T) ≡ []
+none_before m k [] less = refl
+none_before m k (None ∷ T) less = none_before m (k + 1) T (omega arith)
+none_before m k (Some place ∷ T) less =
+    let other : eqb k m ≡ false = grind (arith, nat_tests, less) in
+    let rest = at m (placed_from (k + 1) T) in
+    ap (λ b. cond b (placed_row k place ∷ rest) rest) other ∙ none_before m (k + 1) T (omega arith)
 
-    go : (b : Bool) → eqb e n ≡ b → length rest ≤ 1
-        → length (cond b (record { exam = e; period = place.period; room = place.room } ∷ rest) rest)
-        ≤ 1
-    go true is few =
-        let here = eqb-true e n is in
-        let none = none_below (e + 1) T n (omega (arith, here)) in omega (arith, none)
-    go false is few = few
+place_rows : (n k e : ℕ) (T : Placing) → k + e ≡ n
+    → at n (placed_from k T) ≡ one_or_none (option_map (placed_row n) (place_of T e))
+place_rows n k e [] is = refl
+place_rows n k zero (None ∷ T) is = none_before n (k + 1) T (omega (arith, is))
+place_rows n k zero (Some place ∷ T) is =
+    let here : eqb k n ≡ true = grind (arith, nat_tests, is) in
+    let same : k ≡ n = omega (arith, is) in
+    let rest = at n (placed_from (k + 1) T) in
+    ap (λ b. cond b (placed_row k place ∷ rest) rest) here
+    ∙ ap₂ (λ m l. placed_row m place ∷ l) same (none_before n (k + 1) T (omega (arith, is)))
+place_rows n k (suc e) (None ∷ T) is = place_rows n (k + 1) e T (omega (arith, is))
+place_rows n k (suc e) (Some place ∷ T) is =
+    let other : eqb k n ≡ false = grind (arith, nat_tests, is) in
+    let rest = at n (placed_from (k + 1) T) in
+    ap (λ b. cond b (placed_row k place ∷ rest) rest) other
+    ∙ place_rows n (k + 1) e T (omega (arith, is))
+
+-- a timetable has at most one placement of an exam
+pub rows_at : (e : ℕ) (T : Placing) → filter (λ (row : PlacedRow). eqb row.exam e) (placed_from 0 T)
+    ≡ one_or_none (option_map (placed_row e) (place_of T e))
+rows_at e T = place_rows e 0 e T (omega arith)
+
+few_or_none : (o : Option PlacedRow) → length (one_or_none o) ≤ 1
+few_or_none None = omega arith
+few_or_none (Some row) = omega arith
 
 none_at : (n : ℕ) (rows : List PlacedRow) → length (at n rows) ≤ 0
     → has_number (exams_of rows) n ≡ false
@@ -265,5 +272,6 @@ own_exams T before are =
     (λ n.
     let same = length_permutation _ _
     (IsPermutation-filter (λ (row : PlacedRow). eqb row.exam n) before (placed_from 0 T) are) in
-    let one = single 0 T n in
-    omega (arith, same, one))
+    let rows = ap length (rows_at n T) in
+    let one = few_or_none (option_map (placed_row n) (place_of T n)) in
+    omega (arith, same, rows, one))

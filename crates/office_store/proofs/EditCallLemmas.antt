@@ -1,6 +1,5 @@
 -- What an edit of a draft returns, and what is stored of it.
-use Rattle.std.proofs.Common.{◌≡◌, ◌≤◌, ℕ, List, Option, Some, None, Result, Ok, Err, refl, sym, ◌∙◌, ap, subst, ◌⊎◌, inl, inr}
-use Rattle.std.proofs.Common.{map}
+use Rattle.std.proofs.Common.{◌≡◌, ◌≤◌, ℕ, List, Option, Some, None, option_map, Result, Ok, Err, refl, sym, ◌∙◌, ap, subst, ◌⊎◌, map}
 use Rattle.std.specs.Prelude.{IsSome}
 use Rattle.std.proofs.lemmas.Option.{same_Some}
 use Rattle.sqlite.specs.Effect.{Database}
@@ -16,7 +15,6 @@ use Rattle.exam_draft.specs.Judged.{IsEditedAt, edited_exams}
 use Rattle.exam_draft.specs.declared.edit.Edit.{Edit}
 use Rattle.office_tables.specs.Alterations.{after_all}
 use Rattle.office_tables.specs.Draft.{with_draft, without_draft}
-use Rattle.office_tables.specs.Tables.{Tables}
 use Rattle.office_tables.specs.TablesHeld.{HoldsTables}
 use Rattle.office_tables.specs.declared.altering.Both.{Both}
 use Rattle.office_tables.specs.declared.draft.DraftRow.{DraftRow}
@@ -27,7 +25,7 @@ use Rattle.office_model.specs.DraftCommands.{draft_edited, live_penalty}
 use Rattle.office_model.specs.Office.{OfficeState, Records, set_at}
 use Rattle.office_model.specs.declared.fault.Refusal.TheVariants as refusal
 use Rattle.office_model.specs.declared.fault.StoreFault.{StoreFault}
-use Rattle.office_model.specs.declared.fault.StoreFault.TheVariants.{BadSchema, NoDraft, NotLoaded, Refused, Store}
+use Rattle.office_model.specs.declared.fault.StoreFault.TheVariants.{Refused, Store}
 use Rattle.office_records.specs.Memory.{memory_of, scored_by, scored_draft}
 use Rattle.office_records.specs.Representation.{RepresentsOffice, parts_of}
 use Rattle.office_records.specs.declared.drafts.Draft.{Draft}
@@ -39,11 +37,9 @@ use Rattle.office_store.specs.Running.{IsFault}
 use Rattle.office_store.specs.declared.editing.EditedDraft.{EditedDraft}
 use Rattle.office_store.specs.declared.editing.Judged.{Judged}
 use Rattle.office_store.specs.declared.memory.OfficeMemory.{OfficeMemory}
-use Rattle.office_store.proofs.CommandLemmas.{Moves, Remembers}
-use Rattle.office_store.proofs.EditLemmas.{edit_kept}
+use Rattle.office_store.proofs.CommandLemmas.{fault_of, MovesBy, Remembers, RowsChanged}
+use Rattle.office_store.proofs.EditLemmas.{edit_kept, all_moved, move_made}
 use Rattle.office_store.proofs.RememberingLemmas.{next_is, one_changed}
-use Rattle.office_store.proofs.RunLemmas.{nothing_kept}
-use Rattle.office_store.proofs.SlotLemmas.{all_moved, move_made}
 
 -- ---- a draft that exists
 
@@ -59,26 +55,20 @@ there_of d r draft h = go (r.draft d) refl
     go : (o : Option Placing) → r.draft d ≡ o → IsThere r d draft
     go None is = absurd (let none = rw is at h in cc)
     go (Some T) is =
-        let same : scored_by r.session r.enrolments T ≡ draft
-        = here (rw is at h) in
+        let same = same_Some (scored_by r.session r.enrolments T) draft (rw is at h) in
         record {
           timetable = is ∙ ap (λ (x : Draft). Some x.timetable) same;
           scored = sym (ap (λ (x : Draft). x.parts) same)
               ∙ ap (λ (x : Draft). track r.session r.enrolments x.timetable) same;
         }
-      where
-        here : Some (scored_by r.session r.enrolments T) ≡ Some draft
-            → scored_by r.session r.enrolments T ≡ draft
-        here e = cc
 
 -- there is no draft
-pub not_there : (d : ℕ) (change : Edit) (r : Records) → scored_draft d (Some r) ≡ None
-    → draft_edited d change (Some r) ≡ Err NoDraft
-not_there d change r h = go (r.draft d) refl
+pub no_draft : (d : ℕ) (r : Records) → scored_draft d (Some r) ≡ None → r.draft d ≡ None
+no_draft d r h = go (r.draft d) h
   where
-    go : (o : Option Placing) → r.draft d ≡ o → draft_edited d change (Some r) ≡ Err NoDraft
-    go None is = rw is refl
-    go (Some T) is = absurd (let some = rw is at h in cc)
+    go : (o : Option Placing) → option_map (scored_by r.session r.enrolments) o ≡ None → o ≡ None
+    go None h = refl
+    go (Some T) h = absurd cc
 
 -- ---- what the command returns
 
@@ -101,17 +91,9 @@ IsRefusal x e = (e ≡ Store) ⊎ (renamed_fault (λ f. Refused (refusal.Edit f)
 edit_refused : (d : ℕ) (change : Edit) (r : Records) (T : Placing) (e : StoreFault)
     → r.draft d ≡ Some T → IsRefusal (edit_result r.session r.enrolments T change) e
     → IsFault (draft_edited d change (Some r)) e
-edit_refused d change r T e there (inl is) =
-    subst (IsFault (draft_edited d change (Some r))) (sym is) tt
-edit_refused d change r T e there (inr is) =
-    own (edit_result r.session r.enrolments T change) e is (refused_so d change r T e there is)
-  where
-    own : (x : Edited) (e : StoreFault) → renamed_fault (λ f. Refused (refusal.Edit f)) x ≡ Err e
-        → draft_edited d change (Some r) ≡ Err e → IsFault (draft_edited d change (Some r)) e
-    own x Store is gives = tt
-    own (Ok T) BadSchema is gives = absurd cc
-    own (Err f) BadSchema is gives = absurd cc
-    own x e is gives = gives
+edit_refused d change r T e there refused =
+    fault_of refusal.Edit (edit_result r.session r.enrolments T change) _ e refused
+    (λ is. refused_so d change r T e there is)
 
 -- ---- an edit that is legal
 
@@ -163,20 +145,6 @@ module _ (r : Records) (I : Session) (E : Enrolled)
     scored = scored ∙ sym (ap (λ (p : Session × Enrolled). track p.0 p.1 judged.new) both);
   }
 
--- a failed statement, or out of memory, is not a refusal of the draft
-pub only_failed : (d : ℕ) (change : Edit) (o : OfficeState) (e : StoreFault) → e ≡ Store
-    → IsFault (draft_edited d change o) e
-only_failed d change o e is = subst (IsFault (draft_edited d change o)) (sym is) tt
-
--- ---- what is stored
-
--- what is stored is what the command makes
-pub record IsStored (b : Database) (o : OfficeState) (d : ℕ) (change : Edit) (total : ℕ)
-    : Type 0 where
-  pub office : OfficeState
-  pub gives : draft_edited d change o ≡ Ok (total, office)
-  pub kept : RepresentsOffice b office
-
 -- what the command makes of an office
 edited_gives : (o : OfficeState) (d : ℕ) (change : Edit) (new : Draft) (total : ℕ)
     (of : IsEdited d change o new) → total ≡ total_of new.parts
@@ -189,81 +157,57 @@ edited_gives o d change new total of is_total =
     (n, Some (record of.records { draft = set_at d (Some new.timetable) of.records.draft })))
     (sym (is_total ∙ ap total_of of.scored))
 
-pub edit_stored : (a b : Database) (o : OfficeState) (d : ℕ) (change : Edit)
-    (new : Draft) (row : DraftRow) (total : ℕ) (exams : List ℕ)
-    (of : IsEdited d change o new) → row.no ≡ d → parts_of row ≡ new.parts
-    → total ≡ total_of new.parts → exams ≡ edited_exams change → RepresentsOffice a o
-    → ((t : Tables) → HoldsTables a t → HoldsTables b (edit_put row new.timetable exams t))
-    → IsStored b o d change total
-edit_stored a b o d change new row total exams of number parts is_total are kept makes = record {
-  office = Some (record of.records { draft = set_at d (Some new.timetable) of.records.draft });
-  gives = edited_gives o d change new total of is_total;
-  kept = subst (λ n. RepresentsOffice b
-      (Some (record of.records { draft = set_at n (Some new.timetable) of.records.draft }))) number
-      (edit_kept a b of.records of.old new.timetable row change
-      (ap of.records.draft number ∙ of.draft)
-      of.edits (parts ∙ of.scored) of.fits (subst (RepresentsOffice a) of.is kept)
-      (subst (λ l. (t : Tables) → HoldsTables a t → HoldsTables b (edit_put row new.timetable l t)) are
-      makes));
-}
-
 -- ---- the calls that edit
 
--- the transaction changes the office as the command does
-pub edit_moves : (a b : Database) (m : OfficeMemory) (d : ℕ) (change : Edit) (new : Draft)
-    (row : DraftRow) (total : ℕ) (places : List (Both DeleteSlot (Option InsertSlot)))
-    → ((o : OfficeState) → RepresentsOffice a o → IsMemoryOf o m → IsEdited d change o new)
-    → row.no ≡ d → parts_of row ≡ new.parts → total ≡ total_of new.parts
-    → places ≡ map (new_place d new.timetable) (edited_exams change)
-    → ((t : Tables) → HoldsTables a t
-    → HoldsTables b (after_all move_made places (with_draft row (without_draft d t))))
-    → Moves (draft_edited d change) total a b m
-edit_moves a b m d change new row total places edits number parts is_total put comes o kept is =
-    let exams = edited_exams change in
-    let makes : (t : Tables) → HoldsTables a t → HoldsTables b (edit_put row new.timetable exams t)
-    = λ t h. subst
-    (λ n. HoldsTables b (slots_put n new.timetable exams (with_draft row (without_draft n t))))
-    (sym number)
-    (let u = with_draft row (without_draft d t) in
-    subst (HoldsTables b)
-    (ap (λ l. after_all move_made l u) put ∙ all_moved d new.timetable exams u) (comes t h)) in
-    let stored =
-    edit_stored a b o d change new row total exams (edits o kept is) number parts is_total refl kept
-    makes in
-    (stored.office, stored.gives, stored.kept)
+module _ {a : Database} {m : OfficeMemory} {d : ℕ} {change : Edit} {new : Draft} {total : ℕ}
+    (edits : (o : OfficeState) → RepresentsOffice a o → IsMemoryOf o m → IsEdited d change o new)
+    (is_total : total ≡ total_of new.parts) where
+  -- the transaction changes the office as the command does
+  pub edit_moves : {places : List (Both DeleteSlot (Option InsertSlot))} (row : DraftRow) → row.no ≡ d
+      → parts_of row ≡ new.parts → places ≡ map (new_place d new.timetable) (edited_exams change)
+      → MovesBy (λ t. after_all move_made places (with_draft row (without_draft d t)))
+      (draft_edited d change) total a m
+  edit_moves row number parts put b comes o kept is =
+      let exams = edited_exams change in
+      let of = edits o kept is in
+      let makes : RowsChanged (edit_put row new.timetable exams) a b
+      = λ t h. subst
+      (λ n. HoldsTables b (slots_put n new.timetable exams (with_draft row (without_draft n t))))
+      (sym number)
+      (let u = with_draft row (without_draft d t) in
+      subst (HoldsTables b)
+      (ap (λ l. after_all move_made l u) put ∙ all_moved d new.timetable exams u) (comes t h)) in (
+        _,
+        edited_gives o d change new total of is_total,
+        subst (λ n. RepresentsOffice b
+            (Some (record of.records { draft = set_at n (Some new.timetable) of.records.draft }))) number
+            (edit_kept a b of.records of.old new.timetable row change
+            (ap of.records.draft number ∙ of.draft) of.edits (parts ∙ of.scored) of.fits
+            (subst (RepresentsOffice a) of.is kept) makes),
+      )
 
-pub edit_remembers : (a : Database) (m n : OfficeMemory) (d : ℕ) (change : Edit) (new : Draft)
-    (total : ℕ) → ((o : OfficeState) → RepresentsOffice a o → IsMemoryOf o m
-    → IsEdited d change o new)
-    → total ≡ total_of new.parts → (d ≤ 8 → HasPut d (Some new) m n)
-    → Remembers (draft_edited d change) total a m n
-edit_remembers a m n d change new total edits is_total puts o kept is next gives =
-    let of = edits o kept is in
-    let r = of.records in
-    let here : RepresentsOffice a (Some r) = subst (RepresentsOffice a) of.is kept in
-    let within = here.office.numbered d (subst IsSome (sym of.draft) refl) in
-    let scored : Some new ≡ Some (scored_by r.session r.enrolments new.timetable)
-    = ap (λ P. Some (record { timetable = new.timetable; parts = P })) of.scored in
-    subst (λ o. IsMemoryOf o n)
-    (next_is gives (edited_gives o d change new total of is_total))
-    (one_changed r m n d (Some new.timetable) (subst (λ o. IsMemoryOf o m) of.is is)
-    (subst (λ x. HasPut d x m n) scored (puts within.1)))
+  pub edit_remembers : {n : OfficeMemory} → (d ≤ 8 → HasPut d (Some new) m n)
+      → Remembers (draft_edited d change) total a m n
+  edit_remembers {n = n} puts o kept is next gives =
+      let of = edits o kept is in
+      let r = of.records in
+      let here : RepresentsOffice a (Some r) = subst (RepresentsOffice a) of.is kept in
+      let within = here.office.numbered d (subst IsSome (sym of.draft) refl) in
+      let scored : Some new ≡ Some (scored_by r.session r.enrolments new.timetable)
+      = ap (λ P. Some (record { timetable = new.timetable; parts = P })) of.scored in
+      subst (λ o. IsMemoryOf o n)
+      (next_is gives (edited_gives o d change new total of is_total))
+      (one_changed r m n d (Some new.timetable) (subst (λ o. IsMemoryOf o m) of.is is)
+      (subst (λ x. HasPut d x m n) scored (puts within.1)))
 
 -- ---- by what is in memory
 
 -- what is in memory decides for each office that is represented
-pub edits_in_memory : (m : OfficeMemory) (I : Session) (E : Enrolled) → m.kept ≡ Some (I, E)
+pub edits_in_memory : {m : OfficeMemory} {I : Session} {E : Enrolled} → m.kept ≡ Some (I, E)
     → (d : ℕ) (change : Edit) (result : Result EditedDraft StoreFault)
     → (o : OfficeState) → IsMemoryOf o m
     → ((r : Records) → o ≡ Some r → memory_of (Some r) ≡ Some (I, E)
     → IsMemoryOf (Some r) m → Edits d change (Some r) result)
     → Edits d change o result
-edits_in_memory m I E kept d change result None is edits =
-    absurd (let none = is.session ∙ kept in cc)
-edits_in_memory m I E kept d change result (Some r) is edits =
-    edits r refl (is.session ∙ kept) is
-
-pub none_in_memory : (m : OfficeMemory) → m.kept ≡ None → (d : ℕ) (change : Edit)
-    → (o : OfficeState) → IsMemoryOf o m → draft_edited d change o ≡ Err NotLoaded
-none_in_memory m none d change o is =
-    ap (draft_edited d change) (nothing_kept o (is.session ∙ none))
+edits_in_memory kept d change result None is edits = absurd (let none = is.session ∙ kept in cc)
+edits_in_memory kept d change result (Some r) is edits = edits r refl (is.session ∙ kept) is

@@ -1,11 +1,13 @@
 -- Drafts that are made number by number, and their rows.
-use Rattle.std.proofs.Common.{◌≡◌, ℕ, zero, suc, ◌+◌, ◌<◌, ◌≤◌, Bool, true, false, eqb, ltb, cond, List, [], ◌∷◌, ◌++◌, get_or, length, map, set, Option, Some, None, refl, sym, ◌∙◌, ap, subst, arith}
+use Rattle.std.proofs.Common.{◌≡◌, ℕ, ◌+◌, ◌<◌, ◌≤◌, ◌≢◌, inl, inr, true, false, eqb, cond, List, ◌∷◌, ◌++◌, length, map, set, Option, Some, None, refl, sym, ◌∙◌, ap, subst, arith, []}
 use Rattle.std.specs.List.{AllByRecursion}
 use Rattle.std.specs.Prelude.{IfSome, is_some}
-use Rattle.std.proofs.lemmas.Bool.{ltb-false, ltb-true}
+use Rattle.std.proofs.lemmas.Bool.{cases_eq, cases_lt}
 use Rattle.std.proofs.lemmas.Bool.Decides.{nat_tests}
 use Rattle.std.proofs.lemmas.List.{append-nil, get_or-set_same, get_or-set_other, length-set, map-append}
 use Rattle.std.proofs.lemmas.List.Elements.{filter-append}
+use Rattle.std.proofs.lemmas.Option.{same_Some}
+use Rattle.sqlite.proofs.StateLemmas.{at_each}
 use Rattle.sqlite_trees.proofs.ListLemmas.{all-append}
 use Rattle.exam_model.specs.Enrolments.{Enrolled}
 use Rattle.exam_model.specs.Instance.{Session}
@@ -39,48 +41,32 @@ none_made made drafts none size = record {
 pub one_made : (made : List (Option Draft)) (n : ℕ) (drafts : ℕ → Option Draft) (x : Option Draft)
     → AreMade made n drafts → n < 9 → x ≡ drafts n
     → AreMade (set made n x) (n + 1) drafts
-one_made made n drafts x are low is = record {
-  done = λ d low. go d (eqb d n) refl low;
+one_made made n drafts x are n_low is = record {
+  done = λ d low. elim (cases_eq d n) [
+    | inl here ↦ ap (draft_at (set made n x)) here
+        ∙ get_or-set_same made n x None (let size = are.size in omega (arith, n_low, size)) ∙ is
+        ∙ ap drafts (sym here)
+    | inr other ↦ get_or-set_other made n d x None other ∙ are.done d (omega (arith, low, other))
+  ];
   rest = λ d high. get_or-set_other made n d x None (λ same. omega (arith, high, same))
       ∙ are.rest d (omega (arith, high));
   size = length-set made n x ∙ are.size;
 }
-  where
-    within : n < length made
-    within = let size = are.size in omega (arith, low, size)
-
-    go : (d : ℕ) (b : Bool) → eqb d n ≡ b → d < n + 1 → draft_at (set made n x) d ≡ drafts d
-    go d true same low =
-        let here : d ≡ n = grind (arith, nat_tests, same) in
-        ap (draft_at (set made n x)) here ∙ get_or-set_same made n x None within ∙ is
-        ∙ ap drafts (sym here)
-    go d false same low =
-        let less : d < n = grind (arith, nat_tests, same, low) in
-        get_or-set_other made n d x None (λ here. omega (arith, less, here)) ∙ are.done d less
 
 -- all of them
 pub all_made : (made : List (Option Draft)) (n : ℕ) (drafts : ℕ → Option Draft)
     → AreMade made n drafts → ((d : ℕ) → n ≤ d → drafts d ≡ None)
     → (d : ℕ) → draft_at made d ≡ drafts d
-all_made made n drafts are none d = go (ltb d n) refl
-  where
-    go : (b : Bool) → ltb d n ≡ b → draft_at made d ≡ drafts d
-    go true is = are.done d (ltb-true d n is)
-    go false is =
-        let high = ltb-false d n is in are.rest d high ∙ sym (none d high)
+all_made made n drafts are none d = elim (cases_lt d n) [
+  | inl low ↦ are.done d low
+  | inr high ↦ are.rest d high ∙ sym (none d high)
+]
 
 -- a draft of scored ones, if there is one
 pub draft_scored : (I : Session) (E : Enrolled) (drafts : List (Option Draft)) (d : ℕ)
     → AreScored I E drafts
     → IfSome (draft_at drafts d) (λ draft. draft.parts ≡ track I E draft.timetable)
-draft_scored I E drafts d scored = go (draft_at drafts d) refl
-  where
-    go : (x : Option Draft) → draft_at drafts d ≡ x
-        → IfSome x (λ draft. draft.parts ≡ track I E draft.timetable)
-    go None at = tt
-    go (Some draft) at = scored d draft at
-
--- ---- elements of a list
+draft_scored I E drafts d scored = at_each (draft_at drafts d) _ (scored d)
 
 -- ---- rows of the drafts of the first numbers
 
@@ -105,26 +91,21 @@ no_rows drafts = record {
 pub none_more : (drafts : List (Option Draft)) (n : ℕ) (rows : List DraftRow)
     → AreFirstRows drafts n rows → draft_at drafts n ≡ None → AreFirstRows drafts (n + 1) rows
 none_more drafts n rows are none = record {
-  below = λ d low. go d (eqb d n) refl low;
+  below = λ d low. elim (cases_eq d n) [
+    | inl here ↦ ap (map (λ (row : DraftRow). row.no)) (are.beyond d (omega (arith, here)))
+        ∙ sym (ap (λ x. number_if (is_some x) d) (ap (draft_at drafts) here ∙ none))
+    | inr other ↦ are.below d (omega (arith, low, other))
+  ];
   beyond = λ d high. are.beyond d (omega (arith, high));
   scored = are.scored;
 }
-  where
-    go : (d : ℕ) (b : Bool) → eqb d n ≡ b → d < n + 1
-        → map (λ (row : DraftRow). row.no) (drafts_at d rows)
-        ≡ number_if (is_some (draft_at drafts d)) d
-    go d true same low =
-        let here : d ≡ n = grind (arith, nat_tests, same) in
-        ap (map (λ (row : DraftRow). row.no)) (are.beyond d (omega (arith, here)))
-        ∙ sym (ap (λ x. number_if (is_some x) d) (ap (draft_at drafts) here ∙ none))
-    go d false same low = are.below d (grind (arith, nat_tests, same, low))
 
 -- a draft's row
 pub row_more : (drafts : List (Option Draft)) (n : ℕ) (rows : List DraftRow) (draft : Draft)
     (row : DraftRow) → AreFirstRows drafts n rows → draft_at drafts n ≡ Some draft → row.no ≡ n
     → parts_of row ≡ draft.parts → AreFirstRows drafts (n + 1) (rows ++ row ∷ [])
 row_more drafts n rows draft row are some number parts = record {
-  below = λ d low. go d (eqb d n) refl low;
+  below = λ d low. elim (cases_eq d n) [ inl here ↦ own d here | inr other ↦ others d other low ];
   beyond = λ d high. at_end d ∙ ap (λ l. l ++ cond (eqb row.no d) (row ∷ []) []) (are.beyond d
       (omega (arith, high)))
       ∙ not_here d (grind (arith, nat_tests, high, number));
@@ -138,48 +119,42 @@ row_more drafts n rows draft row are some number parts = record {
     not_here : (d : ℕ) → eqb row.no d ≡ false → cond (eqb row.no d) (row ∷ []) [] ≡ []
     not_here d other = ap (λ b. cond {A = List DraftRow} b (row ∷ []) []) other
 
-    some_is : {X : Type 0} {x y : X} → Some x ≡ Some y → x ≡ y
-    some_is e = cc
-
     priced : IsPricedBy drafts row
     priced other at =
         parts ∙ ap (λ (x : Draft). x.parts)
-        (some_is (sym some ∙ ap (draft_at drafts) (sym number) ∙ at))
+        (same_Some _ _ (sym some ∙ ap (draft_at drafts) (sym number) ∙ at))
 
-    go : (d : ℕ) (b : Bool) → eqb d n ≡ b → d < n + 1
-        → map (λ (row : DraftRow). row.no) (drafts_at d (rows ++ row ∷ []))
+    own : (d : ℕ) → d ≡ n → map (λ (row : DraftRow). row.no) (drafts_at d (rows ++ row ∷ []))
         ≡ number_if (is_some (draft_at drafts d)) d
-    go d true same low =
-        let here : d ≡ n = grind (arith, nat_tests, same) in
-        let own : eqb row.no d ≡ true = grind (arith, nat_tests, here, number) in
+    own d here =
+        let passes : eqb row.no d ≡ true = grind (arith, nat_tests, here, number) in
         ap (map (λ (row : DraftRow). row.no)) (at_end d
         ∙ ap (λ l. l ++ cond (eqb row.no d) (row ∷ []) []) (are.beyond d (omega (arith, here)))
-        ∙ ap (λ b. cond {A = List DraftRow} b (row ∷ []) []) own)
+        ∙ ap (λ b. cond {A = List DraftRow} b (row ∷ []) []) passes)
         ∙ ap (λ k. k ∷ []) (number ∙ sym here)
         ∙ sym (ap (λ x. number_if (is_some x) d) (ap (draft_at drafts) here ∙ some))
-    go d false same low =
-        let other : eqb row.no d ≡ false = grind (arith, nat_tests, same, number) in
+
+    others : (d : ℕ) → d ≢ n → d < n + 1
+        → map (λ (row : DraftRow). row.no) (drafts_at d (rows ++ row ∷ []))
+        ≡ number_if (is_some (draft_at drafts d)) d
+    others d other low =
         ap (map (λ (row : DraftRow). row.no)) (at_end d
-        ∙ ap (λ l. drafts_at d rows ++ l) (not_here d other) ∙ append-nil (drafts_at d rows))
-        ∙ are.below d (grind (arith, nat_tests, same, low))
+        ∙ ap (λ l. drafts_at d rows ++ l) (not_here d (grind (arith, nat_tests, other, number)))
+        ∙ append-nil (drafts_at d rows))
+        ∙ are.below d (omega (arith, low, other))
 
 -- all of them
 pub all_rows : (drafts : List (Option Draft)) (n : ℕ) (rows : List DraftRow)
     → AreFirstRows drafts n rows → ((d : ℕ) → n ≤ d → draft_at drafts d ≡ None)
     → AreDraftRows drafts rows
 all_rows drafts n rows are none = record {
-  numbers = λ d. go d (ltb d n) refl;
+  numbers = λ d. elim (cases_lt d n) [
+    | inl low ↦ are.below d low
+    | inr high ↦ ap (map (λ (row : DraftRow). row.no)) (are.beyond d high)
+        ∙ sym (ap (λ x. number_if (is_some x) d) (none d high))
+  ];
   scored = are.scored;
 }
-  where
-    go : (d : ℕ) (b : Bool) → ltb d n ≡ b
-        → map (λ (row : DraftRow). row.no) (drafts_at d rows)
-        ≡ number_if (is_some (draft_at drafts d)) d
-    go d true is = are.below d (ltb-true d n is)
-    go d false is =
-        let high = ltb-false d n is in
-        ap (map (λ (row : DraftRow). row.no)) (are.beyond d high)
-        ∙ sym (ap (λ x. number_if (is_some x) d) (none d high))
 
 -- the rows of one number more, as parts of a transaction
 module _ (drafts : List (Option Draft)) (n : ℕ) (old new : List InsertDraft)

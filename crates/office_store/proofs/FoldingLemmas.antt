@@ -1,26 +1,32 @@
--- The fold of the rows of an edit's students.
-use Rattle.std.proofs.Common.{filter, eqb, IsPermutation, IfOk, Vec, ◌≡◌, ℕ, suc, ◌+◌, ◌<◌, ◌≤◌, inl, inr, Bool, true, false, true≢false, IsTrue, get_or, add-one, List, [], ◌∷◌, ◌++◌, length, map, All, Option, None, Some, Result, Ok, Err, refl, sym, ◌∙◌, ap, ap₂, subst, arith, append_assoc, length-append}
+-- The pairs of the students of an edited exam, and the fold of these students' rows.
+use Rattle.std.specs.List.{AllByRecursion, flat_map, IsAllAdjacentAnswer}
+use Rattle.std.proofs.Common.{◌≡◌, ℕ, ◌+◌, ◌<◌, ◌≤◌, inl, inr, true, false, ◌||◌, eqb, List, ◌∷◌, ◌++◌, length, take, filter, get_or, All, Some, IsPermutation, refl, sym, ◌∙◌, ap, ap₂, subst, arith, append_assoc, length-append, length-take, [], Vec, Bool, true≢false, IsTrue, map, Option, None}
+use Rattle.std.proofs.lemmas.Bool.Decides.{nat_tests}
+use Rattle.std.proofs.lemmas.List.{get_or-take, get_or_default, length-map, take_more, map_push}
+use Rattle.std.proofs.lemmas.List.Elements.{All-from_recursion, filter_agree, recursion_from_All}
+use Rattle.std.proofs.lemmas.List.Folds.{list_any-append}
+use Rattle.std.proofs.lemmas.List.Sorted.{IsPermutation-append_right, IsPermutation-refl, IsPermutation-trans, length_permutation}
 use Rattle.std.specs.Prelude.{◌↔◌, nat_lt, ok_or}
 use Rattle.std.specs.declared.alloc.Global.{Global}
-use Rattle.std.specs.List.{AllByRecursion, IsAllAdjacentAnswer, flat_map}
-use Rattle.std.proofs.lemmas.Bool.Decides.{nat_tests}
-use Rattle.std.proofs.lemmas.List.{length-map}
-use Rattle.std.proofs.lemmas.List.Elements.{All-from_recursion, recursion_from_All}
-use Rattle.exam_lists.proofs.Chains.{IsChain, chain_from_next, index_from_chain}
-use Rattle.exam_lists.proofs.Each.{each_weaker, each_append}
+use Rattle.exam_lists.proofs.Chains.{IsChain, chain_from_next, chain_map, chain_unmap, index_from_chain}
+use Rattle.exam_lists.proofs.Each.{each_weaker, each_append, each_append_right, each_all, each_map}
+use Rattle.exam_lists.proofs.Booleans.{eqb_swap}
+use Rattle.exam_lists.proofs.Filters.{filter_false, length_filter-le}
+use Rattle.exam_lists.proofs.Permutations.{IsPermutation-filter_or}
+use Rattle.exam_model.specs.Changes.{exams_sat}
+use Rattle.exam_model.specs.Enrolments.{AreEnrolments, Enrolled, IsAscending, has, has_number, students}
+use Rattle.exam_model.specs.Pairs.{Pair, pairs_of}
+use Rattle.exam_model.proofs.PairLemmas.{are_pairs}
+use Rattle.exam_publish.proofs.ListLemmas.{chain_from_ascending, has_ascending, ascending_from_chain, ascends}
+use Rattle.exam_score.specs.Exchanges.{pairs_concerned, sits_among, IsOfEdit}
+use Rattle.exam_score.specs.Folds.{CanFollow, ComesEarlier, Folded, RepresentsPairs, pairs_sat, IsFoldOf}
+use Rattle.office_store.specs.Folding.{pairs_of_students, students_of_exams, CanTake, HasTaken, IsEditOf}
 use Rattle.sqlite.specs.Held.{Held, state}
 use Rattle.sqlite.specs.State.{HasCleanDisk, IsUnchanged}
 use Rattle.sqlite.specs.Store.{Ghosts}
-use Rattle.exam_model.specs.Changes.{exams_sat}
-use Rattle.exam_model.specs.Enrolments.{AreEnrolments, Enrolled, IsAscending, students}
 use Rattle.exam_model.specs.Instance.{Session}
 use Rattle.exam_model.specs.Timetable.{Placing}
 use Rattle.sqlite_trees.proofs.ListLemmas.{all-filter}
-use Rattle.sqlite_trees.specs.Tree as tree
-use Rattle.exam_model.specs.Pairs.{Pair}
-use Rattle.exam_publish.proofs.ListLemmas.{ascending_from_chain, ascends, chain_from_ascending}
-use Rattle.exam_score.specs.Exchanges.{IsOfEdit, pairs_concerned}
-use Rattle.exam_score.specs.Folds.{Folded, IsFoldOf, RepresentsPairs, pairs_sat}
 use Rattle.exam_score.specs.Front.{AreSizes}
 use Rattle.exam_score.specs.Penalty.{Penalty}
 use Rattle.exam_score.specs.Track.{track}
@@ -34,18 +40,156 @@ use Rattle.office_tables.specs.Tables.{Tables}
 use Rattle.office_tables.specs.TablesHeld.{HoldsTables}
 use Rattle.office_tables.specs.declared.enrol.EnrolRow.{EnrolRow}
 use Rattle.office_store.specs.FoldReads.{HadEnrolments, HasRead, RowsUnchanged}
-use Rattle.office_store.specs.Folding.{CanTake, HasTaken, IsEditOf, pairs_of_students, students_of_exams}
 use Rattle.office_store.specs.Running.{ReturnsValue}
 use Rattle.office_store.specs.declared.editing.Judged.{Judged}
 use Rattle.office_store.specs.Viewing.{candidate_enrol_row}
-use Rattle.office_store.proofs.ConcernedLemmas.{concerned, students_few}
 use Rattle.office_store.proofs.LeavingLemmas.{survives_on}
 use Rattle.office_store.proofs.ViewLemmas.{exams_back, own_pairs, rows_read, sat_rise}
 
+-- ---- tests on lists
+
+-- a number below all numbers of a list is not in it
+not_above : (c s : ℕ) (ss : List ℕ) → AllByRecursion (λ t. c < t) ss → eqb c s ≡ true
+    → has_number ss s ≡ false
+not_above c s [] above is = refl
+not_above c s (t ∷ ss) above is =
+    let other : eqb t s ≡ false = let h = above.0 in grind (arith, nat_tests, h, is) in
+    ap (λ b. b || has_number ss s) other ∙ not_above c s ss above.1 is
+
+-- ---- the pairs of students
+
+-- the pairs of one student among others
+abbrev pub pairs_of_student : List Pair → ℕ → List Pair
+pairs_of_student pairs s = filter (λ p. eqb p.student s) pairs
+
+-- whatever their order, the pairs of some students are the pairs of each student
+pub gathered : (pairs : List Pair) (ss : List ℕ) → IsChain (λ x y. x < y) ss
+    → IsPermutation (filter (λ p. has_number ss p.student) pairs)
+    (flat_map (pairs_of_student pairs) ss)
+gathered pairs [] h =
+    subst (λ l. IsPermutation l []) (sym (filter_false pairs)) (IsPermutation-refl [])
+gathered pairs (s ∷ ss) h =
+    subst (λ l. IsPermutation (filter (λ p. has_number (s ∷ ss) p.student) pairs)
+    (l ++ flat_map (pairs_of_student pairs) ss))
+    (filter_agree (λ (p : Pair). eqb s p.student) (λ p. eqb p.student s)
+    (λ p. eqb_swap s p.student) pairs)
+    (IsPermutation-trans _ _ _
+    (IsPermutation-filter_or (λ p. eqb s p.student) (λ p. has_number ss p.student) pairs
+    (λ p is. not_above s p.student ss h.0 is))
+    (IsPermutation-append_right (filter (λ p. eqb s p.student) pairs) _ _ (gathered pairs ss h.1)))
+
+module _ (E : Enrolled) (known : AreEnrolments E)
+    (own : (s : ℕ) → pairs_of_student (pairs_of E) s ≡ pairs_sat (Some s) (exams_sat E s)) where
+  each_own : (ss : List ℕ) → flat_map (pairs_of_student (pairs_of E)) ss ≡ pairs_of_students E ss
+  each_own [] = refl
+  each_own (s ∷ ss) = ap₂ (λ a b. a ++ b) (own s) (each_own ss)
+
+  of_students : (ss : List ℕ) → IsChain (λ x y. x < y) ss
+      → IsPermutation (filter (λ p. has_number ss p.student) (pairs_of E)) (pairs_of_students E ss)
+  of_students ss h =
+      subst (IsPermutation (filter (λ p. has_number ss p.student) (pairs_of E))) (each_own ss)
+      (gathered (pairs_of E) ss h)
+
+  -- they are no more than all pairs
+  pub students_few : (ss : List ℕ) → IsAscending ss → length (pairs_of_students E ss) ≤ 200000
+  students_few ss h =
+      let moved = length_permutation _ _ (of_students ss (chain_from_ascending ss h)) in
+      let few = length_filter-le (λ (p : Pair). has_number ss p.student) (pairs_of E) in
+      let all = (are_pairs E known).count in
+      let most = known.pairs in
+      omega (arith, moved, few, all, most)
+
+  -- the students of an edited exam
+  who_sits : (exams : List ℕ) (s : ℕ)
+      → sits_among E exams s ≡ has_number (flat_map (students E) exams) s
+  who_sits [] s = refl
+  who_sits (e ∷ exams) s =
+      ap (λ b. has E s e || b) (who_sits exams s)
+      ∙ sym (list_any-append (λ t. eqb t s) (students E e) (flat_map (students E) exams))
+
+  pub concerned : (exams : List ℕ) → IsAscending (students_of_exams E exams)
+      → IsPermutation (pairs_concerned E exams) (pairs_of_students E (students_of_exams E exams))
+  concerned exams h =
+      subst (λ l. IsPermutation l (pairs_of_students E (students_of_exams E exams)))
+      (sym (filter_agree (λ (p : Pair). sits_among E exams p.student)
+      (λ p. has_number (students_of_exams E exams) p.student)
+      (λ p. who_sits exams p.student ∙ sym (has_ascending (flat_map (students E) exams) p.student))
+      (pairs_of E)))
+      (of_students (students_of_exams E exams) (chain_from_ascending _ h))
+
+-- ---- the fold takes a student's exams
+
+each_sat : (P : Pair → Type 0) (s : ℕ) (exams : List ℕ)
+    → AllByRecursion (λ e. P (record { exam = e; student = s })) exams
+    → AllByRecursion P (pairs_sat (Some s) exams)
+each_sat P s [] h = tt
+each_sat P s (e ∷ exams) h = (h.0, each_sat P s exams h.1)
+
+each_earlier : (exams : List ℕ) (i : ℕ) (d : ℕ) → i < length exams → IsAscending exams
+    → AllByRecursion (λ e. e < get_or exams i d) (take i exams)
+each_earlier exams i d lt up =
+    recursion_from_All (λ e. e < get_or exams i d) (take i exams)
+    (λ k c m. (let within : k < i = (let l = length-take i exams in omega (arith, l, m)) in
+    subst (λ e. e < get_or exams i d) (sym (taken k c within))
+    (subst (λ f. get_or exams k 0 < f) (get_or_default exams i 0 d lt) (up k i within lt))))
+  where
+    taken : (k c : ℕ) → k < i → get_or (take i exams) k c ≡ get_or exams k 0
+    taken k c within =
+        get_or-take i exams k c within ∙ get_or_default exams k c 0 (omega (arith, within, lt))
+
+-- after the pairs so far and some of the current student's exams, the next exam can follow
+pub can_follow : (fold : Folded) (pairs : List Pair) (s : ℕ) (exams : List ℕ) (i d : ℕ)
+    → i < length exams → IsAscending exams → All (λ p. p.student < s) pairs
+    → RepresentsPairs fold (pairs ++ pairs_sat (Some s) (take i exams))
+    → CanFollow fold (record { exam = get_or exams i d; student = s })
+can_follow fold pairs s exams i d lt up below h =
+    let pair : Pair = record { exam = get_or exams i d; student = s } in
+    All-from_recursion (λ p. ComesEarlier p pair) fold.current
+    (each_append_right (λ p. ComesEarlier p pair) h.closed fold.current
+    (subst (AllByRecursion (λ p. ComesEarlier p pair)) h.parts
+    (each_append (λ p. ComesEarlier p pair) pairs (pairs_sat (Some s) (take i exams))
+    (each_weaker (λ p. p.student < s) (λ p. ComesEarlier p pair) (λ p l. inl l) pairs
+    (recursion_from_All (λ p. p.student < s) pairs below))
+    (each_sat (λ p. ComesEarlier p pair) s (take i exams)
+    (each_weaker (λ e. e < get_or exams i d)
+    (λ e. ComesEarlier (record { exam = e; student = s }) pair) (λ e l. inr (refl, l))
+    (take i exams) (each_earlier exams i d lt up))))))
+
+pub length_sat : (s : ℕ) (exams : List ℕ) → length (pairs_sat (Some s) exams) ≡ length exams
+length_sat s exams =
+    let pair : ℕ → Pair = λ e. record { exam = e; student = s } in length-map exams pair
+
+pub has_room : {fold : Folded} (pairs : List Pair) (s : ℕ) (exams : List ℕ) (i : ℕ)
+    → i < length exams → length pairs + length exams ≤ 200000
+    → RepresentsPairs fold (pairs ++ pairs_sat (Some s) (take i exams)) → fold.count < 200000
+has_room pairs s exams i lt few h =
+    omega (
+      arith,
+      h.count,
+      length-append pairs (pairs_sat (Some s) (take i exams)),
+      length_sat s (take i exams),
+      length-take i exams,
+      lt,
+      few,
+    )
+
+-- the fold takes one more
+pub one_more : (fold : Folded) (pairs : List Pair) (s : ℕ) (exams : List ℕ) (i d : ℕ)
+    → i < length exams
+    → RepresentsPairs fold ((pairs ++ pairs_sat (Some s) (take i exams))
+    ++ record { exam = get_or exams i d; student = s } ∷ [])
+    → RepresentsPairs fold (pairs ++ pairs_sat (Some s) (take (i + 1) exams))
+one_more fold pairs s exams i d lt h =
+    subst (RepresentsPairs fold)
+    (append_assoc pairs (pairs_sat (Some s) (take i exams)) _
+    ∙ ap (λ l. pairs ++ l)
+    (sym (ap (pairs_sat (Some s)) (take_more exams i d lt)
+    ∙ map_push (λ (e : ℕ). record { exam = e; student = s }) (take i exams) (get_or exams i d)))) h
+
 -- ---- a connection that reads once more
 
-module _ {S : Type 0} (store : Ghosts S) where
-  module _ (a b c : Held S) (first : HasRead store a b) (same : RowsUnchanged store a b)
+module _ {S : Type 0} {store : Ghosts S} where
+  module _ {a b c : Held S} (first : HasRead store a b) (same : RowsUnchanged store a b)
       (next : HasRead store b c) where
     -- the tables are still there
     tables_on : HasCleanDisk (state store c) → (t : Tables) → HoldsTables (state store a).now t
@@ -121,17 +265,17 @@ module _ {S : Type 0} (store : Ghosts S) where
       enrolments = had.enrolments;
     }
 
-  pub are_known : (a b : Held S) (E : Enrolled) → HadEnrolments store a b E → AreEnrolments E
-  are_known a b E had = subst AreEnrolments had.enrolments had.kept.office.enrolled.set
+  are_known : {a b : Held S} {E : Enrolled} → HadEnrolments store a b E → AreEnrolments E
+  are_known had = subst AreEnrolments had.enrolments had.kept.office.enrolled.set
 
 -- ---- students, one after another
 
-module _ {S : Type 0} (store : Ghosts S) (all : List ℕ) where
+module _ {S : Type 0} {store : Ghosts S} {all : List ℕ} where
   -- there is room for the next student's exams
-  pub next_taken : (a b : Held S) (fold : Folded) (count : ℕ) (rest : List ℕ) (s : ℕ)
-      (others exams : List ℕ) → HasTaken store a b fold count all rest → rest ≡ s ∷ others
+  pub next_taken : {a b : Held S} {fold : Folded} {count : ℕ} {rest : List ℕ} {s : ℕ}
+      {others : List ℕ} (exams : List ℕ) → HasTaken store a b fold count all rest → rest ≡ s ∷ others
       → count + length exams ≤ 200000 → CanTake fold s (length exams)
-  next_taken a b fold count rest s others exams taken is few = record {
+  next_taken {s = s} {others = others} exams taken is few = record {
     pairs = taken.pairs;
     represents = taken.represents;
     few = omega (arith, few, taken.counted);
@@ -139,27 +283,31 @@ module _ {S : Type 0} (store : Ghosts S) (all : List ℕ) where
         (subst (All (λ s. All (λ p. p.student < s) taken.pairs)) is taken.below)).0;
   }
 
-  more_taken : (a b c : Held S) (fold next : Folded) (count more : ℕ) (rest : List ℕ) (s : ℕ)
-      (others exams : List ℕ) (taken : HasTaken store a b fold count all rest)
-      → rest ≡ s ∷ others → IsAscending rest → more ≡ count + length exams → more ≤ 200000
+  -- the exams that were read, as they were counted and as they were folded
+  pub read_taken : {a b c : Held S} {fold next : Folded} {count more : ℕ} {rest : List ℕ} {s : ℕ}
+      {others read counted exams : List ℕ} → HasTaken store a b fold count all rest
+      → rest ≡ s ∷ others → IsAscending rest → counted ≡ read → exams ≡ read
+      → more ≡ count + length counted → more ≤ 200000
       → ((pairs : List Pair) → RepresentsPairs fold pairs
       → RepresentsPairs next (pairs ++ pairs_sat (Some s) exams))
       → ((E : Enrolled) → HadEnrolments store a c E → HadEnrolments store a b E)
-      → ((E : Enrolled) → HadEnrolments store a c E → exams ≡ exams_sat E s)
+      → ((E : Enrolled) → HadEnrolments store a c E → read ≡ exams_sat E s)
       → HasTaken store a c next more all others
-  more_taken a b c fold next count more rest s others exams taken is up counted few represents
-      before
+  read_taken {s = s} {others = others} {exams = exams} taken is up one other adds few represents before
       are =
       record {
         pairs = taken.pairs ++ pairs_sat (Some s) exams;
         represents = represents taken.pairs taken.represents;
-        counted = omega (
-          arith,
-          counted,
-          taken.counted,
-          length-append taken.pairs (pairs_sat (Some s) exams),
-          mapped,
-        );
+        counted =
+            let same = ap length (one ∙ sym other) in
+            omega (
+              arith,
+              adds,
+              same,
+              taken.counted,
+              length-append taken.pairs (pairs_sat (Some s) exams),
+              length_sat s exams,
+            );
         few = few;
         below = All-from_recursion
             (λ n. All (λ p. p.student < n) (taken.pairs ++ pairs_sat (Some s) exams)) others
@@ -170,17 +318,11 @@ module _ {S : Type 0} (store : Ghosts S) (all : List ℕ) where
         are = λ E had.
             append_assoc taken.pairs (pairs_sat (Some s) exams) (pairs_of_students E others)
             ∙ ap (λ l. taken.pairs ++ (pairs_sat (Some s) l ++ pairs_of_students E others))
-            (are E had)
+            (other ∙ are E had)
             ∙ ap (λ l. taken.pairs ++ pairs_of_students E l) (sym is)
             ∙ taken.are E (before E had);
       }
     where
-      pair_sat : ℕ → ℕ → Pair
-      pair_sat s e = record { exam = e; student = s }
-
-      mapped : length (pairs_sat (Some s) exams) ≡ length exams
-      mapped = length-map exams (pair_sat s)
-
       own : (n : ℕ) (es : List ℕ) → s < n
           → AllByRecursion (λ p. p.student < n) (pairs_sat (Some s) es)
       own n [] l = tt
@@ -198,29 +340,13 @@ module _ {S : Type 0} (store : Ghosts S) (all : List ℕ) where
         each ns h.1 k.1,
       )
 
-  -- the exams that were read, as they were counted and as they were folded
-  pub read_taken : (a b c : Held S) (fold next : Folded) (count more : ℕ) (rest : List ℕ) (s : ℕ)
-      (others read counted folded : List ℕ) → HasTaken store a b fold count all rest
-      → rest ≡ s ∷ others → IsAscending rest → counted ≡ read → folded ≡ read
-      → more ≡ count + length counted → more ≤ 200000
-      → ((pairs : List Pair) → RepresentsPairs fold pairs
-      → RepresentsPairs next (pairs ++ pairs_sat (Some s) folded))
-      → ((E : Enrolled) → HadEnrolments store a c E → HadEnrolments store a b E)
-      → ((E : Enrolled) → HadEnrolments store a c E → read ≡ exams_sat E s)
-      → HasTaken store a c next more all others
-  read_taken a b c fold next count more rest s others read counted folded taken is up one other adds
-      few represents before are =
-      more_taken a b c fold next count more rest s others folded taken is up
-      (adds ∙ ap (λ (xs : List ℕ). count + length xs) (one ∙ sym other)) few represents before
-      (λ E had. other ∙ are E had)
-
   -- over a clean disk there are no more pairs than an office can have
-  pub not_more : (a b c : Held S) (fold : Folded) (count : ℕ) (rest : List ℕ) (s : ℕ)
-      (others exams : List ℕ) (taken : HasTaken store a b fold count all rest)
-      → rest ≡ s ∷ others → IsAscending all → (E : Enrolled) → HadEnrolments store a c E
+  pub not_more : {a b c : Held S} {fold : Folded} {count : ℕ} {rest : List ℕ} {s : ℕ}
+      {others exams : List ℕ} {E : Enrolled} → HasTaken store a b fold count all rest
+      → rest ≡ s ∷ others → IsAscending all → HadEnrolments store a c E
       → HadEnrolments store a b E → exams ≡ exams_sat E s → count + length exams ≤ 200000
-  not_more a b c fold count rest s others exams taken is up E had before are =
-      let known = are_known store a c E had in
+  not_more {s = s} {others = others} {exams = exams} {E = E} taken is up had before are =
+      let known = are_known had in
       let few = students_few E known (λ n. own_pairs E n known) all up in
       let whole = ap length (sym (taken.are E before)
       ∙ ap (λ l. taken.pairs ++ pairs_of_students E l) is
@@ -232,19 +358,13 @@ module _ {S : Type 0} (store : Ghosts S) (all : List ℕ) where
         taken.counted,
         length-append taken.pairs (pairs_sat (Some s) exams ++ pairs_of_students E others),
         length-append (pairs_sat (Some s) exams) (pairs_of_students E others),
-        mapped,
+        length_sat s exams,
       )
-    where
-      pair_sat : ℕ → ℕ → Pair
-      pair_sat s e = record { exam = e; student = s }
-
-      mapped : length (pairs_sat (Some s) exams) ≡ length exams
-      mapped = length-map exams (pair_sat s)
 
 -- the rest ascends too
-pub rise_on : (rest : List ℕ) (s : ℕ) (others : List ℕ) → rest ≡ s ∷ others → IsAscending rest
+pub rise_on : {rest : List ℕ} {s : ℕ} {others : List ℕ} → rest ≡ s ∷ others → IsAscending rest
     → IsAscending others
-rise_on rest s others is up =
+rise_on {s = s} {others = others} is up =
     ascending_from_chain others (chain_from_ascending (s ∷ others) (subst IsAscending is up)).1
 
 -- ---- rows in order
@@ -253,33 +373,12 @@ rise_on rest s others is up =
 abbrev IsSooner : EnrolRow → EnrolRow → Type 0
 IsSooner x y = x.exam < y.exam
 
-exams_chain : (rows : List EnrolRow) → IsChain IsSooner rows
-    → IsChain (λ x y. x < y) (map (λ (row : EnrolRow). row.exam) rows)
-exams_chain [] h = tt
-exams_chain (r ∷ rows) h = (each rows h.0, exams_chain rows h.1)
-  where
-    each : (qs : List EnrolRow) → AllByRecursion (IsSooner r) qs
-        → AllByRecursion (λ y. r.exam < y) (map (λ (row : EnrolRow). row.exam) qs)
-    each [] h = tt
-    each (q ∷ qs) h = (h.0, each qs h.1)
-
-rows_chain : (rows : List EnrolRow)
-    → IsChain (λ x y. x < y) (map (λ (row : EnrolRow). row.exam) rows) → IsChain IsSooner rows
-rows_chain [] h = tt
-rows_chain (r ∷ rows) h = (each rows h.0, rows_chain rows h.1)
-  where
-    each : (qs : List EnrolRow)
-        → AllByRecursion (λ y. r.exam < y) (map (λ (row : EnrolRow). row.exam) qs)
-        → AllByRecursion (IsSooner r) qs
-    each [] h = tt
-    each (q ∷ qs) h = (h.0, each qs h.1)
-
 pub in_order_is : (rows : List EnrolRow) (r : Bool)
     → IsAllAdjacentAnswer (λ (x y : EnrolRow) b. b ≡ nat_lt x.exam y.exam) rows r
     → IsTrue r ↔ IsAscending (map (λ (row : EnrolRow). row.exam) rows)
 in_order_is rows true all = (
-  λ _. ascending_from_chain _ (exams_chain rows (chain_from_next IsSooner
-      (λ x y z h k. omega (arith, h, k)) rows
+  λ _. ascending_from_chain _ (chain_map (λ x y. x < y) (λ (row : EnrolRow). row.exam) rows
+      (chain_from_next IsSooner (λ x y z h k. omega (arith, h, k)) rows
       (λ k d within. let test = all k d within in grind (arith, nat_tests, test)))),
   λ _. refl,
 )
@@ -289,8 +388,8 @@ in_order_is rows false some = (
       let d : EnrolRow = record { student = 0; exam = 0 } in
       let k : ℕ = some.0 in
       let less : (get_or rows k d).exam < (get_or rows (k + 1) d).exam
-      = index_from_chain IsSooner rows (rows_chain rows (chain_from_ascending _ up)) k (k + 1) d
-      (omega arith) some.1 in
+      = index_from_chain IsSooner rows (chain_unmap (λ x y. x < y) (λ (row : EnrolRow). row.exam) rows
+      (chain_from_ascending _ up)) k (k + 1) d (omega arith) some.1 in
       let test = some.2 d in
       absurd (not_less _ _ less test),
 )
@@ -300,18 +399,14 @@ in_order_is rows false some = (
 
 -- ---- a student's rows
 
-each_of_candidate : (s : ℕ) (exams : List ℕ)
-    → AllByRecursion (λ (row : EnrolRow). row.student ≡ s) (map (candidate_enrol_row s) exams)
-each_of_candidate s [] = tt
-each_of_candidate s (e ∷ exams) = (refl, each_of_candidate s exams)
-
 pub candidate_are_of : (s : ℕ) (rows : List EnrolRow) (exams : List ℕ) → rows
     ≡ map (candidate_enrol_row s) exams
     → All (λ (row : EnrolRow). row.student ≡ s) rows
 candidate_are_of s rows exams is =
     subst (All (λ (row : EnrolRow). row.student ≡ s)) (sym is)
     (All-from_recursion (λ (row : EnrolRow). row.student ≡ s) (map (candidate_enrol_row s) exams)
-    (each_of_candidate s exams))
+    (each_map (λ (row : EnrolRow). row.student ≡ s) (candidate_enrol_row s) exams
+    (each_all (λ e. s ≡ s) (λ e. refl) exams)))
 
 -- the student's rows are those of their exams
 pub candidate_back : (s : ℕ) (rows : List EnrolRow) → All (λ (row : EnrolRow). row.student ≡ s) rows
@@ -336,21 +431,15 @@ pub up_of : (s : ℕ) (rows : List EnrolRow) (exams : List ℕ) → rows
     → IsAscending exams → IsAscending (map (λ (row : EnrolRow). row.exam) rows)
 up_of s rows exams is up = subst IsAscending (sym (exams_are s rows exams is)) up
 
--- a result satisfies a weaker condition too
-pub ok_weaker : {A F : Type 0} (P Q : A → Type 0) (r : Result A F) → ((x : A) → P x → Q x)
-    → IfOk r P → IfOk r Q
-ok_weaker P Q (Ok x) less h = less x h
-ok_weaker P Q (Err e) less h = tt
-
 -- the rows that are read of a student are those of the student's exams
-pub rows_had : {S : Type 0} (store : Ghosts S) (a b : Held S) (E : Enrolled)
-    → HadEnrolments store a b E → (s n : ℕ) → n ≡ s → (found : Option (Vec EnrolRow Global))
-    → (rows : Vec EnrolRow Global) → found ≡ Some rows
+pub rows_had : {S : Type 0} {store : Ghosts S} {a b : Held S} {E : Enrolled} {s n : ℕ}
+    {found : Option (Vec EnrolRow Global)} {rows : Vec EnrolRow Global} → HadEnrolments store a b E
+    → n ≡ s → found ≡ Some rows
     → (HasCleanDisk (state store b) → (t : Tables) → HoldsTables (state store a).now t
     → AreListedIfFit FitsEnrol StudentEnrolsRise (filter (λ (x : EnrolRow). eqb x.student n) t.enrol)
     found)
     → rows.items ≡ map (candidate_enrol_row s) (exams_sat E s)
-rows_had store a b E had s n is found rows some reads =
+rows_had {s = s} {n = n} {rows = rows} had is some reads =
     let t = had.kept.held in
     let listed : AreListed StudentEnrolsRise (filter (λ (x : EnrolRow). eqb x.student n) t.enrol)
     rows.items = subst (AreListedIfFit FitsEnrol StudentEnrolsRise
@@ -361,12 +450,12 @@ rows_had store a b E had s n is found rows some reads =
     (rows_read t had.records n rows.items had.kept.represents had.kept.office listed.in_order))
 
 -- the student's rows are valid
-pub rows_fit : {S : Type 0} (store : Ghosts S) (a b : Held S) (E : Enrolled)
-    → HadEnrolments store a b E → (n : ℕ) (found : Option (Vec EnrolRow Global)) → found ≡ None
+pub rows_fit : {S : Type 0} {store : Ghosts S} {a b : Held S} {E : Enrolled} (n : ℕ)
+    {found : Option (Vec EnrolRow Global)} → HadEnrolments store a b E → found ≡ None
     → (HasCleanDisk (state store b) → (t : Tables) → HoldsTables (state store a).now t
     → AreListedIfFit FitsEnrol StudentEnrolsRise (filter (λ (x : EnrolRow). eqb x.student n) t.enrol)
     found) → ⊥
-rows_fit store a b E had n found none reads =
+rows_fit n had none reads =
     let t = had.kept.held in
     let unfit : AllByRecursion FitsEnrol (filter (λ (x : EnrolRow). eqb x.student n) t.enrol) → ⊥ =
     subst (AreListedIfFit FitsEnrol StudentEnrolsRise
@@ -376,26 +465,22 @@ rows_fit store a b E had n found none reads =
     (are_readable t (Some had.records) had.kept.represents had.kept.sound had.kept.office).enrol)
 
 pub sat_up : (E : Enrolled) (s : ℕ) → IsAscending (exams_sat E s)
-sat_up E s = ascending_from_chain (exams_sat E s) (chained (exams_sat E s) (sat_rise E s))
-  where
-    chained : (xs : List ℕ) → tree.IsAscending (λ x y. x < y) xs → IsChain (λ x y. x < y) xs
-    chained [] h = tt
-    chained (x ∷ xs) h = (h.0, chained xs h.1)
+sat_up E s = ascending_from_chain (exams_sat E s) (sat_rise E s)
 
 -- ---- the result of the fold
 
-pub returned_after : {S : Type 0} (store : Ghosts S) (a b : Held S) (fold : Folded) (I : Session)
-    (E : Enrolled) (judged : Judged) (edited sizes : List ℕ) (r : Option Penalty)
-    (pairs : List Pair) → HadEnrolments store a b E → IsEditOf I E judged
+pub returned_after : {S : Type 0} {store : Ghosts S} {a b : Held S} {fold : Folded} {I : Session}
+    {E : Enrolled} {judged : Judged} {edited sizes : List ℕ} {r : Option Penalty}
+    {pairs : List Pair} → HadEnrolments store a b E → IsEditOf I E judged
     → IsFoldOf fold I judged.draft.now.timetable judged.new edited → edited ≡ judged.exams.items
     → AreSizes E sizes → RepresentsPairs fold pairs
     → pairs ≡ pairs_of_students E (students_of_exams E judged.exams.items)
     → (IsOfEdit fold E pairs sizes judged.draft.now.parts → r ≡ Some (track fold.instance E
     fold.later))
     → ReturnsValue (track I E judged.new) (ok_or r BadSchema)
-returned_after store a b fold I E judged edited sizes r pairs had of is same sized represents are
-    scored =
-    let known = are_known store a b E had in
+returned_after {fold = fold} {I = I} {E = E} {judged = judged} {sizes = sizes} {r = r} {pairs = pairs}
+    had of is same sized represents are scored =
+    let known = are_known had in
     let exams = judged.exams.items in
     let moved : IsPermutation (pairs_concerned E exams) pairs
     = subst (IsPermutation (pairs_concerned E exams)) (sym are)
@@ -408,14 +493,12 @@ returned_after store a b fold I E judged edited sizes r pairs had of is same siz
     moved sized of.others of.scored)) in
     subst (λ o. ReturnsValue (track I E judged.new) (ok_or o BadSchema)) (sym some) refl
 
-pub fold_of : (fold empty : Folded) (I : Session) (old new : Placing) (edited : List ℕ)
+pub fold_of : {fold empty : Folded} {I : Session} {old new : Placing} {edited : List ℕ}
     → IsFoldOf fold empty.instance empty.earlier empty.later empty.edited
     → IsFoldOf empty I old new edited → IsFoldOf fold I old new edited
-fold_of fold empty I old new edited on is = record {
+fold_of on is = record {
   session = on.session ∙ is.session;
   before = on.before ∙ is.before;
   after = on.after ∙ is.after;
   exams = on.exams ∙ is.exams;
 }
-
--- ---- the students of exams

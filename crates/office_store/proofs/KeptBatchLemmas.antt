@@ -1,12 +1,12 @@
 -- The batches that an office keeps, by their rows.
-use Rattle.std.proofs.Common.{◌≡◌, ◌≢◌, ℕ, ◌≤◌, Bool, true, false, cond, eqb, List, [], ◌∷◌, map, filter, length}
-use Rattle.std.proofs.Common.{Option, Some, None, Ok, refl, sym, ◌∙◌, ap, subst, arith}
+use Rattle.std.proofs.Common.{◌≡◌, ◌≢◌, ℕ, ◌≤◌, Bool, true, false, cond, eqb, List, ◌∷◌, map, filter, length, [], Option, Some, None, Ok, refl, sym, ◌∙◌, ap, subst, arith}
 use Rattle.std.specs.Cmp.Lexicographic.{pointwise}
 use Rattle.std.specs.List.{AllByRecursion}
 use Rattle.std.specs.Prelude.{IsPermutation, ◌&&◌, nat_eq, not, option_to_list}
 use Rattle.std.proofs.lemmas.Bool.Decides.{nat_tests}
 use Rattle.std.proofs.lemmas.List.Sorted.{IsPermutation-sym}
 use Rattle.std.proofs.Math.Bool.{not-not}
+use Rattle.exam_lists.proofs.Parts.{same_head}
 use Rattle.exam_lists.proofs.Chains.{IsChain, chain_from_index}
 use Rattle.exam_lists.proofs.Permutations.{same_few}
 use Rattle.sqlite_trees.proofs.ListLemmas.{IsPermutation-filter, filter-map}
@@ -115,16 +115,13 @@ again_does None number bytes changes row spelled is = absurd cc
 again_does (Some r) number bytes changes row spelled is = go
     (batch_numbered number r.batches) refl is
   where
-    head_is : {X : Type 0} {x y : X} {xs ys : List X} → x ∷ xs ≡ y ∷ ys → x ≡ y
-    head_is e = cc
-
     go : (kept : Option KeptBatch) → batch_numbered number r.batches ≡ kept
         → IsRowOf kept (Some row)
         → CommandOutcome (batch_enrolled number bytes (Some r)) (Some r) (λ new. new ≡ Some r)
         (first_counts (batch_from row) bytes)
     go None there none = absurd cc
     go (Some k) there same =
-        let row_is : stored_batch k ≡ batch_from row = sym (head_is same) in
+        let row_is : stored_batch k ≡ batch_from row = sym (same_head same) in
         let gives : (unless (same_bytes k.bytes bytes) BatchDiffers >>= λ _. Ok (k.counts, Some r))
         ≡ batch_enrolled number bytes (Some r) = rw (spelled, there) refl in
         subst (λ b. CommandOutcome (batch_enrolled number bytes (Some r)) (Some r)

@@ -1,18 +1,18 @@
 -- What a later opening may find after calls, one after another.
-use Rattle.std.proofs.Common.{◌≡◌, ◌∙◌, Ok, Err, Result, IsTrue, arith, inl, refl, sym, subst}
+use Rattle.std.proofs.Common.{None, ◌≡◌, ◌∙◌, Ok, Err, Result, IsTrue, arith, inl, refl, sym, subst}
 use Rattle.std.proofs.lemmas.Result.{on_err_weaker, on_ok_weaker}
-use Rattle.std.specs.Prelude.{IfErr, OnOk}
+use Rattle.std.specs.Prelude.{IfErr}
 use Rattle.std.specs.Result.{IsErrAnd}
 use Rattle.sqlite.specs.Effect.{Database, IsDatabase}
 use Rattle.sqlite.specs.Held.{Held, state}
-use Rattle.sqlite.specs.State.{State, HasCleanDisk, Survives}
+use Rattle.sqlite.specs.State.{State, HasCleanDisk, IsUnchanged, Survives}
 use Rattle.sqlite.specs.Store.{Ghosts}
 use Rattle.sqlite.proofs.StateLemmas.{survives_then, survives_weaker}
 use Rattle.sqlite_trees.specs.Tree.{Trees}
-use Rattle.office_tables.specs.Alterations.{IsWritten, TablesChanged, TransactionRan, found_in}
+use Rattle.office_tables.specs.Alterations.{Committed, IsWritten, TablesChanged, TransactionRan, Undone, found_in}
 use Rattle.office_tables.specs.Schema.{IsBlank, no_schema}
-use Rattle.office_tables.specs.TablesHeld.{HoldsTables}
 use Rattle.office_tables.specs.Tables.{Tables, empty_tables}
+use Rattle.office_tables.specs.TablesHeld.{HoldsTables}
 use Rattle.office_model.specs.Commands.{CommandResult}
 use Rattle.office_model.specs.Office.{OfficeState}
 use Rattle.office_model.specs.declared.fault.StoreFault.{StoreFault}
@@ -20,11 +20,11 @@ use Rattle.office_model.specs.declared.fault.StoreFault.TheVariants.{Store}
 use Rattle.office_records.specs.Representation.{RepresentsOffice}
 use Rattle.office_store.specs.FoldReads.{HasRead, RowsUnchanged}
 use Rattle.office_store.specs.Leaving.{HoldsNext, LeavesNext, LeavesUnchanged, MayCommit, MayMake}
-use Rattle.office_store.specs.Running.{CommandRan, MatchesMemory, IsCommitted, StateUnchanged}
+use Rattle.office_store.specs.Running.{CommandRan, IsCommitted, IsFault, MatchesMemory, Represents, StateUnchanged}
 use Rattle.office_store.specs.declared.memory.OfficeMemory.{OfficeMemory}
 use Rattle.office_tables.proofs.TurnLemmas.{ran_weaker}
-use Rattle.office_store.proofs.CommandLemmas.{Moves, runs, runs_undone, stays_then, stays_undone}
-use Rattle.office_store.proofs.RunLemmas.{at_hand}
+use Rattle.office_store.proofs.CommandLemmas.{MovesBy, RowsChanged, read_inside, there_inside}
+use Rattle.office_store.proofs.RunLemmas.{now_still, rest_still, still_then, still_undone}
 
 -- ---- nothing is committed
 
@@ -53,220 +53,177 @@ pub survives_on : (a b c : State) → Survives a b (λ _. ⊥) → Survives b c 
     → Survives a c (λ _. ⊥)
 survives_on a b c = survives_then a b c _ _ _ (λ _ db none. none) (λ _ db none. none)
 
--- a call on the connection inside an office
-pub survives_at : {S : Type 0} (g : Ghosts S) (start inside after : Held S) (P : Trees → Type 0)
-    → inside ≡ start → Survives (state g inside) (state g after) P
-    → Survives (state g start) (state g after) P
-survives_at g start inside after P view =
-    subst (λ h. Survives (state g h) (state g after) P) view
-
 -- ---- a command
 
--- what a later opening may find after a command
-abbrev pub SurvivesNext : {S A : Type 0} → Ghosts S → (OfficeState → CommandResult A) → Held S
-    → Held S
-    → Result A StoreFault → Type 0
-SurvivesNext g command old new result =
-    Survives (state g old) (state g new) (MayCommit command (state g old) result)
-
-next_before : {A : Type 0} (command : OfficeState → CommandResult A) (before mid : State)
-    → StateUnchanged before mid → (found : Trees) → HoldsNext command mid found
-    → HoldsNext command before found
-next_before command before mid still found next =
-    let was = still next.was_open in
-    record {
-      was_open = was.0;
-      sound = next.sound;
-      office = next.office;
-      stood = subst (λ db. RepresentsOffice db next.office) was.1 next.stood;
-      holds = λ there kept.
-          next.holds there (subst (λ db. RepresentsOffice db there) (sym was.1) kept);
-    }
-
 -- a command after a reader
-pub leaves_then : {S A B F : Type 0} {r : Result B F} (g : Ghosts S)
-    (command : OfficeState → CommandResult A) (before mid after : Held S)
-    (result : Result A StoreFault) → LeavesUnchanged g before mid r
+pub leaves_then : {S A B F : Type 0} {r : Result B F} {g : Ghosts S}
+    {command : OfficeState → CommandResult A} {before mid after : Held S}
+    {result : Result A StoreFault} → LeavesUnchanged g before mid r
     → LeavesNext g command mid after result → LeavesNext g command before after result
-leaves_then g command before mid after result read next = record {
+leaves_then {g = g} {before = before} {mid = mid} {after = after} {result = result} read next = record {
   clean = λ k. read.clean (next.clean k);
-  unchanged_on_err = stays_then g before mid after result read next.clean next.unchanged_on_err;
+  unchanged_on_err = λ k. on_err_weaker result
+      (still_then (state g before) (state g mid) (state g after) (read.unchanged (next.clean k)))
+      (next.unchanged_on_err k);
   all_committed = next.all_committed;
-  survives = survives_then (state g before) (state g mid) (state g after) (λ _. ⊥)
-      (MayCommit command (state g mid) result) (MayCommit command (state g before) result)
+  survives = survives_then (state g before) (state g mid) (state g after) (λ _. ⊥) _ _
       (λ _ db none. absurd none)
-      (λ k found may. (
+      (λ k found may.
+      let was = read.unchanged (next.clean k) may.1.was_open in (
         may.0,
-        next_before command (state g before) (state g mid) (read.unchanged (next.clean k)) found
-            may.1,
+        record {
+          was_open = was.0;
+          sound = may.1.sound;
+          office = may.1.office;
+          stood = subst (λ db. RepresentsOffice db may.1.office) was.1 may.1.stood;
+          holds = λ there kept.
+              may.1.holds there (subst (λ db. RepresentsOffice db there) (sym was.1) kept);
+        },
       )) read.survives next.survives;
 }
 
--- a failed statement is not a refusal with a named fault
-is_failed : {A : Type 0} (result : Result A StoreFault) → IsErrAnd result (λ e. e ≡ Store)
-    → IfErr result (λ e. e ≡ Store)
-is_failed (Ok x) is = tt
-is_failed (Err e) is = is
-
--- the tables have this change, whether their schema is listed or not
-abbrev pub RowsChanged : (Tables → Tables) → Database → Database → Type 0
-RowsChanged f old new = (t : Tables) → HoldsTables old t → HoldsTables new (f t)
-
 -- readers, and then a transaction that leads to the office after the command
-module _ {S A B F : Type 0} {y : B} (g : Ghosts S) (command : OfficeState → CommandResult A)
-    (before mid inside after : Held S) (m : OfficeMemory) (view : inside ≡ mid)
-    (rest : MatchesMemory (state g inside) m)
-    (read : LeavesUnchanged {A = B} {E = F} g before mid (Ok y)) (f : Tables → Tables) (x : A)
-    (live : HasCleanDisk (state g after) → IsTrue (state g inside).is_open
-    → IsDatabase (state g inside).now)
-    (put : Survives (state g inside) (state g after)
-    (λ found. TablesChanged f (state g inside).now (found_in found)))
-    (moves : HasCleanDisk (state g after) → (found : Trees)
-    → RowsChanged f (state g inside).now (found_in found)
-    → Moves command x (state g inside).now (found_in found) m) where
+module _ {S A B F U E : Type 0} {y : B} {g : Ghosts S} {command : OfficeState → CommandResult A}
+    {x : A} {r : Result U E} {before mid inside after : Held S} {m : OfficeMemory} {f : Tables → Tables}
+    (view : inside ≡ mid) (rest : MatchesMemory (state g inside) m)
+    (looked : LeavesUnchanged {A = B} {E = F} g before mid (Ok y))
+    (ran : TransactionRan g (TablesChanged f) inside after r)
+    (moves : HasCleanDisk (state g after) → MovesBy f command x (state g inside).now m) where
+  read : LeavesUnchanged {A = B} {E = F} g before inside (Ok y)
+  read = read_inside view rest looked
+
+  -- the office that the changed tables represent, from one before
+  next_of : HasCleanDisk (state g after) → (o : OfficeState) → Represents (state g before) o
+      → (db : Database) → RowsChanged f (state g inside).now db
+      → (new : OfficeState) × (command o ≡ Ok (x, new)) × RepresentsOffice db new
+  next_of k o now db changed =
+      let here = there_inside view rest looked (ran.clean k) o now in
+      moves k db changed o here.0 here.1
+
   next_held : HasCleanDisk (state g after) → (found : Trees)
       → TablesChanged f (state g inside).now (found_in found) → HoldsNext command (state g before) found
-  next_held after_clean found changed =
-      let clean : HasCleanDisk (state g inside) = omega (arith, put.clean, after_clean) in
-      let there = subst (λ h. HasCleanDisk (state g h)) view clean in
-      let was = read.unchanged there (read.all_committed there).0 in
-      let opened = (subst (λ h. IsCommitted (state g h)) (sym view)
-      (read.all_committed there)).0 in
-      let stood = rest clean opened in
-      let at_start : (o : OfficeState) → RepresentsOffice (state g before).now o
-      → RepresentsOffice (state g inside).now o
-      = λ o kept. subst (λ h. RepresentsOffice (state g h).now o) (sym view)
-      (subst (λ db. RepresentsOffice db o) (sym was.1) kept) in
+  next_held k found changed =
+      let opened = (read.all_committed (ran.clean k)).0 in
+      let was = read.unchanged (ran.clean k) opened in
+      let stood = rest (ran.clean k) opened in
       record {
         was_open = was.0;
-        sound = (changed stood.1.held stood.1.tables).1 (live after_clean opened);
+        sound = (changed stood.1.held stood.1.tables).1 (ran.sound k opened);
         office = stood.0;
-        stood = subst (λ db. RepresentsOffice db stood.0) was.1
-            (subst (λ h. RepresentsOffice (state g h).now stood.0) view stood.1);
+        stood = subst (λ db. RepresentsOffice db stood.0) was.1 stood.1;
         holds = λ o kept.
-            let here = at_start o kept in
-            let moved = moves after_clean found (λ t held. (changed t held).0) o here
-            (at_hand (state g inside) m o rest clean opened here) in
-            (x, moved.0, moved.1, moved.2);
+            let next = next_of k o (λ _. kept) (found_in found) (λ t held. (changed t held).0) in
+            (x, next.0, next.1, next.2);
       }
 
-  survives_by : (result : Result A StoreFault) → IfErr result (λ e. e ≡ Store)
-      → SurvivesNext g command before after result
-  survives_by result unrefused =
-      survives_then (state g before) (state g mid) (state g after) _ _
+  survives_next : (result : Result A StoreFault) → IfErr result (λ e. e ≡ Store)
+      → Survives (state g before) (state g after) (MayCommit command (state g before) result)
+  survives_next result unrefused =
+      survives_then (state g before) (state g inside) (state g after) _ _
       (MayCommit command (state g before) result) (λ _ db none. absurd none)
-      (λ clean db changed. (unrefused, next_held clean db changed)) read.survives
-      (survives_at g mid inside after _ view put)
+      (λ k db changed. (unrefused, next_held k db changed)) read.survives ran.survives
 
--- the transaction is done: the command ran
-pub done_next : {S A B F U E : Type 0} {y : B} {u : U} (g : Ghosts S)
-    (command : OfficeState → CommandResult A) (before mid inside after : Held S)
-    (m : OfficeMemory) → inside ≡ mid → MatchesMemory (state g inside) m
-    → LeavesUnchanged {A = B} {E = F} g before mid (Ok y) → (f : Tables → Tables) (x : A)
-    → TransactionRan {A = U} {E = E} g (TablesChanged f) inside after (Ok u)
-    → (HasCleanDisk (state g after) → (db : Database)
-    → RowsChanged f (state g inside).now db
-    → Moves command x (state g inside).now db m)
-    → CommandRan g command before after (Ok x) × LeavesNext g command before after (Ok x)
-done_next g command before mid inside after m view rest read f x altered moves = (
-  runs g command before mid inside m view rest read after x altered.clean
-      (λ k. moves k (state g after).now (λ t held. ((altered.done k).related t held).0)),
-  record {
-    clean = λ k. read.clean (subst (λ h. HasCleanDisk (state g h)) view (altered.clean k));
-    unchanged_on_err = λ k. tt;
-    all_committed = λ k. ((altered.done k).is_open, (altered.done k).committed);
-    survives = survives_by g command before mid inside after m view rest read f x altered.sound
-        altered.survives (λ k found. moves k (found_in found)) (Ok x) tt;
-  },
-)
+  -- the transaction is done: the command ran
+  pub done_next : (HasCleanDisk (state g after)
+      → Committed (TablesChanged f) (state g inside) (state g after))
+      → record {
+        runs : CommandRan g command before after (Ok x);
+        leaves : LeavesNext g command before after (Ok x);
+      }
+  done_next done = record {
+    runs = λ k o now.
+        let next = next_of k o now (state g after).now (λ t held. ((done k).related t held).0) in
+        (next.0, next.1, λ _. next.2);
+    leaves = record {
+      clean = λ k. read.clean (ran.clean k);
+      unchanged_on_err = λ k. tt;
+      all_committed = λ k. ((done k).is_open, (done k).committed);
+      survives = survives_next (Ok x) tt;
+    };
+  }
 
-nothing_done : {A : Type 0} (result : Result A StoreFault) (P : Type 0)
-    → IsErrAnd result (λ e. e ≡ Store) → OnOk result P
-nothing_done (Ok x) P is = absurd is
-nothing_done (Err e) P is = tt
+  -- the transaction is undone: the command was refused with a failed statement
+  pub undone_next : {result : Result A StoreFault}
+      → (HasCleanDisk (state g after) → Undone (state g inside) (state g after))
+      → IsErrAnd result (λ e. e ≡ Store)
+      → record {
+        runs : CommandRan g command before after result;
+        leaves : LeavesNext g command before after result;
+      }
+  undone_next {result = Ok z} undone is = absurd is
+  undone_next {result = Err e} undone is = record {
+    runs = λ k o now. subst (λ e. IsFault (command o) e × Represents (state g after) o) (sym is)
+        (tt, now_still (state g before) (state g after) o (still k) now);
+    leaves = record {
+      clean = λ k. read.clean (ran.clean k);
+      unchanged_on_err = still;
+      all_committed = λ k. tt;
+      survives = survives_next (Err e) is;
+    };
+  }
+    where
+      still : HasCleanDisk (state g after) → StateUnchanged (state g before) (state g after)
+      still k =
+          still_then (state g before) (state g inside) (state g after) (read.unchanged (ran.clean k))
+          (still_undone (state g inside) (state g after)
+          (λ _. (read.all_committed (ran.clean k)).1) (undone k))
 
--- the transaction is undone: the command was refused with a failed statement
-pub undone_next : {S A B F U E : Type 0} {y : B} {e : E} (g : Ghosts S)
-    (command : OfficeState → CommandResult A) (before mid inside after : Held S)
-    (m : OfficeMemory) → inside ≡ mid → MatchesMemory (state g inside) m
-    → LeavesUnchanged {A = B} {E = F} g before mid (Ok y) → (f : Tables → Tables) (x : A)
-    → TransactionRan {A = U} {E = E} g (TablesChanged f) inside after (Err e)
-    → (HasCleanDisk (state g after) → (db : Database)
-    → RowsChanged f (state g inside).now db
-    → Moves command x (state g inside).now db m)
-    → (result : Result A StoreFault) → IsErrAnd result (λ e. e ≡ Store)
-    → CommandRan g command before after result × LeavesNext g command before after result
-undone_next g command before mid inside after m view rest read f x altered moves result is = (
-  runs_undone g command before mid inside after view read altered.clean altered.undone result is,
-  record {
-    clean = λ k. read.clean (subst (λ h. HasCleanDisk (state g h)) view (altered.clean k));
-    unchanged_on_err = stays_undone g before mid inside after view read altered.clean
-        altered.undone result;
-    all_committed = λ k. nothing_done result (IsCommitted (state g after)) is;
-    survives = survives_by g command before mid inside after m view rest read f x altered.sound
-        altered.survives (λ k found. moves k (found_in found)) result (is_failed result is);
-  },
-)
-
--- a transaction that changes the tables after the readers changes those before them
-changed_on : {S : Type 0} (g : Ghosts S) (a b : Held S) (c : Database) → RowsUnchanged g a b
-    → HasCleanDisk (state g b) → IsTrue (state g a).is_open → (make : Tables → Tables)
-    → TablesChanged make (state g b).now c → TablesChanged make (state g a).now c
-changed_on g a b c same clean opened make makes t held =
-    let still = (same clean t held opened).0.now_is in
-    let made = makes t (subst (λ db. HoldsTables db t) (sym still) held) in
-    (made.0, λ was. made.1 (subst IsDatabase (sym still) was))
+-- the memory is still the office's
+pub rest_undone : {S U E : Type 0} {g : Ghosts S} {inside after : Held S} {m : OfficeMemory}
+    {f : Tables → Tables} {r : Result U E} → MatchesMemory (state g inside) m
+    → (HasCleanDisk (state g inside) → IsCommitted (state g inside))
+    → TransactionRan g (TablesChanged f) inside after r
+    → (HasCleanDisk (state g after) → Undone (state g inside) (state g after))
+    → MatchesMemory (state g after) m
+rest_undone {g = g} {inside = inside} {after = after} {m = m} rest committed ran undone =
+    rest_still (state g inside) (state g after) m ran.clean
+    (λ k. still_undone (state g inside) (state g after) (λ _. (committed (ran.clean k)).1) (undone k)) rest
 
 -- a transaction on what was read is one on what the tables held before
-pub altered_on : {S A E : Type 0} (g : Ghosts S) (a b c : Held S) (m : OfficeMemory)
-    → MatchesMemory (state g a) m → HasRead g a b → RowsUnchanged g a b
-    → (HasCleanDisk (state g a) → IsTrue (state g a).is_open) → (alter : Tables → Tables)
-    (result : Result A E) → TransactionRan g (TablesChanged alter) b c result
-    → TransactionRan g (TablesChanged alter) a c result
-altered_on g a b c m rest read same opened alter result altered = record {
-  done = λ k. on_ok_weaker result (λ done. record {
-    was_open = read.was_open (altered.clean k) done.was_open;
-    is_open = done.is_open;
-    committed = done.committed;
-    related = changed_on g a b (state g c).now same (altered.clean k)
-        (read.was_open (altered.clean k) done.was_open) alter done.related;
-  }) (altered.done k);
-  undone = λ k. on_err_weaker result (λ back. record {
-    was_open = λ opened. read.was_open (altered.clean k) (back.was_open opened);
-    now = λ opened. back.now opened ∙ kept k (back.was_open opened);
-    committed = λ opened. back.committed opened ∙ kept k (back.was_open opened);
-  }) (altered.undone k);
-  rests = altered.rests;
-  clean = λ k. read.clean (altered.clean k);
-  sound = λ k opened_before.
+module _ {S A E : Type 0} {g : Ghosts S} {a b c : Held S} {m : OfficeMemory} {f : Tables → Tables}
+    {result : Result A E} (rest : MatchesMemory (state g a) m) (read : HasRead g a b)
+    (same : RowsUnchanged g a b)
+    (opened : HasCleanDisk (state g a) → IsTrue (state g a).is_open)
+    (altered : TransactionRan g (TablesChanged f) b c result) where
+  still : HasCleanDisk (state g c) → IsUnchanged (state g a) (state g b)
+  still k =
       let mid = altered.clean k in
-      let here = rest (read.clean mid) opened_before in
-      let still = (same mid here.1.held here.1.tables opened_before).0 in
-      subst IsDatabase still.now_is (altered.sound k still.is_open);
-  survives = survives_then (state g a) (state g b) (state g c) (λ _. ⊥)
-      (λ found. TablesChanged alter (state g b).now (found_in found))
-      (λ found. TablesChanged alter (state g a).now (found_in found))
-      (λ _ db none. absurd none)
-      (λ k found changed.
-      let mid = altered.clean k in
-      changed_on g a b (found_in found) same mid (opened (read.clean mid)) alter changed)
-      read.survives altered.survives;
-}
-  where
-    kept : HasCleanDisk (state g c) → IsTrue (state g b).is_open
-        → (state g b).committed ≡ (state g a).committed
-    kept k opened =
-        let mid = altered.clean k in
-        let was = read.was_open mid opened in
-        let here = rest (read.clean mid) was in
-        (same mid here.1.held here.1.tables was).0.committed_is
+      let was = opened (read.clean mid) in
+      let here = rest (read.clean mid) was in
+      same mid here.1.held here.1.tables was
+
+  changed : HasCleanDisk (state g c) → (db : Database) → TablesChanged f (state g b).now db
+      → TablesChanged f (state g a).now db
+  changed k db = subst (λ old. TablesChanged f old db) (still k).0.now_is
+
+  pub altered_on : TransactionRan g (TablesChanged f) a c result
+  altered_on = record {
+    done = λ k. on_ok_weaker result (λ done. record {
+      was_open = (still k).0.was_open;
+      is_open = done.is_open;
+      committed = done.committed;
+      related = changed k (state g c).now done.related;
+    }) (altered.done k);
+    undone = λ k. on_err_weaker result (λ back. record {
+      was_open = λ _. (still k).0.was_open;
+      now = λ o. back.now o ∙ (still k).0.committed_is;
+      committed = λ o. back.committed o ∙ (still k).0.committed_is;
+    }) (altered.undone k);
+    rests = altered.rests;
+    clean = λ k. read.clean (altered.clean k);
+    sound = λ k _. subst IsDatabase (still k).0.now_is (altered.sound k (still k).0.is_open);
+    survives = survives_then (state g a) (state g b) (state g c) (λ _. ⊥)
+        (λ found. TablesChanged f (state g b).now (found_in found))
+        (λ found. TablesChanged f (state g a).now (found_in found))
+        (λ _ db none. absurd none) (λ k found. changed k (found_in found)) read.survives altered.survives;
+  }
 
 -- an alteration that makes the same tables
-pub same_altered : {S A E : Type 0} (g : Ghosts S) (old new : Held S) (f h : Tables → Tables)
-    (result : Result A E) → TransactionRan g (TablesChanged f) old new result
+pub same_altered : {S A E : Type 0} {g : Ghosts S} {old new : Held S} {f h : Tables → Tables}
+    {result : Result A E} → TransactionRan g (TablesChanged f) old new result
     → ((t : Tables) → f t ≡ h t) → TransactionRan g (TablesChanged h) old new result
-same_altered g old new f h result altered same =
-    ran_weaker g old new result (TablesChanged f) (TablesChanged h)
+same_altered {g = g} {old = old} {new = new} {result = result} altered same =
+    ran_weaker g old new result _ _
     (λ a b changed t held. subst (λ all. IsWritten all a b) (same t) (changed t held)) altered
 
 -- ---- a new office
@@ -274,6 +231,16 @@ same_altered g old new f h result altered same =
 -- a database without a table has no row
 pub bare_blank : (db : Database) → db.schema ≡ no_schema → IsBlank no_schema db
 bare_blank db bare = record { schema_is = bare; rows = tt }
+
+-- empty tables represent the office without a session
+pub empty_represents : {db : Database} → HoldsTables db empty_tables → RepresentsOffice db None
+empty_represents held = record {
+  held = empty_tables;
+  tables = held;
+  represents = refl;
+  sound = tt;
+  office = tt;
+}
 
 pub may_make : {S : Type 0} (g : Ghosts S) (old new : Held S)
     (result : Result (Held S) (StoreFault × Held S)) → (state g old).now.schema ≡ no_schema
@@ -288,12 +255,6 @@ may_make g old new result bare unrefused survives live =
     let made = makes (bare_blank (state g old).now bare) in (
       bare,
       unrefused,
-      record {
-        held = empty_tables;
-        tables = made.0;
-        represents = refl;
-        sound = tt;
-        office = tt;
-      },
+      empty_represents made.0,
       λ opened. made.1 (live k opened),
     )) survives

@@ -1,5 +1,5 @@
 -- A session that is loaded.
-use Rattle.std.proofs.Common.{◌≡◌, ℕ, ◌+◌, ◌<◌, List, [], ◌∷◌, ◌++◌, map, length, take, get_or, Some, None, refl, sym, ◌∙◌, ap, arith, subst, reverse, true, false}
+use Rattle.std.proofs.Common.{◌≡◌, ℕ, ◌+◌, ◌<◌, List, ◌∷◌, ◌++◌, map, length, take, get_or, Some, None, refl, sym, ◌∙◌, ap, arith, subst, reverse, true, false, []}
 use Rattle.std.specs.Prelude.{IsPermutation, is_some, is_none, Ok, Err}
 use Rattle.std.proofs.lemmas.List.{append-nil, append_assoc, map-append, take_more, length-take, length-map}
 use Rattle.std.proofs.lemmas.List.Sorted.{IsPermutation-sym, IsPermutation-reverse, IsPermutation-refl, IsPermutation-trans}
@@ -28,7 +28,7 @@ use Rattle.office_model.specs.declared.counts.Loaded as loading
 use Rattle.office_model.proofs.RecordLemmas.{fresh_records}
 use Rattle.office_store.specs.Memory.{IsMemoryOf}
 use Rattle.office_store.specs.declared.memory.OfficeMemory.{OfficeMemory}
-use Rattle.office_store.proofs.CommandLemmas.{Denies, Moves, Remembers}
+use Rattle.office_store.proofs.CommandLemmas.{Denies, MovesBy, Remembers, RowsChanged}
 use Rattle.office_store.proofs.RememberingLemmas.{next_is}
 use Rattle.office_records.specs.FoundPublications.{publication_from}
 use Rattle.office_records.specs.Representation.{TablesRepresentRecords, RepresentsOffice}
@@ -140,55 +140,45 @@ none_kept m (Some r) e is = absurd (let no = ap is_some e.session ∙ is in cc)
 
 -- ---- the command, by what is in memory
 
-pub load_denied : (text : List ℕ) (s : Session × Enrolled) (a : Database) (m : OfficeMemory)
+pub load_denied : (text : List ℕ) {s : Session × Enrolled} {a : Database} {m : OfficeMemory}
     → instance_in text ≡ Ok s → is_some m.kept ≡ true → Denies (load_session text) Loaded a m
-load_denied text s a m read some o kept is = loaded_again text s o read (some_kept m o is some)
+load_denied text read some o kept is = loaded_again text _ o read (some_kept _ o is some)
 
--- the rows that are inserted are those that were made
-pub same_pairs : (its made : List InsertEnrol) (E : Enrolled) → its ≡ made
-    → IsPermutation (map (λ (it : InsertEnrol). it.row) made) (map enrol_row (pairs_of E))
-    → IsPermutation (map (λ (it : InsertEnrol). it.row) its) (map enrol_row (pairs_of E))
-same_pairs its made E same are =
-    subst (λ l. IsPermutation (map (λ (it : InsertEnrol). it.row) l) (map enrol_row (pairs_of E)))
-    (sym same) are
+module _ (text : List ℕ) (I : Session) (E : Enrolled) {counts : loading.Loaded} {a : Database}
+    {m : OfficeMemory} (read : instance_in text ≡ Ok (I, E)) (counted : counts ≡ session_counts (I, E))
+    (empty : is_some m.kept ≡ false) where
+  pub load_moves : {stored : List ℕ} {its made : List InsertEnrol}
+      → stored ≡ canonical_instance I (no_pairs (length I.exams)) → its ≡ made
+      → IsPermutation (map (λ (it : InsertEnrol). it.row) made) (map enrol_row (pairs_of E))
+      → IsInstance I → AreEnrolled I E
+      → MovesBy (λ t. after_all (λ (it : InsertEnrol). with_enrol it.row) its
+      (with_meta false stored (no_meta t))) (load_session text) counts a m
+  load_moves {stored = stored} {its = its} is_text same made is are b comes o kept held =
+      let none = none_kept m o held empty in
+      let rows = map (λ (it : InsertEnrol). it.row) its in
+      let makes : RowsChanged (session_put stored rows) a b
+      = λ t h. subst (HoldsTables b) (enrols_put its (with_meta false stored (no_meta t))) (comes t h) in
+      (
+        Some (new_records (I, E)),
+        ap (load_session text) none ∙ loaded_first text (I, E) read
+            ∙ ap (λ k. Ok (k, Some (new_records (I, E)))) (sym counted),
+        session_kept I E stored rows is_text
+            (subst (λ l. IsPermutation (map (λ (it : InsertEnrol). it.row) l)
+            (map enrol_row (pairs_of E))) (sym same) made) a b
+            (subst (RepresentsOffice a) none kept) makes is are,
+      )
 
-pub load_moves : (text : List ℕ) (I : Session) (E : Enrolled) (counts : loading.Loaded)
-    (stored : List ℕ) (its : List InsertEnrol) (a b : Database) (m : OfficeMemory)
-    → instance_in text ≡ Ok (I, E) → counts ≡ session_counts (I, E)
-    → stored ≡ canonical_instance I (no_pairs (length I.exams))
-    → IsPermutation (map (λ (it : InsertEnrol). it.row) its) (map enrol_row (pairs_of E))
-    → IsInstance I
-    → AreEnrolled I E → is_some m.kept ≡ false
-    → ((t : Tables) → HoldsTables a t → HoldsTables b (after_all (λ (it : InsertEnrol). with_enrol it.row) its
-    (with_meta false stored (no_meta t))))
-    → Moves (load_session text) counts a b m
-load_moves text I E counts stored its a b m read counted is_text are_rows is are empty comes o kept
-    held =
-    let none = none_kept m o held empty in
-    let rows = map (λ (it : InsertEnrol). it.row) its in
-    let makes : (t : Tables) → HoldsTables a t → HoldsTables b (session_put stored rows t)
-    = λ t h. subst (HoldsTables b) (enrols_put its (with_meta false stored (no_meta t))) (comes t h) in (
-      Some (new_records (I, E)),
-      ap (load_session text) none ∙ loaded_first text (I, E) read
-          ∙ ap (λ k. Ok (k, Some (new_records (I, E)))) (sym counted),
-      session_kept I E stored rows is_text are_rows a b
-          (subst (RepresentsOffice a) none kept) makes is are,
-    )
-
-pub load_remembers : (text : List ℕ) (I : Session) (E : Enrolled) (counts : loading.Loaded)
-    (a : Database) (m n : OfficeMemory) → instance_in text ≡ Ok (I, E)
-    → counts ≡ session_counts (I, E) → is_some m.kept ≡ false → n.kept ≡ Some (I, E) → n.batches ≡ 0
-    → ((d : ℕ) → draft_at n.drafts d ≡ None) → n.published ≡ None → n.priced ≡ None
-    → Remembers (load_session text) counts a m n
-load_remembers text I E counts a m n read counted empty kept batches drafts published priced o here is
-    new gives =
-    subst (λ o. IsMemoryOf o n)
-    (next_is (ap (load_session text) (sym (none_kept m o is empty)) ∙ gives)
-    (loaded_first text (I, E) read))
-    (record {
-      session = sym kept;
-      batches = sym batches;
-      drafts = drafts;
-      published = sym (ap publication_from published);
-      priced = sym priced;
-    })
+  pub load_remembers : {n : OfficeMemory} → n.kept ≡ Some (I, E) → n.batches ≡ 0
+      → ((d : ℕ) → draft_at n.drafts d ≡ None) → n.published ≡ None → n.priced ≡ None
+      → Remembers (load_session text) counts a m n
+  load_remembers {n = n} kept batches drafts published priced o here is new gives =
+      subst (λ o. IsMemoryOf o n)
+      (next_is (ap (load_session text) (sym (none_kept m o is empty)) ∙ gives)
+      (loaded_first text (I, E) read))
+      (record {
+        session = sym kept;
+        batches = sym batches;
+        drafts = drafts;
+        published = sym (ap publication_from published);
+        priced = sym priced;
+      })

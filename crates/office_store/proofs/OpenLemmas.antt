@@ -1,6 +1,5 @@
 -- The office that a database represents when it is opened, by whether it has a table.
 use Rattle.std.proofs.Common.{◌≡◌, ◌∙◌, ◌⊎◌, None, ap, arith, inl, inr, length, sym, Bool, true, false}
-use Rattle.std.proofs.Common.{Err, IfErr, IfOk, Ok, Result}
 use Rattle.std.specs.Prelude.{IsTrue}
 use Rattle.sqlite.specs.Effect.{Database}
 use Rattle.sqlite_schema.specs.declared.schema.Schema.{Schema}

@@ -1,10 +1,8 @@
 -- An owner in place of another.
-use Rattle.std.proofs.Common.{◌≡◌, ℕ, ◌<◌, ◌≤◌, Bool, true, false, cond, not, eqb, List, [], ◌∷◌, map, filter, refl, sym, ◌∙◌, ap, arith, subst, Ok, Err, Result}
+use Rattle.std.proofs.Common.{◌≡◌, ℕ, ◌<◌, ◌≤◌, Bool, true, false, cond, not, eqb, List, ◌∷◌, map, filter, refl, sym, ◌∙◌, ap, arith, subst, Ok, Err, Result, []}
 use Rattle.std.proofs.lemmas.Bool.Decides.{nat_tests}
 use Rattle.std.specs.Prelude.{Option, Some, None, length, IsPermutation}
-use Rattle.std.proofs.lemmas.List.Sorted.{IsPermutation-map, length_permutation}
-use Rattle.exam_lists.proofs.Keys.{all_of_other, none_of}
-use Rattle.exam_lists.proofs.Permutations.{same_one}
+use Rattle.exam_lists.proofs.Permutations.{few_read}
 use Rattle.sqlite.specs.Effect.{Database}
 use Rattle.office_tables.specs.Alterations.{after_some}
 use Rattle.office_tables.specs.Tables.{Tables}
@@ -19,8 +17,9 @@ use Rattle.office_model.specs.Office.{OfficeState, Records, set_at}
 use Rattle.office_model.proofs.RecordLemmas.{owner_records}
 use Rattle.office_store.specs.Memory.{IsMemoryOf}
 use Rattle.office_store.specs.declared.memory.OfficeMemory.{OfficeMemory}
-use Rattle.office_store.proofs.CommandLemmas.{Denies, Moves, Remembers}
-use Rattle.office_store.proofs.RememberingLemmas.{all_stays, next_is}
+use Rattle.office_store.proofs.CommandLemmas.{Denies, MovesBy, Remembers, RowsChanged}
+use Rattle.office_store.proofs.CallLemmas.{of_key_removed, of_key_replaced}
+use Rattle.office_store.proofs.RememberingLemmas.{next_is}
 use Rattle.office_store.proofs.RunLemmas.{kept_of}
 use Rattle.exam_draft.specs.Edits.{exam_exists}
 use Rattle.exam_draft.specs.declared.fault.EditFault.TheVariants.{NoSuch}
@@ -39,12 +38,8 @@ module _ (t : Tables) (r : Records) (e d : ℕ) (h : TablesRepresentRecords t r)
 
   none : (x : ℕ) (b : Bool) → eqb x e ≡ b
       → map (λ (o : OwnerRow). o.dept) (owners_at x left) ≡ some_dept (cond b 0 (r.owner_of x))
-  none x true f =
-      ap (map (λ (o : OwnerRow). o.dept))
-      (none_of (λ (o : OwnerRow). o.exam) e x (grind (arith, nat_tests, f)) t.owner)
-  none x false f =
-      ap (map (λ (o : OwnerRow). o.dept)) (all_of_other (λ (o : OwnerRow). o.exam) e x f t.owner)
-      ∙ h.owner x
+  none x true f = of_key_removed (λ (o : OwnerRow). o.exam) (λ o. o.dept) e x true f t.owner
+  none x false f = of_key_removed (λ (o : OwnerRow). o.exam) (λ o. o.dept) e x false f t.owner ∙ h.owner x
 
   abbrev pub row : OwnerRow
   row = record { exam = e; dept = d }
@@ -53,17 +48,10 @@ module _ (t : Tables) (r : Records) (e d : ℕ) (h : TablesRepresentRecords t r)
       → map (λ (o : OwnerRow). o.dept) (owners_at x (row ∷ left))
       ≡ some_dept (cond b d (r.owner_of x))
   one x true f is =
-      let passes : eqb e x ≡ true = grind (arith, nat_tests, f) in
-      ap (λ c. map (λ (o : OwnerRow). o.dept) (cond c (row ∷ owners_at x left) (owners_at x left)))
-      passes
-      ∙ ap (λ (l : List OwnerRow). d ∷ map (λ (o : OwnerRow). o.dept) l)
-      (none_of (λ (o : OwnerRow). o.exam) e x (grind (arith, nat_tests, f)) t.owner)
+      of_key_replaced (λ (o : OwnerRow). o.exam) (λ o. o.dept) row x true f t.owner
       ∙ sym (ap (λ c. cond c [] (d ∷ [])) is)
   one x false f is =
-      let fails : eqb e x ≡ false = grind (arith, nat_tests, f) in
-      ap (λ c. map (λ (o : OwnerRow). o.dept) (cond c (row ∷ owners_at x left) (owners_at x left)))
-      fails
-      ∙ none x false f
+      of_key_replaced (λ (o : OwnerRow). o.exam) (λ o. o.dept) row x false f t.owner ∙ h.owner x
 
   zero_is : eqb d 0 ≡ true → 0 ≡ d
   zero_is is = grind (arith, nat_tests, is)
@@ -142,64 +130,61 @@ owned_nowhere r e d none =
 
 -- ---- the command, by what is in memory
 
-module _ (a : Database) (m : OfficeMemory) (I : Session) (E : Enrolled)
-    (at_hand : m.kept ≡ Some (I, E)) (e d : ℕ) where
-  pub owner_moves : (b : Database) → e < length I.exams → d ≤ 999 → (n : ℕ) → n ≡ e
-      → (new : Option InsertOwner) → new ≡ new_owner n d
-      → ((t : Tables) → HoldsTables a t → HoldsTables b (comes new (without_owner n t)))
-      → Moves (set_owner_result e d) tt a b m
-  owner_moves b exists few n same new is_new comes_in o kept is =
-      let makes : (t : Tables) → HoldsTables a t → HoldsTables b (owner_put n d t)
-      = λ t h. subst (HoldsTables b)
-      (ap (λ x. comes x (without_owner n t)) is_new ∙ owner_made n d t) (comes_in t h) in
-      let of = kept_of o I E (is.session ∙ at_hand) in
-      let there = subst (λ I. e < length I.exams) (sym of.session) exists in (
-        _,
-        ap (set_owner_result e d) of.is ∙ owned_there of.records e d there,
-        owner_kept a b of.records e d (subst (RepresentsOffice a) of.is kept)
-            (subst (λ n. (t : Tables) → HoldsTables a t → HoldsTables b (owner_put n d t)) same makes) there
-            few,
-      )
-
-  pub owner_remembers : e < length I.exams → Remembers (set_owner_result e d) tt a m m
-  owner_remembers exists o kept is new gives =
-      let of = kept_of o I E (is.session ∙ at_hand) in
-      let r = of.records in
-      let there = subst (λ I. e < length I.exams) (sym of.session) exists in
-      subst (λ o. IsMemoryOf o m)
-      (next_is (ap (set_owner_result e d) (sym of.is) ∙ gives) (owned_there r e d there))
-      (all_stays r (record r { owner_of = set_at e d r.owner_of }) m
-      (subst (λ o. IsMemoryOf o m) of.is is) refl refl refl refl refl)
-
+module _ {a : Database} {m : OfficeMemory} {I : Session} {E : Enrolled} (e d : ℕ)
+    (at_hand : m.kept ≡ Some (I, E)) where
   pub no_exam_denied : length I.exams ≤ e → Denies (set_owner_result e d) (Refused (Edit NoSuch)) a m
   no_exam_denied none o kept is =
       let of = kept_of o I E (is.session ∙ at_hand) in
       ap (set_owner_result e d) of.is
       ∙ owned_nowhere of.records e d (subst (λ I. length I.exams ≤ e) (sym of.session) none)
 
+  module _ (exists : e < length I.exams) where
+    pub owner_moves : {n : ℕ} {new : Option InsertOwner} → d ≤ 999 → n ≡ e → new ≡ new_owner n d
+        → MovesBy (λ t. comes new (without_owner n t)) (set_owner_result e d) tt a m
+    owner_moves {n = n} {new = new} few same is_new b comes_in o kept is =
+        let makes : RowsChanged (owner_put n d) a b
+        = λ t h. subst (HoldsTables b)
+        (ap (λ x. comes x (without_owner n t)) is_new ∙ owner_made n d t) (comes_in t h) in
+        let of = kept_of o I E (is.session ∙ at_hand) in
+        let there = subst (λ I. e < length I.exams) (sym of.session) exists in (
+          _,
+          ap (set_owner_result e d) of.is ∙ owned_there of.records e d there,
+          owner_kept a b of.records e d (subst (RepresentsOffice a) of.is kept)
+              (subst (λ n. RowsChanged (owner_put n d) a b) same makes) there few,
+        )
+
+    pub owner_remembers : Remembers (set_owner_result e d) tt a m m
+    owner_remembers o kept is new gives =
+        let of = kept_of o I E (is.session ∙ at_hand) in
+        let r = of.records in
+        let there = subst (λ I. e < length I.exams) (sym of.session) exists in
+        let was = subst (λ o. IsMemoryOf o m) of.is is in
+        subst (λ o. IsMemoryOf o m)
+        (next_is (ap (set_owner_result e d) (sym of.is) ∙ gives) (owned_there r e d there))
+        (record {
+          session = was.session;
+          batches = was.batches;
+          drafts = was.drafts;
+          published = was.published;
+          priced = was.priced;
+        })
+
 -- ---- the owner that is read
 
-few : {X : Type 0} (x : X) (b : Bool) (ys : List X) → IsPermutation (cond b [] (x ∷ [])) ys
-    → ys ≡ cond b [] (x ∷ [])
-few x true [] p = refl
-few x true (y ∷ ys) p = absurd (let long = length_permutation _ _ p in omega (arith, long))
-few x false [] p = absurd (let long = length_permutation _ _ p in omega (arith, long))
-few x false (y ∷ []) p = ap (λ z. z ∷ []) (same_one x y p)
-few x false (y ∷ z ∷ ys) p = absurd (let long = length_permutation _ _ p in omega (arith, long))
+few_depts : (dept : ℕ) → length (some_dept dept) ≤ 1
+few_depts dept =
+    elim (eqb dept 0) as (λ b. length (cond b [] (dept ∷ [])) ≤ 1) [ true ↦ omega arith | false ↦ omega arith ]
 
 pub owner_read : (t : Tables) (o : OfficeState) (e : ℕ) (rows : List OwnerRow)
     → TablesRepresentOffice t o
     → IsPermutation (filter (λ r. eqb r.exam e) t.owner) rows
     → map (λ r. r.dept) rows ≡ some_dept (owner_in e o)
 owner_read t None e rows represents p =
-    few 0 true _ (subst (λ l. IsPermutation l (map (λ (r : OwnerRow). r.dept) rows))
-    (ap (λ (t : Tables). map (λ (r : OwnerRow). r.dept) (filter (λ r. eqb r.exam e) t.owner))
-    represents)
-    (IsPermutation-map (λ (r : OwnerRow). r.dept) _ _ p))
+    few_read (λ (r : OwnerRow). r.dept) _ rows [] p
+    (ap (λ (t : Tables). map (λ (r : OwnerRow). r.dept) (filter (λ r. eqb r.exam e) t.owner)) represents)
+    (omega arith)
 owner_read t (Some r) e rows represents p =
-    few (r.owner_of e) (eqb (r.owner_of e) 0) _
-    (subst (λ l. IsPermutation l (map (λ (r : OwnerRow). r.dept) rows)) (represents.owner e)
-    (IsPermutation-map (λ (r : OwnerRow). r.dept) _ _ p))
+    few_read (λ (r : OwnerRow). r.dept) _ rows _ p (represents.owner e) (few_depts (r.owner_of e))
 
 pub owner_returned : (dept : ℕ) (r : Result ℕ StoreFault) → r ≡ Ok dept → ReturnsValue dept r
 owner_returned dept r is = subst (ReturnsValue dept) (sym is) refl

@@ -1,80 +1,189 @@
--- A publication that is written.
-use Rattle.std.proofs.Common.{◌≡◌, ℕ, true, not, ◌&&◌, eqb, List, [], ◌∷◌, ◌++◌, length}
-use Rattle.std.proofs.Common.{map, filter, reverse, Option, Some, None, Result, Ok, Err, refl}
-use Rattle.std.proofs.Common.{sym, ◌∙◌, ap, ap₂, subst, arith}
-use Rattle.std.specs.Prelude.{◌||◌, IsPermutation, Vec, is_some, option_map}
+-- The writes of a publication, and what they make of the tables.
+use Rattle.std.proofs.Common.{◌≡◌, ◌≢◌, ℕ, zero, suc, ◌+◌, ◌-◌, ◌<◌, ◌≤◌, List, length, filter, map, Some, None, Ok, Err, refl, sym, ◌∙◌, ap, subst, arith, true, not, ◌&&◌, eqb, ◌∷◌, ◌++◌, [], reverse, Option, Result, ap₂}
+use Rattle.std.specs.Prelude.{IsPermutation, Vec, slice_get, slice_index, ◌||◌, is_some, option_map}
 use Rattle.std.specs.declared.alloc.Global.{Global}
+use Rattle.std.proofs.lemmas.Option.{get_or_from_slice_get, slice_get_within}
+use Rattle.std.proofs.lemmas.List.FromFn.{length-map-range_with_len}
+use Rattle.std.proofs.lemmas.List.Sorted.{IsPermutation-refl, IsPermutation-append, length_permutation, IsPermutation-reverse, IsPermutation-sym, IsPermutation-trans}
 use Rattle.std.specs.List.{list_any}
-use Rattle.std.proofs.lemmas.Bool.Decides.{nat_tests}
 use Rattle.std.proofs.lemmas.List.{append-nil, nil_from_length}
 use Rattle.std.proofs.lemmas.Simd.{map-map}
-use Rattle.std.proofs.lemmas.List.Sorted.{IsPermutation-append, IsPermutation-refl}
-use Rattle.std.proofs.lemmas.List.Sorted.{length_permutation}
-use Rattle.std.proofs.lemmas.List.Sorted.{IsPermutation-reverse, IsPermutation-sym, IsPermutation-trans}
+use Rattle.exam_model.specs.Enrolments.{Enrolled, IsAscending, has_number}
+use Rattle.exam_model.specs.Instance.{IsInstance, Session}
+use Rattle.exam_model.specs.Pairs.{pairs_of}
+use Rattle.exam_model.specs.Timetable.{Placing}
+use Rattle.exam_publish.specs.Permit.{RefusesPublication, publish_refusal}
+use Rattle.exam_publish.specs.Seats.{seat_rows}
+use Rattle.exam_publish.specs.Shares.{period_share, room_share, shares_among, student_shares}
+use Rattle.exam_publish.specs.Rows.{enrolled_in, RowsInOrder}
+use Rattle.exam_publish.specs.declared.fault.PublishFault.{PublishFault}
+use Rattle.exam_publish.specs.declared.fault.PublishFault.TheVariants.{Broken, NoMemory, Unplaced}
+use Rattle.office_tables.specs.declared.seat.SeatRow.{SeatRow}
+use Rattle.exam_publish.proofs.AmongLemmas.{map_filter}
+use Rattle.exam_score.specs.Penalty.{Penalty, PersonalPenalty, total_of}
+use Rattle.exam_score.specs.Track.{track}
+use Rattle.exam_score.specs.FrontLoad.{exam_front}
+use Rattle.office_model.specs.Office.{Records, AreRecords, OfficeState, Publication}
+use Rattle.office_model.specs.Publishing.{draft_published, publication_rows, publication_counts, published_as}
+use Rattle.office_model.specs.declared.fault.StoreFault.{StoreFault}
+use Rattle.office_model.specs.declared.fault.StoreFault.TheVariants.{Refused, Store}
+use Rattle.office_records.specs.FoundPublications.{publication}
+use Rattle.office_records.specs.Memory.{memory_of}
+use Rattle.office_records.specs.Publications.{placed_rows, placed_from, stored_seat}
+use Rattle.office_records.specs.PartShares.{HasFewParts, part_share_rows}
+use Rattle.office_records.specs.SharesStored.{share_rows_of, student_share_row, retimed_students, share_rows_without, student_share_rows}
+use Rattle.office_tables.specs.declared.placed.PlacedRow.{PlacedRow}
+use Rattle.office_store.specs.NewPublications.{AreInserted, Publishes, IsInserted, InsertsOrRefuses, candidates_before, mark_text}
+use Rattle.office_store.specs.Running.{IsFault}
+use Rattle.office_store.specs.declared.new_publication.NewPublication.{NewPublication}
+use Rattle.exam_lists.proofs.Booleans.{eqb_swap}
 use Rattle.exam_lists.proofs.Maps.{map_back}
 use Rattle.exam_lists.proofs.Tests.{any_map}
 use Rattle.sqlite.specs.Effect.{Database}
-use Rattle.exam_model.specs.Enrolments.{Enrolled, has_number}
 use Rattle.exam_model.specs.Fits.{Fits}
-use Rattle.exam_model.specs.Instance.{Session}
-use Rattle.exam_model.specs.Timetable.{Placing}
-use Rattle.exam_publish.specs.Permit.{publish_refusal}
-use Rattle.exam_publish.specs.Rows.{RowsInOrder}
-use Rattle.exam_publish.specs.Shares.{student_shares}
-use Rattle.exam_publish.specs.declared.seat_row.SeatRow as publish
 use Rattle.exam_publish.proofs.PublishedLemmas.{same_enrolments}
-use Rattle.exam_score.specs.Penalty.{Penalty}
-use Rattle.exam_score.specs.Track.{track}
 use Rattle.office_tables.specs.Alterations.{after_all}
 use Rattle.office_tables.specs.SharePart.{no_part_shares, with_part_share}
 use Rattle.office_tables.specs.Placed.{with_placement, without_placement}
 use Rattle.office_tables.specs.Seat.{with_seat, without_seat}
 use Rattle.office_tables.specs.ShareStudent.{with_student_share, without_student_share}
 use Rattle.office_tables.specs.Tables.{Meta, Tables}
-use Rattle.office_tables.specs.TablesHeld.{HoldsTables}
-use Rattle.office_tables.proofs.AlterationLemmas.{part_shares_put, placements_gone, placements_put, seats_put}
-use Rattle.office_tables.proofs.AlterationLemmas.{seats_gone, student_shares_gone}
-use Rattle.office_tables.proofs.AlterationLemmas.{student_shares_put}
+use Rattle.office_tables.proofs.AlterationLemmas.{part_shares_put, placements_gone, placements_put, seats_put, seats_gone, student_shares_gone, student_shares_put}
 use Rattle.office_tables.specs.declared.placed.DeletePlacement.{DeletePlacement}
-use Rattle.office_tables.specs.Inserted.{InsertPlacement}
-use Rattle.office_tables.specs.declared.placed.PlacedRow.{PlacedRow}
+use Rattle.office_tables.specs.Inserted.{InsertPlacement, InsertSeat, InsertPartShare}
 use Rattle.office_tables.specs.declared.seat.DeleteSeat.{DeleteSeat}
-use Rattle.office_tables.specs.declared.seat.SeatRow.{SeatRow}
-use Rattle.office_tables.specs.Inserted.{InsertSeat}
 use Rattle.office_tables.specs.declared.share_student.DeleteStudentShare.{DeleteStudentShare}
-use Rattle.office_tables.specs.Inserted.{InsertPartShare}
 use Rattle.office_tables.specs.declared.share_student.InsertStudentShare.{InsertStudentShare}
 use Rattle.office_tables.specs.declared.share_student.StudentShareRow.{StudentShareRow}
-use Rattle.office_model.specs.Office.{AreRecords, IsPublication, OfficeState}
-use Rattle.office_model.specs.Office.{Publication, Records}
-use Rattle.office_model.specs.Publishing.{draft_published, publication_counts, published_as, publication_rows}
-use Rattle.office_model.specs.declared.fault.StoreFault.{StoreFault}
-use Rattle.office_model.specs.declared.fault.StoreFault.TheVariants.{NoDraft, NotLoaded}
 use Rattle.office_model.proofs.RecordLemmas.{old_seated, published_records}
-use Rattle.office_records.specs.Memory.{memory_of, scored_draft}
-use Rattle.office_records.specs.Publications.{placed_from, placed_rows, stored_seat}
 use Rattle.office_records.specs.SeatsStored.{rows_beside, seats_without}
-use Rattle.office_records.specs.SharesStored.{retimed_students, share_rows_of, share_rows_without}
-use Rattle.office_records.specs.SharesStored.{student_share_row}
-use Rattle.office_records.specs.PartShares.{part_share_rows}
-use Rattle.office_records.specs.SharesStored.{student_share_rows}
 use Rattle.office_records.specs.Representation.{RepresentsOffice, IsSound, TablesRepresentRecords}
 use Rattle.office_records.specs.TableRows.{meta_row, session_text}
-use Rattle.office_records.proofs.RepublicationLemmas as republication
-use Rattle.office_records.proofs.SeatDifferenceLemmas as differences
 use Rattle.office_store.specs.ChangedPlacements.{changed_rows, exams_of, placements_without}
-use Rattle.office_store.specs.PublicationChanges.{mark_put, meta_after, places_put}
-use Rattle.office_store.specs.PublicationChanges.{publication_put, seats_left, shares_put}
-use Rattle.office_store.specs.NewPublications.{AreInserted, IsInserted, Publishes}
-use Rattle.office_store.specs.NewPublications.{InsertsOrRefuses, candidates_before, mark_text}
+use Rattle.office_store.specs.PublicationChanges.{mark_put, meta_after, places_put, publication_put, seats_left, shares_put}
 use Rattle.office_store.specs.RowPuts.{place_gone, placement_put, seat_gone}
 use Rattle.office_store.specs.Memory.{HasPublished, IsMemoryOf}
 use Rattle.office_store.specs.declared.memory.OfficeMemory.{OfficeMemory}
-use Rattle.office_store.specs.declared.new_publication.NewPublication.{NewPublication}
 use Rattle.office_store.proofs.ChangedPlacementLemmas.{AreOwnExams, own_exams, stored_put}
-use Rattle.office_store.proofs.CommandLemmas.{Moves, Remembers}
+use Rattle.office_store.proofs.CommandLemmas.{MovesBy, Remembers, RowsChanged}
+use Rattle.office_store.proofs.RunLemmas.{by_publication}
 use Rattle.office_store.proofs.RememberingLemmas.{next_is, published_changed}
-use Rattle.office_store.proofs.RunLemmas.{nothing_kept}
+use Rattle.office_model.specs.declared.fault.Refusal.TheVariants as refusal
+use Rattle.exam_publish.specs.declared.seat_row.SeatRow as publish
+use Rattle.office_records.proofs.RepublicationLemmas as republication
+use Rattle.office_records.proofs.SeatDifferenceLemmas as differences
+
+-- ---- how many candidates
+
+-- a number in ascending numbers is no smaller than its index
+rises : (xs : List ℕ) → IsAscending xs → (i : ℕ) → i < length xs → i ≤ slice_index xs i
+rises xs h zero within = omega arith
+rises xs h (suc i) within =
+    let before = rises xs h i (omega arith) in
+    let less = h i (suc i) (omega arith) within in
+    omega (arith, before, less)
+
+pub count_within : (xs : List ℕ) (last : ℕ) → IsAscending xs
+    → Some last ≡ slice_get xs (length xs - 1) → length xs ≤ last + 1
+count_within xs last h is =
+    let within = slice_get_within xs (length xs - 1) last (sym is) in
+    let here : slice_index xs (length xs - 1) ≡ last
+    = get_or_from_slice_get xs (length xs - 1) last 0 (sym is) in
+    let least = rises xs h (length xs - 1) within in
+    omega (arith, within, here, least)
+
+-- ---- how many shares
+
+-- no more parts have a share than a session has
+pub few_parts : (I : Session) (rows : List publish.SeatRow) (T : Placing) (students : List ℕ)
+    → IsInstance I → HasFewParts (shares_among I rows T students)
+few_parts I rows T students known =
+    let exams : length (shares_among I rows T students).exams ≡ length I.exams
+    = length-map-range_with_len (exam_front I (enrolled_in (length I.exams) rows) T) 0
+    (length I.exams) in
+    let periods : length (shares_among I rows T students).periods ≡ length I.periods
+    = length-map-range_with_len (period_share I T) 0 (length I.periods) in
+    let rooms : length (shares_among I rows T students).rooms ≡ length I.rooms
+    = length-map-range_with_len (room_share I T) 0 (length I.rooms) in
+    record {
+      exams = omega (arith, exams, known.limits.counts);
+      periods = omega (arith, periods, known.limits.counts);
+      rooms = omega (arith, rooms, known.limits.counts);
+    }
+
+-- the rows of the shares of some candidates
+pub rows_among : (students : List ℕ) (shares : List (ℕ × PersonalPenalty))
+    → map student_share_row (filter (λ share. has_number students share.0) shares)
+    ≡ share_rows_of students (map student_share_row shares)
+rows_among students shares =
+    map_filter student_share_row (λ row. has_number students row.student) shares
+
+-- ---- refusals
+
+-- a draft that may not be published is refused for that
+refused_so : (d : ℕ) (r : Records) (T : Placing) (fault : PublishFault) → r.draft d ≡ Some T
+    → publish_refusal r.session r.enrolments T ≡ Some fault
+    → draft_published d (Some r) ≡ Err (Refused (refusal.Publish fault))
+refused_so d r T fault there is = rw (there, is) refl
+
+module _ (d : ℕ) (r : Records) (I : Session) (E : Enrolled) (T : Placing)
+    (memory : memory_of (Some r) ≡ Some (I, E)) (there : r.draft d ≡ Some T) where
+  both : ◌≡◌ {A = Session × Enrolled} (r.session, r.enrolments) (I, E)
+  both = cc
+
+  pub permit_refused : (fault : PublishFault) (e : StoreFault) → RefusesPublication I E T fault
+      → (fault ≡ NoMemory → e ≡ Store) → (fault ≢ NoMemory → e ≡ Refused (refusal.Publish fault))
+      → IsFault (draft_published d (Some r)) e
+  permit_refused fault e refuses memory refused =
+      go fault (subst (λ (p : Session × Enrolled). RefusesPublication p.0 p.1 T fault) (sym both)
+      refuses) memory refused
+    where
+      go : (fault : PublishFault) → RefusesPublication r.session r.enrolments T fault
+          → (fault ≡ NoMemory → e ≡ Store)
+          → (fault ≢ NoMemory → e ≡ Refused (refusal.Publish fault))
+          → IsFault (draft_published d (Some r)) e
+      go NoMemory is memory refused =
+          subst (IsFault (draft_published d (Some r))) (sym (memory refl)) tt
+      go (Unplaced n) is memory refused =
+          subst (IsFault (draft_published d (Some r))) (sym (refused (λ e. absurd cc)))
+          (refused_so d r T (Unplaced n) there is)
+      go (Broken b) is memory refused =
+          subst (IsFault (draft_published d (Some r))) (sym (refused (λ e. absurd cc)))
+          (refused_so d r T (Broken b) there is)
+
+  -- ---- the writes
+
+  pub publishes : (before : List PlacedRow) (old : List publish.SeatRow)
+      (rows : Vec publish.SeatRow Global)
+      (penalty : ℕ) (new : NewPublication) (U : Placing) (parts : Penalty)
+      → publish_refusal I E T ≡ None
+      → before ≡ placed_rows r.published → old ≡ publication_rows r.published
+      → rows.items ≡ seat_rows (pairs_of E) T old → penalty ≡ total_of (track I E T)
+      → AreInserted I T before old rows.items penalty new → U ≡ T → parts ≡ track I E T
+      → Publishes d r (Ok (new, (U, rows), parts))
+  publishes before old rows penalty new U parts permitted were was are costs put same priced = record {
+    timetable = T;
+    draft = there;
+    permitted = subst (λ (p : Session × Enrolled). publish_refusal p.0 p.1 T ≡ None) (sym both)
+        permitted;
+    before = before;
+    were = subst (IsPermutation before) were (IsPermutation-refl before);
+    put = subst (λ (p : Session × Enrolled). AreInserted p.0 T before (publication_rows r.published)
+        (seat_rows (pairs_of p.1) T (publication_rows r.published))
+        (total_of (track p.0 p.1 T)) new)
+        (sym both)
+        (subst (λ n. AreInserted I T before (publication_rows r.published)
+        (seat_rows (pairs_of E) T (publication_rows r.published)) n new) costs
+        (subst (λ l. AreInserted I T before (publication_rows r.published) l penalty new)
+        (are ∙ ap (seat_rows (pairs_of E) T) was)
+        (subst (λ l. AreInserted I T before l rows.items penalty new) was put)));
+    made = ap (λ S. Some (publication S rows.items)) same
+        ∙ ap (λ l. Some (publication T l))
+        (are ∙ ap (seat_rows (pairs_of E) T) was
+        ∙ ap (λ (p : Session × Enrolled).
+        seat_rows (pairs_of p.1) T (publication_rows r.published)) (sym both));
+    priced = ap (λ (p : Session × Enrolled). track p.0 p.1 T) both ∙ sym priced;
+  }
 
 -- ---- what the parts of the transaction make of the tables, one after the other
 
@@ -83,10 +192,7 @@ among : {X : Type 0} (student : X → ℕ) (s : ℕ) (its : List X)
     → list_any (λ it. eqb s (student it)) its ≡ has_number (map student its) s
 among student s [] = refl
 among student s (it ∷ its) =
-    ap₂ (λ a b. a || b) (turned s (student it)) (among student s its)
-  where
-    turned : (a b : ℕ) → eqb a b ≡ eqb b a
-    turned a b = grind (arith, nat_tests)
+    ap₂ (λ a b. a || b) (eqb_swap s (student it)) (among student s its)
 
 pub places_gone_after : (its : List DeletePlacement) (t : Tables)
     → after_all (λ (it : DeletePlacement). without_placement it.exam) its t
@@ -115,86 +221,23 @@ shares_gone_after its t =
           t.share_student;
     })
 
--- the placements
-module _ (gone : List DeletePlacement) (ps : List InsertPlacement) where
-  abbrev pub placements_made : Tables → Tables
-  placements_made t =
-      after_all (λ (it : InsertPlacement). with_placement it.row) ps
-      (after_all (λ (it : DeletePlacement). without_placement it.exam) gone t)
-
-  placements_are : (t : Tables) → placements_made t
-      ≡ record t {
-        placed = reverse (map (λ (it : InsertPlacement). it.row) ps)
-            ++ placements_without (map (λ (it : DeletePlacement). it.exam) gone) t.placed;
-      }
-  placements_are t =
-      ap (after_all (λ (it : InsertPlacement). with_placement it.row) ps)
-      (places_gone_after gone t)
-      ∙ placements_put ps _
-
--- the seats
-module _ (gone : List DeleteSeat) (ss : List InsertSeat) where
-  abbrev pub seats_made : Tables → Tables
-  seats_made t =
-      after_all (λ (it : InsertSeat). with_seat it.row) ss
-      (after_all (λ (it : DeleteSeat). without_seat it.student it.exam) gone t)
-
-  seats_are : (t : Tables) → seats_made t
-      ≡ record t {
-        seat = reverse (map (λ (it : InsertSeat). it.row) ss) ++ seats_left gone t.seat;
-      }
-  seats_are t =
-      ap (after_all (λ (it : InsertSeat). with_seat it.row) ss) (seats_gone gone t)
-      ∙ seats_put ss _
-
--- the shares of candidates, and of exams, periods and rooms
-module _ (gone : List DeleteStudentShare) (students : List InsertStudentShare)
-    (parts : List InsertPartShare) where
-  abbrev pub students_made : Tables → Tables
-  students_made t =
-      after_all (λ (it : InsertStudentShare). with_student_share it.row) students
-      (after_all (λ (it : DeleteStudentShare). without_student_share it.student) gone t)
-
-  abbrev pub parts_made : Tables → Tables
-  parts_made t =
-      after_all (λ (it : InsertPartShare). with_part_share it.row) parts (no_part_shares t)
-
-  abbrev students_said : Tables → Tables
-  students_said t = record t {
-    share_student = reverse (map (λ (it : InsertStudentShare). it.row) students)
-        ++ share_rows_without (map (λ (it : DeleteStudentShare). it.student) gone)
-        t.share_student;
-  }
-
-  students_are : (t : Tables) → students_made t ≡ students_said t
-  students_are t =
-      ap (after_all (λ (it : InsertStudentShare). with_student_share it.row) students)
-      (shares_gone_after gone t)
-      ∙ student_shares_put students _
-
-  parts_are : (t : Tables) → parts_made t
-      ≡ record t { share_part = reverse (map (λ (it : InsertPartShare). it.row) parts) }
-  parts_are t =
-      part_shares_put parts (no_part_shares t)
-      ∙ ap (λ l. record t { share_part = l }) (append-nil _)
-
-  abbrev shares_said : Tables → Tables
-  shares_said t = record (students_said t) {
-    share_part = reverse (map (λ (it : InsertPartShare). it.row) parts);
-  }
-
-  all_shares : (t : Tables) → parts_made (students_made t) ≡ shares_said t
-  all_shares t = ap parts_made (students_are t) ∙ parts_are (students_said t)
-
 -- writes with the same lists are those of the new publication
-pub places_made : (new : NewPublication) (away : List DeletePlacement) (ps : List InsertPlacement)
-    (gone : List DeleteSeat) (ss : List InsertSeat)
+pub places_made : (new : NewPublication) {away : List DeletePlacement} {ps : List InsertPlacement}
+    {gone : List DeleteSeat} {ss : List InsertSeat}
     → away ≡ new.places_gone.items → ps ≡ new.placements.items
     → gone ≡ new.seats_gone.items → ss ≡ new.seats.items → (t : Tables)
-    → seats_made gone ss (placements_made away ps (mark_put new.text t)) ≡ places_put new t
-places_made new away ps gone ss a b c d t =
-    ap (seats_made gone ss) (placements_are away ps (mark_put new.text t))
-    ∙ seats_are gone ss _
+    → after_all (λ (it : InsertSeat). with_seat it.row) ss
+    (after_all (λ (it : DeleteSeat). without_seat it.student it.exam) gone
+    (after_all (λ (it : InsertPlacement). with_placement it.row) ps
+    (after_all (λ (it : DeletePlacement). without_placement it.exam) away (mark_put new.text t))))
+    ≡ places_put new t
+places_made new {away = away} {ps = ps} {gone = gone} {ss = ss} a b c d t =
+    let all_seats : Tables → Tables = λ u. after_all (λ (it : InsertSeat). with_seat it.row) ss
+    (after_all (λ (it : DeleteSeat). without_seat it.student it.exam) gone u) in
+    ap (λ u. all_seats (after_all (λ (it : InsertPlacement). with_placement it.row) ps u))
+    (places_gone_after away (mark_put new.text t))
+    ∙ ap all_seats (placements_put ps _)
+    ∙ ap (after_all (λ (it : InsertSeat). with_seat it.row) ss) (seats_gone gone _) ∙ seats_put ss _
     ∙ (λ i. record t {
       meta = meta_after new.text t.meta;
       placed = reverse (map (λ (it : InsertPlacement). it.row) (b i))
@@ -202,13 +245,25 @@ places_made new away ps gone ss a b c d t =
       seat = reverse (map (λ (it : InsertSeat). it.row) (d i)) ++ seats_left (c i) t.seat;
     })
 
-pub shares_made : (new : NewPublication) (gone : List DeleteStudentShare)
-    (students : List InsertStudentShare) (parts : List InsertPartShare)
+pub shares_made : (new : NewPublication) {gone : List DeleteStudentShare}
+    {students : List InsertStudentShare} {parts : List InsertPartShare}
     → gone ≡ new.deleted_shares.items → students ≡ new.students.items → parts ≡ new.parts.items
     → (t : Tables)
-    → parts_made gone students parts (students_made gone students parts t) ≡ shares_put new t
-shares_made new gone students parts a b c t =
-    all_shares gone students parts t ∙ (λ i. shares_said (a i) (b i) (c i) t)
+    → after_all (λ (it : InsertPartShare). with_part_share it.row) parts
+    (no_part_shares (after_all (λ (it : InsertStudentShare). with_student_share it.row) students
+    (after_all (λ (it : DeleteStudentShare). without_student_share it.student) gone t)))
+    ≡ shares_put new t
+shares_made new {gone = gone} {students = students} {parts = parts} a b c t =
+    let all_parts : Tables → Tables = λ u. after_all (λ (it : InsertPartShare). with_part_share it.row)
+    parts (no_part_shares u) in
+    ap (λ u. all_parts (after_all (λ (it : InsertStudentShare). with_student_share it.row) students u))
+    (shares_gone_after gone t)
+    ∙ ap all_parts (student_shares_put students _) ∙ part_shares_put parts _
+    ∙ (λ i. record t {
+      share_student = reverse (map (λ (it : InsertStudentShare). it.row) (b i))
+          ++ share_rows_without (map (λ (it : DeleteStudentShare). it.student) (a i)) t.share_student;
+      share_part = append-nil (reverse (map (λ (it : InsertPartShare). it.row) (c i))) i;
+    })
 
 -- ---- the rows that are inserted
 
@@ -275,16 +330,9 @@ shares_of_none I (Some p) none =
 
 -- the seats of a publication are in order
 old_in_order : (r : Records) → AreRecords r → RowsInOrder (publication_rows r.published)
-old_in_order r is = go r.published is.publication
-  where
-    none : RowsInOrder []
-    none = λ i j d l m. absurd (omega arith)
-
-    go : (published : Option Publication)
-        → ((p : Publication) → published ≡ Some p → IsPublication r.session p)
-        → RowsInOrder (publication_rows published)
-    go None each = none
-    go (Some p) each = (each p refl).rows.in_order
+old_in_order r is =
+    by_publication is (λ published. RowsInOrder (publication_rows published))
+    (λ i j d l m. absurd (omega arith)) (λ p known. known.rows.in_order)
 
 -- and so are those of the new one
 new_in_order : (r : Records) (T : Placing) → AreRecords r → Fits r.session r.enrolments T
@@ -403,7 +451,7 @@ module _ (r : Records) (T : Placing) (is : AreRecords r) (fits : Fits r.session 
   published_kept : (a b : Database) (before : List PlacedRow)
       → IsPermutation before (placed_rows r.published) → (penalty : ℕ) (new : NewPublication)
       → AreInserted r.session T before (publication_rows r.published) new_one.rows penalty new
-      → RepresentsOffice a (Some r) → ((t : Tables) → HoldsTables a t → HoldsTables b (publication_put new t))
+      → RepresentsOffice a (Some r) → RowsChanged (publication_put new) a b
       → RepresentsOffice b (Some (record r { published = Some new_one }))
   published_kept a b before were penalty new put kept makes = record {
     held = publication_put new kept.held;
@@ -437,69 +485,51 @@ in_office d r (Ok new) puts = record { records = r; is = refl; put = puts }
 in_office d r (Err fault) refused = refused
 
 -- what is in memory decides for each office that is represented
-pub puts_in_memory : (m : OfficeMemory) (I : Session) (E : Enrolled) → m.kept ≡ Some (I, E)
-    → (d : ℕ)
+pub puts_in_memory : {m : OfficeMemory} {I : Session} {E : Enrolled} → m.kept ≡ Some (I, E) → (d : ℕ)
     (result : Result (NewPublication × (Placing × Vec publish.SeatRow Global) × Penalty) StoreFault)
     (o : OfficeState) → IsMemoryOf o m
     → ((r : Records) → o ≡ Some r → memory_of (Some r) ≡ Some (I, E) → IsMemoryOf (Some r) m
     → Publishes d r result)
     → InsertsOrRefuses d o result
-puts_in_memory m I E kept d result None is publishes =
-    absurd (let none = is.session ∙ kept in cc)
-puts_in_memory m I E kept d result (Some r) is publishes =
+puts_in_memory kept d result None is publishes = absurd (let none = is.session ∙ kept in cc)
+puts_in_memory kept d result (Some r) is publishes =
     in_office d r result (publishes r refl (is.session ∙ kept) is)
 
-pub none_published : (m : OfficeMemory) → m.kept ≡ None → (d : ℕ) (o : OfficeState)
-    → IsMemoryOf o m → draft_published d o ≡ Err NotLoaded
-none_published m none d o is = ap (draft_published d) (nothing_kept o (is.session ∙ none))
+module _ {d : ℕ} {a : Database} {m : OfficeMemory} {new : NewPublication}
+    {published : Placing × Vec publish.SeatRow Global} {penalty : Penalty}
+    (puts : (o : OfficeState) → IsMemoryOf o m → IsInserted d o new published penalty) where
+  -- the transaction changes the office as the command does
+  pub publication_moves : MovesBy (publication_put new) (draft_published d) new.counts a m
+  publication_moves b makes o kept is =
+      let of = puts o is in
+      let r = of.records in
+      let put = of.put in
+      let T = put.timetable in
+      let held = subst (RepresentsOffice a) of.is kept in
+      let fits = held.office.drafts d T put.draft in (
+        Some (record r { published = Some (published_as r T) }),
+        ap (draft_published d) of.is ∙ publish_gives d r T put.draft put.permitted
+            ∙ ap (λ n. Ok (n, Some (record r { published = Some (published_as r T) })))
+            (sym put.put.counts),
+        published_kept r T held.office fits put.permitted a b put.before put.were _ new put.put held
+            makes,
+      )
 
--- no draft has this number
-pub no_such_draft : (d : ℕ) (r : Records) → scored_draft d (Some r) ≡ None
-    → draft_published d (Some r) ≡ Err NoDraft
-no_such_draft d r none = go (r.draft d) refl
-  where
-    go : (t : Option Placing) → r.draft d ≡ t → draft_published d (Some r) ≡ Err NoDraft
-    go None is = rw is refl
-    go (Some T) is = absurd (let some = rw is at none in cc)
-
--- the transaction changes the office as the command does
-pub publication_moves : (d : ℕ) (a b : Database) (m : OfficeMemory) (new : NewPublication)
-    (published : Placing × Vec publish.SeatRow Global) (penalty : Penalty)
-    → ((o : OfficeState) → IsMemoryOf o m → IsInserted d o new published penalty)
-    → ((t : Tables) → HoldsTables a t → HoldsTables b (publication_put new t))
-    → Moves (draft_published d) new.counts a b m
-publication_moves d a b m new published penalty puts makes o kept is =
-    let of = puts o is in
-    let r = of.records in
-    let put = of.put in
-    let T = put.timetable in
-    let held = subst (RepresentsOffice a) of.is kept in
-    let fits = held.office.drafts d T put.draft in (
-      Some (record r { published = Some (published_as r T) }),
-      ap (draft_published d) of.is ∙ publish_gives d r T put.draft put.permitted
-          ∙ ap (λ n. Ok (n, Some (record r { published = Some (published_as r T) })))
-          (sym put.put.counts),
-      published_kept r T held.office fits put.permitted a b put.before put.were _ new put.put held
-          makes,
-    )
-
--- what is in memory afterwards is of the office after the command
-pub publication_remembers : (d : ℕ) (a : Database) (m n : OfficeMemory) (new : NewPublication)
-    (published : Placing × Vec publish.SeatRow Global) (penalty : Penalty)
-    → ((o : OfficeState) → IsMemoryOf o m → IsInserted d o new published penalty)
-    → HasPublished published penalty m n → Remembers (draft_published d) new.counts a m n
-publication_remembers d a m n new published penalty puts has o kept is next gives =
-    let of = puts o is in
-    let r = of.records in
-    let put = of.put in
-    let T = put.timetable in
-    let held = subst (RepresentsOffice a) of.is kept in
-    let enrolled = same_enrolments r.session r.enrolments T (publication_rows r.published)
-    held.office.session held.office.enrolled.set (held.office.drafts d T put.draft) put.permitted
-    (old_seated r held.office) in
-    subst (λ o. IsMemoryOf o n)
-    (next_is (ap (draft_published d) (sym of.is) ∙ gives)
-    (publish_gives d r put.timetable put.draft put.permitted))
-    (published_changed r m n published penalty (published_as r put.timetable)
-    (subst (λ o. IsMemoryOf o m) of.is is) has put.made
-    (ap (λ (E : Enrolled). track r.session E T) enrolled ∙ put.priced))
+  -- what is in memory afterwards is of the office after the command
+  pub publication_remembers : {n : OfficeMemory} → HasPublished published penalty m n
+      → Remembers (draft_published d) new.counts a m n
+  publication_remembers {n = n} has o kept is next gives =
+      let of = puts o is in
+      let r = of.records in
+      let put = of.put in
+      let T = put.timetable in
+      let held = subst (RepresentsOffice a) of.is kept in
+      let enrolled = same_enrolments r.session r.enrolments T (publication_rows r.published)
+      held.office.session held.office.enrolled.set (held.office.drafts d T put.draft) put.permitted
+      (old_seated r held.office) in
+      subst (λ o. IsMemoryOf o n)
+      (next_is (ap (draft_published d) (sym of.is) ∙ gives)
+      (publish_gives d r put.timetable put.draft put.permitted))
+      (published_changed r m n published penalty (published_as r put.timetable)
+      (subst (λ o. IsMemoryOf o m) of.is is) has put.made
+      (ap (λ (E : Enrolled). track r.session E T) enrolled ∙ put.priced))

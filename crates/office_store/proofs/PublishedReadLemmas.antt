@@ -1,12 +1,10 @@
 -- What memory and the rows of shares mean for the publication.
-use Rattle.std.proofs.Common.{◌≡◌, ℕ, ◌≤◌, List, [], ◌∷◌, ◌++◌, Option, Some}
-use Rattle.std.proofs.Common.{None, Ok, Err, Result, refl, sym, ◌∙◌, ap, subst, length, arith}
+use Rattle.std.proofs.Common.{◌≡◌, ℕ, ◌≤◌, List, ◌∷◌, ◌++◌, Option, Some, [], None, Ok, Err, Result, refl, sym, ◌∙◌, ap, subst, length, arith}
 use Rattle.std.specs.Prelude.{IfOk, IsErrAnd, IsPermutation, Vec, option_map}
 use Rattle.std.specs.declared.alloc.Global.{Global}
 use Rattle.std.proofs.lemmas.List.{nil_from_length}
 use Rattle.std.proofs.lemmas.List.FromFn.{length-map-range_with_len}
-use Rattle.std.proofs.lemmas.List.Sorted.{IsPermutation-sym, IsPermutation-trans}
-use Rattle.std.proofs.lemmas.List.Sorted.{length_permutation}
+use Rattle.std.proofs.lemmas.List.Sorted.{IsPermutation-sym, IsPermutation-trans, length_permutation}
 use Rattle.exam_model.specs.Enrolments.{Enrolled}
 use Rattle.exam_model.specs.Instance.{Session, IsInstance}
 use Rattle.exam_model.specs.Timetable.{Placing}
@@ -16,8 +14,7 @@ use Rattle.sqlite.specs.Effect.{Database}
 use Rattle.office_tables.specs.Tables.{Tables}
 use Rattle.office_tables.specs.declared.share_part.PartShareRow.{PartShareRow}
 use Rattle.office_tables.specs.declared.share_student.StudentShareRow.{StudentShareRow}
-use Rattle.office_model.specs.Office.{AreRecords, IsOffice, IsPublication, OfficeState}
-use Rattle.office_model.specs.Office.{Publication, Records}
+use Rattle.office_model.specs.Office.{AreRecords, IsOffice, IsPublication, OfficeState, Publication, Records}
 use Rattle.office_model.specs.declared.fault.StoreFault.{StoreFault}
 use Rattle.office_records.specs.Memory.{Memory, memory_of}
 use Rattle.office_records.specs.Faults.{store_fault}
@@ -28,16 +25,14 @@ use Rattle.office_records.proofs.ReadableLemmas.{are_numbered}
 use Rattle.office_records.specs.declared.fault.RecordFault.{RecordFault}
 use Rattle.office_records.specs.declared.fault.RecordFault.TheVariants.{BadRows, NoMemory}
 use Rattle.exam_publish.specs.declared.seat_row.SeatRow as publish
-use Rattle.office_records.specs.FoundPublications.{publication, publication_from}
+use Rattle.office_records.specs.FoundPublications.{publication_from}
 use Rattle.office_store.specs.Memory.{IsMemoryOf}
 use Rattle.office_store.specs.declared.memory.OfficeMemory.{OfficeMemory}
-use Rattle.office_store.specs.Publications.{AddUpIn, StoredAddUp}
-use Rattle.office_store.specs.Publications.{publication_shown, shares_in, timetable_shown}
-use Rattle.office_records.specs.Memory.{published_in}
-use Rattle.office_store.specs.OfficeRows.{AreShareRowsOf, part_rows_in}
-use Rattle.office_store.specs.OfficeRows.{student_rows_in}
+use Rattle.office_model.specs.Step.{publication_in}
+use Rattle.office_store.specs.Publications.{AddUpIn, Shown, StoredAddUp, publication_shown, shares_in, timetable_shown}
+use Rattle.office_store.specs.OfficeRows.{AreShareRowsOf, part_rows_in, student_rows_in}
 use Rattle.office_store.specs.Running.{QueryOutcome, ReturnsValue}
-use Rattle.office_store.proofs.RunLemmas.{kept_of, nothing_kept}
+use Rattle.office_store.proofs.RunLemmas.{by_publication, kept_of, nothing_kept}
 
 -- ---- the rows of each table
 
@@ -60,15 +55,15 @@ part_shares_read t (Some r) rows represents sound p =
 -- ---- what the rows mean
 
 -- the records of the memory, if the rows are theirs
-module _ (o : OfficeState) (I : Session) (E : Enrolled) (m : Memory)
+module _ (o : OfficeState) {I : Session} {E : Enrolled} {m : Memory}
     (kept_is : m ≡ Some (I, E)) where
-  pub shares_returned : (office : IsOffice o) → memory_of o ≡ m → (students : List StudentShareRow)
-      (parts : List PartShareRow) → AreShareRowsOf o students parts
+  pub shares_returned : (office : IsOffice o) → memory_of o ≡ m → {students : List StudentShareRow}
+      {parts : List PartShareRow} → AreShareRowsOf o students parts
       → (result : Result (Option Sharing) StoreFault)
       → ((r : Records) → AreRecords r → r.session ≡ I
       → AreShared r.session r.published students parts → ReturnsValue (shares_in (Some r)) result)
       → ReturnsValue (shares_in o) result
-  shares_returned office is students parts rows result meaning =
+  shares_returned office is {students = students} {parts = parts} rows result meaning =
       let of = kept_of o I E (is ∙ kept_is) in
       let theirs = subst (λ o. AreShareRowsOf o students parts) of.is rows in
       subst (λ o. ReturnsValue (shares_in o) result) (sym of.is)
@@ -90,51 +85,50 @@ returned_fault expected (Err e) BadRows is good = absurd (good refl)
 
 -- ---- what is in memory
 
--- the office shows the publication in memory
-pub published_shown : (o : OfficeState) (m : OfficeMemory) → IsMemoryOf o m → (T : Placing)
-    (rows : Vec publish.SeatRow Global) → m.published ≡ Some (T, rows) → (U : Placing)
-    (copy : Vec publish.SeatRow Global) → U ≡ T → copy.items ≡ rows.items
-    → ReturnsValue (publication_shown o) (Ok (Some (U, copy.items)))
-published_shown o m is T rows at U copy same also =
-    ap (λ S. Some (S, copy.items)) same ∙ ap (λ l. Some (T, l)) also
-    ∙ shown_in o (publication T rows.items) (is.published ∙ ap publication_from at)
+-- the publication in memory, with the session
+published_is : (o : OfficeState) (m : OfficeMemory) → IsMemoryOf o m → {X : Type 0}
+    (show : Publication → X) → option_map (λ (found : Session × Publication). show found.1) (publication_in o)
+    ≡ option_map show (publication_from m.published)
+published_is None m is show = ap (option_map show) is.published
+published_is (Some r) m is show = go r.published ∙ ap (option_map show) is.published
   where
-    shown_in : (o : OfficeState) (p : Publication) → published_in o ≡ Some p
-        → Some (p.timetable, p.rows) ≡ publication_shown o
-    shown_in None p there = absurd cc
-    shown_in (Some r) p there =
-        ap (λ published. publication_shown (Some (record r { published = published }))) (sym there)
+    go : (published : Option Publication)
+        → option_map (λ (found : Session × Publication). show found.1)
+        (option_map (λ p. (r.session, p)) published) ≡ option_map show published
+    go None = refl
+    go (Some p) = refl
 
-pub none_shown : (o : OfficeState) (m : OfficeMemory) → IsMemoryOf o m → m.published ≡ None
+abbrev shown_of : Publication → Shown
+shown_of p = (p.timetable, p.rows)
+
+-- the office shows the publication in memory
+pub published_shown : {o : OfficeState} {m : OfficeMemory} → IsMemoryOf o m → {T U : Placing}
+    {rows : Vec publish.SeatRow Global} {items : List publish.SeatRow} → m.published ≡ Some (T, rows)
+    → U ≡ T → items ≡ rows.items → ReturnsValue (publication_shown o) (Ok (Some (U, items)))
+published_shown {o = o} {m = m} is at same also =
+    (λ i. Some (same i, also i))
+    ∙ sym (published_is o m is shown_of
+    ∙ ap (λ found. option_map shown_of (publication_from found)) at)
+
+pub none_shown : {o : OfficeState} {m : OfficeMemory} → IsMemoryOf o m → m.published ≡ None
     → None ≡ publication_shown o
-none_shown o m is at = none_in o (is.published ∙ ap publication_from at)
-  where
-    none_in : (o : OfficeState) → published_in o ≡ None → None ≡ publication_shown o
-    none_in None there = refl
-    none_in (Some r) there =
-        ap (λ published. publication_shown (Some (record r { published = published }))) (sym there)
+none_shown {o = o} {m = m} is at =
+    sym (published_is o m is shown_of
+    ∙ ap (λ found. option_map shown_of (publication_from found)) at)
 
 -- or only its timetable
-pub places_shown : (o : OfficeState) (m : OfficeMemory) → IsMemoryOf o m → (T : Placing)
-    (rows : Vec publish.SeatRow Global) → m.published ≡ Some (T, rows) → (U : Placing) → U ≡ T
+pub places_shown : {o : OfficeState} {m : OfficeMemory} → IsMemoryOf o m → {T U : Placing}
+    {rows : Vec publish.SeatRow Global} → m.published ≡ Some (T, rows) → U ≡ T
     → ReturnsValue (timetable_shown o) (Ok (Some U))
-places_shown o m is T rows at U same =
-    ap Some same ∙ shown_in o (publication T rows.items) (is.published ∙ ap publication_from at)
-  where
-    shown_in : (o : OfficeState) (p : Publication) → published_in o ≡ Some p
-        → Some p.timetable ≡ timetable_shown o
-    shown_in None p there = absurd cc
-    shown_in (Some r) p there =
-        ap (λ published. timetable_shown (Some (record r { published = published }))) (sym there)
+places_shown {o = o} {m = m} is at same =
+    ap Some same ∙ sym (published_is o m is (λ (p : Publication). p.timetable)
+    ∙ ap (λ found. option_map (λ (p : Publication). p.timetable) (publication_from found)) at)
 
-pub none_placed : (o : OfficeState) (m : OfficeMemory) → IsMemoryOf o m → m.published ≡ None
+pub none_placed : {o : OfficeState} {m : OfficeMemory} → IsMemoryOf o m → m.published ≡ None
     → None ≡ timetable_shown o
-none_placed o m is at = none_in o (is.published ∙ ap publication_from at)
-  where
-    none_in : (o : OfficeState) → published_in o ≡ None → None ≡ timetable_shown o
-    none_in None there = refl
-    none_in (Some r) there =
-        ap (λ published. timetable_shown (Some (record r { published = published }))) (sym there)
+none_placed {o = o} {m = m} is at =
+    sym (published_is o m is (λ (p : Publication). p.timetable)
+    ∙ ap (λ found. option_map (λ (p : Publication). p.timetable) (publication_from found)) at)
 
 -- ---- the shares
 
@@ -151,18 +145,15 @@ has_part I p known none =
     go [] more some none = omega (arith, some)
     go (x ∷ xs) more some none = absurd cc
 
-pub shares_none : (r : Records) → AreRecords r → (students : List StudentShareRow)
-    (parts : List PartShareRow) → AreShared r.session r.published students parts
+pub shares_none : {r : Records} → AreRecords r → {students : List StudentShareRow}
+    {parts : List PartShareRow} → AreShared r.session r.published students parts
     → length parts ≡ 0 → ReturnsValue (shares_in (Some r)) (Ok None)
-shares_none r is students parts shared none = go r.published shared
-  where
-    go : (published : Option Publication) → AreShared r.session published students parts
-        → None ≡ shares_in (Some (record r { published = published }))
-    go None shared = refl
-    go (Some p) shared =
-        absurd (has_part r.session p is.session
-        (nil_from_length _ (let long = length_permutation _ _ shared.of_parts in
-        omega (arith, long, none))))
+shares_none {r = r} is {students = students} {parts = parts} shared none =
+    by_publication is (λ published. AreShared r.session published students parts
+    → None ≡ shares_in (Some (record r { published = published }))) (λ shared. refl)
+    (λ p known shared. absurd (has_part r.session p is.session
+    (nil_from_length _ (let long = length_permutation _ _ shared.of_parts in omega (arith, long, none)))))
+    shared
 
 pub shares_some : (r : Records) (I : Session) → AreRecords r → r.session ≡ I
     → (students : List StudentShareRow) (parts : List PartShareRow)
@@ -193,57 +184,40 @@ pub shares_good : (r : Records) (I : Session) → AreRecords r → r.session ≡
     → AreShared r.session r.published students parts → 1 ≤ length parts
     → ((p : Publication) → IsPublication I p → AreShared I (Some p) students parts → ⊥) → ⊥
 shares_good r I is same students parts shared some bad =
-    go r.published is.publication shared
+    by_publication is (λ published. AreShared r.session published students parts → ⊥)
+    (λ shared. let long = length_permutation _ _ shared.of_parts in omega (arith, long, some))
     (subst (λ I. (p : Publication) → IsPublication I p → AreShared I (Some p) students parts → ⊥)
-    (sym same) bad)
-  where
-    go : (published : Option Publication)
-        → ((p : Publication) → published ≡ Some p → IsPublication r.session p)
-        → AreShared r.session published students parts
-        → ((p : Publication) → IsPublication r.session p
-        → AreShared r.session (Some p) students parts → ⊥) → ⊥
-    go None each shared bad =
-        let long = length_permutation _ _ shared.of_parts in omega (arith, long, some)
-    go (Some p) each shared bad = bad p (each p refl) shared
+    (sym same) bad) shared
 
 -- the shares of an office add up
 pub add_up : (o : OfficeState) → IsOffice o → (shares : Option Sharing) → shares ≡ shares_in o
     → AddUpIn o shares
 add_up None is shares e = subst (AddUpIn None) (sym e) tt
-add_up (Some r) is shares e = subst (AddUpIn (Some r)) (sym e) (go r.published is.publication)
-  where
-    go : (published : Option Publication)
-        → ((p : Publication) → published ≡ Some p → IsPublication r.session p)
-        → AddUpIn (Some (record r { published = published }))
-        (shares_in (Some (record r { published = published })))
-    go None each = tt
-    go (Some p) each =
-        let known = each p refl in (
-          (r.session, p),
-          refl,
-          adds_up r.session p.rows p.timetable is.session known.rows
-              (are_numbered r.session p known),
-        )
+add_up (Some r) is shares e =
+    subst (AddUpIn (Some r)) (sym e)
+    (by_publication is (λ published. AddUpIn (Some (record r { published = published }))
+    (shares_in (Some (record r { published = published })))) tt
+    (λ p known. (
+      (r.session, p),
+      refl,
+      adds_up r.session p.rows p.timetable is.session known.rows (are_numbered r.session p known),
+    )))
 
 -- and so do the rows that it keeps
 pub stored_add_up : (d : Database) (o : OfficeState) (kept : RepresentsOffice d o)
     → StoredAddUp o kept.held.share_student kept.held.share_part
 stored_add_up d None kept = tt
-stored_add_up d (Some r) kept = go r.published kept.office.publication kept.sound.shared
-  where
-    go : (published : Option Publication)
-        → ((p : Publication) → published ≡ Some p → IsPublication r.session p)
-        → AreShared r.session published kept.held.share_student kept.held.share_part
-        → StoredAddUp (Some (record r { published = published })) kept.held.share_student
-        kept.held.share_part
-    go None each shared = tt
-    go (Some p) each shared =
-        let known = each p refl in (
-          shares_of r.session p.rows p.timetable,
-          record { of_students = shared.of_students; of_parts = shared.of_parts },
-          adds_up r.session p.rows p.timetable kept.office.session known.rows
-              (are_numbered r.session p known),
-        )
+stored_add_up d (Some r) kept =
+    by_publication kept.office
+    (λ published. AreShared r.session published kept.held.share_student kept.held.share_part
+    → StoredAddUp (Some (record r { published = published })) kept.held.share_student
+    kept.held.share_part) (λ shared. tt)
+    (λ p known shared. (
+      shares_of r.session p.rows p.timetable,
+      record { of_students = shared.of_students; of_parts = shared.of_parts },
+      adds_up r.session p.rows p.timetable kept.office.session known.rows
+          (are_numbered r.session p known),
+    )) kept.sound.shared
 
 -- the shares that are returned add up
 pub adds_up_in : (o : OfficeState) (Stays : OfficeState → Type 0)

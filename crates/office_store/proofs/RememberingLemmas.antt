@@ -1,8 +1,12 @@
 -- What is in memory after a command.
-use Rattle.std.proofs.Common.{◌≡◌, ℕ, ◌+◌, Bool, true, false, cond, eqb, List, length, Option, Some, None, Result, Ok, option_map, refl, sym, ◌∙◌, ap, arith}
-use Rattle.std.specs.Prelude.{IfSome, Vec}
+use Rattle.std.proofs.Common.{◌≡◌, ℕ, ◌+◌, ◌<◌, ◌≤◌, inl, inr, subst, Bool, true, false, cond, eqb, eqb-true, List, length, Option, Some, None, Result, Ok, option_map, refl, sym, ◌∙◌, ap, arith}
+use Rattle.std.specs.Prelude.{IfSome, Vec, is_some}
 use Rattle.std.specs.declared.alloc.Global.{Global}
+use Rattle.std.proofs.lemmas.Bool.{cases_lt}
 use Rattle.std.proofs.lemmas.Bool.Decides.{nat_tests}
+use Rattle.std.proofs.lemmas.Option.{same_Some}
+use Rattle.exam_lists.proofs.Results.{same_Ok}
+use Rattle.exam_rules.specs.declared.breach.Breach.{Breach}
 use Rattle.exam_model.specs.Enrolments.{Enrolled}
 use Rattle.exam_model.specs.Instance.{Session}
 use Rattle.exam_model.specs.Timetable.{Placing}
@@ -10,22 +14,23 @@ use Rattle.exam_publish.specs.declared.seat_row.SeatRow.{SeatRow}
 use Rattle.office_enrolment.specs.AfterBatch.{current_enrolments}
 use Rattle.exam_score.specs.Penalty.{Penalty}
 use Rattle.exam_score.specs.Track.{track}
-use Rattle.office_model.specs.Office.{OfficeState, Publication, Records, published_enrolments, set_at}
+use Rattle.office_model.specs.Office.{KeptBatch, OfficeState, Publication, Records, published_enrolments, set_at}
 use Rattle.office_model.specs.declared.fault.StoreFault.{StoreFault}
 use Rattle.office_records.specs.FoundPublications.{publication_from}
 use Rattle.office_records.specs.Memory.{draft_at, scored_by}
 use Rattle.office_records.specs.declared.drafts.Draft.{Draft}
-use Rattle.office_store.specs.Memory.{AreRescored, HasPublished, HasPut, IsMemoryOf, IsRenewed, priced_as, priced_in, rescored_draft}
+use Rattle.office_store.specs.Memory.{AreRescored, HasJudged, HasPublished, HasPut, IsMemoryOf, IsRenewed, rescored_draft}
 use Rattle.office_store.specs.declared.memory.OfficeMemory.{OfficeMemory}
+
+pub is_some-map : {X Y : Type 0} (f : X → Y) (x : Option X) → is_some (option_map f x) ≡ is_some x
+is_some-map f None = refl
+is_some-map f (Some x) = refl
 
 -- a command leads to only one office
 pub next_is : {A : Type 0} {x y : A} {o p : OfficeState}
     {gives : Result (A × OfficeState) StoreFault}
     → gives ≡ Ok (x, o) → gives ≡ Ok (y, p) → p ≡ o
-next_is {A} one other = ap (λ (p : A × OfficeState). p.1) (ok_is (sym other ∙ one))
-  where
-    ok_is : {X : Type 0} {x y : X} → ◌≡◌ {A = Result X StoreFault} (Ok x) (Ok y) → x ≡ y
-    ok_is e = cc
+next_is {A} one other = ap (λ (p : A × OfficeState). p.1) (same_Ok (sym other ∙ one))
 
 -- one draft replaces another
 pub one_changed : (r : Records) (m n : OfficeMemory) (d : ℕ) (x : Option Placing)
@@ -41,12 +46,26 @@ one_changed r m n d x is put = record {
   where
     go : (e : ℕ) (b : Bool) → eqb e d ≡ b → draft_at n.drafts e
         ≡ option_map (scored_by r.session r.enrolments) (cond b x (r.draft e))
-    go e true same =
-        let here : e ≡ d = grind (arith, nat_tests, same) in
-        ap (draft_at n.drafts) here ∙ put.put
+    go e true same = ap (draft_at n.drafts) (eqb-true e d same) ∙ put.put
     go e false same =
         put.others e (λ here. let there : eqb e d ≡ true = grind (arith, nat_tests, here) in cc)
         ∙ is.drafts e
+
+-- the memory is of the same office, whatever breaches are kept
+pub still_memory : {o : OfficeState} {d : ℕ} {found : Option (Vec Breach Global)} {m n : OfficeMemory}
+    → IsMemoryOf o m → (d ≤ 8 → HasJudged d found m n) → (8 < d → n ≡ m) → IsMemoryOf o n
+still_memory {o = o} {d = d} is within beyond = elim (cases_lt 8 d) [
+  | inl high ↦ subst (IsMemoryOf o) (sym (beyond high)) is
+  | inr low ↦
+      let has = within low in
+      record {
+        session = is.session ∙ sym has.kept;
+        batches = is.batches ∙ sym has.batches;
+        drafts = λ e. ap (λ l. draft_at l e) has.drafts ∙ is.drafts e;
+        published = is.published ∙ ap publication_from (sym has.published);
+        priced = is.priced ∙ sym has.priced;
+      }
+]
 
 -- a publication replaces the one before
 pub published_changed : (r : Records) (m n : OfficeMemory) (new : Placing × Vec SeatRow Global)
@@ -62,23 +81,6 @@ published_changed r m n new penalty p is has made costs = record {
   priced = ap Some costs ∙ sym has.priced;
 }
 
--- the session, the batches, the drafts and the publication stay
-pub all_stays : (r s : Records) (m : OfficeMemory) → IsMemoryOf (Some r) m
-    → s.session ≡ r.session → s.enrolments ≡ r.enrolments → s.batches ≡ r.batches
-    → s.draft ≡ r.draft → s.published ≡ r.published → IsMemoryOf (Some s) m
-all_stays r s m is session enrolments batches drafts published = record {
-  session = ap (λ I. Some (I, s.enrolments)) session ∙ ap (λ E. Some (r.session, E)) enrolments
-      ∙ is.session;
-  batches = ap length batches ∙ is.batches;
-  drafts = λ d. is.drafts d
-      ∙ sym (ap (λ I. option_map (scored_by I s.enrolments) (s.draft d)) session
-      ∙ ap (λ E. option_map (scored_by r.session E) (s.draft d)) enrolments
-      ∙ ap (λ (f : ℕ → Option Placing). option_map (scored_by r.session r.enrolments) (f d))
-      drafts);
-  published = published ∙ is.published;
-  priced = (λ i. priced_as (session i) (published i)) ∙ is.priced;
-}
-
 -- ---- a batch
 
 pub twice : (I J : Session) (E F : Enrolled) (x : Option Placing)
@@ -86,66 +88,30 @@ pub twice : (I J : Session) (E F : Enrolled) (x : Option Placing)
 twice I J E F None = refl
 twice I J E F (Some T) = refl
 
-module _ (r s : Records) (m n : OfficeMemory) (I : Session) (E : Enrolled)
-    (kept : m.kept ≡ Some (I, E)) (drafts : List (Option Draft)) (is : IsMemoryOf (Some r) m)
-    (session : s.session ≡ r.session) (same : s.draft ≡ r.draft)
-    (count : length s.batches ≡ length r.batches + 1) (batches : n.batches ≡ m.batches + 1)
-    (published : s.published ≡ r.published) (stays : n.published ≡ m.published)
-    (priced_stays : n.priced ≡ m.priced) where
+module _ {r : Records} {m : OfficeMemory} {I : Session} {E : Enrolled} (kept : m.kept ≡ Some (I, E))
+    (is : IsMemoryOf (Some r) m) where
   both : ◌≡◌ {A = Session × Enrolled} (r.session, r.enrolments) (I, E)
-  both = some_is (is.session ∙ kept)
-    where
-      some_is : {X : Type 0} {x y : X} → Some x ≡ Some y → x ≡ y
-      some_is e = cc
+  both = same_Some _ _ (is.session ∙ kept)
 
-  session_is : s.session ≡ I
-  session_is = session ∙ ap (λ (p : Session × Enrolled). p.0) both
-
-  one_more : length s.batches ≡ n.batches
-  one_more = let old = is.batches in omega (arith, count, batches, old)
-
-  still_published : s.published ≡ publication_from n.published
-  still_published = published ∙ is.published ∙ ap publication_from (sym stays)
-
-  still_priced : priced_in (Some s) ≡ n.priced
-  still_priced =
-      (λ i. priced_as (session i) (published i)) ∙ is.priced ∙ sym priced_stays
-
-  -- the enrolments change
-  made : (F : Enrolled) → s.enrolments ≡ F → n.kept ≡ Some (I, F) → n.drafts ≡ drafts
-      → AreRescored I F m.drafts drafts → IsMemoryOf (Some s) n
-  made F enrolled now drafts_are scored = record {
-    session = ap (λ J. Some (J, s.enrolments)) session_is ∙ ap (λ G. Some (I, G)) enrolled ∙ sym
-        now;
-    batches = one_more;
-    drafts = λ d. ap (λ l. draft_at l d) drafts_are ∙ scored d
+  pub after_lines : {n : OfficeMemory} (all : List KeptBatch) (drafts : List (Option Draft))
+      → length all ≡ length r.batches + 1 → n.batches ≡ m.batches + 1 → n.published ≡ m.published
+      → n.priced ≡ m.priced → (F : Option Enrolled) → IsRenewed I E F drafts m n
+      → IfSome F (λ F. AreRescored I F m.drafts drafts)
+      → IsMemoryOf (Some (record r { enrolments = current_enrolments F r.enrolments; batches = all })) n
+  after_lines all drafts count batches stays priced None renewed scored = record {
+    session = is.session ∙ kept ∙ sym renewed.0;
+    batches = let old = is.batches in omega (arith, count, batches, old);
+    drafts = λ d. ap (λ l. draft_at l d) renewed.1 ∙ is.drafts d;
+    published = is.published ∙ ap publication_from (sym stays);
+    priced = is.priced ∙ sym priced;
+  }
+  after_lines all drafts count batches stays priced (Some F) renewed scored = record {
+    session = ap (λ (p : Session × Enrolled). Some (p.0, F)) both ∙ sym renewed.0;
+    batches = let old = is.batches in omega (arith, count, batches, old);
+    drafts = λ d. ap (λ l. draft_at l d) renewed.1 ∙ scored d
         ∙ ap (option_map (rescored_draft I F)) (is.drafts d)
         ∙ twice I r.session r.enrolments F (r.draft d)
-        ∙ sym (ap (λ J. option_map (scored_by J s.enrolments) (s.draft d)) session_is
-        ∙ ap (λ G. option_map (scored_by I G) (s.draft d)) enrolled
-        ∙ ap (λ (f : ℕ → Option Placing). option_map (scored_by I F) (f d)) same);
-    published = still_published;
-    priced = still_priced;
+        ∙ ap (λ (p : Session × Enrolled). option_map (scored_by p.0 F) (r.draft d)) (sym both);
+    published = is.published ∙ ap publication_from (sym stays);
+    priced = is.priced ∙ sym priced;
   }
-
-  -- the enrolments stay
-  left : s.enrolments ≡ r.enrolments → n.kept ≡ Some (I, E) → n.drafts ≡ m.drafts
-      → IsMemoryOf (Some s) n
-  left enrolled now old = record {
-    session = ap (λ J. Some (J, s.enrolments)) session ∙ ap (λ G. Some (r.session, G)) enrolled
-        ∙ is.session ∙ kept ∙ sym now;
-    batches = one_more;
-    drafts = λ d. ap (λ l. draft_at l d) old ∙ is.drafts d
-        ∙ sym (ap (λ J. option_map (scored_by J s.enrolments) (s.draft d)) session
-        ∙ ap (λ G. option_map (scored_by r.session G) (s.draft d)) enrolled
-        ∙ ap (λ (f : ℕ → Option Placing). option_map (scored_by r.session r.enrolments) (f d))
-        same);
-    published = still_published;
-    priced = still_priced;
-  }
-
-  pub after_lines : (F : Option Enrolled) → s.enrolments ≡ current_enrolments F r.enrolments
-      → IsRenewed I E F drafts m n → IfSome F (λ F. AreRescored I F m.drafts drafts)
-      → IsMemoryOf (Some s) n
-  after_lines None enrolled renewed scored = left enrolled renewed.0 renewed.1
-  after_lines (Some F) enrolled renewed scored = made F enrolled renewed.0 renewed.1 scored

@@ -1,8 +1,13 @@
 -- What a call leaves of the office.
-use Rattle.std.proofs.Common.{◌≡◌, Ok, Result, Some, None, arith, refl, sym, ◌∙◌, ap, subst, IsTrue, inl, inr}
+use Rattle.std.proofs.Common.{◌≡◌, Option, Some, None, refl, Ok, Err, Result, sym, ap, subst, arith, ◌∙◌, IsTrue, inl, inr}
+use Rattle.std.proofs.lemmas.Option.{same_Some}
 use Rattle.exam_model.specs.Enrolments.{Enrolled}
 use Rattle.exam_model.specs.Instance.{Session}
-use Rattle.sqlite.specs.Effect.{Database}
+use Rattle.office_model.specs.Office.{AreRecords, IsPublication, OfficeState, Publication, Records}
+use Rattle.office_records.specs.Memory.{memory_of}
+use Rattle.office_model.specs.declared.fault.StoreFault.{StoreFault}
+use Rattle.office_model.specs.Commands.{CommandResult, session_shown}
+use Rattle.office_store.specs.Running.{CommandOutcome, IsAtRest, Represents, MatchesMemory, StateUnchanged}
 use Rattle.sqlite.specs.declared.error.Error.{Error}
 use Rattle.sqlite.specs.Held.{Held, state}
 use Rattle.sqlite.specs.State.{State, HasCleanDisk, Survives}
@@ -11,15 +16,40 @@ use Rattle.sqlite_trees.specs.Tree.{Trees}
 use Rattle.office_tables.specs.Readers.{Keeps, LeavesTables}
 use Rattle.office_tables.specs.Tables.{Tables}
 use Rattle.office_tables.specs.TablesHeld.{HoldsTables}
-use Rattle.office_model.specs.Office.{OfficeState, Records}
-use Rattle.office_records.specs.Memory.{memory_of}
-use Rattle.office_store.specs.FoldReads.{HasRead, RowsUnchanged}
-use Rattle.office_store.specs.Running.{IsAtRest, Represents, MatchesMemory, StateUnchanged}
 use Rattle.office_records.specs.Representation.{RepresentsOffice}
 use Rattle.office_tables.specs.Alterations.{Undone}
 use Rattle.office_store.specs.Memory.{IsMemoryOf}
 use Rattle.office_store.specs.declared.memory.OfficeMemory.{OfficeMemory}
 use Rattle.office_store.proofs.InMemoryLemmas.{same_in_memory}
+
+-- if the command leaves the office unchanged, the office after the call is the one before
+pub does_now : {A : Type 0} (gives : CommandResult A) (o : OfficeState)
+    (Stays : OfficeState → Type 0)
+    (r : Result A StoreFault) → CommandOutcome gives o (λ new. new ≡ o) r → Stays o
+    → CommandOutcome gives o Stays r
+does_now gives o Stays (Ok x) does here = (does.0, does.1, subst Stays (sym does.2) here)
+does_now gives o Stays (Err e) does here = (does.0, here)
+
+-- ---- the publication
+
+-- what holds without a publication and of each valid one holds of the office's
+pub by_publication : {r : Records} → AreRecords r → (P : Option Publication → Type 0) → P None
+    → ((p : Publication) → IsPublication r.session p → P (Some p)) → P r.published
+by_publication {r = r} is P none some = go r.published is.publication
+  where
+    go : (published : Option Publication)
+        → ((p : Publication) → published ≡ Some p → IsPublication r.session p) → P published
+    go None each = none
+    go (Some p) each = some p (each p refl)
+
+-- ---- the session
+
+-- the session in memory is what the office shows
+pub session_returned : (o : OfficeState) (I : Session) (E : Enrolled) → memory_of o ≡ Some (I, E)
+    → session_shown o ≡ Ok ((I, E), o)
+session_returned None I E here = absurd cc
+session_returned (Some r) I E here =
+    ap (λ (s : Session × Enrolled). Ok (s, Some r)) (same_Some (r.session, r.enrolments) (I, E) here)
 
 -- ---- the disk
 
@@ -89,12 +119,9 @@ kept_of None I E h = absurd cc
 kept_of (Some r) I E h = record {
   records = r;
   is = refl;
-  session = ap (λ (p : Session × Enrolled). p.0) (some_is h);
-  enrolments = ap (λ (p : Session × Enrolled). p.1) (some_is h);
+  session = ap (λ (p : Session × Enrolled). p.0) (same_Some _ _ h);
+  enrolments = ap (λ (p : Session × Enrolled). p.1) (same_Some _ _ h);
 }
-  where
-    some_is : {X : Type 0} {x y : X} → Some x ≡ Some y → x ≡ y
-    some_is e = cc
 
 -- ---- readers, which don't open a closed store
 
@@ -113,48 +140,17 @@ module _ (a b : State) (m : OfficeMemory) (rest : MatchesMemory a m)
   rest_read = rest_still a b m clean still_read rest
 
 -- what is in memory matches the tables after a reader of them
-pub rest_after : {S X : Type 0} {result : Result X Error} (g : Ghosts S) (a b : Held S)
-    (m : OfficeMemory) → MatchesMemory (state g a) m
-    → IsAtRest (state g a)
+pub rest_after : {S X : Type 0} {result : Result X Error} {g : Ghosts S} {a b : Held S}
+    {m : OfficeMemory} → MatchesMemory (state g a) m → IsAtRest (state g a)
     → LeavesTables g a b result → MatchesMemory (state g b) m
-rest_after g a b m rest settled read =
-    rest_read (state g a) (state g b) m rest (λ k. omega (arith, read.survives.clean, k))
-    (λ _. settled) read.was_open read.kept
+rest_after {g = g} {a = a} {b = b} {m = m} rest settled read =
+    rest_read (state g a) (state g b) m rest (clean_before read.survives) (λ _. settled) read.was_open
+    read.kept
 
 -- a reader that succeeded leaves the database as it was
-pub now_after : {S X : Type 0} {x : X} (g : Ghosts S) (a b : Held S) (m : OfficeMemory)
+pub now_after : {S X : Type 0} {x : X} {g : Ghosts S} {a b : Held S} {m : OfficeMemory}
     → MatchesMemory (state g a) m → LeavesTables g a b (Ok x) → HasCleanDisk (state g b)
     → (state g b).now ≡ (state g a).now
-now_after g a b m rest read clean =
-    let here = rest (omega (arith, read.survives.clean, clean)) (read.open_on_ok clean) in
+now_after rest read clean =
+    let here = rest (clean_before read.survives clean) (read.open_on_ok clean) in
     (read.same clean here.1.held here.1.tables).0.now_is
-
--- ---- readers that succeeded, and then a transaction that failed
-
-module _ {S : Type 0} (g : Ghosts S) (a b c : Held S) (m : OfficeMemory)
-    (rest : MatchesMemory (state g a) m)
-    (settled : HasCleanDisk (state g a) → IsAtRest (state g a)) (read : HasRead g a b)
-    (same : RowsUnchanged g a b)
-    (clean : HasCleanDisk (state g c) → HasCleanDisk (state g b))
-    (undone : HasCleanDisk (state g c) → Undone (state g b) (state g c)) where
-  pub still_failed : HasCleanDisk (state g c) → StateUnchanged (state g a) (state g c)
-  still_failed is_clean opened =
-      let back = undone is_clean in
-      let mid = clean is_clean in
-      let was = read.was_open mid (back.was_open opened) in
-      let here = rest (read.clean mid) was in
-      let kept = same mid here.1.held here.1.tables was in
-      (was, back.now opened ∙ kept.0.committed_is ∙ sym (settled (read.clean mid) was))
-
-  -- the memory is still the office's
-  pub rest_failed : MatchesMemory (state g c) m
-  rest_failed =
-      rest_still (state g a) (state g c) m (λ k. read.clean (clean k)) still_failed rest
-
--- a transaction that changes the tables after the readers changes those before them
-pub made_on : {S : Type 0} (g : Ghosts S) (a b : Held S) (c : Database) → RowsUnchanged g a b
-    → HasCleanDisk (state g b) → IsTrue (state g a).is_open → (make : Tables → Tables)
-    → ((t : Tables) → HoldsTables (state g b).now t → HoldsTables c (make t))
-    → (t : Tables) → HoldsTables (state g a).now t → HoldsTables c (make t)
-made_on g a b c same clean opened make makes t held =
-    makes t (subst (λ db. HoldsTables db t) (sym (same clean t held opened).0.now_is) held)

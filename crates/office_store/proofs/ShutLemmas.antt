@@ -1,12 +1,11 @@
 -- Whether the store is closed, by the result of a statement.
-use Rattle.std.proofs.Common.{◌≡◌, ◌∙◌, ℕ, Bool, true, false, List, [], Option, Some, None, Result, Ok}
-use Rattle.std.proofs.Common.{Err, IfErr, IfOk, IsTrue, inl, inr, refl, subst, sym}
+use Rattle.std.proofs.Common.{◌≡◌, ◌∙◌, ℕ, Bool, true, false, List, Option, Some, None, Result, Ok, [], Err, IfErr, IfOk, IsTrue, inl, inr, subst, sym}
 use Rattle.std.specs.Prelude.{MatchBool}
 use Rattle.std.specs.Result.{result_err}
 use Rattle.std.proofs.lemmas.Bool.{false_from_ne_true}
+use Rattle.std.proofs.lemmas.Option.{same_Some}
 use Rattle.sqlite_trees.specs.declared.error.StoreError.{StoreError}
-use Rattle.sqlite_trees.specs.declared.error.StoreError.TheVariants.{OutOfMemory, Io, Corrupt, Full}
-use Rattle.sqlite_trees.specs.declared.error.StoreError.TheVariants.{Broken, Unstorable}
+use Rattle.sqlite_trees.specs.declared.error.StoreError.TheVariants.{OutOfMemory, Io, Corrupt, Full, Broken, Unstorable}
 use Rattle.sqlite_value.specs.Order.{Row}
 use Rattle.sqlite.specs.declared.error.Error.{Error}
 use Rattle.sqlite.specs.declared.error.Error.TheVariants.{SqliteFailure}
@@ -77,10 +76,7 @@ module _ (a b : State) (settled : IsAtRest a) (sql : List ℕ)
       → IfErr r (λ e. (params : Row) → IsNotRun a b sql params e)
       → Some (SqliteFailure Closed) ≡ result_err r → IsShut b
   shut_because (Ok s) y is = absurd cc
-  shut_because (Err e) y is = shut_by_closed sql [] a b e (sym (some_is is)) (y [])
-    where
-      some_is : {X : Type 0} {x y : X} → Some x ≡ Some y → x ≡ y
-      some_is e = cc
+  shut_because (Err e) y is = shut_by_closed sql [] a b e (sym (same_Some _ _ is)) (y [])
 
   pub returned_shut : (x : Option Error) → x ≡ result_err asked → (t : Result Bool StoreFault)
       → IfOk t (λ b. MatchBool b (x ≡ Some (SqliteFailure Closed)) (x ≡ None))

@@ -1,5 +1,5 @@
 -- One step of a transaction after another.
-use Rattle.std.proofs.Common.{Result, IsTrue}
+use Rattle.std.proofs.Common.{◌≡◌, Result, IsTrue, subst}
 use Rattle.std.proofs.lemmas.Result.{on_ok_weaker}
 use Rattle.sqlite.specs.declared.error.Error.{Error}
 use Rattle.sqlite.specs.Held.{Held, state}
@@ -20,13 +20,12 @@ changes_then g f h a b c r first within next clean inside =
     (next clean made.0)
 
 -- the change of an equal function
-pub changes_as : {S : Type 0} (g : Ghosts S) (f k : Tables → Tables) (a c : Held S)
-    (r : Result (Unit {0}) Error)
-    → ((t : Tables) → HoldsTables (state g c).now (f t) → HoldsTables (state g c).now (k t))
-    → Changes g f a c r → Changes g k a c r
-changes_as g f k a c r same makes clean inside =
+pub changes_as : {S : Type 0} {f k : Tables → Tables} (g : Ghosts S) (a c : Held S)
+    (r : Result (Unit {0}) Error) → ((t : Tables) → f t ≡ k t) → Changes g f a c r → Changes g k a c r
+changes_as g a c r same makes clean inside =
     on_ok_weaker r (λ last. (
       last.0,
-      λ t represents. let made = last.1 t represents in (same t made.0, made.1),
+      λ t represents.
+          let made = last.1 t represents in (subst (HoldsTables (state g c).now) (same t) made.0, made.1),
     ))
     (makes clean inside)

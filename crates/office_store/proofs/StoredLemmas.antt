@@ -1,80 +1,92 @@
--- A draft that is shown from memory.
-use Rattle.std.proofs.Common.{◌≡◌, ℕ, true, false, Option, Some, None, Result, Ok, Err, refl, sym, ◌∙◌, ap}
+-- A draft that is shown from memory: its timetable, its penalty, its breaches and an exam's places.
+use Rattle.std.proofs.Common.{◌≡◌, ℕ, true, false, List, Some, None, Ok, Err, refl, sym, ◌∙◌, ap}
 use Rattle.std.specs.Prelude.{is_some}
+use Rattle.sqlite.specs.Effect.{Database}
+use Rattle.exam_model.specs.Enrolments.{Enrolled}
+use Rattle.exam_model.specs.Instance.{Session}
 use Rattle.exam_model.specs.Timetable.{Placing}
-use Rattle.exam_score.specs.Penalty.{Penalty}
+use Rattle.exam_draft.specs.Edits.{exam_exists}
+use Rattle.exam_draft.specs.declared.fault.EditFault.TheVariants.{NoSuch}
+use Rattle.exam_places.specs.Places.{places_of}
+use Rattle.exam_places.specs.declared.place_row.PlaceRow.{PlaceRow}
+use Rattle.exam_rules.specs.Breaches.{breaches_of}
+use Rattle.exam_rules.specs.declared.breach.Breach.{Breach}
 use Rattle.exam_score.specs.Track.{track}
-use Rattle.exam_terms.specs.Refusing.{◌>>=◌}
-use Rattle.office_model.specs.declared.fault.StoreFault.TheVariants.{NoDraft}
+use Rattle.office_model.specs.Commands.{CommandResult}
 use Rattle.office_model.specs.DraftCommands.{draft_shown}
 use Rattle.office_model.specs.Office.{OfficeState, Records}
-use Rattle.office_model.specs.declared.fault.StoreFault.{StoreFault}
-use Rattle.office_records.specs.Memory.{draft_at, scored_draft}
+use Rattle.office_model.specs.Step.{draft_places_shown}
+use Rattle.office_model.specs.declared.fault.Refusal.TheVariants as refusal
+use Rattle.office_model.specs.declared.fault.StoreFault.TheVariants.{NoDraft, Refused}
+use Rattle.office_records.specs.Memory.{draft_at}
 use Rattle.office_records.specs.declared.drafts.Draft.{Draft}
+use Rattle.office_store.specs.Judging.{draft_judged}
 use Rattle.office_store.specs.Memory.{IsMemoryOf}
 use Rattle.office_store.specs.Pricing.{draft_priced}
 use Rattle.office_store.specs.Running.{CommandOutcome}
 use Rattle.office_store.specs.declared.memory.OfficeMemory.{OfficeMemory}
-use Rattle.office_store.proofs.EditCallLemmas.{there_of}
+use Rattle.office_store.proofs.CommandLemmas.{Denies}
+use Rattle.office_store.proofs.EditCallLemmas.{both, no_draft, there_of}
 
-shown_so : (r : Records) (d : ℕ) (T : Placing) → r.draft d ≡ Some T
-    → draft_shown d (Some r) ≡ Ok ((T, track r.session r.enrolments T), Some r)
-shown_so r d T is = rw is refl
+-- no draft has this number
+pub none_denied : {A : Type 0} (command : OfficeState → CommandResult A) {a : Database}
+    {m : OfficeMemory} (d : ℕ) → is_some m.kept ≡ true → draft_at m.drafts d ≡ None
+    → ((r : Records) → r.draft d ≡ None → command (Some r) ≡ Err NoDraft) → Denies command NoDraft a m
+none_denied command d loaded none refuses None kept is =
+    absurd (let empty : false ≡ true = ap is_some is.session ∙ loaded in cc)
+none_denied command d loaded none refuses (Some r) kept is =
+    refuses r (no_draft d r (sym (is.drafts d) ∙ none))
 
--- the draft is what the office shows
-pub in_memory_shown : (m : OfficeMemory) (d : ℕ) (o : OfficeState) → IsMemoryOf o m
-    → (draft : Draft) → draft_at m.drafts d ≡ Some draft → (T : Placing) → T ≡ draft.timetable
-    → CommandOutcome (draft_shown d o) o (λ new. new ≡ o) (Ok (T, draft.parts))
-in_memory_shown m d None is draft at T same =
-    absurd (let none = sym (is.drafts d) ∙ at in cc)
-in_memory_shown m d (Some r) is draft at T same =
-    let there = there_of d r draft (sym (is.drafts d) ∙ at) in (
-      Some r,
-      shown_so r d draft.timetable there.timetable
-          ∙ ap (λ (P : Penalty). Ok ((draft.timetable, P), Some r)) (sym there.scored)
-          ∙ ap (λ (S : Placing). Ok ((S, draft.parts), Some r)) (sym same),
-      refl,
-    )
+module _ (d : ℕ) {m : OfficeMemory} {draft : Draft} (at : draft_at m.drafts d ≡ Some draft) where
+  pub in_memory_shown : {T : Placing} → T ≡ draft.timetable → (o : OfficeState) → IsMemoryOf o m
+      → CommandOutcome (draft_shown d o) o (λ new. new ≡ o) (Ok (T, draft.parts))
+  in_memory_shown same None is = absurd (let none = sym (is.drafts d) ∙ at in cc)
+  in_memory_shown same (Some r) is =
+      let there = there_of d r draft (sym (is.drafts d) ∙ at) in
+      (Some r, rw (there.timetable, same, there.scored) refl, refl)
 
-not_shown_so : (r : Records) (d : ℕ) (t : Option Placing) → r.draft d ≡ t → is_some t ≡ false
-    → draft_shown d (Some r) ≡ Err NoDraft
-not_shown_so r d None is none = rw is refl
-not_shown_so r d (Some T) is none = absurd cc
+  pub in_memory_priced : (o : OfficeState) → IsMemoryOf o m
+      → CommandOutcome (draft_priced d o) o (λ new. new ≡ o) (Ok draft.parts)
+  in_memory_priced None is = absurd (let none = sym (is.drafts d) ∙ at in cc)
+  in_memory_priced (Some r) is =
+      let there = there_of d r draft (sym (is.drafts d) ∙ at) in
+      (Some r, rw (there.timetable, there.scored) refl, refl)
 
--- there is no draft
-pub none_scored : (r : Records) (d : ℕ) → scored_draft d (Some r) ≡ None
-    → is_some (r.draft d) ≡ false
-none_scored r d none = go (r.draft d) refl
-  where
-    go : (t : Option Placing) → r.draft d ≡ t → is_some t ≡ false
-    go None is = refl
-    go (Some T) is = absurd (let some = rw is at none in cc)
+  module _ {I : Session} {E : Enrolled} (kept : m.kept ≡ Some (I, E)) where
+    pub in_memory_judged : {found : List Breach} → found ≡ breaches_of I E draft.timetable
+        → (o : OfficeState) → IsMemoryOf o m
+        → CommandOutcome (draft_judged d o) o (λ new. new ≡ o) (Ok found)
+    in_memory_judged same None is = absurd (let none = sym (is.drafts d) ∙ at in cc)
+    in_memory_judged same (Some r) is =
+        let there = there_of d r draft (sym (is.drafts d) ∙ at) in
+        let own = ap (λ (s : Session × Enrolled). breaches_of s.0 s.1 draft.timetable)
+        (both r I E (is.session ∙ kept)) in
+        (Some r, rw (there.timetable, own, same) refl, refl)
 
-pub none_in_memory_shown : (m : OfficeMemory) (d : ℕ) (o : OfficeState) → IsMemoryOf o m
-    → is_some m.kept ≡ true → draft_at m.drafts d ≡ None → draft_shown d o ≡ Err NoDraft
-none_in_memory_shown m d None is loaded none =
-    absurd (let kept : is_some m.kept ≡ false = ap is_some (sym is.session) in cc)
-none_in_memory_shown m d (Some r) is loaded none =
-    not_shown_so r d (r.draft d) refl (none_scored r d (sym (is.drafts d) ∙ none))
+    -- the draft in memory has its penalty
+    pub scored_in_memory : (o : OfficeState) → IsMemoryOf o m → draft.parts ≡ track I E draft.timetable
+    scored_in_memory None is = absurd (let none = sym (is.drafts d) ∙ at in cc)
+    scored_in_memory (Some r) is =
+        (there_of d r draft (sym (is.drafts d) ∙ at)).scored
+        ∙ ap (λ (s : Session × Enrolled). track s.0 s.1 draft.timetable) (both r I E (is.session ∙ kept))
 
--- ---- its penalty
+    module _ (e : ℕ) where
+      pub in_memory_listed : {found : List PlaceRow} → exam_exists I e ≡ true
+          → found ≡ places_of I E draft.timetable e → (o : OfficeState) → IsMemoryOf o m
+          → CommandOutcome (draft_places_shown d e o) o (λ new. new ≡ o) (Ok found)
+      in_memory_listed exists same None is = absurd (let none = sym (is.drafts d) ∙ at in cc)
+      in_memory_listed exists same (Some r) is =
+          let there = there_of d r draft (sym (is.drafts d) ∙ at) in
+          let kept = both r I E (is.session ∙ kept) in
+          let own = ap (λ (s : Session × Enrolled). exam_exists s.0 e) kept ∙ exists in
+          let rows = ap (λ (s : Session × Enrolled). places_of s.0 s.1 draft.timetable e) kept in
+          (Some r, rw (there.timetable, own, rows, same) refl, refl)
 
--- the penalty of the draft that the office shows
-abbrev priced : Result ((Placing × Penalty) × OfficeState) StoreFault
-    → Result (Penalty × OfficeState) StoreFault
-priced shown = shown >>= λ found. Ok (found.0.1, found.1)
-
-pub in_memory_priced : (m : OfficeMemory) (d : ℕ) (o : OfficeState) → IsMemoryOf o m
-    → (draft : Draft) → draft_at m.drafts d ≡ Some draft
-    → CommandOutcome (draft_priced d o) o (λ new. new ≡ o) (Ok draft.parts)
-in_memory_priced m d o is draft at =
-    let shown = in_memory_shown m d o is draft at draft.timetable refl in (
-      shown.0,
-      ap priced shown.1,
-      shown.2,
-    )
-
-pub none_in_memory_priced : (m : OfficeMemory) (d : ℕ) (o : OfficeState) → IsMemoryOf o m
-    → is_some m.kept ≡ true → draft_at m.drafts d ≡ None → draft_priced d o ≡ Err NoDraft
-none_in_memory_priced m d o is loaded none =
-    ap priced (none_in_memory_shown m d o is loaded none)
+      pub missing_listed : {a : Database} → exam_exists I e ≡ false
+          → Denies (draft_places_shown d e) (Refused (refusal.Edit NoSuch)) a m
+      missing_listed missing None stands is = absurd (let none = sym (is.drafts d) ∙ at in cc)
+      missing_listed missing (Some r) stands is =
+          let there = there_of d r draft (sym (is.drafts d) ∙ at) in
+          let own = ap (λ (s : Session × Enrolled). exam_exists s.0 e) (both r I E (is.session ∙ kept))
+          ∙ missing in
+          rw (there.timetable, own) refl

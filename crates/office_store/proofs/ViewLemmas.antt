@@ -1,23 +1,23 @@
 -- What the rows of a candidate are.
-use Rattle.std.proofs.Common.{◌≡◌, ℕ, zero, suc, ◌||◌, ◌+◌, ◌<◌, ◌≤◌, Bool, true, false, cond, eqb, List, [], ◌∷◌, ◌++◌}
-use Rattle.std.proofs.Common.{map, filter, length, Option, Some, None, refl, sym, ◌∙◌, ap, ap₂, subst, arith}
-use Rattle.std.specs.Prelude.{IsErrAnd, IsPermutation, Vec, option_map, Result, Ok, Err}
+use Rattle.std.proofs.Common.{◌≡◌, ℕ, suc, ◌||◌, ◌+◌, ◌<◌, ◌≤◌, Bool, true, false, cond, eqb, List, ◌∷◌, ◌++◌, [], map, filter, length, length-append, eqb-true, Option, Some, None, refl, sym, ◌∙◌, ap, ap₂, subst, arith, inl, inr}
+use Rattle.std.specs.Prelude.{IsErrAnd, IsPermutation, Vec, option_map, Result, Ok, Err, ◌^◌, All}
 use Rattle.std.specs.declared.alloc.Global.{Global}
 use Rattle.std.specs.List.{AllByRecursion, cons_option, flat_map, list_any, range_with_len}
 use Rattle.std.proofs.lemmas.Bool.Decides.{nat_tests}
+use Rattle.std.proofs.lemmas.Bool.{or_parts}
 use Rattle.std.proofs.lemmas.List.{append_assoc, map-append}
-use Rattle.std.proofs.lemmas.List.Elements.{filter-append}
+use Rattle.std.proofs.lemmas.List.FromFn.{get_or-range_with_len, length-range_with_len}
+use Rattle.std.proofs.lemmas.Option.{same_Some}
+use Rattle.std.proofs.lemmas.List.Elements.{filter-append, All-from_recursion, recursion_from_All}
 use Rattle.std.proofs.lemmas.List.Sorted.{IsPermutation-refl, IsPermutation-sym, IsPermutation-trans}
 use Rattle.sqlite_trees.specs.Tree.{IsAscending}
-use Rattle.sqlite_trees.proofs.ListLemmas.{IsPermutation-filter, IsPermutation-flat_map}
-use Rattle.sqlite_trees.proofs.ListLemmas.{IsPermutation-flat_map_each, all_weaker, flat_map-map}
+use Rattle.sqlite_trees.proofs.ListLemmas.{IsPermutation-filter, IsPermutation-flat_map, IsPermutation-flat_map_each, flat_map-map, all-filter, all_from_map, filter-map, map-map}
 use Rattle.exam_terms.specs.declared.place.Place.{Place}
 use Rattle.exam_model.specs.Changes.{exams_sat}
 use Rattle.exam_model.specs.Enrolments.{AreEnrolments, Enrolled, has, has_number, students}
 use Rattle.exam_model.specs.Enrolments as rising
 use Rattle.exam_model.specs.Pairs.{Pair, pairs_at, pairs_from, pairs_of}
-use Rattle.exam_model.specs.Timetable.{Placing, place_of}
-use Rattle.exam_publish.proofs.ListLemmas.{chain_from_ascending}
+use Rattle.exam_publish.proofs.ListLemmas.{chain_from_ascending, chain_ascending, has_ascending}
 use Rattle.office_tables.specs.Enrol.{StudentEnrolsRise}
 use Rattle.office_tables.specs.Selections.{IsInOrder}
 use Rattle.office_tables.specs.Placed.{PlacementsRise, placed_of}
@@ -25,21 +25,19 @@ use Rattle.office_tables.specs.Tables.{Tables}
 use Rattle.office_tables.specs.declared.enrol.EnrolRow.{EnrolRow}
 use Rattle.office_tables.specs.declared.placed.PlacedRow.{PlacedRow}
 use Rattle.office_model.specs.Office.{AreRecords, IsOffice, OfficeState, Publication, Records}
-use Rattle.office_model.specs.Views.{published_place}
+use Rattle.office_model.specs.Views.{published_place, no_view, view_from, view_of}
 use Rattle.office_model.specs.ViewRows.{AreOfPublication, places_in}
-use Rattle.office_records.specs.Publications.{placed_from, placed_row, placed_rows}
-use Rattle.office_records.specs.Representation.{TablesRepresentOffice}
+use Rattle.office_records.specs.Publications.{placed_row, placed_rows, stored_seat}
+use Rattle.office_records.specs.Representation.{TablesRepresentOffice, IsSound}
 use Rattle.office_records.specs.TableRows.{enrol_row, number_if}
-use Rattle.office_records.specs.Memory.{published_in}
-use Rattle.office_store.specs.Viewing.{exams_in, candidate_enrol_row, place_in_row}
-use Rattle.std.specs.Prelude.{◌^◌, All}
-use Rattle.std.proofs.Common.{inl, inr}
-use Rattle.std.proofs.lemmas.List.Elements.{All-from_recursion, recursion_from_All}
-use Rattle.exam_lists.proofs.Chains.{IsChain, chain_from_index, chain_filter}
+use Rattle.office_records.specs.Memory.{published_in, Memory, memory_of}
+use Rattle.office_store.specs.Viewing.{exams_in, candidate_enrol_row, place_in_row, AreCandidateRows, no_share, share_in_row}
+use Rattle.exam_lists.proofs.Chains.{IsChain, chain_filter, chain_from_index, chain_map, chain_weaker, chain_with_each}
+use Rattle.exam_lists.proofs.Each.{each_filter_passes, each_weaker}
+use Rattle.exam_lists.proofs.Maps.{map_back}
 use Rattle.exam_lists.proofs.Filters.{filter_eqb_above}
 use Rattle.exam_lists.proofs.Permutations.{same_few}
 use Rattle.exam_lists.proofs.Tests.{any_map}
-use Rattle.sqlite_trees.proofs.ListLemmas.{all-filter, all_from_map, filter-map, map-map}
 use Rattle.exam_model.specs.Instance.{Session}
 use Rattle.exam_score.specs.Folds.{pairs_sat}
 use Rattle.exam_score.specs.Penalty.{PersonalPenalty, personal_total}
@@ -49,27 +47,21 @@ use Rattle.exam_publish.specs.Rows.{AreNumbered, IsAtExam, RowBefore, row_place}
 use Rattle.exam_publish.specs.Shares.{share_of, shares_of, student_shares}
 use Rattle.exam_publish.specs.declared.seat_row.SeatRow as publish
 use Rattle.exam_publish.proofs.AddUpLemmas.{adds_up}
-use Rattle.exam_publish.proofs.ListLemmas.{chain_ascending, has_ascending}
 use Rattle.exam_publish.proofs.ShareLemmas.{published_small}
 use Rattle.office_tables.specs.Seat.{StudentSeatsRise}
 use Rattle.office_tables.specs.declared.seat.SeatRow.{SeatRow}
 use Rattle.office_tables.specs.declared.share_student.StudentShareRow.{StudentShareRow}
-use Rattle.office_model.specs.Office.{IsPublication}
 use Rattle.office_model.specs.Publishing.{publication_rows}
 use Rattle.office_model.specs.Shown.{shown_exams, shown_penalty}
-use Rattle.office_model.specs.Views.{no_view, view_from, view_of}
 use Rattle.office_model.specs.declared.views.ViewRow.{ViewRow}
-use Rattle.office_records.specs.Publications.{stored_seat}
 use Rattle.office_records.specs.SharesStored.{student_share_row, student_share_rows}
-use Rattle.office_records.specs.Representation.{IsSound}
 use Rattle.office_records.proofs.ReadableLemmas.{are_numbered}
 use Rattle.office_store.specs.OfficeRows.{student_rows_in}
 use Rattle.office_store.specs.Judging.{plain_list}
 use Rattle.office_store.specs.Running.{ReturnsValue}
 use Rattle.office_model.specs.declared.fault.StoreFault.{StoreFault}
-use Rattle.office_records.specs.Memory.{Memory, memory_of}
-use Rattle.office_store.proofs.RunLemmas.{nothing_kept}
-use Rattle.office_store.specs.Viewing.{AreCandidateRows, no_share, share_in_row}
+use Rattle.office_store.proofs.ChangedPlacementLemmas.{one_or_none, rows_at}
+use Rattle.office_store.proofs.RunLemmas.{by_publication, nothing_kept}
 
 -- ---- a number among ascending numbers
 
@@ -104,10 +96,6 @@ students_at : (D : Enrolled) (ss : List ℕ) (E : Enrolled)
 students_at [] ss E = refl
 students_at (ts ∷ D) ss E = students_at D ss E
 
-length_more : (D : Enrolled) (ss : List ℕ) → length (D ++ ss ∷ []) ≡ length D + 1
-length_more [] ss = refl
-length_more (ts ∷ D) ss = let e = length_more D ss in omega (arith, e)
-
 sat_from : (D E : Enrolled) (c : ℕ)
     → filter (λ e. has (D ++ E) c e) (range_with_len (length D) (length E))
     ≡ exams_from (length D) E c
@@ -116,7 +104,7 @@ sat_from D (ss ∷ E) c =
     let more : filter (λ e. has (D ++ (ss ∷ E)) c e) (range_with_len (length D + 1) (length E))
     ≡ exams_from (length D + 1) E c
     = subst (λ k. filter (λ e. has (D ++ (ss ∷ E)) c e) (range_with_len k (length E))
-    ≡ exams_from k E c) (length_more D ss)
+    ≡ exams_from k E c) (length-append D (ss ∷ []))
     (subst (λ (F : Enrolled). filter (λ e. has F c e)
     (range_with_len (length (D ++ ss ∷ [])) (length E)) ≡ exams_from (length (D ++ ss ∷ [])) E c)
     (append_assoc D (ss ∷ []) E) (sat_from (D ++ ss ∷ []) E c)) in
@@ -129,50 +117,29 @@ sat_is : (E : Enrolled) (c : ℕ) → exams_sat E c ≡ exams_from 0 E c
 sat_is E c = sat_from [] E c
 
 -- they ascend
-from_least : (m k : ℕ) (E : Enrolled) (c : ℕ) → m ≤ k
-    → AllByRecursion (λ e. m ≤ e) (exams_from k E c)
-from_least m k [] c low = tt
-from_least m k (ss ∷ E) c low = go (has_number ss c) (from_least m (k + 1) E c (omega arith))
-  where
-    go : (b : Bool) → AllByRecursion (λ e. m ≤ e) (exams_from (k + 1) E c)
-        → AllByRecursion (λ e. m ≤ e) (number_if b k ++ exams_from (k + 1) E c)
-    go true more = (low, more)
-    go false more = more
+pub sat_rise : (E : Enrolled) (c : ℕ) → IsChain (λ x y. x < y) (exams_sat E c)
+sat_rise E c =
+    chain_filter (λ x y. x < y) (λ e. has E c e) (range_with_len 0 (length E))
+    (chain_from_index (λ x y. x < y) (range_with_len 0 (length E)) (λ i j d before within.
+    let long = length-range_with_len 0 (length E) in
+    let one = get_or-range_with_len 0 (length E) i d (omega (arith, before, within, long)) in
+    let other = get_or-range_with_len 0 (length E) j d (omega (arith, within, long)) in
+    omega (arith, one, other, before)))
 
-exams_rise : (k : ℕ) (E : Enrolled) (c : ℕ) → IsAscending (λ x y. x < y) (exams_from k E c)
-exams_rise k [] c = tt
-exams_rise k (ss ∷ E) c = go (has_number ss c) (exams_rise (k + 1) E c)
-  where
-    go : (b : Bool) → IsAscending (λ x y. x < y) (exams_from (k + 1) E c)
-        → IsAscending (λ x y. x < y) (number_if b k ++ exams_from (k + 1) E c)
-    go true more = (
-      all_weaker (λ e. k + 1 ≤ e) (λ e. k < e) (λ e h. omega (arith, h)) _
-          (from_least (k + 1) (k + 1) E c (omega arith)),
-      more,
-    )
-    go false more = more
-
-pub sat_rise : (E : Enrolled) (c : ℕ) → IsAscending (λ x y. x < y) (exams_sat E c)
-sat_rise E c = subst (IsAscending (λ x y. x < y)) (sym (sat_is E c)) (exams_rise 0 E c)
+-- a chain ascends
+rise : {X : Type 0} (R : X → X → Type 0) (xs : List X) → IsChain R xs → IsAscending R xs
+rise R [] h = tt
+rise R (x ∷ xs) h = (h.0, rise R xs h.1)
 
 -- ---- the rows of a candidate's enrolments
 
 one_exam : (c k : ℕ) (ss : List ℕ)
     → filter (λ (r : EnrolRow). eqb r.student c) (map enrol_row (pairs_at k ss))
     ≡ map (λ s. candidate_enrol_row s k) (filter (λ s. eqb s c) ss)
-one_exam c k [] = refl
-one_exam c k (s ∷ ss) = go (eqb s c) (one_exam c k ss)
-  where
-    go : (b : Bool)
-        → filter (λ (r : EnrolRow). eqb r.student c) (map enrol_row (pairs_at k ss))
-        ≡ map (λ s. candidate_enrol_row s k) (filter (λ s. eqb s c) ss)
-        → cond b (candidate_enrol_row s k ∷ filter (λ (r : EnrolRow). eqb r.student c)
-        (map enrol_row (pairs_at k ss)))
-        (filter (λ (r : EnrolRow). eqb r.student c) (map enrol_row (pairs_at k ss)))
-        ≡ map (λ s. candidate_enrol_row s k)
-        (cond b (s ∷ filter (λ s. eqb s c) ss) (filter (λ s. eqb s c) ss))
-    go true more = ap (λ l. candidate_enrol_row s k ∷ l) more
-    go false more = more
+one_exam c k ss =
+    let pair : ℕ → Pair = λ s. record { exam = k; student = s } in
+    ap (filter (λ (r : EnrolRow). eqb r.student c)) (map-map enrol_row pair ss)
+    ∙ filter-map (λ (r : EnrolRow). eqb r.student c) (λ s. candidate_enrol_row s k) ss
 
 once_row : (b : Bool) (c k : ℕ) → map (λ s. candidate_enrol_row s k) (number_if b c)
     ≡ map (candidate_enrol_row c) (number_if b k)
@@ -202,20 +169,15 @@ each_chain (ss ∷ E) h = (
   each_chain E (λ e lt. h (suc e) (omega arith)),
 )
 
-rows_rise : (c : ℕ) (es : List ℕ) → IsAscending (λ x y. x < y) es
+rows_rise : (c : ℕ) (es : List ℕ) → IsChain (λ x y. x < y) es
     → StudentEnrolsRise (map (candidate_enrol_row c) es)
-rows_rise c [] h = tt
-rows_rise c (e ∷ es) h = (each es h.0, rows_rise c es h.1)
-  where
-    each : (es : List ℕ) → AllByRecursion (λ y. e < y) es
-        → AllByRecursion (λ (b : EnrolRow). e < b.exam) (map (candidate_enrol_row c) es)
-    each [] a = tt
-    each (y ∷ es) a = (a.0, each es a.1)
+rows_rise c es h =
+    rise (λ (a b : EnrolRow). a.exam < b.exam) _
+    (chain_map (λ (a b : EnrolRow). a.exam < b.exam) (candidate_enrol_row c) es h)
 
 pub exams_back : (c : ℕ) (es : List ℕ) → map (λ (r : EnrolRow). r.exam)
     (map (candidate_enrol_row c) es) ≡ es
-exams_back c [] = refl
-exams_back c (e ∷ es) = ap (λ l. e ∷ l) (exams_back c es)
+exams_back c es = map_back (candidate_enrol_row c) (λ (r : EnrolRow). r.exam) (λ e. refl) es
 
 -- the pair of a row
 abbrev row_pair : EnrolRow → Pair
@@ -257,14 +219,10 @@ enrols_read t (Some r) c found represents is order =
     ∙ exams_back c (exams_sat r.enrolments c)
 
 -- the pairs of a candidate are those of the candidate's exams
-pairs_back : (ps : List Pair) → map row_pair (map enrol_row ps) ≡ ps
-pairs_back [] = refl
-pairs_back (p ∷ ps) = ap (λ l. p ∷ l) (pairs_back ps)
-
 pub own_pairs : (E : Enrolled) (c : ℕ) → AreEnrolments E
     → filter (λ (p : Pair). eqb p.student c) (pairs_of E) ≡ pairs_sat (Some c) (exams_sat E c)
 own_pairs E c known =
-    sym (pairs_back (filter (λ (p : Pair). eqb p.student c) (pairs_of E)))
+    sym (map_back enrol_row row_pair (λ p. refl) (filter (λ (p : Pair). eqb p.student c) (pairs_of E)))
     ∙ ap (map row_pair)
     (sym (filter-map (λ (x : EnrolRow). eqb x.student c) enrol_row (pairs_of E))
     ∙ candidate_pairs 0 E c (each_chain E known.ascending)
@@ -273,55 +231,15 @@ own_pairs E c known =
 
 -- ---- the rows of the places of exams
 
-abbrev one_or_none : Option PlacedRow → List PlacedRow
-one_or_none None = []
-one_or_none (Some row) = row ∷ []
-
 -- the row of an exam, if it has a published place
 abbrev row_for : Option Publication → ℕ → Option PlacedRow
 row_for published e = option_map (placed_row e) (published_place published e)
-
-none_before : (m k : ℕ) (T : Placing) → m < k
-    → filter (λ (p : PlacedRow). eqb p.exam m) (placed_from k T) ≡ []
-none_before m k [] less = refl
-none_before m k (None ∷ T) less = none_before m (k + 1) T (omega arith)
-none_before m k (Some at ∷ T) less =
-    let other : eqb k m ≡ false = grind (arith, nat_tests, less) in
-    let rest = filter (λ (p : PlacedRow). eqb p.exam m) (placed_from (k + 1) T) in
-    ap (λ b. cond b (placed_row k at ∷ rest) rest) other ∙ none_before m (k + 1) T (omega arith)
-
-place_rows : (k e : ℕ) (T : Placing)
-    → filter (λ (p : PlacedRow). eqb p.exam (k + e)) (placed_from k T)
-    ≡ one_or_none (option_map (placed_row (k + e)) (place_of T e))
-place_rows k e [] = refl
-place_rows k zero (None ∷ T) = none_before (k + 0) (k + 1) T (omega arith)
-place_rows k zero (Some at ∷ T) =
-    let here : eqb k (k + 0) ≡ true = grind (arith, nat_tests) in
-    let same : k ≡ k + 0 = omega arith in
-    let rest = filter (λ (p : PlacedRow). eqb p.exam (k + 0)) (placed_from (k + 1) T) in
-    ap (λ b. cond b (placed_row k at ∷ rest) rest) here
-    ∙ ap (λ l. placed_row k at ∷ l) (none_before (k + 0) (k + 1) T (omega arith))
-    ∙ ap (λ n. placed_row n at ∷ []) same
-place_rows k (suc e) (None ∷ T) =
-    let same : (k + 1) + e ≡ k + suc e = omega arith in
-    subst (λ n. filter (λ (p : PlacedRow). eqb p.exam n) (placed_from (k + 1) T)
-    ≡ one_or_none (option_map (placed_row n) (place_of T e))) same (place_rows (k + 1) e T)
-place_rows k (suc e) (Some at ∷ T) =
-    let same : (k + 1) + e ≡ k + suc e = omega arith in
-    let other : eqb k (k + suc e) ≡ false = grind (arith, nat_tests) in
-    let rest = filter (λ (p : PlacedRow). eqb p.exam (k + suc e)) (placed_from (k + 1) T) in
-    ap (λ b. cond b (placed_row k at ∷ rest) rest) other
-    ∙ subst (λ n. filter (λ (p : PlacedRow). eqb p.exam n) (placed_from (k + 1) T)
-    ≡ one_or_none (option_map (placed_row n) (place_of T e))) same (place_rows (k + 1) e T)
 
 rows_of_exam : (published : Option Publication) (e : ℕ)
     → filter (λ (p : PlacedRow). eqb p.exam e) (placed_rows published)
     ≡ one_or_none (row_for published e)
 rows_of_exam None e = refl
-rows_of_exam (Some p) e =
-    subst (λ n. filter (λ (p : PlacedRow). eqb p.exam n) (placed_from 0 p.timetable)
-    ≡ one_or_none (option_map (placed_row n) (place_of p.timetable e)))
-    (let same : 0 + e ≡ e = omega arith in same) (place_rows 0 e p.timetable)
+rows_of_exam (Some p) e = rows_at e p.timetable
 
 -- the rows of these exams, in their order
 abbrev rows_for : Option Publication → List ℕ → List PlacedRow
@@ -343,7 +261,7 @@ candidate_places t r c represents is =
     (IsPermutation-filter (λ (p : PlacedRow). eqb p.exam e) _ _ represents.published.placed))
     (exams_sat r.enrolments c)))
 
-places_rise : (published : Option Publication) (es : List ℕ) → IsAscending (λ x y. x < y) es
+places_rise : (published : Option Publication) (es : List ℕ) → IsChain (λ x y. x < y) es
     → PlacementsRise (rows_for published es)
 places_rise published [] h = tt
 places_rise published (e ∷ es) h =
@@ -397,44 +315,32 @@ places_read t (Some r) c found represents is order =
 
 own_rows : (c : ℕ) (rows : List publish.SeatRow)
     → AllByRecursion (λ (row : publish.SeatRow). row.student ≡ c) (rows_of c rows)
-own_rows c [] = tt
-own_rows c (row ∷ rows) = go (eqb row.student c) refl (own_rows c rows)
-  where
-    go : (b : Bool) → eqb row.student c ≡ b
-        → AllByRecursion (λ (row : publish.SeatRow). row.student ≡ c) (rows_of c rows)
-        → AllByRecursion (λ (row : publish.SeatRow). row.student ≡ c)
-        (cond b (row ∷ rows_of c rows) (rows_of c rows))
-    go true e more = (grind (arith, nat_tests, e), more)
-    go false e more = more
-
-before_all : (c : ℕ) (row : publish.SeatRow) (rows : List publish.SeatRow) → row.student ≡ c
-    → AllByRecursion (λ (row : publish.SeatRow). row.student ≡ c) rows
-    → AllByRecursion (RowBefore row) rows
-    → AllByRecursion (λ (b : SeatRow). row.exam < b.exam) (map stored_seat rows)
-before_all c row [] own all before = tt
-before_all c row (next ∷ rows) own all before =
-    (go before.0, before_all c row rows own all.1 before.1)
-  where
-    go : RowBefore row next → row.exam < next.exam
-    go (inl less) = less
-    go (inr same) = absurd (let e = all.0 in let f = same.1 in omega (arith, e, f, own))
+own_rows c rows =
+    each_weaker (λ (row : publish.SeatRow). eqb row.student c ≡ true) _
+    (λ row e. eqb-true row.student c e) (rows_of c rows)
+    (each_filter_passes (λ (row : publish.SeatRow). eqb row.student c) rows)
 
 candidate_rise : (c : ℕ) (rows : List publish.SeatRow) → IsChain RowBefore rows
     → AllByRecursion (λ (row : publish.SeatRow). row.student ≡ c) rows
     → StudentSeatsRise (map stored_seat rows)
-candidate_rise c [] order own = tt
-candidate_rise c (row ∷ rows) order own =
-    (before_all c row rows own.0 own.1 order.0, candidate_rise c rows order.1 own.1)
+candidate_rise c rows order own =
+    rise (λ (a b : SeatRow). a.exam < b.exam) _
+    (chain_map (λ (a b : SeatRow). a.exam < b.exam) stored_seat rows
+    (chain_weaker _ (λ (a b : publish.SeatRow). a.exam < b.exam) (λ a b h. go a b h.0 h.1.0 h.1.1) rows
+    (chain_with_each (λ (row : publish.SeatRow). row.student ≡ c) RowBefore rows own order)))
+  where
+    go : (a b : publish.SeatRow) → a.student ≡ c → b.student ≡ c → RowBefore a b → a.exam < b.exam
+    go a b one other (inl less) = less
+    go a b one other (inr same) = absurd (let before = same.1 in omega (arith, before, one, other))
 
-candidate_seats_rise : (r : Records) (c : ℕ) → AreRecords r → (published : Option Publication)
-    → r.published ≡ published → StudentSeatsRise
-    (map stored_seat (rows_of c (publication_rows published)))
-candidate_seats_rise r c is None e = tt
-candidate_seats_rise r c is (Some p) e =
-    candidate_rise c (rows_of c p.rows)
+candidate_seats_rise : (r : Records) (c : ℕ) → AreRecords r
+    → StudentSeatsRise (map stored_seat (rows_of c (publication_rows r.published)))
+candidate_seats_rise r c is =
+    by_publication is
+    (λ published. StudentSeatsRise (map stored_seat (rows_of c (publication_rows published)))) tt
+    (λ p known. candidate_rise c (rows_of c p.rows)
     (chain_filter RowBefore (λ (row : publish.SeatRow). eqb row.student c) p.rows
-    (chain_from_index RowBefore p.rows (is.publication p e).rows.in_order))
-    (own_rows c p.rows)
+    (chain_from_index RowBefore p.rows known.rows.in_order)) (own_rows c p.rows))
 
 pub candidate_seats_read : (t : Tables) (o : OfficeState) (c : ℕ) (found : List SeatRow)
     → TablesRepresentOffice t o
@@ -450,7 +356,7 @@ candidate_seats_read t (Some r) c found represents is order =
     (subst (IsPermutation (filter (λ (x : SeatRow). eqb x.student c) t.seat))
     (filter-map (λ (x : SeatRow). eqb x.student c) stored_seat (publication_rows r.published))
     (IsPermutation-filter (λ (x : SeatRow). eqb x.student c) _ _ represents.published.seat))
-    (candidate_seats_rise r c is r.published refl)
+    (candidate_seats_rise r c is)
 
 -- ---- a candidate's share
 
@@ -472,15 +378,9 @@ candidate_shares_read t (Some r) c found represents sound p =
 no_rows : (c : ℕ) (rows : List publish.SeatRow)
     → list_any (λ (row : publish.SeatRow). eqb row.student c) rows ≡ false → rows_of c rows ≡ []
 no_rows c [] none = refl
-no_rows c (row ∷ rows) none = go (eqb row.student c) (no_rows c rows) none
-  where
-    go : (b : Bool)
-        → (list_any (λ (row : publish.SeatRow). eqb row.student c) rows ≡ false
-        → rows_of c rows ≡ [])
-        → (b || list_any (λ (row : publish.SeatRow). eqb row.student c) rows) ≡ false
-        → cond b (row ∷ rows_of c rows) (rows_of c rows) ≡ []
-    go true more e = absurd cc
-    go false more e = more e
+no_rows c (row ∷ rows) none =
+    let parts = or_parts (eqb row.student c) _ none in
+    ap (λ b. cond b (row ∷ rows_of c rows) (rows_of c rows)) parts.0 ∙ no_rows c rows parts.1
 
 -- a candidate's share, by its stored row; nothing without a row
 pub data IsHerShare (shares : List StudentShareRow) (share : PersonalPenalty) : Type 0 where
@@ -542,28 +442,21 @@ module _ (I : Session) (p : Publication) (c : ℕ) where
           none (same_few [] shares (omega arith) same)
           (ap (share_of I.periods I.weights) (no_rows c p.rows (sym seated ∙ there)))
 
-small_shares_of : (r : Records) (p : Publication) → AreRecords r → r.published ≡ Some p
-    → AreSmall (shares_of r.session p.rows p.timetable)
-small_shares_of r p is e =
-    let known = is.publication p e in
-    let numbered = are_numbered r.session p known in
-    published_small r.session p.rows p.timetable (shares_of r.session p.rows p.timetable) is.session
-    known.rows numbered (adds_up r.session p.rows p.timetable is.session known.rows numbered)
-
 pub candidate_share_in : (r : Records) (c : ℕ) → AreRecords r → (shares : List StudentShareRow)
     → IsPermutation (filter (λ (x : StudentShareRow). eqb x.student c) (student_rows_in (Some r)))
     shares
     → IsHerShare shares
     (share_of r.session.periods r.session.weights (rows_of c (publication_rows r.published)))
-candidate_share_in r c is shares same = go r.published refl same
-  where
-    go : (published : Option Publication) → r.published ≡ published
-        → IsPermutation (filter (λ (x : StudentShareRow). eqb x.student c)
-        (student_share_rows r.session published)) shares
-        → IsHerShare shares
-        (share_of r.session.periods r.session.weights (rows_of c (publication_rows published)))
-    go None e same = none (same_few [] shares (omega arith) same) refl
-    go (Some p) e same = own_share r.session p c (small_shares_of r p is e) shares same
+candidate_share_in r c is shares =
+    by_publication is
+    (λ published. IsPermutation (filter (λ (x : StudentShareRow). eqb x.student c)
+    (student_share_rows r.session published)) shares → IsHerShare shares
+    (share_of r.session.periods r.session.weights (rows_of c (publication_rows published))))
+    (λ same. none (same_few [] shares (omega arith) same) refl)
+    (λ p known. own_share r.session p c
+    (let numbered = are_numbered r.session p known in
+    published_small r.session p.rows p.timetable (shares_of r.session p.rows p.timetable) is.session
+    known.rows numbered (adds_up r.session p.rows p.timetable is.session known.rows numbered)) shares)
 
 -- in each office it is the penalty of the candidate's view
 pub candidate_share_of : (o : OfficeState) (c : ℕ) → IsOffice o → (shares : List StudentShareRow)
@@ -578,32 +471,25 @@ candidate_share_of (Some r) c is shares same = candidate_share_in r c is shares 
 candidate_placed : (r : Records) (c : ℕ) → AreRecords r
     → All (λ (row : publish.SeatRow). published_place r.published row.exam ≡ Some (row_place row))
     (rows_of c (publication_rows r.published))
-candidate_placed r c is = go r.published is.publication
-  where
-    go : (published : Option Publication)
-        → ((p : Publication) → published ≡ Some p → IsPublication r.session p)
-        → All (λ (row : publish.SeatRow). published_place published row.exam ≡ Some (row_place row))
-        (rows_of c (publication_rows published))
-    go None each = λ k d none. absurd (omega (arith, none))
-    go (Some p) each =
-        All-from_recursion (IsAtExam p.timetable) (rows_of c p.rows)
-        (all-filter (IsAtExam p.timetable) (λ (row : publish.SeatRow). eqb row.student c) p.rows
-        (recursion_from_All (IsAtExam p.timetable) p.rows (each p refl).rows.at_exams))
+candidate_placed r c is =
+    by_publication is
+    (λ published. All (λ (row : publish.SeatRow).
+    published_place published row.exam ≡ Some (row_place row)) (rows_of c (publication_rows published)))
+    (λ k d none. absurd (omega (arith, none)))
+    (λ p known. All-from_recursion (IsAtExam p.timetable) (rows_of c p.rows)
+    (all-filter (IsAtExam p.timetable) (λ (row : publish.SeatRow). eqb row.student c) p.rows
+    (recursion_from_All (IsAtExam p.timetable) p.rows known.rows.at_exams)))
 
 candidate_numbered : (r : Records) (c : ℕ) → AreRecords r
     → AreNumbered (rows_of c (publication_rows r.published))
-candidate_numbered r c is = go r.published is.publication
-  where
-    go : (published : Option Publication)
-        → ((p : Publication) → published ≡ Some p → IsPublication r.session p)
-        → AreNumbered (rows_of c (publication_rows published))
-    go None each = λ k d none. absurd (omega (arith, none))
-    go (Some p) each =
-        All-from_recursion (λ (row : publish.SeatRow). row.student ≤ 999999999) (rows_of c p.rows)
-        (all-filter (λ (row : publish.SeatRow). row.student ≤ 999999999)
-        (λ (row : publish.SeatRow). eqb row.student c) p.rows
-        (recursion_from_All (λ (row : publish.SeatRow). row.student ≤ 999999999) p.rows
-        (are_numbered r.session p (each p refl))))
+candidate_numbered r c is =
+    by_publication is (λ published. AreNumbered (rows_of c (publication_rows published)))
+    (λ k d none. absurd (omega (arith, none)))
+    (λ p known. All-from_recursion (λ (row : publish.SeatRow). row.student ≤ 999999999) (rows_of c p.rows)
+    (all-filter (λ (row : publish.SeatRow). row.student ≤ 999999999)
+    (λ (row : publish.SeatRow). eqb row.student c) p.rows
+    (recursion_from_All (λ (row : publish.SeatRow). row.student ≤ 999999999) p.rows
+    (are_numbered r.session p known))))
 
 module _ (r : Records) (I : Session) (c : ℕ) (is : AreRecords r) (same : r.session ≡ I)
     (enrols : List EnrolRow) (places : List PlacedRow) (seats : List SeatRow)
@@ -640,26 +526,17 @@ module _ (r : Records) (I : Session) (c : ℕ) (is : AreRecords r) (same : r.ses
 -- ---- the result
 
 -- a candidate's share is read from their row
-pub personal_returned : (shares rows : List StudentShareRow) (share : PersonalPenalty)
-    (result : Result PersonalPenalty StoreFault) → rows ≡ shares → IsHerShare shares share
-    → (rows ≡ [] → result ≡ Ok no_share)
-    → ((row : StudentShareRow) → rows ≡ row ∷ [] → personal_total (share_in_row row) < 2 ^ 62
-    → result ≡ Ok (share_in_row row))
-    → result ≡ Ok share
-personal_returned shares rows share result same (none empty is) nothing one_row =
-    nothing (same ∙ empty) ∙ ap Ok (sym is)
-personal_returned shares rows share result same (one row single is small) nothing one_row =
-    one_row row (same ∙ single) (subst (λ p. personal_total p < 2 ^ 62) (sym is) small) ∙ ap Ok is
-
-pub penalty_returned : (shares rows : List StudentShareRow) (share : PersonalPenalty)
-    (result : Result PersonalPenalty StoreFault) → rows ≡ shares → IsHerShare shares share
+pub penalty_returned : {shares rows : List StudentShareRow} {share : PersonalPenalty}
+    {result : Result PersonalPenalty StoreFault} → rows ≡ shares → IsHerShare shares share
     → (rows ≡ [] → result ≡ Ok no_share)
     → ((row : StudentShareRow) → rows ≡ row ∷ [] → personal_total (share_in_row row) < 2 ^ 62
     → result ≡ Ok (share_in_row row))
     → ReturnsValue share result
-penalty_returned shares rows share result same own_rows nothing one_row =
-    subst (ReturnsValue share)
-    (sym (personal_returned shares rows share result same own_rows nothing one_row)) refl
+penalty_returned {share = share} same (none empty is) nothing one_row =
+    subst (ReturnsValue share) (sym (nothing (same ∙ empty))) (sym is)
+penalty_returned {share = share} same (one row single is small) nothing one_row =
+    subst (ReturnsValue share) (sym (one_row row (same ∙ single)
+    (subst (λ p. personal_total p < 2 ^ 62) (sym is) small))) is
 
 -- a result for these lists is one for equal lists
 pub returned_of_same : (I : Session) (rows : List ViewRow) (enrolled exams : List ℕ)
@@ -681,21 +558,18 @@ returned_of_same I rows enrolled exams at places own seats p q s meaning =
 
 -- ---- the view of an office
 
-same_memory : {x y : Session × Enrolled} → Some x ≡ Some y → x ≡ y
-same_memory e = cc
-
-pub exams_returned : (o : OfficeState) (I : Session) (E : Enrolled) (m : Memory) → m ≡ Some (I, E)
-    → IsOffice o → memory_of o ≡ m → (c : ℕ) (enrols : List EnrolRow) (places : List PlacedRow)
-    (seats : List SeatRow) → AreCandidateRows o c enrols places seats
+pub exams_returned : {o : OfficeState} {I : Session} {E : Enrolled} {m : Memory} {c : ℕ}
+    {enrols : List EnrolRow} {places : List PlacedRow} {seats : List SeatRow} → m ≡ Some (I, E)
+    → IsOffice o → memory_of o ≡ m → AreCandidateRows o c enrols places seats
     → (meaning : Result (List ViewRow) StoreFault)
     → ((r : Records) → AreRecords r → r.session ≡ I
     → AreCandidateRows (Some r) c enrols places seats
     → ReturnsValue (shown_exams (view_of c (Some r))) meaning)
     → ReturnsValue (shown_exams (view_of c o)) meaning
-exams_returned None I E m is office memory c enrols places seats rows meaning exams =
+exams_returned {o = None} is office memory rows meaning exams =
     absurd (let e = memory ∙ is in cc)
-exams_returned (Some r) I E m is office memory c enrols places seats rows meaning exams =
-    exams r office (ap (λ (kept : Session × Enrolled). kept.0) (same_memory (memory ∙ is))) rows
+exams_returned {o = Some r} is office memory rows meaning exams =
+    exams r office (ap (λ (kept : Session × Enrolled). kept.0) (same_Some _ _ (memory ∙ is))) rows
 
 pub nothing_returned : (o : OfficeState) (m : Memory) → m ≡ None → memory_of o ≡ m → (c : ℕ)
     (meaning : Result (List ViewRow) StoreFault) → ReturnsValue (shown_exams no_view) meaning

@@ -1,4 +1,4 @@
-use Rattle.std.proofs.Common.{◌≡◌, [], ◌∷◌, ap, rules, subst, sym}
+use Rattle.std.proofs.Common.{◌≡◌, ◌∷◌, ap, rules, subst, sym, []}
 use Rattle.office_tables.specs.Adopting.{tables_of}
 use Rattle.office_tables.specs.declared.version.Version.TheVariants.{One}
 use Rattle.office_tables.proofs.TurnLemmas.{ran_weaker}

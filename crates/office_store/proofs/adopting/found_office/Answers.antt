@@ -1,4 +1,4 @@
-use Rattle.std.proofs.Common.{rules, ◌≡◌, Result, Ok, Err, length, sym, ◌∙◌, ap, inl, inr, subst}
+use Rattle.std.proofs.Common.{rules, ◌≡◌, Result, Ok, Err, length, refl, sym, ◌∙◌, ap, inl, inr, subst}
 use Rattle.std.specs.Prelude.{IfErr}
 use Rattle.std.specs.Result.{IsErrAnd}
 use Rattle.std.proofs.lemmas.List.{length-map}
@@ -14,11 +14,22 @@ use Rattle.office_store.proofs.RunLemmas.{clean_before}
 use Rattle.office_store.specs.Faults.{IsOfDatabase}
 use Rattle.office_store.specs.Opening.{WeighsNoNight}
 use Rattle.office_model.specs.declared.fault.StoreFault.{StoreFault}
-use Rattle.office_store.proofs.AdoptLemmas.{file_as, found_batches, found_then, held_still, open_still}
-use Rattle.office_store.proofs.AdoptLemmas.{none_long, none_refused, none_weighed}
-use Rattle.office_store.proofs.AllDraftLemmas.{found_together, meaning}
+use Rattle.office_model.specs.declared.fault.StoreFault.TheVariants.{BadSchema}
+use Rattle.office_store.proofs.AdoptLemmas.{file_as, found_batches, found_then, held_still, open_still, none_long, none_refused, none_weighed}
+use Rattle.office_store.proofs.TogetherLemmas.{found_together}
 use Rattle.office_store.proofs.InMemoryLemmas.{counted}
 use Rattle.office_store.proofs.adopting.found_office.Goals as goal
+
+-- only invalid rows are refused as a wrong schema
+meaning : {X Q : Type 0} (r : Result X StoreFault) (fault : RecordFault)
+    → IsErrAnd r (λ e. e ≡ store_fault fault) → (fault ≡ BadRows → Q)
+    → IfErr r (λ e. e ≡ BadSchema → Q)
+meaning (Ok x) fault is h = tt
+meaning (Err e) fault is h = λ bad. h (named fault (sym is ∙ bad))
+  where
+    named : (fault : RecordFault) → store_fault fault ≡ BadSchema → fault ≡ BadRows
+    named NoMemory e = absurd cc
+    named BadRows e = refl
 
 -- the tables are not those of an office
 pub returns-in-Err-Foreign-clause-none : goal.returns-in-Err-Foreign-clause-none
@@ -125,7 +136,7 @@ returns-clause-kept g c clean =
 
 pub returns-clause-together : goal.returns-clause-together
 returns-clause-together g c =
-    found_together _ c.in_ok-kept.ensures.together c.in_ok-kept.ensures.suited
+    found_together c.in_ok-kept.ensures.together c.in_ok-kept.ensures.suited
     c.in_ok-kept.ensures.published c.no_breaches.ensures
 
 of_database : {X : Type 0} (r : Result X StoreFault) (fault : RecordFault)
@@ -143,34 +154,31 @@ returns-in_err-kept-clause-fault g c =
 
 pub returns-in-Err-Failed-clause-leaves : goal.returns-in-Err-Failed-clause-leaves
 returns-in-Err-Failed-clause-leaves g c =
-    file_as (Unit {0}) g.S.Store _ _ (λ P none. tt) c.adopt_tables.ensures.leaves
+    file_as (λ P none. tt) c.adopt_tables.ensures.leaves
 
 pub returns-in-Err-Foreign-clause-leaves : goal.returns-in-Err-Foreign-clause-leaves
 returns-in-Err-Foreign-clause-leaves g c =
-    file_as (Unit {0}) g.S.Store _ _ (λ P none. tt) c.adopt_tables.ensures.leaves
+    file_as (λ P none. tt) c.adopt_tables.ensures.leaves
 
 pub returns-in_err-kept-clause-leaves : goal.returns-in_err-kept-clause-leaves
 returns-in_err-kept-clause-leaves g c =
-    file_as (Unit {0}) g.S.Store _ _ (λ P none. search rules) c.adopt_tables.ensures.leaves
+    file_as (λ P none. search rules) c.adopt_tables.ensures.leaves
 
 pub returns-in_err-check_weight-clause-leaves : goal.returns-in_err-check_weight-clause-leaves
 returns-in_err-check_weight-clause-leaves g c =
-    file_as (Unit {0}) g.S.Store _ _ (λ P none. search rules) c.adopt_tables.ensures.leaves
+    file_as (λ P none. search rules) c.adopt_tables.ensures.leaves
 
 pub returns-in_err-check_bytes-clause-leaves : goal.returns-in_err-check_bytes-clause-leaves
 returns-in_err-check_bytes-clause-leaves g c =
-    file_as (Unit {0}) g.S.Store _ _ (λ P none. search rules)
-    (found_then g.S.Store _ _ _ c.in-Ok.found c.in-Ok.ensures.found c.in-Ok.ensures.leaves
-    c.check_bytes.ensures.leaves)
+    file_as (λ P none. search rules)
+    (found_then c.in-Ok.ensures.found c.in-Ok.ensures.leaves c.check_bytes.ensures.leaves)
 
 pub returns-in_err-priced-clause-leaves : goal.returns-in_err-priced-clause-leaves
 returns-in_err-priced-clause-leaves g c =
-    file_as (Unit {0}) g.S.Store _ _ (λ P none. search rules)
-    (found_then g.S.Store _ _ _ c.in-Ok.found c.in-Ok.ensures.found c.in-Ok.ensures.leaves
-    c.check_bytes.ensures.leaves)
+    file_as (λ P none. search rules)
+    (found_then c.in-Ok.ensures.found c.in-Ok.ensures.leaves c.check_bytes.ensures.leaves)
 
 pub returns-clause-leaves : goal.returns-clause-leaves
 returns-clause-leaves g c =
-    file_as (Unit {0}) g.S.Store _ _ (λ P p. p)
-    (found_then g.S.Store _ _ _ c.in-Ok.found c.in-Ok.ensures.found c.in-Ok.ensures.leaves
-    c.in_ok-check_bytes.ensures.leaves)
+    file_as (λ P p. p)
+    (found_then c.in-Ok.ensures.found c.in-Ok.ensures.leaves c.in_ok-check_bytes.ensures.leaves)

@@ -1,4 +1,4 @@
-use Rattle.std.proofs.Common.{◌≡◌, List, [], ◌∷◌, ◌++◌, map, take, Option, sym, ◌∙◌, ap}
+use Rattle.std.proofs.Common.{◌≡◌, List, ◌∷◌, ◌++◌, map, take, Option, sym, ◌∙◌, ap, []}
 use Rattle.std.proofs.lemmas.List.{map-append, take_more}
 use Rattle.office_tables.specs.declared.altering.Both.{Both}
 use Rattle.office_tables.specs.declared.slot.DeleteSlot.{DeleteSlot}

@@ -1,6 +1,6 @@
-use Rattle.std.proofs.Common.{◌∙◌, [], ◌∷◌, ◌++◌, Some, append-nil, refl, subst, sym, take, take_all}
+use Rattle.std.proofs.Common.{◌∙◌, ◌∷◌, ◌++◌, Some, append-nil, refl, subst, sym, take, take_all, []}
 use Rattle.exam_score.specs.Folds.{CanFollow, RepresentsPairs, pairs_sat}
-use Rattle.office_store.proofs.ConcernedLemmas.{can_follow, has_room, one_more}
+use Rattle.office_store.proofs.FoldingLemmas.{can_follow, has_room, one_more}
 use Rattle.office_store.proofs.folding.fold_exams.Goals as goal
 
 pub loop-exam-init : goal.loop-exam-init
@@ -16,8 +16,7 @@ row-requires c =
     let i = c.loop-exam.exam-index in
     let so_far = c.loop-exam.invariant.represents room.pairs room.represents in
     record {
-      few = has_room c.loop-exam.fold room.pairs c.args.student exams i c.loop-exam-test.true
-          room.few so_far;
+      few = has_room room.pairs c.args.student exams i c.loop-exam-test.true room.few so_far;
       follows = subst (λ e. CanFollow c.loop-exam.fold
           (record { exam = e; student = c.args.student })) (sym c.exam-item.is)
           (can_follow c.loop-exam.fold room.pairs c.args.student exams i c.exam-item.result

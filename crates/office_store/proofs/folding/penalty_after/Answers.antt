@@ -33,10 +33,8 @@ returns-clause-meaning g c had of =
     let found = c.deref-3.ensures.value ∙ c.in_ok-students.ensures
     ∙ ap (students_of_exams E) c.deref.ensures.value in
     subst (ReturnsValue (track I E judged.new)) (sym c.ok_or.ensures.value)
-    (returned_after g.S.Store c.args.conn.now c.fold_students.new.conn c.in_ok-fold.fold I E judged
-    empty.edited c.deref-4.result.now c.finish.result represents.0 had of
-    (fold_of c.in_ok-fold.fold empty I judged.draft.now.timetable judged.new empty.edited
-    c.in_ok-fold.ensures.of
+    (returned_after had of
+    (fold_of {empty = empty} {edited = empty.edited} c.in_ok-fold.ensures.of
     (record {
       session = ap (λ (f : Folded). f.instance) made;
       before = ap (λ (f : Folded). f.earlier) made;

@@ -1,17 +1,16 @@
-use Rattle.std.proofs.Common.{◌≡◌, ◌∙◌, ℕ, Vec, Err, None, Ok, Result, rules, sym}
-use Rattle.std.specs.Prelude.{OnOk}
+use Rattle.std.proofs.Common.{◌≡◌, ◌∙◌, ℕ, Vec, None, rules, sym}
+use Rattle.std.proofs.lemmas.Result.{IfOk-weaker}
 use Rattle.exam_model.specs.Changes.{exams_sat}
 use Rattle.std.specs.declared.alloc.Global.{Global}
 use Rattle.exam_lists.proofs.Results.{OnOk_any}
-use Rattle.office_store.proofs.FoldingLemmas.{exams_are, ok_weaker, rows_fit, rows_had, sat_up}
+use Rattle.office_store.proofs.FoldingLemmas.{exams_are, rows_fit, rows_had, sat_up}
 use Rattle.office_store.proofs.folding.read_exams.Goals as goal
 
 pub returns-clause-exams : goal.returns-clause-exams
 returns-clause-exams g c E had =
     let s = c.args.student in
-    let rows = rows_had g.S.Store c.args.conn.now c.ask.new.conn E had s c.get-number.result
-    c.get-number.ensures.number c.in-Ok.found c.in-Some.rows c.in-Some.is c.in-Ok.ensures.rows in
-    ok_weaker _ _ c.exams_in_order.result
+    let rows = rows_had had c.get-number.ensures.number c.in-Some.is c.in-Ok.ensures.rows in
+    IfOk-weaker c.exams_in_order.result _ _
     (λ (exams : Vec ℕ Global) are. sym (exams_are s c.deref.result.now exams.items are)
     ∙ exams_are s c.deref.result.now (exams_sat E s) (c.deref.ensures.value ∙ rows))
     c.exams_in_order.ensures.are
@@ -19,16 +18,14 @@ returns-clause-exams g c E had =
 pub returns-clause-fault : goal.returns-clause-fault
 returns-clause-fault g c E had =
     let s = c.args.student in
-    let rows = rows_had g.S.Store c.args.conn.now c.ask.new.conn E had s c.get-number.result
-    c.get-number.ensures.number c.in-Ok.found c.in-Some.rows c.in-Some.is c.in-Ok.ensures.rows in
+    let rows = rows_had had c.get-number.ensures.number c.in-Some.is c.in-Ok.ensures.rows in
     c.exams_in_order.ensures.fault (exams_sat E s) (c.deref.ensures.value ∙ rows) (sat_up E s)
 
 -- over a clean disk the student's rows are valid
 pub returns-in_default-found-clause-fault : goal.returns-in_default-found-clause-fault
 returns-in_default-found-clause-fault g c E had =
     let none : c.in-Ok.found ≡ None = search rules in
-    absurd (rows_fit g.S.Store c.args.conn.now c.ask.new.conn E had c.get-number.result c.in-Ok.found none
-    c.in-Ok.ensures.rows)
+    absurd (rows_fit c.get-number.result had none c.in-Ok.ensures.rows)
 
 pub returns-clause-leaves : goal.returns-clause-leaves
 returns-clause-leaves g c = record {

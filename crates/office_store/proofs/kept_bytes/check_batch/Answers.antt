@@ -34,9 +34,8 @@ returns-clause-long g c clean version t held =
 
 pub returns-in-Err-clause-leaves : goal.returns-in-Err-clause-leaves
 returns-in-Err-clause-leaves g c version =
-    tables_as version g.S.Store _ _ (λ P none. tt) (c.batch_of.ensures.leaves version)
+    tables_as (λ P none. tt) (c.batch_of.ensures.leaves version)
 
 pub returns-clause-leaves : goal.returns-clause-leaves
 returns-clause-leaves g c version =
-    tables_as version g.S.Store _ _ (λ P p. OnOk_any c.check_length.result p)
-    (c.in-Ok.ensures.leaves version)
+    tables_as (λ P p. OnOk_any c.check_length.result p) (c.in-Ok.ensures.leaves version)

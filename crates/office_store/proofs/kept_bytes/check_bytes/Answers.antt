@@ -3,13 +3,11 @@ use Rattle.std.specs.List.{AllByRecursion}
 use Rattle.std.proofs.lemmas.List.{take_all}
 use Rattle.std.proofs.lemmas.List.Elements.{All-more}
 use Rattle.office_tables.specs.Tables.{Batch}
-use Rattle.office_tables.specs.TablesHeld.{HoldsSomeTables}
 use Rattle.office_tables.specs.declared.batch.BatchCountsRow.{BatchCountsRow}
 use Rattle.office_records.specs.FoundBatches.{IsShort}
 use Rattle.office_records.proofs.BatchRowLemmas.{no_row, short_by_rows}
 use Rattle.office_store.proofs.RunLemmas.{clean_before}
 use Rattle.office_store.proofs.AdoptLemmas.{file_as, file_itself, file_of, file_then, held_still, some_still}
-use Rattle.sqlite.specs.Held.{state}
 use Rattle.office_store.proofs.kept_bytes.check_bytes.Goals as goal
 
 pub batches-init : goal.batches-init
@@ -23,11 +21,8 @@ batches-preserved g c =
     let before = c.batches.invariant in
     let old = c.args.conn.now in
     let mid = c.batches.conn in
-    let new = c.check_batch.new.conn in
     record {
-      leaves = file_then (HoldsSomeTables (state g.S.Store old).now)
-          (HoldsSomeTables (state g.S.Store mid).now) g.S.Store old mid new before.leaves
-          (file_of g.S.Store mid new c.in_ok-check_batch.ensures.leaves)
+      leaves = file_then before.leaves (file_of c.in_ok-check_batch.ensures.leaves)
           (λ _. some_still g.S.Store old mid);
       short = λ clean version t held.
           let clean_mid = clean_before (c.check_batch.ensures.leaves version).survives clean in
@@ -50,14 +45,9 @@ returns-in_err-check_batch-clause-long g c clean version t held =
 
 pub returns-in_err-check_batch-clause-leaves : goal.returns-in_err-check_batch-clause-leaves
 returns-in_err-check_batch-clause-leaves g c =
-    let old = c.args.conn.now in
-    let mid = c.batches.conn in
-    let new = c.check_batch.new.conn in
-    file_as _ g.S.Store old new (λ P none. search rules)
-    (file_then (HoldsSomeTables (state g.S.Store old).now)
-    (HoldsSomeTables (state g.S.Store mid).now) g.S.Store old mid new c.batches.invariant.leaves
-    (file_of g.S.Store mid new c.check_batch.ensures.leaves)
-    (λ _. some_still g.S.Store old mid))
+    file_as (λ P none. search rules)
+    (file_then c.batches.invariant.leaves (file_of c.check_batch.ensures.leaves)
+    (λ _. some_still g.S.Store c.args.conn.now c.batches.conn))
 
 pub returns-clause-short : goal.returns-clause-short
 returns-clause-short g c clean version t held rows =

@@ -1,4 +1,4 @@
-use Rattle.std.proofs.Common.{◌≡◌, ℕ, List, ◌++◌, [], ◌∷◌, map, take, get_or, sym, ◌∙◌, ap}
+use Rattle.std.proofs.Common.{◌≡◌, ℕ, List, ◌++◌, ◌∷◌, map, take, get_or, sym, ◌∙◌, ap, []}
 use Rattle.std.proofs.lemmas.List.{append-nil, get_or_default, map-append}
 use Rattle.exam_model.specs.Pairs.{pairs_at}
 use Rattle.office_tables.specs.Inserted.{InsertEnrol}

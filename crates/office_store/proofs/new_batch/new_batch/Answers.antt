@@ -5,8 +5,7 @@ use Rattle.office_enrolment.specs.AfterBatch.{Refuses, lines_with_effect, after_
 use Rattle.office_enrolment.proofs.OfficeLemmas.{exams_after}
 use Rattle.office_store.specs.NewBatches.{Enrols, put_line}
 use Rattle.office_store.specs.declared.new_batch.PutLine.{PutLine}
-use Rattle.office_store.proofs.NewBatchLemmas.{latest_drafts, lines_refuse, made_exams, made_others, memory_scored, no_room}
-use Rattle.office_store.proofs.NewBatchLemmas.{same_enrolled}
+use Rattle.office_store.proofs.BatchPuttingLemmas.{latest_drafts, lines_refuse, made_exams, made_others, memory_scored, no_room, same_enrolled}
 use Rattle.office_store.proofs.new_batch.new_batch.Goals as goal
 
 pub returns-in_err-made-clause-enrols : goal.returns-in_err-made-clause-enrols

@@ -1,4 +1,4 @@
-use Rattle.office_store.proofs.NewPublicationLemmas.{permit_refused}
+use Rattle.office_store.proofs.PublishLemmas.{permit_refused}
 use Rattle.office_store.proofs.new_publication.check_permit.Goals as goal
 
 pub returns-in-Err-clause-refused : goal.returns-in-Err-clause-refused

@@ -1,5 +1,5 @@
 use Rattle.std.proofs.Common.{arith}
-use Rattle.office_store.proofs.NewPublicationLemmas.{count_within}
+use Rattle.office_store.proofs.PublishLemmas.{count_within}
 use Rattle.office_store.proofs.new_publication.count_of.Goals as goal
 
 pub overflow_cast-result : goal.overflow_cast-result

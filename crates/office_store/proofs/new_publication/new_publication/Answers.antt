@@ -1,35 +1,33 @@
-use Rattle.std.proofs.Common.{rules, ◌≡◌, Err, Ok, ap, subst, sym, ◌∙◌}
+use Rattle.std.proofs.Common.{rules, ◌≡◌, Err, Ok, ap, refl, subst, sym, ◌∙◌}
 use Rattle.exam_model.specs.Enrolments.{Enrolled}
 use Rattle.exam_model.specs.Instance.{Session}
 use Rattle.exam_publish.specs.Seats.{AreSeated}
 use Rattle.exam_score.specs.Penalty.{total_of}
 use Rattle.exam_score.specs.Track.{track}
 use Rattle.office_model.specs.declared.fault.StoreFault.TheVariants.{NoDraft}
-use Rattle.office_model.specs.Publishing.{publication_rows}
+use Rattle.office_model.specs.Publishing.{draft_published, publication_rows}
+use Rattle.office_store.proofs.CommandLemmas.{unloaded}
 use Rattle.office_records.specs.FoundPublications.{publication_from}
 use Rattle.office_records.specs.Publications.{placed_rows}
 use Rattle.office_store.specs.NewPublications.{AreInserted, InsertsOrRefuses}
-use Rattle.office_store.proofs.EditCallLemmas.{both, there_of}
-use Rattle.office_store.proofs.NewPublicationLemmas.{publishes}
-use Rattle.office_store.proofs.PublishLemmas.{no_such_draft, none_published, puts_in_memory}
+use Rattle.office_store.proofs.EditCallLemmas.{both, no_draft, there_of}
+use Rattle.office_store.proofs.PublishLemmas.{publishes, puts_in_memory}
 use Rattle.office_store.proofs.TogetherLemmas.{fits_in, published_seats}
 use Rattle.office_store.proofs.new_publication.new_publication.Goals as goal
 
 pub returns-in_default-clause-publishes : goal.returns-in_default-clause-publishes
 returns-in_default-clause-publishes c o is =
-    none_published c.args.memory.now c.in_default.is c.args.number o is
+    unloaded (draft_published c.args.number) o c.in_default.is is refl
 
 pub returns-in_default-draft-clause-publishes : goal.returns-in_default-draft-clause-publishes
 returns-in_default-draft-clause-publishes c o is =
-    puts_in_memory c.args.memory.now c.in-Some.instance c.in-Some.enrolments c.in-Some.is
-    c.args.number (Err NoDraft) o is
-    (λ r same here memory. no_such_draft c.args.number r
-    (sym (memory.drafts c.args.number) ∙ c.in_default-draft.ensures.none))
+    puts_in_memory c.in-Some.is c.args.number (Err NoDraft) o is
+    (λ r same here memory. rw (no_draft c.args.number r
+    (sym (memory.drafts c.args.number) ∙ c.in_default-draft.ensures.none)) refl)
 
 pub check_permit-requires : goal.check_permit-requires
 check_permit-requires c = record {
-  fits = fits_in c.args.memory.now c.requires.together c.in-Some.instance c.in-Some.enrolments
-      c.in-Some.is c.args.number c.in-Some-draft.draft.now c.in-Some-draft.ensures.some;
+  fits = fits_in c.requires.together c.in-Some.is c.args.number c.in-Some-draft.ensures.some;
 }
 
 -- the seats of the publication before
@@ -56,8 +54,7 @@ returns-in_err-check_permit-clause-publishes c o is =
     let fault = c.in_err-check_permit.field-0.0 in
     let same_as : c.from_residual.result ≡ Err fault = search rules in
     subst (InsertsOrRefuses d o) (sym same_as)
-    (puts_in_memory c.args.memory.now c.in-Some.instance c.in-Some.enrolments c.in-Some.is d
-    (Err fault) o is
+    (puts_in_memory c.in-Some.is d (Err fault) o is
     (λ r same here memory. c.in_err-check_permit.ensures.refused d r here
     (there_of d r c.in-Some-draft.draft.now
     (sym (memory.drafts d) ∙ c.in-Some-draft.ensures.some)).timetable))
@@ -69,7 +66,7 @@ returns-clause-publishes c o is =
     let I = c.in-Some.instance in
     let E = c.in-Some.enrolments in
     let T = c.in-Some-draft.draft.now.timetable in
-    puts_in_memory m I E c.in-Some.is d
+    puts_in_memory c.in-Some.is d
     (Ok (
       c.in_ok-writes.writes,
       (c.in_ok-timetable.timetable, c.in_ok-rows.rows),

@@ -5,9 +5,8 @@ use Rattle.office_records.specs.SharesStored.{retimed_students, student_share_ro
 use Rattle.office_records.specs.PartShares.{HasFewParts, part_rows}
 use Rattle.office_store.specs.ChangedPlacements.{changed_rows}
 use Rattle.office_store.specs.NewPublications.{candidates_before}
-use Rattle.office_store.specs.RowPuts.{deleted_share, part_share_put, place_gone, placement_put}
-use Rattle.office_store.specs.RowPuts.{student_share_put}
-use Rattle.office_store.proofs.NewPublicationLemmas.{few_parts, rows_among}
+use Rattle.office_store.specs.RowPuts.{deleted_share, part_share_put, place_gone, placement_put, student_share_put}
+use Rattle.office_store.proofs.PublishLemmas.{few_parts, rows_among}
 use Rattle.office_store.proofs.new_publication.publication_writes.Goals as goal
 
 pub shares_among-requires : goal.shares_among-requires

@@ -11,7 +11,7 @@ returns-then-is_empty c = record {
       let found = c.args.found.now in
       let none : length found.parts.items ≡ 0
       = grind (arith, nat_tests, c.if-is_empty.ensures, found.parts.ok.0) in
-      shares_none r is found.students.items found.parts.items shared none;
+      shares_none is shared none;
 }
 
 pub returns-in_err-shares : goal.returns-in_err-shares

@@ -1,7 +1,3 @@
-use Rattle.std.proofs.Common.{subst}
-use Rattle.sqlite.specs.Held.{state}
-use Rattle.office_tables.specs.TablesHeld.{HoldsTables}
-use Rattle.office_store.specs.PublicationChanges.{shares_put}
 use Rattle.office_store.proofs.PublishLemmas.{shares_made}
 use Rattle.office_store.proofs.StepLemmas.{changes_as, changes_then}
 use Rattle.office_store.proofs.putting.put_shares.Goals as goal
@@ -9,10 +5,8 @@ use Rattle.office_store.proofs.putting.put_shares.Goals as goal
 pub returns-clause-makes : goal.returns-clause-makes
 returns-clause-makes g c =
     let new = c.args.new.now in
-    changes_as g.S.Store _ (shares_put new) c.args.tx.now.conn.now c.apply-2.new.tx.conn.now
-    c.apply-2.result
-    (λ t. subst (HoldsTables (state g.S.Store c.apply-2.new.tx.conn.now).now) (shares_made new _ _ _
-    c.deref.ensures.value c.deref-2.ensures.value c.deref-3.ensures.value t))
+    changes_as g.S.Store c.args.tx.now.conn.now c.apply-2.new.tx.conn.now c.apply-2.result
+    (shares_made new c.deref.ensures.value c.deref-2.ensures.value c.deref-3.ensures.value)
     (changes_then g.S.Store _ _ c.args.tx.now.conn.now c.apply.new.tx.conn.now
     c.apply-2.new.tx.conn.now c.apply-2.result c.in_ok-apply.ensures.makes c.apply-2.ensures.within
     c.apply-2.ensures.makes)

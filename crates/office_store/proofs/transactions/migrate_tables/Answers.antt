@@ -1,4 +1,4 @@
-use Rattle.std.proofs.Common.{rules, Ok, refl, subst, ◌≡◌, IsTrue, [], ◌∷◌}
+use Rattle.std.proofs.Common.{rules, Ok, refl, subst, ◌≡◌, IsTrue, ◌∷◌, []}
 use Rattle.exam_lists.proofs.Results.{OnErr_any}
 use Rattle.sqlite.specs.Effect.{Database}
 use Rattle.sqlite.specs.Held.{state}

@@ -1,9 +1,5 @@
-use Rattle.std.proofs.Common.{◌≡◌, true, false, rules, subst}
-use Rattle.sqlite.specs.Held.{state}
-use Rattle.office_tables.specs.Enrol.{with_enrol, without_enrol}
-use Rattle.office_tables.specs.TablesHeld.{HoldsTables}
+use Rattle.std.proofs.Common.{◌≡◌, true, false, rules}
 use Rattle.office_tables.specs.declared.enrol.EnrolRow.{EnrolRow}
-use Rattle.office_store.specs.NewBatches.{line_put}
 use Rattle.office_store.proofs.BatchPuttingLemmas.{line_comes, line_goes}
 use Rattle.office_store.proofs.StepLemmas.{changes_as}
 use Rattle.office_store.proofs.new_batch.PutLineAlteration.apply.Goals as goal
@@ -15,11 +11,8 @@ returns-then-self-clause-makes g c =
     let who : c.get-student.result ≡ change.student = search rules in
     let what : c.get-exam.result ≡ change.exam = search rules in
     let row : EnrolRow = record { student = c.get-student.result; exam = c.get-exam.result } in
-    changes_as g.S.Store (with_enrol row) (line_put change) c.args.tx.now.conn.now
-    c.apply.new.tx.conn.now c.apply.result
-    (λ t. subst (HoldsTables (state g.S.Store c.apply.new.tx.conn.now).now)
-    (line_comes change row add (λ i. record { student = who i; exam = what i }) t))
-    c.apply.ensures.makes
+    changes_as g.S.Store c.args.tx.now.conn.now c.apply.new.tx.conn.now c.apply.result
+    (line_comes change row add (λ i. record { student = who i; exam = what i })) c.apply.ensures.makes
 
 pub returns-else-self-clause-makes : goal.returns-else-self-clause-makes
 returns-else-self-clause-makes g c =
@@ -27,8 +20,6 @@ returns-else-self-clause-makes g c =
     let drop : change.add ≡ false = search rules in
     let who : c.get-student.result ≡ change.student = search rules in
     let what : c.get-exam.result ≡ change.exam = search rules in
-    changes_as g.S.Store (without_enrol c.get-student.result c.get-exam.result) (line_put change)
-    c.args.tx.now.conn.now c.apply-else-self.new.tx.conn.now c.apply-else-self.result
-    (λ t. subst (HoldsTables (state g.S.Store c.apply-else-self.new.tx.conn.now).now)
-    (line_goes change c.get-student.result c.get-exam.result drop who what t))
-    c.apply-else-self.ensures.makes
+    changes_as g.S.Store c.args.tx.now.conn.now c.apply-else-self.new.tx.conn.now
+    c.apply-else-self.result
+    (line_goes change c.get-student.result c.get-exam.result drop who what) c.apply-else-self.ensures.makes

@@ -1,13 +1,10 @@
-use Rattle.std.proofs.Common.{◌≡◌, ◌∙◌, ◌⊎◌, inr, refl, Bool, Err, Ok, true, false, not, rules, subst, sym}
+use Rattle.std.proofs.Common.{◌≡◌, ◌∙◌, ◌⊎◌, inr, refl, Err, Ok, rules, subst, sym}
 use Rattle.exam_lists.proofs.Booleans.{false_from_not}
 use Rattle.office_model.specs.declared.fault.StoreFault.TheVariants.{Store}
 use Rattle.sqlite.specs.Held.{state}
 use Rattle.sqlite.specs.State.{IsUnchanged}
 use Rattle.office_tables.specs.declared.version.Version.TheVariants.{Two}
-use Rattle.office_store.proofs.AdoptLemmas.{brought_clean, brought_committed, brought_rests, brought_same}
-use Rattle.office_store.proofs.AdoptLemmas.{brought_survives, brought_tables, brought_undone}
-use Rattle.office_store.proofs.AdoptLemmas.{awake_still, held_still, may_migrate}
-use Rattle.office_store.proofs.AdoptLemmas.{taken_over, undone_after, undone_reading}
+use Rattle.office_store.proofs.AdoptLemmas.{brought_clean, brought_committed, brought_rests, brought_same, brought_survives, brought_tables, brought_undone, awake_still, held_still, may_migrate, taken_over, undone_after, undone_reading}
 use Rattle.office_tables.proofs.AdoptLemmas.{one_version}
 use Rattle.office_store.proofs.office.Office.adopt.Goals as goal
 

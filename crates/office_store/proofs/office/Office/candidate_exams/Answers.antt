@@ -8,9 +8,7 @@ use Rattle.office_store.proofs.office.Office.candidate_exams.Goals as goal
 
 pub returns-in_default-clause-reads : goal.returns-in_default-clause-reads
 returns-in_default-clause-reads g c =
-    returns_value g.S.Store c.args.self.now c.candidate_rows.new.self c.self.inside.conn
-    c.self.inside.memory
-    c.self.view_is c.self.invariant.1 c.in_ok-found.ensures.leaves
+    returns_value c.self.view_is c.self.invariant.1 c.in_ok-found.ensures.leaves
     (λ o. shown_exams (view_of c.args.student o)) (plain_list (Ok c.new.result))
     (λ k o kept is. nothing_returned o c.self.inside.memory.kept c.in_default.is is.session
     c.args.student
@@ -18,11 +16,8 @@ returns-in_default-clause-reads g c =
 
 pub returns-clause-reads : goal.returns-clause-reads
 returns-clause-reads g c =
-    returns_value g.S.Store c.args.self.now c.candidate_rows.new.self c.self.inside.conn
-    c.self.inside.memory
-    c.self.view_is c.self.invariant.1 c.in_ok-found.ensures.leaves
+    returns_value c.self.view_is c.self.invariant.1 c.in_ok-found.ensures.leaves
     (λ o. shown_exams (view_of c.args.student o)) (plain_list c.exams_from.result)
-    (λ k o kept is. exams_returned o c.in-Some.instance c.in-Some.field-0-1
-    c.self.inside.memory.kept
-    c.in-Some.is kept.office is.session c.args.student _ _ _ (c.in_ok-found.ensures.rows k o kept)
-    (plain_list c.exams_from.result) (c.exams_from.ensures.meaning c.args.student))
+    (λ k o kept is. exams_returned c.in-Some.is kept.office is.session
+    (c.in_ok-found.ensures.rows k o kept) (plain_list c.exams_from.result)
+    (c.exams_from.ensures.meaning c.args.student))

@@ -17,7 +17,7 @@ returns-clause-reads g c clean o now =
     let rows = c.in_ok-rows.rows.items in
     let penalty = shown_penalty (view_of c.args.student o) in
     shown penalty o (Represents (state g.S.Store mid)) c.personal_in.result
-    (penalty_returned rows c.deref.result.now penalty c.personal_in.result c.deref.ensures.value
+    (penalty_returned c.deref.ensures.value
     (candidate_share_of o c.args.student kept.office rows
     (subst (λ n. IsPermutation (filter (λ (row : StudentShareRow). row.student == n)
     (student_rows_in o)) rows) c.get-number.ensures.number

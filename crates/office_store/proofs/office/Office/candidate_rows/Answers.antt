@@ -8,10 +8,9 @@ pub returns-clause-rows : goal.returns-clause-rows
 returns-clause-rows g c clean office kept =
     let n = c.get-number.result in
     let last = c.in_ok-seats.ensures.leaves in
-    let later = represented g.S.Store c.ask-2.new.self c.ask-3.new.self last clean office kept in
+    let later = represented last clean office kept in
     let next = c.in_ok-places.ensures.leaves in
-    let first = represented g.S.Store c.ask.new.self c.ask-2.new.self next (last.clean clean) office
-    later in
+    let first = represented next (last.clean clean) office later in
     subst (λ n. AreCandidateRows office n c.in_ok-enrols.enrols.items c.in_ok-places.places.items
     c.in_ok-seats.seats.items) c.get-number.ensures.number
     (record {

@@ -1,11 +1,11 @@
-use Rattle.std.proofs.Common.{rules, refl, sym, ap, Err, None, Ok, ◌≡◌}
-use Rattle.office_tables.specs.Tables.{empty_tables}
+use Rattle.std.proofs.Common.{rules, refl, sym, ap, subst, Err, None, Ok, ◌≡◌}
 use Rattle.sqlite.specs.Held.{state}
-use Rattle.office_store.proofs.LeavingLemmas.{may_make}
+use Rattle.office_store.proofs.LeavingLemmas.{empty_represents, may_make}
 use Rattle.office_tables.specs.Schema.{no_schema}
+use Rattle.office_records.specs.Memory.{AreTogether}
 use Rattle.office_records.specs.FoundPublications.{publication_from}
 use Rattle.office_model.specs.declared.fault.StoreFault.TheVariants.{Store}
-use Rattle.office_store.proofs.TogetherLemmas.{unloaded_together}
+use Rattle.office_store.proofs.TogetherLemmas.{fresh_together}
 use Rattle.office_store.proofs.office.Office.create.Goals as goal
 
 pub invariant_of-result : goal.invariant_of-result
@@ -13,14 +13,8 @@ invariant_of-result g c = (
   c.make_tables.ensures.rests,
   λ clean opened. (
     None,
-    record {
-      held = empty_tables;
-      tables =
-          ((c.in-Ok.ensures.done clean).related (record { schema_is = search rules; rows = tt })).0;
-      represents = refl;
-      sound = tt;
-      office = tt;
-    },
+    empty_represents
+        ((c.in-Ok.ensures.done clean).related (record { schema_is = search rules; rows = tt })).0,
     record {
       session = sym c.new.ensures.kept;
       batches = sym c.new.ensures.batches;
@@ -29,19 +23,14 @@ invariant_of-result g c = (
       priced = sym c.new.ensures.priced;
     },
   ),
-  unloaded_together c.new.result c.new.ensures.kept c.new.ensures.drafts
+  fresh_together (subst AreTogether (sym c.new.ensures.kept) tt) c.new.ensures.drafts
       c.new.ensures.published,
 )
 
 pub returns-in-Ok-clause-made : goal.returns-in-Ok-clause-made
-returns-in-Ok-clause-made g c clean = record {
-  held = empty_tables;
-  tables =
-      ((c.in-Ok.ensures.done clean).related (record { schema_is = search rules; rows = tt })).0;
-  represents = refl;
-  sound = tt;
-  office = tt;
-}
+returns-in-Ok-clause-made g c clean =
+    empty_represents
+    ((c.in-Ok.ensures.done clean).related (record { schema_is = search rules; rows = tt })).0
 
 pub returns-in-Ok-clause-leaves : goal.returns-in-Ok-clause-leaves
 returns-in-Ok-clause-leaves g c = record {

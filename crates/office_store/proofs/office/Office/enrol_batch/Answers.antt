@@ -5,7 +5,7 @@ use Rattle.office_store.specs.NewBatches.{IsRowOf}
 use Rattle.office_store.specs.Running.{CommandOutcome, Represents}
 use Rattle.office_store.proofs.CommandLemmas.{stays_by}
 use Rattle.office_store.proofs.KeptBatchLemmas.{again_does, batch_read, no_row_of}
-use Rattle.office_store.proofs.ReadLemmas.{does_now}
+use Rattle.office_store.proofs.RunLemmas.{does_now}
 use Rattle.office_store.proofs.LeavingLemmas.{leaves_then}
 use Rattle.office_store.proofs.office.Office.enrol_batch.Goals as goal
 
@@ -50,6 +50,4 @@ enrol_new-requires g c = record {
 
 pub returns-clause-leaves : goal.returns-clause-leaves
 returns-clause-leaves g c =
-    leaves_then g.S.Store (batch_enrolled c.args.number c.args.text.now) c.args.self.now
-    c.ask.new.self c.enrol_new.new.self c.enrol_new.result c.in_ok-kept.ensures.leaves
-    c.enrol_new.ensures.leaves
+    leaves_then c.in_ok-kept.ensures.leaves c.enrol_new.ensures.leaves

@@ -6,15 +6,12 @@ use Rattle.office_store.proofs.office.Office.publication.Goals as goal
 
 pub returns-in_default-clause-reads : goal.returns-in_default-clause-reads
 returns-in_default-clause-reads g c =
-    returns_value g.S.Store c.args.self.now c.look.new.self c.self.inside.conn c.self.inside.memory
-    c.self.view_is c.self.invariant.1 c.in_ok-look.ensures.leaves publication_shown (Ok None)
-    (λ k o kept is. none_shown o c.self.inside.memory is c.in_default.is)
+    returns_value c.self.view_is c.self.invariant.1 c.in_ok-look.ensures.leaves publication_shown (Ok None)
+    (λ k o kept is. none_shown is c.in_default.is)
 
 pub returns-clause-reads : goal.returns-clause-reads
 returns-clause-reads g c =
-    returns_value g.S.Store c.args.self.now c.look.new.self c.self.inside.conn c.self.inside.memory
-    c.self.view_is c.self.invariant.1 c.in_ok-look.ensures.leaves publication_shown
+    returns_value c.self.view_is c.self.invariant.1 c.in_ok-look.ensures.leaves publication_shown
     (plain (Ok (Some (c.in_ok-timetable.timetable, c.in_ok-rows.rows))))
-    (λ k o kept is. published_shown o c.self.inside.memory is c.in-Some.timetable c.in-Some.rows
-    c.in-Some.is c.in_ok-timetable.timetable c.in_ok-rows.rows c.in_ok-timetable.ensures.same
+    (λ k o kept is. published_shown is c.in-Some.is c.in_ok-timetable.ensures.same
     (c.in_ok-rows.ensures.items ∙ c.deref.ensures.value))

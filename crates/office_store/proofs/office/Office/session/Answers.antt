@@ -2,8 +2,7 @@ use Rattle.std.proofs.Common.{ap, refl, subst, ◌∙◌}
 use Rattle.sqlite.specs.Held.{state}
 use Rattle.office_model.specs.Commands.{session_shown}
 use Rattle.office_store.specs.Running.{MatchesMemory}
-use Rattle.office_store.proofs.ReadLemmas.{session_returned}
-use Rattle.office_store.proofs.RunLemmas.{at_hand, nothing_kept}
+use Rattle.office_store.proofs.RunLemmas.{session_returned, at_hand, nothing_kept}
 use Rattle.office_store.proofs.office.Office.session.Goals as goal
 
 pub returns-in-Some-clause-shown : goal.returns-in-Some-clause-shown

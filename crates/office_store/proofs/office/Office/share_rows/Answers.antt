@@ -12,14 +12,14 @@ pub returns-clause-rows : goal.returns-clause-rows
 returns-clause-rows g c clean office kept =
     let start = c.args.self.now in
     let next = c.in_ok-parts.ensures.leaves in
-    let mid = represented g.S.Store c.ask.new.self c.ask-2.new.self next clean office kept in
+    let mid = represented next clean office kept in
     let read = c.in_ok-students.ensures.leaves in
     let was = next.clean clean in
     let memory = at_hand (state g.S.Store start) c.self.inside.memory office
     (subst (λ h. MatchesMemory (state g.S.Store h) c.self.inside.memory) c.self.view_is
     c.self.invariant.1)
     (read.clean was) (read.unchanged was (read.all_committed was).0).0
-    (represented g.S.Store start c.ask.new.self read was office mid) in
+    (represented read was office mid) in
     record {
       of_students = student_shares_read mid.held office c.in_ok-students.students.items
           mid.represents mid.sound

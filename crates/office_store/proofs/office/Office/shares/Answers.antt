@@ -8,21 +8,14 @@ use Rattle.office_store.proofs.office.Office.shares.Goals as goal
 
 pub returns-in_default-clause-reads : goal.returns-in_default-clause-reads
 returns-in_default-clause-reads g c =
-    returns_value g.S.Store c.args.self.now c.share_rows.new.self c.self.inside.conn
-    c.self.inside.memory
-    c.self.view_is c.self.invariant.1 c.in_ok-found.ensures.leaves
-    shares_in (Ok None) (λ k o kept is. none_shared o _ c.in_default.is is.session)
+    returns_value c.self.view_is c.self.invariant.1 c.in_ok-found.ensures.leaves shares_in (Ok None)
+    (λ k o kept is. none_shared o _ c.in_default.is is.session)
 
 pub returns-clause-reads : goal.returns-clause-reads
 returns-clause-reads g c =
-    returns_value g.S.Store c.args.self.now c.share_rows.new.self c.self.inside.conn
-    c.self.inside.memory
-    c.self.view_is c.self.invariant.1 c.in_ok-found.ensures.leaves
-    shares_in c.shared_of.result
-    (λ k o kept is. shares_returned o c.in-Some.instance c.in-Some.field-0-1
-    c.self.inside.memory.kept
-    c.in-Some.is kept.office is.session _ _ (c.in_ok-found.ensures.rows k o kept) c.shared_of.result
-    c.shared_of.ensures.meaning)
+    returns_value c.self.view_is c.self.invariant.1 c.in_ok-found.ensures.leaves shares_in c.shared_of.result
+    (λ k o kept is. shares_returned o c.in-Some.is kept.office is.session
+    (c.in_ok-found.ensures.rows k o kept) c.shared_of.result c.shared_of.ensures.meaning)
 
 pub returns-clause-add_up : goal.returns-clause-add_up
 returns-clause-add_up g c clean o now =
