@@ -157,8 +157,7 @@ module _ (text : List ℕ) (I : Session) (E : Enrolled) {counts : loading.Loaded
       let none = none_kept m o held empty in
       let rows = map (λ (it : InsertEnrol). it.row) its in
       let makes : RowsChanged (session_put stored rows) a b
-      = λ t h. subst (HoldsTables b) (enrols_put its (with_meta false stored (no_meta t))) (comes t h) in
-      (
+      = λ t h. subst (HoldsTables b) (enrols_put its (with_meta false stored (no_meta t))) (comes t h) in (
         Some (new_records (I, E)),
         ap (load_session text) none ∙ loaded_first text (I, E) read
             ∙ ap (λ k. Ok (k, Some (new_records (I, E)))) (sym counted),

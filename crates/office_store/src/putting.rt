@@ -1,7 +1,7 @@
 // The alteration of the tables by a publication.
 ghost use Rattle.std.specs.Prelude.{◌≡◌};
 ghost use Rattle.sqlite.specs.Held.{state};
-ghost use Rattle.office_tables.specs.Steps.{Changes, Within};
+ghost use Rattle.office_tables.specs.Steps.{Changes, IsUncommitted};
 ghost use Rattle.office_store.specs.PublicationChanges.{mark_put, places_put};
 ghost use Rattle.office_store.specs.PublicationChanges.{publication_put, shares_put};
 ghost use Rattle.office_store.specs.NewPublications.{AreSmallShares};
@@ -29,7 +29,7 @@ impl Alteration for NewPublication {
 fn put_places<S: Alter>(tx: &mut Transaction<'_, S>, new: &NewPublication) -> Result<(), Error>
     ensures same_reference { tx.new.conn.ghost_name ≡ tx.old.conn.ghost_name }
     ensures makes { Changes S.Store (places_put new.now) tx.old.conn.now tx.new.conn.now result }
-    ensures within { Within (state S.Store tx.old.conn.now) (state S.Store tx.new.conn.now) }
+    ensures within { IsUncommitted (state S.Store tx.old.conn.now) (state S.Store tx.new.conn.now) }
 {
     let placements = Both {
         first: Each {
@@ -54,7 +54,7 @@ fn put_places<S: Alter>(tx: &mut Transaction<'_, S>, new: &NewPublication) -> Re
 fn put_mark<S: Alter>(tx: &mut Transaction<'_, S>, text: &Option<Vec<u8>>) -> Result<(), Error>
     ensures same_reference { tx.new.conn.ghost_name ≡ tx.old.conn.ghost_name }
     ensures makes { Changes S.Store (mark_put text.now) tx.old.conn.now tx.new.conn.now result }
-    ensures within { Within (state S.Store tx.old.conn.now) (state S.Store tx.new.conn.now) }
+    ensures within { IsUncommitted (state S.Store tx.old.conn.now) (state S.Store tx.new.conn.now) }
 {
     let Some(text) = text else {
         return Ok(());
@@ -74,7 +74,7 @@ fn put_shares<S: Alter>(tx: &mut Transaction<'_, S>, new: &NewPublication) -> Re
     requires small { AreSmallShares new.now }
     ensures same_reference { tx.new.conn.ghost_name ≡ tx.old.conn.ghost_name }
     ensures makes { Changes S.Store (shares_put new.now) tx.old.conn.now tx.new.conn.now result }
-    ensures within { Within (state S.Store tx.old.conn.now) (state S.Store tx.new.conn.now) }
+    ensures within { IsUncommitted (state S.Store tx.old.conn.now) (state S.Store tx.new.conn.now) }
 {
     let students = Both {
         first: Each {

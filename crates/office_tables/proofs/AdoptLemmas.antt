@@ -14,7 +14,7 @@ use Rattle.office_tables.specs.Batch.{IsFoundBatches}
 use Rattle.office_tables.specs.declared.found.AdoptFault.{AdoptFault}
 use Rattle.office_tables.specs.declared.found.AdoptFault.TheVariants.{Foreign, Failed}
 use Rattle.office_tables.specs.declared.found.Found.{Found}
-use Rattle.office_tables.specs.Finders.{Adopts, HasTables, Looks}
+use Rattle.office_tables.specs.Finders.{ReadsUnknownFile, HasTables, ReadEffect}
 use Rattle.office_tables.specs.Meta.{IsFoundMeta}
 use Rattle.office_tables.specs.Owner.{owner_columns}
 use Rattle.office_tables.specs.Enrol.{enrol_columns}
@@ -36,27 +36,27 @@ pub unchanged_then : (a b c : State) → IsUnchanged a b → IsUnchanged b c →
 unchanged_then a b c p q = grind (arith, common_steps)
 
 module _ (version : Version) where
-  clean_before : (a b : State) → Looks version a b → HasCleanDisk b → HasCleanDisk a
+  clean_before : (a b : State) → ReadEffect version a b → HasCleanDisk b → HasCleanDisk a
   clean_before a b looks clean = omega (arith, looks.survives.clean)
 
 -- a reader that failed
 pub failed_first : {S Y : Type 0} {version : Version} {store : Ghosts S} {js : Database → Y → Type 0}
     {a b : Held S} {r : Result Y Error} (e : Error)
-    → Looks version (state store a) (state store b) → IsErrAnd r (λ y. y ≡ e)
-    → Adopts version store js a b r
+    → ReadEffect version (state store a) (state store b) → IsErrAnd r (λ y. y ≡ e)
+    → ReadsUnknownFile version store js a b r
 failed_first {r = Ok y} e looks err = absurd err
 failed_first {r = Err d} e looks err =
     record { found = λ _ _. tt; same = λ _ _. tt; looks = looks }
 
 module _ {S X : Type 0} {version : Version} {store : Ghosts S} {is : Database → X → Type 0}
-    {a b : Held S} {x : X} (first : Adopts version store is a b (Ok x)) where
-  mid_is : (c : Held S) → Looks version (state store b) (state store c)
+    {a b : Held S} {x : X} (first : ReadsUnknownFile version store is a b (Ok x)) where
+  mid_is : (c : Held S) → ReadEffect version (state store b) (state store c)
       → HasCleanDisk (state store c) → HasTables version (state store a)
       → IsUnchanged (state store a) (state store b) × HasTables version (state store b)
   mid_is c looks clean tables = grind (arith, common_steps)
 
-  pub looks_then : (c : Held S) → Looks version (state store b) (state store c)
-      → Looks version (state store a) (state store c)
+  pub looks_then : (c : Held S) → ReadEffect version (state store b) (state store c)
+      → ReadEffect version (state store a) (state store c)
   looks_then c looks = record {
     kept = λ clean tables. let mid = mid_is c looks clean tables in
         keeps_after (state store a) (state store b) (state store c) mid.0
@@ -69,8 +69,8 @@ module _ {S X : Type 0} {version : Version} {store : Ghosts S} {is : Database �
 
   -- a second reader: both find what the first database has
   pub both_found : {Y : Type 0} {js ks : Database → Y → Type 0} {c : Held S} {r : Result Y Error}
-      → Adopts version store js b c r
-      → ((db : Database) (y : Y) → is db x → js db y → ks db y) → Adopts version store ks a c r
+      → ReadsUnknownFile version store js b c r
+      → ((db : Database) (y : Y) → is db x → js db y → ks db y) → ReadsUnknownFile version store ks a c r
   both_found {js = js} {c = c} {r = r} second more = record {
     found = λ clean tables. let mid = mid_is c second.looks clean tables in
         IfOk-weaker r _ _ (λ y found. more (state store a).now y
@@ -82,7 +82,7 @@ module _ {S X : Type 0} {version : Version} {store : Ghosts S} {is : Database �
   }
 
   pub both : {Y : Type 0} {js : Database → Y → Type 0} {c : Held S} {r : Result Y Error}
-      → Adopts version store js b c r → Adopts version store (λ db y. is db x × js db y) a c r
+      → ReadsUnknownFile version store js b c r → ReadsUnknownFile version store (λ db y. is db x × js db y) a c r
   both second = both_found second (λ db y p q. (p, q))
 
 -- ---- any version
@@ -107,8 +107,8 @@ in_no_version version db is foreign v t plain represents = grind (arith, common_
 -- a reader that found rows
 pub found_rows : {S X : Type 0} {version : Version} {store : Ghosts S}
     {js : Database → Option X → Type 0} {a c : Held S} {given : Result (Option X) Error} {x : X}
-    → Adopts version store js a c given → Ok x ≡ found_or_fault given
-    → Adopts version store (λ db y. js db (Some y)) a c (Ok x)
+    → ReadsUnknownFile version store js a c given → Ok x ≡ found_or_fault given
+    → ReadsUnknownFile version store (λ db y. js db (Some y)) a c (Ok x)
 found_rows {version = version} {store = store} {js = js} {a = a} {c = c} {given = Ok (Some y)}
     {x = x} read is = grind (arith, common_steps)
 found_rows {given = Ok None} read is = absurd cc
@@ -117,16 +117,16 @@ found_rows {given = Err e} read is = absurd cc
 -- one more reader that found rows
 pub both_rows : {S X Y : Type 0} {version : Version} {store : Ghosts S} {is : Database → X → Type 0}
     {js : Database → Option Y → Type 0} {a b c : Held S} {x : X} {given : Result (Option Y) Error}
-    {y : Y} → Adopts version store is a b (Ok x) → Adopts version store js b c given
+    {y : Y} → ReadsUnknownFile version store is a b (Ok x) → ReadsUnknownFile version store js b c given
     → Ok y ≡ found_or_fault given
-    → Adopts version store (λ db y. is db x × js db (Some y)) a c (Ok y)
+    → ReadsUnknownFile version store (λ db y. is db x × js db (Some y)) a c (Ok y)
 both_rows first read is = both first (found_rows read is)
 
 -- a reader that found none, or failed
 pub refused : {S X : Type 0} {version : Version} {store : Ghosts S}
     {js : Database → Option X → Type 0} {a c : Held S} {given : Result (Option X) Error}
     {e : AdoptFault} {r : Result Found AdoptFault}
-    → Adopts version store js a c given → Err e ≡ found_or_fault given → IsErrAnd r (λ d. d ≡ e)
+    → ReadsUnknownFile version store js a c given → Err e ≡ found_or_fault given → IsErrAnd r (λ d. d ≡ e)
     → ((db : Database) → js db None → IsForeignIn version db) → AdoptsRows version store a c r
 refused {given = Ok (Some y)} read is err foreign = absurd cc
 refused {given = Ok None} {r = Ok found} read is err foreign = absurd err

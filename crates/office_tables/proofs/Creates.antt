@@ -11,7 +11,7 @@ use Rattle.sqlite_schema.specs.declared.schema.Table.{Table}
 use Rattle.sqlite_trees.specs.Tree.{Trees}
 use Rattle.office_schema.specs.Schema.{office_schema, schema_before, night_draft_table, night_share_table}
 use Rattle.office_tables.specs.Schema.{CreateAll, HasRows, created_all, no_schema}
-use Rattle.office_tables.specs.Steps.{HasRun, Leads}
+use Rattle.office_tables.specs.Steps.{HasRun, Establishes}
 use Rattle.office_tables.proofs.Statements.{creates, sound_after}
 
 -- the transaction continues; the texts that are left create the tables that are left
@@ -53,7 +53,7 @@ created_next all left text old mid new before ran = (
 
 pub created_last : (all : List (Bor (List ℕ))) (old now : State) → Creating all [] old now
     → (schema : Schema) (tables : List Table) (trees : Trees) → CreateAll trees schema tables all
-    → Leads (HasRows schema trees) (HasRows (created_all schema tables) trees) old now
+    → Establishes (HasRows schema trees) (HasRows (created_all schema tables) trees) old now
 created_last all old now made schema tables trees means = (
   made.0,
   λ has.

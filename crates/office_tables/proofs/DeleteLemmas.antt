@@ -23,7 +23,7 @@ use Rattle.sqlite.proofs.Callers.{IsPlain, command_of}
 use Rattle.office_schema.specs.Schema.{office_schema}
 use Rattle.office_tables.specs.Inserting.{IsTable, Stores}
 use Rattle.office_tables.specs.Stored.{shown_by}
-use Rattle.office_tables.specs.Steps.{HasRun, Makes}
+use Rattle.office_tables.specs.Steps.{HasRun, TablesBecome}
 use Rattle.office_tables.specs.Tables.{Tables}
 use Rattle.office_tables.specs.TablesHeld.{all_columns}
 use Rattle.office_tables.proofs.Frames.{AllShown, all_shown, own_shown, shown_next, tables_held}
@@ -166,7 +166,7 @@ pub rows_deleted : {X : Type 0} {at : ℕ} {table : Table} {columns_of : X → R
     → ((t : Tables) → all_columns (f t) ≡ slice_set (all_columns t) at
     (map columns_of (filter (λ x. not (agrees first (key x))) (rows t))))
     → (old new : State) (r : Result (Unit {0}) Error)
-    → OnOk r (HasRun sql (map number first) old new) → OnOk r (Makes f old new)
+    → OnOk r (HasRun sql (map number first) old new) → OnOk r (TablesBecome f old new)
 rows_deleted {columns_of} about key keyed first short sql means rows f listed changed old new r =
     changes_by f sql (map number first) old new r
     (λ count t represents h. (
@@ -182,7 +182,7 @@ pub rows_cleared : {at : ℕ} {table : Table} (is : IsTable at table) (sql : Lis
     → ((t : Tables) → slice_get (all_columns t) at ≡ Some (rows t))
     → ((t : Tables) → all_columns (f t) ≡ slice_set (all_columns t) at [])
     → (old new : State) (r : Result (Unit {0}) Error)
-    → OnOk r (HasRun sql [] old new) → OnOk r (Makes f old new)
+    → OnOk r (HasRun sql [] old new) → OnOk r (TablesBecome f old new)
 rows_cleared is sql means rows f listed changed old new r =
     changes_by f sql [] old new r (λ count t represents h. (
       tables_held new.now (f t) (subst (λ all. AllShown all new.now) (sym (changed t))

@@ -11,7 +11,7 @@ use Rattle.sqlite_trees.specs.Tree.{Trees}
 use Rattle.sqlite_schema.specs.declared.schema.Table.{Table}
 use Rattle.sqlite.specs.Effect.{Database}
 use Rattle.office_schema.specs.Schema.{night_draft_table, night_share_table, office_schema, schema_before}
-use Rattle.office_tables.specs.Inserting.{IsTable, Others, has_own_tree, simple_table}
+use Rattle.office_tables.specs.Inserting.{IsTable, OtherTreesUnchanged, has_own_tree, simple_table}
 use Rattle.office_tables.specs.Tables.{Tables}
 use Rattle.office_tables.specs.TablesHeld.{HoldsTables, HoldsTablesIn, all_columns, columns_in}
 use Rattle.office_tables.specs.Stored.{HoldAll, Holds, shown_by}
@@ -20,7 +20,7 @@ use Rattle.office_tables.specs.declared.version.Version.{Version}
 -- a statement has changed one table, which now holds these rows
 pub record OneShown (table : Table) (rows : List Row) (old new : Database) : Type 0 where
   pub schema : new.schema ≡ office_schema
-  pub others : Others table.tree old.trees new.trees
+  pub others : OtherTreesUnchanged table.tree old.trees new.trees
   pub holds : Holds (shown_by table.key) rows (new.trees table.tree)
 
 pub still : (show : Row → Row) (rows old new : List Row) → new ≡ old → Holds show rows old

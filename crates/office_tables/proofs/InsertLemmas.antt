@@ -16,9 +16,9 @@ use Rattle.sqlite.specs.State.{State, Executes}
 use Rattle.sqlite.specs.Term.{eval_all}
 use Rattle.office_schema.specs.Schema.{office_schema}
 use Rattle.office_tables.specs.Alterations.{IsWritten, after_all}
-use Rattle.office_tables.specs.Inserting.{Inserts, IsInsert, Shape, Stores, given_row, next_params, row_terms, with_row, row_fits, rows_fit}
+use Rattle.office_tables.specs.Inserting.{Inserts, IsInsert, TableOf, Stores, given_row, next_params, row_terms, with_row, row_fits, rows_fit}
 use Rattle.office_tables.specs.Stored.{shown_by}
-use Rattle.office_tables.specs.Steps.{Makes}
+use Rattle.office_tables.specs.Steps.{TablesBecome}
 use Rattle.office_tables.specs.Tables.{Tables}
 use Rattle.office_tables.specs.TablesHeld.{HoldsTables, all_columns}
 use Rattle.office_tables.proofs.Frames.{AllShown, all_shown, own_shown, shown_next, tables_held}
@@ -86,7 +86,7 @@ module _ {X : Type 0} {at : ℕ} {table : Table} {columns_of : X → Row} {w : �
       rows_added 1 sql means old new (row ∷ []) held refl count all there shown
       (subst (λ ps. Executes sql ps old new (Ok count)) (sym (append-nil (columns_of row))) h)
 
-module _ {R : Type 0} (it : Shape R) (w n : ℕ) (one several : List ℕ)
+module _ {R : Type 0} (it : TableOf R) (w n : ℕ) (one several : List ℕ)
     (about : Inserts it w n one several) where
   pub added : (k : ℕ) (sql : List ℕ) → IsInsert it.at it.table.key w k sql → (old new : State)
       (rows : List R) → length rows ≡ k → (count : ℕ) (t : Tables) → HoldsTables old.now t
@@ -170,14 +170,14 @@ Continues f all left old now =
 
 pub continued : {A : Type 0} (f : A → Tables → Tables) (n : ℕ) (all left chunk rest : List A)
     (old mid new : State) → Continues (after_all f) all left old mid
-    → Makes (after_all f chunk) mid new → IsSplitAt left n chunk rest
+    → TablesBecome (after_all f chunk) mid new → IsSplitAt left n chunk rest
     → Continues (after_all f) all rest old new
 continued f n all left chunk rest old mid new before makes split =
     grind (arith, common_steps, after_append, take-append-drop)
 
 pub finished : {A : Type 0} (f : A → Tables → Tables) (all left : List A) (old mid new : State)
-    → Continues (after_all f) all left old mid → Makes (after_all f left) mid new
-    → Makes (after_all f all) old new
+    → Continues (after_all f) all left old mid → TablesBecome (after_all f left) mid new
+    → TablesBecome (after_all f all) old new
 finished f all left old mid new before makes = (
   makes.0,
   λ t h.

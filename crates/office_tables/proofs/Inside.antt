@@ -10,21 +10,21 @@ use Rattle.sqlite.proofs.StateLemmas.{survives_then}
 use Rattle.office_tables.specs.Alterations.{IsWritten, after_all}
 use Rattle.office_tables.specs.Tables.{Tables}
 use Rattle.office_tables.specs.TablesHeld.{HoldsTables}
-use Rattle.office_tables.specs.Steps.{Within, HasRun, Makes}
+use Rattle.office_tables.specs.Steps.{IsUncommitted, HasRun, TablesBecome}
 use Rattle.office_tables.proofs.ManyRows.{after_append}
 
 -- a state that is clean now was clean before
-pub clean_before : (old new : State) → Within old new → HasCleanDisk new → HasCleanDisk old
+pub clean_before : (old new : State) → IsUncommitted old new → HasCleanDisk new → HasCleanDisk old
 clean_before old new w clean = omega (arith, w.survives.clean)
 
-pub within_then : (a b c : State) → Within a b → Within b c → Within a c
+pub within_then : (a b c : State) → IsUncommitted a b → IsUncommitted b c → IsUncommitted a c
 within_then a b c p q = grind (arith, common_steps, survives_then, clean_before)
 
-pub within_same : (a : State) → Within a a
+pub within_same : (a : State) → IsUncommitted a a
 within_same a = grind (arith, common_steps)
 
-pub makes_then : (f g : Tables → Tables) (a b c : State) → Makes f a b → Makes g b c
-    → Makes (λ t. g (f t)) a c
+pub makes_then : (f g : Tables → Tables) (a b c : State) → TablesBecome f a b → TablesBecome g b c
+    → TablesBecome (λ t. g (f t)) a c
 makes_then f g a b c p q = (
   q.0,
   λ t h.
@@ -38,7 +38,7 @@ pub changes_by : (f : Tables → Tables) (sql : List ℕ) (params : Row) (old ne
     (r : Result (Unit {0}) Error)
     → ((count : ℕ) (t : Tables) → HoldsTables old.now t → Executes sql params old new (Ok count)
     → IsWritten (f t) old.now new.now)
-    → OnOk r (HasRun sql params old new) → OnOk r (Makes f old new)
+    → OnOk r (HasRun sql params old new) → OnOk r (TablesBecome f old new)
 changes_by f sql params old new r step =
     on_ok_weaker r (λ ran. (ran.inside, λ t represents. step ran.count t represents ran.executed))
 
@@ -47,10 +47,10 @@ pub changes_by_two : {f : Tables → Tables} {sql : List ℕ} {params : Row} (mo
     (old mid new : State) (r : Result (Unit {0}) Error)
     → ((first second : ℕ) (t : Tables) → HoldsTables old.now t → Executes sql params old mid (Ok first)
     → Executes more others mid new (Ok second) → IsWritten (f t) old.now new.now)
-    → Within mid new
+    → IsUncommitted mid new
     → (HasCleanDisk mid → IsTrue old.in_transaction → HasRun sql params old mid)
     → (HasCleanDisk new → IsTrue mid.in_transaction → OnOk r (HasRun more others mid new))
-    → HasCleanDisk new → IsTrue old.in_transaction → OnOk r (Makes f old new)
+    → HasCleanDisk new → IsTrue old.in_transaction → OnOk r (TablesBecome f old new)
 changes_by_two more others old mid new r step within one two clean inside =
     let ran = one (clean_before mid new within clean) inside in
     on_ok_weaker r (λ last. (

@@ -18,7 +18,7 @@ use Rattle.sqlite_value.specs.Order.{Row, column}
 use Rattle.office_tables.specs.declared.nights.NightRow.{NightRow}
 use Rattle.office_tables.specs.declared.version.Version.TheVariants.{One, Two}
 use Rattle.office_tables.specs.Finders.{IsFound}
-use Rattle.office_tables.specs.Joining.{AreFound, AreNights, HaveRows, IsJoined, IsJoinedWith, Splits}
+use Rattle.office_tables.specs.Joining.{AreFound, AreNights, HaveRows, IsJoined, IsJoinedWith, NightSplit}
 use Rattle.office_tables.specs.Nights.{night_columns, FitsNight}
 use Rattle.office_tables.specs.Readings.{ColumnRises}
 use Rattle.office_tables.specs.Stored.{Holds, keyed_columns}
@@ -89,7 +89,7 @@ keys_moved row_of key is other_of number are xs ys same =
 -- ---- rows whose amount over night is 0
 
 module _ {X : Type 0} (fits : X → Type 0) (shown columns_of nights_of : X → Row)
-    (number night : X → ℕ) (splits : Splits fits shown columns_of nights_of number night) where
+    (number night : X → ℕ) (splits : NightSplit fits shown columns_of nights_of number night) where
   -- rows that are read from only the first table have no amounts
   pub no_nights : (rows : List X) → AllByRecursion IsFull (map shown rows)
       → AllByRecursion (λ x. night x ≡ 0) rows

@@ -3,10 +3,10 @@ use Rattle.std.proofs.Common.{refl}
 use Rattle.office_tables.specs.declared.draft.DraftRow.{DraftRow}
 use Rattle.office_tables.specs.declared.share_student.StudentShareRow.{StudentShareRow}
 use Rattle.office_tables.specs.Draft.{bare_draft_columns, draft_columns, night_draft_columns, FitsDraft}
-use Rattle.office_tables.specs.Joining.{Splits}
+use Rattle.office_tables.specs.Joining.{NightSplit}
 use Rattle.office_tables.specs.ShareStudent.{bare_share_columns, night_share_columns, share_student_columns, FitsStudentShare}
 
-pub draft_splits : Splits FitsDraft bare_draft_columns draft_columns night_draft_columns
+pub draft_splits : NightSplit FitsDraft bare_draft_columns draft_columns night_draft_columns
     (λ (r : DraftRow). r.no) (λ (r : DraftRow). r.night)
 draft_splits = record {
   shown_is = λ r. refl;
@@ -19,7 +19,7 @@ draft_splits = record {
   bare_fits = λ r fits. fits;
 }
 
-pub share_student_splits : Splits FitsStudentShare bare_share_columns share_student_columns
+pub share_student_splits : NightSplit FitsStudentShare bare_share_columns share_student_columns
     night_share_columns (λ (r : StudentShareRow). r.student) (λ (r : StudentShareRow). r.night)
 share_student_splits = record {
   shown_is = λ r. refl;

@@ -12,7 +12,7 @@ use Rattle.sqlite.proofs.StateLemmas.{survives_then, survives_weaker}
 use Rattle.sqlite_trees.specs.Tree.{Trees}
 use Rattle.office_tables.specs.Alterations.{Committed, IsWritten, TablesChanged, TransactionRan, Undone, found_in}
 use Rattle.office_tables.specs.TablesHeld.{HoldsTables}
-use Rattle.office_tables.specs.Steps.{Within}
+use Rattle.office_tables.specs.Steps.{IsUncommitted}
 use Rattle.office_tables.specs.Tables.{Tables}
 
 -- a relation to the new database that asks only for the office's schema and for the rows
@@ -38,7 +38,7 @@ changed_rows f old new found is made t held = written_in old new found (f t) is 
 
 module _ {S : Type 0} (g : Ghosts S) (old begun last end : Held S)
     (begins : begun ≡ record old { in_transaction = true })
-    (within : Within (state g begun) (state g last))
+    (within : IsUncommitted (state g begun) (state g last))
     (survives : Survives (state g last) (state g end) (λ db. db ≡ (state g last).now.trees)) where
   last_clean : HasCleanDisk (state g end) → HasCleanDisk (state g last)
   last_clean clean = omega (arith, survives.clean, clean)

@@ -15,7 +15,7 @@ use Rattle.office_tables.specs.declared.version.Version.{Version}
 use Rattle.office_tables.specs.Batch.{counts_of, FitsBatch}
 use Rattle.office_tables.specs.Draft.{draft_columns, night_draft_columns, FitsDraft}
 use Rattle.office_tables.specs.Enrol.{FitsEnrol}
-use Rattle.office_tables.specs.Finders.{HasTables, Looks}
+use Rattle.office_tables.specs.Finders.{HasTables, ReadEffect}
 use Rattle.office_tables.specs.Joining.{HaveRows}
 use Rattle.office_tables.specs.Meta.{meta_from}
 use Rattle.office_tables.specs.Owner.{FitsOwner}
@@ -104,4 +104,4 @@ pub record AdoptsRows {S : Type 0} (version : Version) (store : Ghosts S) (old n
       → IsAdopted (state store old).now result
   pub same : HasCleanDisk (state store new) → HasTables version (state store old)
       → HoldsUnlessFailed (IsUnchanged (state store old) (state store new)) result
-  pub looks : Looks version (state store old) (state store new)
+  pub looks : ReadEffect version (state store old) (state store new)

@@ -19,30 +19,31 @@ pub record HasTables (version : Version) (s : State) : Type 0 where
   pub live : IsLive s
 
 -- on a clean disk, if the database has the tables, the value of an `Ok` has this relation to it
-abbrev pub Finds : {S X : Type 0} → Version → Ghosts S → (Database → X → Type 0)
+abbrev pub ReadsValue : {S X : Type 0} → Version → Ghosts S → (Database → X → Type 0)
     → Held S → Held S → Result X Error → Type 0
-Finds version store is old new result =
+ReadsValue version store is old new result =
     HasCleanDisk (state store new) → HasTables version (state store old)
     → IfOk result (is (state store old).now)
 
 -- likewise, an `Ok` leaves everything unchanged
-abbrev pub Leaves : {S X : Type 0} → Version → Ghosts S → Held S → Held S → Result X Error → Type 0
-Leaves version store old new result =
+abbrev pub ChangesNothing : {S X : Type 0} → Version → Ghosts S → Held S → Held S → Result X Error
+    → Type 0
+ChangesNothing version store old new result =
     HasCleanDisk (state store new) → HasTables version (state store old)
     → OnOk result (IsUnchanged (state store old) (state store new))
 
 -- the effect, whatever the result
-pub record Looks (version : Version) (old new : State) : Type 0 where
+pub record ReadEffect (version : Version) (old new : State) : Type 0 where
   pub kept : HasCleanDisk new → HasTables version old → Keeps old new
   pub mode : old.in_transaction ≡ false → new.in_transaction ≡ false
   pub survives : Survives old new (λ _. HasTables version old → ⊥)
 
 -- a reader that finds: the value of an `Ok`, and the effect
-pub record Adopts {S X : Type 0} (version : Version) (store : Ghosts S) (is : Database → X → Type 0)
-    (old new : Held S) (result : Result X Error) : Type 0 where
-  pub found : Finds version store is old new result
-  pub same : Leaves version store old new result
-  pub looks : Looks version (state store old) (state store new)
+pub record ReadsUnknownFile {S X : Type 0} (version : Version) (store : Ghosts S)
+    (is : Database → X → Type 0) (old new : Held S) (result : Result X Error) : Type 0 where
+  pub found : ReadsValue version store is old new result
+  pub same : ChangesNothing version store old new result
+  pub looks : ReadEffect version (state store old) (state store new)
 
 -- `Some`: the table holds the rows found. `None`: it holds no typed rows that fit
 abbrev pub IsFound : {X : Type 0} → (X → Type 0) → (X → Row) → (Row → Row) → List Row

@@ -27,8 +27,8 @@ simple_table base =
     record base { stamps = record { places = []; terms = []; formats = [] }; is_counted = false }
 
 -- the trees of all tables but one stay
-abbrev pub Others : ℕ → Trees → Trees → Type 0
-Others tree old new =
+abbrev pub OtherTreesUnchanged : ℕ → Trees → Trees → Type 0
+OtherTreesUnchanged tree old new =
     AllByRecursion (λ (t : Table). t.tree ≢ tree → new t.tree ≡ old t.tree) office_schema.tables
 
 -- ---- terms
@@ -56,7 +56,7 @@ given_row (Some key) row = column row 0 ∷ Null ∷ drop 1 row
 -- ---- a type of rows
 
 -- where the rows of a type are: the table's place in the schema, and their place in the tables
-pub record Shape (R : Type 0) : Type 0 where
+pub record TableOf (R : Type 0) : Type 0 where
   pub at : ℕ
   pub table : Table
   pub columns_of : R → Row
@@ -64,7 +64,7 @@ pub record Shape (R : Type 0) : Type 0 where
   pub with_rows : List R → Tables → Tables
 
 -- the tables with one more row
-abbrev pub with_row : {R : Type 0} → Shape R → R → Tables → Tables
+abbrev pub with_row : {R : Type 0} → TableOf R → R → Tables → Tables
 with_row it row t = it.with_rows (row ∷ it.rows t) t
 
 -- the row obeys the condition, if it is limited by one
@@ -113,7 +113,7 @@ pub record Stores {X : Type 0} (at : ℕ) (table : Table) (columns_of : X → Ro
 
 -- what an insert needs: the rows of this type are those of their table and of no other, and these
 -- texts insert 1 and n of them
-pub record Inserts {R : Type 0} (it : Shape R) (w n : ℕ) (text long_text : List ℕ) : Type 0 where
+pub record Inserts {R : Type 0} (it : TableOf R) (w n : ℕ) (text long_text : List ℕ) : Type 0 where
   pub stores : Stores it.at it.table it.columns_of w
   pub listed : (t : Tables)
       → slice_get (all_columns t) it.at ≡ Some (map it.columns_of (it.rows t))

@@ -69,7 +69,7 @@ pub record HaveRows {X : Type 0} (version : Version) (columns_of nights_of : X �
 
 -- a row that is read from only the first table has an amount over night of 0; each row has a copy
 -- with that amount
-pub record Splits {X : Type 0} (fits : X → Type 0) (shown columns_of nights_of : X → Row)
+pub record NightSplit {X : Type 0} (fits : X → Type 0) (shown columns_of nights_of : X → Row)
     (number night : X → ℕ) : Type 0 where
   pub shown_is : (x : X) → shown x ≡ bare_columns (night x) (columns_of x)
   pub number_is : (x : X) → column (columns_of x) 0 ≡ Int (pos (number x))

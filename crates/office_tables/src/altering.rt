@@ -2,7 +2,7 @@
 ghost use Rattle.std.specs.Prelude.{◌≡◌, false};
 ghost use Rattle.sqlite.specs.Held.{state};
 ghost use Rattle.office_tables.specs.Alterations.{TablesChanged, TransactionRan};
-ghost use Rattle.office_tables.specs.Steps.{Changes, Within};
+ghost use Rattle.office_tables.specs.Steps.{Changes, IsUncommitted};
 ghost use Rattle.office_tables.specs.Tables.{Tables};
 
 use sqlite::{Alter, Connection, Error, Transaction};
@@ -20,7 +20,8 @@ pub trait Alteration {
         ensures same_reference { tx.new.conn.ghost_name ≡ tx.old.conn.ghost_name }
         ensures makes { Changes S.Store (alteration self.now)
             tx.old.conn.now tx.new.conn.now result }
-        ensures within { Within (state S.Store tx.old.conn.now) (state S.Store tx.new.conn.now) };
+        ensures within { IsUncommitted (state S.Store tx.old.conn.now)
+            (state S.Store tx.new.conn.now) };
 }
 
 /// Makes the alteration in a transaction of its own. On `Err` the tables are as they were.

@@ -2,7 +2,7 @@
 ghost use Rattle.std.specs.Prelude.{◌≡◌, ◌==◌, filter, map, option_to_list};
 ghost use Rattle.office_tables.specs.declared.version.Version.{Version};
 ghost use Rattle.office_tables.specs.Batch.{batch_columns, batch_from, counts_columns, with_batch, FitsBatch, FitsCounts, IsFoundBatches};
-ghost use Rattle.office_tables.specs.Finders.{Adopts};
+ghost use Rattle.office_tables.specs.Finders.{ReadsUnknownFile};
 ghost use Rattle.office_tables.specs.Readers.{LeavesTablesIn, ReadsIn};
 
 use crate::altering::Alteration;
@@ -129,7 +129,7 @@ pub(crate) fn adopt_batches<S: Alter>(
     conn: &mut Connection<S>,
 ) -> Result<Option<Vec<BatchCountsRow>>, Error>
     ensures { (version : Version)
-        → Adopts version S.Store IsFoundBatches conn.old conn.new result }
+        → ReadsUnknownFile version S.Store IsFoundBatches conn.old conn.new result }
 {
     read_table(
         alloc,

@@ -6,7 +6,7 @@ ghost use Rattle.sqlite_schema.specs.declared.schema.Schema.{Schema};
 ghost use Rattle.sqlite_schema.specs.declared.schema.Table.{Table};
 ghost use Rattle.sqlite_trees.specs.Tree.{Trees};
 ghost use Rattle.office_tables.specs.Schema.{created_all, no_schema, CreateAll, HasRows, IsBlank};
-ghost use Rattle.office_tables.specs.Steps.{Grows, Within};
+ghost use Rattle.office_tables.specs.Steps.{StepEstablishes, IsUncommitted};
 ghost use Rattle.office_tables.specs.TablesHeld.{HoldsTables};
 ghost use Rattle.office_tables.specs.Tables.{empty_tables};
 
@@ -31,9 +31,9 @@ pub fn is_bare<S: Alter>(conn: &Connection<S>) -> bool
 /// Creates the tables, with the rows of an office without a session.
 pub fn create_tables<S: Alter>(tx: &mut Transaction<'_, S>) -> Result<(), Error>
     ensures same_reference { tx.new.conn.ghost_name ≡ tx.old.conn.ghost_name }
-    ensures makes { Grows S.Store (IsBlank no_schema) (λ db. HoldsTables db empty_tables)
+    ensures makes { StepEstablishes S.Store (IsBlank no_schema) (λ db. HoldsTables db empty_tables)
         tx.old.conn.now tx.new.conn.now result }
-    ensures within { Within (state S.Store tx.old.conn.now) (state S.Store tx.new.conn.now) }
+    ensures within { IsUncommitted (state S.Store tx.old.conn.now) (state S.Store tx.new.conn.now) }
 {
     create_old_tables(tx)?;
     create_night_tables(tx)?;
@@ -47,9 +47,9 @@ pub fn create_tables<S: Alter>(tx: &mut Transaction<'_, S>) -> Result<(), Error>
 // Creates the tables of version 1.
 fn create_old_tables<S: Alter>(tx: &mut Transaction<'_, S>) -> Result<(), Error>
     ensures same_reference { tx.new.conn.ghost_name ≡ tx.old.conn.ghost_name }
-    ensures makes { Grows S.Store (IsBlank no_schema) (IsBlank schema_before)
+    ensures makes { StepEstablishes S.Store (IsBlank no_schema) (IsBlank schema_before)
         tx.old.conn.now tx.new.conn.now result }
-    ensures within { Within (state S.Store tx.old.conn.now) (state S.Store tx.new.conn.now) }
+    ensures within { IsUncommitted (state S.Store tx.old.conn.now) (state S.Store tx.new.conn.now) }
 {
     create(tx, &TABLES[..TABLES_BEFORE])
 }
@@ -59,9 +59,9 @@ fn create_old_tables<S: Alter>(tx: &mut Transaction<'_, S>) -> Result<(), Error>
 pub(crate) fn create_night_tables<S: Alter>(tx: &mut Transaction<'_, S>) -> Result<(), Error>
     ensures same_reference { tx.new.conn.ghost_name ≡ tx.old.conn.ghost_name }
     ensures makes { (trees : Trees) → trees 15 ≡ [] → trees 16 ≡ []
-        → Grows S.Store (HasRows schema_before trees) (HasRows office_schema trees)
+        → StepEstablishes S.Store (HasRows schema_before trees) (HasRows office_schema trees)
         tx.old.conn.now tx.new.conn.now result }
-    ensures within { Within (state S.Store tx.old.conn.now) (state S.Store tx.new.conn.now) }
+    ensures within { IsUncommitted (state S.Store tx.old.conn.now) (state S.Store tx.new.conn.now) }
 {
     create(tx, &TABLES[TABLES_BEFORE..])
 }
@@ -71,9 +71,9 @@ fn create<S: Alter>(tx: &mut Transaction<'_, S>, texts: &[&str]) -> Result<(), E
     ensures same_reference { tx.new.conn.ghost_name ≡ tx.old.conn.ghost_name }
     ensures makes { (schema : Schema) (tables : List Table) (trees : Trees)
         → CreateAll trees schema tables texts.now
-        → Grows S.Store (HasRows schema trees) (HasRows (created_all schema tables) trees)
+        → StepEstablishes S.Store (HasRows schema trees) (HasRows (created_all schema tables) trees)
         tx.old.conn.now tx.new.conn.now result }
-    ensures within { Within (state S.Store tx.old.conn.now) (state S.Store tx.new.conn.now) }
+    ensures within { IsUncommitted (state S.Store tx.old.conn.now) (state S.Store tx.new.conn.now) }
 {
     for text in texts {
         run(tx, text, &[])?;

@@ -3,7 +3,7 @@ ghost use Rattle.std.specs.Prelude.{◌≡◌};
 ghost use Rattle.sqlite.specs.Values.{bound};
 ghost use Rattle.office_tables.specs.Draft.{bare_draft_columns, draft_columns, no_drafts, night_draft_columns, with_draft, without_draft, AreAmounts, FitsDraft};
 ghost use Rattle.office_tables.specs.Adopting.{HaveDrafts};
-ghost use Rattle.office_tables.specs.Finders.{Adopts};
+ghost use Rattle.office_tables.specs.Finders.{ReadsUnknownFile};
 ghost use Rattle.office_tables.specs.Joining.{AreFound};
 
 use crate::altering::Alteration;
@@ -48,9 +48,9 @@ impl Record for DraftRow {
 }
 
 impl HasNight for DraftRow {
-    ghost columns_in_first = { draft_columns };
+    ghost main_columns = { draft_columns };
 
-    ghost columns_in_second = { night_draft_columns };
+    ghost side_columns = { night_draft_columns };
 
     ghost number_in = { λ row. row.no };
 
@@ -150,7 +150,7 @@ pub(crate) fn adopt_drafts<S: Alter>(
     conn: &mut Connection<S>,
     version: Version,
 ) -> Result<Option<Vec<DraftRow>>, Error>
-    ensures { Adopts version S.Store (λ db. AreFound FitsDraft (HaveDrafts version db))
+    ensures { ReadsUnknownFile version S.Store (λ db. AreFound FitsDraft (HaveDrafts version db))
         conn.old conn.new result }
 {
     adopt_with_nights(

@@ -41,7 +41,7 @@ impl Listed for EnrolRow {
 
     ghost table = { enrol_table };
 
-    fn whole() -> &'static str {
+    fn select_all_text() -> &'static str {
         table!(enrol listing)
     }
 }

@@ -6,7 +6,7 @@ ghost use Rattle.sqlite_value.specs.declared.keys.Key.{Key};
 ghost use Rattle.sqlite_value.specs.Order.{Row as Columns, column};
 ghost use Rattle.office_tables.specs.declared.version.Version.{Version};
 ghost use Rattle.office_tables.specs.Readings.{IsNext, IsRead, ColumnRises};
-ghost use Rattle.office_tables.specs.Finders.{Adopts, Finds, IsFound};
+ghost use Rattle.office_tables.specs.Finders.{ReadsUnknownFile, ReadsValue, IsFound};
 ghost use Rattle.sqlite_schema.specs.declared.schema.Table.{Table};
 ghost use Rattle.office_tables.specs.Stored.{shown_by};
 ghost use Rattle.office_tables.specs.Listings.{one_table, Lists, ListsKeyed, ListsTable};
@@ -21,7 +21,7 @@ pub(crate) trait Listed: Record {
     ghost table: { Table };
 
     // Returns the text that lists the whole table.
-    fn whole() -> &'static str
+    fn select_all_text() -> &'static str
         ensures { (version : Version)
             → ListsTable version Self.WIDTH table.tree (shown_by table.key) result.now };
 }
@@ -31,11 +31,11 @@ pub(crate) fn adopt<S: Alter, R: Listed + Drop>(
     alloc: Global,
     conn: &mut Connection<S>,
 ) -> Result<Option<Vec<R>>, Error>
-    ensures { (version : Version) → Adopts version S.Store
+    ensures { (version : Version) → ReadsUnknownFile version S.Store
         (λ db. IsFound R.fits R.columns_of (shown_by R.table.key) (db.trees R.table.tree))
         conn.old conn.new result }
 {
-    read_table(alloc, conn, R::whole())
+    read_table(alloc, conn, R::select_all_text())
 }
 
 // Returns a whole table, by a text that lists it: each row's number comes after its columns, and
@@ -48,12 +48,12 @@ pub(crate) fn read_table<S: Alter, R: Record + Drop>(
 ) -> Result<Option<Vec<R>>, Error>
     ensures adopts { (version : Version) (tree : ℕ) (show : Columns → Columns)
         → ListsTable version R.WIDTH tree show sql.now
-        → Adopts version S.Store (λ db. IsFound R.fits R.columns_of show (db.trees tree))
+        → ReadsUnknownFile version S.Store (λ db. IsFound R.fits R.columns_of show (db.trees tree))
         conn.old conn.new result }
     // Records come in the order of their rows' numbers.
     ensures rise { (version : Version) (at tree : ℕ) (show : Columns → Columns)
         → ListsKeyed version at R.WIDTH tree show sql.now
-        → Finds version S.Store (λ _ found. IfSome found
+        → ReadsValue version S.Store (λ _ found. IfSome found
         (λ records. ColumnRises at (map R.columns_of records.items)))
         conn.old conn.new result }
 {
@@ -68,7 +68,7 @@ pub(crate) fn read_table<S: Alter, R: Record + Drop>(
 pub(crate) fn list_rows<S: Alter>(conn: &mut Connection<S>, sql: &str) -> Result<Vec<Row>, Error>
     ensures { (version : Version) (tree : ℕ) (shown : List Term) (order : List (Term × Key))
         → Lists version tree shown order sql.now
-        → Adopts version S.Store
+        → ReadsUnknownFile version S.Store
         (λ db rows. IsAnswer (one_table tree [] shown order) db.trees [] rows.items)
         conn.old conn.new result }
 {

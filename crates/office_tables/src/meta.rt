@@ -4,7 +4,7 @@ ghost use Rattle.sqlite_value.specs.declared.value.Value.TheVariants.{Blob, Int}
 ghost use Rattle.sqlite_value.specs.Order.{column};
 ghost use Rattle.office_tables.specs.Meta.{flag, no_meta, with_meta, IsFoundMeta, IsReadMeta};
 ghost use Rattle.office_tables.specs.Readings.{IsColumn};
-ghost use Rattle.office_tables.specs.Finders.{Adopts};
+ghost use Rattle.office_tables.specs.Finders.{ReadsUnknownFile};
 
 use crate::altering::Alteration;
 use crate::listing::{is_out_of_memory, list_rows};
@@ -65,7 +65,7 @@ pub(crate) fn adopt_meta<S: Alter>(
     conn: &mut Connection<S>,
     version: Version,
 ) -> Result<Option<MetaRow>, Error>
-    ensures { Adopts version S.Store (λ db. IsFoundMeta version (db.trees 0))
+    ensures { ReadsUnknownFile version S.Store (λ db. IsFoundMeta version (db.trees 0))
         conn.old conn.new result }
 {
     let rows = list_rows(conn, table!(meta select ""))?;

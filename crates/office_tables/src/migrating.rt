@@ -4,7 +4,7 @@ ghost use Rattle.sqlite.specs.Held.{state};
 ghost use Rattle.office_tables.specs.Meta.{no_meta};
 ghost use Rattle.office_tables.specs.Migrating.{IsWidened};
 ghost use Rattle.office_tables.specs.TablesHeld.{HoldsTables, HoldsOldTables};
-ghost use Rattle.office_tables.specs.Steps.{Grows, Within};
+ghost use Rattle.office_tables.specs.Steps.{StepEstablishes, IsUncommitted};
 ghost use Rattle.office_tables.specs.Tables.{Tables};
 
 use crate::altering::Alteration;
@@ -23,9 +23,9 @@ pub fn migrate<S: Alter>(
     ensures same_reference { tx.new.conn.ghost_name ≡ tx.old.conn.ghost_name }
     ensures makes { (t : Tables)
         → t.meta ≡ record { published = published; instance = instance.now } ∷ []
-        → Grows S.Store (λ db. HoldsOldTables db t) (λ db. HoldsTables db t)
+        → StepEstablishes S.Store (λ db. HoldsOldTables db t) (λ db. HoldsTables db t)
         tx.old.conn.now tx.new.conn.now result }
-    ensures within { Within (state S.Store tx.old.conn.now) (state S.Store tx.new.conn.now) }
+    ensures within { IsUncommitted (state S.Store tx.old.conn.now) (state S.Store tx.new.conn.now) }
 {
     create_night_tables(tx)?;
     fill_nights(tx)?;
@@ -39,9 +39,9 @@ pub fn migrate<S: Alter>(
 // Deletes the row of version 1, and inserts an amount of 0 for each draft and each student's share.
 fn fill_nights<S: Alter>(tx: &mut Transaction<'_, S>) -> Result<(), Error>
     ensures same_reference { tx.new.conn.ghost_name ≡ tx.old.conn.ghost_name }
-    ensures makes { (t : Tables) → Grows S.Store (IsWidened t) (λ db. HoldsTables db (no_meta t))
-        tx.old.conn.now tx.new.conn.now result }
-    ensures within { Within (state S.Store tx.old.conn.now) (state S.Store tx.new.conn.now) }
+    ensures makes { (t : Tables) → StepEstablishes S.Store (IsWidened t)
+        (λ db. HoldsTables db (no_meta t)) tx.old.conn.now tx.new.conn.now result }
+    ensures within { IsUncommitted (state S.Store tx.old.conn.now) (state S.Store tx.new.conn.now) }
 {
     run(tx, "DELETE FROM meta", &[])?;
     run(

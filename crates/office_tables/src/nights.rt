@@ -7,9 +7,9 @@ ghost use Rattle.office_schema.specs.Schema.{office_schema};
 ghost use Rattle.office_tables.specs.Asking.{Means};
 ghost use Rattle.office_tables.specs.declared.version.Version.{Version};
 ghost use Rattle.office_tables.specs.declared.version.Version.TheVariants.{Two};
-ghost use Rattle.office_tables.specs.Finders.{Adopts};
+ghost use Rattle.office_tables.specs.Finders.{ReadsUnknownFile};
 ghost use Rattle.office_tables.specs.Listings.{ListsKeyed};
-ghost use Rattle.office_tables.specs.Joining.{AreFound, AreJoined, HaveRows, IsJoined, IsJoinedWith, IsReadWith, Splits};
+ghost use Rattle.office_tables.specs.Joining.{AreFound, AreJoined, HaveRows, IsJoined, IsJoinedWith, IsReadWith, NightSplit};
 ghost use Rattle.office_tables.specs.Nights.{night_columns, FitsNight};
 ghost use Rattle.office_tables.specs.Readers.{LeavesTables, Reads};
 ghost use Rattle.office_tables.specs.Stored.{keyed_columns};
@@ -48,10 +48,10 @@ impl Record for NightRow {
 // A row whose amount over night is in a second table.
 pub(crate) trait HasNight: Copy {
     // Its columns in the first table.
-    ghost columns_in_first: { Self → Columns };
+    ghost main_columns: { Self → Columns };
 
     // Its columns in the second table.
-    ghost columns_in_second: { Self → Columns };
+    ghost side_columns: { Self → Columns };
 
     ghost number_in: { Self → ℕ };
 
@@ -61,8 +61,8 @@ pub(crate) trait HasNight: Copy {
         ensures { result ≡ number_in self.now };
 
     fn with_night(&self, night: u64) -> Self
-        ensures first { columns_in_first result ≡ columns_in_first self.now }
-        ensures second { columns_in_second result
+        ensures first { main_columns result ≡ main_columns self.now }
+        ensures second { side_columns result
             ≡ night_columns (record { number = number_in self.now; night = night }) };
 }
 
@@ -78,9 +78,9 @@ pub(crate) fn adopt_with_nights<S: Alter, R: Record + HasNight + Drop>(
     ensures { (tree nights_tree : ℕ)
         → ListsKeyed version 0 R.WIDTH tree keyed_columns rows_sql.now
         → ListsKeyed Two 0 2 nights_tree keyed_columns nights_sql.now
-        → Splits R.fits R.columns_of R.columns_in_first R.columns_in_second R.number_in R.night_in
-        → Adopts version S.Store (λ db. AreFound R.fits (HaveRows version R.columns_in_first
-        R.columns_in_second R.night_in (db.trees tree) (db.trees nights_tree)))
+        → NightSplit R.fits R.columns_of R.main_columns R.side_columns R.number_in R.night_in
+        → ReadsUnknownFile version S.Store (λ db. AreFound R.fits (HaveRows version R.main_columns
+        R.side_columns R.night_in (db.trees tree) (db.trees nights_tree)))
         conn.old conn.new result }
 {
     let rows = read_table(alloc, conn, rows_sql)?;
@@ -100,7 +100,7 @@ pub(crate) fn stream_with_nights<S: Alter, R: Record + HasNight + Drop>(
 ) -> Result<Vec<R>, Error>
     ensures shown { (q nights_q : Query) → Means office_schema q rows_sql.now
         → Means office_schema nights_q nights_sql.now
-        → Reads S.Store (λ _ found. IsReadWith R.columns_of R.columns_in_first R.columns_in_second
+        → Reads S.Store (λ _ found. IsReadWith R.columns_of R.main_columns R.side_columns
         R.WIDTH q nights_q (state S.Store conn.old).now.trees found.items)
         conn.old conn.new result }
     ensures leaves { (q nights_q : Query) → Means office_schema q rows_sql.now
@@ -123,7 +123,7 @@ fn add_nights<S: Alter, R: HasNight + Drop>(
     sql: &str,
 ) -> Result<Option<Vec<R>>, Error>
     ensures { (version : Version) (tree : ℕ) → ListsKeyed version 0 2 tree keyed_columns sql.now
-        → Adopts version S.Store (λ db. IsJoinedWith R.columns_in_first R.columns_in_second
+        → ReadsUnknownFile version S.Store (λ db. IsJoinedWith R.main_columns R.side_columns
         R.number_in rows (db.trees tree))
         conn.old conn.new result }
 {
@@ -138,7 +138,7 @@ fn join_lists<R: HasNight + Drop>(
     nights: Option<Vec<NightRow>>,
 ) -> Result<Option<Vec<R>>, Error>
     ensures { IfOk result
-        (IsJoined R.columns_in_first R.columns_in_second R.number_in rows nights) }
+        (IsJoined R.main_columns R.side_columns R.number_in rows nights) }
 {
     let Some(rows) = rows else {
         return Ok(None);
@@ -156,7 +156,7 @@ fn with_nights<R: HasNight + Drop>(
     nights: &[NightRow],
 ) -> Result<Option<Vec<R>>, Error>
     ensures { IfOk result
-        (AreJoined R.columns_in_first R.columns_in_second R.number_in rows.now nights.now) }
+        (AreJoined R.main_columns R.side_columns R.number_in rows.now nights.now) }
 {
     if rows.len() != nights.len() {
         return Ok(None);

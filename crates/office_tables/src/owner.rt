@@ -40,7 +40,7 @@ impl Listed for OwnerRow {
 
     ghost table = { owner_table };
 
-    fn whole() -> &'static str {
+    fn select_all_text() -> &'static str {
         table!(owner listing)
     }
 }

@@ -41,7 +41,7 @@ impl Listed for PlacedRow {
 
     ghost table = { placed_table };
 
-    fn whole() -> &'static str {
+    fn select_all_text() -> &'static str {
         table!(placed listing)
     }
 }

@@ -44,7 +44,7 @@ impl Listed for SeatRow {
 
     ghost table = { seat_table };
 
-    fn whole() -> &'static str {
+    fn select_all_text() -> &'static str {
         table!(seat listing)
     }
 }

@@ -43,7 +43,7 @@ impl Listed for PartShareRow {
 
     ghost table = { share_part_table };
 
-    fn whole() -> &'static str {
+    fn select_all_text() -> &'static str {
         table!(share_part listing)
     }
 }

@@ -5,9 +5,9 @@ ghost use Rattle.sqlite.specs.Held.{state};
 ghost use Rattle.sqlite_value.specs.declared.value.Value.TheVariants.{Int};
 ghost use Rattle.office_tables.specs.Adopting.{HaveShares};
 ghost use Rattle.office_tables.specs.Alterations.{after_all};
-ghost use Rattle.office_tables.specs.Finders.{Adopts};
+ghost use Rattle.office_tables.specs.Finders.{ReadsUnknownFile};
 ghost use Rattle.office_tables.specs.Joining.{AreFound};
-ghost use Rattle.office_tables.specs.Steps.{Changes, Within};
+ghost use Rattle.office_tables.specs.Steps.{Changes, IsUncommitted};
 ghost use Rattle.office_tables.specs.ShareStudent.{bare_share_columns, night_share_columns, share_student_columns, with_student_share, without_student_share, AreStudentAmounts, FitsStudentShare, HaveNoNight, StudentSharesRise};
 ghost use Rattle.office_tables.specs.Selections.{AreListed};
 
@@ -53,9 +53,9 @@ impl Record for StudentShareRow {
 }
 
 impl HasNight for StudentShareRow {
-    ghost columns_in_first = { share_student_columns };
+    ghost main_columns = { share_student_columns };
 
-    ghost columns_in_second = { night_share_columns };
+    ghost side_columns = { night_share_columns };
 
     ghost number_in = { λ row. row.student };
 
@@ -120,7 +120,7 @@ fn insert_sixteen<S: Alter>(
     ensures same_reference { tx.new.conn.ghost_name ≡ tx.old.conn.ghost_name }
     ensures makes { Changes S.Store (after_all (λ it. with_student_share it.row) rows.now)
         tx.old.conn.now tx.new.conn.now result }
-    ensures within { Within (state S.Store tx.old.conn.now) (state S.Store tx.new.conn.now) }
+    ensures within { IsUncommitted (state S.Store tx.old.conn.now) (state S.Store tx.new.conn.now) }
 {
     let students = array::from_fn::<_, 16, _>(
         |i| -> [i64; 4]
@@ -190,8 +190,8 @@ pub(crate) fn adopt_student_shares<S: Alter>(
     conn: &mut Connection<S>,
     version: Version,
 ) -> Result<Option<Vec<StudentShareRow>>, Error>
-    ensures { Adopts version S.Store (λ db. AreFound FitsStudentShare (HaveShares version db))
-        conn.old conn.new result }
+    ensures { ReadsUnknownFile version S.Store
+        (λ db. AreFound FitsStudentShare (HaveShares version db)) conn.old conn.new result }
 {
     adopt_with_nights(
         alloc,

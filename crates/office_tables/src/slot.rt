@@ -39,7 +39,7 @@ impl Listed for SlotRow {
 
     ghost table = { slot_table };
 
-    fn whole() -> &'static str {
+    fn select_all_text() -> &'static str {
         table!(slot listing)
     }
 }

@@ -3,8 +3,8 @@ ghost use Rattle.std.specs.Prelude.{◌≡◌, ◌≢◌, ◌<◌, ◌≤◌, �
 ghost use Rattle.sqlite.specs.Held.{state};
 ghost use Rattle.sqlite_value.specs.declared.value.Value.TheVariants.{Int};
 ghost use Rattle.office_tables.specs.Alterations.{after_all};
-ghost use Rattle.office_tables.specs.Inserting.{row_fits, rows_fit, with_row, Inserts, Shape};
-ghost use Rattle.office_tables.specs.Steps.{Changes, Within};
+ghost use Rattle.office_tables.specs.Inserting.{row_fits, rows_fit, with_row, Inserts, TableOf};
+ghost use Rattle.office_tables.specs.Steps.{Changes, IsUncommitted};
 
 use crate::altering::{Alteration, Each};
 use crate::running::run_with;
@@ -14,7 +14,7 @@ use std::array;
 /// A row of a table of `W` columns; a statement inserts one row or `N` rows.
 pub trait Table<const W: usize, const N: usize>: Copy {
     // Where its rows are in the schema and in the tables.
-    ghost shape: { Shape Self };
+    ghost shape: { TableOf Self };
 
     // Whether `fits` has to hold before a row is stored.
     ghost limited: { Bool } = { false };
@@ -93,7 +93,7 @@ fn insert_many<S: Alter, R: Table<W, N>, const W: usize, const N: usize>(
     ensures same_reference { tx.new.conn.ghost_name ≡ tx.old.conn.ghost_name }
     ensures makes { Changes S.Store (after_all (λ it. with_row R.shape it.row) rows.now)
         tx.old.conn.now tx.new.conn.now result }
-    ensures within { Within (state S.Store tx.old.conn.now) (state S.Store tx.new.conn.now) }
+    ensures within { IsUncommitted (state S.Store tx.old.conn.now) (state S.Store tx.new.conn.now) }
 {
     let values = array::from_fn::<_, N, _>(
         |i| -> [i64; W]

@@ -4,7 +4,7 @@ use Rattle.sqlite.specs.Effect.{Database}
 use Rattle.sqlite.specs.Held.{state}
 use Rattle.sqlite.specs.State.{State}
 use Rattle.office_tables.specs.Alterations.{IsWritten, TransactionRan}
-use Rattle.office_tables.specs.Steps.{Leads}
+use Rattle.office_tables.specs.Steps.{Establishes}
 use Rattle.office_tables.specs.TablesHeld.{HoldsTables, HoldsOldTables}
 use Rattle.office_tables.specs.Tables.{Meta, Tables, empty_tables}
 use Rattle.office_tables.proofs.TurnLemmas.{IsOfRows, done_by, survives_by, undone_by, written_in}
@@ -21,7 +21,7 @@ migrated_rows row old new found is made t has before =
 -- one statement about all tables with this row
 all_migrated : (row : Meta) (clean inside : Type 0) (old new : State) → ((t : Tables)
     → t.meta ≡ row ∷ [] → clean → inside
-    → Leads (λ db. HoldsOldTables db t) (λ db. HoldsTables db t) old new)
+    → Establishes (λ db. HoldsOldTables db t) (λ db. HoldsTables db t) old new)
     → clean → inside → IsTrue new.in_transaction × AreMigrated row old.now new.now
 all_migrated row clean inside old new makes is_clean is_inside = (
   (makes (record empty_tables { meta = row ∷ [] }) refl is_clean is_inside).0,

@@ -1,7 +1,7 @@
 use Rattle.std.proofs.Common.{◌≡◌, IsTrue, drop}
 use Rattle.sqlite.specs.Held.{state}
 use Rattle.sqlite.specs.State.{HasCleanDisk}
-use Rattle.office_tables.specs.Steps.{Within}
+use Rattle.office_tables.specs.Steps.{IsUncommitted}
 use Rattle.office_tables.proofs.Creates.{Creating}
 use Rattle.office_tables.proofs.creation.create.Given as goal
 
@@ -13,5 +13,5 @@ invariant-loop-text g l =
       same : l.tx.conn.ghost_name ≡ l.fn.tx.conn.ghost_name;
       makes : HasCleanDisk now → IsTrue l.fn.tx.conn.now.in_transaction
           → Creating l.fn.texts (drop l.text-index l.fn.texts) old now;
-      within : Within old now;
+      within : IsUncommitted old now;
     }

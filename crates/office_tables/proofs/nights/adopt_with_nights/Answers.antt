@@ -1,7 +1,7 @@
 use Rattle.std.proofs.Common.{Ok, map, sym, subst}
 use Rattle.std.specs.Prelude.{IfSome}
 use Rattle.sqlite.specs.Held.{state}
-use Rattle.office_tables.specs.Finders.{Adopts, IsFound}
+use Rattle.office_tables.specs.Finders.{ReadsUnknownFile, IsFound}
 use Rattle.office_tables.specs.Readings.{ColumnRises}
 use Rattle.office_tables.specs.Listings.{ListsKeyed}
 use Rattle.office_tables.specs.Joining.{AreFound, HaveRows}
@@ -21,8 +21,8 @@ returns-in-One g c tree nights_tree first second splits =
     let all = c.in_ok-rows.ensures.adopts c.args.version tree keyed_columns first.table in
     record {
       found = λ clean tables.
-          subst (λ v. AreFound g.R.Record.fits (HaveRows v g.R.HasNight.columns_in_first
-          g.R.HasNight.columns_in_second g.R.HasNight.night_in (old.now.trees tree)
+          subst (λ v. AreFound g.R.Record.fits (HaveRows v g.R.HasNight.main_columns
+          g.R.HasNight.side_columns g.R.HasNight.night_in (old.now.trees tree)
           (old.now.trees nights_tree)) c.in_ok-rows.rows) (sym c.in-One.is)
           (before_found _ _ _ _ _ _ splits (old.now.trees tree) (old.now.trees nights_tree)
           c.in_ok-rows.rows (all.found clean tables));
@@ -37,7 +37,7 @@ returns-in-Two g c tree nights_tree first second splits =
     let here =
     subst (λ v. ListsKeyed v 0 2 nights_tree keyed_columns c.args.nights_sql.now) (sym c.in-Two.is)
     second in
-    let rows : Adopts v g.S.Store (λ db rows.
+    let rows : ReadsUnknownFile v g.S.Store (λ db rows.
     IsFound g.R.Record.fits g.R.Record.columns_of keyed_columns (db.trees tree) rows
     × IfSome rows (λ records. ColumnRises 0 (map g.R.Record.columns_of records.items)))
     c.args.conn.now c.read_table.new.conn (Ok c.in_ok-rows.rows) = record {
@@ -50,7 +50,7 @@ returns-in-Two g c tree nights_tree first second splits =
     } in
     both_found rows (c.add_nights.ensures v nights_tree here)
     (λ db found both is. subst (λ v. AreFound g.R.Record.fits (HaveRows v
-    g.R.HasNight.columns_in_first g.R.HasNight.columns_in_second g.R.HasNight.night_in
+    g.R.HasNight.main_columns g.R.HasNight.side_columns g.R.HasNight.night_in
     (db.trees tree) (db.trees nights_tree)) found) (sym c.in-Two.is)
     (joined_found _ _ _ _ _ _ splits (db.trees tree) (db.trees nights_tree) c.in_ok-rows.rows
     both.0 both.1 found is))

@@ -23,6 +23,6 @@ returns-in-Some-clause-shown g c q nights_q means nights_means clean t represent
       second = subst (λ db. IsReadOf night_columns 2 [] nights_q db.trees nights) same.0.now_is
           (c.in_ok-nights.ensures.shown nights_q
           (means_in nights_q _ nights_means mid mid t later) clean);
-      columns = joined.0 ∙ ap (map g.R.HasNight.columns_in_first) c.deref.ensures.value;
+      columns = joined.0 ∙ ap (map g.R.HasNight.main_columns) c.deref.ensures.value;
       amounts = joined.1 ∙ ap (map night_columns) c.deref-2.ensures.value;
     }

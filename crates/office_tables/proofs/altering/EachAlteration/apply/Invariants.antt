@@ -2,7 +2,7 @@ use Rattle.std.proofs.Common.{◌≡◌, IsTrue, take}
 use Rattle.sqlite.specs.Held.{state}
 use Rattle.sqlite.specs.State.{HasCleanDisk}
 use Rattle.office_tables.specs.Alterations.{after_all}
-use Rattle.office_tables.specs.Steps.{Makes, Within}
+use Rattle.office_tables.specs.Steps.{TablesBecome, IsUncommitted}
 use Rattle.office_tables.proofs.altering.EachAlteration.apply.Given as goal
 
 abbrev pub invariant-loop-alteration : goal.invariant-loop-alteration
@@ -12,7 +12,7 @@ invariant-loop-alteration g l =
     record {
       same : l.tx.conn.ghost_name ≡ l.fn.tx.conn.ghost_name;
       makes : HasCleanDisk now → IsTrue l.fn.tx.conn.now.in_transaction
-          → Makes (after_all g.A.Alteration.alteration
+          → TablesBecome (after_all g.A.Alteration.alteration
           (take l.alteration-index l.fn.self.alterations.now)) old now;
-      within : Within old now;
+      within : IsUncommitted old now;
     }

@@ -4,7 +4,7 @@ use Rattle.sqlite.specs.Held.{state}
 use Rattle.sqlite.specs.State.{HasCleanDisk}
 use Rattle.office_tables.specs.Alterations.{after_all}
 use Rattle.office_tables.specs.ShareStudent.{AreStudentAmounts, with_student_share}
-use Rattle.office_tables.specs.Steps.{Within}
+use Rattle.office_tables.specs.Steps.{IsUncommitted}
 use Rattle.office_tables.specs.declared.share_student.InsertStudentShare.{InsertStudentShare}
 use Rattle.office_tables.proofs.InsertLemmas.{Continues}
 use Rattle.office_tables.proofs.share_student.InsertStudentSharesAlteration.apply.Given as goal
@@ -18,7 +18,7 @@ invariant-chunks g l =
       makes : HasCleanDisk now → IsTrue l.fn.tx.conn.now.in_transaction
           → Continues (after_all (λ (it : InsertStudentShare). with_student_share it.row))
           l.fn.self.rows.now l.left old now;
-      within : Within old now;
+      within : IsUncommitted old now;
       fits : All (λ (it : InsertStudentShare). AreStudentAmounts it.row) l.left;
     }
 

@@ -3,7 +3,7 @@ use Rattle.sqlite.specs.Held.{state}
 use Rattle.sqlite.specs.State.{HasCleanDisk}
 use Rattle.office_tables.specs.Alterations.{after_all}
 use Rattle.office_tables.specs.Inserting.{rows_fit, with_row}
-use Rattle.office_tables.specs.Steps.{Within}
+use Rattle.office_tables.specs.Steps.{IsUncommitted}
 use Rattle.office_tables.proofs.InsertLemmas.{Continues}
 use Rattle.office_tables.proofs.table.InsertAllInsertAlteration.apply.Given as goal
 
@@ -16,7 +16,7 @@ invariant-chunks g l =
       makes : HasCleanDisk now → IsTrue l.fn.tx.conn.now.in_transaction
           → Continues (after_all (λ it. with_row g.R.Table.shape it.row)) l.fn.self.rows.now l.left
           old now;
-      within : Within old now;
+      within : IsUncommitted old now;
       fits : rows_fit g.R.Table.limited g.R.Table.fits (λ it. it.row) l.left;
     }
 

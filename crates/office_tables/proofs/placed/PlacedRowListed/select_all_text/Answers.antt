@@ -1,5 +1,5 @@
 use Rattle.office_tables.proofs.ListTexts.{placed_lists}
-use Rattle.office_tables.proofs.placed.PlacedRowListed.whole.Goals as goal
+use Rattle.office_tables.proofs.placed.PlacedRowListed.select_all_text.Goals as goal
 
 pub returns : goal.returns
 returns c version = placed_lists version
