@@ -18,7 +18,7 @@ use Rattle.exam_score.specs.Track.{track}
 use Rattle.office_tables.specs.declared.draft.DraftRow.{DraftRow}
 use Rattle.office_tables.specs.declared.slot.SlotRow.{SlotRow}
 use Rattle.office_records.specs.Found.{AreDrafts, AreSlots}
-use Rattle.office_records.specs.Memory.{AreScoredDrafts, AreSuited, draft_at, scored_by}
+use Rattle.office_records.specs.Memory.{AreScoredDrafts, AreSuited, draft_at, with_penalty}
 use Rattle.office_records.specs.declared.drafts.Draft.{Draft}
 use Rattle.office_model.specs.Office.{set_at}
 use Rattle.office_records.specs.Representation.{parts_of}
@@ -106,7 +106,7 @@ pub begun_next : (I : Session) (E : Enrolled) (found : List DraftRow) (places : 
     × All (λ (r : DraftRow). r.no ≢ (get_or found i z).no) (take i found)
     → AreSlots I (get_or found i z).no places new.timetable
     × (parts_of (get_or found i z) ≡ track I E new.timetable)
-    → new ≡ scored_by I E new.timetable
+    → new ≡ with_penalty I E new.timetable
     → (draft : ℕ → Option Placing) × Begun I E (take (i + 1) found) places draft
     × AreScoredDrafts I E draft (set drafts (get_or found i z).no (Some new))
 begun_next I E found places i z lt drafts new old size next placed scored =
@@ -117,7 +117,7 @@ begun_next I E found places i z lt drafts new old size next placed scored =
           (sym (take_more found i z lt))
           (begun_more I E (take i found) places old.0 old.1 row new.timetable (next.0, next.1)
           next.2 placed.0 placed.1),
-      set_each (λ d o. draft_at (set drafts row.no (Some new)) d ≡ option_map (scored_by I E) o)
+      set_each (λ d o. draft_at (set drafts row.no (Some new)) d ≡ option_map (with_penalty I E) o)
           row.no (Some new.timetable) old.0
           (get_or-set_same drafts row.no (Some new) None (omega (arith, size, below))
           ∙ ap Some scored)

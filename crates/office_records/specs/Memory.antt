@@ -17,9 +17,9 @@ abbrev pub memory_of : OfficeState → Memory
 memory_of office = option_map (λ r. (r.session, r.enrolments)) office
 
 -- the session and the enrolments have the same number of exams
-abbrev pub AreTogether : Memory → Type 0
-AreTogether None = Unit {0}
-AreTogether (Some kept) = length kept.1 ≡ length kept.0.exams
+abbrev pub AreConsistent : Memory → Type 0
+AreConsistent None = Unit {0}
+AreConsistent (Some kept) = length kept.1 ≡ length kept.0.exams
 
 -- the weight of exams over night is 0; there is none before a load
 abbrev pub HasNoNightWeight : Memory → Type 0
@@ -34,13 +34,13 @@ published_in (Some r) = r.published
 -- ---- drafts
 
 -- a timetable with its penalty by these enrolments
-abbrev pub scored_by : Session → Enrolled → Placing → Draft
-scored_by I E T = record { timetable = T; parts = track I E T }
+abbrev pub with_penalty : Session → Enrolled → Placing → Draft
+with_penalty I E T = record { timetable = T; parts = track I E T }
 
 -- the draft with a number in an office, with its penalty, if there is one
 abbrev pub scored_draft : ℕ → OfficeState → Option Draft
 scored_draft d None = None
-scored_draft d (Some r) = option_map (scored_by r.session r.enrolments) (r.draft d)
+scored_draft d (Some r) = option_map (with_penalty r.session r.enrolments) (r.draft d)
 
 -- the draft with a number in memory, if there is one
 abbrev pub draft_at : List (Option Draft) → ℕ → Option Draft
@@ -49,7 +49,8 @@ draft_at drafts d = slice_index_or drafts d None
 -- the drafts in memory are these, with their penalties by these enrolments
 abbrev pub AreScoredDrafts : Session → Enrolled → (ℕ → Option Placing) → List (Option Draft)
     → Type 0
-AreScoredDrafts I E draft drafts = (d : ℕ) → draft_at drafts d ≡ option_map (scored_by I E) (draft d)
+AreScoredDrafts I E draft drafts =
+    (d : ℕ) → draft_at drafts d ≡ option_map (with_penalty I E) (draft d)
 
 -- each of these drafts places the session's exams only at places where they may be
 abbrev pub AreSuited : Session → List (Option Draft) → Type 0

@@ -7,7 +7,7 @@ ghost use Rattle.exam_model.specs.Timetable.{Placing};
 ghost use Rattle.exam_score.specs.Track.{track};
 ghost use Rattle.office_tables.specs.Draft.{AreAmounts};
 ghost use Rattle.office_records.specs.Found.{AreDrafts, AreSlots};
-ghost use Rattle.office_records.specs.Memory.{AreScoredDrafts, draft_at, scored_by};
+ghost use Rattle.office_records.specs.Memory.{AreScoredDrafts, draft_at, with_penalty};
 ghost use Rattle.office_records.specs.Representation.{parts_of};
 
 use crate::fault::RecordFault;
@@ -106,7 +106,7 @@ fn draft_of(
     ensures is { IfOk result (λ draft. AreSlots instance.now row.now.no slots.now draft.timetable
         × (parts_of row.now ≡ track instance.now enrolments.now draft.timetable)) }
     ensures scored { IfOk result
-        (λ draft. draft ≡ scored_by instance.now enrolments.now draft.timetable) }
+        (λ draft. draft ≡ with_penalty instance.now enrolments.now draft.timetable) }
     ensures none { IfErr result (λ e. e ≡ RecordFault.BadRows → (T : Placing)
         → AreSlots instance.now row.now.no slots.now T
         → parts_of row.now ≡ track instance.now enrolments.now T → ⊥) }

@@ -22,7 +22,7 @@ pub use drafts::{Draft, Drafts, NUMBERS, draft_row, no_drafts};
 pub use fault::RecordFault;
 pub use part_shares::part_share_rows;
 pub use publication::placement_rows;
-pub use records::{Kept, kept_of};
+pub use records::{Remembered, remembered_of};
 pub use retimed::retimed_students;
 pub use seats::{own_seats, seats_beside};
 pub use session::text_of;

@@ -7,7 +7,7 @@ ghost use Rattle.office_model.specs.Office.{IsOffice, OfficeState};
 ghost use Rattle.office_records.specs.Found.{HasNoPublication, IsUnloaded};
 ghost use Rattle.office_records.specs.FoundBatches.{AreFoundBatches};
 ghost use Rattle.office_records.specs.FoundPublications.{AreFound, publication_from};
-ghost use Rattle.office_records.specs.Memory.{AreSuited, AreTogether, draft_at, memory_of, published_in, scored_draft};
+ghost use Rattle.office_records.specs.Memory.{AreSuited, AreConsistent, draft_at, memory_of, published_in, scored_draft};
 ghost use Rattle.office_records.specs.Representation.{IsSound, TablesRepresentOffice};
 
 use crate::batches::check_batches;
@@ -24,7 +24,7 @@ use std::alloc::Global;
 
 /// The part of an office that is kept in memory.
 #[derive(Drop)]
-pub struct Kept {
+pub struct Remembered {
     /// The session and its live enrolments, once there is one.
     pub session: Option<(Instance, Enrolments)>,
     /// The drafts, each at its number's index; none before a load.
@@ -36,7 +36,7 @@ pub struct Kept {
 /// Returns what is kept in memory of the office that the rows represent, in either version of the
 /// file, if its batches are no longer than a text may be. `BadRows`: the rows represent no office,
 /// whatever the lengths of the batches.
-pub fn kept_of(alloc: Global, found: &Found) -> Result<Kept, RecordFault>
+pub fn remembered_of(alloc: Global, found: &Found) -> Result<Remembered, RecordFault>
     ensures are { IfOk result (λ kept. (batches : List Batch)
         → AreFoundBatches found.now.batches.items batches
         → (office : OfficeState) × TablesRepresentOffice (tables_of found.now batches) office
@@ -44,7 +44,7 @@ pub fn kept_of(alloc: Global, found: &Found) -> Result<Kept, RecordFault>
         × (memory_of office ≡ kept.session)
         × (published_in office ≡ publication_from kept.published)
         × ((d : ℕ) → draft_at kept.drafts d ≡ scored_draft d office)) }
-    ensures together { IfOk result (λ kept. AreTogether kept.session) }
+    ensures together { IfOk result (λ kept. AreConsistent kept.session) }
     ensures suited { IfOk result (λ kept. IfSome kept.session
         (λ session. AreSuited session.0 kept.drafts)) }
     ensures published { IfOk result (λ kept. IfSome kept.session
@@ -55,7 +55,7 @@ pub fn kept_of(alloc: Global, found: &Found) -> Result<Kept, RecordFault>
         → IsSound (tables_of found.now batches) office → IsOffice office → ⊥) }
 {
     if is_unloaded(found) {
-        return Ok(Kept {
+        return Ok(Remembered {
             session: None,
             drafts: no_drafts(),
             published: None,
@@ -67,7 +67,7 @@ pub fn kept_of(alloc: Global, found: &Found) -> Result<Kept, RecordFault>
     let drafts = drafts_of(alloc, &instance, &enrolments, &found.drafts, &found.slots)?;
     let published = published_of(alloc, &instance, found)?;
     check_batches(&found.batches)?;
-    Ok(Kept {
+    Ok(Remembered {
         session: Some((instance, enrolments)),
         drafts,
         published,

@@ -28,7 +28,7 @@ use Rattle.office_model.specs.Office.{Records, AreRecords, IsOffice, OfficeState
 use Rattle.office_model.specs.declared.counts.Counts.{Counts}
 use Rattle.office_model.specs.declared.fault.StoreFault.{StoreFault}
 use Rattle.office_model.specs.declared.fault.StoreFault.TheVariants.{Refused, TooMany}
-use Rattle.office_records.specs.Memory.{draft_at, memory_of, scored_by}
+use Rattle.office_records.specs.Memory.{draft_at, memory_of, with_penalty}
 use Rattle.office_records.specs.Representation.{RepresentsOffice, IsSound, TablesRepresentRecords}
 use Rattle.office_records.specs.TableRows.{number_if, enrol_row, stored_batch}
 use Rattle.office_records.specs.declared.drafts.Draft.{Draft}
@@ -56,7 +56,7 @@ use Rattle.office_records.proofs.BatchPutLemmas.{batch_sound, batch_represents, 
 use Rattle.office_store.specs.declared.new_batch.NewBatch.{NewBatch}
 use Rattle.office_store.specs.declared.new_batch.PutLine.{PutLine}
 use Rattle.office_store.proofs.CommandLemmas.{Denies, MovesBy, Remembers}
-use Rattle.office_store.proofs.RunLemmas.{kept_of}
+use Rattle.office_store.proofs.RunLemmas.{remembered_of}
 use Rattle.office_model.specs.declared.fault.Refusal.TheVariants as refusal
 use Rattle.office_enrolment.specs.Keeping as keeping
 
@@ -161,21 +161,21 @@ rows_rewritten db r m F made rows kept is exams scored are = record {
     rows = λ d. are.numbers d ∙ ap (λ b. number_if b d) (there_too d);
     slots = kept.represents.slot;
     scored = all_weaker _ _
-        (λ row priced T there. priced (scored_by r.session F T) (at row.no T there))
+        (λ row priced T there. priced (with_penalty r.session F T) (at row.no T there))
         rows are.scored;
   };
 }
   where
-    made_at : (d : ℕ) → draft_at made d ≡ option_map (scored_by r.session F) (r.draft d)
+    made_at : (d : ℕ) → draft_at made d ≡ option_map (with_penalty r.session F) (r.draft d)
     made_at d = scored d ∙ ap (option_map (rescored_draft r.session F)) (is.drafts d)
         ∙ twice r.session r.session r.enrolments F (r.draft d)
 
     there_too : (d : ℕ) → is_some (draft_at made d) ≡ is_some (r.draft d)
-    there_too d = ap is_some (made_at d) ∙ is_some-map (scored_by r.session F) (r.draft d)
+    there_too d = ap is_some (made_at d) ∙ is_some-map (with_penalty r.session F) (r.draft d)
 
     at : (d : ℕ) (T : Placing) → r.draft d ≡ Some T
-        → draft_at made d ≡ Some (scored_by r.session F T)
-    at d T there = made_at d ∙ ap (option_map (scored_by r.session F)) there
+        → draft_at made d ≡ Some (with_penalty r.session F T)
+    at d T there = made_at d ∙ ap (option_map (with_penalty r.session F)) there
 
 -- the drafts in memory are the rescored ones, if the batch made any
 pub latest_drafts : (db : Database) (r : Records) (m : OfficeMemory) (I : Session)
@@ -373,7 +373,7 @@ module _ (number : ℕ) (bytes : List ℕ) {changes : List Change}
 
     records_of : (o : OfficeState) → RepresentsOffice a o → IsMemoryOf o m → IsOf o
     records_of o kept is =
-        let of = kept_of o I E (is.session ∙ at_hand) in
+        let of = remembered_of o I E (is.session ∙ at_hand) in
         record {
           records = of.records;
           is = of.is;

@@ -36,7 +36,7 @@ use Rattle.office_tables.specs.Draft.{with_draft}
 use Rattle.office_tables.specs.Slot.{with_slot}
 use Rattle.office_tables.specs.Inserted.{InsertSlot}
 use Rattle.office_tables.proofs.AlterationLemmas.{slots_put}
-use Rattle.office_records.specs.Memory.{draft_at, scored_by, scored_draft}
+use Rattle.office_records.specs.Memory.{draft_at, with_penalty, scored_draft}
 use Rattle.office_records.specs.declared.drafts.Draft.{Draft}
 use Rattle.office_store.specs.Memory.{HasPut, IsMemoryOf}
 use Rattle.office_store.specs.declared.memory.OfficeMemory.{OfficeMemory}
@@ -49,7 +49,7 @@ use Rattle.office_model.specs.declared.fault.StoreFault.{StoreFault}
 use Rattle.office_model.specs.declared.fault.StoreFault.TheVariants.{NoDraft, DraftTaken, Store}
 use Rattle.office_store.proofs.CommandLemmas.{fault_of, Denies, MovesBy, Remembers, RowsChanged}
 use Rattle.office_store.proofs.RememberingLemmas.{is_some-map, next_is, one_changed}
-use Rattle.office_store.proofs.RunLemmas.{IsKeptOf, kept_of}
+use Rattle.office_store.proofs.RunLemmas.{IsKeptOf, remembered_of}
 
 -- ---- rows by a number of each, its key
 
@@ -377,7 +377,7 @@ there : (d : ℕ) (m : OfficeMemory) (b : Bool) → b ≡ is_some (draft_at m.dr
     → IsMemoryOf o m → (r : Records) → o ≡ Some r → is_some (r.draft d) ≡ b
 there d m b is_there o is r same =
     sym (is_there ∙ ap is_some (is.drafts d ∙ ap (scored_draft d) same)
-    ∙ is_some-map (scored_by r.session r.enrolments) (r.draft d))
+    ∙ is_some-map (with_penalty r.session r.enrolments) (r.draft d))
 
 module _ (d : ℕ) {a : Database} {m : OfficeMemory} (loaded : is_some m.kept ≡ true) where
   pub drop_denied : false ≡ is_some (draft_at m.drafts d) → Denies (draft_dropped d) NoDraft a m
@@ -425,13 +425,13 @@ module _ (d : ℕ) (text : List ℕ) {a : Database} {m : OfficeMemory} {I : Sess
     (at_hand : m.kept ≡ Some (I, E)) where
   pub number_denied : false ≡ is_draft_number d → Denies (draft_made d text) NoDraft a m
   number_denied beyond o kept is =
-      let of = kept_of o I E (is.session ∙ at_hand) in
+      let of = remembered_of o I E (is.session ∙ at_hand) in
       ap (draft_made d text) of.is ∙ made_nowhere of.records d text beyond
 
   module _ (numbered : true ≡ is_draft_number d) where
     pub taken_denied : true ≡ is_some (draft_at m.drafts d) → Denies (draft_made d text) DraftTaken a m
     taken_denied some o kept is =
-        let of = kept_of o I E (is.session ∙ at_hand) in
+        let of = remembered_of o I E (is.session ∙ at_hand) in
         ap (draft_made d text) of.is
         ∙ made_taken of.records d text numbered (there d m true some o is of.records of.is)
 
@@ -439,7 +439,7 @@ module _ (d : ℕ) (text : List ℕ) {a : Database} {m : OfficeMemory} {I : Sess
       pub text_denied : (e : StoreFault) → (e ≡ Store) ⊎ (first_timetable text I ≡ Err e)
           → Denies (draft_made d text) e a m
       text_denied e fault o kept is =
-          let of = kept_of o I E (is.session ∙ at_hand) in
+          let of = remembered_of o I E (is.session ∙ at_hand) in
           made_fault (draft_made d text o) text I e
           (λ none. ap (draft_made d text) of.is
           ∙ made_refused of.records d text numbered (there d m false empty o is of.records of.is) e
@@ -454,7 +454,7 @@ module _ (d : ℕ) (text : List ℕ) {a : Database} {m : OfficeMemory} {I : Sess
         made_moves row number parts b comes o kept is =
             let makes : RowsChanged (draft_put row (rows_of placed)) a b
             = λ t h. subst (HoldsTables b) (slots_put placed (with_draft row t)) (comes t h) in
-            let of = kept_of o I E (is.session ∙ at_hand) in
+            let of = remembered_of o I E (is.session ∙ at_hand) in
             let free = there d m false empty o is of.records of.is in (
               _,
               ap (draft_made d text) of.is
@@ -468,11 +468,11 @@ module _ (d : ℕ) (text : List ℕ) {a : Database} {m : OfficeMemory} {I : Sess
         pub made_remembers : {after : OfficeMemory} → (d ≤ 8 → HasPut d (Some begun) m after)
             → Remembers (draft_made d text) total a m after
         made_remembers {after = after} puts o kept is new gives =
-            let of = kept_of o I E (is.session ∙ at_hand) in
+            let of = remembered_of o I E (is.session ∙ at_hand) in
             let r = of.records in
             let free = there d m false empty o is r of.is in
             let starts = begun_office of same begins in
-            let scored : Some begun ≡ Some (scored_by r.session r.enrolments begun.timetable)
+            let scored : Some begun ≡ Some (with_penalty r.session r.enrolments begun.timetable)
             = ap (λ P. Some (record { timetable = begun.timetable; parts = P })) starts.scored in
             subst (λ o. IsMemoryOf o after)
             (next_is (ap (draft_made d text) (sym of.is) ∙ gives)

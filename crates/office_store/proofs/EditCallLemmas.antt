@@ -26,7 +26,7 @@ use Rattle.office_model.specs.Office.{OfficeState, Records, set_at}
 use Rattle.office_model.specs.declared.fault.Refusal.TheVariants as refusal
 use Rattle.office_model.specs.declared.fault.StoreFault.{StoreFault}
 use Rattle.office_model.specs.declared.fault.StoreFault.TheVariants.{Refused, Store}
-use Rattle.office_records.specs.Memory.{memory_of, scored_by, scored_draft}
+use Rattle.office_records.specs.Memory.{memory_of, with_penalty, scored_draft}
 use Rattle.office_records.specs.Representation.{RepresentsOffice, parts_of}
 use Rattle.office_records.specs.declared.drafts.Draft.{Draft}
 use Rattle.office_store.specs.Changes.{edit_put, new_place, slots_put}
@@ -55,7 +55,7 @@ there_of d r draft h = go (r.draft d) refl
     go : (o : Option Placing) → r.draft d ≡ o → IsThere r d draft
     go None is = absurd (let none = rw is at h in cc)
     go (Some T) is =
-        let same = same_Some (scored_by r.session r.enrolments T) draft (rw is at h) in
+        let same = same_Some (with_penalty r.session r.enrolments T) draft (rw is at h) in
         record {
           timetable = is ∙ ap (λ (x : Draft). Some x.timetable) same;
           scored = sym (ap (λ (x : Draft). x.parts) same)
@@ -66,7 +66,7 @@ there_of d r draft h = go (r.draft d) refl
 pub no_draft : (d : ℕ) (r : Records) → scored_draft d (Some r) ≡ None → r.draft d ≡ None
 no_draft d r h = go (r.draft d) h
   where
-    go : (o : Option Placing) → option_map (scored_by r.session r.enrolments) o ≡ None → o ≡ None
+    go : (o : Option Placing) → option_map (with_penalty r.session r.enrolments) o ≡ None → o ≡ None
     go None h = refl
     go (Some T) h = absurd cc
 
@@ -193,7 +193,7 @@ module _ {a : Database} {m : OfficeMemory} {d : ℕ} {change : Edit} {new : Draf
       let r = of.records in
       let here : RepresentsOffice a (Some r) = subst (RepresentsOffice a) of.is kept in
       let within = here.office.numbered d (subst IsSome (sym of.draft) refl) in
-      let scored : Some new ≡ Some (scored_by r.session r.enrolments new.timetable)
+      let scored : Some new ≡ Some (with_penalty r.session r.enrolments new.timetable)
       = ap (λ P. Some (record { timetable = new.timetable; parts = P })) of.scored in
       subst (λ o. IsMemoryOf o n)
       (next_is gives (edited_gives o d change new total of is_total))

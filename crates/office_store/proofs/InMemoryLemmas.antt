@@ -11,7 +11,7 @@ use Rattle.exam_model.specs.Timetable.{Placing}
 use Rattle.office_tables.specs.Tables.{Tables}
 use Rattle.office_model.specs.Office.{OfficeState, Records, AreRecords}
 use Rattle.office_records.specs.Found.{AreSlots}
-use Rattle.office_records.specs.Memory.{scored_by}
+use Rattle.office_records.specs.Memory.{with_penalty}
 use Rattle.office_records.specs.Representation.{RepresentsOffice, TablesRepresentOffice, TablesRepresentRecords}
 use Rattle.office_records.specs.TableRows.{number_if, slot_rows, slots_at, stored_batch}
 use Rattle.office_records.proofs.MemoryLemmas.{same_memory}
@@ -92,8 +92,8 @@ same_in_memory db (Some r) (Some s) a b m is =
       batches = sym (counted b.held (Some s) b.represents) ∙ counted b.held (Some r) represents
           ∙ is.batches;
       drafts = λ d. is.drafts d
-          ∙ ap (λ (p : Session × Enrolled). option_map (scored_by p.0 p.1) (r.draft d)) both
-          ∙ ap (option_map (scored_by s.session s.enrolments))
+          ∙ ap (λ (p : Session × Enrolled). option_map (with_penalty p.0 p.1) (r.draft d)) both
+          ∙ ap (option_map (with_penalty s.session s.enrolments))
           (same_placing b.held r s d represents b.represents a.office b.office session);
       published = sym published ∙ is.published;
       priced = sym priced ∙ is.priced;

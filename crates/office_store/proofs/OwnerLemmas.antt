@@ -20,7 +20,7 @@ use Rattle.office_store.specs.declared.memory.OfficeMemory.{OfficeMemory}
 use Rattle.office_store.proofs.CommandLemmas.{Denies, MovesBy, Remembers, RowsChanged}
 use Rattle.office_store.proofs.CallLemmas.{of_key_removed, of_key_replaced}
 use Rattle.office_store.proofs.RememberingLemmas.{next_is}
-use Rattle.office_store.proofs.RunLemmas.{kept_of}
+use Rattle.office_store.proofs.RunLemmas.{remembered_of}
 use Rattle.exam_draft.specs.Edits.{exam_exists}
 use Rattle.exam_draft.specs.declared.fault.EditFault.TheVariants.{NoSuch}
 use Rattle.office_model.specs.Commands.{set_owner_result, owner_in}
@@ -134,7 +134,7 @@ module _ {a : Database} {m : OfficeMemory} {I : Session} {E : Enrolled} (e d : �
     (at_hand : m.kept ≡ Some (I, E)) where
   pub no_exam_denied : length I.exams ≤ e → Denies (set_owner_result e d) (Refused (Edit NoSuch)) a m
   no_exam_denied none o kept is =
-      let of = kept_of o I E (is.session ∙ at_hand) in
+      let of = remembered_of o I E (is.session ∙ at_hand) in
       ap (set_owner_result e d) of.is
       ∙ owned_nowhere of.records e d (subst (λ I. length I.exams ≤ e) (sym of.session) none)
 
@@ -145,7 +145,7 @@ module _ {a : Database} {m : OfficeMemory} {I : Session} {E : Enrolled} (e d : �
         let makes : RowsChanged (owner_put n d) a b
         = λ t h. subst (HoldsTables b)
         (ap (λ x. comes x (without_owner n t)) is_new ∙ owner_made n d t) (comes_in t h) in
-        let of = kept_of o I E (is.session ∙ at_hand) in
+        let of = remembered_of o I E (is.session ∙ at_hand) in
         let there = subst (λ I. e < length I.exams) (sym of.session) exists in (
           _,
           ap (set_owner_result e d) of.is ∙ owned_there of.records e d there,
@@ -155,7 +155,7 @@ module _ {a : Database} {m : OfficeMemory} {I : Session} {E : Enrolled} (e d : �
 
     pub owner_remembers : Remembers (set_owner_result e d) tt a m m
     owner_remembers o kept is new gives =
-        let of = kept_of o I E (is.session ∙ at_hand) in
+        let of = remembered_of o I E (is.session ∙ at_hand) in
         let r = of.records in
         let there = subst (λ I. e < length I.exams) (sym of.session) exists in
         let was = subst (λ o. IsMemoryOf o m) of.is is in

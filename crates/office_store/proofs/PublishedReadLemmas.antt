@@ -32,7 +32,7 @@ use Rattle.office_model.specs.Step.{publication_in}
 use Rattle.office_store.specs.Publications.{AddUpIn, Shown, StoredAddUp, publication_shown, shares_in, timetable_shown}
 use Rattle.office_store.specs.OfficeRows.{AreShareRowsOf, part_rows_in, student_rows_in}
 use Rattle.office_store.specs.Running.{QueryOutcome, ReturnsValue}
-use Rattle.office_store.proofs.RunLemmas.{by_publication, kept_of, nothing_kept}
+use Rattle.office_store.proofs.RunLemmas.{by_publication, remembered_of, nothing_kept}
 
 -- ---- the rows of each table
 
@@ -64,7 +64,7 @@ module _ (o : OfficeState) {I : Session} {E : Enrolled} {m : Memory}
       → AreShared r.session r.published students parts → ReturnsValue (shares_in (Some r)) result)
       → ReturnsValue (shares_in o) result
   shares_returned office is {students = students} {parts = parts} rows result meaning =
-      let of = kept_of o I E (is ∙ kept_is) in
+      let of = remembered_of o I E (is ∙ kept_is) in
       let theirs = subst (λ o. AreShareRowsOf o students parts) of.is rows in
       subst (λ o. ReturnsValue (shares_in o) result) (sym of.is)
       (meaning of.records (subst IsOffice of.is office) of.session

@@ -17,7 +17,7 @@ use Rattle.exam_score.specs.Track.{track}
 use Rattle.office_model.specs.Office.{KeptBatch, OfficeState, Publication, Records, published_enrolments, set_at}
 use Rattle.office_model.specs.declared.fault.StoreFault.{StoreFault}
 use Rattle.office_records.specs.FoundPublications.{publication_from}
-use Rattle.office_records.specs.Memory.{draft_at, scored_by}
+use Rattle.office_records.specs.Memory.{draft_at, with_penalty}
 use Rattle.office_records.specs.declared.drafts.Draft.{Draft}
 use Rattle.office_store.specs.Memory.{AreRescored, HasJudged, HasPublished, HasPut, IsMemoryOf, IsRenewed, rescored_draft}
 use Rattle.office_store.specs.declared.memory.OfficeMemory.{OfficeMemory}
@@ -34,7 +34,7 @@ next_is {A} one other = ap (λ (p : A × OfficeState). p.1) (same_Ok (sym other 
 
 -- one draft replaces another
 pub one_changed : (r : Records) (m n : OfficeMemory) (d : ℕ) (x : Option Placing)
-    → IsMemoryOf (Some r) m → HasPut d (option_map (scored_by r.session r.enrolments) x) m n
+    → IsMemoryOf (Some r) m → HasPut d (option_map (with_penalty r.session r.enrolments) x) m n
     → IsMemoryOf (Some (record r { draft = set_at d x r.draft })) n
 one_changed r m n d x is put = record {
   session = is.session ∙ sym put.kept;
@@ -45,7 +45,7 @@ one_changed r m n d x is put = record {
 }
   where
     go : (e : ℕ) (b : Bool) → eqb e d ≡ b → draft_at n.drafts e
-        ≡ option_map (scored_by r.session r.enrolments) (cond b x (r.draft e))
+        ≡ option_map (with_penalty r.session r.enrolments) (cond b x (r.draft e))
     go e true same = ap (draft_at n.drafts) (eqb-true e d same) ∙ put.put
     go e false same =
         put.others e (λ here. let there : eqb e d ≡ true = grind (arith, nat_tests, here) in cc)
@@ -84,7 +84,7 @@ published_changed r m n new penalty p is has made costs = record {
 -- ---- a batch
 
 pub twice : (I J : Session) (E F : Enrolled) (x : Option Placing)
-    → option_map (rescored_draft I F) (option_map (scored_by J E) x) ≡ option_map (scored_by I F) x
+    → option_map (rescored_draft I F) (option_map (with_penalty J E) x) ≡ option_map (with_penalty I F) x
 twice I J E F None = refl
 twice I J E F (Some T) = refl
 
@@ -111,7 +111,7 @@ module _ {r : Records} {m : OfficeMemory} {I : Session} {E : Enrolled} (kept : m
     drafts = λ d. ap (λ l. draft_at l d) renewed.1 ∙ scored d
         ∙ ap (option_map (rescored_draft I F)) (is.drafts d)
         ∙ twice I r.session r.enrolments F (r.draft d)
-        ∙ ap (λ (p : Session × Enrolled). option_map (scored_by p.0 F) (r.draft d)) (sym both);
+        ∙ ap (λ (p : Session × Enrolled). option_map (with_penalty p.0 F) (r.draft d)) (sym both);
     published = is.published ∙ ap publication_from (sym stays);
     priced = is.priced ∙ sym priced;
   }

@@ -113,10 +113,10 @@ pub record IsKeptOf (o : OfficeState) (I : Session) (E : Enrolled) : Type 0 wher
   pub session : records.session ≡ I
   pub enrolments : records.enrolments ≡ E
 
-pub kept_of : (o : OfficeState) (I : Session) (E : Enrolled) → memory_of o ≡ Some (I, E)
+pub remembered_of : (o : OfficeState) (I : Session) (E : Enrolled) → memory_of o ≡ Some (I, E)
     → IsKeptOf o I E
-kept_of None I E h = absurd cc
-kept_of (Some r) I E h = record {
+remembered_of None I E h = absurd cc
+remembered_of (Some r) I E h = record {
   records = r;
   is = refl;
   session = ap (λ (p : Session × Enrolled). p.0) (same_Some _ _ h);

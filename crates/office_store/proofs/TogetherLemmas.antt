@@ -18,7 +18,7 @@ use Rattle.exam_publish.specs.declared.seat_row.SeatRow.{SeatRow}
 use Rattle.office_model.specs.Office.{Publication}
 use Rattle.office_model.specs.Publishing.{publication_rows}
 use Rattle.office_records.specs.FoundPublications.{AreFound, publication_from}
-use Rattle.office_records.specs.Memory.{AreSuited, AreTogether, Memory, draft_at}
+use Rattle.office_records.specs.Memory.{AreSuited, AreConsistent, Memory, draft_at}
 use Rattle.office_records.specs.declared.drafts.Draft.{Draft}
 use Rattle.office_store.specs.Memory.{AreJudged, AreUnjudged, HasJudged, HasPublished, HasPut, IsRenewed, IsTogether, judged_at}
 use Rattle.office_store.specs.declared.memory.OfficeMemory.{OfficeMemory}
@@ -48,7 +48,7 @@ one_suited I drafts n x suited within suits d draft at = elim (cases_eq d n) [
   | inr other ↦ suited d draft (sym (get_or-set_other drafts n d x None other) ∙ at)
 ]
 
-pub fresh_together : {n : OfficeMemory} → AreTogether n.kept → ((d : ℕ) → draft_at n.drafts d ≡ None)
+pub fresh_together : {n : OfficeMemory} → AreConsistent n.kept → ((d : ℕ) → draft_at n.drafts d ≡ None)
     → n.published ≡ None → IsTogether n
 fresh_together exams none unpublished = record {
   exams = exams;
@@ -58,7 +58,7 @@ fresh_together exams none unpublished = record {
 }
 
 -- an office that is found
-pub found_together : {n : OfficeMemory} → AreTogether n.kept
+pub found_together : {n : OfficeMemory} → AreConsistent n.kept
     → IfSome n.kept (λ k. AreSuited k.0 n.drafts)
     → IfSome n.kept (λ k. AreFound k.0 (publication_from n.published)) → AreUnjudged n.judged
     → IsTogether n
@@ -80,7 +80,7 @@ module _ {m : OfficeMemory} (together : IsTogether m) where
       → ((I : Session) (E : Enrolled) → m.kept ≡ Some (I, E) → AreJudged I E n.drafts n.judged)
       → IsTogether n
   by_parts kept drafts published judged = record {
-    exams = subst AreTogether (sym kept) together.exams;
+    exams = subst AreConsistent (sym kept) together.exams;
     drafts = λ I E is. drafts I E (sym kept ∙ is);
     published = λ I E is. published I E (sym kept ∙ is);
     judged = λ I E is. judged I E (sym kept ∙ is);
@@ -161,7 +161,7 @@ module _ {m : OfficeMemory} (together : IsTogether m) where
       (still_judged n renewed.1 renewed.2)
   renewed_together {n = n} {I = I} {E = E} kept (Some F) drafts renewed stays exams suited = record {
     judged = λ J G is d found there draft at. absurd (none_no_some (renewed.2 d) there);
-    exams = subst AreTogether (sym renewed.0) exams;
+    exams = subst AreConsistent (sym renewed.0) exams;
     drafts = λ J G is. subst (λ K. AreSuited K n.drafts) (session J G is)
         (subst (AreSuited I) (sym renewed.1) suited);
     published = λ J G is. subst (λ K. IsFoundIn K n.published) (session J G is)
@@ -209,7 +209,7 @@ pub fits_in : {m : OfficeMemory} {I : Session} {E : Enrolled} {draft : Draft} �
 fits_in {I = I} {E = E} {draft = draft} together kept d at =
     let suits = together.drafts I E kept d draft at in
     record {
-      enrolments = subst AreTogether kept together.exams;
+      enrolments = subst AreConsistent kept together.exams;
       timetable = suits.exams;
       places = suits.places;
     }

@@ -13,7 +13,7 @@ use Rattle.exam_score.specs.Track.{track}
 use Rattle.office_tables.specs.declared.draft.DraftRow.{DraftRow}
 use Rattle.office_model.specs.Office.{OfficeState, Publication, published_enrolments}
 use Rattle.office_records.specs.FoundPublications.{AreFound, publication_from}
-use Rattle.office_records.specs.Memory.{AreSuited, AreTogether, draft_at, memory_of, published_in, scored_by, scored_draft}
+use Rattle.office_records.specs.Memory.{AreSuited, AreConsistent, draft_at, memory_of, published_in, with_penalty, scored_draft}
 use Rattle.office_records.specs.Representation.{parts_of}
 use Rattle.office_records.specs.TableRows.{drafts_at, number_if}
 use Rattle.office_records.specs.declared.drafts.Draft.{Draft}
@@ -71,7 +71,7 @@ AreScored I E drafts =
 -- the enrolments, the drafts and the publication are of the session's exams, and the breaches are
 -- those of the drafts, whatever the disk returns
 pub record IsTogether (memory : OfficeMemory) : Type 0 where
-  pub exams : AreTogether memory.kept
+  pub exams : AreConsistent memory.kept
   pub drafts : (I : Session) (E : Enrolled) → memory.kept ≡ Some (I, E)
       → AreSuited I memory.drafts
   pub published : (I : Session) (E : Enrolled) → memory.kept ≡ Some (I, E)
@@ -115,7 +115,7 @@ pub record HasPublished (publication : Placing × Vec SeatRow Global) (penalty :
 
 -- a draft with its penalty by these enrolments
 abbrev pub rescored_draft : Session → Enrolled → Draft → Draft
-rescored_draft I E draft = scored_by I E draft.timetable
+rescored_draft I E draft = with_penalty I E draft.timetable
 
 -- the new drafts are the old ones with their penalties by these enrolments
 abbrev pub AreRescored : Session → Enrolled → List (Option Draft) → List (Option Draft) → Type 0

@@ -22,7 +22,7 @@ use exam_model::{Enrolments, Instance, Timetable};
 use exam_publish::{SeatRow, shares};
 use exam_score::Parts;
 use office_model::StoreFault;
-use office_records::{Kept, kept_of};
+use office_records::{Remembered, remembered_of};
 use office_tables::{AdoptFault, Found, Version, adopt_tables};
 use sqlite::{Alter, Connection};
 use std::alloc::Global;
@@ -91,7 +91,7 @@ fn found_office<S: Alter>(
         Err(AdoptFault::Foreign) => return Err(StoreFault::BadSchema),
         Err(AdoptFault::Failed) => return Err(StoreFault::Store),
     };
-    let kept = kept_of(alloc, &found)?;
+    let kept = remembered_of(alloc, &found)?;
     check_weight(found.version, &kept.session)?;
     check_bytes(alloc, conn, &found.batches)?;
     let priced = penalty_of(alloc, &kept)?;
@@ -107,7 +107,7 @@ fn found_office<S: Alter>(
 }
 
 // Returns the penalty of the publication that is kept in memory, if there is one.
-fn penalty_of(alloc: Global, kept: &Kept) -> Result<Option<Parts>, StoreFault>
+fn penalty_of(alloc: Global, kept: &Remembered) -> Result<Option<Parts>, StoreFault>
     requires found { IfSome kept.now.session
         (λ session. AreFound session.0 (publication_from kept.now.published)) }
     ensures priced { IfOk result (λ priced. (o : OfficeState) → memory_of o ≡ kept.now.session

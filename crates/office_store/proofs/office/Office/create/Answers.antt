@@ -2,7 +2,7 @@ use Rattle.std.proofs.Common.{rules, refl, sym, ap, subst, Err, None, Ok, ◌≡
 use Rattle.sqlite.specs.Held.{state}
 use Rattle.office_store.proofs.LeavingLemmas.{empty_represents, may_make}
 use Rattle.office_tables.specs.Schema.{no_schema}
-use Rattle.office_records.specs.Memory.{AreTogether}
+use Rattle.office_records.specs.Memory.{AreConsistent}
 use Rattle.office_records.specs.FoundPublications.{publication_from}
 use Rattle.office_model.specs.declared.fault.StoreFault.TheVariants.{Store}
 use Rattle.office_store.proofs.TogetherLemmas.{fresh_together}
@@ -23,7 +23,7 @@ invariant_of-result g c = (
       priced = sym c.new.ensures.priced;
     },
   ),
-  fresh_together (subst AreTogether (sym c.new.ensures.kept) tt) c.new.ensures.drafts
+  fresh_together (subst AreConsistent (sym c.new.ensures.kept) tt) c.new.ensures.drafts
       c.new.ensures.published,
 )
 

@@ -1,7 +1,7 @@
 use Rattle.std.proofs.Common.{rules, ◌≡◌, Err, refl, sym, subst}
 use Rattle.office_model.specs.Batches.{batch_enrolled}
 use Rattle.office_store.specs.Running.{CommandRan}
-use Rattle.office_records.specs.Memory.{AreTogether}
+use Rattle.office_records.specs.Memory.{AreConsistent}
 use Rattle.office_store.proofs.BatchPuttingLemmas.{enrol_denied, enrol_moves, enrol_remembers}
 use Rattle.office_store.proofs.CommandLemmas.{refuses, refuses_unloaded, rests, seen}
 use Rattle.office_store.proofs.TogetherLemmas.{renewed_together}
@@ -54,7 +54,7 @@ invariant_of-self-2 g c =
 
 pub new_batch-requires : goal.new_batch-requires
 new_batch-requires g c = record {
-  exams = subst AreTogether c.in-Some.is c.self.invariant.2.exams;
+  exams = subst AreConsistent c.in-Some.is c.self.invariant.2.exams;
   suited = c.self.invariant.2.drafts c.in-Some.instance c.in-Some.enrolments c.in-Some.is;
   lines = c.lines_are_counted.ensures.few c.args.text.now c.args.changes.now c.requires.spelled;
 }

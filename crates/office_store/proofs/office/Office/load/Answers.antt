@@ -4,7 +4,7 @@ use Rattle.exam_model.specs.Instance.{Session}
 use Rattle.office_model.specs.Loading.{load_session}
 use Rattle.office_model.specs.declared.fault.StoreFault.TheVariants.{Loaded}
 use Rattle.office_model.proofs.RecordLemmas.{are_enrolled}
-use Rattle.office_records.specs.Memory.{AreTogether}
+use Rattle.office_records.specs.Memory.{AreConsistent}
 use Rattle.office_store.proofs.CommandLemmas.{refuses, rests}
 use Rattle.office_store.proofs.LeavingLemmas.{done_next, undone_next}
 use Rattle.office_store.proofs.LoadLemmas.{as_many, load_denied, load_moves, load_remembers}
@@ -33,7 +33,7 @@ invariant_of-self-2 g c =
           c.counts_of-loaded.ensures.counts (search rules) c.of_session.ensures.kept
           c.of_session.ensures.batches c.of_session.ensures.drafts
           c.of_session.ensures.published c.of_session.ensures.priced),
-      fresh_together (subst AreTogether (sym c.of_session.ensures.kept) as_many)
+      fresh_together (subst AreConsistent (sym c.of_session.ensures.kept) as_many)
           c.of_session.ensures.drafts c.of_session.ensures.published,
     )
 

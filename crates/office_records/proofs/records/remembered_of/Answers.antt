@@ -22,7 +22,7 @@ use Rattle.office_records.specs.declared.fault.RecordFault.TheVariants.{BadRows}
 use Rattle.office_records.proofs.DraftRowLemmas.{drafts_suited}
 use Rattle.office_records.proofs.FoundLemmas.{of_same}
 use Rattle.office_records.proofs.RecordLemmas.{AreRowsOfOffice, draft_rows, enrol_rows, kept_rows, office_of, nothing_loaded, owner_rows, published_rows, unloaded as unloaded_found}
-use Rattle.office_records.proofs.records.kept_of.Goals as goal
+use Rattle.office_records.proofs.records.remembered_of.Goals as goal
 
 -- the drafts in memory are those of these rows
 abbrev Drafted : Session → Enrolled → List DraftRow → List SlotRow → List (Option Draft) → Type 0
