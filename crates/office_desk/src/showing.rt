@@ -16,7 +16,7 @@ pub(crate) fn instance<S: Alter>(office: &mut Office<S>, alloc: Global) -> Resul
     ensures { (caller : Caller) → CommandPerformed S.Store caller instance
         office.old office.new result }
 {
-    office.look()?;
+    office.check_open()?;
     let (instance, enrolments) = office.session()?;
     match write_instance(alloc, instance, enrolments) {
         Ok(text) => Ok(Answer::Text(text)),

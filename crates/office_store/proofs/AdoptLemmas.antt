@@ -32,13 +32,13 @@ use Rattle.office_records.proofs.BatchRowLemmas.{stored_short}
 use Rattle.office_records.proofs.MemoryLemmas.{same_memory_in}
 use Rattle.office_records.proofs.SameTables.{same_sound_in, same_represents_in}
 use Rattle.office_store.specs.Leaving.{MayMigrate}
-use Rattle.office_store.specs.Opening.{HoldsOffice, IsFoundOffice, DatabaseUpgraded, WeighsNoNight}
+use Rattle.office_store.specs.Opening.{HoldsOffice, IsFoundOffice, DatabaseUpgraded, HasNoNightWeightIn}
 use Rattle.office_store.specs.declared.memory.OfficeMemory.{OfficeMemory}
 use Rattle.office_tables.specs.Alterations.{Undone, found_in}
 use Rattle.office_tables.proofs.AdoptLemmas.{one_version, unchanged_then}
 use Rattle.office_tables.proofs.Reading.{keeps_after}
 use Rattle.office_store.specs.Running.{IsAtRest, IsCommitted}
-use Rattle.office_store.specs.Transactions.{BroughtUp}
+use Rattle.office_store.specs.Transactions.{Migrated}
 use Rattle.office_store.proofs.LeavingLemmas.{survives_on, survives_same}
 use Rattle.office_store.proofs.RunLemmas.{clean_before}
 
@@ -157,17 +157,17 @@ found_then {g = g} {a = a} {b = b} {found = found} adopts first later =
 -- ---- tables brought up to version 2
 
 module _ {S A E : Type 0} (g : Ghosts S) (found : Found) (old new : Held S) (r : Result A E) where
-  pub brought_clean : (v : Version) → BroughtUp v g found old new r → HasCleanDisk (state g new)
+  pub brought_clean : (v : Version) → Migrated v g found old new r → HasCleanDisk (state g new)
       → HasCleanDisk (state g old)
   brought_clean One ran = ran.clean
   brought_clean Two left = subst (λ h. HasCleanDisk (state g h)) left.1
 
-  pub brought_rests : (v : Version) → BroughtUp v g found old new r → old.in_transaction ≡ false
+  pub brought_rests : (v : Version) → Migrated v g found old new r → old.in_transaction ≡ false
       → new.in_transaction ≡ false
   brought_rests One ran rests = ran.rests
   brought_rests Two left rests = subst (λ h. h.in_transaction ≡ false) (sym left.1) rests
 
-  pub brought_tables : (v : Version) → BroughtUp v g found old new r → HasCleanDisk (state g new)
+  pub brought_tables : (v : Version) → Migrated v g found old new r → HasCleanDisk (state g new)
       → (batches : List Batch) → HoldsTablesIn v (state g old).now (tables_of found batches)
       → OnOk r (HoldsTables (state g new).now (tables_of found batches))
   brought_tables One ran clean batches held =
@@ -176,23 +176,23 @@ module _ {S A E : Type 0} (g : Ghosts S) (found : Found) (old new : Held S) (r :
       OnOk_any r (subst (λ h. HoldsTables (state g h).now (tables_of found batches)) (sym left.1)
       held)
 
-  pub brought_same : (v : Version) → BroughtUp v g found old new r → v ≡ Two → new ≡ old
+  pub brought_same : (v : Version) → Migrated v g found old new r → v ≡ Two → new ≡ old
   brought_same One ran is = absurd (cc)
   brought_same Two left is = left.1
 
-  pub brought_committed : (v : Version) → BroughtUp v g found old new r
+  pub brought_committed : (v : Version) → Migrated v g found old new r
       → HasCleanDisk (state g new) → IsCommitted (state g old) → OnOk r (IsCommitted (state g new))
   brought_committed One ran clean was =
       on_ok_weaker r (λ done. (done.is_open, done.committed)) (ran.done clean)
   brought_committed Two left clean was =
       OnOk_any r (subst (λ h. IsCommitted (state g h)) (sym left.1) was)
 
-  pub brought_undone : (v : Version) → BroughtUp v g found old new r → HasCleanDisk (state g new)
+  pub brought_undone : (v : Version) → Migrated v g found old new r → HasCleanDisk (state g new)
       → OnErr r (Undone (state g old) (state g new))
   brought_undone One ran clean = ran.undone clean
   brought_undone Two left clean = on_err_weaker r (λ never. absurd never) left.0
 
-  pub brought_survives : (v : Version) → BroughtUp v g found old new r
+  pub brought_survives : (v : Version) → Migrated v g found old new r
       → Survives (state g old) (state g new) (λ trees. (v ≡ One)
       × (IsTrue (state g old).is_open → (batches : List Batch)
       → HoldsTablesIn v (state g old).now (tables_of found batches)
@@ -257,8 +257,8 @@ module _ (db : Database) (found : Found) (batches : List Batch)
     none_long = stored_short (tables_of found batches) o same_office kept.office
 
     -- tables of version 1 have no weight for exams over night
-    weighs : WeighsNoNight found.version (memory_of o)
-    weighs = subst (λ version. WeighsNoNight version (memory_of o))
+    weighs : HasNoNightWeightIn found.version (memory_of o)
+    weighs = subst (λ version. HasNoNightWeightIn version (memory_of o))
         (one_version there.0 found.version (sym there.1.tables.schema ∙ held.schema)) there.2
 
     -- nor has the memory of the tables that were found
@@ -266,7 +266,7 @@ module _ (db : Database) (found : Found) (batches : List Batch)
         → (office : OfficeState) × TablesRepresentOffice (tables_of found batches) office
         × IsSound (tables_of found batches) office × IsOffice office
         × (memory_of office ≡ memory))
-        → WeighsNoNight found.version memory
+        → HasNoNightWeightIn found.version memory
     none_weighed memory office_of =
         let is = office_of (found_batches none_long) in
         let same = same_memory_in found.version db o is.0 kept (record {
@@ -276,7 +276,7 @@ module _ (db : Database) (found : Found) (batches : List Batch)
           sound = is.2;
           office = is.3;
         }) in
-        subst (WeighsNoNight found.version) (same ∙ is.4) weighs
+        subst (HasNoNightWeightIn found.version) (same ∙ is.4) weighs
 
     pub none_refused : ((office : OfficeState)
         → TablesRepresentOffice (tables_of found batches) office

@@ -32,8 +32,8 @@ use Rattle.office_records.specs.Memory.{draft_at, memory_of, with_penalty}
 use Rattle.office_records.specs.Representation.{RepresentsOffice, IsSound, TablesRepresentRecords}
 use Rattle.office_records.specs.TableRows.{number_if, enrol_row, stored_batch}
 use Rattle.office_records.specs.declared.drafts.Draft.{Draft}
-use Rattle.office_store.specs.Memory.{AreDraftRows, AreRescored, AreScored, IsMemoryOf, rescored_draft, IsRenewed}
-use Rattle.office_store.specs.NewBatches.{AreDraftsWith, students_of, Enrols, IsNewFor, drafts_after, line_put, new_batch_put}
+use Rattle.office_store.specs.Memory.{AreDraftRows, AreRescored, AreScored, IsMemoryOf, rescored_draft, IsBatchApplied}
+use Rattle.office_store.specs.NewBatches.{AreDraftsWith, students_of, Enrols, IsNewFor, drafts_after, with_line, new_batch_put}
 use Rattle.office_store.specs.Running.{IsFault}
 use Rattle.office_store.specs.declared.memory.OfficeMemory.{OfficeMemory}
 use Rattle.office_store.proofs.RememberingLemmas.{is_some-map, twice, after_lines, next_is}
@@ -54,7 +54,7 @@ use Rattle.office_records.specs.BatchRows.{batch_put, enrol_rows}
 use Rattle.office_records.specs.Found.{AreDrafts}
 use Rattle.office_records.proofs.BatchPutLemmas.{batch_sound, batch_represents, drafts_moved}
 use Rattle.office_store.specs.declared.new_batch.NewBatch.{NewBatch}
-use Rattle.office_store.specs.declared.new_batch.PutLine.{PutLine}
+use Rattle.office_store.specs.declared.new_batch.LineWrite.{LineWrite}
 use Rattle.office_store.proofs.CommandLemmas.{Denies, MovesBy, Remembers}
 use Rattle.office_store.proofs.RunLemmas.{remembered_of}
 use Rattle.office_model.specs.declared.fault.Refusal.TheVariants as refusal
@@ -194,7 +194,7 @@ latest_drafts db r m I None drafts rows kept is same exams scored are some = abs
 
 -- one line
 line_is : (change : Change) (t : Tables)
-    → line_put change t ≡ record t { enrol = after_row enrol_rows change t.enrol }
+    → with_line change t ≡ record t { enrol = after_row enrol_rows change t.enrol }
 line_is change t =
     elim change.add as (λ b. (if b then with_enrol (enrol_row (pair_of change)) t
     else without_enrol change.student change.exam t)
@@ -208,47 +208,47 @@ line_is change t =
     ]
 
 -- all lines
-lines_made : (its : List PutLine) (t : Tables)
-    → after_all (λ (it : PutLine). line_put it.change) its t
-    ≡ record t { enrol = after_rows enrol_rows (map (λ (it : PutLine). it.change) its) t.enrol }
+lines_made : (its : List LineWrite) (t : Tables)
+    → after_all (λ (it : LineWrite). with_line it.change) its t
+    ≡ record t { enrol = after_rows enrol_rows (map (λ (it : LineWrite). it.change) its) t.enrol }
 lines_made [] t = refl
 lines_made (it ∷ rest) t =
-    ap (after_all (λ (it : PutLine). line_put it.change) rest) (line_is it.change t)
+    ap (after_all (λ (it : LineWrite). with_line it.change) rest) (line_is it.change t)
     ∙ lines_made rest (record t { enrol = after_row enrol_rows it.change t.enrol })
 
 -- the lines, the drafts and the batch
-all_made : (lines : List PutLine) (drafts : List InsertDraft) (row : Batch) (t : Tables)
+all_made : (lines : List LineWrite) (drafts : List InsertDraft) (row : Batch) (t : Tables)
     → with_batch row (after_all (λ (it : InsertDraft). with_draft it.row) drafts
-    (no_drafts (after_all (λ (it : PutLine). line_put it.change) lines t)))
-    ≡ batch_put (map (λ (it : PutLine). it.change) lines)
+    (no_drafts (after_all (λ (it : LineWrite). with_line it.change) lines t)))
+    ≡ batch_put (map (λ (it : LineWrite). it.change) lines)
     (reverse (map (λ (it : InsertDraft). it.row) drafts)) row t
 all_made lines drafts row t =
     ap (λ (u : Tables). with_batch row (after_all (λ (it : InsertDraft). with_draft it.row) drafts
     (no_drafts u))) (lines_made lines t)
     ∙ ap (with_batch row) (drafts_put drafts _)
     ∙ ap (λ (l : List DraftRow).
-    batch_put (map (λ (it : PutLine). it.change) lines) l row t) (append-nil _)
+    batch_put (map (λ (it : LineWrite). it.change) lines) l row t) (append-nil _)
 
 -- writes with the same lists are those of the new batch
-pub batch_made : (number : ℕ) (bytes : List ℕ) (new : NewBatch) (lines : List PutLine)
+pub batch_made : (number : ℕ) (bytes : List ℕ) (new : NewBatch) (lines : List LineWrite)
     (drafts : List InsertDraft) → lines ≡ new.lines.items → drafts ≡ new.drafts.items
     → new.lines.items ≢ [] → (t : Tables)
     → with_batch (stored_batch (record { no = number; bytes = bytes; counts = new.counts }))
     (after_all (λ (it : InsertDraft). with_draft it.row) drafts
-    (no_drafts (after_all (λ (it : PutLine). line_put it.change) lines t)))
+    (no_drafts (after_all (λ (it : LineWrite). with_line it.change) lines t)))
     ≡ new_batch_put number bytes new t
 batch_made number bytes new lines drafts a b some t =
     let row : Batch
     = stored_batch (record { no = number; bytes = bytes; counts = new.counts }) in
     let new_rows : List DraftRow = map (λ (it : InsertDraft). it.row) new.drafts.items in
     all_made lines drafts row t
-    ∙ (λ i. batch_put (map (λ (it : PutLine). it.change) (a i))
+    ∙ (λ i. batch_put (map (λ (it : LineWrite). it.change) (a i))
     (reverse (map (λ (it : InsertDraft). it.row) (b i))) row t)
     ∙ ap (λ (l : List DraftRow).
-    batch_put (map (λ (it : PutLine). it.change) new.lines.items) l row t)
+    batch_put (map (λ (it : LineWrite). it.change) new.lines.items) l row t)
     (sym (all_new new.lines.items new_rows t.draft some))
   where
-    all_new : (its : List PutLine) (new_rows old : List DraftRow) → its ≢ []
+    all_new : (its : List LineWrite) (new_rows old : List DraftRow) → its ≢ []
         → drafts_after its new_rows old ≡ reverse new_rows
     all_new [] new_rows old some = absurd (some refl)
     all_new (it ∷ its) new_rows old some = refl
@@ -259,20 +259,20 @@ pub idle_made : (number : ℕ) (bytes : List ℕ) (new : NewBatch) → new.lines
     → with_batch (stored_batch (record { no = number; bytes = bytes; counts = new.counts })) t
     ≡ new_batch_put number bytes new t
 idle_made number bytes new none t =
-    sym (ap (λ (its : List PutLine). batch_put (map (λ (it : PutLine). it.change) its)
+    sym (ap (λ (its : List LineWrite). batch_put (map (λ (it : LineWrite). it.change) its)
     (drafts_after its (map (λ (it : InsertDraft). it.row) new.drafts.items) t.draft)
     (stored_batch (record { no = number; bytes = bytes; counts = new.counts })) t) none)
 
 -- what a line writes
 pub line_comes : (change : Change) (row : EnrolRow) → change.add ≡ true
-    → row ≡ enrol_row (pair_of change) → (t : Tables) → with_enrol row t ≡ line_put change t
+    → row ≡ enrol_row (pair_of change) → (t : Tables) → with_enrol row t ≡ with_line change t
 line_comes change row add is t =
     ap (λ (r : EnrolRow). with_enrol r t) is
     ∙ sym (ap (λ b. if b then with_enrol (enrol_row (pair_of change)) t
     else without_enrol change.student change.exam t) add)
 
 pub line_goes : (change : Change) (s e : ℕ) → change.add ≡ false → s ≡ change.student
-    → e ≡ change.exam → (t : Tables) → without_enrol s e t ≡ line_put change t
+    → e ≡ change.exam → (t : Tables) → without_enrol s e t ≡ with_line change t
 line_goes change s e drop who what t =
     ap (λ n. without_enrol n e t) who ∙ ap (λ n. without_enrol change.student n t) what
     ∙ sym (ap (λ b. if b then with_enrol (enrol_row (pair_of change)) t
@@ -314,8 +314,8 @@ drafts_stored t r represents is sound = record {
 -- the drafts after the lines are those of the office, rescored or as they were
 left_drafts : (r : Records) (t : Tables) (changes : List Change) (done : Counts × Enrolled)
     → AreRecords r → TablesRepresentRecords t r → IsSound t (Some r)
-    → after_batch changes r.enrolments ≡ Ok done → (its : List PutLine) (new_rows : List DraftRow)
-    → map (λ (it : PutLine). it.change) its ≡ lines_with_effect changes r.enrolments
+    → after_batch changes r.enrolments ≡ Ok done → (its : List LineWrite) (new_rows : List DraftRow)
+    → map (λ (it : LineWrite). it.change) its ≡ lines_with_effect changes r.enrolments
     → (its ≢ [] → AreDraftsWith r done.1 new_rows)
     → AreDraftsWith r done.1 (drafts_after its new_rows t.draft)
 left_drafts r t changes done is represents sound judged [] new_rows lines scored = record {
@@ -445,7 +445,7 @@ module _ (number : ℕ) (bytes : List ℕ) {changes : List Change}
           )
 
       pub enrol_remembers : {n : OfficeMemory} → n.batches ≡ m.batches + 1 → n.published ≡ m.published
-          → n.priced ≡ m.priced → IsRenewed I E new.enrolments new.rescored m n
+          → n.priced ≡ m.priced → IsBatchApplied I E new.enrolments new.rescored m n
           → (AreScored I E m.drafts
           → IfSome new.enrolments (λ F. AreRescored I F m.drafts new.rescored))
           → Remembers (batch_enrolled number bytes) new.counts a m n

@@ -61,7 +61,7 @@ use Rattle.office_records.specs.Representation.{RepresentsOffice, IsSound, Table
 use Rattle.office_records.specs.TableRows.{meta_row, session_text}
 use Rattle.office_store.specs.ChangedPlacements.{changed_rows, exams_of, placements_without}
 use Rattle.office_store.specs.PublicationChanges.{mark_put, meta_after, places_put, publication_put, seats_left, shares_put}
-use Rattle.office_store.specs.RowPuts.{place_gone, placement_put, seat_gone}
+use Rattle.office_store.specs.RowPuts.{deleted_placement, placement_put, seat_gone}
 use Rattle.office_store.specs.Memory.{HasPublished, IsMemoryOf}
 use Rattle.office_store.specs.declared.memory.OfficeMemory.{OfficeMemory}
 use Rattle.office_store.proofs.ChangedPlacementLemmas.{AreOwnExams, own_exams, stored_put}
@@ -224,7 +224,7 @@ shares_gone_after its t =
 -- writes with the same lists are those of the new publication
 pub places_made : (new : NewPublication) {away : List DeletePlacement} {ps : List InsertPlacement}
     {gone : List DeleteSeat} {ss : List InsertSeat}
-    → away ≡ new.places_gone.items → ps ≡ new.placements.items
+    → away ≡ new.deleted_placements.items → ps ≡ new.placements.items
     → gone ≡ new.seats_gone.items → ss ≡ new.seats.items → (t : Tables)
     → after_all (λ (it : InsertSeat). with_seat it.row) ss
     (after_all (λ (it : DeleteSeat). without_seat it.student it.exam) gone
@@ -288,7 +288,7 @@ own_of (Some p) before were = own_exams p.timetable before were
 -- the placements afterwards are those of the timetable: unchanged ones and inserted ones
 placed_in : (published : Option Publication) (rows before placed : List PlacedRow)
     (gone : List DeletePlacement) (put : List InsertPlacement)
-    → gone ≡ map place_gone (changed_rows before rows)
+    → gone ≡ map deleted_placement (changed_rows before rows)
     → put ≡ map placement_put (changed_rows rows before)
     → IsPermutation before (placed_rows published) → IsPermutation placed before
     → IsPermutation (reverse (map (λ (it : InsertPlacement). it.row) put)
@@ -299,7 +299,7 @@ placed_in published rows before placed gone put away come were are =
     (map (λ (it : DeletePlacement). it.exam) gone) (exams_of (changed_rows before rows))
     (map (λ (it : InsertPlacement). it.row) put) (changed_rows rows before)
     (ap (map (λ (it : DeletePlacement). it.exam)) away
-    ∙ map-map (λ (it : DeletePlacement). it.exam) place_gone (changed_rows before rows))
+    ∙ map-map (λ (it : DeletePlacement). it.exam) deleted_placement (changed_rows before rows))
     (ap (map (λ (it : InsertPlacement). it.row)) come
     ∙ map_back placement_put (λ (it : InsertPlacement). it.row) (λ x. refl)
     (changed_rows rows before)))
@@ -398,10 +398,10 @@ module _ (r : Records) (T : Placing) (is : AreRecords r) (fits : Fits r.session 
         (sym (left_without gone t.seat))
         (differences.seats_put (publication_rows r.published) new_one.rows up up' t.seat stored))
 
-    share_in : IsPermutation t.share_student (student_share_rows r.session r.published)
+    share_of_rows : IsPermutation t.share_student (student_share_rows r.session r.published)
         → IsPermutation (publication_put new t).share_student
         (student_share_rows r.session (Some new_one))
-    share_in stored =
+    share_of_rows stored =
         let all = student_share_rows r.session (Some new_one) in
         let before = candidates_before (publication_rows r.published) retimed in
         IsPermutation-trans _ _ _
@@ -426,8 +426,8 @@ module _ (r : Records) (T : Placing) (is : AreRecords r) (fits : Fits r.session 
       draft = h.draft;
       slot = h.slot;
       published = record {
-        placed = placed_in r.published (placed_from 0 T) before t.placed new.places_gone.items
-            new.placements.items put.places_gone put.placements were
+        placed = placed_in r.published (placed_from 0 T) before t.placed new.deleted_placements.items
+            new.placements.items put.deleted_placements put.placements were
             (IsPermutation-trans _ _ _ h.published.placed (IsPermutation-sym _ _ were));
         seat = seat_in (old_in_order r is) (new_in_order r T is fits permitted) h.published.seat;
       };
@@ -439,7 +439,7 @@ module _ (r : Records) (T : Placing) (is : AreRecords r) (fits : Fits r.session 
     published_sound h = record {
       scored = h.scored;
       shared = record {
-        of_students = share_in h.shared.of_students;
+        of_students = share_of_rows h.shared.of_students;
         of_parts = put_in _ (part_share_rows r.session (Some new_one))
             (ap (map (λ (it : InsertPartShare). it.row)) put.parts
             ∙ map_back _ (λ (it : InsertPartShare). it.row) (λ x. refl)

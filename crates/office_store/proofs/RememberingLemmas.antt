@@ -19,7 +19,7 @@ use Rattle.office_model.specs.declared.fault.StoreFault.{StoreFault}
 use Rattle.office_records.specs.FoundPublications.{publication_from}
 use Rattle.office_records.specs.Memory.{draft_at, with_penalty}
 use Rattle.office_records.specs.declared.drafts.Draft.{Draft}
-use Rattle.office_store.specs.Memory.{AreRescored, HasJudged, HasPublished, HasPut, IsMemoryOf, IsRenewed, rescored_draft}
+use Rattle.office_store.specs.Memory.{AreRescored, HasJudged, HasPublished, HasPut, IsMemoryOf, IsBatchApplied, rescored_draft}
 use Rattle.office_store.specs.declared.memory.OfficeMemory.{OfficeMemory}
 
 pub is_some-map : {X Y : Type 0} (f : X → Y) (x : Option X) → is_some (option_map f x) ≡ is_some x
@@ -95,7 +95,7 @@ module _ {r : Records} {m : OfficeMemory} {I : Session} {E : Enrolled} (kept : m
 
   pub after_lines : {n : OfficeMemory} (all : List KeptBatch) (drafts : List (Option Draft))
       → length all ≡ length r.batches + 1 → n.batches ≡ m.batches + 1 → n.published ≡ m.published
-      → n.priced ≡ m.priced → (F : Option Enrolled) → IsRenewed I E F drafts m n
+      → n.priced ≡ m.priced → (F : Option Enrolled) → IsBatchApplied I E F drafts m n
       → IfSome F (λ F. AreRescored I F m.drafts drafts)
       → IsMemoryOf (Some (record r { enrolments = current_enrolments F r.enrolments; batches = all })) n
   after_lines all drafts count batches stays priced None renewed scored = record {

@@ -22,7 +22,7 @@ use Rattle.office_records.specs.Memory.{draft_at}
 use Rattle.office_records.specs.declared.drafts.Draft.{Draft}
 use Rattle.office_store.specs.Judging.{draft_judged}
 use Rattle.office_store.specs.Memory.{IsMemoryOf}
-use Rattle.office_store.specs.Pricing.{draft_priced}
+use Rattle.office_store.specs.Pricing.{penalty_shown}
 use Rattle.office_store.specs.Running.{CommandOutcome}
 use Rattle.office_store.specs.declared.memory.OfficeMemory.{OfficeMemory}
 use Rattle.office_store.proofs.CommandLemmas.{Denies}
@@ -46,7 +46,7 @@ module _ (d : ℕ) {m : OfficeMemory} {draft : Draft} (at : draft_at m.drafts d 
       (Some r, rw (there.timetable, same, there.scored) refl, refl)
 
   pub in_memory_priced : (o : OfficeState) → IsMemoryOf o m
-      → CommandOutcome (draft_priced d o) o (λ new. new ≡ o) (Ok draft.parts)
+      → CommandOutcome (penalty_shown d o) o (λ new. new ≡ o) (Ok draft.parts)
   in_memory_priced None is = absurd (let none = sym (is.drafts d) ∙ at in cc)
   in_memory_priced (Some r) is =
       let there = there_of d r draft (sym (is.drafts d) ∙ at) in

@@ -20,7 +20,7 @@ use Rattle.office_model.specs.Publishing.{publication_rows}
 use Rattle.office_records.specs.FoundPublications.{AreFound, publication_from}
 use Rattle.office_records.specs.Memory.{AreSuited, AreConsistent, Memory, draft_at}
 use Rattle.office_records.specs.declared.drafts.Draft.{Draft}
-use Rattle.office_store.specs.Memory.{AreJudged, AreUnjudged, HasJudged, HasPublished, HasPut, IsRenewed, IsTogether, judged_at}
+use Rattle.office_store.specs.Memory.{AreJudged, AreUnjudged, HasJudged, HasPublished, HasPut, IsBatchApplied, IsConsistent, judged_at}
 use Rattle.office_store.specs.declared.memory.OfficeMemory.{OfficeMemory}
 
 -- a timetable with its seats
@@ -49,7 +49,7 @@ one_suited I drafts n x suited within suits d draft at = elim (cases_eq d n) [
 ]
 
 pub fresh_together : {n : OfficeMemory} → AreConsistent n.kept → ((d : ℕ) → draft_at n.drafts d ≡ None)
-    → n.published ≡ None → IsTogether n
+    → n.published ≡ None → IsConsistent n
 fresh_together exams none unpublished = record {
   exams = exams;
   drafts = λ I E _ d draft at. absurd (none_no_some (none d) at);
@@ -61,7 +61,7 @@ fresh_together exams none unpublished = record {
 pub found_together : {n : OfficeMemory} → AreConsistent n.kept
     → IfSome n.kept (λ k. AreSuited k.0 n.drafts)
     → IfSome n.kept (λ k. AreFound k.0 (publication_from n.published)) → AreUnjudged n.judged
-    → IsTogether n
+    → IsConsistent n
 found_together {n = n} exams suited found unjudged = record {
   exams = exams;
   drafts = λ I E kept.
@@ -73,12 +73,12 @@ found_together {n = n} exams suited found unjudged = record {
 
 -- ---- the session and the enrolments stay
 
-module _ {m : OfficeMemory} (together : IsTogether m) where
+module _ {m : OfficeMemory} (together : IsConsistent m) where
   by_parts : {n : OfficeMemory} → n.kept ≡ m.kept
       → ((I : Session) (E : Enrolled) → m.kept ≡ Some (I, E) → AreSuited I n.drafts)
       → ((I : Session) (E : Enrolled) → m.kept ≡ Some (I, E) → IsFoundIn I n.published)
       → ((I : Session) (E : Enrolled) → m.kept ≡ Some (I, E) → AreJudged I E n.drafts n.judged)
-      → IsTogether n
+      → IsConsistent n
   by_parts kept drafts published judged = record {
     exams = subst AreConsistent (sym kept) together.exams;
     drafts = λ I E is. drafts I E (sym kept ∙ is);
@@ -104,9 +104,9 @@ module _ {m : OfficeMemory} (together : IsTogether m) where
   pub put_together : {n : OfficeMemory} {d : ℕ} {x : Option Draft}
       → ((I : Session) (E : Enrolled) → m.kept ≡ Some (I, E)
       → IfSome x (λ draft. Suits I draft.timetable)) → (d ≤ 8 → HasPut d x m n) → (8 < d → n ≡ m)
-      → IsTogether n
+      → IsConsistent n
   put_together {n = n} {d = d} suits within beyond = elim (cases_lt 8 d) [
-    | inl high ↦ subst IsTogether (sym (beyond high)) together
+    | inl high ↦ subst IsConsistent (sym (beyond high)) together
     | inr low ↦
         let put = within low in
         by_parts put.kept
@@ -126,7 +126,7 @@ module _ {m : OfficeMemory} (together : IsTogether m) where
   -- a publication
   pub published_together : {n : OfficeMemory} {new : Publishing} {penalty : Penalty} → HasPublished new penalty m n
       → ((I : Session) (E : Enrolled) → m.kept ≡ Some (I, E) → IsFoundIn I (Some new))
-      → IsTogether n
+      → IsConsistent n
   published_together {n = n} has found =
       by_parts has.kept (still_suited n has.drafts)
       (λ I E is. subst (IsFoundIn I) (sym has.published) (found I E is))
@@ -136,9 +136,9 @@ module _ {m : OfficeMemory} (together : IsTogether m) where
   pub judged_together : {n : OfficeMemory} {d : ℕ} {found : Option (Vec Breach Global)} → ((I : Session) (E : Enrolled)
       → m.kept ≡ Some (I, E) → IfSome found (λ v. (draft : Draft)
       → draft_at m.drafts d ≡ Some draft → v.items ≡ breaches_of I E draft.timetable))
-      → (d ≤ 8 → HasJudged d found m n) → (8 < d → n ≡ m) → IsTogether n
+      → (d ≤ 8 → HasJudged d found m n) → (8 < d → n ≡ m) → IsConsistent n
   judged_together {n = n} {d = d} right within beyond = elim (cases_lt 8 d) [
-    | inl high ↦ subst IsTogether (sym (beyond high)) together
+    | inl high ↦ subst IsConsistent (sym (beyond high)) together
     | inr low ↦
         let has = within low in
         by_parts has.kept (still_suited n has.drafts) (still_found n has.published)
@@ -154,8 +154,8 @@ module _ {m : OfficeMemory} (together : IsTogether m) where
 
   -- a batch
   pub renewed_together : {n : OfficeMemory} {I : Session} {E : Enrolled} → m.kept ≡ Some (I, E) → (F : Option Enrolled)
-      (drafts : List (Option Draft)) → IsRenewed I E F drafts m n → n.published ≡ m.published
-      → IfSome F (λ F. length F ≡ length I.exams) → AreSuited I drafts → IsTogether n
+      (drafts : List (Option Draft)) → IsBatchApplied I E F drafts m n → n.published ≡ m.published
+      → IfSome F (λ F. length F ≡ length I.exams) → AreSuited I drafts → IsConsistent n
   renewed_together {n = n} kept None drafts renewed stays exams suited =
       by_parts (renewed.0 ∙ sym kept) (still_suited n renewed.1) (still_found n stays)
       (still_judged n renewed.1 renewed.2)
@@ -204,7 +204,7 @@ few_right m d kept at is (Some v) same J F also =
 
 -- ---- a draft in memory
 
-pub fits_in : {m : OfficeMemory} {I : Session} {E : Enrolled} {draft : Draft} → IsTogether m
+pub fits_in : {m : OfficeMemory} {I : Session} {E : Enrolled} {draft : Draft} → IsConsistent m
     → m.kept ≡ Some (I, E) → (d : ℕ) → draft_at m.drafts d ≡ Some draft → Fits I E draft.timetable
 fits_in {I = I} {E = E} {draft = draft} together kept d at =
     let suits = together.drafts I E kept d draft at in

@@ -70,7 +70,7 @@ AreScored I E drafts =
 
 -- the enrolments, the drafts and the publication are of the session's exams, and the breaches are
 -- those of the drafts, whatever the disk returns
-pub record IsTogether (memory : OfficeMemory) : Type 0 where
+pub record IsConsistent (memory : OfficeMemory) : Type 0 where
   pub exams : AreConsistent memory.kept
   pub drafts : (I : Session) (E : Enrolled) → memory.kept ≡ Some (I, E)
       → AreSuited I memory.drafts
@@ -124,11 +124,11 @@ AreRescored I E old new =
 
 -- after a batch the memory has the new enrolments and drafts, and no breaches; or, if it made none,
 -- all that it had
-abbrev pub IsRenewed : Session → Enrolled → Option Enrolled → List (Option Draft)
+abbrev pub IsBatchApplied : Session → Enrolled → Option Enrolled → List (Option Draft)
     → OfficeMemory → OfficeMemory → Type 0
-IsRenewed I E None drafts old new =
+IsBatchApplied I E None drafts old new =
     (new.kept ≡ Some (I, E)) × (new.drafts ≡ old.drafts) × (new.judged ≡ old.judged)
-IsRenewed I E (Some F) drafts old new =
+IsBatchApplied I E (Some F) drafts old new =
     (new.kept ≡ Some (I, F)) × (new.drafts ≡ drafts) × AreUnjudged new.judged
 
 -- ---- rows of drafts

@@ -22,17 +22,17 @@ use Rattle.office_records.specs.Found.{AreDrafts}
 use Rattle.office_records.specs.TableRows.{enrol_row, stored_batch}
 use Rattle.office_store.specs.Running.{IsFault}
 use Rattle.office_store.specs.declared.new_batch.NewBatch.{NewBatch}
-use Rattle.office_store.specs.declared.new_batch.PutLine.{PutLine}
+use Rattle.office_store.specs.declared.new_batch.LineWrite.{LineWrite}
 
 -- the tables after a line's row is inserted or deleted
-abbrev pub line_put : Change → Tables → Tables
-line_put change t =
+abbrev pub with_line : Change → Tables → Tables
+with_line change t =
     if change.add then with_enrol (enrol_row (pair_of change)) t
     else without_enrol change.student change.exam t
 
 -- a line as a part of a transaction
-abbrev pub put_line : Change → PutLine
-put_line change = record { change = change }
+abbrev pub line_write : Change → LineWrite
+line_write change = record { change = change }
 
 -- the student of each line
 abbrev pub students_of : List Change → List ℕ
@@ -66,7 +66,7 @@ IsRowOf kept found =
     map batch_from (option_to_list found) ≡ map stored_batch (option_to_list kept)
 
 -- the rows of the drafts after such lines: new ones, or, if no line acts, the old ones
-abbrev pub drafts_after : List PutLine → List DraftRow → List DraftRow → List DraftRow
+abbrev pub drafts_after : List LineWrite → List DraftRow → List DraftRow → List DraftRow
 drafts_after [] new_rows rows = rows
 drafts_after (line ∷ lines) new_rows rows = reverse new_rows
 

@@ -26,7 +26,7 @@ use Rattle.office_records.specs.TableRows.{session_text}
 use Rattle.office_store.specs.ChangedPlacements.{changed_rows}
 use Rattle.office_store.specs.Running.{IsFault}
 use Rattle.office_store.specs.declared.new_publication.NewPublication.{NewPublication}
-use Rattle.office_store.specs.RowPuts.{place_gone, placement_put, seat_gone, seat_put, deleted_share, student_share_put, part_share_put}
+use Rattle.office_store.specs.RowPuts.{deleted_placement, placement_put, seat_gone, seat_put, deleted_share, student_share_put, part_share_put}
 
 -- ---- the writes
 
@@ -47,7 +47,8 @@ pub record AreInserted (I : Session) (T : Placing) (before : List PlacedRow)
     (old rows : List SeatRow)
     (penalty : ℕ) (new : NewPublication) : Type 0 where
   pub text : option_map (λ text. text.items) new.text ≡ mark_text I before
-  pub places_gone : new.places_gone.items ≡ map place_gone (changed_rows before (placed_from 0 T))
+  pub deleted_placements : new.deleted_placements.items
+      ≡ map deleted_placement (changed_rows before (placed_from 0 T))
   pub placements : new.placements.items ≡ map placement_put (changed_rows (placed_from 0 T) before)
   pub seats_gone : new.seats_gone.items
       ≡ map seat_gone (map stored_seat (rows_beside rows old))

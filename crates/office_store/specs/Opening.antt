@@ -16,15 +16,15 @@ use Rattle.office_store.specs.Memory.{IsMemoryOf}
 use Rattle.office_store.specs.declared.memory.OfficeMemory.{OfficeMemory}
 
 -- in version 1 the weight of exams over night is 0
-abbrev pub WeighsNoNight : Version → Memory → Type 0
-WeighsNoNight One memory = HasNoNightWeight memory
-WeighsNoNight Two memory = Unit {0}
+abbrev pub HasNoNightWeightIn : Version → Memory → Type 0
+HasNoNightWeightIn One memory = HasNoNightWeight memory
+HasNoNightWeightIn Two memory = Unit {0}
 
 -- the database represents this office in one of the two versions
 abbrev pub HoldsOffice : Database → OfficeState → Type 0
 HoldsOffice db office =
     (version : Version) × RepresentsOfficeIn version db office
-    × WeighsNoNight version (memory_of office)
+    × HasNoNightWeightIn version (memory_of office)
 
 -- the database represents this office; one with no table represents the office before its load
 abbrev pub IsOfficeOf : Database → OfficeState → Type 0
@@ -38,7 +38,7 @@ pub record IsFoundOffice (db : Database) (found : Found) (memory : OfficeMemory)
   pub tables : HoldsTablesIn found.version db (tables_of found batches)
   pub office : OfficeState
   pub kept : RepresentsOfficeIn found.version db office
-  pub weighs : WeighsNoNight found.version (memory_of office)
+  pub weighs : HasNoNightWeightIn found.version (memory_of office)
   pub in_memory : IsMemoryOf office memory
 
 -- the old database represented an office, and the new one represents it in version 2

@@ -7,7 +7,7 @@ use Rattle.office_model.specs.DraftCommands.{draft_shown}
 use Rattle.office_model.specs.Office.{OfficeState}
 
 -- the penalty of a draft, with the live enrolments
-abbrev pub draft_priced : ℕ → OfficeState → CommandResult Penalty
-draft_priced d office = do
+abbrev pub penalty_shown : ℕ → OfficeState → CommandResult Penalty
+penalty_shown d office = do
   found ← draft_shown d office
   Ok (found.0.1, found.1)

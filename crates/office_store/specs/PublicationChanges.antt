@@ -31,7 +31,7 @@ abbrev pub places_put : NewPublication → Tables → Tables
 places_put new t = record t {
   meta = meta_after new.text t.meta;
   placed = reverse (map (λ it. it.row) new.placements.items)
-      ++ placements_without (map (λ it. it.exam) new.places_gone.items) t.placed;
+      ++ placements_without (map (λ it. it.exam) new.deleted_placements.items) t.placed;
   seat = reverse (map (λ it. it.row) new.seats.items)
       ++ seats_left new.seats_gone.items t.seat;
 }

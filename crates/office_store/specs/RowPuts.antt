@@ -13,8 +13,8 @@ use Rattle.office_tables.specs.Inserted.{InsertPartShare}
 use Rattle.office_tables.specs.declared.share_student.InsertStudentShare.{InsertStudentShare}
 
 -- the delete of an exam's published place
-abbrev pub place_gone : PlacedRow → DeletePlacement
-place_gone row = record { exam = row.exam }
+abbrev pub deleted_placement : PlacedRow → DeletePlacement
+deleted_placement row = record { exam = row.exam }
 
 -- the insert of a published place
 abbrev pub placement_put : PlacedRow → InsertPlacement

@@ -18,8 +18,8 @@ RowsMigrated found old new =
     → IsWritten (tables_of found batches) old new
 
 -- tables of version 1 are migrated in a transaction; those of version 2 are left as they are
-abbrev pub BroughtUp : {S A E : Type 0} → Version → Ghosts S → Found → Held S → Held S
+abbrev pub Migrated : {S A E : Type 0} → Version → Ghosts S → Found → Held S → Held S
     → Result A E → Type 0
-BroughtUp One store found old new result =
+Migrated One store found old new result =
     TransactionRan store (RowsMigrated found) old new result
-BroughtUp Two store found old new result = OnErr result ⊥ × (new ≡ old)
+Migrated Two store found old new result = OnErr result ⊥ × (new ≡ old)

@@ -9,11 +9,11 @@ ghost use Rattle.office_store.specs.Faults.{IsOfDatabase};
 ghost use Rattle.office_store.specs.Leaving.{LeavesOpened, MayMigrate};
 ghost use Rattle.office_records.specs.FoundPublications.{AreFound, publication_from};
 ghost use Rattle.office_records.specs.Memory.{memory_of, published_in};
-ghost use Rattle.office_store.specs.Memory.{IsTogether, priced_as, priced_in};
-ghost use Rattle.office_store.specs.Opening.{HoldsOffice, IsFoundOffice, DatabaseUpgraded, WeighsNoNight};
-ghost use Rattle.office_store.specs.Transactions.{BroughtUp};
+ghost use Rattle.office_store.specs.Memory.{IsConsistent, priced_as, priced_in};
+ghost use Rattle.office_store.specs.Opening.{HoldsOffice, IsFoundOffice, DatabaseUpgraded, HasNoNightWeightIn};
+ghost use Rattle.office_store.specs.Transactions.{Migrated};
 
-use crate::fault::Failed;
+use crate::fault::StatementFailed;
 use crate::kept_bytes::check_bytes;
 use crate::memory::{OfficeMemory, no_breaches};
 use crate::office::Office;
@@ -62,7 +62,7 @@ impl<S: Alter> Office<S> {
             Ok(kept) => kept,
             Err(fault) => return Err((fault, conn)),
         };
-        match bring_up(&mut conn, &found) {
+        match migrate_if_old(&mut conn, &found) {
             Ok(()) => Ok(Office { conn, memory }),
             Err(_) => Err((StoreFault::Store, conn)),
         }
@@ -77,7 +77,7 @@ fn found_office<S: Alter>(
 ) -> Result<(Found, OfficeMemory), StoreFault>
     ensures kept { HasCleanDisk (state S.Store conn.new)
         → IfOk result (λ kept. IsFoundOffice (state S.Store conn.old).now kept.0 kept.1) }
-    ensures together { IfOk result (λ kept. IsTogether kept.1) }
+    ensures together { IfOk result (λ kept. IsConsistent kept.1) }
     ensures open { HasCleanDisk (state S.Store conn.new)
         → OnOk result (IsTrue (state S.Store conn.new).is_open) }
     ensures none { HasCleanDisk (state S.Store conn.new)
@@ -145,8 +145,8 @@ fn published_penalty(
 // Checks that tables of version 1 have weight 0 for exams over night. `BadSchema`: they have
 // another.
 fn check_weight(version: Version, kept: &Option<(Instance, Enrolments)>) -> Result<(), StoreFault>
-    ensures are { OnOk result (WeighsNoNight version kept.now) }
-    ensures none { OnErr result (WeighsNoNight version kept.now → ⊥) }
+    ensures are { OnOk result (HasNoNightWeightIn version kept.now) }
+    ensures none { OnErr result (HasNoNightWeightIn version kept.now → ⊥) }
     ensures fault { IfErr result (λ e. e ≡ StoreFault.BadSchema) }
 {
     match (version, kept) {
@@ -158,9 +158,9 @@ fn check_weight(version: Version, kept: &Option<(Instance, Enrolments)>) -> Resu
 }
 
 // Migrates the tables to version 2 if they are of version 1.
-fn bring_up<S: Alter>(conn: &mut Connection<S>, found: &Found) -> Result<(), Failed>
+fn migrate_if_old<S: Alter>(conn: &mut Connection<S>, found: &Found) -> Result<(), StatementFailed>
     requires rests { conn.old.in_transaction ≡ false }
-    ensures { BroughtUp found.now.version S.Store found.now conn.old conn.new result }
+    ensures { Migrated found.now.version S.Store found.now conn.old conn.new result }
 {
     match found.version {
         Version::One => migrate_tables(conn, found.meta.published, &found.meta.instance),

@@ -6,7 +6,7 @@ ghost use Rattle.office_model.specs.Office.{OfficeState};
 ghost use Rattle.office_records.specs.Representation.{RepresentsOffice};
 ghost use Rattle.office_store.specs.Leaving.{LeavesUnchanged};
 
-use crate::fault::Failed;
+use crate::fault::StatementFailed;
 use crate::office::Office;
 use office_tables::Query;
 use sqlite::Alter;
@@ -14,7 +14,11 @@ use std::alloc::Global;
 
 impl<S: Alter> Office<S> {
     // Returns the rows that the file's tables have for a query.
-    pub(crate) fn ask<Q: Query>(&mut self, alloc: Global, query: &Q) -> Result<Q::Rows, Failed>
+    pub(crate) fn ask<Q: Query>(
+        &mut self,
+        alloc: Global,
+        query: &Q,
+    ) -> Result<Q::Rows, StatementFailed>
         ensures rows { HasCleanDisk (state S.Store self.new) → (office : OfficeState)
             → (kept : RepresentsOffice (state S.Store self.new).now office)
             → IfOk result (Q.answers query.now kept.held) }

@@ -10,18 +10,18 @@ use office_tables::StudentShareRow;
 
 // Returns the share in a candidate's row; all amounts are 0 if there is no row. `BadSchema`: there
 // are two rows, or the row's amounts are too large for a share.
-pub(crate) fn personal_in(rows: &[StudentShareRow]) -> Result<PersonalParts, StoreFault>
+pub(crate) fn checked_share(rows: &[StudentShareRow]) -> Result<PersonalParts, StoreFault>
     ensures none { rows.now ≡ [] → result ≡ Ok no_share }
     ensures one { (row : ShareRow) → rows.now ≡ row ∷ []
         → personal_total (share_in_row row) < 2 ^ 62 → result ≡ Ok (share_in_row row) }
 {
-    match share_in(rows) {
+    match share_of_rows(rows) {
         Some(share) => Ok(share),
         None => Err(StoreFault::BadSchema),
     }
 }
 
-fn share_in(rows: &[StudentShareRow]) -> Option<PersonalParts>
+fn share_of_rows(rows: &[StudentShareRow]) -> Option<PersonalParts>
     ensures none { rows.now ≡ [] → result ≡ Some no_share }
     ensures one { (row : ShareRow) → rows.now ≡ row ∷ []
         → personal_total (share_in_row row) < 2 ^ 62 → result ≡ Some (share_in_row row) }

@@ -32,7 +32,7 @@ impl<S: Alter> Office<S> {
         // change is committed.
         ensures leaves { LeavesNext S.Store (draft_made number text.now) self.old self.new result }
     {
-        self.look()?;
+        self.check_open()?;
         let memory = &self.memory;
         let Some((instance, enrolments)) = &memory.kept else {
             return Err(StoreFault::NotLoaded);
@@ -63,7 +63,7 @@ impl<S: Alter> Office<S> {
         // change is committed.
         ensures leaves { LeavesNext S.Store (draft_dropped number) self.old self.new result }
     {
-        self.look()?;
+        self.check_open()?;
         if self.memory.kept.is_none() {
             return Err(StoreFault::NotLoaded);
         }

@@ -16,7 +16,7 @@ ghost use Rattle.office_store.specs.Changes.{move_writes, new_place};
 ghost use Rattle.office_store.specs.Editing.{Edits, Judges};
 ghost use Rattle.office_store.specs.FoldReads.{LeavesRows};
 ghost use Rattle.office_store.specs.Leaving.{LeavesNext};
-ghost use Rattle.office_store.specs.Memory.{IsMemoryOf, IsTogether};
+ghost use Rattle.office_store.specs.Memory.{IsMemoryOf, IsConsistent};
 ghost use Rattle.office_store.specs.Running.{IsCommitted, CommandRan};
 
 use crate::folding::penalty_after;
@@ -43,7 +43,7 @@ pub(crate) struct Judged<'a> {
 #[derive(Drop)]
 pub(crate) struct EditedDraft {
     pub(crate) draft: Draft,
-    pub(crate) places: Vec<Moved>,
+    pub(crate) places: Vec<PlaceWrites>,
 }
 
 impl<S: Alter> Office<S> {
@@ -55,7 +55,7 @@ impl<S: Alter> Office<S> {
         // change is committed.
         ensures leaves { LeavesNext S.Store (draft_edited number edit) self.old self.new result }
     {
-        self.look()?;
+        self.check_open()?;
         let new = edited_draft(alloc, &mut self.conn, &self.memory, number, edit)?;
         let EditedDraft { draft, places } = new;
         let parts = draft.parts;
@@ -87,7 +87,7 @@ fn edited_draft<S: Alter>(
     number: u32,
     edit: Edit,
 ) -> Result<EditedDraft, StoreFault>
-    requires together { IsTogether memory.now }
+    requires together { IsConsistent memory.now }
     ensures edits { HasCleanDisk (state S.Store conn.new) → IsCommitted (state S.Store conn.old)
         → (office : OfficeState) → RepresentsOffice (state S.Store conn.old).now office
         → IsMemoryOf office memory.now → Edits number edit office result }
@@ -164,7 +164,7 @@ fn new_places(
     draft: u32,
     timetable: &Timetable,
     exams: &[ExamNo],
-) -> Result<Vec<Moved>, AllocError>
+) -> Result<Vec<PlaceWrites>, AllocError>
     requires exist { All (λ e. e < length timetable.now) exams.now }
     ensures { IfOk result (λ places. places.items ≡ map (new_place draft timetable.now) exams.now) }
 {
@@ -176,9 +176,9 @@ fn new_places(
 }
 
 // The writes that delete an exam's place in a draft and insert the new one, if there is one.
-pub(crate) type Moved = Both<DeleteSlot, Option<InsertSlot>>;
+pub(crate) type PlaceWrites = Both<DeleteSlot, Option<InsertSlot>>;
 
-fn move_writes(draft: u32, exam: ExamNo, place: Option<Place>) -> Moved
+fn move_writes(draft: u32, exam: ExamNo, place: Option<Place>) -> PlaceWrites
     ensures { result ≡ move_writes draft exam place }
 {
     let exam = exam.get();

@@ -84,7 +84,7 @@ impl<S: Alter> Office<S> {
         let new = new_batch(alloc, instance, enrolments, memory, changes)?;
         let counts = new.counts;
         put_batch(&mut self.conn, &new, number, text)?;
-        self.memory.renew(new.enrolments, new.rescored);
+        self.memory.apply_batch(new.enrolments, new.rescored);
         Ok(counts)
     }
 }

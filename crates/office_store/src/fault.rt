@@ -4,23 +4,23 @@ use sqlite::Error;
 
 // The fault of a statement that failed; nothing has changed.
 #[derive(Clone, Copy)]
-pub(crate) struct Failed;
+pub(crate) struct StatementFailed;
 
-impl From<Error> for Failed {
+impl From<Error> for StatementFailed {
     ghost from_gives = { λ _ _. Unit {0} };
 
-    fn from(_error: Error) -> Failed {
-        Failed
+    fn from(_error: Error) -> StatementFailed {
+        StatementFailed
     }
 }
 
-impl From<Failed> for StoreFault {
+impl From<StatementFailed> for StoreFault {
     ghost use Rattle.std.specs.Prelude.{◌≡◌};
     ghost use Rattle.office_model.specs.declared.fault.StoreFault.TheVariants.{Store};
 
     ghost from_gives = { λ _ e. e ≡ Store };
 
-    fn from(_failed: Failed) -> StoreFault {
+    fn from(_failed: StatementFailed) -> StoreFault {
         StoreFault::Store
     }
 }

@@ -36,7 +36,7 @@ impl<S: Alter> Office<S> {
             Ok(read) => read,
             Err(fault) => return Err(StoreFault::of_file(fault)),
         };
-        self.look()?;
+        self.check_open()?;
         if self.memory.kept.is_some() {
             return Err(StoreFault::Loaded);
         }

@@ -7,7 +7,7 @@ ghost use Rattle.office_model.specs.Publishing.{publication_rows};
 ghost use Rattle.office_records.specs.FoundPublications.{publication_from};
 ghost use Rattle.office_records.specs.Memory.{HasNoNightWeight, draft_at};
 ghost use Rattle.office_records.specs.Publications.{placed_rows};
-ghost use Rattle.office_store.specs.Memory.{AreUnjudged, HasJudged, HasPublished, HasPut, IsRenewed};
+ghost use Rattle.office_store.specs.Memory.{AreUnjudged, HasJudged, HasPublished, HasPut, IsBatchApplied};
 ghost use Rattle.office_store.specs.Memory.{judged_at};
 
 use exam_model::{Enrolments, Instance, Timetable};
@@ -169,11 +169,11 @@ impl OfficeMemory {
     }
 
     // Counts one batch more, and replaces the enrolments and the drafts if a line changed them.
-    pub(crate) fn renew(&mut self, enrolments: Option<Enrolments>, drafts: Drafts)
+    pub(crate) fn apply_batch(&mut self, enrolments: Option<Enrolments>, drafts: Drafts)
         requires room { self.old.batches < MAX_BATCHES }
         ensures batches { self.new.batches ≡ self.old.batches + 1 }
         ensures renewed { (I : Session) (E : Enrolled) → self.old.kept ≡ Some (I, E)
-            → IsRenewed I E enrolments drafts self.old self.new }
+            → IsBatchApplied I E enrolments drafts self.old self.new }
         ensures published { self.new.published ≡ self.old.published }
         ensures priced { self.new.priced ≡ self.old.priced }
     {

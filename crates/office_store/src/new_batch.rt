@@ -9,12 +9,12 @@ ghost use Rattle.office_model.specs.Office.{Records};
 ghost use Rattle.office_records.specs.Memory.{AreSuited, memory_of};
 ghost use Rattle.office_records.specs.Representation.{RepresentsOffice};
 ghost use Rattle.office_store.specs.Memory.{AreRescored, AreScored, IsMemoryOf};
-ghost use Rattle.office_store.specs.NewBatches.{Enrols, new_batch_put, put_line, students_of};
+ghost use Rattle.office_store.specs.NewBatches.{Enrols, new_batch_put, line_write, students_of};
 ghost use Rattle.office_tables.specs.Alterations.{TablesChanged, TransactionRan};
 
-use crate::fault::Failed;
+use crate::fault::StatementFailed;
 use crate::memory::OfficeMemory;
-use crate::rescoring::{rescored_drafts, rows_put};
+use crate::rescoring::{draft_inserts, rescored_drafts};
 use crate::transactions::put;
 use exam_model::{Change, Enrolments, Instance, StudentNo};
 use exam_terms::limits::MAX_BATCHES;
@@ -35,7 +35,7 @@ use std::alloc::{AllocError, Global};
 pub(crate) struct NewBatch {
     pub(crate) enrolments: Option<Enrolments>,
     pub(crate) counts: Counts,
-    pub(crate) lines: Vec<PutLine>,
+    pub(crate) lines: Vec<LineWrite>,
     pub(crate) drafts: Vec<InsertDraft>,
     pub(crate) rescored: Drafts,
 }
@@ -70,8 +70,8 @@ pub(crate) fn new_batch(
         return Err(StoreFault::TooMany);
     }
     let rescored = drafts_after(alloc, instance, enrolments, &made, &memory.drafts)?;
-    let drafts = rows_put(alloc, &rescored)?;
-    let lines = lines_put(alloc, &made.acting)?;
+    let drafts = draft_inserts(alloc, &rescored)?;
+    let lines = line_writes(alloc, &made.acting)?;
     Ok(NewBatch {
         enrolments: made.enrolments,
         counts: made.counts,
@@ -117,7 +117,7 @@ pub(crate) fn put_batch<S: Alter>(
     new: &NewBatch,
     number: u32,
     text: &[u8],
-) -> Result<(), Failed>
+) -> Result<(), StatementFailed>
     requires rests { conn.old.in_transaction ≡ false }
     requires small { All (λ it. AreAmounts it.row) new.now.drafts.items }
     ensures { TransactionRan S.Store (TablesChanged (new_batch_put number text.now new.now))
@@ -152,25 +152,25 @@ pub(crate) fn put_batch<S: Alter>(
     put(conn, &whole)
 }
 
-fn lines_put(alloc: Global, changes: &[Change]) -> Result<Vec<PutLine>, AllocError>
-    ensures { IfOk result (λ put. put.items ≡ map put_line changes.now) }
+fn line_writes(alloc: Global, changes: &[Change]) -> Result<Vec<LineWrite>, AllocError>
+    ensures { IfOk result (λ put. put.items ≡ map line_write changes.now) }
 {
     changes
         .iter()
-        .map(|change| PutLine { change: *change })
+        .map(|change| LineWrite { change: *change })
         .collect(alloc)
 }
 
 // A line that acts: it inserts or deletes its pair.
 #[derive(Clone, Copy)]
-pub(crate) struct PutLine {
+pub(crate) struct LineWrite {
     pub(crate) change: Change,
 }
 
-impl Alteration for PutLine {
-    ghost use Rattle.office_store.specs.NewBatches.{line_put};
+impl Alteration for LineWrite {
+    ghost use Rattle.office_store.specs.NewBatches.{with_line};
 
-    ghost alteration = { λ it t. line_put it.change t };
+    ghost alteration = { λ it t. with_line it.change t };
 
     ghost fits = { λ _. Unit {0} };
 

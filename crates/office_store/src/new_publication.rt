@@ -15,7 +15,7 @@ ghost use Rattle.office_records.specs.Publications.{stored_seat};
 ghost use Rattle.office_records.specs.SeatsStored.{rows_beside};
 ghost use Rattle.office_records.specs.PartShares.{HasFewParts, part_rows};
 ghost use Rattle.office_records.specs.SharesStored.{student_share_row};
-ghost use Rattle.office_store.specs.Memory.{IsMemoryOf, IsTogether};
+ghost use Rattle.office_store.specs.Memory.{IsMemoryOf, IsConsistent};
 ghost use Rattle.office_store.specs.NewPublications.{AreInserted, AreSmallShares, InsertsOrRefuses};
 ghost use Rattle.office_store.specs.NewPublications.{candidates_before};
 ghost use Rattle.office_store.specs.RowPuts.{part_share_put, seat_gone, seat_put};
@@ -25,7 +25,7 @@ ghost use Rattle.office_tables.specs.SharePart.{ArePartAmounts};
 ghost use Rattle.office_tables.specs.ShareStudent.{AreStudentAmounts};
 
 use crate::memory::OfficeMemory;
-use crate::rewritten_places::{mark_text, placements_put, places_gone};
+use crate::rewritten_places::{deleted_placements, mark_text, placements_put};
 use exam_model::{Enrolments, Instance, StudentNo, Timetable};
 use exam_publish::{SeatRow, Shares, changed, numbers_identify, permit, seats, shares_among};
 use exam_score::Parts;
@@ -45,7 +45,7 @@ pub(crate) struct NewPublication {
     // The text of the row about the office, if the row doesn't yet say that something is published.
     pub(crate) text: Option<Vec<u8>>,
     // The placements that differ from those before: the old ones and the new ones.
-    pub(crate) places_gone: Vec<DeletePlacement>,
+    pub(crate) deleted_placements: Vec<DeletePlacement>,
     pub(crate) placements: Vec<InsertPlacement>,
     // The seats that differ from those before: the old ones and the new ones.
     pub(crate) seats_gone: Vec<DeleteSeat>,
@@ -63,7 +63,7 @@ pub(crate) fn new_publication(
     memory: &OfficeMemory,
     number: u32,
 ) -> Result<(NewPublication, (Timetable, Vec<SeatRow>), Parts), StoreFault>
-    requires together { IsTogether memory.now }
+    requires together { IsConsistent memory.now }
     ensures publishes { (office : OfficeState) → IsMemoryOf office memory.now
         → InsertsOrRefuses number office result }
     ensures found { IfOk result (λ new. (I : Session) (E : Enrolled)
@@ -129,10 +129,10 @@ fn publication_writes(
     let shares = shares_among(alloc, instance, rows, &draft.timetable, &retimed)?;
     let text = mark_text(alloc, instance, before)?;
     let places = placement_rows(alloc, &draft.timetable)?;
-    let places_gone = places_gone(alloc, &places, before)?;
+    let deleted_placements = deleted_placements(alloc, &places, before)?;
     let placements = placements_put(alloc, &places, before)?;
     let seats_gone = seats_gone(alloc, old, rows)?;
-    let seats = seats_put(alloc, rows, old)?;
+    let seats = seat_inserts(alloc, rows, old)?;
     let deleted_shares = deleted_shares(alloc, old, &retimed)?;
     let students = student_shares_put(alloc, &shares)?;
     let parts = part_shares_put(alloc, &shares)?;
@@ -142,7 +142,7 @@ fn publication_writes(
     };
     Ok(NewPublication {
         text,
-        places_gone,
+        deleted_placements,
         placements,
         seats_gone,
         seats,
@@ -190,7 +190,7 @@ fn seat_gone(row: StoredSeat) -> DeleteSeat
 }
 
 // Returns the insertions of the seats that aren't among those before.
-fn seats_put(
+fn seat_inserts(
     alloc: Global,
     rows: &[SeatRow],
     old: &[SeatRow],

@@ -11,7 +11,7 @@ ghost use Rattle.office_records.specs.Representation.{RepresentsOffice};
 use crate::memory::OfficeMemory;
 use crate::transactions::make_tables;
 use office_model::StoreFault;
-use office_tables::{is_bare, look};
+use office_tables::{check_open, is_bare};
 use sqlite::{Alter, Connection};
 use std::marker::Model;
 
@@ -26,7 +26,7 @@ pub struct Office<S: Alter> {
 impl<S: Alter> Model for Office<S> {
     ghost use Rattle.std.specs.Prelude.{◌≡◌, false};
     ghost use Rattle.sqlite.specs.Held.{Held, held_code, state};
-    ghost use Rattle.office_store.specs.Memory.{IsTogether};
+    ghost use Rattle.office_store.specs.Memory.{IsConsistent};
     ghost use Rattle.office_store.specs.Running.{MatchesMemory};
 
     ghost Value = { Held S };
@@ -39,7 +39,7 @@ impl<S: Alter> Model for Office<S> {
     // session, enrolments, drafts with their penalties, publication, and number of kept batches. On
     // any disk the drafts and the publication in memory are of the exams of the session in memory.
     ghost invariant = { λ o. (o.conn.in_transaction ≡ false)
-        × MatchesMemory (state S.Store o.conn) o.memory × IsTogether o.memory };
+        × MatchesMemory (state S.Store o.conn) o.memory × IsConsistent o.memory };
 }
 
 impl<S: Alter> Office<S> {
@@ -82,12 +82,12 @@ impl<S: Alter> Office<S> {
     }
 
     /// Checks that the file can still be read. On `Ok` memory and the file agree.
-    pub fn look(&mut self) -> Result<(), StoreFault>
+    pub fn check_open(&mut self) -> Result<(), StoreFault>
         ensures fault { IfErr result (λ e. e ≡ StoreFault.Store) }
         ensures leaves { LeavesUnchanged S.Store self.old self.new result }
     {
         self.lemma_at_rest();
-        match look(&mut self.conn) {
+        match check_open(&mut self.conn) {
             Ok(()) => Ok(()),
             Err(_) => Err(StoreFault::Store),
         }

@@ -26,7 +26,7 @@ impl<S: Alter> Office<S> {
         // change is committed.
         ensures leaves { LeavesNext S.Store (set_owner_result exam dept) self.old self.new result }
     {
-        self.look()?;
+        self.check_open()?;
         let Some((instance, _)) = &self.memory.kept else {
             return Err(StoreFault::NotLoaded);
         };

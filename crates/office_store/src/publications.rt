@@ -31,7 +31,7 @@ impl<S: Alter> Office<S> {
         // While it is open, the database is unchanged. On `Ok` memory and the file agree.
         ensures leaves { LeavesUnchanged S.Store self.old self.new result }
     {
-        self.look()?;
+        self.check_open()?;
         let Some((timetable, rows)) = &self.memory.published else {
             return Ok(None);
         };
@@ -46,7 +46,7 @@ impl<S: Alter> Office<S> {
         // While it is open, the database is unchanged. On `Ok` memory and the file agree.
         ensures leaves { LeavesUnchanged S.Store self.old self.new result }
     {
-        self.look()?;
+        self.check_open()?;
         let Some((timetable, _)) = &self.memory.published else {
             return Ok(None);
         };
@@ -61,7 +61,7 @@ impl<S: Alter> Office<S> {
         // While it is open, the database is unchanged. On `Ok` memory and the file agree.
         ensures leaves { LeavesUnchanged S.Store self.old self.new result }
     {
-        self.look()?;
+        self.check_open()?;
         Ok(self.memory.priced)
     }
 

@@ -21,7 +21,7 @@ impl<S: Alter> Office<S> {
         // change is committed.
         ensures leaves { LeavesNext S.Store (draft_published number) self.old self.new result }
     {
-        self.look()?;
+        self.check_open()?;
         let (writes, published, penalty) = new_publication(alloc, &self.memory, number)?;
         put(&mut self.conn, &writes)?;
         self.memory.publish(published, penalty);

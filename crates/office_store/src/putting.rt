@@ -33,7 +33,7 @@ fn put_places<S: Alter>(tx: &mut Transaction<'_, S>, new: &NewPublication) -> Re
 {
     let placements = Both {
         first: Each {
-            alterations: &new.places_gone,
+            alterations: &new.deleted_placements,
         },
         second: InsertPlacements {
             rows: &new.placements,

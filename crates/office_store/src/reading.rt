@@ -10,7 +10,7 @@ ghost use Rattle.office_records.specs.Representation.{RepresentsOffice};
 ghost use Rattle.office_store.specs.Judging.{draft_judged, plain_list};
 ghost use Rattle.office_store.specs.Leaving.{LeavesUnchanged};
 ghost use Rattle.office_store.specs.OfficeRows.{pair_values};
-ghost use Rattle.office_store.specs.Pricing.{draft_priced};
+ghost use Rattle.office_store.specs.Pricing.{penalty_shown};
 ghost use Rattle.office_store.specs.Running.{CommandOutcome, CommandRan};
 
 use crate::memory::few_breaches;
@@ -26,7 +26,7 @@ use std::alloc::Global;
 
 impl<S: Alter> Office<S> {
     /// Returns the session with its live enrolments, from memory. The file has the same session
-    /// while it can be read; an `Ok` of `draft`, `owner` or `look` confirms that it can.
+    /// while it can be read; an `Ok` of `draft`, `owner` or `check_open` confirms that it can.
     /// `NotLoaded`: there is no session yet.
     pub fn session(&self) -> Result<(&Instance, &Enrolments), StoreFault>
         // While the store is open, these are the session and its present enrolments.
@@ -51,7 +51,7 @@ impl<S: Alter> Office<S> {
         // While it is open, the database is unchanged. On `Ok` memory and the file agree.
         ensures leaves { LeavesUnchanged S.Store self.old self.new result }
     {
-        self.look()?;
+        self.check_open()?;
         if self.memory.kept.is_none() {
             return Err(StoreFault::NotLoaded);
         }
@@ -64,11 +64,11 @@ impl<S: Alter> Office<S> {
 
     /// Returns the penalty of a draft. `NotLoaded`, then `NoDraft`: no draft has this number.
     pub fn penalty(&mut self, number: u32) -> Result<Parts, StoreFault>
-        ensures runs { CommandRan S.Store (draft_priced number) self.old self.new result }
+        ensures runs { CommandRan S.Store (penalty_shown number) self.old self.new result }
         // While it is open, the database is unchanged. On `Ok` memory and the file agree.
         ensures leaves { LeavesUnchanged S.Store self.old self.new result }
     {
-        self.look()?;
+        self.check_open()?;
         if self.memory.kept.is_none() {
             return Err(StoreFault::NotLoaded);
         }
@@ -86,7 +86,7 @@ impl<S: Alter> Office<S> {
         // While it is open, the database is unchanged. On `Ok` memory and the file agree.
         ensures leaves { LeavesUnchanged S.Store self.old self.new result }
     {
-        self.look()?;
+        self.check_open()?;
         let memory = &self.memory;
         let Some((instance, enrolments)) = &memory.kept else {
             return Err(StoreFault::NotLoaded);
@@ -118,7 +118,7 @@ impl<S: Alter> Office<S> {
         // While it is open, the database is unchanged. On `Ok` memory and the file agree.
         ensures leaves { LeavesUnchanged S.Store self.old self.new result }
     {
-        self.look()?;
+        self.check_open()?;
         let memory = &self.memory;
         let Some((instance, enrolments)) = &memory.kept else {
             return Err(StoreFault::NotLoaded);

@@ -71,7 +71,7 @@ fn rescored_draft(
 }
 
 // Returns the rows of the drafts, by number.
-pub(crate) fn rows_put(alloc: Global, drafts: &Drafts) -> Result<Vec<InsertDraft>, AllocError>
+pub(crate) fn draft_inserts(alloc: Global, drafts: &Drafts) -> Result<Vec<InsertDraft>, AllocError>
     ensures rows { IfOk result
         (λ put. AreDraftRows drafts.now (map (λ it. it.row) put.items)) }
     ensures small { IfOk result (λ put. All (λ it. AreAmounts it.row) put.items) }

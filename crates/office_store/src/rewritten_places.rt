@@ -2,7 +2,7 @@
 ghost use Rattle.std.specs.Prelude.{◌≡◌, IfErr, IfOk, map, option_map, slice_get};
 ghost use Rattle.office_store.specs.ChangedPlacements.{changed_rows, is_there};
 ghost use Rattle.office_store.specs.NewPublications.{mark_text};
-ghost use Rattle.office_store.specs.RowPuts.{place_gone, placement_put};
+ghost use Rattle.office_store.specs.RowPuts.{deleted_placement, placement_put};
 
 use exam_model::Instance;
 use office_records::{RecordFault, text_of};
@@ -28,12 +28,13 @@ pub(crate) fn mark_text(
 }
 
 // Returns the deletions of the placements before that the new ones differ from.
-pub(crate) fn places_gone(
+pub(crate) fn deleted_placements(
     alloc: Global,
     rows: &[PlacedRow],
     before: &[PlacedRow],
 ) -> Result<Vec<DeletePlacement>, AllocError>
-    ensures { IfOk result (λ gone. gone.items ≡ map place_gone (changed_rows before.now rows.now)) }
+    ensures { IfOk result (λ gone. gone.items
+        ≡ map deleted_placement (changed_rows before.now rows.now)) }
 {
     let changed = changed_rows(alloc, before, rows)?;
     changed

@@ -7,7 +7,7 @@ ghost use Rattle.office_records.specs.Representation.{RepresentsOffice};
 ghost use Rattle.office_store.specs.Leaving.{LeavesUnchanged};
 ghost use Rattle.office_store.specs.OfficeRows.{AreShareRowsOf};
 
-use crate::fault::Failed;
+use crate::fault::StatementFailed;
 use crate::office::Office;
 use office_tables::{PartShareRow, PartShares, StudentShareRow, StudentShares};
 use sqlite::Alter;
@@ -22,7 +22,7 @@ pub(crate) struct ShareRows {
 
 impl<S: Alter> Office<S> {
     // Returns the rows of the shares.
-    pub(crate) fn share_rows(&mut self, alloc: Global) -> Result<ShareRows, Failed>
+    pub(crate) fn share_rows(&mut self, alloc: Global) -> Result<ShareRows, StatementFailed>
         ensures rows { HasCleanDisk (state S.Store self.new) → (office : OfficeState)
             → RepresentsOffice (state S.Store self.new).now office
             → IfOk result (λ found. AreShareRowsOf office found.students.items found.parts.items) }

@@ -5,12 +5,12 @@ ghost use Rattle.office_tables.specs.Schema.{no_schema, IsBlank};
 ghost use Rattle.office_tables.specs.TablesHeld.{HoldsOldTables};
 ghost use Rattle.office_tables.specs.Tables.{Tables, empty_tables};
 
-use crate::fault::Failed;
+use crate::fault::StatementFailed;
 use office_tables::{Alteration, create_tables, migrate, transact};
 use sqlite::{Alter, Connection};
 
 // Makes the tables, which then represent the office without a session.
-pub(crate) fn make_tables<S: Alter>(conn: &mut Connection<S>) -> Result<(), Failed>
+pub(crate) fn make_tables<S: Alter>(conn: &mut Connection<S>) -> Result<(), StatementFailed>
     requires rests { conn.old.in_transaction ≡ false }
     ensures { TransactionRan S.Store
         (λ old new. IsBlank no_schema old → IsWritten empty_tables old new)
@@ -28,7 +28,7 @@ pub(crate) fn migrate_tables<S: Alter>(
     conn: &mut Connection<S>,
     published: bool,
     instance: &[u8],
-) -> Result<(), Failed>
+) -> Result<(), StatementFailed>
     requires rests { conn.old.in_transaction ≡ false }
     ensures { TransactionRan S.Store (λ old new. (t : Tables)
         → t.meta ≡ record { published = published; instance = instance.now } ∷ []
@@ -45,7 +45,7 @@ pub(crate) fn migrate_tables<S: Alter>(
 pub(crate) fn put<S: Alter, A: Alteration>(
     conn: &mut Connection<S>,
     alteration: &A,
-) -> Result<(), Failed>
+) -> Result<(), StatementFailed>
     requires rests { conn.old.in_transaction ≡ false }
     requires fits { A.fits alteration.now }
     ensures { TransactionRan S.Store (TablesChanged (A.alteration alteration.now))

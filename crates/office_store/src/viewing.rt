@@ -11,8 +11,8 @@ ghost use Rattle.office_store.specs.Leaving.{LeavesUnchanged};
 ghost use Rattle.office_store.specs.Running.{QueryReturned, ReturnsValue};
 ghost use Rattle.office_store.specs.Viewing.{AreCandidateRows, place_in_row};
 
-use crate::candidate_share::personal_in;
-use crate::fault::Failed;
+use crate::candidate_share::checked_share;
+use crate::fault::StatementFailed;
 use crate::office::Office;
 use exam_model::{ExamNo, Instance, PeriodNo, Place, RoomNo, StudentNo};
 use exam_score::PersonalParts;
@@ -81,7 +81,7 @@ impl<S: Alter> Office<S> {
     {
         let number = student.get();
         let rows = self.ask(alloc, &StudentSharesOf { student: number })?;
-        personal_in(&rows)
+        checked_share(&rows)
     }
 
     // Returns all exams of a candidate's view; none if nothing is loaded.
@@ -102,7 +102,11 @@ impl<S: Alter> Office<S> {
     }
 
     // Returns all rows of a candidate except their share.
-    fn candidate_rows(&mut self, alloc: Global, student: StudentNo) -> Result<CandidateRows, Failed>
+    fn candidate_rows(
+        &mut self,
+        alloc: Global,
+        student: StudentNo,
+    ) -> Result<CandidateRows, StatementFailed>
         ensures rows { HasCleanDisk (state S.Store self.new) → (office : OfficeState)
             → RepresentsOffice (state S.Store self.new).now office
             → IfOk result (λ found. AreCandidateRows office student found.enrols.items

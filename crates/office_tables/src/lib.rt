@@ -37,7 +37,7 @@ pub use creation::{create_tables, is_bare};
 pub use draft::{DeleteDraft, DeleteDrafts, DraftRow, InsertDraft};
 pub use enrol::{DeleteEnrol, EnrolRow, EnrolsOf, FindEnrolsOf, InsertEnrol, InsertEnrols};
 pub use found::{AdoptFault, Found};
-pub use looking::look;
+pub use looking::check_open;
 pub use meta::{DeleteMeta, InsertMeta, MetaRow};
 pub use migrating::migrate;
 pub use owner::{DeleteOwner, InsertOwner, OwnerRow, OwnersOf};

@@ -35,7 +35,7 @@ fn adopt_wants_tables_and_create_none(rt: HostRuntime) -> Result<(), Fail> {
     let mut office = office_of(Office::adopt(rt.alloc(), conn))?;
     let shown = office.draft(rt.alloc(), 1).err();
     assert_same(&rt, shown, Some(StoreFault::NotLoaded), "no session");
-    assert_same(&rt, office.look(), Ok(()), "open");
+    assert_same(&rt, office.check_open(), Ok(()), "open");
     Ok(())
 }
 

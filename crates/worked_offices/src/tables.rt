@@ -10,7 +10,7 @@ use office_tables::{
     InsertPlacement, InsertPlacements, InsertSeat, InsertSeats, InsertSlot, InsertSlots,
     InsertStudentShare, OwnerRow, OwnersOf, PartShareRow, PartShares, PlacedRow, PlacementsOf,
     Query, SeatRow, SeatsOf, SlotRow, StudentShareRow, StudentShares, StudentSharesOf,
-    adopt_tables, create_tables, is_bare, look, transact,
+    adopt_tables, check_open, create_tables, is_bare, transact,
 };
 use sqlite::{Connection, Error, MemStore, Transaction};
 use std::alloc::Global;
@@ -132,7 +132,7 @@ fn filled(alloc: Global) -> Result<Connection<MemStore>, Fail> {
 #[test]
 fn rows_come_back_in_order(rt: HostRuntime) -> Result<(), Fail> {
     let (alloc, mut conn) = (rt.alloc(), filled(rt.alloc())?);
-    look(&mut conn)?;
+    check_open(&mut conn)?;
     let Ok(found) = adopt_tables(alloc, &mut conn) else {
         return Err("no tables")?;
     };

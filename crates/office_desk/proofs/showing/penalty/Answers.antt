@@ -4,7 +4,7 @@ use Rattle.exam_score.specs.Penalty.{Penalty}
 use Rattle.office_reports.specs.Reports.{penalty_text}
 use Rattle.office_model.specs.Answers.{text}
 use Rattle.office_model.specs.DraftCommands.{draft_shown}
-use Rattle.office_store.specs.Pricing.{draft_priced}
+use Rattle.office_store.specs.Pricing.{penalty_shown}
 use Rattle.office_desk.proofs.AnswerLemmas.{fault_shown, memory_performed, ok_shown, part_performed}
 use Rattle.office_desk.proofs.showing.penalty.Goals as goal
 
@@ -18,7 +18,7 @@ returns-in_err-parts g c caller =
     part_performed g.S.Store (λ (found : Placing × Penalty). found.1)
     (λ parts. text (penalty_text parts)) (draft_shown c.args.number) c.args.office.now
     c.penalty.new.self _
-    (fault_shown g.S.Store (λ parts. text (penalty_text parts)) (draft_priced c.args.number)
+    (fault_shown g.S.Store (λ parts. text (penalty_text parts)) (penalty_shown c.args.number)
     c.args.office.now c.penalty.new.self _ _ c.in_err-parts.ensures.runs
     c.in_err-parts.ensures.leaves c.from_residual.ensures.1)
 
@@ -27,7 +27,7 @@ returns g c caller =
     part_performed g.S.Store (λ (found : Placing × Penalty). found.1)
     (λ parts. text (penalty_text parts)) (draft_shown c.args.number) c.args.office.now
     c.penalty.new.self _
-    (ok_shown g.S.Store (λ parts. text (penalty_text parts)) (draft_priced c.args.number)
+    (ok_shown g.S.Store (λ parts. text (penalty_text parts)) (penalty_shown c.args.number)
     c.args.office.now c.penalty.new.self _ _ c.in_ok-parts.ensures.runs
     c.in_ok-parts.ensures.leaves
     (ap text (rw c.into_bytes.ensures.value c.in_ok-report.ensures)))

@@ -12,7 +12,7 @@ use Rattle.office_records.proofs.ReadableLemmas.{not_foreign_in}
 use Rattle.office_records.specs.Faults.{store_fault}
 use Rattle.office_store.proofs.RunLemmas.{clean_before}
 use Rattle.office_store.specs.Faults.{IsOfDatabase}
-use Rattle.office_store.specs.Opening.{WeighsNoNight}
+use Rattle.office_store.specs.Opening.{HasNoNightWeightIn}
 use Rattle.office_model.specs.declared.fault.StoreFault.{StoreFault}
 use Rattle.office_model.specs.declared.fault.StoreFault.TheVariants.{BadSchema}
 use Rattle.office_store.proofs.AdoptLemmas.{file_as, found_batches, found_then, held_still, open_still, none_long, none_refused, none_weighed}
@@ -123,7 +123,7 @@ returns-clause-kept g c clean =
         sound = are.2;
         office = are.3;
       };
-      weighs = subst (WeighsNoNight found.version) (sym are.4) c.in_ok-check_weight.ensures.are;
+      weighs = subst (HasNoNightWeightIn found.version) (sym are.4) c.in_ok-check_weight.ensures.are;
       in_memory = record {
         session = are.4;
         batches = sym (counted t are.0 are.1) ∙ sym (length-map adopted.0 counts_of)

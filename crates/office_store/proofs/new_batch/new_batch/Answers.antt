@@ -3,8 +3,8 @@ use Rattle.exam_lists.proofs.Maps.{map_back}
 use Rattle.exam_model.specs.Enrolments.{Enrolled}
 use Rattle.office_enrolment.specs.AfterBatch.{Refuses, lines_with_effect, after_batch, current_enrolments}
 use Rattle.office_enrolment.proofs.OfficeLemmas.{exams_after}
-use Rattle.office_store.specs.NewBatches.{Enrols, put_line}
-use Rattle.office_store.specs.declared.new_batch.PutLine.{PutLine}
+use Rattle.office_store.specs.NewBatches.{Enrols, line_write}
+use Rattle.office_store.specs.declared.new_batch.LineWrite.{LineWrite}
 use Rattle.office_store.proofs.BatchPuttingLemmas.{latest_drafts, lines_refuse, made_exams, made_others, memory_scored, no_room, same_enrolled}
 use Rattle.office_store.proofs.new_batch.new_batch.Goals as goal
 
@@ -52,8 +52,8 @@ returns-clause-enrols c db r kept memory is_memory =
       after = ap (after_batch changes) same.1 ∙ c.in_ok-made.ensures.ok
           ∙ ap (λ (E : Enrolled). Ok (made.counts, current_enrolments made.enrolments E)) (sym same.1);
       room = room;
-      lines = ap (map (λ (it : PutLine). it.change)) c.in_ok-lines.ensures
-          ∙ map_back put_line (λ (it : PutLine). it.change) (λ x. refl) c.deref.result.now
+      lines = ap (map (λ (it : LineWrite). it.change)) c.in_ok-lines.ensures
+          ∙ map_back line_write (λ (it : LineWrite). it.change) (λ x. refl) c.deref.result.now
           ∙ c.deref.ensures.value ∙ c.in_ok-made.ensures.acting
           ∙ ap (lines_with_effect changes) (sym same.1);
       drafts = λ some. latest_drafts db r c.args.memory.now c.args.instance.now made.enrolments
@@ -66,7 +66,7 @@ returns-clause-enrols c db r kept memory is_memory =
           memory))
           c.in_ok-drafts.ensures.rows
           (λ none. some (c.in_ok-lines.ensures
-          ∙ ap (map put_line) (c.deref.ensures.value ∙ c.in_ok-made.ensures.copied.0 none)));
+          ∙ ap (map line_write) (c.deref.ensures.value ∙ c.in_ok-made.ensures.copied.0 none)));
     }
 
 pub returns-clause-exams : goal.returns-clause-exams

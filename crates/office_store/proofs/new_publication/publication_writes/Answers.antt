@@ -5,7 +5,7 @@ use Rattle.office_records.specs.SharesStored.{retimed_students, student_share_ro
 use Rattle.office_records.specs.PartShares.{HasFewParts, part_rows}
 use Rattle.office_store.specs.ChangedPlacements.{changed_rows}
 use Rattle.office_store.specs.NewPublications.{candidates_before}
-use Rattle.office_store.specs.RowPuts.{deleted_share, part_share_put, place_gone, placement_put, student_share_put}
+use Rattle.office_store.specs.RowPuts.{deleted_share, part_share_put, deleted_placement, placement_put, student_share_put}
 use Rattle.office_store.proofs.PublishLemmas.{few_parts, rows_among}
 use Rattle.office_store.proofs.new_publication.publication_writes.Goals as goal
 
@@ -37,8 +37,8 @@ returns-clause-put c =
     let shares = c.in_ok-shares.ensures.shares
     ∙ ap (shares_among I rows T) (c.deref.ensures.value ∙ listed) in record {
       text = c.in_ok-text.ensures.text;
-      places_gone = c.in_ok-places_gone.ensures
-          ∙ ap (λ rows. map place_gone (changed_rows c.args.before.now rows))
+      deleted_placements = c.in_ok-deleted_placements.ensures
+          ∙ ap (λ rows. map deleted_placement (changed_rows c.args.before.now rows))
           (c.deref-2.ensures.value ∙ c.in_ok-places.ensures);
       placements = c.in_ok-placements.ensures
           ∙ ap (λ rows. map placement_put (changed_rows rows c.args.before.now))

@@ -11,12 +11,12 @@ use Rattle.office_store.proofs.office.Office.breaches.Goals as goal
 
 pub returns-in_default-clause-runs : goal.returns-in_default-clause-runs
 returns-in_default-clause-runs g c =
-    refuses_unloaded c.self.view_is c.self.invariant.1 c.in_ok-look.ensures.leaves
+    refuses_unloaded c.self.view_is c.self.invariant.1 c.in_ok-check_open.ensures.leaves
     (draft_judged c.args.number) c.in_default.is refl
 
 pub returns-in_default-draft-clause-runs : goal.returns-in_default-draft-clause-runs
 returns-in_default-draft-clause-runs g c =
-    refuses c.self.view_is c.self.invariant.1 c.in_ok-look.ensures.leaves (draft_judged c.args.number)
+    refuses c.self.view_is c.self.invariant.1 c.in_ok-check_open.ensures.leaves (draft_judged c.args.number)
     NoDraft (λ _. none_denied _ c.args.number (ap is_some c.in-Some.is) c.in_default-draft.ensures.none
     (λ r none. rw none refl))
 
@@ -26,7 +26,7 @@ breaches-requires g c =
 
 pub returns-in-Some-judged-clause-runs : goal.returns-in-Some-judged-clause-runs
 returns-in-Some-judged-clause-runs g c =
-    shows c.self.view_is c.self.invariant.1 c.in_ok-look.ensures.leaves (draft_judged c.args.number)
+    shows c.self.view_is c.self.invariant.1 c.in_ok-check_open.ensures.leaves (draft_judged c.args.number)
     (plain_list (Ok c.in_ok-copy.copy))
     (in_memory_judged c.args.number c.in-Some-draft.ensures.some c.in-Some.is
     (c.in_ok-copy.ensures.items ∙ c.deref.ensures.value
@@ -38,7 +38,7 @@ pub returns-clause-runs : goal.returns-clause-runs
 returns-clause-runs g c =
     subst (λ h. CommandRan g.S.Store (draft_judged c.args.number) c.args.self.now h
     (plain_list (Ok c.in_ok-breaches.breaches))) (sym c.self.view_is)
-    (shows c.self.view_is c.self.invariant.1 c.in_ok-look.ensures.leaves (draft_judged c.args.number)
+    (shows c.self.view_is c.self.invariant.1 c.in_ok-check_open.ensures.leaves (draft_judged c.args.number)
     (plain_list (Ok c.in_ok-breaches.breaches))
     (in_memory_judged c.args.number c.in-Some-draft.ensures.some c.in-Some.is
     c.in_ok-breaches.ensures.listed))

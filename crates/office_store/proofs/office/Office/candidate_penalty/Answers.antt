@@ -16,12 +16,12 @@ returns-clause-reads g c clean o now =
     let kept = stays (c.in_ok-rows.ensures.leaves.all_committed clean).0 in
     let rows = c.in_ok-rows.rows.items in
     let penalty = shown_penalty (view_of c.args.student o) in
-    shown penalty o (Represents (state g.S.Store mid)) c.personal_in.result
+    shown penalty o (Represents (state g.S.Store mid)) c.checked_share.result
     (penalty_returned c.deref.ensures.value
     (candidate_share_of o c.args.student kept.office rows
     (subst (λ n. IsPermutation (filter (λ (row : StudentShareRow). row.student == n)
     (student_rows_in o)) rows) c.get-number.ensures.number
     (candidate_shares_read kept.held o c.get-number.result rows kept.represents kept.sound
     (c.in_ok-rows.ensures.rows clean o kept))))
-    c.personal_in.ensures.none c.personal_in.ensures.one)
+    c.checked_share.ensures.none c.checked_share.ensures.one)
     stays

@@ -9,12 +9,12 @@ use Rattle.office_store.proofs.office.Office.drop_draft.Goals as goal
 
 pub returns-then-is_none-clause-runs : goal.returns-then-is_none-clause-runs
 returns-then-is_none-clause-runs g c =
-    refuses_unloaded c.self.view_is c.self.invariant.1 c.in_ok-look.ensures.leaves
+    refuses_unloaded c.self.view_is c.self.invariant.1 c.in_ok-check_open.ensures.leaves
     (draft_dropped c.args.number) (search rules) refl
 
 pub returns-then-not-has_draft-clause-runs : goal.returns-then-not-has_draft-clause-runs
 returns-then-not-has_draft-clause-runs g c =
-    refuses c.self.view_is c.self.invariant.1 c.in_ok-look.ensures.leaves
+    refuses c.self.view_is c.self.invariant.1 c.in_ok-check_open.ensures.leaves
     (draft_dropped c.args.number) NoDraft
     (λ _. drop_denied c.args.number c.if-is_none.ensures c.if-not-has_draft.ensures)
 
@@ -31,12 +31,12 @@ invariant_of-self-2 g c = (
 
 pub returns : goal.returns
 returns g c =
-    done_next c.self.view_is c.self.invariant.1 c.in_ok-look.ensures.leaves c.put.ensures
+    done_next c.self.view_is c.self.invariant.1 c.in_ok-check_open.ensures.leaves c.put.ensures
     (λ _. drop_moves c.args.number c.if-is_none.ensures c.if-not-has_draft.ensures)
     c.in_ok-put.ensures.done
 
 pub returns-in_err-put : goal.returns-in_err-put
 returns-in_err-put g c =
-    undone_next c.self.view_is c.self.invariant.1 c.in_ok-look.ensures.leaves c.put.ensures
+    undone_next c.self.view_is c.self.invariant.1 c.in_ok-check_open.ensures.leaves c.put.ensures
     (λ _. drop_moves c.args.number c.if-is_none.ensures c.if-not-has_draft.ensures)
     c.in_err-put.ensures.undone c.from_residual-in_err-put.ensures.1

@@ -14,7 +14,7 @@ edited_draft-requires g c = record { together = c.self.invariant.2 }
 pub invariant_of-self : goal.invariant_of-self
 invariant_of-self g c = (
   c.edited_draft.ensures.leaves.read.mode c.self.invariant.0,
-  rest_further c.self.view_is c.self.invariant.1 c.in_ok-look.ensures.leaves
+  rest_further c.self.view_is c.self.invariant.1 c.in_ok-check_open.ensures.leaves
       c.edited_draft.ensures.leaves.read,
   c.self.invariant.2,
 )
@@ -25,13 +25,13 @@ returns-in_err-new-clause-runs g c =
     let command = draft_edited c.args.number c.args.edit in
     let is : c.from_residual-in_err-new.result ≡ Err fault = search rules in
     subst (CommandRan g.S.Store command c.args.self.now c.edited_draft.new.conn) (sym is)
-    (refuses_further c.self.view_is c.self.invariant.1 c.in_ok-look.ensures.leaves
+    (refuses_further c.self.view_is c.self.invariant.1 c.in_ok-check_open.ensures.leaves
     c.edited_draft.ensures.leaves.read command fault c.in_err-new.ensures.edits)
 
 pub returns-in_err-new-clause-leaves : goal.returns-in_err-new-clause-leaves
 returns-in_err-new-clause-leaves g c = record {
   clean = search rules;
-  unchanged_on_err = stays_further c.self.view_is c.self.invariant.1 c.in_ok-look.ensures.leaves
+  unchanged_on_err = stays_further c.self.view_is c.self.invariant.1 c.in_ok-check_open.ensures.leaves
       c.edited_draft.ensures.leaves.read c.from_residual-in_err-new.result;
   all_committed = search rules;
   survives = search rules;
@@ -40,7 +40,7 @@ returns-in_err-new-clause-leaves g c = record {
 -- the transaction fails
 pub invariant_of-self-in_err-put : goal.invariant_of-self-in_err-put
 invariant_of-self-in_err-put g c =
-    let looked = read_inside c.self.view_is c.self.invariant.1 c.in_ok-look.ensures.leaves in
+    let looked = read_inside c.self.view_is c.self.invariant.1 c.in_ok-check_open.ensures.leaves in
     let ran = altered_on c.self.invariant.1 c.edited_draft.ensures.leaves.read
     c.in_ok-new.ensures.leaves.same (λ k. (looked.all_committed k).0) c.in_err-put.ensures in (
       c.put.ensures.rests,
@@ -50,7 +50,7 @@ invariant_of-self-in_err-put g c =
 
 pub invariant_of-self-2 : goal.invariant_of-self-2
 invariant_of-self-2 g c =
-    let looked = read_inside c.self.view_is c.self.invariant.1 c.in_ok-look.ensures.leaves in
+    let looked = read_inside c.self.view_is c.self.invariant.1 c.in_ok-check_open.ensures.leaves in
     let read = c.edited_draft.ensures.leaves.read in
     let ran = altered_on c.self.invariant.1 read c.in_ok-new.ensures.leaves.same
     (λ k. (looked.all_committed k).0) c.in_ok-put.ensures in (
@@ -69,10 +69,10 @@ invariant_of-self-2 g c =
 
 pub returns : goal.returns
 returns g c =
-    let looked = read_inside c.self.view_is c.self.invariant.1 c.in_ok-look.ensures.leaves in
+    let looked = read_inside c.self.view_is c.self.invariant.1 c.in_ok-check_open.ensures.leaves in
     let ran = altered_on c.self.invariant.1 c.edited_draft.ensures.leaves.read
     c.in_ok-new.ensures.leaves.same (λ k. (looked.all_committed k).0) c.in_ok-put.ensures in
-    done_next c.self.view_is c.self.invariant.1 c.in_ok-look.ensures.leaves ran
+    done_next c.self.view_is c.self.invariant.1 c.in_ok-check_open.ensures.leaves ran
     (λ k. edit_moves (c.in_ok-new.ensures.edits (c.put.ensures.clean k)
     (looked.all_committed (ran.clean k))) c.total.ensures.total c.draft_row.result
     c.draft_row.ensures.number c.draft_row.ensures.parts
@@ -80,10 +80,10 @@ returns g c =
 
 pub returns-in_err-put : goal.returns-in_err-put
 returns-in_err-put g c =
-    let looked = read_inside c.self.view_is c.self.invariant.1 c.in_ok-look.ensures.leaves in
+    let looked = read_inside c.self.view_is c.self.invariant.1 c.in_ok-check_open.ensures.leaves in
     let ran = altered_on c.self.invariant.1 c.edited_draft.ensures.leaves.read
     c.in_ok-new.ensures.leaves.same (λ k. (looked.all_committed k).0) c.in_err-put.ensures in
-    undone_next c.self.view_is c.self.invariant.1 c.in_ok-look.ensures.leaves ran
+    undone_next c.self.view_is c.self.invariant.1 c.in_ok-check_open.ensures.leaves ran
     (λ k. edit_moves (c.in_ok-new.ensures.edits (c.put.ensures.clean k)
     (looked.all_committed (ran.clean k))) refl c.draft_row.result
     c.draft_row.ensures.number c.draft_row.ensures.parts

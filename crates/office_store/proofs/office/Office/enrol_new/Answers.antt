@@ -32,7 +32,7 @@ invariant_of-self-2 g c =
     let I = c.in-Some.instance in
     let E = c.in-Some.enrolments in
     let new = c.in_ok-new.new in
-    let renewed = c.renew.ensures.renewed I E c.in-Some.is in (
+    let renewed = c.apply_batch.ensures.renewed I E c.in-Some.is in (
       c.in_ok-put_batch.ensures.rests,
       rests c.self.invariant.1 c.put_batch.ensures
           (λ k. enrol_moves c.args.number c.args.text.now c.requires.spelled c.self.inside.memory
@@ -46,10 +46,10 @@ invariant_of-self-2 g c =
           c.requires.number c.lines_are_counted.ensures.counted c.lines_are_counted.ensures.few
           c.batch_leaves_an_office.ensures
           (λ r here is memory. c.in_ok-new.ensures.enrols _ r here is memory)
-          c.renew.ensures.batches c.renew.ensures.published c.renew.ensures.priced renewed
+          c.apply_batch.ensures.batches c.apply_batch.ensures.published c.apply_batch.ensures.priced renewed
           c.in_ok-new.ensures.rescored),
       renewed_together c.self.invariant.2 c.in-Some.is new.enrolments new.rescored renewed
-          c.renew.ensures.published c.in_ok-new.ensures.exams c.in_ok-new.ensures.suited,
+          c.apply_batch.ensures.published c.in_ok-new.ensures.exams c.in_ok-new.ensures.suited,
     )
 
 pub new_batch-requires : goal.new_batch-requires

@@ -13,7 +13,7 @@ use Rattle.office_store.proofs.office.Office.load.Goals as goal
 
 pub returns-then-is_some-clause-runs : goal.returns-then-is_some-clause-runs
 returns-then-is_some-clause-runs g c =
-    refuses c.self.view_is c.self.invariant.1 c.in_ok-look.ensures.leaves
+    refuses c.self.view_is c.self.invariant.1 c.in_ok-check_open.ensures.leaves
     (load_session c.args.text.now) Loaded
     (λ _. load_denied c.args.text.now c.in-Ok.ensures.exact (search rules))
 
@@ -41,7 +41,7 @@ pub returns : goal.returns
 returns g c =
     let I : Session = c.in-Ok.read.0 in
     let E : Enrolled = c.in-Ok.read.1 in
-    let next = done_next c.self.view_is c.self.invariant.1 c.in_ok-look.ensures.leaves c.put.ensures
+    let next = done_next c.self.view_is c.self.invariant.1 c.in_ok-check_open.ensures.leaves c.put.ensures
     (λ _. load_moves c.args.text.now I E c.in-Ok.ensures.exact c.counts_of-loaded.ensures.counts
     (search rules) (c.deref.ensures.value ∙ c.in_ok-stored.ensures.text) c.deref-2.ensures.value
     c.in_ok-rows.ensures c.counts_of-loaded.ensures.instance
@@ -59,7 +59,7 @@ pub returns-in_err-put : goal.returns-in_err-put
 returns-in_err-put g c =
     let I : Session = c.in-Ok.read.0 in
     let E : Enrolled = c.in-Ok.read.1 in
-    let next = undone_next c.self.view_is c.self.invariant.1 c.in_ok-look.ensures.leaves c.put.ensures
+    let next = undone_next c.self.view_is c.self.invariant.1 c.in_ok-check_open.ensures.leaves c.put.ensures
     (λ _. load_moves c.args.text.now I E c.in-Ok.ensures.exact c.counts_of-loaded.ensures.counts
     (search rules) (c.deref.ensures.value ∙ c.in_ok-stored.ensures.text) c.deref-2.ensures.value
     c.in_ok-rows.ensures c.counts_of-loaded.ensures.instance

@@ -11,18 +11,18 @@ use Rattle.office_store.proofs.office.Office.new_draft.Goals as goal
 
 pub returns-in_default-clause-runs : goal.returns-in_default-clause-runs
 returns-in_default-clause-runs g c =
-    refuses_unloaded c.self.view_is c.self.invariant.1 c.in_ok-look.ensures.leaves
+    refuses_unloaded c.self.view_is c.self.invariant.1 c.in_ok-check_open.ensures.leaves
     (draft_made c.args.number c.args.text.now) c.in_default.is refl
 
 pub returns-then-not-is_draft_number-clause-runs : goal.returns-then-not-is_draft_number-clause-runs
 returns-then-not-is_draft_number-clause-runs g c =
-    refuses c.self.view_is c.self.invariant.1 c.in_ok-look.ensures.leaves
+    refuses c.self.view_is c.self.invariant.1 c.in_ok-check_open.ensures.leaves
     (draft_made c.args.number c.args.text.now) NoDraft
     (λ _. number_denied c.args.number c.args.text.now c.in-Some.is c.if-not-is_draft_number.ensures)
 
 pub returns-then-has_draft-clause-runs : goal.returns-then-has_draft-clause-runs
 returns-then-has_draft-clause-runs g c =
-    refuses c.self.view_is c.self.invariant.1 c.in_ok-look.ensures.leaves
+    refuses c.self.view_is c.self.invariant.1 c.in_ok-check_open.ensures.leaves
     (draft_made c.args.number c.args.text.now) DraftTaken
     (λ _. taken_denied c.args.number c.args.text.now c.in-Some.is c.if-not-is_draft_number.ensures
     c.if-has_draft.ensures)
@@ -32,8 +32,8 @@ returns-in_err-begun-clause-runs g c =
     let given = err_from_is_err_and c.from_residual-in_err-begun.result
     c.from_residual-in_err-begun.ensures.1 in
     subst (CommandRan g.S.Store (draft_made c.args.number c.args.text.now) c.args.self.now
-    c.look.new.self) (sym (given.1 ∙ ap Err given.2))
-    (refuses c.self.view_is c.self.invariant.1 c.in_ok-look.ensures.leaves
+    c.check_open.new.self) (sym (given.1 ∙ ap Err given.2))
+    (refuses c.self.view_is c.self.invariant.1 c.in_ok-check_open.ensures.leaves
     (draft_made c.args.number c.args.text.now) c.in_err-begun.field-0.0
     (λ _. text_denied c.args.number c.args.text.now c.in-Some.is c.if-not-is_draft_number.ensures
     c.if-has_draft.ensures c.in_err-begun.field-0.0 c.in_err-begun.ensures.err))
@@ -55,7 +55,7 @@ invariant_of-self-2 g c = (
 
 pub returns : goal.returns
 returns g c =
-    done_next c.self.view_is c.self.invariant.1 c.in_ok-look.ensures.leaves c.put.ensures
+    done_next c.self.view_is c.self.invariant.1 c.in_ok-check_open.ensures.leaves c.put.ensures
     (λ _. made_moves c.args.number c.args.text.now c.in-Some.is c.if-not-is_draft_number.ensures
     c.if-has_draft.ensures c.deref.ensures.value c.in_ok-begun.ensures.ok c.total.ensures.total
     c.draft_row.result c.draft_row.ensures.number c.draft_row.ensures.parts)
@@ -63,7 +63,7 @@ returns g c =
 
 pub returns-in_err-put : goal.returns-in_err-put
 returns-in_err-put g c =
-    undone_next c.self.view_is c.self.invariant.1 c.in_ok-look.ensures.leaves c.put.ensures
+    undone_next c.self.view_is c.self.invariant.1 c.in_ok-check_open.ensures.leaves c.put.ensures
     (λ _. made_moves c.args.number c.args.text.now c.in-Some.is c.if-not-is_draft_number.ensures
     c.if-has_draft.ensures c.deref.ensures.value c.in_ok-begun.ensures.ok refl
     c.draft_row.result c.draft_row.ensures.number c.draft_row.ensures.parts)

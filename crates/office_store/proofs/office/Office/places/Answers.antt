@@ -13,12 +13,12 @@ use Rattle.office_store.proofs.office.Office.places.Goals as goal
 
 pub returns-in_default-clause-runs : goal.returns-in_default-clause-runs
 returns-in_default-clause-runs g c =
-    refuses_unloaded c.self.view_is c.self.invariant.1 c.in_ok-look.ensures.leaves
+    refuses_unloaded c.self.view_is c.self.invariant.1 c.in_ok-check_open.ensures.leaves
     (draft_places_shown c.args.number c.args.exam) c.in_default.is refl
 
 pub returns-in_default-draft-clause-runs : goal.returns-in_default-draft-clause-runs
 returns-in_default-draft-clause-runs g c =
-    refuses c.self.view_is c.self.invariant.1 c.in_ok-look.ensures.leaves
+    refuses c.self.view_is c.self.invariant.1 c.in_ok-check_open.ensures.leaves
     (draft_places_shown c.args.number c.args.exam) NoDraft
     (λ _. none_denied _ c.args.number (ap is_some c.in-Some.is) c.in_default-draft.ensures.none
     (λ r none. rw none refl))
@@ -32,14 +32,14 @@ places_if_scored-requires-clause-exists g c = omega (arith, c.exams.ensures.coun
 
 pub returns-then-get-exams-clause-runs : goal.returns-then-get-exams-clause-runs
 returns-then-get-exams-clause-runs g c =
-    refuses c.self.view_is c.self.invariant.1 c.in_ok-look.ensures.leaves
+    refuses c.self.view_is c.self.invariant.1 c.in_ok-check_open.ensures.leaves
     (draft_places_shown c.args.number c.args.exam) (Refused (refusal.Edit NoSuch))
     (λ _. missing_listed c.args.number c.in-Some-draft.ensures.some c.in-Some.is c.args.exam
     (grind (arith, nat_tests, c.exams.ensures.count, c.get.ensures)))
 
 pub returns-clause-runs : goal.returns-clause-runs
 returns-clause-runs g c =
-    shows c.self.view_is c.self.invariant.1 c.in_ok-look.ensures.leaves
+    shows c.self.view_is c.self.invariant.1 c.in_ok-check_open.ensures.leaves
     (draft_places_shown c.args.number c.args.exam) (plain_list (Ok c.in_ok-rows.rows))
     (λ o is. in_memory_listed c.args.number c.in-Some-draft.ensures.some c.in-Some.is c.args.exam
     (grind (arith, nat_tests, c.exams.ensures.count, c.get.ensures))

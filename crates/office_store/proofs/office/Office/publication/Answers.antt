@@ -6,12 +6,12 @@ use Rattle.office_store.proofs.office.Office.publication.Goals as goal
 
 pub returns-in_default-clause-reads : goal.returns-in_default-clause-reads
 returns-in_default-clause-reads g c =
-    returns_value c.self.view_is c.self.invariant.1 c.in_ok-look.ensures.leaves publication_shown (Ok None)
+    returns_value c.self.view_is c.self.invariant.1 c.in_ok-check_open.ensures.leaves publication_shown (Ok None)
     (λ k o kept is. none_shown is c.in_default.is)
 
 pub returns-clause-reads : goal.returns-clause-reads
 returns-clause-reads g c =
-    returns_value c.self.view_is c.self.invariant.1 c.in_ok-look.ensures.leaves publication_shown
+    returns_value c.self.view_is c.self.invariant.1 c.in_ok-check_open.ensures.leaves publication_shown
     (plain (Ok (Some (c.in_ok-timetable.timetable, c.in_ok-rows.rows))))
     (λ k o kept is. published_shown is c.in-Some.is c.in_ok-timetable.ensures.same
     (c.in_ok-rows.ensures.items ∙ c.deref.ensures.value))

@@ -5,5 +5,5 @@ use Rattle.office_store.proofs.office.Office.publication_penalty.Goals as goal
 
 pub returns-clause-reads : goal.returns-clause-reads
 returns-clause-reads g c =
-    returns_value c.self.view_is c.self.invariant.1 c.in_ok-look.ensures.leaves priced_in
+    returns_value c.self.view_is c.self.invariant.1 c.in_ok-check_open.ensures.leaves priced_in
     (Ok c.self.inside.memory.priced) (λ k o kept is. sym is.priced)

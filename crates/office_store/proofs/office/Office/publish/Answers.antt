@@ -14,9 +14,9 @@ pub returns-in_err-writes-clause-runs : goal.returns-in_err-writes-clause-runs
 returns-in_err-writes-clause-runs g c =
     let fault = c.in_err-writes.field-0.0 in
     let is : c.from_residual-in_err-writes.result ≡ Err fault = search rules in
-    subst (CommandRan g.S.Store (draft_published c.args.number) c.args.self.now c.look.new.self)
+    subst (CommandRan g.S.Store (draft_published c.args.number) c.args.self.now c.check_open.new.self)
     (sym is)
-    (refuses c.self.view_is c.self.invariant.1 c.in_ok-look.ensures.leaves
+    (refuses c.self.view_is c.self.invariant.1 c.in_ok-check_open.ensures.leaves
     (draft_published c.args.number) fault (λ k o kept is. c.in_err-writes.ensures.publishes o is))
 
 pub invariant_of-self-2 : goal.invariant_of-self-2
@@ -30,11 +30,11 @@ invariant_of-self-2 g c = (
 
 pub returns : goal.returns
 returns g c =
-    done_next c.self.view_is c.self.invariant.1 c.in_ok-look.ensures.leaves c.put.ensures
+    done_next c.self.view_is c.self.invariant.1 c.in_ok-check_open.ensures.leaves c.put.ensures
     (λ _. publication_moves c.in_ok-writes.ensures.publishes) c.in_ok-put.ensures.done
 
 pub returns-in_err-put : goal.returns-in_err-put
 returns-in_err-put g c =
-    undone_next c.self.view_is c.self.invariant.1 c.in_ok-look.ensures.leaves c.put.ensures
+    undone_next c.self.view_is c.self.invariant.1 c.in_ok-check_open.ensures.leaves c.put.ensures
     (λ _. publication_moves c.in_ok-writes.ensures.publishes) c.in_err-put.ensures.undone
     c.from_residual-in_err-put.ensures.1

@@ -6,11 +6,11 @@ use Rattle.office_store.proofs.office.Office.published_timetable.Goals as goal
 
 pub returns-in_default-clause-reads : goal.returns-in_default-clause-reads
 returns-in_default-clause-reads g c =
-    returns_value c.self.view_is c.self.invariant.1 c.in_ok-look.ensures.leaves timetable_shown (Ok None)
+    returns_value c.self.view_is c.self.invariant.1 c.in_ok-check_open.ensures.leaves timetable_shown (Ok None)
     (λ k o kept is. none_placed is c.in_default.is)
 
 pub returns-clause-reads : goal.returns-clause-reads
 returns-clause-reads g c =
-    returns_value c.self.view_is c.self.invariant.1 c.in_ok-look.ensures.leaves timetable_shown
+    returns_value c.self.view_is c.self.invariant.1 c.in_ok-check_open.ensures.leaves timetable_shown
     (Ok (Some c.in_ok-timetable.timetable))
     (λ k o kept is. places_shown is c.in-Some.is c.in_ok-timetable.ensures.same)

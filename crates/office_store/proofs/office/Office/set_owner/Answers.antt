@@ -10,12 +10,12 @@ use Rattle.office_store.proofs.office.Office.set_owner.Goals as goal
 
 pub returns-in_default-clause-runs : goal.returns-in_default-clause-runs
 returns-in_default-clause-runs g c =
-    refuses_unloaded c.self.view_is c.self.invariant.1 c.in_ok-look.ensures.leaves
+    refuses_unloaded c.self.view_is c.self.invariant.1 c.in_ok-check_open.ensures.leaves
     (set_owner_result c.args.exam c.args.dept) c.in_default.is refl
 
 pub returns-then-get-exams-clause-runs : goal.returns-then-get-exams-clause-runs
 returns-then-get-exams-clause-runs g c =
-    refuses c.self.view_is c.self.invariant.1 c.in_ok-look.ensures.leaves
+    refuses c.self.view_is c.self.invariant.1 c.in_ok-check_open.ensures.leaves
     (set_owner_result c.args.exam c.args.dept) (Refused (Edit NoSuch))
     (λ _. no_exam_denied c.args.exam c.args.dept c.in-Some.is
     (omega (arith, c.exams.ensures.count, c.if-get-exams.true)))
@@ -35,14 +35,14 @@ invariant_of-self-2 g c = (
 
 pub returns : goal.returns
 returns g c =
-    done_next c.self.view_is c.self.invariant.1 c.in_ok-look.ensures.leaves c.put.ensures
+    done_next c.self.view_is c.self.invariant.1 c.in_ok-check_open.ensures.leaves c.put.ensures
     (λ _. owner_moves c.args.exam c.args.dept c.in-Some.is
     (omega (arith, c.exams.ensures.count, c.if-get-exams.false, c.get.ensures)) c.requires.dept
     c.get-exam.ensures c.new_owner.ensures) c.in_ok-put.ensures.done
 
 pub returns-in_err-put : goal.returns-in_err-put
 returns-in_err-put g c =
-    undone_next c.self.view_is c.self.invariant.1 c.in_ok-look.ensures.leaves c.put.ensures
+    undone_next c.self.view_is c.self.invariant.1 c.in_ok-check_open.ensures.leaves c.put.ensures
     (λ _. owner_moves c.args.exam c.args.dept c.in-Some.is
     (omega (arith, c.exams.ensures.count, c.if-get-exams.false, c.get.ensures)) c.requires.dept
     c.get-exam.ensures c.new_owner.ensures)

@@ -2,7 +2,7 @@ use Rattle.std.proofs.Common.{◌≡◌, true, false, rules}
 use Rattle.office_tables.specs.declared.enrol.EnrolRow.{EnrolRow}
 use Rattle.office_store.proofs.BatchPuttingLemmas.{line_comes, line_goes}
 use Rattle.office_store.proofs.StepLemmas.{changes_as}
-use Rattle.office_store.proofs.new_batch.PutLineAlteration.apply.Goals as goal
+use Rattle.office_store.proofs.new_batch.LineWriteAlteration.apply.Goals as goal
 
 pub returns-then-self-clause-makes : goal.returns-then-self-clause-makes
 returns-then-self-clause-makes g c =

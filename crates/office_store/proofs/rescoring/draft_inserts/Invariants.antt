@@ -2,7 +2,7 @@ use Rattle.std.specs.List.{AllByRecursion}
 use Rattle.std.specs.Prelude.{map}
 use Rattle.office_tables.specs.Draft.{AreAmounts}
 use Rattle.office_store.proofs.FillingLemmas.{AreFirstRows}
-use Rattle.office_store.proofs.rescoring.rows_put.Given as goal
+use Rattle.office_store.proofs.rescoring.draft_inserts.Given as goal
 
 abbrev pub invariant-numbers : goal.invariant-numbers
 invariant-numbers l = record {

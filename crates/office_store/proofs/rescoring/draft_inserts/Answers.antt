@@ -5,7 +5,7 @@ use Rattle.std.proofs.lemmas.List.{get_or_default, get_or_past}
 use Rattle.office_tables.specs.Draft.{AreAmounts}
 use Rattle.office_tables.specs.declared.draft.InsertDraft.{InsertDraft}
 use Rattle.office_store.proofs.FillingLemmas.{AreFirstRows, all_rows, more_rows, no_rows}
-use Rattle.office_store.proofs.rescoring.rows_put.Goals as goal
+use Rattle.office_store.proofs.rescoring.draft_inserts.Goals as goal
 
 pub numbers-init : goal.numbers-init
 numbers-init c = record {

@@ -7,7 +7,7 @@ use Rattle.office_tables.specs.Tables.{Tables}
 use Rattle.office_tables.specs.TablesHeld.{HoldsTables}
 use Rattle.office_tables.proofs.LookLemmas.{look_text, look_plain, look_plain_in, was_open}
 use Rattle.office_tables.proofs.Reading.{commits_nothing, kept_failed, kept_unchanged, shown_same}
-use Rattle.office_tables.proofs.looking.look.Goals as goal
+use Rattle.office_tables.proofs.looking.check_open.Goals as goal
 
 pub returns : goal.returns
 returns g c =
