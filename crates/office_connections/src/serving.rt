@@ -44,7 +44,7 @@ pub fn answer_client<C: Clock, M: Machine, R: Read + Timed + Drop, W: Write + Ti
     let mut writer = PacedWriter::new(to, &pace);
     let served = answer_paced(alloc, &pace, &mut reader, &mut writer, machine);
     if is_ended_by_office(served) {
-        leave(&pace, &mut reader);
+        close_gently(&pace, &mut reader);
     }
     (served, writer.into_inner())
 }
@@ -82,7 +82,10 @@ fn is_ended_by_office(served: Result<Served, ServeFault>) -> bool {
 
 // Stops sending and drains the reader: a socket that is closed with unread bytes is reset, and
 // replies in transit are lost.
-fn leave<C: Clock, R: Read + Timed + Drop>(pace: &Pace<'_, C>, reader: &mut PacedReader<'_, C, R>) {
+fn close_gently<C: Clock, R: Read + Timed + Drop>(
+    pace: &Pace<'_, C>,
+    reader: &mut PacedReader<'_, C, R>,
+) {
     if reader.end_sending().is_ok() {
         pace.await_nothing();
         let mut turns = LAST_TURNS;
