@@ -17,10 +17,11 @@ const SMALL: &[u8] = b"[Exams:4]\n120, 1, 2\n90, 2, 3\n120, 3\n60, 1\n[Periods:4
 
 const SOLUTION: &[u8] = b"0, 0\n1, 0\n3, 1\n2, 0\n";
 
-const REPORTS: &str = "breaches 0\ntwo in a row 7\ntwo in a day 5\nperiod spread 3\nover night 0\n\
+pub(crate) const REPORTS: &str =
+    "breaches 0\ntwo in a row 7\ntwo in a day 5\nperiod spread 3\nover night 0\n\
     mixed durations 0\nfront load 0\nperiod penalty 15\nroom penalty 7\ntotal 37\n";
 
-const FILES: &[FolderFile<'static>] = &[
+pub(crate) const FILES: &[FolderFile<'static>] = &[
     FolderFile {
         path: "small.exam",
         bytes: SMALL,

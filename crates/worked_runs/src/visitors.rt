@@ -22,6 +22,16 @@ pub(crate) struct OnePort<'a> {
     pub(crate) waiting: Option<Waiting<'a>>,
 }
 
+impl OnePort<'_> {
+    // Returns a port without clients.
+    pub(crate) fn closed() -> Self {
+        OnePort {
+            number: 0,
+            waiting: None,
+        }
+    }
+}
+
 impl<'a> Ports for OnePort<'a> {
     ghost use Rattle.std.specs.Prelude.{◌≡◌, ◌≢◌, ◌⊎◌, IfNone, IfSome, None, Some};
 

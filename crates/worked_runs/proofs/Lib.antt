@@ -1,0 +1,4 @@
+mod SmallReport
+mod SmallWords
+mod SmallRun
+mod SmallLoad
