@@ -85,10 +85,12 @@ def session_knows_no_file_and_no_database(crates, knows):
 
 
 def only_the_calendar_loads_jiff(crates, knows):
-    """A crate that names jiff loads all of its statements."""
+    """A crate that names jiff loads all of its statements. A test may compute a date by the
+    definitions of jiff_core, which are few."""
     for crate in crates:
         if crate != "exam_calendar":
-            for name in sorted({"jiff", "jiff_core"} & set(knows[crate])):
+            hidden = {"jiff"} if is_test(crate) else {"jiff", "jiff_core"}
+            for name in sorted(hidden & set(knows[crate])):
                 yield f"{crate} knows {name} ({knows[crate][name]})"
 
 
