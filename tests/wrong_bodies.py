@@ -108,7 +108,7 @@ def say_current(crates):
 
 
 def note_renamed(crates, commit, pairs):
-    """Notes as refused those edits that differ by names alone from what was refused at a commit;
+    """Notes as refused those edits that differ only by names from what was refused at a commit;
     what decided there may be more."""
     names = dict(pair.split("=") for pair in pairs)
     with tempfile.TemporaryDirectory() as copy:
@@ -128,7 +128,7 @@ def note_renamed(crates, commit, pairs):
         same = {at.name for at in wanted if f"{name}/{at.name}" in before
                 and set(before[f"{name}/{at.name}"]).issuperset(with_names(name, at, names))}
         if wanted:
-            print(f"wrong bodies: {name}: {len(same)} of {len(wanted)} differ by names alone")
+            print(f"wrong bodies: {name}: {len(same)} of {len(wanted)} differ only by names")
             keep(name, hashes(name), same)
     return 0
 
