@@ -26,60 +26,60 @@ use Rattle.exam_model.specs.Timetable.{Placing}
 use Rattle.exam_model.proofs.SumLemmas.{sum_below-same, sum_below-within, sum_below-turned, sum_below-at}
 use Rattle.exam_score.specs.MixedDurations.{duration_count, exams_with_duration, durations, room_mixed}
 use Rattle.exam_score.specs.Stays.{is_stay, StayExists, AreStays}
-use Rattle.exam_score.specs.declared.mixed.Stay.{Stay}
+use Rattle.exam_score.specs.declared.mixed.PlacedDuration.{PlacedDuration}
 use Rattle.exam_publish.specs.Durations.{is_in_slot, AreDurations}
 use Rattle.exam_publish.specs.Tallies.{AreTallied}
 use Rattle.exam_model.proofs.PlaceLemmas.{slot_within}
 
 -- ---- the order of the stays
 
-abbrev pub stay_cmp : Stay → Stay → Ordering
+abbrev pub stay_cmp : PlacedDuration → PlacedDuration → Ordering
 stay_cmp x y =
     ordering_then (nat_cmp x.period y.period)
     (ordering_then (nat_cmp x.room y.room) (nat_cmp x.minutes y.minutes))
 
 stay_cmp_total : IsTotalOrder stay_cmp
 stay_cmp_total =
-    then_total (on_total (λ (x : Stay). x.period) nat_cmp_total)
-    (then_total (on_total (λ (x : Stay). x.room) nat_cmp_total)
-    (on_total (λ (x : Stay). x.minutes) nat_cmp_total))
+    then_total (on_total (λ (x : PlacedDuration). x.period) nat_cmp_total)
+    (then_total (on_total (λ (x : PlacedDuration). x.room) nat_cmp_total)
+    (on_total (λ (x : PlacedDuration). x.minutes) nat_cmp_total))
 
 -- the value of `==` for two stays
-abbrev pub stay_eq : Stay → Stay → Bool
+abbrev pub stay_eq : PlacedDuration → PlacedDuration → Bool
 stay_eq a b = eqb a.period b.period && (eqb a.room b.room && eqb a.minutes b.minutes)
 
-ties : (a b : Stay) → stay_eq a b ≡ eq_by_cmp stay_cmp a b
+ties : (a b : PlacedDuration) → stay_eq a b ≡ eq_by_cmp stay_cmp a b
 ties a b = grind (arith, nat_tests)
 
-same_stay : (a b : Stay) → stay_eq a b ≡ true → a ≡ b
+same_stay : (a b : PlacedDuration) → stay_eq a b ≡ true → a ≡ b
 same_stay a b h = grind (arith, common_steps, and_parts, eqb-true)
 
 equivalence : IsEquivalence stay_eq
 equivalence = grind (arith, common_steps, same_stay, nat_tests)
 
-chain_from_strict : (xs : List Stay) → IsStrictlySortedBy stay_cmp xs
+chain_from_strict : (xs : List PlacedDuration) → IsStrictlySortedBy stay_cmp xs
     → IsChain (λ x y. stay_cmp x y ≡ Less) xs
 unfolding IsStrictlySortedBy
 chain_from_strict [] h = tt
 chain_from_strict (x ∷ xs) h = (h.0, chain_from_strict xs h.1)
 
 -- a later stay is another one
-other_stay : (p r m : ℕ) (x y : Stay) → stay_cmp x y ≡ Less → is_stay p r m x ≡ true
+other_stay : (p r m : ℕ) (x y : PlacedDuration) → stay_cmp x y ≡ Less → is_stay p r m x ≡ true
     → is_stay p r m y ≡ false
 other_stay p r m x y less here = grind (arith, nat_tests, less, here)
 
-any_count : (p : Stay → Bool) (xs : List Stay) → nat_lt 0 (count_by p xs) ≡ list_any p xs
+any_count : (p : PlacedDuration → Bool) (xs : List PlacedDuration) → nat_lt 0 (count_by p xs) ≡ list_any p xs
 any_count p [] = refl
 any_count p (x ∷ xs) = grind (arith, common_steps, sum_by-cons, nat_tests, any_count p xs)
 
-any_dedup : (p : Stay → Bool) (xs : List Stay) → list_any p (dedup stay_eq xs) ≡ list_any p xs
+any_dedup : (p : PlacedDuration → Bool) (xs : List PlacedDuration) → list_any p (dedup stay_eq xs) ≡ list_any p xs
 any_dedup p xs =
     same_tests (list_any p (dedup stay_eq xs)) (list_any p xs)
     (λ h. moved (dedup stay_eq xs) xs (λ x there. Contains-from_dedup stay_eq xs x there) h)
     (λ h. moved xs (dedup stay_eq xs)
     (λ x there. Contains-dedup {E = stay_eq} equivalence same_stay xs x there) h)
   where
-    moved : (xs ys : List Stay) → ((x : Stay) → Contains xs x → Contains ys x)
+    moved : (xs ys : List PlacedDuration) → ((x : PlacedDuration) → Contains xs x → Contains ys x)
         → list_any p xs ≡ true → list_any p ys ≡ true
     moved xs ys keeps h =
         let any = Any-from_list_any p xs h in
@@ -87,12 +87,12 @@ any_dedup p xs =
         list_any_at p ys there.0 any.1 there.1 (ap p there.2 ∙ any.4)
 
 -- stays without repeats, one for each stay that some exam has
-pub record AreKinds (I : Session) (T : Placing) (kinds : List Stay) : Type 0 where
+pub record AreKinds (I : Session) (T : Placing) (kinds : List PlacedDuration) : Type 0 where
   pub members : (p r m : ℕ) → list_any (is_stay p r m) kinds ≡ nat_lt 0 (exams_with_duration I T p r m)
   pub once : IsChain (λ x y. stay_cmp x y ≡ Less) kinds
   pub exist : All (StayExists I) kinds
 
-pub are_kinds : (I : Session) (T : Placing) (stays sorted kinds : List Stay) → AreStays I T stays
+pub are_kinds : (I : Session) (T : Placing) (stays sorted kinds : List PlacedDuration) → AreStays I T stays
     → IsPermutation stays sorted → IsSorted stay_cmp sorted → kinds ≡ dedup stay_eq sorted
     → AreKinds I T kinds
 are_kinds I T stays sorted kinds are moved up is = subst (AreKinds I T) (sym is) (record {
@@ -108,7 +108,7 @@ are_kinds I T stays sorted kinds are moved up is = subst (AreKinds I T) (sym is)
 
 -- ---- the durations of one place
 
-short : (I : Session) (x : Stay) → StayExists I x → x.minutes < duration_count
+short : (I : Session) (x : PlacedDuration) → StayExists I x → x.minutes < duration_count
 unfolding duration_count
 short I x e = let h = e.minutes in omega arith
 
@@ -118,10 +118,10 @@ turn true false = refl
 turn false true = refl
 turn false false = refl
 
-here : ℕ → ℕ → Stay → Bool
+here : ℕ → ℕ → PlacedDuration → Bool
 here p r x = (x.period == p) && (x.room == r)
 
-one_stay : (I : Session) (p r : ℕ) (x : Stay) → StayExists I x
+one_stay : (I : Session) (p r : ℕ) (x : PlacedDuration) → StayExists I x
     → sum_below duration_count (λ m. cond (is_stay p r m x) 1 0) ≡ cond (here p r x) 1 0
 unfolding here
 one_stay I p r x e =
@@ -131,7 +131,7 @@ one_stay I p r x e =
     ∙ cond-true (ltb x.minutes duration_count) (cond ((x.period == p) && (x.room == r)) 1 0) 0
     (lt-ltb x.minutes duration_count (short I x e))
 
-durations_are : (I : Session) (T : Placing) (kinds : List Stay) (p r : ℕ) → AreKinds I T kinds
+durations_are : (I : Session) (T : Placing) (kinds : List PlacedDuration) (p r : ℕ) → AreKinds I T kinds
     → count_by (here p r) kinds ≡ durations I T p r
 durations_are I T kinds p r are =
     sym (sum_below-same _ _ (λ m. ap (λ b. cond b 1 0) (sym (are.members p r m))
@@ -147,7 +147,7 @@ durations_are I T kinds p r are =
     (λ x. sum_below duration_count (λ m. cond (is_stay p r m x) 1 0) ≡ cond (here p r x) 1 0)
     (one_stay I p r) kinds (recursion_from_All (StayExists I) kinds are.exist)))
 
-same_slot : (I : Session) (p r : ℕ) → r < length I.rooms → (x : Stay) → StayExists I x
+same_slot : (I : Session) (p r : ℕ) → r < length I.rooms → (x : PlacedDuration) → StayExists I x
     → ◌≡◌ {A = ℕ} (cond (is_in_slot I (p * length I.rooms + r) x) 1 0) (cond (here p r x) 1 0)
 unfolding here
 same_slot I p r hr x e =
@@ -165,7 +165,7 @@ same_slot I p r hr x e =
         (eq-eqb x.room r parts.1))
     go (inr other) = grind (arith, common_steps, ne_eqb, false_from_ne_true, and_parts, eqb-true)
 
-pub are_durations : (I : Session) (T : Placing) (kinds : List Stay) (counts : List ℕ)
+pub are_durations : (I : Session) (T : Placing) (kinds : List PlacedDuration) (counts : List ℕ)
     → AreKinds I T kinds → length kinds ≤ 2000
     → AreTallied (λ k. 1) (is_in_slot I) (length I.periods * length I.rooms) kinds counts
     → AreDurations I T counts

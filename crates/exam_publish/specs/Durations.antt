@@ -6,14 +6,14 @@ use Rattle.exam_model.specs.Timetable.{Placing}
 use Rattle.exam_terms.specs.declared.limits.TheConstants.{MAX_EXAMS}
 use Rattle.exam_terms.specs.declared.place.Place.{Place}
 use Rattle.exam_score.specs.MixedDurations.{durations}
-use Rattle.exam_score.specs.declared.mixed.Stay.{Stay}
+use Rattle.exam_score.specs.declared.mixed.PlacedDuration.{PlacedDuration}
 
 -- a stay's place
-abbrev pub stay_place : Stay → Place
+abbrev pub stay_place : PlacedDuration → Place
 stay_place x = record { period = x.period; room = x.room }
 
 -- whether a stay's place has this index in a table
-abbrev pub is_in_slot : Session → ℕ → Stay → Bool
+abbrev pub is_in_slot : Session → ℕ → PlacedDuration → Bool
 is_in_slot I k x = slot_of (length I.rooms) (stay_place x) == k
 
 -- each place's entry is the number of different durations there

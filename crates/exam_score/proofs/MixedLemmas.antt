@@ -23,11 +23,11 @@ use Rattle.exam_terms.specs.declared.place.Place.{Place}
 use Rattle.exam_model.proofs.SumLemmas.{sum_below-same, sum_below-zeros, sum_below-add, sum_below-times, sum_below-at, sum_below_more}
 use Rattle.exam_score.specs.MixedDurations.{duration_count, minutes_of, is_at, has_duration, exams_with_duration, mixed_part}
 use Rattle.exam_score.specs.Stays.{is_stay, StayExists, AreStays, NotAfter, next_differs, further_durations}
-use Rattle.exam_score.specs.declared.mixed.Stay.{Stay}
+use Rattle.exam_score.specs.declared.mixed.PlacedDuration.{PlacedDuration}
 
 -- ---- one more exam
 
-pub counts_more_some : (I : Session) (T : Placing) (e : ℕ) (stays : List Stay)
+pub counts_more_some : (I : Session) (T : Placing) (e : ℕ) (stays : List PlacedDuration)
     (at : Place) (x : Exam)
     → place_of T e ≡ Some at → slice_get I.exams e ≡ Some x
     → ((p r m : ℕ) → count_by (is_stay p r m) stays ≡ count_below e (has_duration I T p r m))
@@ -42,7 +42,7 @@ counts_more_some I T e stays at x placed is known p r m =
     (λ i. cond (is_at p r (sym placed i) && (minutes_of (sym is i) == m)) 1 0)
     ∙ sym (sum_below_more (λ e. cond (has_duration I T p r m e) 1 0) e)
 
-pub counts_more_none : (I : Session) (T : Placing) (e : ℕ) (stays : List Stay)
+pub counts_more_none : (I : Session) (T : Placing) (e : ℕ) (stays : List PlacedDuration)
     → place_of T e ≡ None
     → ((p r m : ℕ) → count_by (is_stay p r m) stays ≡ count_below e (has_duration I T p r m))
     → (p r m : ℕ) → count_by (is_stay p r m) stays ≡ count_below (e + 1) (has_duration I T p r m)
@@ -55,7 +55,7 @@ counts_more_none I T e stays unplaced known p r m =
 -- ---- durations by the stays
 
 -- how many different durations the stays at a place have
-abbrev pub stay_durations : List Stay → ℕ → ℕ → ℕ
+abbrev pub stay_durations : List PlacedDuration → ℕ → ℕ → ℕ
 stay_durations xs p r = count_below duration_count (λ m. nat_lt 0 (count_by (is_stay p r m) xs))
 
 -- 1 if there is none yet, else 0
@@ -82,7 +82,7 @@ less_one : (d n : ℕ) → (d + fresh n) - 1 ≡ (d - 1) + cond (nat_lt 0 d) (fr
 less_one d n = grind (arith, nat_tests)
 
 -- one more stay at one place
-place_more : (x : Stay) (xs : List Stay) (b : Bool) (p r n : ℕ) → x.minutes < n
+place_more : (x : PlacedDuration) (xs : List PlacedDuration) (b : Bool) (p r n : ℕ) → x.minutes < n
     → ((x.period == p) && (x.room == r)) ≡ b
     → count_below n (λ m. nat_lt 0 (count_by (is_stay p r m) (x ∷ xs))) - 1
     ≡ (count_below n (λ m. nat_lt 0 (count_by (is_stay p r m) xs)) - 1)
@@ -123,11 +123,11 @@ one_place u a b periods rooms ha hb =
     turned true d n = refl
     turned false d n = refl
 
-abbrev pub all_but_one : List Stay → ℕ → ℕ → ℕ
+abbrev pub all_but_one : List PlacedDuration → ℕ → ℕ → ℕ
 all_but_one xs periods rooms =
     sum_below rooms (λ r. sum_below periods (λ p. stay_durations xs p r - 1))
 
-more_stays : (x : Stay) (xs : List Stay) (periods rooms : ℕ) → x.period < periods → x.room < rooms
+more_stays : (x : PlacedDuration) (xs : List PlacedDuration) (periods rooms : ℕ) → x.period < periods → x.room < rooms
     → x.minutes < duration_count
     → all_but_one (x ∷ xs) periods rooms
     ≡ all_but_one xs periods rooms + cond (nat_lt 0 (stay_durations xs x.period x.room))
@@ -152,7 +152,7 @@ and-none true d = refl
 and-none false d = refl
 
 -- a stay at another place, or of another duration
-elsewhere : (p r m : ℕ) (z : Stay) → (z.period ≡ p → z.room ≡ r → ⊥) → is_stay p r m z ≡ false
+elsewhere : (p r m : ℕ) (z : PlacedDuration) → (z.period ≡ p → z.room ≡ r → ⊥) → is_stay p r m z ≡ false
 elsewhere p r m z other = elim (cases_eq z.period p) as (λ _. is_stay p r m z ≡ false) [
   | inl here ↦ elim (cases_eq z.room r) as (λ _. is_stay p r m z ≡ false) [
     | inl there ↦ absurd (other here there)
@@ -162,7 +162,7 @@ elsewhere p r m z other = elim (cases_eq z.period p) as (λ _. is_stay p r m z �
   | inr here ↦ ap (λ b. (b && (z.room == r)) && (z.minutes == m)) (ne_eqb z.period p here)
 ]
 
-not_so_long : (p r m : ℕ) (z : Stay) → (z.period ≡ p → z.room ≡ r → z.minutes ≡ m → ⊥)
+not_so_long : (p r m : ℕ) (z : PlacedDuration) → (z.period ≡ p → z.room ≡ r → z.minutes ≡ m → ⊥)
     → is_stay p r m z ≡ false
 not_so_long p r m z other = elim (cases_eq z.minutes m) as (λ _. is_stay p r m z ≡ false) [
   | inl long ↦ elsewhere p r m z (λ a b. other a b long)
@@ -174,19 +174,19 @@ not_so_long p r m z other = elim (cases_eq z.minutes m) as (λ _. is_stay p r m 
     and-last true = refl
     and-last false = refl
 
-right_there : (p r m : ℕ) (z : Stay) → z.period ≡ p → z.room ≡ r → z.minutes ≡ m
+right_there : (p r m : ℕ) (z : PlacedDuration) → z.period ≡ p → z.room ≡ r → z.minutes ≡ m
     → is_stay p r m z ≡ true
 right_there p r m z a b c =
     λ i. ((eq-eqb z.period p a i) && (eq-eqb z.room r b i)) && (eq-eqb z.minutes m c i)
 
-none_of : (p r m : ℕ) (xs : List Stay) → AllByRecursion (λ z. is_stay p r m z ≡ false) xs
+none_of : (p r m : ℕ) (xs : List PlacedDuration) → AllByRecursion (λ z. is_stay p r m z ≡ false) xs
     → count_by (is_stay p r m) xs ≡ 0
 none_of p r m xs h =
     sum_by-none (λ z. cond (is_stay p r m z) 1 0) xs
     (each_weaker (λ z. is_stay p r m z ≡ false) (λ z. ◌≡◌ {A = ℕ} (cond (is_stay p r m z) 1 0) 0)
     (λ z e. ap (λ b. cond b 1 0) e) xs h)
 
-nothing_there : (p r : ℕ) (xs : List Stay) → ((m : ℕ) → count_by (is_stay p r m) xs ≡ 0)
+nothing_there : (p r : ℕ) (xs : List PlacedDuration) → ((m : ℕ) → count_by (is_stay p r m) xs ≡ 0)
     → stay_durations xs p r ≡ 0
 nothing_there p r xs h =
     sum_below-same _ _ (λ m. ap (λ k. cond (nat_lt 0 k) 1 0) (h m)) duration_count
@@ -200,7 +200,7 @@ at_least f k (suc n) lt = elim (cases_lt k n) as (λ _. f k ≤ sum_below n f + 
 ]
 
 -- three stays in order: if the first and the third have the same place, so has the second
-back_place : (x y z : Stay) → NotAfter x y → NotAfter y z → z.period ≡ x.period → z.room ≡ x.room
+back_place : (x y z : PlacedDuration) → NotAfter x y → NotAfter y z → z.period ≡ x.period → z.room ≡ x.room
     → (y.period ≡ x.period) × (y.room ≡ x.room)
 back_place x y z xy yz zp zr =
     let a = xy.periods in
@@ -211,7 +211,7 @@ back_place x y z xy yz zp zr =
     let yr : y.room ≡ x.room = omega arith in
     (yp, yr)
 
-back_minutes : (x y z : Stay) → NotAfter x y → NotAfter y z → z.period ≡ x.period → z.room ≡ x.room
+back_minutes : (x y z : PlacedDuration) → NotAfter x y → NotAfter y z → z.period ≡ x.period → z.room ≡ x.room
     → z.minutes ≡ x.minutes → y.minutes ≡ x.minutes
 back_minutes x y z xy yz zp zr zm =
     let place = back_place x y z xy yz zp zr in
@@ -220,7 +220,7 @@ back_minutes x y z xy yz zp zr zm =
     omega arith
 
 -- the next stay has another place: then so have all later ones
-next_elsewhere : (x y : Stay) (ys : List Stay) → NotAfter x y → AllByRecursion (NotAfter y) ys
+next_elsewhere : (x y : PlacedDuration) (ys : List PlacedDuration) → NotAfter x y → AllByRecursion (NotAfter y) ys
     → (y.period ≡ x.period → y.room ≡ x.room → ⊥)
     → cond (nat_lt 0 (stay_durations (y ∷ ys) x.period x.room))
     (fresh (count_by (is_stay x.period x.room x.minutes) (y ∷ ys))) 0 ≡ 0
@@ -235,7 +235,7 @@ next_elsewhere x y ys xy later other =
     )))
 
 -- the next stay has the same place and duration: then there is no further duration
-next_same : (x y : Stay) (ys : List Stay) → y.period ≡ x.period → y.room ≡ x.room
+next_same : (x y : PlacedDuration) (ys : List PlacedDuration) → y.period ≡ x.period → y.room ≡ x.room
     → y.minutes ≡ x.minutes
     → cond (nat_lt 0 (stay_durations (y ∷ ys) x.period x.room))
     (fresh (count_by (is_stay x.period x.room x.minutes) (y ∷ ys))) 0 ≡ 0
@@ -249,7 +249,7 @@ next_same x y ys a b c =
     ∙ cond_same (nat_lt 0 (stay_durations (y ∷ ys) x.period x.room)) 0
 
 -- the next stay has the same place and another duration: then it is a further one
-next_further : (x y : Stay) (ys : List Stay) → NotAfter x y → AllByRecursion (NotAfter y) ys
+next_further : (x y : PlacedDuration) (ys : List PlacedDuration) → NotAfter x y → AllByRecursion (NotAfter y) ys
     → y.minutes < duration_count → y.period ≡ x.period → y.room ≡ x.room → y.minutes ≢ x.minutes
     → cond (nat_lt 0 (stay_durations (y ∷ ys) x.period x.room))
     (fresh (count_by (is_stay x.period x.room x.minutes) (y ∷ ys))) 0 ≡ 1
@@ -274,7 +274,7 @@ next_further x y ys xy later exists a b other =
     ) in
     ap₂ (λ b n. cond b (fresh n) 0) (lt-ltb 0 _ used) absent
 
-next_is : (x : Stay) (xs : List Stay) → AllByRecursion (NotAfter x) xs → IsChain NotAfter xs
+next_is : (x : PlacedDuration) (xs : List PlacedDuration) → AllByRecursion (NotAfter x) xs → IsChain NotAfter xs
     → AllByRecursion (λ z. z.minutes < duration_count) xs
     → cond (nat_lt 0 (stay_durations xs x.period x.room))
     (fresh (count_by (is_stay x.period x.room x.minutes) xs)) 0
@@ -315,11 +315,11 @@ next_is x (y ∷ ys) after chain short =
 
 -- ---- along the whole list
 
-short : (I : Session) (z : Stay) → StayExists I z → z.minutes < duration_count
+short : (I : Session) (z : PlacedDuration) → StayExists I z → z.minutes < duration_count
 unfolding duration_count
 short I z e = let h = e.minutes in omega arith
 
-pub further_is : (I : Session) (xs : List Stay) → IsChain NotAfter xs
+pub further_is : (I : Session) (xs : List PlacedDuration) → IsChain NotAfter xs
     → AllByRecursion (StayExists I) xs
     → all_but_one xs (length I.periods) (length I.rooms) ≡ further_durations xs
 further_is I [] chain exist =
@@ -340,18 +340,18 @@ further_is I (x ∷ xs) chain exist =
 
 -- ---- the order of the stays
 
-abbrev pub stay_cmp : Stay → Stay → Ordering
+abbrev pub stay_cmp : PlacedDuration → PlacedDuration → Ordering
 stay_cmp x y =
     ordering_then (nat_cmp x.period y.period)
     (ordering_then (nat_cmp x.room y.room) (nat_cmp x.minutes y.minutes))
 
 stay_cmp_total : IsTotalOrder stay_cmp
 stay_cmp_total =
-    then_total (on_total (λ (x : Stay). x.period) nat_cmp_total)
-    (then_total (on_total (λ (x : Stay). x.room) nat_cmp_total)
-    (on_total (λ (x : Stay). x.minutes) nat_cmp_total))
+    then_total (on_total (λ (x : PlacedDuration). x.period) nat_cmp_total)
+    (then_total (on_total (λ (x : PlacedDuration). x.room) nat_cmp_total)
+    (on_total (λ (x : PlacedDuration). x.minutes) nat_cmp_total))
 
-not_less : (x y : Stay) → is_lt (stay_cmp y x) ≡ false → NotAfter x y
+not_less : (x y : PlacedDuration) → is_lt (stay_cmp y x) ≡ false → NotAfter x y
 not_less x y h = record {
   periods = elim (cases_lt y.period x.period) as (λ _. x.period ≤ y.period)
       [ inl less ↦ absurd (first x y h less) | inr more ↦ more ];
@@ -361,24 +361,24 @@ not_less x y h = record {
       [ inl less ↦ absurd (third x y h (sym p) (sym r) less) | inr more ↦ more ];
 }
   where
-    first : (x y : Stay) → is_lt (stay_cmp y x) ≡ false → y.period < x.period → ⊥
+    first : (x y : PlacedDuration) → is_lt (stay_cmp y x) ≡ false → y.period < x.period → ⊥
     first x y h less = grind (arith, nat_tests)
 
-    second : (x y : Stay) → is_lt (stay_cmp y x) ≡ false → y.period ≡ x.period → y.room < x.room → ⊥
+    second : (x y : PlacedDuration) → is_lt (stay_cmp y x) ≡ false → y.period ≡ x.period → y.room < x.room → ⊥
     second x y h p less = grind (arith, nat_tests)
 
-    third : (x y : Stay) → is_lt (stay_cmp y x) ≡ false → y.period ≡ x.period → y.room ≡ x.room
+    third : (x y : PlacedDuration) → is_lt (stay_cmp y x) ≡ false → y.period ≡ x.period → y.room ≡ x.room
         → y.minutes < x.minutes → ⊥
     third x y h p r less = grind (arith, nat_tests)
 
-in_order : (xs : List Stay) → IsSorted stay_cmp xs → AllPairs NotAfter xs
+in_order : (xs : List PlacedDuration) → IsSorted stay_cmp xs → AllPairs NotAfter xs
 in_order xs h i j d l m =
     not_less (get_or xs i d) (get_or xs j d)
     (sorted_far (λ x y. is_lt (stay_cmp x y)) (ranks_by stay_cmp_total (λ x. x)) xs h i j d
     (omega arith) m)
 
 -- the part of the penalty along stays in order
-pub mixed_is : (I : Session) (T : Placing) (stays sorted : List Stay) → AreStays I T stays
+pub mixed_is : (I : Session) (T : Placing) (stays sorted : List PlacedDuration) → AreStays I T stays
     → IsPermutation stays sorted → IsSorted stay_cmp sorted
     → further_durations sorted * I.weights.mixed ≡ mixed_part I T
 mixed_is I T stays sorted are moved order =

@@ -24,7 +24,7 @@ use Rattle.exam_score.specs.Tallies.{if_placed, tally_sum, tally_pair, tally_cos
 use Rattle.exam_score.specs.Walk.{row_pair, cost_with}
 use Rattle.exam_score.specs.declared.amounts.Amounts.{Amounts}
 use Rattle.exam_score.specs.declared.rows.Row.{Row}
-use Rattle.exam_score.specs.declared.sittings.Sitting.{Sitting}
+use Rattle.exam_score.specs.declared.sittings.PlacedExam.{PlacedExam}
 use Rattle.exam_score.specs.declared.tallies.Tally.{Tally}
 use Rattle.exam_score.proofs.CostLemmas.{cost_in-small}
 use Rattle.exam_score.proofs.KindLemmas.{by_kinds, each_kind, of_kinds}
@@ -137,7 +137,7 @@ tallied_cost cost rows tallies either nothing counted =
         tallies
 
 -- the tallies of a timetable's sittings count the rows of its pairs
-pub tallied_rows : (E : Enrolled) (T : Placing) (sittings : List Sitting) (tallies : List Tally)
+pub tallied_rows : (E : Enrolled) (T : Placing) (sittings : List PlacedExam) (tallies : List Tally)
     → length T ≡ length E
     → ((g : ℕ → ℕ → ℕ) → sum_by (λ x. g x.exam x.period) sittings
     ≡ sum_below (length T) (λ e. if_placed (g e) (period_of T e)))
@@ -162,7 +162,7 @@ few_rows E T known =
     omega arith
 
 -- the sittings have at most as many students as there are pairs
-pub few_seats : (E : Enrolled) (T : Placing) (sittings : List Sitting) → AreEnrolments E
+pub few_seats : (E : Enrolled) (T : Placing) (sittings : List PlacedExam) → AreEnrolments E
     → length T ≡ length E
     → ((g : ℕ → ℕ → ℕ) → sum_by (λ x. g x.exam x.period) sittings
     ≡ sum_below (length T) (λ e. if_placed (g e) (period_of T e)))
@@ -170,7 +170,7 @@ pub few_seats : (E : Enrolled) (T : Placing) (sittings : List Sitting) → AreEn
 few_seats E T sittings known long all =
     let sizes : sum_by (λ x. size_of E x.exam) sittings
     ≡ sum_by (λ x. sum_by (λ s. 1) (students E x.exam)) sittings
-    = sum_by-same _ _ (λ (x : Sitting). sym (sum_by-ones (students E x.exam))) sittings in
+    = sum_by-same _ _ (λ (x : PlacedExam). sym (sum_by-ones (students E x.exam))) sittings in
     let rows : sum_by (λ x. sum_by (λ s. 1) (students E x.exam)) sittings
     ≡ length (filter_map (row_of T) (pairs_of E))
     = all (λ e p. sum_by (λ s. 1) (students E e))
@@ -229,7 +229,7 @@ of_parts I E T sums are = record {
     small k = (are k).small
 
 -- these by the tallies
-pub pair_parts_tallied : (I : Session) (E : Enrolled) (T : Placing) (sittings : List Sitting)
+pub pair_parts_tallied : (I : Session) (E : Enrolled) (T : Placing) (sittings : List PlacedExam)
     (tallies : List Tally) (sums : Amounts ℕ) (night : ℕ)
     → IsInstance I → AreEnrolments E → length T ≡ length E
     → ((g : ℕ → ℕ → ℕ) → sum_by (λ x. g x.exam x.period) sittings

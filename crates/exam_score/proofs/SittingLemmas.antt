@@ -16,12 +16,12 @@ use Rattle.exam_model.proofs.SumLemmas.{sum_below_more}
 use Rattle.exam_score.specs.Rows.{row_at, row_of}
 use Rattle.exam_score.specs.Tallies.{if_placed}
 use Rattle.exam_score.specs.declared.rows.Row.{Row}
-use Rattle.exam_score.specs.declared.sittings.Sitting.{Sitting}
+use Rattle.exam_score.specs.declared.sittings.PlacedExam.{PlacedExam}
 use Rattle.exam_score.proofs.RowLemmas.{rows_more_some, rows_more_none}
 
 -- ---- one more exam
 
-pub sittings_more_some : (g : ℕ → ℕ → ℕ) (T : Placing) (e p : ℕ) (xs : List Sitting)
+pub sittings_more_some : (g : ℕ → ℕ → ℕ) (T : Placing) (e p : ℕ) (xs : List PlacedExam)
     → period_of T e ≡ Some p
     → sum_by (λ x. g x.exam x.period) xs ≡ sum_below e (λ e. if_placed (g e) (period_of T e))
     → sum_by (λ x. g x.exam x.period) (xs ++ record { period = p; exam = e } ∷ [])
@@ -31,7 +31,7 @@ sittings_more_some g T e p xs is known =
     ∙ ap₂ (λ a b. a + b) known (ap (if_placed (g e)) (sym is))
     ∙ sym (sum_below_more (λ e. if_placed (g e) (period_of T e)) e)
 
-pub sittings_more_none : (g : ℕ → ℕ → ℕ) (T : Placing) (e : ℕ) (xs : List Sitting)
+pub sittings_more_none : (g : ℕ → ℕ → ℕ) (T : Placing) (e : ℕ) (xs : List PlacedExam)
     → period_of T e ≡ None
     → sum_by (λ x. g x.exam x.period) xs ≡ sum_below e (λ e. if_placed (g e) (period_of T e))
     → sum_by (λ x. g x.exam x.period) xs ≡ sum_below (e + 1) (λ e. if_placed (g e) (period_of T e))
@@ -43,22 +43,22 @@ sittings_more_none g T e xs is known =
 
 -- ---- the order
 
-abbrev pub sitting_cmp : Sitting → Sitting → Ordering
+abbrev pub sitting_cmp : PlacedExam → PlacedExam → Ordering
 sitting_cmp x y = ordering_then (nat_cmp x.period y.period) (nat_cmp x.exam y.exam)
 
 sitting_cmp_total : IsTotalOrder sitting_cmp
 sitting_cmp_total =
-    then_total (on_total (λ (x : Sitting). x.period) nat_cmp_total)
-    (on_total (λ (x : Sitting). x.exam) nat_cmp_total)
+    then_total (on_total (λ (x : PlacedExam). x.period) nat_cmp_total)
+    (on_total (λ (x : PlacedExam). x.exam) nat_cmp_total)
 
-not_less : (x y : Sitting) → is_lt (sitting_cmp y x) ≡ false → x.period ≤ y.period
+not_less : (x y : PlacedExam) → is_lt (sitting_cmp y x) ≡ false → x.period ≤ y.period
 not_less x y h = elim (cases_lt y.period x.period) as (λ _. x.period ≤ y.period)
     [ inl less ↦ absurd (first x y h less) | inr more ↦ more ]
   where
-    first : (x y : Sitting) → is_lt (sitting_cmp y x) ≡ false → y.period < x.period → ⊥
+    first : (x y : PlacedExam) → is_lt (sitting_cmp y x) ≡ false → y.period < x.period → ⊥
     first x y h less = grind (arith, nat_tests)
 
-pub sorted_sittings : (xs : List Sitting) → IsSorted sitting_cmp xs
+pub sorted_sittings : (xs : List PlacedExam) → IsSorted sitting_cmp xs
     → AllPairs (λ x y. x.period ≤ y.period) xs
 sorted_sittings xs h i j d l m =
     not_less (get_or xs i d) (get_or xs j d)

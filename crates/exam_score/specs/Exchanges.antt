@@ -11,7 +11,7 @@ use Rattle.exam_score.specs.Folds.{Folded}
 use Rattle.exam_score.specs.EditedCosts.{personal_sum}
 use Rattle.exam_score.specs.Front.{AreSizes, front_by}
 use Rattle.exam_score.specs.Kinds.{EachKind, amount}
-use Rattle.exam_score.specs.Penalty.{Penalty, PersonalPenalty, pairs_in, penalty_sum, total_of, whole}
+use Rattle.exam_score.specs.Penalty.{Penalty, PersonalPenalty, pairs_in, penalty_sum, total_of, with_pairs}
 use Rattle.exam_score.specs.Track.{exam_period, exam_room, track}
 use Rattle.exam_score.specs.Touched.{is_touched, mixed_cost_if, sum_over_exams}
 
@@ -22,7 +22,7 @@ use Rattle.exam_score.specs.Touched.{is_touched, mixed_cost_if, sum_over_exams}
 abbrev pub edit_share : Session → Placing → List ℕ → (ℕ → ℕ → Bool) → List ℕ → PersonalPenalty
     → Penalty
 edit_share I T edited touched sizes students =
-    whole students (mixed_cost_if I T touched)
+    with_pairs students (mixed_cost_if I T touched)
     (sum_over_exams I edited (λ e. front_by I sizes (place_of T e) e))
     (sum_over_exams I edited (λ e. exam_period I (place_of T e)))
     (sum_over_exams I edited (λ e. exam_room I (place_of T e)))

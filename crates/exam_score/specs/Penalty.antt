@@ -33,8 +33,8 @@ pub record Penalty : Type 0 where
   pub room : ℕ
 
 -- the parts of pairs and the others as one penalty
-abbrev pub whole : PersonalPenalty → ℕ → ℕ → ℕ → ℕ → Penalty
-whole pairs mixed front period room = record {
+abbrev pub with_pairs : PersonalPenalty → ℕ → ℕ → ℕ → ℕ → Penalty
+with_pairs pairs mixed front period room = record {
   row = pairs.row;
   day = pairs.day;
   spread = pairs.spread;

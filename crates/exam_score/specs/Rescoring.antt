@@ -7,7 +7,7 @@ use Rattle.exam_model.specs.Pairs.{pairs_of}
 use Rattle.exam_model.specs.Timetable.{Placing}
 use Rattle.exam_score.specs.Kinds.{cost_in, by_kind}
 use Rattle.exam_score.specs.FrontLoad.{front_part}
-use Rattle.exam_score.specs.Penalty.{Penalty, PersonalPenalty, whole}
+use Rattle.exam_score.specs.Penalty.{Penalty, PersonalPenalty, with_pairs}
 use Rattle.exam_score.specs.Personal.{personal_of}
 use Rattle.exam_score.specs.Regrouping.{candidate_cost, periods_of}
 
@@ -41,4 +41,4 @@ students_penalty I E T students = by_kind (λ k. students_cost (cost_in I k) E T
 -- the share of these students and of the front load in the penalty of a timetable
 abbrev pub students_share : Session → Enrolled → Placing → List ℕ → Penalty
 students_share I E T students =
-    whole (students_penalty I E T students) 0 (front_part I E T) 0 0
+    with_pairs (students_penalty I E T students) 0 (front_part I E T) 0 0

@@ -5,7 +5,7 @@ use Rattle.exam_model.specs.Sums.{sum_pairs}
 use Rattle.exam_score.specs.Rows.{row_at}
 use Rattle.exam_score.specs.Walk.{row_pair}
 use Rattle.exam_score.specs.declared.rows.Row.{Row}
-use Rattle.exam_score.specs.declared.sittings.Sitting.{Sitting}
+use Rattle.exam_score.specs.declared.sittings.PlacedExam.{PlacedExam}
 use Rattle.exam_score.specs.declared.tallies.Tally.{Tally}
 
 -- g of the period of an exam; 0 if it is not placed
@@ -14,7 +14,7 @@ if_placed g None = 0
 if_placed g (Some p) = g p
 
 -- f summed over the rows of a sitting: one for each of its students
-abbrev pub sitting_sum : Enrolled → (Row → ℕ) → Sitting → ℕ
+abbrev pub sitting_sum : Enrolled → (Row → ℕ) → PlacedExam → ℕ
 sitting_sum E f x = sum_by (λ s. f (row_at x.period s)) (students E x.exam)
 
 -- f summed over the rows that a tally counts
@@ -22,7 +22,7 @@ abbrev pub tally_sum : (Row → ℕ) → Tally → ℕ
 tally_sum f x = x.exams * f (row_at x.period x.student)
 
 -- the tallies count exactly the rows of the sittings: every sum agrees
-abbrev pub AreCounted : Enrolled → List Sitting → List Tally → Type 0
+abbrev pub AreCounted : Enrolled → List PlacedExam → List Tally → Type 0
 AreCounted E sittings tallies =
     (f : Row → ℕ) → sum_by (sitting_sum E f) sittings ≡ sum_by (tally_sum f) tallies
 

@@ -10,7 +10,7 @@ use Rattle.exam_model.specs.declared.parts.Room.{Room}
 use Rattle.exam_terms.specs.declared.place.Place.{Place}
 use Rattle.exam_score.specs.Kinds.{cost_in, by_kind}
 use Rattle.exam_score.specs.Regrouping.{pair_part}
-use Rattle.exam_score.specs.Penalty.{Penalty, PersonalPenalty, whole}
+use Rattle.exam_score.specs.Penalty.{Penalty, PersonalPenalty, with_pairs}
 use Rattle.exam_score.specs.MixedDurations.{mixed_part}
 use Rattle.exam_score.specs.FrontLoad.{front_part}
 
@@ -53,4 +53,5 @@ pair_parts I E T = by_kind (λ k. pair_part (cost_in I k) E (period_of T))
 -- all eight parts
 abbrev pub track : Session → Enrolled → Placing → Penalty
 track I E T =
-    whole (pair_parts I E T) (mixed_part I T) (front_part I E T) (period_part I T) (room_part I T)
+    with_pairs (pair_parts I E T) (mixed_part I T) (front_part I E T) (period_part I T)
+    (room_part I T)

@@ -13,7 +13,7 @@ use crate::edited_exams::{edited_front, edited_places};
 use crate::parts::Parts;
 use crate::personal_parts::PersonalParts;
 use crate::sat_exams::personal_at;
-use crate::touched::{Touched, touched_mixed};
+use crate::touched::{EditedPlaces, touched_mixed};
 use exam_model::{ExamNo, Instance, StudentNo, Timetable};
 use std::alloc::{AllocError, Global};
 use std::marker::Model;
@@ -141,7 +141,7 @@ impl<'a> EditFold<'a> {
             (old_amounts self.entry sizes.now) (new_amounts self.entry sizes.now)) }
     {
         self.instance.lemma_limits();
-        let touched = Touched {
+        let touched = EditedPlaces {
             edited: self.edited,
             earlier: self.earlier,
             later: self.later,
@@ -160,7 +160,7 @@ impl<'a> EditFold<'a> {
 fn edit_share(
     instance: &Instance,
     timetable: &Timetable,
-    touched: &Touched,
+    touched: &EditedPlaces,
     sizes: &[u32],
     students: PersonalParts,
 ) -> Parts

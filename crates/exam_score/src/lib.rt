@@ -32,7 +32,7 @@ pub use changes::difference;
 pub use edit_fold::EditFold;
 pub use front::{front_share, sizes_of};
 pub use laws::{penalty_is_small, regrouping};
-pub use mixed::{Stay, stays_of};
+pub use mixed::{PlacedDuration, stays_of};
 pub use pair_costs::{DayCost, NightCost, RowCost, SpreadCost};
 pub use parts::Parts;
 pub use personal_parts::PersonalParts;

@@ -10,7 +10,7 @@ use std::alloc::{AllocError, Global};
 
 /// The place and the duration of an exam; ordered by period, then room, then minutes.
 #[derive(Clone, Copy, PartialEq, Eq, PartialOrd, Ord)]
-pub struct Stay {
+pub struct PlacedDuration {
     pub period: PeriodNo,
     pub room: RoomNo,
     pub minutes: u32,
@@ -32,7 +32,7 @@ pub(crate) fn mixed_durations(
 }
 
 // Returns how many stays are followed by one with the same place and another duration.
-fn count_further(stays: &[Stay]) -> u64
+fn count_further(stays: &[PlacedDuration]) -> u64
     requires { length stays.now ≤ MAX_EXAMS }
     ensures count { result ≡ further_durations stays.now }
     ensures small { result ≤ length stays.now }
@@ -46,7 +46,7 @@ fn count_further(stays: &[Stay]) -> u64
     count
 }
 
-fn differs_from_next(stay: Stay, others: &[Stay]) -> u64
+fn differs_from_next(stay: PlacedDuration, others: &[PlacedDuration]) -> u64
     ensures differs { result ≡ next_differs stay others.now }
     ensures small { result ≤ 1 }
 {
@@ -67,7 +67,7 @@ pub fn stays_of(
     alloc: Global,
     instance: &Instance,
     timetable: &Timetable,
-) -> Result<Vec<Stay>, AllocError>
+) -> Result<Vec<PlacedDuration>, AllocError>
     requires fits { Suits instance.now timetable.now }
     ensures { IfOk result (λ stays. AreStays instance.now timetable.now stays.items) }
 {
@@ -75,7 +75,7 @@ pub fn stays_of(
     for exam in 0..instance.exams() {
         let exam = ExamNo::new(exam);
         if let Some(place) = timetable.get(exam) {
-            stays.push(Stay {
+            stays.push(PlacedDuration {
                 period: place.period,
                 room: place.room,
                 minutes: instance.exam(exam).minutes,

@@ -1,7 +1,7 @@
 // The numbers of a penalty: contracts see them as a record.
 ghost use Rattle.std.specs.Prelude.{◌≡◌, ◌+◌, ◌^◌, ◌<◌, ◌≤◌, Some, None, IfSome, IfNone};
 ghost use Rattle.exam_score.specs.Exchanges.{CannotExchange, IsExchanged};
-ghost use Rattle.exam_score.specs.Penalty.{Penalty, pairs_in, total_of, whole};
+ghost use Rattle.exam_score.specs.Penalty.{Penalty, pairs_in, total_of, with_pairs};
 
 use crate::personal_parts::PersonalParts;
 use crate::places::PlaceSums;
@@ -24,9 +24,10 @@ pub struct Parts {
 impl Model for Parts {
     ghost Value = { Penalty };
 
-    ghost view = { λ a. whole a.pairs a.mixed a.front a.period a.room };
+    ghost view = { λ a. with_pairs a.pairs a.mixed a.front a.period a.room };
 
-    ghost invariant = { λ a. total_of (whole a.pairs a.mixed a.front a.period a.room) < 2 ^ 62 };
+    ghost invariant = { λ a. total_of (with_pairs a.pairs a.mixed a.front a.period a.room)
+        < 2 ^ 62 };
 
     ghost inverse = { λ p. record {
       pairs = pairs_in p;
@@ -82,8 +83,8 @@ impl Parts {
 
     // Returns the same, if the total is known to be within the limit.
     pub(crate) fn of(pairs: PersonalParts, mixed: u64, front: u64, places: PlaceSums) -> Parts
-        requires { total_of (whole pairs mixed front places.periods places.rooms) < 2 ^ 62 }
-        ensures { result ≡ whole pairs mixed front places.periods places.rooms }
+        requires { total_of (with_pairs pairs mixed front places.periods places.rooms) < 2 ^ 62 }
+        ensures { result ≡ with_pairs pairs mixed front places.periods places.rooms }
     {
         Parts {
             pairs,

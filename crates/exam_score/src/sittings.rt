@@ -9,13 +9,16 @@ use std::alloc::{AllocError, Global};
 
 // An exam and its period; ordered by period, and then by exam.
 #[derive(Clone, Copy, PartialEq, Eq, PartialOrd, Ord)]
-pub(crate) struct Sitting {
+pub(crate) struct PlacedExam {
     pub period: PeriodNo,
     pub exam: ExamNo,
 }
 
-// Returns a sitting for each placed exam, the periods ascending.
-pub(crate) fn sittings_of(alloc: Global, timetable: &Timetable) -> Result<Vec<Sitting>, AllocError>
+// Returns the placed exams, the periods ascending.
+pub(crate) fn sittings_of(
+    alloc: Global,
+    timetable: &Timetable,
+) -> Result<Vec<PlacedExam>, AllocError>
     ensures all { IfOk result (λ sittings. (g : ℕ → ℕ → ℕ)
         → sum_by (λ x. g x.exam x.period) sittings.items
         ≡ sum_below (length timetable.now) (λ e. if_placed (g e) (period_of timetable.now e))) }
@@ -30,7 +33,7 @@ pub(crate) fn sittings_of(alloc: Global, timetable: &Timetable) -> Result<Vec<Si
 }
 
 // Returns the same in the order of the exams.
-fn placed_exams(alloc: Global, timetable: &Timetable) -> Result<Vec<Sitting>, AllocError>
+fn placed_exams(alloc: Global, timetable: &Timetable) -> Result<Vec<PlacedExam>, AllocError>
     ensures all { IfOk result (λ sittings. (g : ℕ → ℕ → ℕ)
         → sum_by (λ x. g x.exam x.period) sittings.items
         ≡ sum_below (length timetable.now) (λ e. if_placed (g e) (period_of timetable.now e))) }
@@ -42,7 +45,7 @@ fn placed_exams(alloc: Global, timetable: &Timetable) -> Result<Vec<Sitting>, Al
         let exam = ExamNo::new(exam);
         if let Some(place) = timetable.get(exam) {
             let period = place.period;
-            sittings.push(Sitting { period, exam })?;
+            sittings.push(PlacedExam { period, exam })?;
         }
     }
     Ok(sittings)

@@ -7,7 +7,7 @@ ghost use Rattle.exam_score.specs.Tallies.{tally_sum, AreCounted};
 ghost use Rattle.exam_score.specs.TallyLinks.{bucket_of_student, AreCrowded, AreFiled, AreLinked, Grows, Extends};
 ghost use Rattle.exam_score.specs.declared.rows.Row.{Row};
 
-use crate::sittings::Sitting;
+use crate::sittings::PlacedExam;
 use exam_model::{Enrolments, PeriodNo, StudentNo};
 use std::alloc::{AllocError, Global};
 
@@ -46,7 +46,7 @@ struct Crowd {
 pub(crate) fn tallies_of(
     alloc: Global,
     enrolments: &Enrolments,
-    sittings: &[Sitting],
+    sittings: &[PlacedExam],
 ) -> Result<Vec<Tally>, AllocError>
     requires exist { All (λ x. x.exam < length enrolments.now) sittings.now }
     requires few { sum_by (λ x. size_of enrolments.now x.exam) sittings.now ≤ MAX_PAIRS }
@@ -86,7 +86,7 @@ fn buckets_for(pairs: u32) -> u32
 fn file_all(
     alloc: Global,
     enrolments: &Enrolments,
-    sittings: &[Sitting],
+    sittings: &[PlacedExam],
     buckets: u32,
 ) -> Result<Filing, AllocError>
     requires some { 0 < buckets }

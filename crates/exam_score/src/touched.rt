@@ -14,7 +14,7 @@ const DURATIONS: usize = MAX_MINUTES as usize + 1;
 
 // The exams of an edit, and the timetables before and after it.
 #[derive(Clone, Copy)]
-pub(crate) struct Touched<'a> {
+pub(crate) struct EditedPlaces<'a> {
     pub edited: &'a [ExamNo],
     pub earlier: &'a Timetable,
     pub later: &'a Timetable,
@@ -22,7 +22,11 @@ pub(crate) struct Touched<'a> {
 
 // Returns the weight for each duration but one of each room and period with an edited exam, before
 // the edit or after it.
-pub(crate) fn touched_mixed(instance: &Instance, timetable: &Timetable, touched: &Touched) -> u64
+pub(crate) fn touched_mixed(
+    instance: &Instance,
+    timetable: &Timetable,
+    touched: &EditedPlaces,
+) -> u64
     ensures part { result ≡ mixed_cost_if instance.now timetable.now
         (is_touched touched.now.edited.now touched.now.earlier.now touched.now.later.now) }
     ensures small { result ≤ MAX_ROOMS * (MAX_PERIODS * (MAX_EXAMS * MAX_AMOUNT)) }
@@ -31,7 +35,7 @@ pub(crate) fn touched_mixed(instance: &Instance, timetable: &Timetable, touched:
     let mut total = 0;
     let mut left = touched.edited;
     while let Some((exam, edited)) = left.split_first() {
-        let others = Touched { edited, ..*touched };
+        let others = EditedPlaces { edited, ..*touched };
         total += exam_mixed(instance, timetable, &others, *exam);
         left = edited;
     }
@@ -39,7 +43,12 @@ pub(crate) fn touched_mixed(instance: &Instance, timetable: &Timetable, touched:
 }
 
 // Returns the share of the places of one more edited exam, except those that the others touch.
-fn exam_mixed(instance: &Instance, timetable: &Timetable, others: &Touched, exam: ExamNo) -> u64
+fn exam_mixed(
+    instance: &Instance,
+    timetable: &Timetable,
+    others: &EditedPlaces,
+    exam: ExamNo,
+) -> u64
     ensures further { mixed_cost_if instance.now timetable.now
         (is_touched others.now.edited.now others.now.earlier.now others.now.later.now) + result
         ≡ mixed_cost_if instance.now timetable.now
@@ -61,7 +70,7 @@ fn exam_mixed(instance: &Instance, timetable: &Timetable, others: &Touched, exam
 fn place_mixed(
     instance: &Instance,
     timetable: &Timetable,
-    touched: &Touched,
+    touched: &EditedPlaces,
     place: Option<Place>,
 ) -> u64
     ensures further { result ≡ further_mixed instance.now timetable.now
@@ -84,7 +93,7 @@ fn has_place(instance: &Instance, place: &Place) -> bool
     place.room.get() < instance.rooms() && place.period.get() < instance.periods()
 }
 
-fn is_touched(touched: &Touched, place: &Place) -> bool
+fn is_touched(touched: &EditedPlaces, place: &Place) -> bool
     ensures { result ≡ is_touched touched.now.edited.now touched.now.earlier.now
         touched.now.later.now place.now.period place.now.room }
 {

@@ -5,7 +5,7 @@ use Rattle.std.proofs.lemmas.List.Elements.{All-push}
 use Rattle.exam_model.specs.Sums.{count_below}
 use Rattle.exam_score.specs.MixedDurations.{has_duration}
 use Rattle.exam_score.specs.Stays.{StayExists, is_stay}
-use Rattle.exam_score.specs.declared.mixed.Stay.{Stay}
+use Rattle.exam_score.specs.declared.mixed.PlacedDuration.{PlacedDuration}
 use Rattle.exam_score.proofs.MixedLemmas.{counts_more_some, counts_more_none, stay_exists}
 use Rattle.exam_score.proofs.mixed.stays_of.Goals as goal
 use Rattle.exam_score.proofs.mixed.stays_of.Goals.{in-Some+in_ok-push, in_default}
@@ -24,7 +24,7 @@ loop-exam-preserved c =
           ap (slice_get I.exams) (sym c.new-exam.ensures) ∙ w.exam.ensures in
           let within : e < length T =
           omega (arith, c.exams-exam-end.ensures.count, c.requires.fits.exams) in
-          let stay : Stay =
+          let stay : PlacedDuration =
           record { period = at.period; room = at.room; minutes = w.exam.result.minutes } in
           let items : c.match-get.stays.items ≡ c.loop-exam.stays.items ++ stay ∷ [] =
           ap (λ v. v.items) w.stays-is ∙ w.in_ok-push.ensures.items in

@@ -3,7 +3,7 @@ use Rattle.std.proofs.lemmas.List.Elements.{All-push}
 use Rattle.exam_model.specs.Fits.{period_of}
 use Rattle.exam_model.specs.Sums.{sum_below}
 use Rattle.exam_score.specs.Tallies.{if_placed}
-use Rattle.exam_score.specs.declared.sittings.Sitting.{Sitting}
+use Rattle.exam_score.specs.declared.sittings.PlacedExam.{PlacedExam}
 use Rattle.exam_score.proofs.SittingLemmas.{sittings_more_some, sittings_more_none}
 use Rattle.exam_score.proofs.sittings.placed_exams.Goals as goal
 use Rattle.exam_score.proofs.sittings.placed_exams.Goals.{in-Some+in_ok-push, in_default}
@@ -21,7 +21,7 @@ loop-exam-preserved c =
           let placed : period_of T e ≡ Some p =
           ap (period_of T) (sym c.new-exam.ensures)
           ∙ ap (option_map (λ at. at.period)) (sym w.in-Some.ensures) in
-          let new : Sitting = record { period = p; exam = e } in
+          let new : PlacedExam = record { period = p; exam = e } in
           let items : c.match-get.sittings.items ≡ was ++ new ∷ []
           = ap (λ v. v.items) w.sittings-is ∙ w.in_ok-push.ensures.items
           ∙ ap (λ n. was ++ record { period = p; exam = n } ∷ []) c.new-exam.ensures in

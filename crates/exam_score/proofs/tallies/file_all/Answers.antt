@@ -5,7 +5,7 @@ use Rattle.std.proofs.lemmas.List.Sums.{sum_by_more, sum_by-take-le}
 use Rattle.exam_model.specs.Enrolments.{students, size_of}
 use Rattle.exam_score.specs.Rows.{row_at}
 use Rattle.exam_score.specs.Tallies.{tally_sum, sitting_sum}
-use Rattle.exam_score.specs.declared.sittings.Sitting.{Sitting}
+use Rattle.exam_score.specs.declared.sittings.PlacedExam.{PlacedExam}
 use Rattle.exam_score.proofs.TallyLemmas.{crowd_none, filed_none}
 use Rattle.exam_score.proofs.tallies.file_all.Goals as goal
 
@@ -29,7 +29,7 @@ count_students-requires c =
     let xs = c.args.sittings.now in
     let i = c.loop-sitting.sitting-index in
     let x = c.sitting-item.result in
-    let size : Sitting → ℕ = λ y. size_of E y.exam in
+    let size : PlacedExam → ℕ = λ y. size_of E y.exam in
     let more = sum_by_more size xs i x c.loop-sitting-test.true in
     let here : size (get_or xs i x) ≡ size x = ap size (sym c.sitting-item.is) in
     let own : length c.students-students.result.now ≡ size x =
@@ -58,7 +58,7 @@ loop-sitting-preserved c =
     let x = c.sitting-item.result in
     let new = c.in_ok-count_students.ensures in
     let all = c.students-students.ensures.all in
-    let size : Sitting → ℕ = λ y. size_of E y.exam in
+    let size : PlacedExam → ℕ = λ y. size_of E y.exam in
     record {
       counted = λ f.
           let w : ℕ → ℕ = λ s. f (row_at x.period s) in

@@ -2,7 +2,7 @@ use Rattle.std.proofs.Common.{◌≤◌, ◌<◌, ℕ, sum_by, take, length, get
 use Rattle.exam_model.specs.Enrolments.{size_of}
 use Rattle.exam_score.specs.Tallies.{AreCounted}
 use Rattle.exam_score.specs.TallyLinks.{AreCrowded, AreFiled}
-use Rattle.exam_score.specs.declared.sittings.Sitting.{Sitting}
+use Rattle.exam_score.specs.declared.sittings.PlacedExam.{PlacedExam}
 use Rattle.exam_score.specs.declared.tallies.Tally.{Tally}
 use Rattle.exam_score.proofs.tallies.file_all.Given as goal
 
@@ -14,7 +14,7 @@ invariant-loop-sitting l = record {
   crowded : AreCrowded l.crowd.sizes.items l.crowd.steps l.buckets (length l.tallies.items);
   few : length l.tallies.items ≤ sum_by (λ x. size_of l.enrolments x.exam)
       (take l.sitting-index l.sittings);
-  earlier : (k j : ℕ) (d : Tally) (e : Sitting) → k < length l.tallies.items → l.sitting-index ≤ j
+  earlier : (k j : ℕ) (d : Tally) (e : PlacedExam) → k < length l.tallies.items → l.sitting-index ≤ j
       → j < length l.sittings
       → (get_or l.tallies.items k d).period ≤ (get_or l.sittings j e).period;
 }
