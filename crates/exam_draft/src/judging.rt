@@ -56,13 +56,13 @@ fn judge_place(
     ensures kept { IfOk result (IsEditedAt instance.now enrolments.now timetable.now
         (exam ∷ [])) }
 {
-    if !knows(instance, exam, &place) {
+    if !all_exist(instance, exam, &place) {
         return Err(EditFault::NoSuch);
     }
     if is_placed(timetable, exam) {
         return Err(EditFault::AlreadyPlaced);
     }
-    put(alloc, instance, enrolments, timetable, exam, place)
+    place_if_unbroken(alloc, instance, enrolments, timetable, exam, place)
 }
 
 fn judge_move(
@@ -81,17 +81,17 @@ fn judge_move(
     ensures kept { IfOk result (IsEditedAt instance.now enrolments.now timetable.now
         (exam ∷ [])) }
 {
-    if !knows(instance, exam, &to) {
+    if !all_exist(instance, exam, &to) {
         return Err(EditFault::NoSuch);
     }
     if !is_placed(timetable, exam) {
         return Err(EditFault::NotPlaced);
     }
-    put(alloc, instance, enrolments, timetable, exam, to)
+    place_if_unbroken(alloc, instance, enrolments, timetable, exam, to)
 }
 
 // Puts an exam at this place, unless a breach names it there.
-fn put(
+fn place_if_unbroken(
     alloc: Global,
     instance: &Instance,
     enrolments: &Enrolments,
@@ -204,7 +204,7 @@ fn has_exam(instance: &Instance, exam: ExamNo) -> bool
 }
 
 // Returns whether the exam, the period and the room exist.
-fn knows(instance: &Instance, exam: ExamNo, place: &Place) -> bool
+fn all_exist(instance: &Instance, exam: ExamNo, place: &Place) -> bool
     ensures { result ≡ (exam_exists instance.now exam && place_exists instance.now place.now) }
 {
     let period_exists = place.period.get() < instance.periods();

@@ -4,8 +4,8 @@ use Rattle.std.proofs.lemmas.Result.{err_from_is_err_and}
 use Rattle.exam_model.specs.Timetable.{Placing}
 use Rattle.exam_draft.specs.Edits.{if_unbroken}
 use Rattle.exam_draft.specs.Judged.{Refuses}
-use Rattle.exam_draft.proofs.judging.put.Goals as goal
-use Rattle.exam_draft.proofs.judging.put.Goals.{After-refuse_broken}
+use Rattle.exam_draft.proofs.judging.place_if_unbroken.Goals as goal
+use Rattle.exam_draft.proofs.judging.place_if_unbroken.Goals.{After-refuse_broken}
 
 -- in the judged timetable the exam has its new place
 next_is : (c : After-refuse_broken)
