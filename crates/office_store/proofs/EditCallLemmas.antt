@@ -35,7 +35,7 @@ use Rattle.office_store.specs.Folding.{IsEditOf}
 use Rattle.office_store.specs.Memory.{HasPut, IsMemoryOf}
 use Rattle.office_store.specs.Running.{IsFault}
 use Rattle.office_store.specs.declared.editing.EditedDraft.{EditedDraft}
-use Rattle.office_store.specs.declared.editing.Judged.{Judged}
+use Rattle.office_store.specs.declared.editing.EditedTimetable.{EditedTimetable}
 use Rattle.office_store.specs.declared.memory.OfficeMemory.{OfficeMemory}
 use Rattle.office_store.proofs.CommandLemmas.{fault_of, MovesBy, Remembers, RowsChanged}
 use Rattle.office_store.proofs.EditLemmas.{edit_kept, all_moved, move_made}
@@ -102,7 +102,7 @@ module _ (r : Records) (I : Session) (E : Enrolled)
   pub both : ◌≡◌ {A = Session × Enrolled} (r.session, r.enrolments) (I, E)
   both = same_Some (r.session, r.enrolments) (I, E) here
 
-  pub is_judged : (d : ℕ) (change : Edit) (judged : Judged) → IsThere r d judged.draft.now
+  pub is_judged : (d : ℕ) (change : Edit) (judged : EditedTimetable) → IsThere r d judged.draft.now
       → edit_result I E judged.draft.now.timetable change ≡ Ok judged.new → IsJudged d change r judged
   is_judged d change judged there edits = record {
     draft = there.timetable;
@@ -122,7 +122,7 @@ module _ (r : Records) (I : Session) (E : Enrolled)
       (sym both) refused)
 
   -- an edit of the memory is one of these records
-  pub edit_at_hand : (d : ℕ) (change : Edit) (judged : Judged) → IsJudged d change r judged
+  pub edit_at_hand : (d : ℕ) (change : Edit) (judged : EditedTimetable) → IsJudged d change r judged
       → judged.exams.items ≡ edited_exams change
       → IsEditedAt I E judged.draft.now.timetable (edited_exams change) judged.new → IsEditOf I E judged
   edit_at_hand d change judged is exams kept = record {
@@ -131,7 +131,7 @@ module _ (r : Records) (I : Session) (E : Enrolled)
     scored = is.scored ∙ ap (λ (p : Session × Enrolled). track p.0 p.1 judged.draft.now.timetable) both;
   }
 
-  pub edit_comes : (d : ℕ) (change : Edit) (judged : Judged) (parts : Penalty)
+  pub edit_comes : (d : ℕ) (change : Edit) (judged : EditedTimetable) (parts : Penalty)
       → IsJudged d change r judged → IsEditedAt I E judged.draft.now.timetable (edited_exams change) judged.new
       → parts ≡ track I E judged.new
       → IsEdited d change (Some r) (record { timetable = judged.new; parts = parts })

@@ -41,7 +41,7 @@ use Rattle.office_tables.specs.TablesHeld.{HoldsTables}
 use Rattle.office_tables.specs.declared.enrol.EnrolRow.{EnrolRow}
 use Rattle.office_store.specs.FoldReads.{HadEnrolments, HasRead, RowsUnchanged}
 use Rattle.office_store.specs.Running.{ReturnsValue}
-use Rattle.office_store.specs.declared.editing.Judged.{Judged}
+use Rattle.office_store.specs.declared.editing.EditedTimetable.{EditedTimetable}
 use Rattle.office_store.specs.Viewing.{candidate_enrol_row}
 use Rattle.office_store.proofs.LeavingLemmas.{survives_on}
 use Rattle.office_store.proofs.ViewLemmas.{exams_back, own_pairs, rows_read, sat_rise}
@@ -470,7 +470,7 @@ sat_up E s = ascending_from_chain (exams_sat E s) (sat_rise E s)
 -- ---- the result of the fold
 
 pub returned_after : {S : Type 0} {store : Ghosts S} {a b : Held S} {fold : Folded} {I : Session}
-    {E : Enrolled} {judged : Judged} {edited sizes : List ℕ} {r : Option Penalty}
+    {E : Enrolled} {judged : EditedTimetable} {edited sizes : List ℕ} {r : Option Penalty}
     {pairs : List Pair} → HadEnrolments store a b E → IsEditOf I E judged
     → IsFoldOf fold I judged.draft.now.timetable judged.new edited → edited ≡ judged.exams.items
     → AreSizes E sizes → RepresentsPairs fold pairs

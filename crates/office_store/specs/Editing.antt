@@ -11,16 +11,16 @@ use Rattle.office_model.specs.declared.fault.StoreFault.{StoreFault}
 use Rattle.office_records.specs.declared.drafts.Draft.{Draft}
 use Rattle.office_store.specs.Running.{IsFault}
 use Rattle.office_store.specs.declared.editing.EditedDraft.{EditedDraft}
-use Rattle.office_store.specs.declared.editing.Judged.{Judged}
+use Rattle.office_store.specs.declared.editing.EditedTimetable.{EditedTimetable}
 
 -- the edit of a draft of these records is legal and gives this timetable
-pub record IsJudged (d : ℕ) (change : Edit) (r : Records) (judged : Judged) : Type 0 where
+pub record IsJudged (d : ℕ) (change : Edit) (r : Records) (judged : EditedTimetable) : Type 0 where
   pub draft : r.draft d ≡ Some judged.draft.now.timetable
   pub edits : edit_result r.session r.enrolments judged.draft.now.timetable change ≡ Ok judged.new
   pub scored : judged.draft.now.parts ≡ track r.session r.enrolments judged.draft.now.timetable
 
 -- the edit is legal with this result, or is refused with the command's own refusal
-abbrev pub Judges : ℕ → Edit → Records → Result Judged StoreFault → Type 0
+abbrev pub Judges : ℕ → Edit → Records → Result EditedTimetable StoreFault → Type 0
 Judges d change r (Ok judged) = IsJudged d change r judged
 Judges d change r (Err fault) = IsFault (draft_edited d change (Some r)) fault
 

@@ -12,7 +12,7 @@ use Rattle.exam_publish.specs.Changed.{sorted_numbers}
 use Rattle.exam_score.specs.Changes.{DiffersAtMost}
 use Rattle.exam_score.specs.Folds.{Folded, RepresentsPairs, pairs_sat}
 use Rattle.exam_score.specs.Track.{track}
-use Rattle.office_store.specs.declared.editing.Judged.{Judged}
+use Rattle.office_store.specs.declared.editing.EditedTimetable.{EditedTimetable}
 use Rattle.office_store.specs.FoldReads.{HadEnrolments}
 
 -- ---- the students of an edit
@@ -48,7 +48,7 @@ pub record HasTaken {S : Type 0} (store : Ghosts S) (old new : Held S) (fold : F
 -- ---- a legal edit
 
 -- the edit and its earlier penalty are right for these enrolments
-pub record IsEditOf (I : Session) (E : Enrolled) (judged : Judged) : Type 0 where
+pub record IsEditOf (I : Session) (E : Enrolled) (judged : EditedTimetable) : Type 0 where
   pub fits : Fits I E judged.new
   pub others : DiffersAtMost judged.exams.items judged.draft.now.timetable judged.new
   pub scored : judged.draft.now.parts ≡ track I E judged.draft.now.timetable

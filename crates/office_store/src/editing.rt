@@ -33,7 +33,7 @@ use std::alloc::{AllocError, Global};
 
 // A draft before an edit, its timetable after the edit, and the edited exams.
 #[derive(Drop)]
-pub(crate) struct Judged<'a> {
+pub(crate) struct EditedTimetable<'a> {
     pub(crate) draft: &'a Draft,
     pub(crate) new: Timetable,
     pub(crate) exams: Vec<ExamNo>,
@@ -103,7 +103,7 @@ fn edited_draft<S: Alter>(
     let Some(draft) = memory.draft(number) else {
         return Err(StoreFault::NoDraft);
     };
-    let judged = judged_draft(alloc, instance, enrolments, draft, edit)?;
+    let judged = timetable_after_edit(alloc, instance, enrolments, draft, edit)?;
     let places = new_places(alloc, number, &judged.new, &judged.exams)?;
     let parts = penalty_after(alloc, conn, instance, enrolments, &judged)?;
     let draft = Draft {
@@ -114,13 +114,13 @@ fn edited_draft<S: Alter>(
 }
 
 // Returns a draft of the session in memory with its timetable after an edit.
-fn judged_draft<'a>(
+fn timetable_after_edit<'a>(
     alloc: Global,
     instance: &Instance,
     enrolments: &Enrolments,
     draft: &'a Draft,
     edit: Edit,
-) -> Result<Judged<'a>, StoreFault>
+) -> Result<EditedTimetable<'a>, StoreFault>
     requires fits { Fits instance.now enrolments.now draft.now.timetable }
     ensures meaning { (d : ℕ) (r : Records)
         → memory_of (Some r) ≡ Some (instance.now, enrolments.now)
@@ -131,7 +131,7 @@ fn judged_draft<'a>(
 {
     let new = new_timetable(alloc, instance, enrolments, &draft.timetable, edit)?;
     let exams = edit.exams(alloc)?;
-    Ok(Judged { draft, new, exams })
+    Ok(EditedTimetable { draft, new, exams })
 }
 
 // Returns the timetable after an edit, or the edit's own refusal.

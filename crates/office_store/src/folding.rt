@@ -12,7 +12,7 @@ ghost use Rattle.office_store.specs.Folding.{pairs_of_students, students_of_exam
 ghost use Rattle.office_store.specs.Running.{ReturnsValue};
 ghost use Rattle.office_store.specs.Viewing.{candidate_enrol_row};
 
-use crate::editing::Judged;
+use crate::editing::EditedTimetable;
 use crate::viewing::exams_of;
 use exam_model::{Enrolments, ExamNo, Instance, StudentNo};
 use exam_publish::in_order;
@@ -29,7 +29,7 @@ pub(crate) fn penalty_after<S: Alter>(
     conn: &mut Connection<S>,
     instance: &Instance,
     enrolments: &Enrolments,
-    judged: &Judged<'_>,
+    judged: &EditedTimetable<'_>,
 ) -> Result<Parts, StoreFault>
     requires exams { length enrolments.now ≡ length instance.now.exams }
     requires exist { All (λ e. e < length enrolments.now) judged.now.exams.items }

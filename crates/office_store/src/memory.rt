@@ -20,7 +20,7 @@ use office_tables::PlacedRow;
 use std::alloc::{AllocError, Global};
 
 // Breaches of drafts, each draft's at its number's index.
-pub(crate) type Judged = [Option<Vec<Breach>>; NUMBERS];
+pub(crate) type JudgedDrafts = [Option<Vec<Breach>>; NUMBERS];
 
 // More breaches of a draft aren't kept.
 const MOST_BREACHES: usize = 10_000;
@@ -38,7 +38,7 @@ pub(crate) struct OfficeMemory {
     // Its penalty, with the enrolments at that time.
     pub(crate) priced: Option<Parts>,
     // The breaches of the drafts that were asked for, until the draft or the enrolments change.
-    pub(crate) judged: Judged,
+    pub(crate) judged: JudgedDrafts,
 }
 
 impl OfficeMemory {
@@ -190,7 +190,7 @@ impl OfficeMemory {
 }
 
 // Returns no breaches under any number.
-pub(crate) fn no_breaches() -> Judged
+pub(crate) fn no_breaches() -> JudgedDrafts
     ensures { AreUnjudged result }
 {
     [None, None, None, None, None, None, None, None, None]

@@ -21,8 +21,8 @@ returns-in_default-draft-clause-edits g c clean all_committed o kept is =
     (λ r same here memory. rw (no_draft c.args.number r
     (sym (memory.drafts c.args.number) ∙ c.in_default-draft.ensures.none)) refl)
 
-pub judged_draft-requires : goal.judged_draft-requires
-judged_draft-requires g c = record {
+pub timetable_after_edit-requires : goal.timetable_after_edit-requires
+timetable_after_edit-requires g c = record {
   fits = fits_in c.requires.together c.in-Some.is c.args.number c.in-Some-draft.ensures.some;
 }
 

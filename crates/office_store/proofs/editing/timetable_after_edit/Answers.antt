@@ -1,7 +1,7 @@
 use Rattle.std.proofs.Common.{rules, ◌≡◌, Err, subst, sym}
 use Rattle.office_store.specs.Editing.{Judges}
 use Rattle.office_store.proofs.EditCallLemmas.{is_judged, is_refused, there_of}
-use Rattle.office_store.proofs.editing.judged_draft.Goals as goal
+use Rattle.office_store.proofs.editing.timetable_after_edit.Goals as goal
 
 pub returns-in_err-new-clause-meaning : goal.returns-in_err-new-clause-meaning
 returns-in_err-new-clause-meaning c d r here at =
