@@ -43,8 +43,8 @@ WritesConnectionFaults contents (Export database) old new = new ≡ old
 WritesConnectionFaults contents (Explain words) old new = new ≡ old
 
 -- `err` is unchanged, or has what a task of the words writes there when it is done
-abbrev pub IsQuiet : {W : Type 0} → (W → Option (List ℕ)) → List Text → W → W → Type 0
-IsQuiet contents words old new =
+abbrev pub PrintsNothing : {W : Type 0} → (W → Option (List ℕ)) → List Text → W → W → Type 0
+PrintsNothing contents words old new =
     (new ≡ old)
     ⊎ ((task : Task) × IsTask words task × WritesConnectionFaults contents task old new)
 

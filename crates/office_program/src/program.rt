@@ -13,7 +13,7 @@ ghost use Rattle.office_program.specs.Databases.{IfUsing, IsUnread, LeavesNamedD
 ghost use Rattle.office_program.specs.Databases.{LeavesUnloaded, LoadsIn, ServesNamed};
 ghost use Rattle.office_program.specs.Databases.{UsesDatabase, UsesNamedDatabase};
 ghost use Rattle.office_program.specs.Endings.{AskForHelp, EndsWithFault};
-ghost use Rattle.office_program.specs.Endings.{IsQuiet, IsSilent, LeavesPrinted};
+ghost use Rattle.office_program.specs.Endings.{PrintsNothing, IsSilent, LeavesPrinted};
 ghost use Rattle.office_program.specs.Endings.{WritesConnectionFaults, WritesFault, WritesNoTaskFault};
 ghost use Rattle.office_program.specs.Endings.{WritesSolutionFaults};
 ghost use Rattle.office_program.specs.FaultLines.{fault_line, not_text_line};
@@ -75,7 +75,7 @@ pub fn run_program<O: Write, E: Write + Lines>(
         → (task : Task) × IsTask (map string_bytes words.now) task
         × PrintsBroken None (λ path. None) task (O.contents out.old) (O.contents out.new) }
     ensures quiet { (result.status ≡ 0) ⊎ (result.status ≡ 3) → IsTrue result.is_err_written
-        → IsQuiet E.contents (map string_bytes words.now) err.old err.new }
+        → PrintsNothing E.contents (map string_bytes words.now) err.old err.new }
     ensures unprinted { result.status ≡ 2 → out.new ≡ out.old }
     ensures done { result.status ≡ 0 → fault_of_words (map string_bytes words.now) ≡ []
         → (task : Task) × IsTask (map string_bytes words.now) task
@@ -154,7 +154,7 @@ pub fn run_words<
     // Help, and the output of a task that is done, are written only to `out`, except that `serve`
     // writes the faults of connections to `err`. A mistake leaves `out` unchanged.
     ensures quiet { (result.status ≡ 0) ⊎ (result.status ≡ 3) → IsTrue result.is_err_written
-        → IsQuiet E.contents (map string_bytes words.now) err.old err.new }
+        → PrintsNothing E.contents (map string_bytes words.now) err.old err.new }
     ensures unprinted { result.status ≡ 2 → out.new ≡ out.old }
 
     // The task of the words is done, by the texts of the files that it names, and its output is
