@@ -6,7 +6,6 @@ use Rattle.exam_model.specs.Instance.{Session}
 use Rattle.exam_model.specs.Timetable.{Placing}
 use Rattle.exam_places.specs.Answers.{answers_of}
 use Rattle.exam_places.specs.Places.{edit_answer, places_of}
-use Rattle.office_check.specs.Check.{OfSome}
 use Rattle.office_check.specs.declared.listing.PlacesAnswer.{PlacesAnswer}
 use Rattle.office_check.specs.declared.listing.PlacesAnswer.TheVariants.{Listed, NoExam}
 use Rattle.office_reports.specs.PlaceList.{places_text}
@@ -31,7 +30,3 @@ abbrev pub AnswersPlaces : Session → Enrolled → Placing → ℕ → Option (
     → PlacesAnswer → Type 0
 AnswersPlaces I E T exam old new Listed = WritesPlaces I E T exam old new
 AnswersPlaces I E T exam old new NoExam = (length I.exams ≤ exam) × Keeps old new
-
--- some two texts have a reading, and the list of the exam's places in it is written
-abbrev pub WritesSomePlaces : ℕ → Option (List ℕ) → Option (List ℕ) → Type 0
-WritesSomePlaces exam old new = OfSome (λ I E T. WritesPlaces I E T exam old new)

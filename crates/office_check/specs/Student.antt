@@ -9,7 +9,7 @@ use Rattle.exam_score.specs.Penalty.{personal_total}
 use Rattle.exam_reasons.specs.Students.{OwnReasonsAddUp, own_reasons, own_share}
 use Rattle.exam_reasons.specs.declared.reasons.PairKind.{PairKind}
 use Rattle.exam_reasons.specs.declared.reasons.PairKind.TheVariants.{Day, Night, Row, Spread}
-use Rattle.office_check.specs.Check.{OfSome, exit_status, report}
+use Rattle.office_check.specs.Check.{exit_status, report}
 use Rattle.office_check.specs.Why.{pair_line}
 
 -- the lines of a student's pairs of one kind
@@ -33,7 +33,3 @@ pub record IsExplainedTo (I : Session) (E : Enrolled) (T : Placing) (s : ℕ)
   pub written : Appends old new (report I E T ++ own_text I E T s)
   pub add_up : OwnReasonsAddUp I E T s
   pub status : answer ≡ exit_status I E T
-
--- some two texts have a reading, which is explained to the student
-abbrev pub ExplainsSomeTo : ℕ → Option (List ℕ) → Option (List ℕ) → ℕ → Type 0
-ExplainsSomeTo s old new answer = OfSome (λ I E T. IsExplainedTo I E T s old new answer)

@@ -14,7 +14,7 @@ use Rattle.exam_score.specs.Penalty.{total_of}
 use Rattle.exam_score.specs.Track.{track}
 use Rattle.office_files.specs.SolutionText.{SolutionText}
 use Rattle.office_reports.specs.Reports.{rule_name}
-use Rattle.office_check.specs.Check.{OfSome, exit_status}
+use Rattle.office_check.specs.Check.{exit_status}
 use Rattle.office_check.specs.Names.{printed_name}
 use Rattle.office_check.specs.declared.judging.LineForm.{LineForm}
 use Rattle.office_check.specs.declared.judging.LineForm.TheVariants.{Json, Plain}
@@ -90,7 +90,3 @@ pub record WritesVerdict (I : Session) (E : Enrolled) (T : Placing) (path : List
   pub judged : IsVerdict I E T verdict
   pub written : Appends old new (json_line path verdict)
   pub status : answer ≡ exit_status I E T
-
--- some two texts have a reading, which is judged so
-abbrev pub WritesSomeVerdict : List ℕ → Option (List ℕ) → Option (List ℕ) → ℕ → Type 0
-WritesSomeVerdict path old new answer = OfSome (λ I E T. WritesVerdict I E T path old new answer)

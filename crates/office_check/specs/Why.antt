@@ -15,7 +15,7 @@ use Rattle.exam_reasons.specs.declared.reasons.PairKind.{PairKind}
 use Rattle.exam_reasons.specs.declared.reasons.PairKind.TheVariants.{Day, Night, Row, Spread}
 use Rattle.exam_reasons.specs.declared.reasons.PairReason.{PairReason}
 use Rattle.exam_reasons.specs.declared.reasons.PlaceReason.{PlaceReason}
-use Rattle.office_check.specs.Check.{OfSome, exit_status, report}
+use Rattle.office_check.specs.Check.{exit_status, report}
 use Rattle.office_check.specs.declared.explaining.Subject.{Subject}
 
 -- ---- the lines
@@ -72,10 +72,6 @@ pub record IsExplained (I : Session) (E : Enrolled) (T : Placing) (old new : Opt
   pub written : Appends old new (report I E T ++ why_text I E T)
   pub add_up : ReasonsAddUp I E T
   pub status : answer ≡ exit_status I E T
-
--- some two texts have a reading, which is explained
-abbrev pub ExplainsSome : Option (List ℕ) → Option (List ℕ) → ℕ → Type 0
-ExplainsSome old new answer = OfSome (λ I E T. IsExplained I E T old new answer)
 
 -- ---- the buffer
 

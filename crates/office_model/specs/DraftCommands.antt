@@ -1,5 +1,5 @@
 -- The effect of each command about a draft on the office, its refusals in their order.
-use Rattle.std.specs.Prelude.{ℕ, Bool, ◌&&◌, nat_le, List, [], ◌∷◌, length, Option, Some, None, is_none, Result, Ok}
+use Rattle.std.specs.Prelude.{ℕ, Bool, ◌&&◌, nat_le, List, [], ◌∷◌, length, Some, None, is_none, Result, Ok}
 use Rattle.exam_model.specs.Instance.{Session}
 use Rattle.exam_terms.specs.Refusing.{◌>>=◌, unless, else_err}
 use Rattle.exam_terms.specs.declared.limits.TheConstants.{MAX_DRAFTS}
@@ -44,11 +44,6 @@ draft_dropped d office = do
   r ← records_or_refusal office
   _ ← else_err NoDraft (r.draft d)
   Ok (tt, Some (record r { draft = set_at d None r.draft }))
-
--- the timetable of a draft, if there is one
-abbrev pub draft_in : ℕ → OfficeState → Option Placing
-draft_in d None = None
-draft_in d (Some r) = r.draft d
 
 -- a draft, with its penalty
 abbrev pub draft_shown : ℕ → OfficeState → CommandResult (Placing × Penalty)

@@ -1,17 +1,10 @@
 -- The effect of an accepted batch on the rows of an office.
-use Rattle.std.specs.Prelude.{◌≡◌, ◌&&◌, ◌==◌, List, ◌∷◌, refl}
-use Rattle.exam_model.specs.Enrolments.{Enrolled}
-use Rattle.exam_model.specs.Instance.{Session}
-use Rattle.exam_model.specs.Timetable.{Placing}
+use Rattle.std.specs.Prelude.{◌&&◌, ◌==◌, List, ◌∷◌, refl}
 use Rattle.exam_model.specs.declared.change.Change.{Change}
-use Rattle.exam_score.specs.Track.{track}
 use Rattle.office_tables.specs.Tables.{Tables, Batch}
 use Rattle.office_tables.specs.declared.draft.DraftRow.{DraftRow}
 use Rattle.office_tables.specs.declared.enrol.EnrolRow.{EnrolRow}
-use Rattle.office_tables.specs.declared.slot.SlotRow.{SlotRow}
 use Rattle.office_enrolment.specs.Rows.{RowKind, after_rows}
-use Rattle.office_records.specs.Found.{AreSlots}
-use Rattle.office_records.specs.Representation.{parts_of}
 use Rattle.office_records.specs.TableRows.{enrol_row}
 
 -- the rows of pairs in the table of enrolments
@@ -21,13 +14,6 @@ enrol_rows = record {
   is_of = λ s e row. (row.student == s) && (row.exam == e);
   agrees = λ s e p. refl;
 }
-
--- a row of a draft whose places are among these, with its penalty
-pub record IsRescored (I : Session) (E : Enrolled) (places : List SlotRow) (row : DraftRow)
-    : Type 0 where
-  pub timetable : Placing
-  pub slots : AreSlots I row.no places timetable
-  pub parts : parts_of row ≡ track I E timetable
 
 -- the tables after these lines, with these rows of drafts and one more batch
 abbrev pub batch_put : List Change → List DraftRow → Batch → Tables → Tables

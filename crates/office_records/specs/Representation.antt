@@ -11,7 +11,7 @@ use Rattle.office_tables.specs.Batch.{FitsBatch}
 use Rattle.office_tables.specs.Tables.{Tables, Batch, empty_tables}
 use Rattle.office_tables.specs.declared.draft.DraftRow.{DraftRow}
 use Rattle.office_tables.specs.declared.version.Version.{Version}
-use Rattle.office_tables.specs.declared.version.Version.TheVariants.{One, Two}
+use Rattle.office_tables.specs.declared.version.Version.TheVariants.{Two}
 use Rattle.office_model.specs.Office.{OfficeState, Records, KeptBatch, IsOffice}
 use Rattle.office_records.specs.Publications.{RowsRepresentPublication}
 use Rattle.office_records.specs.SharesStored.{AreShared}
@@ -83,7 +83,3 @@ pub record RepresentsOfficeIn (version : Version) (db : Database) (o : OfficeSta
 -- the database is that of an office
 abbrev pub RepresentsOffice : Database → OfficeState → Type 0
 RepresentsOffice = RepresentsOfficeIn Two
-
--- it is that of an office in version 1
-abbrev pub RepresentsOldOffice : Database → OfficeState → Type 0
-RepresentsOldOffice = RepresentsOfficeIn One
