@@ -1,8 +1,8 @@
 -- Tests, and numbers that depend on one.
-use Rattle.std.proofs.Common.{Bool, arith, cond, eqb, false, inl, inr, le-ltb, lt-ltb, ltb, not, one-mul, refl, sym, true, zero-mul, ℕ, ◌&&◌, ◌*◌, ◌+◌, ◌∙◌, ◌≡◌, ◌≤◌}
+use Rattle.std.proofs.Common.{Bool, ap, arith, cond, eqb, false, inl, inr, le-ltb, lt-ltb, ltb, not, one-mul, refl, sym, true, zero-mul, ℕ, ◌&&◌, ◌*◌, ◌+◌, ◌∙◌, ◌≡◌, ◌≤◌, zero-add, add-zero, IsTrue}
 use Rattle.std.proofs.lemmas.Bool.{cases_lt, cond-false, cond-true}
 use Rattle.std.proofs.lemmas.Bool.Decides.{nat_tests}
-use Rattle.std.specs.Prelude.{◌||◌}
+use Rattle.std.specs.Prelude.{◌||◌, MatchBool}
 
 pub and_swap : (a b c : Bool) → (a && (b && c)) ≡ (b && (a && c))
 and_swap true true c = refl
@@ -81,3 +81,98 @@ count_new_le false false n k e is h = omega arith
 -- equal numbers, in either order
 pub eqb_swap : (a b : ℕ) → eqb a b ≡ eqb b a
 eqb_swap a b = grind (arith, nat_tests)
+
+-- 1 for each of two tests of which at most one passes
+pub cond_either : (a b : Bool) → (a ≡ true → b ≡ false)
+    → ◌≡◌ {A = ℕ} (cond a 1 0 + cond b 1 0) (cond (a || b) 1 0)
+cond_either true b other =
+    let none : ◌≡◌ {A = ℕ} (cond b 1 0) 0 = ap (λ c. cond c 1 0) (other refl) in omega arith
+cond_either false b other = zero-add (cond b 1 0)
+
+pub cond_swap : (a b : Bool) → ◌≡◌ {A = ℕ} (cond a (cond b 1 0) 0) (cond b (cond a 1 0) 0)
+cond_swap true true = refl
+cond_swap true false = refl
+cond_swap false true = refl
+cond_swap false false = refl
+
+pub cond_and_swap : (a b : Bool) → ◌≡◌ {A = ℕ} (cond (a && b) 1 0) (cond b (cond a 1 0) 0)
+cond_and_swap true b = cond_swap true b
+cond_and_swap false b = cond_swap false b
+
+pub cond_and_turned : (a b c : Bool) (n : ℕ) → cond c (cond (a && b) n 0) 0
+    ≡ cond b (cond c (cond a n 0) 0) 0
+cond_and_turned a b c n =
+    elim a as (λ a. cond c (cond (a && b) n 0) 0 ≡ cond b (cond c (cond a n 0) 0) 0) [
+      | true ↦ elim b as (λ b. cond c (cond b n 0) 0 ≡ cond b (cond c n 0) 0)
+          [ true ↦ refl | false ↦ cond_same c 0 ]
+      | false ↦ elim b as (λ b. ◌≡◌ {A = ℕ} (cond c 0 0) (cond b (cond c 0 0) 0))
+          [ true ↦ refl | false ↦ cond_same c 0 ]
+    ]
+
+-- an amount if a test passes and another doesn't
+pub cond_and_not : (a b : Bool) (n : ℕ) → cond a (cond b 0 n) 0 ≡ cond (a && not b) n 0
+cond_and_not true true n = refl
+cond_and_not true false n = refl
+cond_and_not false b n = refl
+
+pub cond_and_and_not : (a b c : Bool) (n : ℕ)
+    → cond a (cond b (cond c 0 n) 0) 0 ≡ cond ((a && b) && not c) n 0
+cond_and_and_not true b c n = cond_and_not b c n
+cond_and_and_not false b c n = refl
+
+-- an amount if one of two tests passes, counted once
+pub cond_or : (a b : Bool) (n : ℕ) → cond (a || b) n 0 ≡ cond a (cond b 0 n) 0 + cond b n 0
+cond_or true true n = omega arith
+cond_or true false n = omega arith
+cond_or false true n = omega arith
+cond_or false false n = refl
+
+pub cond_or_and : (a b c : Bool) (n : ℕ)
+    → cond (a || (b && c)) n 0 ≡ cond a n 0 + cond c (cond b (cond a 0 n) 0) 0
+cond_or_and true true true n = sym (add-zero n)
+cond_or_and true true false n = sym (add-zero n)
+cond_or_and true false true n = sym (add-zero n)
+cond_or_and true false false n = sym (add-zero n)
+cond_or_and false true true n = omega arith
+cond_or_and false true false n = refl
+cond_or_and false false true n = refl
+cond_or_and false false false n = refl
+
+pub and_turned : (a b c : Bool) → ((a && b) && c) ≡ (a && (c && b))
+and_turned true true true = refl
+and_turned true true false = refl
+and_turned true false true = refl
+and_turned true false false = refl
+and_turned false b c = refl
+
+pub and_false_middle : (a b : Bool) → ((a && false) && b) ≡ false
+and_false_middle true b = refl
+and_false_middle false b = refl
+
+pub or_turned : (a b c : Bool) → ((a || b) || c) ≡ ((b || c) || a)
+or_turned true true c = refl
+or_turned true false true = refl
+or_turned true false false = refl
+or_turned false true c = refl
+or_turned false false true = refl
+or_turned false false false = refl
+
+pub or_flip : (a b : Bool) → (a || b) ≡ (b || (a || false))
+or_flip true true = refl
+or_flip true false = refl
+or_flip false true = refl
+or_flip false false = refl
+
+-- a test that fails
+pub not_when_false : (b : Bool) (P : Type 0) → (P → IsTrue b) → b ≡ false → P → ⊥
+not_when_false b P implies is holds = let never : true ≡ false = sym (implies holds) ∙ is in cc
+
+pub last_fails : (a b c : Bool) → ((a || not b || not c) && true) ≡ true → a ≡ false → b ≡ true
+    → c ≡ false
+last_fails false true false h k p = refl
+last_fails _ _ _ h k p = absurd (cc)
+
+-- the case of a bool that is true
+pub MatchBool_true : (b : Bool) → IsTrue b → (P Q : Type 0) → MatchBool b P Q → P
+MatchBool_true true so P Q h = h
+MatchBool_true false so P Q h = absurd cc

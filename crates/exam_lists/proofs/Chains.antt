@@ -1,6 +1,6 @@
 -- Lists each of whose elements is related to all later ones.
 use Rattle.exam_lists.proofs.Each.{each_at_middle, each_both, each_filter, each_filter_map, each_map, each_push, each_unmap, each_weaker}
-use Rattle.std.proofs.Common.{AllPairs, Bool, List, None, Option, Some, [], add-one, arith, cond, false, filter, filter_map, get_or, length, map, suc, true, ℕ, ◌++◌, ◌+◌, ◌<◌, ◌∷◌, ◌≤◌}
+use Rattle.std.proofs.Common.{AllPairs, Bool, List, None, Option, Some, [], add-one, arith, cond, false, filter, filter_map, get_or, length, map, suc, true, ℕ, ◌++◌, ◌+◌, ◌<◌, ◌∷◌, ◌≡◌, ◌≤◌}
 use Rattle.std.proofs.lemmas.List.Elements.{All-from_recursion, recursion_from_All}
 use Rattle.std.proofs.lemmas.List.Kept.{AllPairs-cons}
 use Rattle.std.specs.List.{AllByRecursion, cons_option}
@@ -119,3 +119,10 @@ chain_length a n (x ∷ xs) low up above below =
     let more = chain_length (a + 1) n xs (omega arith) up.1
     (each_weaker (λ y. x < y) (λ y. a + 1 ≤ y) (λ y h. omega arith) xs up.0) below.1 in
     omega arith
+
+pub chain_cons_option : {Y : Type 0} (key : Y → ℕ) (n : ℕ) (o : Option Y) (ys : List Y)
+    → IfSome o (λ y. key y ≡ n) → AllByRecursion (λ y. n < key y) ys
+    → IsChain (λ x y. key x < key y) ys → IsChain (λ x y. key x < key y) (cons_option o ys)
+chain_cons_option key n None ys is above up = up
+chain_cons_option key n (Some y) ys is above up =
+    (each_weaker (λ z. n < key z) (λ z. key y < key z) (λ z h. omega (arith, is, h)) ys above, up)

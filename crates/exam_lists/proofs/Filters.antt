@@ -1,8 +1,9 @@
 -- What a filter keeps.
-use Rattle.std.proofs.Common.{Bool, List, [], ap, arith, cond, eqb, false, filter, if◌then◌else◌, length, map, not, refl, sym, true, ℕ, ◌&&◌, ◌<◌, ◌||◌, ◌∙◌, ◌∷◌, ◌≡◌, ◌≤◌}
+use Rattle.std.proofs.Common.{Bool, List, [], ap, arith, cond, eqb, false, filter, if◌then◌else◌, length, map, not, refl, sym, true, ℕ, ◌&&◌, ◌<◌, ◌||◌, ◌∙◌, ◌∷◌, ◌≡◌, ◌≤◌, Option, filter_map}
 use Rattle.std.proofs.Math.Bool.{and_comm}
 use Rattle.std.proofs.lemmas.Bool.Decides.{nat_tests}
 use Rattle.std.specs.List.{AllByRecursion}
+use Rattle.std.proofs.lemmas.Grind.{common_steps}
 
 pub length_filter-le : {X : Type 0} (t : X → Bool) (xs : List X) → length (filter t xs) ≤ length xs
 length_filter-le t [] = omega arith
@@ -85,3 +86,8 @@ map_filter_agree f g p same (x ∷ xs) = go (p x) refl (map_filter_agree f g p s
         ≡ map g (cond b (x ∷ filter p xs) (filter p xs))
     go true is more = ap (λ ys. f x ∷ ys) more ∙ ap (λ y. y ∷ map g (filter p xs)) (same x is)
     go false is more = more
+
+pub length_filter_map-le : {X Y : Type 0} (f : X → Option Y) (xs : List X)
+    → length (filter_map f xs) ≤ length xs
+length_filter_map-le f [] = omega arith
+length_filter_map-le f (x ∷ xs) = grind (arith, common_steps, length_filter_map-le f xs)

@@ -19,3 +19,7 @@ pub mod Booleans
 pub mod Digits
 pub mod Options
 pub mod Results
+pub mod Above
+pub mod Orders
+pub mod Appended
+pub mod Numbered

@@ -83,3 +83,9 @@ pub flat_map_take_all : {X Y : Type 0} (f : X → List Y) (s head t : List Y) (x
 flat_map_take_all f s head t xs n all is =
     is ∙ ap (λ ys. (s ++ head) ++ flat_map f ys) (take_all n xs all)
     ∙ append_assoc s head (flat_map f xs)
+
+-- equal images are of equal elements, if an element is read back from its image
+pub same_unmapped : {X Y : Type 0} (put : X → Y) (row : Y → X) → ((x : X) → row (put x) ≡ x)
+    → (xs ys : List X) → map put xs ≡ map put ys → xs ≡ ys
+same_unmapped put row back xs ys same =
+    sym (map_back put row back xs) ∙ ap (map row) same ∙ map_back put row back ys

@@ -1,5 +1,6 @@
 -- Values that may be missing.
-use Rattle.std.proofs.Common.{None, Option, Some, false, refl, ◌≡◌}
+use Rattle.std.proofs.Common.{List, None, Option, Some, false, refl, subst, sym, ◌++◌, ◌∙◌, ◌≡◌}
+use Rattle.std.specs.List.{AllByRecursion, cons_option}
 use Rattle.std.specs.Option.{option_or}
 use Rattle.std.specs.Prelude.{IfSome, is_some, option_and_then, option_map}
 
@@ -29,3 +30,30 @@ none_from_test (Some x) e = absurd cc
 
 pub none_no_some : {X : Type 0} {x : X} {o : Option X} → o ≡ None → o ≡ Some x → ⊥
 none_no_some none some = cc
+
+-- a fact of a value that is as another one
+pub IfSome_of_same : {A : Type 0} (P : A → Type 0) (o : Option A) (x y : A)
+    → IfSome o (λ z. z ≡ x) → y ≡ x → P y → IfSome o P
+IfSome_of_same P None x y same is holds = tt
+IfSome_of_same P (Some z) x y same is holds = subst P (is ∙ sym same) holds
+
+pub is_some-map : {X Y : Type 0} (f : X → Y) (x : Option X) → is_some (option_map f x) ≡ is_some x
+is_some-map f None = refl
+is_some-map f (Some x) = refl
+
+-- ---- a value in front of a list, if it is there
+
+pub cons_option-append : {Y : Type 0} (o : Option Y) (xs ys : List Y)
+    → cons_option o (xs ++ ys) ≡ cons_option o xs ++ ys
+cons_option-append None xs ys = refl
+cons_option-append (Some y) xs ys = refl
+
+pub each_cons_option : {Y : Type 0} (P : Y → Type 0) (o : Option Y) (ys : List Y) → IfSome o P
+    → AllByRecursion P ys → AllByRecursion P (cons_option o ys)
+each_cons_option P None ys h all = all
+each_cons_option P (Some y) ys h all = (h, all)
+
+pub each_of_cons_option : {Y : Type 0} (P : Y → Type 0) (o : Option Y) (ys : List Y)
+    → AllByRecursion P (cons_option o ys) → IfSome o P × AllByRecursion P ys
+each_of_cons_option P None ys all = (tt, all)
+each_of_cons_option P (Some y) ys all = all

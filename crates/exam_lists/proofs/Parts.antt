@@ -1,12 +1,13 @@
 -- Lists taken apart and put together.
-use Rattle.std.proofs.Common.{Bool, List, [], add-one, ap, append_assoc, arith, drop, false, get_or, length, length-append, length-drop, refl, reverse, suc, sym, take, take-append-drop, true, zero, ℕ, ◌++◌, ◌+◌, ◌-◌, ◌<◌, ◌∙◌, ◌∷◌, ◌≡◌, ◌≤◌}
-use Rattle.std.proofs.Math.Seq.{take-append_seam}
+use Rattle.std.proofs.Common.{Bool, List, [], add-one, ap, append_assoc, arith, drop, false, get_or, length, length-append, length-drop, refl, reverse, suc, sym, take, take-append-drop, true, zero, ℕ, ◌++◌, ◌+◌, ◌-◌, ◌<◌, ◌∙◌, ◌∷◌, ◌≡◌, ◌≤◌, nat_eq, true≢false, cond}
+use Rattle.std.proofs.Math.Seq.{take-append_seam, drop-append_seam}
 use Rattle.std.proofs.lemmas.Bool.Decides.{Decides-eqb}
 use Rattle.std.proofs.lemmas.List.{reverse-append, take_all}
 use Rattle.std.proofs.lemmas.Slice.Eq.{ends_is}
 use Rattle.std.specs.List.{ends_with, onto_first, repeat}
-use Rattle.std.specs.Prelude.{if◌then◌else◌, nat_eq, All, replicate}
+use Rattle.std.specs.Prelude.{if◌then◌else◌, All, replicate}
 use Rattle.std.proofs.lemmas.List.Elements.{All-cons, All-head, All-nil, All-tail}
+use Rattle.std.specs.Cmp.Lexicographic.{pointwise}
 
 -- after the first of the elements left is the rest
 pub drop_next : {A : Type 0} (xs : List A) (n : ℕ) (y : A) (ys : List A) → drop n xs ≡ y ∷ ys →
@@ -107,3 +108,65 @@ All-append_right P (x ∷ xs) ys all = All-append_right P xs ys (All-tail P x (x
 pub repeat_one : {X : Type 0} (x : X) (n : ℕ) → repeat n (x ∷ []) ≡ replicate n x
 repeat_one x zero = refl
 repeat_one {X} x (suc n) = ap (λ (xs : List X). x ∷ xs) (repeat_one x n)
+
+pub drop_within : {X : Type 0} (source : List X) (at : ℕ) (b : X) (xs : List X)
+    → drop at source ≡ b ∷ xs → at < length source
+drop_within source at b xs e = let len = ap length e in omega (arith, length-drop at source)
+
+-- the source has the text from this index on
+pub record Lies (source : List ℕ) (start : ℕ) (text : List ℕ) : Type 0 where
+  pub within : start ≤ length source
+  pub tail : List ℕ
+  pub here : drop start source ≡ text ++ tail
+
+pub lies_front : (source : List ℕ) (start : ℕ) (text xs ys : List ℕ) → text ≡ xs ++ ys →
+    Lies source start text → Lies source start xs
+lies_front source start text xs ys e l = record {
+  within = l.within;
+  tail = ys ++ l.tail;
+  here = l.here ∙ ap (λ (t : List ℕ). t ++ l.tail) e ∙ append_assoc xs ys l.tail;
+}
+
+pub lies_next : (source : List ℕ) (start b : ℕ) (bs : List ℕ) → Lies source start (b ∷ bs) →
+    Lies source (start + 1) bs
+lies_next source start b bs l =
+    let inside = drop_within source start b (bs ++ l.tail) l.here in
+    record {
+      within = omega arith;
+      tail = l.tail;
+      here = drop_next source start b (bs ++ l.tail) l.here;
+    }
+
+-- the length of these parts, each with the byte after it
+abbrev pub extent : {X : Type 0} → List (List X) → ℕ
+extent [] = 0
+extent (x ∷ xs) = length x + 1 + extent xs
+
+pub extent_onto : {X : Type 0} (b : X) (xs : List (List X)) (n : ℕ) → extent xs ≤ n + 1 → (xs ≡ [] → 0 ≤ n) →
+    extent (onto_first b xs) ≤ n + 2
+extent_onto b [] n le e = omega arith
+extent_onto b (x ∷ xs) n le e = omega arith
+
+-- an empty list, and one that isn't
+pub not_empty : {X : Type 0} (xs : List X) (is_known : Bool) → is_known ≡ nat_eq (length xs) 0
+    → is_known ≡ false → xs ≡ [] → ⊥
+not_empty xs is_known is untrue none =
+    true≢false (sym (is ∙ ap (λ l. nat_eq (length l) 0) none) ∙ untrue)
+
+-- a member of a list of at most one is the only one in it
+pub append_only : {X : Type 0} (d x : X) (b : Bool) (xs ys : List X)
+    → xs ++ x ∷ ys ≡ cond b [] (d ∷ []) → (xs ≡ []) × (x ≡ d) × (b ≡ false)
+append_only d x true xs ys is =
+    absurd (let long = ap length is in omega (arith, length-append xs (x ∷ ys)))
+append_only d x false [] ys is = (refl, ap (λ l. get_or l 0 d) is, refl)
+append_only d x false (z ∷ xs) ys is =
+    absurd (let long = ap length is in omega (arith, length-append xs (x ∷ ys)))
+
+-- the end of a text is compared with as many bytes
+pub ends_with_same : (front p q : List ℕ) → length p ≡ length q
+    → ends_with nat_eq (front ++ q) p ≡ pointwise nat_eq p q
+ends_with_same front p q same =
+    let start : length (front ++ q) - length p ≡ length front =
+    omega (arith, length-append front q, same) in
+    ap (λ (k : ℕ). pointwise nat_eq p (drop k (front ++ q))) start
+    ∙ ap (pointwise nat_eq p) (drop-append_seam front q)

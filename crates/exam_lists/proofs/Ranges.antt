@@ -1,10 +1,11 @@
 -- The numbers from 0 or another number on, and what a function gives at each.
-use Rattle.std.proofs.Common.{Bool, List, [], add-one, ap, append-nil, ap₂, arith, false, map, nat_le, nat_lt, refl, suc, sym, true, zero, ℕ, ◌&&◌, ◌++◌, ◌+◌, ◌<◌, ◌==◌, ◌||◌, ◌∙◌, ◌∷◌, ◌≡◌}
+use Rattle.std.proofs.Common.{Bool, List, [], add-one, ap, append-nil, ap₂, arith, false, map, nat_le, nat_lt, refl, suc, sym, true, zero, ℕ, ◌&&◌, ◌++◌, ◌+◌, ◌<◌, ◌==◌, ◌||◌, ◌∙◌, ◌∷◌, ◌≡◌, get_or}
 use Rattle.std.proofs.lemmas.Bool.Decides.{nat_tests}
 use Rattle.std.proofs.lemmas.List.{flat_map_more}
 use Rattle.std.proofs.lemmas.List.Elements.{filter-append}
 use Rattle.std.specs.List.{flat_map, list_any, range_with_len}
 use Rattle.std.specs.Prelude.{filter}
+use Rattle.std.proofs.lemmas.List.FromFn.{get_or-range_with_len}
 
 -- one more number at the end
 range_more : (n a b : ℕ) → a + n ≡ b → range_with_len a (suc n) ≡ range_with_len a n ++ b ∷ []
@@ -84,3 +85,7 @@ any_below e n = any_from e 0 n ∙ plain e n
   where
     plain : (e n : ℕ) → (nat_le 0 e && nat_lt e (0 + n)) ≡ nat_lt e n
     plain e n = grind (arith, nat_tests)
+
+-- the numbers from 1 on
+pub get_or_range_one : (n i : ℕ) → i < n → get_or (range_with_len 1 n) i 0 ≡ i + 1
+get_or_range_one n i lt = get_or-range_with_len 1 n i 0 lt ∙ omega arith

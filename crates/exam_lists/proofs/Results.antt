@@ -1,5 +1,5 @@
 -- Facts of an `Ok`, or of an `Err`.
-use Rattle.std.proofs.Common.{Err, IfErr, IfOk, Ok, OnErr, OnOk, Result, ap, refl, ◌≡◌}
+use Rattle.std.proofs.Common.{Err, IfErr, IfOk, Ok, OnErr, OnOk, Result, ap, refl, ◌≡◌, inl, inr, ◌⊎◌}
 
 -- what holds in any case holds after an error, or an `Ok`
 pub OnErr_any : {T E P : Type 0} (r : Result T E) → P → OnErr r P
@@ -58,3 +58,9 @@ same_pair r x v y w one other =
 
 pub same_Ok : {B E : Type 0} {a b : B} → ◌≡◌ {A = Result B E} (Ok a) (Ok b) → a ≡ b
 same_Ok e = cc
+
+-- a step that returned a value did not stop
+pub did_not_stop : {B E R : Type 0} {b : B} {Stops : E → Type 0}
+    → ((stop : E) × Stops stop × (Ok b ≡ Err stop)) ⊎ R → R
+did_not_stop (inl stopped) = absurd (let e = stopped.2 in cc)
+did_not_stop (inr on) = on

@@ -1,8 +1,17 @@
 -- The first element that passes, and the element at an index.
-use Rattle.std.proofs.Common.{Bool, List, None, Option, Some, [], ap, arith, cond, false, get_or, length, length-append, refl, suc, sym, true, zero, ℕ, ◌++◌, ◌+◌, ◌<◌, ◌↔◌, ◌∙◌, ◌∷◌, ◌≡◌, ◌≤◌}
+use Rattle.std.proofs.Common.{Bool, List, None, Option, Some, [], ap, arith, cond, false, get_or, length, length-append, refl, suc, sym, true, zero, ℕ, ◌++◌, ◌+◌, ◌<◌, ◌↔◌, ◌∙◌, ◌∷◌, ◌≡◌, ◌≤◌, Contains, add-zero, eqb, set, ◌≢◌, Err, Ok, Ordering, Result, inl, inr}
 use Rattle.std.proofs.lemmas.Option.{none-some}
-use Rattle.std.specs.List.{AllByRecursion, find, position_or_len}
-use Rattle.std.specs.Prelude.{IfSome, IsSome, not, option_to_list, replicate, slice_get}
+use Rattle.std.specs.List.{AllByRecursion, find, position_or_len, list_any}
+use Rattle.std.specs.Prelude.{IfSome, IsSome, not, option_to_list, nat_lt, replicate, slice_get, is_ok}
+use Rattle.std.proofs.lemmas.Bool.Decides.{nat_tests}
+use Rattle.std.proofs.lemmas.List.{get_or-set_other, get_or-set_same}
+use Rattle.std.proofs.lemmas.Bool.{cases_lt}
+use Rattle.std.proofs.lemmas.List.Folds.{list_any_at, list_any_none}
+use Rattle.std.proofs.lemmas.List.Sorted.{searchable_from_sorted}
+use Rattle.std.specs.Cmp.{IsTotalOrder}
+use Rattle.std.specs.List.Sorted.{IsBinarySearchResult, IsSearchInRange, IsSortedBy}
+use Rattle.std.specs.Ordering.{is_eq, is_lt}
+use Rattle.exam_lists.proofs.Members.{contains_head}
 
 -- no element passes
 pub find_none : {X : Type 0} (t : X → Bool) (xs : List X)
@@ -82,3 +91,39 @@ last_only xs [] (Some y) is some few = is
 last_only xs (z ∷ rest) (Some y) is some few =
     let long = length-append rest (y ∷ []) in
     absurd (omega (arith, few, long, ap length is))
+
+pub slice_get_from_none : {X : Type 0} (xs : List X) → ((x : X) → Contains xs x → ⊥) → slice_get xs 0 ≡ None
+slice_get_from_none [] none = refl
+slice_get_from_none (x ∷ xs) none = absurd (none x (contains_head x xs))
+
+-- one more number is marked
+pub get_or_set_true : (before : List Bool) (k m n : ℕ) → k < length before
+    → get_or before m false ≡ nat_lt 0 n
+    → get_or (set before k true) m false ≡ nat_lt 0 (n + cond (eqb k m) 1 0)
+get_or_set_true before k m n lt known = go (eqb k m) refl
+  where
+    go : (b : Bool) → eqb k m ≡ b → get_or (set before k true) m false ≡ nat_lt 0 (n + cond b 1 0)
+    go true e =
+        let same : k ≡ m = grind (arith, nat_tests) in
+        let some : nat_lt 0 (n + 1) ≡ true = grind (arith, nat_tests) in
+        ap (λ j. get_or (set before k true) j false) (sym same)
+        ∙ get_or-set_same before k true false lt ∙ sym some
+    go false e =
+        let other : m ≢ k = grind (arith, nat_tests) in
+        get_or-set_other before k m true false other ∙ known ∙ ap (nat_lt 0) (sym (add-zero n))
+
+-- a search finds an equal element exactly if there is one
+pub search_finds_any : {X K : Type 0} (R : K → K → Ordering) (o : IsTotalOrder R) (key : X → K)
+    (xs : List X) (x : K) (d : X) (r : Result ℕ ℕ)
+    → IsSortedBy (λ a b. is_lt (R (key a) (key b))) xs
+    → IsSearchInRange r (length xs) → IsBinarySearchResult (λ y. R (key y) x) xs r
+    → is_ok r ≡ list_any (λ y. is_eq (R (key y) x)) xs
+search_finds_any R o key xs x d (Ok i) sorted bound is =
+    sym (list_any_at (λ y. is_eq (R (key y) x)) xs i d bound (ap is_eq (is d)))
+search_finds_any R o key xs x d (Err i) sorted bound is =
+    let parts = is (searchable_from_sorted o key xs x sorted) in
+    sym (list_any_none (λ y. is_eq (R (key y) x)) xs
+    (λ k e lt. elim (cases_lt k i) as (λ _. is_eq (R (key (get_or xs k e)) x) ≡ false) [
+      | inl below ↦ ap is_eq (parts.0 k e (omega arith) below)
+      | inr above ↦ ap is_eq (parts.1 k e above lt)
+    ]))

@@ -1,13 +1,15 @@
 -- Strictly sorted lists: made, compared and searched.
+use Rattle.exam_lists.proofs.Chains.{IsChain}
 use Rattle.exam_lists.proofs.Each.{each_append}
 use Rattle.exam_lists.proofs.Members.{contains_head, contains_later, first_or_later, none_in_nil}
-use Rattle.std.proofs.Common.{Bool, Contains, Greater, Less, List, None, Option, Ordering, Some, [], ap, ap₂, cond, false, inl, inr, refl, subst, sym, true, ◌++◌, ◌∙◌, ◌∷◌, ◌≡◌, ◌⊎◌}
+use Rattle.std.proofs.Common.{Bool, Contains, Greater, Less, List, None, Option, Ordering, Some, [], ap, ap₂, cond, false, inl, inr, refl, subst, sym, true, ◌++◌, ◌∙◌, ◌∷◌, ◌≡◌, ◌⊎◌, arith, get_or, is_lt, length, map, subst₂, ℕ, ◌+◌, ◌<◌}
 use Rattle.std.proofs.lemmas.List.Elements.{All-contains, All-from_recursion}
 use Rattle.std.specs.Cmp.{IsTotalOrder}
 use Rattle.std.specs.List.{AllByRecursion, find}
 use Rattle.std.specs.List.Sorted.{IsStrictlySortedBy}
 use Rattle.std.specs.Ordering.{ordering_reverse}
-use Rattle.std.specs.Prelude.{slice_get}
+use Rattle.std.specs.Prelude.{IsSortedByKey, slice_get}
+use Rattle.std.proofs.lemmas.List.{get_or-map, length-map}
 
 pub sorted_nil : {K : Type 0} (R : K → K → Ordering) → IsStrictlySortedBy R []
 unfolding IsStrictlySortedBy
@@ -26,6 +28,13 @@ unfolding IsStrictlySortedBy
 sorted_append R [] ys a b h = b
 sorted_append R (x ∷ xs) ys a b h =
     (each_append (λ y. R x y ≡ Less) xs ys a.0 h.0, sorted_append R xs ys a.1 b h.1)
+
+-- each element is less than all later ones
+pub chain_from_sorted : {K : Type 0} (R : K → K → Ordering) (xs : List K) → IsStrictlySortedBy R xs
+    → IsChain (λ x y. R x y ≡ Less) xs
+unfolding IsStrictlySortedBy
+chain_from_sorted R [] up = tt
+chain_from_sorted R (x ∷ xs) up = (up.0, chain_from_sorted R xs up.1)
 
 -- two lists that are strictly sorted and have the same elements are equal
 pub same_sorted : {K : Type 0} {R : K → K → Ordering} → IsTotalOrder R → (xs ys : List K)
@@ -130,3 +139,31 @@ find_is_first {X} R p (x ∷ xs) up = here (find_is_first R p xs up.1) (p x) ref
           where
             no : false ≡ true → ⊥
             no e = cc
+
+-- lists with the same keys, in the same order, are both sorted or neither is
+pub sorted_by_alike : {R K : Type 0} (cmp : K → K → Ordering) (key : R → K) (xs ys : List R)
+    → map key xs ≡ map key ys → IsSortedByKey key cmp xs → IsSortedByKey key cmp ys
+sorted_by_alike {R} cmp key xs ys same up =
+    λ k d low within.
+    let long : length xs ≡ length ys =
+    sym (length-map xs key) ∙ ap length same ∙ length-map ys key in
+    subst₂ (λ m n. is_lt (cmp m n) ≡ false) (at (k + 1) d (omega (arith, long)) within)
+    (at k d (omega (arith, long)) (omega arith)) (up k d low (omega (arith, long)))
+  where
+    at : (k : ℕ) (d : R) → k < length xs → k < length ys
+        → key (get_or xs k d) ≡ key (get_or ys k d)
+    at k d here there =
+        sym (get_or-map key xs k d (key d) here) ∙ ap (λ l. get_or l k (key d)) same
+        ∙ get_or-map key ys k d (key d) there
+
+-- if the images are sorted, so are the elements
+pub sorted_by_map : {R X K : Type 0} (cmp : K → K → Ordering) (key : X → K) (row : R → X)
+    (records : List R) → IsSortedByKey key cmp (map row records)
+    → IsSortedByKey (λ r. key (row r)) cmp records
+sorted_by_map cmp key row records up =
+    λ k d low within.
+    let long = length-map records row in
+    subst₂ (λ m n. is_lt (cmp m n) ≡ false)
+    (ap key (get_or-map row records (k + 1) d (row d) within))
+    (ap key (get_or-map row records k d (row d) (omega arith)))
+    (up k (row d) low (omega (arith, long)))

@@ -1,10 +1,11 @@
 -- Sums over a list.
-use Rattle.exam_lists.proofs.Chains.{IsChain}
+use Rattle.exam_lists.proofs.Chains.{IsChain, chain_weaker}
 use Rattle.exam_lists.proofs.Each.{each_weaker}
-use Rattle.std.proofs.Common.{Bool, List, [], add-mul, ap, ap₂, arith, cond, false, filter, length, map, refl, sum_by, sym, true, zero-add, zero-mul, ℕ, ◌*◌, ◌+◌, ◌<◌, ◌||◌, ◌∙◌, ◌∷◌, ◌≡◌, ◌≤◌}
-use Rattle.std.proofs.lemmas.Bool.{cond-false}
+use Rattle.std.proofs.Common.{Bool, List, [], add-mul, ap, ap₂, arith, cond, false, filter, length, map, refl, sum_by, sym, true, zero-add, zero-mul, ℕ, ◌*◌, ◌+◌, ◌<◌, ◌||◌, ◌∙◌, ◌∷◌, ◌≡◌, ◌≤◌, eqb, ◌≢◌}
+use Rattle.std.proofs.lemmas.Bool.{cond-false, cond-true}
 use Rattle.std.proofs.lemmas.List.Sums.{sum_by-cons}
 use Rattle.std.specs.List.{AllByRecursion, list_any}
+use Rattle.std.proofs.lemmas.Bool.Decides.{nat_tests}
 
 -- equal terms
 pub sum_by-same : {X : Type 0} (f g : X → ℕ) → ((x : X) → f x ≡ g x) → (xs : List X)
@@ -109,3 +110,21 @@ sum_by-once t w (x ∷ xs) h =
     (λ y f. cond-false (t y) w 0 (f e)) xs h.0))
     (sum_by-once t w xs h.1)
     ∙ sym (sum_by-cons (λ x. cond (t x) w 0) x xs)
+
+same_test : (x s : ℕ) (K : ℕ → ℕ) → cond (eqb x s) (K s) 0 ≡ cond (eqb s x) (K x) 0
+same_test x s K =
+    let k : (a b k m : ℕ) → (a ≡ b → k ≡ m) → cond (eqb a b) m 0 ≡ cond (eqb b a) k 0 =
+    λ a b k m e. grind (arith, nat_tests) in
+    k x s (K x) (K s) (λ e. ap K e)
+
+other_number : (x s t : ℕ) → s ≢ t → eqb s x ≡ true → eqb t x ≡ false
+other_number x s t ne e = grind (arith, nat_tests)
+
+-- the one term of a number
+pub sum_by-at : (x : ℕ) (K : ℕ → ℕ) (xs : List ℕ) → IsChain (λ s t. s ≢ t) xs
+    → list_any (λ s. eqb s x) xs ≡ true → sum_by (λ s. cond (eqb x s) (K s) 0) xs ≡ K x
+sum_by-at x K xs once there =
+    sum_by-same _ _ (λ s. same_test x s K) xs
+    ∙ sym (sum_by-once (λ s. eqb s x) (K x) xs
+    (chain_weaker (λ s t. s ≢ t) _ (other_number x) xs once))
+    ∙ cond-true (list_any (λ s. eqb s x) xs) (K x) 0 there

@@ -1,12 +1,12 @@
 -- Tests of some, of all or of pairs of elements.
 use Rattle.exam_lists.proofs.Booleans.{same_tests}
-use Rattle.std.proofs.Common.{Bool, Contains, List, [], ap, ap₂, eqb-true, false, map, nat_eq, refl, sym, true, ℕ, ◌&&◌, ◌++◌, ◌==◌, ◌||◌, ◌∙◌, ◌∷◌, ◌≡◌}
+use Rattle.std.proofs.Common.{Bool, Contains, List, [], ap, ap₂, eqb-true, false, map, nat_eq, refl, sym, true, ℕ, ◌&&◌, ◌++◌, ◌==◌, ◌||◌, ◌∙◌, ◌∷◌, ◌≡◌, true≢false, ◌≢◌}
 use Rattle.std.proofs.Math.Bool.{and-false, and-true}
 use Rattle.std.proofs.lemmas.Bool.{and_parts, eq-eqb}
 use Rattle.std.proofs.lemmas.List.Folds.{Any-from_list_any, list_any-append, list_any_at}
-use Rattle.std.proofs.lemmas.List.Kept.{Contains-dedup_nat, Contains-from_dedup}
+use Rattle.std.proofs.lemmas.List.Kept.{Contains-from_dedup}
 use Rattle.std.specs.Cmp.Lexicographic.{pointwise}
-use Rattle.std.specs.List.{dedup, flat_map, list_all, list_any}
+use Rattle.std.specs.List.{dedup, flat_map, list_all, list_any, AllByRecursion}
 
 -- equal tests
 pub any_agree : {X : Type 0} (p q : X → Bool) → ((x : X) → p x ≡ q x) → (xs : List X)
@@ -46,13 +46,14 @@ any_at e t xs =
     there k false h = refl
 
 -- some element of a list without its repeats passes exactly if one of the list does
-pub any_dedup : (p : ℕ → Bool) (xs : List ℕ) → list_any p (dedup nat_eq xs) ≡ list_any p xs
-any_dedup p xs =
-    same_tests (list_any p (dedup nat_eq xs)) (list_any p xs)
-    (λ h. moved (dedup nat_eq xs) xs (λ x there. Contains-from_dedup nat_eq xs x there) h)
-    (λ h. moved xs (dedup nat_eq xs) (λ x there. Contains-dedup_nat xs x there) h)
+pub any_dedup : {X : Type 0} (same : X → X → Bool)
+    → ((xs : List X) (x : X) → Contains xs x → Contains (dedup same xs) x) → (p : X → Bool)
+    (xs : List X) → list_any p (dedup same xs) ≡ list_any p xs
+any_dedup {X} same kept p xs =
+    same_tests (list_any p (dedup same xs)) (list_any p xs)
+    (moved (dedup same xs) xs (Contains-from_dedup same xs)) (moved xs (dedup same xs) (kept xs))
   where
-    moved : (xs ys : List ℕ) → ((x : ℕ) → Contains xs x → Contains ys x) → list_any p xs ≡ true
+    moved : (xs ys : List X) → ((x : X) → Contains xs x → Contains ys x) → list_any p xs ≡ true
         → list_any p ys ≡ true
     moved xs ys keeps h =
         let any = Any-from_list_any p xs h in
@@ -81,3 +82,11 @@ same_pointwise (x ∷ xs) [] equal = absurd (clash (sym equal))
 same_pointwise (x ∷ xs) (y ∷ ys) equal =
     let parts = and_parts _ _ equal in
     ap₂ (λ z zs. z ∷ zs) (eqb-true x y parts.0) (same_pointwise xs ys parts.1)
+
+-- numbers that pass a test are not one that fails it
+pub all_apart : (p : ℕ → Bool) (c : ℕ) → p c ≡ false → (xs : List ℕ) → list_all p xs ≡ true
+    → AllByRecursion (λ b. b ≢ c) xs
+all_apart p c fails [] e = tt
+all_apart p c fails (x ∷ xs) e =
+    let parts = and_parts (p x) (list_all p xs) e in
+    (λ same. true≢false (sym parts.0 ∙ ap p same ∙ fails), all_apart p c fails xs parts.1)

@@ -1,7 +1,7 @@
 -- Conflicts: the students whom two exams share, counted along the sitters, and sums over conflicts.
 use Rattle.std.specs.List.{list_any, AllByRecursion}
 use Rattle.std.specs.Prelude.{◌==◌, ◌&&◌, ◌||◌, All}
-use Rattle.std.proofs.Common.{◌≡◌, ◌≢◌, ◌++◌, append_assoc, append-nil, add-one, ℕ, zero, suc, ◌+◌, ◌*◌, ◌<◌, ◌≤◌, Bool, true, false, cond, ltb, lt-ltb, le-ltb, inl, inr, List, [], ◌∷◌, length, map, sum_by, count_by, refl, ap, ap₂, sym, ◌∙◌, subst, arith, zero-mul, add-zero, zero-add, eqb-true}
+use Rattle.std.proofs.Common.{◌≡◌, ◌≢◌, ◌++◌, append_assoc, append-nil, add-one, ℕ, zero, suc, ◌+◌, ◌*◌, ◌<◌, ◌≤◌, Bool, true, false, cond, ltb, lt-ltb, le-ltb, inl, inr, List, [], ◌∷◌, length, map, sum_by, count_by, refl, ap, ap₂, sym, ◌∙◌, subst, arith, zero-mul, add-zero, eqb-true}
 use Rattle.std.proofs.lemmas.Bool.{cases_eq, cases_lt, eq-eqb, ne_eqb}
 use Rattle.std.proofs.lemmas.Bool.Decides.{nat_tests}
 use Rattle.std.proofs.lemmas.List.{get_or_past}
@@ -9,7 +9,7 @@ use Rattle.std.proofs.lemmas.List.Elements.{All-append, All-from_recursion, All-
 use Rattle.std.proofs.lemmas.List.Folds.{list_any-append}
 use Rattle.std.proofs.lemmas.List.Sums.{sum_by-append, sum_by-cons}
 use Rattle.std.proofs.Math.Bool.{and-false, and-true, or-false}
-use Rattle.exam_lists.proofs.Booleans.{eqb_swap}
+use Rattle.exam_lists.proofs.Booleans.{eqb_swap, cond_either}
 use Rattle.exam_lists.proofs.Sums.{sum_by-same, sum_by-turned, sum_by-zeros}
 use Rattle.exam_model.specs.Conflicts.{conflict_if, conflicts_below, conflicts_of, conflicts_with, is_conflict}
 use Rattle.exam_model.specs.Enrolments.{AreEnrolments, Enrolled, IsAscending, has_number, shared_students, students}
@@ -58,20 +58,12 @@ sum_of_conflicts g E = sum_less g E (length E)
 
 -- ---- counts along a list
 
-one_or_none : (b : Bool) → b ≡ false → ◌≡◌ {A = ℕ} (cond b 1 0) 0
-one_or_none b is = ap (λ c. cond c 1 0) is
-
 -- no sitter of another student is counted
 pub other_student : (s e : ℕ) (x : Sitter) → (x.student ≡ s → ⊥) → is_sitter s e x ≡ false
 other_student s e x other =
     ap (λ b. (x.exam == e) && b) (ne_eqb x.student s other) ∙ and-false (x.exam == e)
 
 -- ---- the students that two exams share
-
-once_more : (a b : Bool) → (a ≡ true → b ≡ false)
-    → ◌≡◌ {A = ℕ} (cond a 1 0 + cond b 1 0) (cond (a || b) 1 0)
-once_more true b other = let none = one_or_none b (other refl) in omega arith
-once_more false b other = zero-add (cond b 1 0)
 
 -- a number is once in an ascending list, or not at all
 pub counted_once : (xs : List ℕ) (s : ℕ) → IsAscending xs
@@ -80,7 +72,7 @@ counted_once [] s up = refl
 counted_once (x ∷ xs) s up =
     sum_by-cons (λ t. cond (t == s) 1 0) x xs
     ∙ ap (λ n. cond (x == s) 1 0 + n) (counted_once xs s (tail_ascends x xs up))
-    ∙ once_more (x == s) (has_number xs s)
+    ∙ cond_either (x == s) (has_number xs s)
     (λ is. subst (λ t. has_number xs t ≡ false) (eqb-true x s is) (first_once x xs up))
 
 -- each student of exam f counted among those of exam e: the students that they share

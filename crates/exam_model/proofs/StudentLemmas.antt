@@ -1,13 +1,14 @@
 -- The results of adding a student to an ascending list, and of removing one.
 use Rattle.std.proofs.Common.{◌≡◌, ◌≢◌, ◌∙◌, ℕ, zero, suc, ◌<◌, true, false, List, [], ◌∷◌, length, set, refl, ap, sym, inl, inr, arith, if◌then◌else◌}
 use Rattle.std.proofs.Common.{get_or-set_other, get_or-set_same}
-use Rattle.std.specs.Prelude.{◌==◌, ◌||◌, ◌&&◌, not, nat_lt, slice_index}
+use Rattle.std.specs.Prelude.{◌==◌, ◌||◌, ◌&&◌, not, nat_lt}
 use Rattle.std.specs.List.{AllByRecursion, range_with_len}
 use Rattle.std.proofs.lemmas.Bool.{ltb-true, ltb-false, eqb-true, eqb-false, ne_eqb, eq-eqb, cases_eq, cases_lt}
 use Rattle.std.proofs.lemmas.List.{length-set, set_past}
 use Rattle.std.proofs.lemmas.List.Elements.{filter_agree}
 use Rattle.std.proofs.Math.Bool.{or_self_left}
 use Rattle.exam_lists.proofs.Booleans.{or_middle}
+use Rattle.exam_lists.proofs.Above.{Above, above_cons, above_less, above_tail}
 use Rattle.exam_model.specs.Changes.{with_student, without_student, with_pair, without_pair, exams_sat}
 use Rattle.exam_model.specs.Enrolments.{Enrolled, IsAscending, has_number, students, has}
 use Rattle.exam_model.specs.StudentLists.{Enters, Leaves}
@@ -52,17 +53,6 @@ each_with P s (u ∷ us) own each =
     (λ same. each)
     (λ after. (each.0, each_with P s us own each.1))
 
--- every member is greater than x
-abbrev pub Above : ℕ → List ℕ → Type 0
-Above x xs = (k : ℕ) → k < length xs → x < slice_index xs k
-
-above_cons : (x y : ℕ) (ys : List ℕ) → x < y → Above x ys → Above x (y ∷ ys)
-above_cons x y ys lt above zero within = lt
-above_cons x y ys lt above (suc k) within = above k (omega arith)
-
-above_tail : (x y : ℕ) (ys : List ℕ) → Above x (y ∷ ys) → Above x ys
-above_tail x y ys above k within = above (suc k) (omega arith)
-
 above_with : (x s : ℕ) (ys : List ℕ) → x < s → Above x ys → Above x (with_student s ys)
 above_with x s [] lt above = above_cons x s [] lt above
 above_with x s (u ∷ us) lt above =
@@ -80,9 +70,6 @@ ascending_cons x xs above up (suc i) (suc j) lt within = up i j (omega arith) (o
 
 pub above_first : (x : ℕ) (xs : List ℕ) → IsAscending (x ∷ xs) → Above x xs
 above_first x xs up k within = up 0 (suc k) (omega arith) (omega arith)
-
-above_less : (x y : ℕ) (ys : List ℕ) → x < y → Above y ys → Above x ys
-above_less x y ys lt above k within = omega (arith, above k within)
 
 pub ascending-none : IsAscending []
 ascending-none i j lt within = absurd (omega arith)

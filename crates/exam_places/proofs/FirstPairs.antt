@@ -1,10 +1,10 @@
 -- The first pair of exams that breaks a rule and names one exam.
 use Rattle.std.specs.Prelude.{nat_lt, option_map, slice_get}
-use Rattle.std.proofs.Common.{◌≡◌, ◌≢◌, ◌⊎◌, ℕ, ◌<◌, ◌≤◌, inl, inr, Bool, true, false, cond, ◌&&◌, ◌||◌, ◌==◌, List, [], ◌∷◌, Contains, Less, length, Option, Some, None, refl, sym, ◌∙◌, ap, ap₂, arith, eqb-true}
+use Rattle.std.proofs.Common.{◌≡◌, ◌≢◌, ◌⊎◌, ℕ, ◌<◌, ◌≤◌, inl, inr, Bool, true, false, cond, ◌&&◌, ◌||◌, ◌==◌, [], ◌∷◌, Less, length, Option, Some, None, refl, sym, ◌∙◌, ap, ap₂, arith, eqb-true}
 use Rattle.std.proofs.lemmas.Bool.{and_parts, cases_eq, cases_lt, true≢false}
 use Rattle.std.proofs.lemmas.Bool.Decides.{nat_tests}
-use Rattle.exam_lists.proofs.Members.{contains_head}
 use Rattle.exam_lists.proofs.Sorted.{sorted_head}
+use Rattle.exam_lists.proofs.Searches.{slice_get_from_none}
 use Rattle.exam_model.specs.Enrolments.{Enrolled}
 use Rattle.exam_model.specs.Instance.{Session}
 use Rattle.exam_model.specs.Timetable.{Placing}
@@ -36,10 +36,6 @@ not_before a b x y (inr equal) before =
     let most : b ≤ y = equal.1 in
     grind (arith, nat_tests)
 
-head_none : {X : Type 0} (xs : List X) → ((x : X) → Contains xs x → ⊥) → slice_get xs 0 ≡ None
-head_none [] none = refl
-head_none (x ∷ xs) none = absurd (none x (contains_head x xs))
-
 first_pair : (test : ℕ → ℕ → Bool) (n a b : ℕ) → a < n → b < n → IsLeast test a b
     → slice_get (passing_pairs test n) 0 ≡ Some (pair a b)
 first_pair test n a b la lb is =
@@ -51,7 +47,7 @@ first_pair test n a b la lb is =
 no_pair : (test : ℕ → ℕ → Bool) (n : ℕ) → ((x y : ℕ) → test x y ≡ true → ⊥)
     → slice_get (passing_pairs test n) 0 ≡ None
 no_pair test n none =
-    head_none (passing_pairs test n)
+    slice_get_from_none (passing_pairs test n)
     (λ p there. none p.exam p.other (passing_only test n p there))
 
 -- ---- the first breach of one rule that names the exam e

@@ -1,6 +1,6 @@
 -- The rows of some of the students, and the shares of these students.
 use Rattle.std.proofs.lemmas.Grind.{common_steps}
-use Rattle.std.proofs.Common.{◌≡◌, ℕ, ◌<◌, ◌≤◌, ◌^◌, inl, inr, Bool, true, ◌&&◌, eqb, Result, Ok, Err, List, [], ◌∷◌, length, get_or, nat_cmp, map, filter, sum_by, refl, sym, ◌∙◌, ap, arith}
+use Rattle.std.proofs.Common.{◌≡◌, ℕ, ◌<◌, ◌≤◌, ◌^◌, inl, inr, Bool, true, ◌&&◌, eqb, Result, Ok, Err, List, [], ◌∷◌, length, get_or, nat_cmp, map, filter, refl, sym, ◌∙◌, ap, arith}
 use Rattle.std.specs.List.Sorted.{IsBinarySearchResult}
 use Rattle.std.specs.Prelude.{is_ok}
 use Rattle.std.proofs.lemmas.Bool.{cases_lt, eq-eqb, ne_eqb, true≢false}
@@ -8,10 +8,9 @@ use Rattle.std.proofs.lemmas.List.{get_or_default}
 use Rattle.std.proofs.lemmas.List.Elements.{All-from_recursion, recursion_from_All}
 use Rattle.std.proofs.lemmas.List.Folds.{list_any_at, list_any_none}
 use Rattle.std.proofs.lemmas.List.Sorted.{searched}
-use Rattle.std.proofs.lemmas.List.Sums.{sum_by-cons}
 use Rattle.exam_lists.proofs.Chains.{chain_from_index, chain_filter, index_from_chain}
 use Rattle.exam_lists.proofs.Each.{each_filter}
-use Rattle.exam_lists.proofs.Filters.{length_filter-le, map_filter_agree}
+use Rattle.exam_lists.proofs.Filters.{filter-map, length_filter-le, map_filter_agree}
 use Rattle.exam_lists.proofs.Sums.{sum_by-filter-le}
 use Rattle.exam_model.specs.Enrolments.{IsAscending, has_number}
 use Rattle.exam_model.specs.Instance.{Session}
@@ -27,11 +26,6 @@ use Rattle.exam_publish.proofs.ListLemmas.{ascending_from_chain, ascends, chain_
 use Rattle.exam_publish.proofs.ShareLemmas.{small_shares}
 
 -- ---- filtered lists
-
-pub map_filter : {X Y : Type 0} (f : X → Y) (p : Y → Bool) (xs : List X)
-    → map f (filter (λ x. p (f x)) xs) ≡ filter p (map f xs)
-map_filter f p [] = refl
-map_filter f p (x ∷ xs) = grind (arith, common_steps, map_filter f p xs)
 
 -- ---- a search among students
 
@@ -76,7 +70,7 @@ students_among : (rows : List SeatRow) (students : List ℕ)
 students_among rows students =
     let p = has_number students in
     let numbers : List ℕ = map (λ row. row.student) rows in
-    ap sorted_numbers (map_filter (λ (row : SeatRow). row.student) p rows)
+    ap sorted_numbers (sym (filter-map p (λ (row : SeatRow). row.student) rows))
     ∙ same_list (sorted_numbers (filter p numbers)) (filter p (sorted_numbers numbers))
     (ascends (filter p numbers))
     (ascending_from_chain (filter p (sorted_numbers numbers))
@@ -102,7 +96,7 @@ among_shares I rows students =
     ∙ map_filter_agree own all (has_number students)
     (λ s h. ap (λ rs. (s, share_of I.periods I.weights rs)) (own_among students s h rows))
     (students_of rows)
-    ∙ map_filter all (λ share. has_number students share.0) (students_of rows)
+    ∙ sym (filter-map (λ share. has_number students share.0) all (students_of rows))
 
 -- some of the shares are small if all are
 pub among_small : (I : Session) (rows : List SeatRow) (T : Placing) (students : List ℕ) (n : ℕ)

@@ -1,25 +1,26 @@
 -- The different durations of a room and period, by stays without repeats.
 use Rattle.std.proofs.lemmas.Grind.{common_steps}
 use Rattle.std.specs.List.{list_any, dedup}
-use Rattle.std.specs.List.Sorted.{IsStrictlySortedBy}
 use Rattle.std.specs.Ordering.{nat_cmp, ordering_then, eq_by_cmp}
 use Rattle.std.specs.Cmp.{then_total, on_total, nat_cmp_total, IsTotalOrder, IsEquivalence}
 use Rattle.std.specs.Prelude.{slice_index, nat_lt, ◌==◌, ◌&&◌}
-use Rattle.std.proofs.Common.{◌≡◌, ℕ, ◌+◌, ◌-◌, ◌*◌, ◌<◌, ◌≤◌, ◌⊎◌, inl, inr, Bool, true, false, cond, eqb, ltb, List, [], ◌∷◌, length, count_by, All, Contains, IsPermutation, IsSorted, Ordering, Less, refl, sym, ◌∙◌, ap, subst, arith, eqb-true, lt-ltb, one-mul}
+use Rattle.std.proofs.Common.{◌≡◌, ℕ, ◌+◌, ◌-◌, ◌*◌, ◌<◌, ◌≤◌, ◌⊎◌, inl, inr, Bool, true, false, cond, eqb, ltb, List, [], length, count_by, All, IsPermutation, IsSorted, Ordering, Less, sym, ◌∙◌, ap, subst, arith, eqb-true, lt-ltb, one-mul}
 use Rattle.std.proofs.lemmas.Bool.{cases_eq, cases_lt, cond-true, ne_eqb, and_parts, and_from, eq-eqb, false_from_ne_true}
 use Rattle.std.proofs.lemmas.Bool.Decides.{nat_tests}
 use Rattle.std.proofs.lemmas.Nat.{same_from_place}
 use Rattle.std.proofs.lemmas.List.{get_or_past}
 use Rattle.std.proofs.lemmas.List.Elements.{recursion_from_All}
 use Rattle.std.proofs.lemmas.List.Filters.{All-dedup}
-use Rattle.std.proofs.lemmas.List.Folds.{Any-from_list_any, list_any_at}
-use Rattle.std.proofs.lemmas.List.Kept.{Contains-dedup, Contains-from_dedup, IsStrictlySortedBy-dedup}
+use Rattle.std.proofs.lemmas.List.Kept.{Contains-dedup, IsStrictlySortedBy-dedup}
 use Rattle.std.proofs.lemmas.List.Sorted.{list_any-IsPermutation, All-permutation}
-use Rattle.std.proofs.lemmas.List.Sums.{sum_by-cons, count_by-le-length}
+use Rattle.std.proofs.lemmas.List.Sums.{count_by-le-length}
 use Rattle.exam_lists.proofs.Chains.{IsChain, chain_weaker}
+use Rattle.exam_lists.proofs.Counts.{count_by_any}
 use Rattle.exam_lists.proofs.Each.{each_weaker}
 use Rattle.exam_lists.proofs.Sums.{sum_by-agree, sum_by-once}
-use Rattle.exam_lists.proofs.Booleans.{same_tests}
+use Rattle.exam_lists.proofs.Booleans.{cond_and_swap}
+use Rattle.exam_lists.proofs.Sorted.{chain_from_sorted}
+use Rattle.exam_lists.proofs.Tests.{any_dedup}
 use Rattle.exam_model.specs.Instance.{Session}
 use Rattle.exam_model.specs.Sums.{sum_below}
 use Rattle.exam_model.specs.Timetable.{Placing}
@@ -57,34 +58,10 @@ same_stay a b h = grind (arith, common_steps, and_parts, eqb-true)
 equivalence : IsEquivalence stay_eq
 equivalence = grind (arith, common_steps, same_stay, nat_tests)
 
-chain_from_strict : (xs : List PlacedDuration) → IsStrictlySortedBy stay_cmp xs
-    → IsChain (λ x y. stay_cmp x y ≡ Less) xs
-unfolding IsStrictlySortedBy
-chain_from_strict [] h = tt
-chain_from_strict (x ∷ xs) h = (h.0, chain_from_strict xs h.1)
-
 -- a later stay is another one
 other_stay : (p r m : ℕ) (x y : PlacedDuration) → stay_cmp x y ≡ Less → is_stay p r m x ≡ true
     → is_stay p r m y ≡ false
 other_stay p r m x y less here = grind (arith, nat_tests, less, here)
-
-any_count : (p : PlacedDuration → Bool) (xs : List PlacedDuration) → nat_lt 0 (count_by p xs) ≡ list_any p xs
-any_count p [] = refl
-any_count p (x ∷ xs) = grind (arith, common_steps, sum_by-cons, nat_tests, any_count p xs)
-
-any_dedup : (p : PlacedDuration → Bool) (xs : List PlacedDuration) → list_any p (dedup stay_eq xs) ≡ list_any p xs
-any_dedup p xs =
-    same_tests (list_any p (dedup stay_eq xs)) (list_any p xs)
-    (λ h. moved (dedup stay_eq xs) xs (λ x there. Contains-from_dedup stay_eq xs x there) h)
-    (λ h. moved xs (dedup stay_eq xs)
-    (λ x there. Contains-dedup {E = stay_eq} equivalence same_stay xs x there) h)
-  where
-    moved : (xs ys : List PlacedDuration) → ((x : PlacedDuration) → Contains xs x → Contains ys x)
-        → list_any p xs ≡ true → list_any p ys ≡ true
-    moved xs ys keeps h =
-        let any = Any-from_list_any p xs h in
-        let there = keeps any.1 (any.0, any.2, any.3) in
-        list_any_at p ys there.0 any.1 there.1 (ap p there.2 ∙ any.4)
 
 -- stays without repeats, one for each stay that some exam has
 pub record AreKinds (I : Session) (T : Placing) (kinds : List PlacedDuration) : Type 0 where
@@ -97,10 +74,10 @@ pub are_kinds : (I : Session) (T : Placing) (stays sorted kinds : List PlacedDur
     → AreKinds I T kinds
 are_kinds I T stays sorted kinds are moved up is = subst (AreKinds I T) (sym is) (record {
   members = λ p r m.
-      any_dedup (is_stay p r m) sorted
+      any_dedup stay_eq (Contains-dedup {E = stay_eq} equivalence same_stay) (is_stay p r m) sorted
       ∙ sym (list_any-IsPermutation (is_stay p r m) stays sorted moved)
-      ∙ sym (any_count (is_stay p r m) stays) ∙ ap (λ n. nat_lt 0 n) (are.counts p r m);
-  once = chain_from_strict (dedup stay_eq sorted)
+      ∙ sym (count_by_any (is_stay p r m) stays) ∙ ap (λ n. nat_lt 0 n) (are.counts p r m);
+  once = chain_from_sorted stay_cmp (dedup stay_eq sorted)
       (IsStrictlySortedBy-dedup stay_cmp_total {E = stay_eq} ties sorted up);
   exist = All-dedup stay_eq (StayExists I) sorted
       (All-permutation (StayExists I) stays sorted moved are.exist);
@@ -112,12 +89,6 @@ short : (I : Session) (x : PlacedDuration) → StayExists I x → x.minutes < du
 unfolding duration_count
 short I x e = let h = e.minutes in omega arith
 
-turn : (a b : Bool) → ◌≡◌ {A = ℕ} (cond (a && b) 1 0) (cond b (cond a 1 0) 0)
-turn true true = refl
-turn true false = refl
-turn false true = refl
-turn false false = refl
-
 here : ℕ → ℕ → PlacedDuration → Bool
 here p r x = (x.period == p) && (x.room == r)
 
@@ -126,7 +97,7 @@ one_stay : (I : Session) (p r : ℕ) (x : PlacedDuration) → StayExists I x
 unfolding here
 one_stay I p r x e =
     sum_below-same _ _
-    (λ m. turn ((x.period == p) && (x.room == r)) (x.minutes == m)) duration_count
+    (λ m. cond_and_swap ((x.period == p) && (x.room == r)) (x.minutes == m)) duration_count
     ∙ sum_below-at (λ m. cond ((x.period == p) && (x.room == r)) 1 0) x.minutes duration_count
     ∙ cond-true (ltb x.minutes duration_count) (cond ((x.period == p) && (x.room == r)) 1 0) 0
     (lt-ltb x.minutes duration_count (short I x e))

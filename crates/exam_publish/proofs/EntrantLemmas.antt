@@ -5,6 +5,7 @@ use Rattle.std.specs.List.{AllByRecursion, cons_option}
 use Rattle.std.proofs.Common.{◌≡◌, ℕ, zero, suc, ◌+◌, ◌<◌, ◌≤◌, List, [], ◌∷◌, ◌++◌, length, map, take, Some, None, option_map, All, refl, sym, ◌∙◌, ap₂, subst, arith, append-nil}
 use Rattle.std.proofs.lemmas.List.Elements.{filter_map-append, All-from_recursion, recursion_from_All}
 use Rattle.exam_lists.proofs.Each.{each_weaker}
+use Rattle.exam_lists.proofs.Filters.{length_filter_map-le}
 use Rattle.exam_model.specs.Enrolments.{Enrolled, AreEnrolments, students}
 use Rattle.exam_model.specs.Fits.{Fits, PlaceExists}
 use Rattle.exam_model.specs.Instance.{Session, IsInstance}
@@ -18,7 +19,7 @@ use Rattle.exam_publish.specs.declared.seat_row.SeatRow.{SeatRow}
 use Rattle.exam_publish.specs.Seating.{EntrantExists, KeepsOwnPlace, KeepsSmallSeat}
 use Rattle.exam_publish.specs.Seats.{IsSeatOf, HasSeat}
 use Rattle.exam_publish.specs.Entrants.{entrant, entrants}
-use Rattle.exam_publish.proofs.SeatLemmas.{all_fair, each_entrant, from_within, length_filter_map}
+use Rattle.exam_publish.proofs.SeatLemmas.{all_fair, each_entrant, from_within}
 use Rattle.exam_publish.proofs.SeatingLemmas.{pairs_more, length_pairs}
 
 entrants_at : (T : Placing) (old : List SeatRow) (e : ℕ) (at : Place)
@@ -62,7 +63,7 @@ exam_nowhere E T old e xs lt none was = grind (arith, common_steps, split, entra
 pub entrants_few : (E : Enrolled) (T : Placing) (old : List SeatRow) → AreEnrolments E
     → length (entrants (pairs_of E) T old) ≤ 200000
 entrants_few E T old known =
-    omega (arith, length_filter_map (λ (p : Pair). option_map (entrant old p) (place_of T p.exam)) (pairs_of E), length_pairs 0 E, known.pairs)
+    omega (arith, length_filter_map-le (λ (p : Pair). option_map (entrant old p) (place_of T p.exam)) (pairs_of E), length_pairs 0 E, known.pairs)
 
 pub entrants_exist : (I : Session) (E : Enrolled) (T : Placing) (old : List SeatRow) → Fits I E T
     → All (EntrantExists I) (entrants (pairs_of E) T old)

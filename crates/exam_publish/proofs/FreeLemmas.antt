@@ -4,12 +4,12 @@ use Rattle.std.specs.List.{list_any, position_or_len, range_with_len}
 use Rattle.std.specs.Prelude.{not}
 use Rattle.std.proofs.Common.{◌≡◌, ℕ, ◌+◌, ◌-◌, ◌<◌, ◌≤◌, inl, inr, Bool, true, false, cond, ◌&&◌, ◌||◌, eqb, List, [], ◌∷◌, length, get_or, refl, sym, ◌∙◌, ap, ap₂, arith}
 use Rattle.std.proofs.lemmas.Bool.{cases_eq, cases_lt, eq-eqb, ne_eqb, not-false, false_from_ne_true, or_right, not-true}
-use Rattle.std.proofs.lemmas.Bool.Decides.{nat_tests}
-use Rattle.std.proofs.lemmas.List.FromFn.{length-range_with_len, get_or-range_with_len}
+use Rattle.std.proofs.lemmas.List.FromFn.{length-range_with_len}
 use Rattle.std.proofs.lemmas.List.Sums.{position_or_len_is, fails_before_first, passes_at_first}
 use Rattle.std.proofs.lemmas.Map.Steps.{le-length_from_below}
 use Rattle.exam_lists.proofs.Booleans.{eqb_swap}
 use Rattle.exam_lists.proofs.Searches.{position-le-length}
+use Rattle.exam_lists.proofs.Ranges.{get_or_range_one}
 use Rattle.exam_terms.specs.declared.place.Place.{Place}
 use Rattle.exam_model.specs.Enrolments.{has_number}
 use Rattle.exam_rules.specs.Places.{is_one_place}
@@ -44,9 +44,6 @@ le_taken n xs h =
 abbrev is_free : List ℕ → ℕ → Bool
 is_free taken k = not (has_number taken k)
 
-at_number : (n i : ℕ) → i < n → get_or (range_with_len 1 n) i 0 ≡ i + 1
-at_number n i lt = get_or-range_with_len 1 n i 0 lt ∙ omega arith
-
 pub is_least : (taken : List ℕ) (n : ℕ) → IsLeastFree taken n → n ≡ least_free taken
 is_least taken n h =
     let m = length taken in
@@ -54,9 +51,9 @@ is_least taken n h =
     let low = h.low in
     let few : n - 1 ≤ m = le_taken (n - 1) taken (λ k a b. h.below k a (omega arith)) in
     let first = position_or_len_is (is_free taken) (range_with_len 1 m) (n - 1) 0 (omega arith)
-    (λ k lt. ap (is_free taken) (at_number m k (omega arith))
+    (λ k lt. ap (is_free taken) (get_or_range_one m k (omega arith))
     ∙ ap not (h.below (k + 1) (omega arith) (omega arith)))
-    (λ lt. ap (is_free taken) (at_number m (n - 1) (omega arith))
+    (λ lt. ap (is_free taken) (get_or_range_one m (n - 1) (omega arith))
     ∙ ap (is_free taken) (let e : n - 1 + 1 ≡ n = omega arith in e) ∙ ap not h.free) in
     omega arith
 
@@ -69,7 +66,7 @@ least_below taken k low lt =
     let n = length taken in
     let fails = fails_before_first (is_free taken) (range_with_len 1 n) (k - 1) 0 (omega arith) in
     let here : get_or (range_with_len 1 n) (k - 1) 0 ≡ k =
-    at_number n (k - 1) (omega arith) ∙ omega arith in
+    get_or_range_one n (k - 1) (omega arith) ∙ omega arith in
     not-false (has_number taken k) (ap (is_free taken) (sym here) ∙ fails)
 
 least_free_is : (taken : List ℕ) → has_number taken (least_free taken) ≡ false
@@ -81,7 +78,7 @@ least_free_is taken =
     elim (cases_lt first n) as (λ _. has_number taken (first + 1) ≡ false) [
       | inl less ↦
           not-true (has_number taken (first + 1))
-          (ap (is_free taken) (sym (at_number n first less))
+          (ap (is_free taken) (sym (get_or_range_one n first less))
           ∙ passes_at_first (is_free taken) (range_with_len 1 n) 0 (omega arith))
       | inr past ↦
           false_from_ne_true (has_number taken (first + 1))

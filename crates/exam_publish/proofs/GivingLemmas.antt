@@ -6,6 +6,7 @@ use Rattle.std.proofs.lemmas.Bool.{cases_eq, and_parts, false_from_ne_true}
 use Rattle.std.proofs.lemmas.List.{at_drop_more, length-replicate, length-set, get_or-set_same, get_or-set_other}
 use Rattle.std.proofs.lemmas.Nat.{same_from_place}
 use Rattle.exam_lists.proofs.Searches.{get_or_same}
+use Rattle.exam_lists.proofs.Filters.{length_filter_map-le}
 use Rattle.exam_terms.specs.declared.place.Place.{Place}
 use Rattle.exam_model.specs.Fits.{slot_of}
 use Rattle.exam_model.proofs.PlaceLemmas.{slot_within}
@@ -16,7 +17,7 @@ use Rattle.exam_publish.specs.Seating.{AreHeld, IsNextFree, IsLast, AreLast}
 use Rattle.exam_publish.specs.Seats.{seats_at, least_free, new_row, rows_after_entrants, rows_for}
 use Rattle.exam_publish.specs.Entrants.{old_rows}
 use Rattle.exam_publish.proofs.FreeLemmas.{IsNext, is_next, last_here, last_there, le_taken, length_seats}
-use Rattle.exam_publish.proofs.SeatLemmas.{same_place, length_filter_map}
+use Rattle.exam_publish.proofs.SeatLemmas.{same_place}
 
 -- the rows of the first i entrants, and the rows that are present for the later ones
 pub record AreGiven (xs : List Entrant) (periods rooms i : ℕ) (last : List ℕ)
@@ -53,7 +54,7 @@ last_small xs periods rooms i n last rows at was hp hr is =
     (seats_at at was.current) there.all in
     let long = length_there at was.current in
     let few = was.few in
-    let kept = length_filter_map (λ (x : Entrant). x.kept) xs in
+    let kept = length_filter_map-le (λ (x : Entrant). x.kept) xs in
     omega arith
 
 abbrev with_seat : Entrant → ℕ → SeatRow

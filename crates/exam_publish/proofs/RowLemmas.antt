@@ -1,7 +1,7 @@
 -- The enrolments that rows are: their pairs are those of the rows.
 use Rattle.std.proofs.lemmas.Grind.{common_steps}
 use Rattle.std.specs.List.{cons_option, list_any, AllByRecursion, range_with_len}
-use Rattle.std.proofs.Common.{◌≡◌, ◌≢◌, ℕ, zero, suc, ◌+◌, ◌<◌, ◌≤◌, ◌⊎◌, inl, inr, Bool, true, false, cond, ◌||◌, eqb, List, [], ◌∷◌, ◌++◌, length, map, filter, filter_map, Some, option_map, All, refl, sym, ◌∙◌, ap, ap₂, subst, arith, eqb-true, rules}
+use Rattle.std.proofs.Common.{◌≡◌, ◌≢◌, ℕ, zero, suc, ◌+◌, ◌<◌, ◌≤◌, ◌⊎◌, inl, inr, Bool, true, false, cond, eqb, List, [], ◌∷◌, ◌++◌, length, map, filter, filter_map, Some, option_map, All, refl, sym, ◌∙◌, ap, ap₂, subst, arith, eqb-true, rules}
 use mathlib.Core.Bool.{true≢false}
 use Rattle.std.proofs.lemmas.Bool.{and_from, cases_eq, cases_lt, eq-eqb, ne_eqb, or_right, or_left}
 use Rattle.std.proofs.lemmas.List.{get_or_past, length-map}
@@ -151,12 +151,9 @@ are_enrolments n rows low high few order exist numbered =
 
 -- ---- the students of the rows
 
-or_here : (x : ℕ) (b : Bool) → (eqb x x || b) ≡ true
-or_here x b = or_left (eqb x x) b (eq-eqb x x refl)
-
 each_in : (rows : List SeatRow) → AllByRecursion (λ row. has_row rows row.student ≡ true) rows
 each_in [] = tt
-each_in (r ∷ rs) = grind (arith, common_steps, or_here, each_weaker, or_right, each_in rs)
+each_in (r ∷ rs) = grind (arith, common_steps, or_left, eq-eqb, each_weaker, or_right, each_in rs)
 
 pub are_students : (n : ℕ) (rows : List SeatRow) → pairs_of (enrolled_in n rows) ≡ map row_pair rows
     → AreStudentsOf (enrolled_in n rows) (students_of rows)

@@ -5,14 +5,15 @@ use Rattle.std.specs.List.Sorted.{IsBinarySearchResult, IsSearchInRange, IsSorte
 use Rattle.std.specs.Ordering.{nat_cmp, ordering_then, is_eq, is_lt}
 use Rattle.std.specs.Cmp.{then_total, on_total, nat_cmp_total, IsTotalOrder}
 use Rattle.std.specs.Prelude.{is_ok, ◌&&◌}
-use Rattle.std.proofs.Common.{◌≡◌, ℕ, zero, suc, ◌+◌, ◌<◌, ◌≤◌, ◌⊎◌, inl, inr, Bool, true, false, cond, eqb, List, [], ◌∷◌, length, get_or, Some, None, Result, Ok, Err, All, IsSorted, Ordering, Equal, refl, sym, ◌∙◌, ap, subst, arith, eqb-true, rules}
+use Rattle.std.proofs.Common.{◌≡◌, ℕ, ◌+◌, ◌<◌, ◌≤◌, ◌⊎◌, inl, inr, Bool, true, false, cond, eqb, List, [], length, get_or, Some, None, Result, Ok, Err, All, IsSorted, Equal, refl, sym, ◌∙◌, ap, subst, arith, eqb-true, rules}
 use Rattle.std.proofs.lemmas.Bool.{cases_lt, cases_eq, and_parts, and_from, false_from_ne_true, true≢false, and_right}
 use Rattle.std.proofs.lemmas.Bool.Decides.{nat_tests}
 use Rattle.std.proofs.lemmas.List.{get_or_default}
-use Rattle.std.proofs.lemmas.List.Folds.{list_any_at, list_any_none, Any-from_list_any}
+use Rattle.std.proofs.lemmas.List.Folds.{Any-from_list_any}
 use Rattle.std.proofs.lemmas.List.Sorted.{searchable_from_sorted}
-use Rattle.exam_lists.proofs.Searches.{find_none, find_one}
+use Rattle.exam_lists.proofs.Searches.{find_none, find_one, search_finds_any}
 use Rattle.exam_lists.proofs.Tests.{any_agree}
+use Rattle.exam_lists.proofs.Orders.{pair_total}
 use Rattle.exam_model.specs.Pairs.{Pair, is_pair}
 use Rattle.exam_terms.specs.declared.place.Place.{Place}
 use Rattle.exam_rules.specs.Places.{is_one_place}
@@ -21,22 +22,6 @@ use Rattle.exam_publish.specs.declared.seat_row.SeatRow.{SeatRow}
 use Rattle.exam_publish.specs.Rows.{row_place, RowBefore, RowsInOrder}
 use Rattle.exam_publish.specs.Seating.{compare_held, is_held}
 use Rattle.exam_publish.specs.Entrants.{IsIndexOf, IsRowOf, is_row_at}
-
--- a search finds an equal element exactly if there is one
-found : {X K : Type 0} (R : K → K → Ordering) (o : IsTotalOrder R) (key : X → K) (xs : List X)
-    (x : K) (d : X) (r : Result ℕ ℕ)
-    → IsSortedBy (λ a b. is_lt (R (key a) (key b))) xs
-    → IsSearchInRange r (length xs) → IsBinarySearchResult (λ y. R (key y) x) xs r
-    → is_ok r ≡ list_any (λ y. is_eq (R (key y) x)) xs
-found R o key xs x d (Ok i) sorted bound is =
-    sym (list_any_at (λ y. is_eq (R (key y) x)) xs i d bound (ap is_eq (is d)))
-found R o key xs x d (Err i) sorted bound is =
-    let parts = is (searchable_from_sorted o key xs x sorted) in
-    sym (list_any_none (λ y. is_eq (R (key y) x)) xs
-    (λ k e lt. elim (cases_lt k i) as (λ _. is_eq (R (key (get_or xs k e)) x) ≡ false) [
-      | inl below ↦ ap is_eq (parts.0 k e (omega arith) below)
-      | inr above ↦ ap is_eq (parts.1 k e above lt)
-    ]))
 
 -- ---- seats in order
 
@@ -54,7 +39,7 @@ pub held_found : (xs : List Held) (x : Held) (r : Result ℕ ℕ) → IsSorted c
     → IsSearchInRange r (length xs) → IsBinarySearchResult (λ y. compare_held y x) xs r
     → is_ok r ≡ list_any (is_held (record { period = x.period; room = x.room }) x.seat) xs
 held_found xs x r sorted bound is =
-    found compare_held held_total (λ y. y) xs x x r sorted bound is
+    search_finds_any compare_held held_total (λ y. y) xs x x r sorted bound is
     ∙ any_agree (λ y. is_eq (compare_held y x))
     (is_held (record { period = x.period; room = x.room }) x.seat) (is_this x) xs
 
@@ -71,10 +56,6 @@ held_small xs at n small any =
     omega arith
 
 -- ---- rows in order
-
-key_total : IsTotalOrder (λ (a b : ℕ × ℕ). ordering_then (nat_cmp a.0 b.0) (nat_cmp a.1 b.1))
-key_total = then_total (on_total (λ (a : ℕ × ℕ). a.0) nat_cmp_total)
-    (on_total (λ (a : ℕ × ℕ). a.1) nat_cmp_total)
 
 abbrev key : SeatRow → ℕ × ℕ
 key row = (row.exam, row.student)
@@ -161,7 +142,7 @@ pub no_row : (xs : List SeatRow) (p : Pair) (at : Place) (i : ℕ) → RowsInOrd
     → find (is_row_at p at) xs ≡ None
 no_row xs p at i order is =
     let parts = is
-    (searchable_from_sorted key_total key xs (p.exam, p.student) (sorted_rows xs order)) in
+    (searchable_from_sorted pair_total key xs (p.exam, p.student) (sorted_rows xs order)) in
     find_none (is_row_at p at) xs
     (λ k d lt. other_row p at (get_or xs k d)
     (elim (cases_lt k i)

@@ -1,19 +1,19 @@
 -- Facts about all seats: each exists in its room, no seat is assigned twice, and rows are in order.
 use Rattle.std.proofs.lemmas.Grind.{common_steps}
 use Rattle.std.specs.List.{AllByRecursion, cons_option, find}
-use Rattle.std.specs.Prelude.{IfSome, IsSome, is_none, slice_get, nat_lt}
-use Rattle.std.proofs.Common.{◌≡◌, ℕ, zero, suc, ◌+◌, ◌<◌, ◌≤◌, inl, inr, Bool, true, false, cond, ◌&&◌, eqb, ltb, List, [], ◌∷◌, ◌++◌, length, map, get_or, Option, None, Some, option_map, count_by, filter_map, AllPairs, Contains, refl, sym, ◌∙◌, ap, subst, arith, lt-ltb, eqb-true, rules}
+use Rattle.std.specs.Prelude.{IfSome, IsSome, is_none, slice_get}
+use Rattle.std.proofs.Common.{◌≡◌, ℕ, zero, suc, ◌+◌, ◌<◌, ◌≤◌, inl, inr, Bool, true, false, cond, ◌&&◌, eqb, ltb, List, [], ◌∷◌, ◌++◌, length, map, get_or, Option, None, Some, option_map, count_by, AllPairs, Contains, refl, sym, ◌∙◌, ap, subst, arith, lt-ltb, eqb-true, rules}
 use Rattle.std.proofs.lemmas.Bool.{and_parts, and_from, eq-eqb, cond-true, false_from_ne_true, false≢true, true≢false, cases_lt, cases_eq, or_left, ltb-false}
-use Rattle.std.proofs.lemmas.Bool.Decides.{nat_tests}
-use Rattle.std.proofs.lemmas.Option.{none-some}
 use Rattle.std.proofs.lemmas.List.{length-map, get_or_default}
 use Rattle.std.proofs.lemmas.List.Elements.{All-from_recursion, recursion_from_All, All-contains_itself, All-contains}
 use Rattle.std.proofs.lemmas.List.Sums.{sum_by-cons}
+use Rattle.std.proofs.lemmas.Option.{IfSome_then}
 use Rattle.exam_lists.proofs.Chains.{IsChain, chain_from_index, chain_weaker, chain_filter_map, chain_unmap, chain_with_each, index_from_chain}
 use Rattle.exam_lists.proofs.Each.{each_weaker, each_all, each_filter_map}
 use Rattle.exam_lists.proofs.Sums.{cond-sum_by, sum_by-agree}
 use Rattle.exam_lists.proofs.Members.{not_in_nil}
 use Rattle.exam_lists.proofs.Searches.{find_keeps, slice_get_none}
+use Rattle.exam_lists.proofs.Booleans.{cond_swap}
 use Rattle.exam_model.specs.Instance.{Session}
 use Rattle.exam_model.specs.Enrolments.{Enrolled, AreEnrolments, has_number}
 use Rattle.exam_model.specs.Fits.{Fits, PlaceExists}
@@ -44,16 +44,6 @@ use Rattle.exam_publish.proofs.SeatingLemmas.{length_pairs}
 
 -- ---- along a list whose elements may be missing
 
-pub length_filter_map : {X Y : Type 0} (f : X → Option Y) (xs : List X)
-    → length (filter_map f xs) ≤ length xs
-length_filter_map f [] = omega arith
-length_filter_map f (x ∷ xs) = grind (arith, common_steps, length_filter_map f xs)
-
-some_weaker : {X : Type 0} (P Q : X → Type 0) → ((x : X) → P x → Q x) → (o : Option X)
-    → IfSome o P → IfSome o Q
-some_weaker P Q h None k = tt
-some_weaker P Q h (Some x) k = h x k
-
 -- ---- entrants
 
 -- an entrant at the exam's place, whose kept row is their own and at that place
@@ -79,14 +69,11 @@ fair T old p at here =
     = λ row h. and_parts (is_pair row.student row.exam p) (is_one_place at (row_place row)) h in
     record {
       at_exam = here;
-      pair = some_weaker (λ row. Contains old row × (is_row_at p at row ≡ true))
-          (λ row. row_pair row ≡ p) (λ row k. one_pair row p (parts row k.1).0)
-          (find (is_row_at p at) old) found;
-      place = some_weaker (λ row. Contains old row × (is_row_at p at row ≡ true))
-          (λ row. row_place row ≡ at) (λ row k. one_place at (row_place row) (parts row k.1).1)
-          (find (is_row_at p at) old) found;
-      from_old = some_weaker (λ row. Contains old row × (is_row_at p at row ≡ true)) (Contains old)
-          (λ row k. k.0) (find (is_row_at p at) old) found;
+      pair = IfSome_then (find (is_row_at p at) old) found
+          (λ row k. one_pair row p (parts row k.1).0);
+      place = IfSome_then (find (is_row_at p at) old) found
+          (λ row k. one_place at (row_place row) (parts row k.1).1);
+      from_old = IfSome_then (find (is_row_at p at) old) found (λ row k. k.0);
     }
 
 -- a fact about each pair's entrant holds for all entrants
@@ -325,12 +312,6 @@ from_within n f (xs ∷ rest) h =
     at_within n f xs (pairs_from (f + 1) rest) (omega arith)
     (from_within n (f + 1) rest (omega arith))
 
-turned : (a b : Bool) → ◌≡◌ {A = ℕ} (cond a (cond b 1 0) 0) (cond b (cond a 1 0) 0)
-turned true true = refl
-turned true false = refl
-turned false true = refl
-turned false false = refl
-
 loaded : (E : Enrolled) (T : Placing) (at : Place) → ArePairsOf E (pairs_of E)
     → count_by (sits_at T at) (pairs_of E) ≡ load_at E T at
 loaded E T at are =
@@ -347,7 +328,7 @@ loaded E T at are =
     (each_weaker (λ (p : Pair). p.exam < n)
     (λ (p : Pair). sum_below n (λ e. cond (t e) (cond (eqb p.exam e) 1 0) 0)
     ≡ cond (t p.exam) 1 0)
-    (λ p lt. sum_below-same _ _ (λ e. turned (t e) (eqb p.exam e)) n
+    (λ p lt. sum_below-same _ _ (λ e. cond_swap (t e) (eqb p.exam e)) n
     ∙ sum_below-at (λ e. cond (t e) 1 0) p.exam n
     ∙ cond-true (ltb p.exam n) (cond (t p.exam) 1 0) 0 (lt-ltb p.exam n lt))
     pairs (from_within n 0 E (omega arith))))
@@ -434,8 +415,8 @@ are_seats I E T old fits known permitted was =
     let kept : Has I (old_rows xs)
     = each_filter_map (HasSeat I) (λ (x : Entrant). x.kept) xs
     (each_weaker (IsFair T old) (λ (x : Entrant). IfSome x.kept (HasSeat I))
-    (λ x h. some_weaker (Contains old) (HasSeat I)
-    (λ row there. All-contains (HasSeat I) old row was.within there) x.kept h.from_old)
+    (λ x h. IfSome_then x.kept h.from_old
+    (λ row there. All-contains (HasSeat I) old row was.within there))
     xs fairs) in
     let seats : AllByRecursion
     (λ (x : Entrant). (n : ℕ) → 1 ≤ n → n ≤ load_at E T x.place

@@ -3,9 +3,8 @@ use Rattle.std.proofs.lemmas.Grind.{common_steps}
 use Rattle.std.specs.List.{AllByRecursion}
 use Rattle.std.specs.List.Sorted.{ties, IsSortedByKey, IsStableByKey}
 use Rattle.std.specs.Ordering.{is_lt, nat_cmp}
-use Rattle.std.proofs.Common.{◌≡◌, ℕ, zero, suc, ◌+◌, ◌<◌, ◌≤◌, inl, inr, Bool, true, false, cond, not, ◌&&◌, ◌||◌, eqb, List, [], ◌∷◌, ◌++◌, length, take, drop, map, get_or, AllPairs, IsPermutation, refl, sym, ◌∙◌, ap, ap₂, subst, arith, eqb-true, take-append-drop, append-nil}
+use Rattle.std.proofs.Common.{◌≡◌, ℕ, zero, suc, ◌+◌, ◌<◌, ◌≤◌, inl, inr, Bool, true, false, cond, ◌||◌, eqb, List, [], ◌∷◌, ◌++◌, length, take, drop, map, get_or, AllPairs, IsPermutation, refl, sym, ◌∙◌, ap, ap₂, subst, arith, eqb-true, take-append-drop, append-nil}
 use Rattle.std.proofs.lemmas.Bool.{cases_eq, eq-eqb, ne_eqb}
-use Rattle.std.proofs.lemmas.Bool.Decides.{nat_tests}
 use Rattle.std.proofs.lemmas.List.{get_or-take, get_or-drop, length-map, length-take, length-drop, append_assoc}
 use Rattle.std.proofs.lemmas.List.Elements.{filter-append, filter_agree, recursion_from_All}
 use Rattle.std.proofs.lemmas.List.Folds.{list_any-append}
@@ -13,6 +12,7 @@ use Rattle.std.proofs.lemmas.List.Sorted.{list_any-IsPermutation, IsNonDecreasin
 use Rattle.exam_lists.proofs.Chains.{IsChain, chain_from_index, chain_length}
 use Rattle.exam_lists.proofs.Each.{each_weaker, each_filter}
 use Rattle.exam_lists.proofs.Tests.{any_map}
+use Rattle.exam_lists.proofs.Orders.{neither_less}
 use Rattle.exam_model.specs.Changes.{with_student}
 use Rattle.exam_model.specs.Enrolments.{has_number}
 use Rattle.exam_model.specs.Instance.{Session}
@@ -29,9 +29,6 @@ use Rattle.exam_publish.proofs.ListLemmas.{has_ascending, ascends}
 use Rattle.exam_publish.proofs.PlaceLemmas.{rows_exist}
 
 -- ---- a stable sort by student
-
-tied : (s t : ℕ) → (not (is_lt (nat_cmp s t)) && not (is_lt (nat_cmp t s))) ≡ eqb t s
-tied s t = grind (arith, nat_tests)
 
 row_like : ℕ → SeatRow
 row_like s = record { student = s; exam = 0; period = 0; room = 0; seat = 0 }
@@ -50,10 +47,10 @@ are_sorted rows sorted moved up stable = record {
       IsNonDecreasingBy-from_sort (λ (row : SeatRow). row.student) sorted up i j d (omega arith) m;
   same = λ s. sym
       (filter_agree (ties (λ (x : SeatRow) y. is_lt (nat_cmp x.student y.student)) (row_like s))
-      (λ row. eqb row.student s) (λ row. tied s row.student) sorted)
+      (λ row. eqb row.student s) (λ row. neither_less s row.student) sorted)
       ∙ stable (row_like s)
       ∙ filter_agree (ties (λ (x : SeatRow) y. is_lt (nat_cmp x.student y.student)) (row_like s))
-      (λ row. eqb row.student s) (λ row. tied s row.student) rows;
+      (λ row. eqb row.student s) (λ row. neither_less s row.student) rows;
   students = same_list (students_of sorted) (students_of rows)
       (ascends (map (λ row. row.student) sorted)) (ascends (map (λ row. row.student) rows))
       (λ s. has_student_of sorted s

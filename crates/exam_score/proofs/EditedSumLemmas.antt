@@ -1,7 +1,7 @@
 -- Sums over the edited exams, with one more exam.
-use Rattle.std.proofs.Common.{◌≡◌, ◌&&◌, ℕ, ◌+◌, ◌≤◌, Bool, true, false, cond, not, eqb, ltb, ◌||◌, List, ◌∷◌, length, refl, sym, ◌∙◌, ap, add-zero, arith}
+use Rattle.std.proofs.Common.{◌≡◌, ◌&&◌, ℕ, ◌+◌, ◌≤◌, cond, not, eqb, ltb, List, ◌∷◌, length, sym, ◌∙◌, ap, add-zero, arith}
 use Rattle.std.proofs.lemmas.List.{nil_from_length}
-use Rattle.exam_lists.proofs.Booleans.{cond_le}
+use Rattle.exam_lists.proofs.Booleans.{cond_le, cond_and_not, cond_or}
 use Rattle.exam_model.specs.Enrolments.{has_number}
 use Rattle.exam_model.specs.Instance.{Session, IsInstance}
 use Rattle.exam_model.proofs.SumLemmas.{sum_below-same, sum_below-add, sum_below-at, sum_below-le, sum_below-zeros}
@@ -11,19 +11,6 @@ use Rattle.exam_score.specs.Touched.{sum_over_exams}
 use Rattle.exam_score.specs.Track.{exam_period, exam_room}
 use Rattle.exam_score.proofs.SmallLemmas.{period_small, room_small}
 
-one_term : (here among : Bool) (n : ℕ)
-    → cond (here || among) n 0 ≡ cond here (cond among 0 n) 0 + cond among n 0
-one_term true true n = omega arith
-one_term true false n = omega arith
-one_term false true n = omega arith
-one_term false false n = refl
-
-in_order : (exists among : Bool) (n : ℕ)
-    → cond exists (cond among 0 n) 0 ≡ cond (exists && not among) n 0
-in_order true true n = refl
-in_order true false n = refl
-in_order false among n = refl
-
 -- one more exam counts if it exists and is not among the others
 pub sum_more : (I : Session) (others : List ℕ) (g : ℕ → ℕ) (e : ℕ)
     → sum_over_exams I (e ∷ others) g
@@ -31,12 +18,12 @@ pub sum_more : (I : Session) (others : List ℕ) (g : ℕ → ℕ) (e : ℕ)
     + sum_over_exams I others g
 sum_more I others g e =
     let n = length I.exams in
-    sum_below-same _ _ (λ f. one_term (eqb e f) (has_number others f) (g f)) n
+    sum_below-same _ _ (λ f. cond_or (eqb e f) (has_number others f) (g f)) n
     ∙ sum_below-add (λ f. cond (eqb e f) (cond (has_number others f) 0 (g f)) 0)
     (λ f. cond (has_number others f) (g f) 0) n
     ∙ ap (λ k. k + sum_over_exams I others g)
     (sum_below-at (λ f. cond (has_number others f) 0 (g f)) e n
-    ∙ in_order (ltb e n) (has_number others e) (g e))
+    ∙ cond_and_not (ltb e n) (has_number others e) (g e))
 
 -- none is left
 pub sum_done : (I : Session) (total all : ℕ) (left : List ℕ) (g : ℕ → ℕ) → length left ≡ 0

@@ -1,5 +1,6 @@
 -- The mixed part of the periods and rooms that pass, with one more place.
 use Rattle.std.proofs.Common.{◌≡◌, ℕ, ◌+◌, ◌-◌, ◌*◌, Bool, true, false, cond, not, ◌&&◌, ◌||◌, eqb, ltb, List, ◌∷◌, length, Option, None, Some, refl, sym, ◌∙◌, ap, arith, add-zero}
+use Rattle.exam_lists.proofs.Booleans.{cond_and_and_not, cond_or_and, or_turned}
 use Rattle.exam_terms.specs.declared.place.Place.{Place}
 use Rattle.exam_model.specs.Instance.{Session}
 use Rattle.exam_model.specs.Sums.{sum_below}
@@ -37,26 +38,6 @@ sum_if false g n = sum_below-zeros n
 
 -- ---- one more place
 
-one_term : (passes at_period at_room : Bool) (n : ℕ)
-    → cond (passes || (at_period && at_room)) n 0
-    ≡ cond passes n 0 + cond at_room (cond at_period (cond passes 0 n) 0) 0
-one_term true true true n = sym (add-zero n)
-one_term true true false n = sym (add-zero n)
-one_term true false true n = sym (add-zero n)
-one_term true false false n = sym (add-zero n)
-one_term false true true n = omega arith
-one_term false true false n = refl
-one_term false false true n = refl
-one_term false false false n = refl
-
-in_order : (has_room has_period passes : Bool) (n : ℕ)
-    → cond has_room (cond has_period (cond passes 0 n) 0) 0
-    ≡ cond ((has_room && has_period) && not passes) n 0
-in_order true true true n = refl
-in_order true true false n = refl
-in_order true false passes n = refl
-in_order false has_period passes n = refl
-
 -- the sum grows by the place's share, if the place exists and did not pass
 one_place : (I : Session) (T : Placing) (f : ℕ → ℕ → Bool) (o : Option Place)
     → mixed_cost_if I T (or_at f o) ≡ mixed_cost_if I T f + further_mixed I T f o
@@ -72,7 +53,7 @@ one_place I T f (Some at) =
     (length I.rooms)
     ∙ ap (λ n. mixed_cost_if I T f + n)
     (sum_below-at of_period at.room (length I.rooms)
-    ∙ in_order (ltb at.room (length I.rooms)) (ltb at.period (length I.periods))
+    ∙ cond_and_and_not (ltb at.room (length I.rooms)) (ltb at.period (length I.periods))
     (f at.period at.room)
     (mixed I T at.period at.room))
   where
@@ -85,7 +66,7 @@ one_place I T f (Some at) =
     by_room : (r : ℕ) → room_mixed_cost_if I T (or_at f (Some at)) r
         ≡ room_mixed_cost_if I T f r + cond (eqb at.room r) (of_period r) 0
     by_room r =
-        sum_below-same _ _ (λ p. one_term (f p r) (eqb at.period p) (eqb at.room r) (mixed I T p r))
+        sum_below-same _ _ (λ p. cond_or_and (f p r) (eqb at.period p) (eqb at.room r) (mixed I T p r))
         (length I.periods)
         ∙ sum_below-add _ (λ p. cond (eqb at.room r) (cond (eqb at.period p) (term r p) 0) 0)
         (length I.periods)
@@ -116,15 +97,6 @@ beside I T f o at b is =
 
 -- ---- the two places of one more exam
 
-turned : (others earlier later : Bool) → ((others || earlier) || later)
-    ≡ ((earlier || later) || others)
-turned true true later = refl
-turned true false true = refl
-turned true false false = refl
-turned false true later = refl
-turned false false true = refl
-turned false false false = refl
-
 -- the earlier place, followed by the later one
 both_places : (I : Session) (T : Placing) (e : ℕ) (edited : List ℕ) (old new : Placing)
     → mixed_cost_if I T (is_touched edited old new)
@@ -137,7 +109,7 @@ both_places I T e edited old new =
     let second = one_place I T (or_at f (place_of old e)) (place_of new e) in
     let whole = mixed_same I T (or_at (or_at f (place_of old e)) (place_of new e))
     (is_touched (e ∷ edited) old new)
-    (λ p r. turned (f p r) (is_at p r (place_of old e)) (is_at p r (place_of new e))) in
+    (λ p r. or_turned (f p r) (is_at p r (place_of old e)) (is_at p r (place_of new e))) in
     omega arith
 
 -- the exam has no later place

@@ -10,7 +10,7 @@ use Rattle.std.proofs.lemmas.List.Elements.{recursion_from_All}
 use Rattle.std.proofs.lemmas.List.Sums.{sum_by-cons, sum_by_push}
 use Rattle.std.proofs.lemmas.Option.{get_or_from_slice_get}
 use Rattle.std.proofs.lemmas.List.Sorted.{sorted_far, ranks_by, sum_by-IsPermutation, All-permutation}
-use Rattle.exam_lists.proofs.Booleans.{cond_same}
+use Rattle.exam_lists.proofs.Booleans.{cond_same, and_false_middle}
 use Rattle.exam_lists.proofs.Chains.{IsChain, chain_from_index}
 use Rattle.exam_lists.proofs.Each.{each_weaker}
 use Rattle.exam_lists.proofs.Sums.{sum_by-none}
@@ -147,17 +147,13 @@ more_stays x xs periods rooms hp hr hm =
 
 -- ---- the next stay
 
-and-none : (c d : Bool) → ((c && false) && d) ≡ false
-and-none true d = refl
-and-none false d = refl
-
 -- a stay at another place, or of another duration
 elsewhere : (p r m : ℕ) (z : PlacedDuration) → (z.period ≡ p → z.room ≡ r → ⊥) → is_stay p r m z ≡ false
 elsewhere p r m z other = elim (cases_eq z.period p) as (λ _. is_stay p r m z ≡ false) [
   | inl here ↦ elim (cases_eq z.room r) as (λ _. is_stay p r m z ≡ false) [
     | inl there ↦ absurd (other here there)
     | inr there ↦ ap (λ b. ((z.period == p) && b) && (z.minutes == m)) (ne_eqb z.room r there)
-        ∙ and-none (z.period == p) (z.minutes == m)
+        ∙ and_false_middle (z.period == p) (z.minutes == m)
   ]
   | inr here ↦ ap (λ b. (b && (z.room == r)) && (z.minutes == m)) (ne_eqb z.period p here)
 ]

@@ -1,15 +1,15 @@
 -- The penalty by pairs of exams is the penalty by students.
 use Rattle.std.specs.List.{list_any, cons_option, AllByRecursion}
 use Rattle.std.specs.Prelude.{◌==◌}
-use Rattle.std.proofs.Common.{◌≡◌, ◌≢◌, ℕ, ◌+◌, ◌*◌, ◌<◌, ◌≤◌, Bool, true, false, cond, ◌&&◌, inl, inr, eqb, ltb, List, [], ◌∷◌, Option, Some, None, map, sum_by, filter, filter_map, count_by, length, refl, sym, ◌∙◌, ap, arith, zero-add, eqb-true, lt-ltb, le-ltb}
+use Rattle.std.proofs.Common.{◌≡◌, ◌≢◌, ℕ, ◌+◌, ◌*◌, ◌<◌, ◌≤◌, true, false, cond, ◌&&◌, inl, inr, eqb, ltb, List, [], ◌∷◌, Option, Some, None, map, sum_by, filter, filter_map, count_by, length, refl, sym, ◌∙◌, ap, arith, zero-add, eqb-true, lt-ltb, le-ltb}
 use Rattle.std.proofs.lemmas.List.Sums.{sum_by-cons}
 use Rattle.std.proofs.lemmas.List.Elements.{recursion_from_All}
 use Rattle.std.proofs.lemmas.Bool.{cond-true, cond-false, and_parts}
 use Rattle.std.proofs.lemmas.Bool.Decides.{nat_tests}
-use Rattle.exam_lists.proofs.Booleans.{cond_and_times, cond_same}
+use Rattle.exam_lists.proofs.Booleans.{cond_and_times, cond_and_turned}
 use Rattle.exam_lists.proofs.Chains.{IsChain, chain_from_index, chain_weaker}
 use Rattle.exam_lists.proofs.Each.{each_weaker}
-use Rattle.exam_lists.proofs.Sums.{cond-sum_by, sum_by-add, sum_by-agree, sum_by-once, sum_by-same, sum_by-times, sum_by-zeros}
+use Rattle.exam_lists.proofs.Sums.{cond-sum_by, sum_by-add, sum_by-agree, sum_by-once, sum_by-same, sum_by-times, sum_by-zeros, sum_by-at}
 use Rattle.exam_model.specs.Sums.{sum_below, sum_pairs_below, sum_pairs}
 use Rattle.exam_model.specs.Enrolments.{Enrolled, shared_students, students}
 use Rattle.exam_model.specs.PairCost.{cost_between}
@@ -68,16 +68,6 @@ shared_as_pairs w pairs e f order =
     (chain_weaker ComesBefore _ (λ a b. other_pair p.student f a b) pairs order))
     ∙ cond-sum_by (eqb p.exam e) (λ q. cond (is_pair p.student f q) w 0) pairs) pairs
 
-turn_tests : (a b c : Bool) (n : ℕ) → cond c (cond (a && b) n 0) 0
-    ≡ cond b (cond c (cond a n 0) 0) 0
-turn_tests a b c n =
-    elim a as (λ a. cond c (cond (a && b) n 0) 0 ≡ cond b (cond c (cond a n 0) 0) 0) [
-      | true ↦ elim b as (λ b. cond c (cond b n 0) 0 ≡ cond b (cond c n 0) 0)
-          [ true ↦ refl | false ↦ cond_same c 0 ]
-      | false ↦ elim b as (λ b. ◌≡◌ {A = ℕ} (cond c 0 0) (cond b (cond c 0 0) 0))
-          [ true ↦ refl | false ↦ cond_same c 0 ]
-    ]
-
 -- two pairs: the one pair of exams that they have
 one_term : (w : ℕ → ℕ → ℕ) (n : ℕ) (p q : Pair) → q.exam < n
     → sum_pairs_below n (λ e f. cond (eqb p.exam e) (cond (is_pair p.student f q) (w e f) 0) 0)
@@ -85,7 +75,7 @@ one_term : (w : ℕ → ℕ → ℕ) (n : ℕ) (p q : Pair) → q.exam < n
 one_term w n p q within =
     sum_below-same _ _ (λ f.
     sum_below-at (λ e. cond (is_pair p.student f q) (w e f) 0) p.exam f
-    ∙ turn_tests (eqb q.student p.student) (eqb q.exam f) (ltb p.exam f) (w p.exam f)) n
+    ∙ cond_and_turned (eqb q.student p.student) (eqb q.exam f) (ltb p.exam f) (w p.exam f)) n
     ∙ sum_below-at
     (λ f. cond (ltb p.exam f) (cond (eqb q.student p.student) (w p.exam f) 0) 0) q.exam n
     ∙ cond-true (ltb q.exam n) (pair_cost w p q) 0 (lt-ltb q.exam n within)
@@ -134,24 +124,6 @@ by_rows w n pairs h =
     (chain_weaker ComesBefore _ (in_order_cost w) pairs h.in_order)
 
 -- ---- over the students
-
-same_test : (x s : ℕ) (K : ℕ → ℕ) → cond (eqb x s) (K s) 0 ≡ cond (eqb s x) (K x) 0
-same_test x s K =
-    let k : (a b k m : ℕ) → (a ≡ b → k ≡ m) → cond (eqb a b) m 0 ≡ cond (eqb b a) k 0 =
-    λ a b k m e. grind (arith, nat_tests) in
-    k x s (K x) (K s) (λ e. ap K e)
-
-other_number : (x s t : ℕ) → s ≢ t → eqb s x ≡ true → eqb t x ≡ false
-other_number x s t ne e = grind (arith, nat_tests)
-
--- one student's term
-sum_by-at : (x : ℕ) (K : ℕ → ℕ) (students : List ℕ) → IsChain (λ s t. s ≢ t) students
-    → list_any (λ s. eqb s x) students ≡ true → sum_by (λ s. cond (eqb x s) (K s) 0) students ≡ K x
-sum_by-at x K students once there =
-    sum_by-same _ _ (λ s. same_test x s K) students
-    ∙ sym (sum_by-once (λ s. eqb s x) (K x) students
-    (chain_weaker (λ s t. s ≢ t) _ (other_number x) students once))
-    ∙ cond-true (list_any (λ s. eqb s x) students) (K x) 0 there
 
 pub sum_by-exams_of : (k : ℕ → ℕ) (pairs : List Pair) (s : ℕ)
     → sum_by k (exams_of pairs s) ≡ sum_by (λ q. cond (eqb q.student s) (k q.exam) 0) pairs

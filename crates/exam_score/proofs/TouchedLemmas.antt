@@ -4,7 +4,7 @@ use Rattle.std.specs.Prelude.{slice_get, nat_lt}
 use Rattle.std.specs.List.{AllByRecursion}
 use Rattle.std.proofs.lemmas.List.Elements.{recursion_from_All}
 use Rattle.std.proofs.lemmas.Bool.Decides.{nat_tests}
-use Rattle.std.proofs.lemmas.List.{get_or-set_same, get_or-set_other}
+use Rattle.exam_lists.proofs.Searches.{get_or_set_true}
 use Rattle.exam_model.specs.Instance.{Session, IsInstance}
 use Rattle.exam_model.specs.Limits.{ExamInLimits}
 use Rattle.exam_model.specs.declared.parts.Exam.{Exam}
@@ -108,22 +108,6 @@ durations_none I T p r = none duration_count
 
 -- ---- the durations that are marked
 
--- one more duration is marked
-marked_step : (before : List Bool) (k m n : ℕ) → k < length before
-    → get_or before m false ≡ nat_lt 0 n
-    → get_or (set before k true) m false ≡ nat_lt 0 (n + cond (eqb k m) 1 0)
-marked_step before k m n lt known = go (eqb k m) refl
-  where
-    go : (b : Bool) → eqb k m ≡ b → get_or (set before k true) m false ≡ nat_lt 0 (n + cond b 1 0)
-    go true e =
-        let same : k ≡ m = grind (arith, nat_tests) in
-        let some : nat_lt 0 (n + 1) ≡ true = grind (arith, nat_tests) in
-        ap (λ j. get_or (set before k true) j false) (sym same)
-        ∙ get_or-set_same before k true false lt ∙ sym some
-    go false e =
-        let other : m ≢ k = grind (arith, nat_tests) in
-        get_or-set_other before k m true false other ∙ known ∙ ap (nat_lt 0) (sym (add-zero n))
-
 -- an exam that is placed here marks its duration
 pub marked_here : (I : Session) (T : Placing) (p r e m : ℕ) (before : List Bool)
     → minutes_of (slice_get I.exams e) < length before → is_at p r (place_of T e) ≡ true
@@ -131,7 +115,7 @@ pub marked_here : (I : Session) (T : Placing) (p r e m : ℕ) (before : List Boo
     → get_or (set before (minutes_of (slice_get I.exams e)) true) m false
     ≡ nat_lt 0 (count_below (e + 1) (has_duration I T p r m))
 marked_here I T p r e m before lt here known =
-    marked_step before (minutes_of (slice_get I.exams e)) m
+    get_or_set_true before (minutes_of (slice_get I.exams e)) m
     (count_below e (has_duration I T p r m)) lt known
     ∙ ap (λ b. nat_lt 0
     (count_below e (has_duration I T p r m)

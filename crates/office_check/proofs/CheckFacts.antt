@@ -1,7 +1,6 @@
 -- Facts about a run from its parts.
-use Rattle.std.proofs.Common.{◌≡◌, ◌≤◌, ◌∙◌, ℕ, ◌⊎◌, List, length, [], ◌∷◌, Option, Some, None, IfSome}
+use Rattle.std.proofs.Common.{◌≡◌, ℕ, ◌⊎◌, List, [], ◌∷◌, Option, Some, None, IfSome}
 use Rattle.std.proofs.Common.{inl, inr, refl, sym, subst}
-use Rattle.std.specs.Io.KnownBytes.{Appends}
 use Rattle.exam_model.specs.Enrolments.{Enrolled}
 use Rattle.exam_model.specs.Instance.{Session}
 use Rattle.exam_model.specs.Timetable.{Placing}
@@ -71,12 +70,6 @@ read_from a b I enrolled placing one some_one two some_two =
       of_second = second.1;
       read = record { session = first.2; timetable = second.2 };
     }
-
--- a fact about the whole text that was read holds for the input
-pub of_input : (P : List ℕ → Type 0) (a : Option (List ℕ)) (text read : List ℕ)
-    → IfSome a (λ input. input ≡ text) → read ≡ text → P read → IfSome a P
-of_input P None text read same is holds = tt
-of_input P (Some input) text read same is holds = subst P (is ∙ sym same) holds
 
 -- a fault of the solution comes after the instance is read
 pub solution_refused : (a b : Option (List ℕ)) (I : Session) (enrolled : Enrolled)

@@ -1,7 +1,8 @@
 -- Facts about a comparison from its parts.
-use Rattle.std.proofs.Common.{◌≡◌, ◌∙◌, ◌++◌, [], Bool, Contains, ℕ, IfSome, List, None, Option, Some, ap, ap₂, append_assoc, codes, filter, length, not, subst, sym}
+use Rattle.std.proofs.Common.{◌≡◌, ◌∙◌, ◌++◌, [], Bool, Contains, ℕ, IfSome, List, None, Option, Some, ap, ap₂, codes, filter, length, not, subst, sym}
 use Rattle.std.specs.Prelude.{IsTrue, ◌↔◌}
 use Rattle.std.specs.Io.KnownBytes.{Appends}
+use Rattle.exam_lists.proofs.Appended.{appended, appended_twice}
 use Rattle.exam_model.specs.Enrolments.{Enrolled}
 use Rattle.exam_model.specs.Instance.{Session}
 use Rattle.exam_model.specs.Timetable.{Placing}
@@ -135,14 +136,6 @@ pub line_told : (name t u : List ℕ) (n m x y : ℕ) → u ≡ t ++ numbers_lin
 line_told name t u n m x y added one other =
     added ∙ ap₂ (λ k l. t ++ numbers_line name k l) one other
 
--- nine texts, one after another
-pub nine : (s t1 t2 t3 t4 t5 t6 t7 t8 t9 l1 l2 l3 l4 l5 l6 l7 l8 l9 : List ℕ) → t1 ≡ s ++ l1
-    → t2 ≡ t1 ++ l2 → t3 ≡ t2 ++ l3 → t4 ≡ t3 ++ l4 → t5 ≡ t4 ++ l5 → t6 ≡ t5 ++ l6
-    → t7 ≡ t6 ++ l7 → t8 ≡ t7 ++ l8 → t9 ≡ t8 ++ l9
-    → t9 ≡ s ++ (l1 ++ l2 ++ l3 ++ l4 ++ l5 ++ l6 ++ l7 ++ l8 ++ l9)
-nine s t1 t2 t3 t4 t5 t6 t7 t8 t9 l1 l2 l3 l4 l5 l6 l7 l8 l9 e1 e2 e3 e4 e5 e6 e7 e8 e9 =
-    rw (e9, e8, e7, e6, e5, e4, e3, e2, e1) (simp append_assoc)
-
 -- the breaches that only the second timetable has
 pub gained_is : (I : Session) (E : Enrolled) (A B : Placing) (items olds news found : List Breach)
     → ((b : Breach) → (Contains items b ↔ IsTrue (is_breach I E A b))) → olds ≡ items
@@ -155,25 +148,15 @@ gained_is I E A B items olds news found members same listed are =
     (subst (λ bs. (b : Breach) → (Contains bs b ↔ IsTrue (is_breach I E A b))) (sym same) members)
     ∙ ap (λ bs. filter (λ b. not (is_breach I E A b)) bs) listed
 
--- two reports, each after a word
-reports : (t u v w x a b m n : List ℕ) → u ≡ t ++ a → v ≡ u ++ m → w ≡ v ++ b → x ≡ w ++ n
-    → x ≡ t ++ (a ++ m ++ b ++ n)
-reports t u v w x a b m n one two three four = rw (four, three, two, one) (simp append_assoc)
-
 -- the breaches gained, and then those lost
 pub breaches_told : (gains losses some others : List Breach) (t u v w x m n : List ℕ)
     → u ≡ t ++ codes "gained " → v ≡ u ++ m → w ≡ v ++ codes "lost " → x ≡ w ++ n
     → m ≡ violation_text some → some ≡ gains → n ≡ violation_text others → others ≡ losses
     → x ≡ t ++ breaches_text gains losses
 breaches_told gains losses some others t u v w x m n one two three four first same second other =
-    reports t u v w x (codes "gained ") (codes "lost ") (violation_text some)
-    (violation_text others) one (two ∙ ap (λ l. u ++ l) first) three (four ∙ ap (λ l. w ++ l) second)
+    appended_twice t _ _ (appended_twice t _ _ (appended_twice t _ _ one (two ∙ ap (λ l. u ++ l) first)) three)
+    (four ∙ ap (λ l. w ++ l) second)
     ∙ ap₂ (λ g l. t ++ breaches_text g l) same other
-
--- four texts, one after another
-texts : (t u v w m n p q : List ℕ) → t ≡ [] → u ≡ t ++ m ++ n → v ≡ u ++ p → w ≡ v ++ q
-    → w ≡ m ++ n ++ p ++ q
-texts t u v w m n p q none one two three = rw (three, two, one, none) (simp append_assoc)
 
 -- all that differs
 pub comparison_told : (I : Session) (E : Enrolled) (A B : Placing) (p q : Penalty)
@@ -183,7 +166,6 @@ pub comparison_told : (I : Session) (E : Enrolled) (A B : Placing) (p q : Penalt
     → w ≡ v ++ breaches_text (gained I E A B) (gained I E B A)
     → w ≡ comparison_text I E A B
 comparison_told I E A B p q t u v w none one before after two three =
-    texts t u v w (moves_text (moves A B))
-    (number_line (codes "candidates") (length (candidates_of E (moves A B))))
-    (parts_text (track I E A) (track I E B)) (breaches_text (gained I E A B) (gained I E B A)) none one
-    (two ∙ ap₂ (λ x y. u ++ parts_text x y) before after) three
+    appended _
+    (appended _ (appended _ (ap (λ l. l ++ moves_text (moves A B)) none) one)
+    (two ∙ ap₂ (λ x y. u ++ parts_text x y) before after)) three

@@ -1,15 +1,16 @@
 -- The canonical text of an instance is a text of it.
 use Rattle.std.proofs.Common.{◌≡◌, ℕ, zero, suc, ◌+◌, ◌*◌, ◌<◌, ◌≤◌, ◌/◌, false, List, [], ◌∷◌, ◌++◌, length}
-use Rattle.std.proofs.Common.{Ok, eqb, refl, sym, ap, subst, ◌∙◌, arith, append-nil, length-append}
+use Rattle.std.proofs.Common.{Ok, eqb, refl, sym, ap, subst, ◌∙◌, arith, length-append}
 use Rattle.std.specs.Prelude.{map, decimal, codes, All, nat_lt, not, ◌==◌}
 use Rattle.std.specs.List.{flat_map, AllByRecursion}
 use Rattle.std.proofs.lemmas.Bool.{eq-eqb, lt-ltb, ne_eqb, or_left, or_right}
-use Rattle.std.proofs.lemmas.List.{append_assoc}
 use Rattle.std.proofs.lemmas.List.Concat.{flat_map-cons}
 use Rattle.std.proofs.lemmas.List.Elements.{All-head, All-tail}
 use Rattle.std.proofs.lemmas.List.Sums.{sum_by-cons, sum_by_push}
 use Rattle.exam_lists.proofs.Each.{each_from_All}
 use Rattle.exam_lists.proofs.Maps.{length_flat_map-le}
+use Rattle.exam_lists.proofs.Appended.{length_six, six_nested}
+use Rattle.exam_lists.proofs.Tests.{all_apart}
 use Rattle.exam_model.specs.Enrolments.{Enrolled, AreEnrolments, AreNumbers, IsAscending, has_number, students, pair_count}
 use Rattle.exam_model.specs.Instance.{Session, IsInstance, PeriodRuleExists, RoomRuleExists}
 use Rattle.exam_calendar.proofs.DateLemmas.{date_ranges}
@@ -39,7 +40,7 @@ use Rattle.office_files.specs.Weights.{with_weightings, no_weights}
 use Rattle.office_files.specs.declared.counts.Counts.{Counts}
 use Rattle.office_files.proofs.CanonicalItems.{exam_fields, exam_written, exam_back, period_fields, period_written, period_back, room_fields, room_written, room_back}
 use Rattle.office_files.proofs.CanonicalItems.{period_rule_fields, period_rule_written, period_rule_back, room_rule_fields, room_rule_written, room_rule_back, weighting_fields, weightings_written, weightings_back}
-use Rattle.office_files.proofs.CanonicalLines.{apart, IsLine, AreRead, rows, decimal_first, length_decimal}
+use Rattle.office_files.proofs.CanonicalLines.{IsLine, AreRead, rows, decimal_first, length_decimal}
 use Rattle.office_files.proofs.CanonicalSections.{IsWord, IsWritten, counted_said, plain_said, counted_field, plain_field, counted_short, plain_short, section_written, section_short, reads_within, at_section}
 use Rattle.office_files.proofs.CanonicalSteps.{length_lines}
 use Rattle.office_files.proofs.InstanceLaws.{text_is_read}
@@ -49,8 +50,8 @@ use Rattle.office_files.proofs.InstanceLaws.{text_is_read}
 is_exams : IsWord (codes "Exams")
 is_exams = record {
   field = record { some = omega arith; plain = refl };
-  colon = apart (λ b. nat_lt 58 b) 58 refl (codes "Exams") refl;
-  bracket = apart (λ b. not (b == 93)) 93 refl (codes "Exams") refl;
+  colon = all_apart (λ b. nat_lt 58 b) 58 refl (codes "Exams") refl;
+  bracket = all_apart (λ b. not (b == 93)) 93 refl (codes "Exams") refl;
   same = refl;
   short = omega arith;
 }
@@ -58,8 +59,8 @@ is_exams = record {
 is_periods : IsWord (codes "Periods")
 is_periods = record {
   field = record { some = omega arith; plain = refl };
-  colon = apart (λ b. nat_lt 58 b) 58 refl (codes "Periods") refl;
-  bracket = apart (λ b. not (b == 93)) 93 refl (codes "Periods") refl;
+  colon = all_apart (λ b. nat_lt 58 b) 58 refl (codes "Periods") refl;
+  bracket = all_apart (λ b. not (b == 93)) 93 refl (codes "Periods") refl;
   same = refl;
   short = omega arith;
 }
@@ -67,8 +68,8 @@ is_periods = record {
 is_rooms : IsWord (codes "Rooms")
 is_rooms = record {
   field = record { some = omega arith; plain = refl };
-  colon = apart (λ b. nat_lt 58 b) 58 refl (codes "Rooms") refl;
-  bracket = apart (λ b. not (b == 93)) 93 refl (codes "Rooms") refl;
+  colon = all_apart (λ b. nat_lt 58 b) 58 refl (codes "Rooms") refl;
+  bracket = all_apart (λ b. not (b == 93)) 93 refl (codes "Rooms") refl;
   same = refl;
   short = omega arith;
 }
@@ -76,8 +77,8 @@ is_rooms = record {
 is_period_rules : IsWord (codes "PeriodHardConstraints")
 is_period_rules = record {
   field = record { some = omega arith; plain = refl };
-  colon = apart (λ b. nat_lt 58 b) 58 refl (codes "PeriodHardConstraints") refl;
-  bracket = apart (λ b. not (b == 93)) 93 refl (codes "PeriodHardConstraints") refl;
+  colon = all_apart (λ b. nat_lt 58 b) 58 refl (codes "PeriodHardConstraints") refl;
+  bracket = all_apart (λ b. not (b == 93)) 93 refl (codes "PeriodHardConstraints") refl;
   same = refl;
   short = omega arith;
 }
@@ -85,8 +86,8 @@ is_period_rules = record {
 is_room_rules : IsWord (codes "RoomHardConstraints")
 is_room_rules = record {
   field = record { some = omega arith; plain = refl };
-  colon = apart (λ b. nat_lt 58 b) 58 refl (codes "RoomHardConstraints") refl;
-  bracket = apart (λ b. not (b == 93)) 93 refl (codes "RoomHardConstraints") refl;
+  colon = all_apart (λ b. nat_lt 58 b) 58 refl (codes "RoomHardConstraints") refl;
+  bracket = all_apart (λ b. not (b == 93)) 93 refl (codes "RoomHardConstraints") refl;
   same = refl;
   short = omega arith;
 }
@@ -94,8 +95,8 @@ is_room_rules = record {
 is_weightings : IsWord (codes "InstitutionalWeightings")
 is_weightings = record {
   field = record { some = omega arith; plain = refl };
-  colon = apart (λ b. nat_lt 58 b) 58 refl (codes "InstitutionalWeightings") refl;
-  bracket = apart (λ b. not (b == 93)) 93 refl (codes "InstitutionalWeightings") refl;
+  colon = all_apart (λ b. nat_lt 58 b) 58 refl (codes "InstitutionalWeightings") refl;
+  bracket = all_apart (λ b. not (b == 93)) 93 refl (codes "InstitutionalWeightings") refl;
   same = refl;
   short = omega arith;
 }
@@ -417,21 +418,6 @@ weightings_short w is = (
 
 -- ---- the whole
 
-nested : (a b c d e f : List ℕ)
-    → a ++ b ++ c ++ d ++ e ++ f ≡ a ++ (b ++ (c ++ (d ++ (e ++ (f ++ [])))))
-nested a b c d e f = rw (append-nil f) (simp append_assoc)
-
-six_lengths : (a b c d e f : List ℕ) → length (a ++ b ++ c ++ d ++ e ++ f)
-    ≡ length a + length b + length c + length d + length e + length f
-six_lengths a b c d e f =
-    rw (
-      length-append (a ++ b ++ c ++ d ++ e) f,
-      length-append (a ++ b ++ c ++ d) e,
-      length-append (a ++ b ++ c) d,
-      length-append (a ++ b) c,
-      length-append a b,
-    ) refl
-
 numbers_each : (ss : List ℕ) → AreNumbers ss → AllByRecursion (λ s. s ≤ 999999999) ss
 numbers_each [] known = tt
 numbers_each (s ∷ ss) known = (
@@ -515,8 +501,8 @@ instance_spelled I E is kept fits =
     let a6 = section_written weightings_heading
     (weighting_line counts) weighting_text weighting_fields ws w6
     a5.0 a5.1 [] (λ line at. tt) in
-    let whole : canonical_instance I E ≡ s1 ++ t2 = nested s1 s2 s3 s4 s5 s6 in
-    let sizes = six_lengths s1 s2 s3 s4 s5 s6 in
+    let whole : canonical_instance I E ≡ s1 ++ t2 = six_nested s1 s2 s3 s4 s5 s6 in
+    let sizes = length_six s1 s2 s3 s4 s5 s6 in
     let l1 = exams_short es such in
     let l1' = length-append (line_of (header_text exams_heading (length es)))
     (flat_map (λ e. line_of (exam_text e)) es) in

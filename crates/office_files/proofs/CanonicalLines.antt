@@ -13,6 +13,7 @@ use Rattle.std.proofs.lemmas.List.Folds.{list_all-append}
 use Rattle.exam_lists.proofs.Each.{each_append}
 use Rattle.exam_lists.proofs.Digits.{is_digit}
 use Rattle.exam_lists.proofs.Parts.{length_append_some}
+use Rattle.exam_lists.proofs.Tests.{all_apart}
 use Rattle.office_files.specs.CanonicalLines.{line_of, field_before}
 use Rattle.exam_terms.specs.Texts.{is_blank, before_end, trim_start, trim_end, trimmed_text}
 use Rattle.office_files.specs.Fields.{ended_parts, fields_of}
@@ -35,14 +36,6 @@ plain_byte b = nat_lt 32 b && not (b == 44)
 pub record IsField (f : List ℕ) : Type 0 where
   pub some : 0 < length f
   pub plain : list_all plain_byte f ≡ true
-
--- bytes that pass a test are not one that fails it
-pub apart : (p : ℕ → Bool) (c : ℕ) → p c ≡ false → (xs : List ℕ) → list_all p xs ≡ true
-    → AllByRecursion (λ b. b ≢ c) xs
-apart p c fails [] e = tt
-apart p c fails (x ∷ xs) e =
-    let parts = and_parts (p x) (list_all p xs) e in
-    (λ same. true≢false (sym parts.0 ∙ ap p same ∙ fails), apart p c fails xs parts.1)
 
 no_blank : (b : ℕ) → plain_byte b ≡ true → is_blank b ≡ false
 no_blank b e =
@@ -109,7 +102,7 @@ field_single : (f : List ℕ) → IsField f → fields_of f ≡ f ∷ []
 field_single [] is = let some = is.some in absurd (omega arith)
 field_single (x ∷ xs) is =
     let f : List ℕ = x ∷ xs in
-    ap (map trimmed_text) (parts_single 44 x xs (apart plain_byte 44 refl f is.plain))
+    ap (map trimmed_text) (parts_single 44 x xs (all_apart plain_byte 44 refl f is.plain))
     ∙ ap (λ (g : List ℕ). g ∷ []) (trimmed_plain f is)
   where
     trimmed_plain : (f : List ℕ) → IsField f → trimmed_text f ≡ f
@@ -121,7 +114,7 @@ field_single (x ∷ xs) is =
 pub line_single : (f : List ℕ) → IsField f → IsLine f (f ∷ [])
 line_single f is = record {
   some = is.some;
-  whole = apart plain_byte 10 refl f is.plain;
+  whole = all_apart plain_byte 10 refl f is.plain;
   starts = ap trim_start (sym (append-nil f)) ∙ start_plain f [] is ∙ append-nil f;
   ends = end_plain f is.plain;
   fields_are = field_single f is;
@@ -129,7 +122,7 @@ line_single f is = record {
 
 field_first : (f ys : List ℕ) → IsField f → fields_of (f ++ 44 ∷ ys) ≡ f ∷ fields_of ys
 field_first f ys is =
-    ap (map trimmed_text) (parts_stop 44 f ys (apart plain_byte 44 refl f is.plain))
+    ap (map trimmed_text) (parts_stop 44 f ys (all_apart plain_byte 44 refl f is.plain))
     ∙ ap (λ (g : List ℕ). g ∷ fields_of ys)
     (ap trim_end (ap trim_start (sym (append-nil f)) ∙ start_plain f [] is ∙ append-nil f)
     ∙ end_plain f is.plain)
@@ -139,7 +132,7 @@ pub line_comma : (f ys : List ℕ) (fields : List (List ℕ)) → IsField f → 
     → IsLine (f ++ 44 ∷ ys) (f ∷ fields)
 line_comma f ys fields is line = record {
   some = length_append_some f (44 ∷ ys) (omega arith);
-  whole = each_append (λ b. b ≢ 10) f (44 ∷ ys) (apart plain_byte 10 refl f is.plain)
+  whole = each_append (λ b. b ≢ 10) f (44 ∷ ys) (all_apart plain_byte 10 refl f is.plain)
       ((λ (same : 44 ≡ 10). absurd (omega arith)), line.whole);
   starts = start_plain f (44 ∷ ys) is;
   ends = end_after f (44 ∷ ys) (omega arith) (end_after (44 ∷ []) ys line.some line.ends);
@@ -151,7 +144,7 @@ pub line_before : (f ys : List ℕ) (fields : List (List ℕ)) → IsField f →
     → IsLine (field_before f ys) (f ∷ fields)
 line_before f ys fields is line = record {
   some = length_append_some f (44 ∷ 32 ∷ ys) (omega arith);
-  whole = each_append (λ b. b ≢ 10) f (44 ∷ 32 ∷ ys) (apart plain_byte 10 refl f is.plain) (
+  whole = each_append (λ b. b ≢ 10) f (44 ∷ 32 ∷ ys) (all_apart plain_byte 10 refl f is.plain) (
     (λ (same : 44 ≡ 10). absurd (omega arith)),
     (
       (λ (same : 32 ≡ 10). absurd (omega arith)),
@@ -218,7 +211,7 @@ number_decimal limit n le lt =
 pub decimal_apart : (c n : ℕ) → is_ascii_digit c ≡ false → n < 2000000000
     → AllByRecursion (λ b. b ≢ c) (decimal n)
 decimal_apart c n other lt =
-    apart is_ascii_digit c other (decimal n) (is_decimal n (small n lt)).digits
+    all_apart is_ascii_digit c other (decimal n) (is_decimal n (small n lt)).digits
 
 -- a line that begins with a decimal is no header
 pub decimal_first : (n : ℕ) (ys : List ℕ) → n < 2000000000 → is_header (decimal n ++ ys) ≡ false

@@ -1,11 +1,11 @@
 -- A section that is written is a section of the text.
 use Rattle.std.proofs.Common.{◌≡◌, ◌≢◌, ℕ, ◌+◌, ◌*◌, ◌<◌, ◌≤◌, true, false, List, [], ◌∷◌, ◌++◌, length}
-use Rattle.std.proofs.Common.{Result, Ok, refl, sym, ap, subst, ◌∙◌, arith, length-append}
+use Rattle.std.proofs.Common.{Result, Ok, refl, sym, ap, subst, ◌∙◌, append_assoc, arith, length-append}
 use Rattle.std.specs.Prelude.{map, decimal, All}
 use Rattle.std.specs.List.{flat_map, AllByRecursion}
 use Rattle.std.specs.Str.{str_eq_ignore_ascii_case}
 use Rattle.std.proofs.lemmas.Bool.{lt-ltb, eq-eqb}
-use Rattle.std.proofs.lemmas.List.{append_assoc, length-map}
+use Rattle.std.proofs.lemmas.List.{length-map}
 use Rattle.std.proofs.lemmas.List.Elements.{All-nil, All-cons, All-head, All-tail}
 use Rattle.std.proofs.lemmas.List.Folds.{list_all-append}
 use Rattle.exam_lists.proofs.Each.{each_append}
@@ -30,17 +30,13 @@ pub record IsWord (word : List ℕ) : Type 0 where
   pub same : str_eq_ignore_ascii_case word word ≡ true
   pub short : length word ≤ 30
 
-counted_split : (word ds : List ℕ) → word ++ 58 ∷ (ds ++ 93 ∷ []) ≡ (word ++ 58 ∷ ds) ++ 93 ∷ []
-counted_split [] ds = refl
-counted_split (b ∷ word) ds = ap (λ (xs : List ℕ). b ∷ xs) (counted_split word ds)
-
 pub counted_said : (word : List ℕ) (limit n : ℕ) → IsWord word → 1 ≤ n → n ≤ limit
     → limit < 2000000000
     → counted_header word limit n (91 ∷ (word ++ 58 ∷ (decimal n ++ 93 ∷ []))) ≡ Ok tt
 counted_said word limit n is some le fits =
     let digits = field_decimal n (omega arith) in
     rw (
-      counted_split word (decimal n),
+      sym (append_assoc word (58 ∷ decimal n) (93 ∷ [])),
       split_stop 93 (word ++ 58 ∷ decimal n) [] (each_append (λ b. b ≢ 93) word (58 ∷ decimal n) is.bracket
           ((λ same. absurd (omega arith)), decimal_apart 93 n refl (omega arith))),
       split_stop 58 word (decimal n) is.colon,

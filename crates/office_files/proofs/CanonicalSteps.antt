@@ -16,20 +16,6 @@ pub period_written : (t0 t1 t2 t3 t4 t5 d s a : List ℕ) → t1 ≡ t0 ++ d →
 period_written t0 t1 t2 t3 t4 t5 d s a e1 e2 e3 e4 e5 =
     rw (e5, e4, e3, e2, e1) (simp append_assoc)
 
--- six sections
-pub six_written : (t0 t1 t2 t3 t4 t5 t6 a b c d e f : List ℕ) → t0 ≡ [] → t1 ≡ t0 ++ a
-    → t2 ≡ t1 ++ b → t3 ≡ t2 ++ c → t4 ≡ t3 ++ d → t5 ≡ t4 ++ e → t6 ≡ t5 ++ f
-    → t6 ≡ a ++ b ++ c ++ d ++ e ++ f
-six_written t0 t1 t2 t3 t4 t5 t6 a b c d e f e0 e1 e2 e3 e4 e5 e6 =
-    rw (e6, e5, e4, e3, e2, e1, e0) refl
-
--- five lines after a header, followed by other lines
-pub five_written : (h t0 t1 t2 t3 t4 t5 t6 t7 a b c d e f : List ℕ) → t1 ≡ t0 ++ h → t2 ≡ t1 ++ a
-    → t3 ≡ t2 ++ b → t4 ≡ t3 ++ c → t5 ≡ t4 ++ d → t6 ≡ t5 ++ e → t7 ≡ t6 ++ f
-    → t7 ≡ t0 ++ (h ++ (a ++ (b ++ (c ++ (d ++ (e ++ f))))))
-five_written h t0 t1 t2 t3 t4 t5 t6 t7 a b c d e f e1 e2 e3 e4 e5 e6 e7 =
-    rw (e7, e6, e5, e4, e3, e2, e1) (simp append_assoc)
-
 -- the line of nights, if there is one
 pub night_line : (n : ℕ) → 0 < n
     → flat_map (λ s. line_of (weighting_text s)) (nights_of n) ≡ line_of (weighting_text (Night n))

@@ -1,8 +1,9 @@
 -- The tokens of a text come one after another.
-use Rattle.std.proofs.Common.{◌≡◌, ℕ, suc, ◌+◌, ◌-◌, ◌<◌, ◌≤◌, true, false, List, []}
+use Rattle.std.proofs.Common.{◌≡◌, ℕ, suc, ◌+◌, ◌≤◌, true, false, List, []}
 use Rattle.std.proofs.Common.{◌∷◌, ◌++◌, length, refl, arith, length-append}
 use Rattle.std.specs.Prelude.{◌==◌, if◌then◌else◌, map}
 use Rattle.std.specs.List.{onto_first, flat_map}
+use Rattle.exam_lists.proofs.Parts.{extent, extent_onto}
 use Rattle.exam_terms.specs.Texts.{trim_start, trim_end, trimmed_text}
 use Rattle.office_files.specs.Fields.{ended_parts}
 use Rattle.office_files.specs.Lines.{Piece, Located, pieces_from, without_return, inner_start, trimmed_piece}
@@ -20,19 +21,7 @@ joined : (low mid high : ℕ) (xs ys : List Located) → AreInRow low xs mid →
 joined low mid high [] ys a b = lower low mid high ys a b
 joined low mid high (x ∷ xs) ys a b = (a.0, a.1, joined x.end mid high xs ys a.2 b)
 
--- the length of these parts, each with the byte after it
-extent : List (List ℕ) → ℕ
-extent [] = 0
-extent (x ∷ xs) = length x + 1 + extent xs
-
-extent_onto : (b : ℕ) (xs : List (List ℕ)) (n : ℕ) → extent xs ≤ n + 1 → (xs ≡ [] → 0 ≤ n) →
-    extent (onto_first b xs) ≤ n + 2
-unfolding extent
-extent_onto b [] n le e = omega arith
-extent_onto b (x ∷ xs) n le e = omega arith
-
 extent-le : (c : ℕ) (bs : List ℕ) → extent (ended_parts c bs) ≤ length bs + 1
-unfolding extent
 extent-le c [] = omega arith
 extent-le c (b ∷ bs) =
     elim (b == c) as (λ v.
@@ -59,7 +48,6 @@ inner line p =
 
 fields_run : (line start high : ℕ) (xs : List (List ℕ)) → start + extent xs ≤ high + 1 →
     start ≤ high → AreInRow start (map (trimmed_piece line) (pieces_from start xs)) high
-unfolding extent
 fields_run line start high [] reach le = le
 fields_run line start high (x ∷ []) reach le =
     let i = inner line (record { start = start; text = x }) in
@@ -86,7 +74,6 @@ row_runs row e =
 
 rows_run : (line start high : ℕ) (xs : List (List ℕ)) → start + extent xs ≤ high →
     AreInRow start (flat_map tokens_in (lines_from line (pieces_from start xs))) high
-unfolding extent
 rows_run line start high [] reach = omega arith
 rows_run line start high (x ∷ xs) reach =
     let kept : Piece = record { start = start; text = without_return x } in

@@ -1,26 +1,16 @@
 -- Each piece of a text is at its recorded place in it.
-use Rattle.std.proofs.Common.{◌≡◌, ℕ, suc, ◌+◌, ◌-◌, ◌<◌, ◌≤◌, true, false, List, [], ◌∷◌, ◌++◌}
-use Rattle.std.proofs.Common.{length, drop, refl, ap, subst, sym, ◌∙◌, arith, append_assoc}
+use Rattle.std.proofs.Common.{◌≡◌, ℕ, suc, ◌+◌, ◌-◌, ◌≤◌, true, false, List, [], ◌∷◌, ◌++◌}
+use Rattle.std.proofs.Common.{length, drop, refl, ap, subst, sym, ◌∙◌, arith}
 use Rattle.std.proofs.Common.{length-append, length-drop, append-nil}
 use Rattle.std.specs.Prelude.{◌==◌, if◌then◌else◌, map}
 use Rattle.std.specs.List.{AllByRecursion, onto_first, flat_map}
 use Rattle.std.proofs.lemmas.List.{take-append-le, take_all}
-use Rattle.exam_lists.proofs.Parts.{drop_next}
+use Rattle.exam_lists.proofs.Parts.{drop_next, Lies, drop_within, lies_front, lies_next}
 use Rattle.exam_terms.specs.Texts.{is_blank, before_end, trim_start, trim_end, trimmed_text}
 use Rattle.office_files.specs.Fields.{ended_parts}
 use Rattle.office_files.specs.Lines.{Piece, Located, pieces_from, without_return, inner_start, trimmed_piece}
 use Rattle.office_files.specs.Lines.{lines_from, lines_of, is_header}
 use Rattle.office_files.specs.Tokens.{tokens_in, tokens_of, IsSliceOf}
-
--- the source has the text from this index on
-pub record Lies (source : List ℕ) (start : ℕ) (text : List ℕ) : Type 0 where
-  pub within : start ≤ length source
-  pub tail : List ℕ
-  pub here : drop start source ≡ text ++ tail
-
-some_within : (source : List ℕ) (at b : ℕ) (xs : List ℕ) → drop at source ≡ b ∷ xs →
-    at < length source
-some_within source at b xs e = let len = ap length e in omega (arith, length-drop at source)
 
 -- a text at this place is that slice
 pub lies_slice : (source : List ℕ) (line : ℕ) (start end : ℕ) (text : List ℕ) →
@@ -45,10 +35,10 @@ onto_lie : (source : List ℕ) (at b : ℕ) (bs tail : List ℕ) (parts : List (
     drop at source ≡ b ∷ (bs ++ tail) → AllLie source (pieces_from (at + 1) parts) →
     AllLie source (pieces_from at (onto_first b parts))
 onto_lie source at b bs tail [] e all =
-    let inside = some_within source at b (bs ++ tail) e in
+    let inside = drop_within source at b (bs ++ tail) e in
     (record { within = omega arith; tail = bs ++ tail; here = e }, tt)
 onto_lie source at b bs tail (x ∷ xs) e all =
-    let inside = some_within source at b (bs ++ tail) e in
+    let inside = drop_within source at b (bs ++ tail) e in
     let next = drop_next source at b (bs ++ tail) e in
     let same : at + 1 + length x + 1 ≡ at + suc (length x) + 1 = omega arith in (
       record {
@@ -64,7 +54,7 @@ pub parts_lie : (c : ℕ) (text : List ℕ) (source : List ℕ) (at : ℕ) (tail
     drop at source ≡ text ++ tail → AllLie source (pieces_from at (ended_parts c text))
 parts_lie c [] source at tail e = tt
 parts_lie c (b ∷ bs) source at tail e =
-    let inside = some_within source at b (bs ++ tail) e in
+    let inside = drop_within source at b (bs ++ tail) e in
     let next = drop_next source at b (bs ++ tail) e in
     let left = ended_parts c bs in
     elim (b == c) as (λ v. AllLie source (pieces_from at (if v then [] ∷ left else onto_first b left))) [
@@ -76,24 +66,6 @@ parts_lie c (b ∷ bs) source at tail e =
       | false ↦ onto_lie source at b bs tail (ended_parts c bs) e
           (parts_lie c bs source (at + 1) tail next)
     ]
-
-lies_front : (source : List ℕ) (start : ℕ) (text xs ys : List ℕ) → text ≡ xs ++ ys →
-    Lies source start text → Lies source start xs
-lies_front source start text xs ys e l = record {
-  within = l.within;
-  tail = ys ++ l.tail;
-  here = l.here ∙ ap (λ (t : List ℕ). t ++ l.tail) e ∙ append_assoc xs ys l.tail;
-}
-
-lies_next : (source : List ℕ) (start b : ℕ) (bs : List ℕ) → Lies source start (b ∷ bs) →
-    Lies source (start + 1) bs
-lies_next source start b bs l =
-    let inside = some_within source start b (bs ++ l.tail) l.here in
-    record {
-      within = omega arith;
-      tail = l.tail;
-      here = drop_next source start b (bs ++ l.tail) l.here;
-    }
 
 pub trim_start-le : (text : List ℕ) → length (trim_start text) ≤ length text
 trim_start-le [] = omega arith

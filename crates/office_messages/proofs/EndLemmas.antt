@@ -12,6 +12,7 @@ use Rattle.std.proofs.lemmas.List.{nil_from_length, take-take}
 use Rattle.std.proofs.lemmas.List.Elements.{All-cons, All-head, All-tail, All-append}
 use Rattle.std.proofs.lemmas.List.Elements.{All-weaker, All-from_recursion}
 use Rattle.exam_lists.proofs.Parts.{ends_with_append, ends_with_take, last_of, nil_no_append}
+use Rattle.exam_lists.proofs.Appended.{append_around, append_nested, append_under_first}
 use Rattle.httparse.specs.Ascii.{crlf_bytes}
 use Rattle.httparse.specs.Grammar.{LineEnd, crlf, lf, print_end, print_blank, Field, IsField}
 use Rattle.httparse.specs.Grammar.{print_field, print_section, print_version, is_value_byte, AllPass}
@@ -96,9 +97,6 @@ line_off (y ∷ ys) e t (x ∷ q) c a b r all not_lf not_cr is =
 
 -- ---- the lines of a head
 
-regroup_field : (n v e y z : List ℕ) → (((n ++ v) ++ e) ++ y) ++ z ≡ n ++ (((v ++ e) ++ y) ++ z)
-regroup_field n v e y z = simp append_assoc
-
 name_starts : (name rest : List ℕ) (b : LineEnd) (r : List ℕ) → IsToken name
     → name ++ rest ≡ print_end b ++ r → ⊥
 name_starts [] rest b r token is = omega (arith, token.0)
@@ -113,7 +111,7 @@ no_empty_field [] last b r all is =
     sym (one_line_end last b [] r (append-nil (print_end last) ∙ is))
 no_empty_field (f ∷ fields) last b r all is =
     absurd (name_starts f.name _ b r (All-head IsField f fields all).name
-    (sym (regroup_field f.name (58 ∷ f.raw) (print_end f.end) (flat_map print_field fields)
+    (sym (append_under_first f.name (58 ∷ f.raw) (print_end f.end) (flat_map print_field fields)
     (print_end last)) ∙ is))
 
 field_is_plain : (f : Field) → IsField f → All IsPlain (f.name ++ 58 ∷ f.raw)
@@ -122,9 +120,6 @@ field_is_plain f is =
     (All-weaker (λ b. IsTrue (is_token_byte b)) IsPlain token_is_plain f.name is.name.1)
     (All-cons IsPlain 58 f.raw (omega arith, omega arith)
     (All-weaker (λ b. IsTrue (is_value_byte b)) IsPlain value_is_plain f.raw is.raw))
-
-field_line : (line e y z : List ℕ) → line ++ (e ++ (y ++ z)) ≡ ((line ++ e) ++ y) ++ z
-field_line line e y z = simp append_assoc
 
 -- the end of the fields is the one end
 fields_end_once : (fields : List Field) (last : LineEnd) (q : List ℕ) (c : ℕ) (a b : LineEnd)
@@ -141,7 +136,7 @@ fields_end_once (f ∷ fields) last q c a b r all not_lf not_cr is =
     let rest = All-tail IsField f fields all in
     let e : (f.name ++ 58 ∷ f.raw) ++ (print_end f.end ++ (more ++ print_end last))
     ≡ q ++ c ∷ (print_end a ++ (print_end b ++ r)) =
-    field_line (f.name ++ 58 ∷ f.raw) (print_end f.end) more (print_end last) ∙ is in
+    append_nested (f.name ++ 58 ∷ f.raw) (print_end f.end) more (print_end last) ∙ is in
     elim (line_off (f.name ++ 58 ∷ f.raw) f.end (more ++ print_end last) q c a b r
     (field_is_plain f (All-head IsField f fields all)) not_lf not_cr e) [
       | inl h ↦ no_empty_field fields last b r rest h.1
@@ -160,11 +155,6 @@ after_blank (e ∷ blank) t q c a b r not_lf not_cr is =
       | inl h ↦ absurd (omega (arith, h.0))
       | inr h ↦ after_blank blank t h.0 c a b r not_lf not_cr h.1
     ]
-
-start_line : (b m t v e s : List ℕ)
-    → b ++ ((m ++ 32 ∷ (t ++ 32 ∷ v)) ++ (e ++ s))
-    ≡ ((((b ++ m) ++ 32 ∷ t) ++ 32 ∷ v) ++ e) ++ s
-start_line b m t v e s = simp (append_assoc, cons-append)
 
 version_is_plain : (minor : ℕ) → minor ≤ 1 → All IsPlain (print_version minor)
 version_is_plain minor small =
@@ -213,7 +203,7 @@ head_ends_once h q c a b r is not_lf not_cr e =
     let start = h.method ++ 32 ∷ (h.target ++ 32 ∷ print_version h.minor) in
     let after = after_blank h.blank (start ++ (print_end h.line_end ++ section)) q c a b r
     not_lf not_cr
-    (start_line (print_blank h.blank) h.method h.target (print_version h.minor)
+    (append_around 32 (print_blank h.blank) h.method h.target (print_version h.minor)
     (print_end h.line_end) section ∙ e) in
     elim (line_off start h.line_end section after.0 c a b r (start_is_plain h is) not_lf not_cr
     after.1) [

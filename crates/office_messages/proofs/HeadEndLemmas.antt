@@ -1,6 +1,6 @@
 -- A head ends with a line that isn't empty, and an empty one.
 use Rattle.std.proofs.Common.{◌≡◌, ◌≢◌, ℕ, ◌+◌, ◌-◌, ◌<◌, ◌≤◌, Bool, true, false, not, ◌&&◌, cond}
-use Rattle.std.proofs.Common.{List, [], ◌∷◌, ◌++◌, length, take, drop, Option, Some, None, flat_map}
+use Rattle.std.proofs.Common.{List, [], ◌∷◌, ◌++◌, length, take, Option, Some, None, flat_map}
 use Rattle.std.proofs.Common.{codes, refl, sym, ap, subst, ◌∙◌, append_assoc, append-nil, arith}
 use Rattle.std.proofs.Common.{length-append, length-take, inl, inr}
 use Rattle.std.specs.Prelude.{nat_eq, nat_lt, All, IsTrue, option_and_then}
@@ -10,9 +10,8 @@ use Rattle.std.proofs.lemmas.Bool.{both_ways, cases_lt, ne_eqb, lt-ltb}
 use Rattle.std.proofs.lemmas.Bool.Decides.{nat_tests}
 use Rattle.std.proofs.lemmas.List.Elements.{All-nil, All-head, All-tail}
 use Rattle.std.proofs.lemmas.List.{take-take}
-use Rattle.std.proofs.Math.Seq.{take-append_seam, drop-append_seam}
-use Rattle.exam_lists.proofs.Parts.{take_front}
-use lib.Pointwise.{pointwise}
+use Rattle.std.proofs.Math.Seq.{take-append_seam}
+use Rattle.exam_lists.proofs.Parts.{take_front, ends_with_same}
 use Rattle.httparse.specs.Ascii.{crlf_bytes}
 use Rattle.httparse.specs.Grammar.{LineEnd, crlf, lf, print_end, print_blank, Field, IsField}
 use Rattle.httparse.specs.Grammar.{print_field, is_value_byte, AllPass, RequestHead, IsRequestHead}
@@ -89,15 +88,6 @@ fields_end front (f ∷ fields) ends all =
     (fields_end (front ++ print_field f) fields (field_ends front f (All-head IsField f fields all))
     (All-tail IsField f fields all))
 
--- the end of a text is compared with as many bytes
-ends_of : (front p q : List ℕ) → length p ≡ length q
-    → ends_with nat_eq (front ++ q) p ≡ pointwise nat_eq p q
-ends_of front p q same =
-    let start : length (front ++ q) - length p ≡ length front =
-    omega (arith, length-append front q, same) in
-    ap (λ (k : ℕ). pointwise nat_eq p (drop k (front ++ q))) start
-    ∙ ap (pointwise nat_eq p) (drop-append_seam front q)
-
 -- which of the two line ends is there
 by_tests : (xs line : List ℕ) (both one : Bool) → ends_with nat_eq xs crlf_bytes ≡ both
     → ends_with nat_eq xs (10 ∷ []) ≡ one
@@ -115,16 +105,16 @@ line_of text last crlf no_cr =
     let line : List ℕ = text ++ last ∷ [] in
     let xs : List ℕ = line ++ 13 ∷ 10 ∷ [] in
     by_tests xs line true (ends_with nat_eq xs (10 ∷ []))
-    (ends_of line crlf_bytes (13 ∷ 10 ∷ []) refl) refl
+    (ends_with_same line crlf_bytes (13 ∷ 10 ∷ []) refl) refl
     (ap Some (take_front line (13 ∷ 10 ∷ []) 2 refl))
 line_of text last lf no_cr =
     let line : List ℕ = text ++ last ∷ [] in
     let xs : List ℕ = line ++ 10 ∷ [] in
     let differs : ends_with nat_eq xs crlf_bytes ≡ false =
     ap (λ (l : List ℕ). ends_with nat_eq l crlf_bytes) (append_assoc text (last ∷ []) (10 ∷ []))
-    ∙ ends_of text crlf_bytes (last ∷ 10 ∷ []) refl
+    ∙ ends_with_same text crlf_bytes (last ∷ 10 ∷ []) refl
     ∙ ap (λ (b : Bool). b && true) (ne_eqb 13 last (λ e. no_cr (sym e))) in
-    by_tests xs line false true differs (ends_of line (10 ∷ []) (10 ∷ []) refl)
+    by_tests xs line false true differs (ends_with_same line (10 ∷ []) (10 ∷ []) refl)
     (ap Some (take_front line (10 ∷ []) 1 refl))
 
 in_line : (text : List ℕ) (last : ℕ) → last ≢ 10 → ends_in_line (text ++ last ∷ []) ≡ true
@@ -132,7 +122,7 @@ in_line text last no_lf =
     let some : nat_lt 0 (length (text ++ last ∷ [])) ≡ true =
     lt-ltb 0 (length (text ++ last ∷ [])) (omega (arith, length-append text (last ∷ []))) in
     let other : ends_with nat_eq (text ++ last ∷ []) (10 ∷ []) ≡ false =
-    ends_of text (10 ∷ []) (last ∷ []) refl
+    ends_with_same text (10 ∷ []) (last ∷ []) refl
     ∙ ap (λ (b : Bool). b && true) (ne_eqb 10 last (λ e. no_lf (sym e))) in
     ap (λ (b : Bool). b && not (ends_with nat_eq (text ++ last ∷ []) (10 ∷ []))) some
     ∙ ap (λ (b : Bool). not b) other

@@ -1,6 +1,7 @@
 -- Runs that change one candidate in the same way leave them equal views.
 use Rattle.std.proofs.Common.{◌≡◌, ℕ, Bool, true, false, List, [], ◌∷◌, Some, None, refl, sym, subst, inl, inr, true≢false, if◌then◌else◌}
 use Rattle.std.specs.Prelude.{Result, Ok, Err, IfOk}
+use Rattle.exam_lists.proofs.Results.{IfOk_any}
 use Rattle.exam_model.specs.declared.change.Change.{Change}
 use Rattle.office_batches.specs.BatchText.{batch_in}
 use Rattle.office_policy.specs.Commands.{PlainCommand, load, publish, batch}
@@ -21,7 +22,7 @@ use Rattle.office_model.specs.declared.counts.Counts.{Counts}
 use Rattle.office_model.proofs.CommandLemmas.{Frames}
 use Rattle.office_model.proofs.FollowLemmas.{FollowsIn, batch_follows, follows_self, follows_both, follows_alike}
 use Rattle.office_model.proofs.SameLemmas.{same_self}
-use Rattle.office_model.proofs.StepLemmas.{KeepsRest, any_ok, framed_keeps, step_law}
+use Rattle.office_model.proofs.StepLemmas.{KeepsRest, framed_keeps, step_law}
 
 framed : (s : ℕ) (old : OfficeState) → Frames (FollowsIn s [] old) old
 framed s None = tt
@@ -75,11 +76,11 @@ stepped s old caller (batch number (Given bytes)) q =
 stepped s old caller (load (Given bytes)) q =
     none_new s old _ (is_batch (step old caller (load (Given bytes))).1)
     (plain s old caller (load (Given bytes))
-    (any_ok _ (load_session bytes old) (λ x k. absurd (true≢false k.no_load))) q)
+    (IfOk_any _ (load_session bytes old) (λ x k. absurd (true≢false k.no_load))) q)
 stepped s old caller (publish d) q =
     none_new s old _ (is_batch (step old caller (publish d)).1)
     (plain s old caller (publish d)
-    (any_ok _ (draft_published d old) (λ x k. absurd (true≢false k.no_publication))) q)
+    (IfOk_any _ (draft_published d old) (λ x k. absurd (true≢false k.no_publication))) q)
 stepped s old caller command q =
     none_new s old _ (is_batch (step old caller command).1) (plain s old caller command tt q)
 

@@ -1,6 +1,7 @@
 -- Quiet requests leave a view as it was.
 use Rattle.std.proofs.Common.{◌≡◌, ℕ, List, [], ◌∷◌, Some, None, refl, ◌∙◌, ap, subst, inl, inr, true≢false}
 use Rattle.std.specs.Prelude.{Ok, Err, IfOk}
+use Rattle.exam_lists.proofs.Results.{IfOk_any}
 use Rattle.office_batches.specs.BatchText.{batch_in}
 use Rattle.office_policy.specs.Commands.{PlainCommand, load, publish, batch}
 use Rattle.office_policy.specs.declared.callers.Caller.{Caller}
@@ -17,7 +18,7 @@ use Rattle.office_model.specs.Step.{Steps, step, Outcome}
 use Rattle.office_model.specs.Views.{view_of}
 use Rattle.office_model.specs.declared.counts.Counts.{Counts}
 use Rattle.office_model.proofs.CommandLemmas.{Frames, batch_keeps}
-use Rattle.office_model.proofs.StepLemmas.{KeepsRest, any_ok, framed_keeps, step_law}
+use Rattle.office_model.proofs.StepLemmas.{KeepsRest, framed_keeps, step_law}
 
 framed : (s : ℕ) (old : OfficeState) → Frames (λ new. view_of s new ≡ view_of s old) old
 framed s None = tt
@@ -26,9 +27,9 @@ framed s (Some r) = λ owners drafts. refl
 kept : (s : ℕ) (old : OfficeState) (command : PlainCommand)
     → KeepsRest (λ new. view_of s new ≡ view_of s old) (IsQuiet s old command) old command
 kept s old (load (Given bytes)) =
-    any_ok _ (load_session bytes old) (λ x q. absurd (true≢false q.keeps.no_load))
+    IfOk_any _ (load_session bytes old) (λ x q. absurd (true≢false q.keeps.no_load))
 kept s old (publish d) =
-    any_ok _ (draft_published d old) (λ x q. absurd (true≢false q.keeps.no_publication))
+    IfOk_any _ (draft_published d old) (λ x q. absurd (true≢false q.keeps.no_publication))
 kept s old (batch number (Given bytes)) =
     go (batch_enrolled number bytes old) (λ h. batch_keeps s number bytes old h)
   where

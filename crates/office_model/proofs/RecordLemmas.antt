@@ -5,6 +5,7 @@ use Rattle.std.proofs.lemmas.Bool.{cases_lt, ltb-true, and_parts}
 use Rattle.std.proofs.lemmas.Bool.Decides.{nat_tests}
 use Rattle.std.proofs.lemmas.List.{get_or_past, length-set}
 use Rattle.std.proofs.lemmas.List.Elements.{All-get_or, All-set}
+use Rattle.std.proofs.lemmas.Option.{same_Some}
 use Rattle.exam_terms.specs.Refusing.{unless}
 use Rattle.exam_terms.specs.declared.place.Place.{Place}
 use Rattle.exam_model.specs.Enrolments.{Enrolled, AreEnrolments}
@@ -28,9 +29,6 @@ use Rattle.office_files.proofs.ReadingLaws.{bind_ok, unless_ok}
 use Rattle.office_model.specs.Loading.{new_records}
 use Rattle.office_model.specs.Office.{AreEnrolled, AreRecords, IsPublication, Publication, Records, set_at}
 use Rattle.office_model.specs.Publishing.{published_as, publication_rows}
-
-some_is : {X : Type 0} {x y : X} → Some x ≡ Some y → x ≡ y
-some_is e = cc
 
 -- enrolments of the session's exams
 pub are_enrolled : (I : Session) (E : Enrolled) → AreEnrolments E → length E ≡ length I.exams
@@ -106,7 +104,7 @@ made_records r d T low high fits h = record {
 
     fit : (n : ℕ) (S : Placing) (b : Bool) → cond b (Some T) (r.draft n) ≡ Some S
         → Fits r.session r.enrolments S
-    fit n S true e = subst (Fits r.session r.enrolments) (some_is e) fits
+    fit n S true e = subst (Fits r.session r.enrolments) (same_Some _ _ e) fits
     fit n S false e = h.drafts n S e
 
 pub left_records : (r : Records) (d : ℕ) → AreRecords r
@@ -178,7 +176,7 @@ module _ (r : Records) (T : Placing) (is : AreRecords r) (fits : Fits r.session 
     owned = is.owned;
     numbered = is.numbered;
     drafts = is.drafts;
-    publication = λ p e. subst (IsPublication r.session) (some_is e) is_publication;
+    publication = λ p e. subst (IsPublication r.session) (same_Some _ _ e) is_publication;
     batches = is.batches;
   }
 

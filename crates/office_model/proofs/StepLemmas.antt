@@ -26,10 +26,6 @@ use Rattle.office_model.proofs.CommandLemmas.{Frames, owned_frame, made_frame, d
 use Rattle.office_model.proofs.CommandLemmas.{edited_frame}
 use Rattle.office_model.proofs.ShownLemmas.{session_stays, draft_stays, in_session_stays, places_stay}
 
-pub any_ok : {A F : Type 0} (P : A → Type 0) (m : Result A F) → ((x : A) → P x) → IfOk m P
-any_ok P (Ok x) h = h x
-any_ok P (Err f) h = tt
-
 -- P stays true if the answer allows it
 outcome_law : {A : Type 0} (P : OfficeState → Type 0) (Q : PlainAnswer → Type 0)
     (to_answer : A → PlainAnswer) (old : OfficeState) (g : CommandResult A)

@@ -4,17 +4,9 @@ use Rattle.std.proofs.Common.{length, get_or, take, arith}
 use Rattle.std.specs.List.{list_all}
 use Rattle.std.specs.Char.{is_ascii_digit}
 use Rattle.std.specs.Str.Parse.{digits_value}
-use Rattle.std.proofs.Math.Nat.{pow-le-pow_right}
-use Rattle.std.proofs.lemmas.Int.Digits.{digits_value_more, digits_value-lt}
+use Rattle.std.proofs.lemmas.Int.Digits.{digits_value_more}
 use Rattle.std.proofs.lemmas.Str.Parse.{digits_value-take-le}
-use Rattle.exam_lists.proofs.Digits.{AllDigits-from_test, digit_at, value_of_digit}
-
--- nine digits write less than 10 ^ 9
-pub nine : (ds : List ℕ) → list_all is_ascii_digit ds ≡ true → length ds ≤ 9 →
-    digits_value 10 ds < 1000000000
-nine ds h short =
-    let bound = pow-le-pow_right {n = 10} (omega arith) short in
-    omega (arith, digits_value-lt 10 ds (AllDigits-from_test ds h), bound)
+use Rattle.exam_lists.proofs.Digits.{digit_at, value_of_digit, nine_digits}
 
 -- one more digit, and the number is still below 10 ^ 9
 pub record OneMore (ds : List ℕ) (i n : ℕ) : Type 0 where
@@ -28,13 +20,7 @@ one_more ds i n all few inside is =
     let value = value_of_digit (get_or ds i 0) (digit_at ds i all inside) in
     let more = digits_value_more 10 ds i inside in
     let most = digits_value-take-le 10 ds (i + 1) (omega arith) in
-    let all_small = nine ds all few in
+    let all_small = nine_digits ds all few in
     let sums : n * 10 + (get_or ds i 0 - 48) ≡ digits_value 10 (take (i + 1) ds) =
     omega (arith, value.2, more, is) in
     record { digit = value.0; same = sums; small = omega (arith, sums, most, all_small) }
-
--- the value of the first digits is below 10 ^ 9 too
-pub so_far : (ds : List ℕ) (i n : ℕ) → list_all is_ascii_digit ds ≡ true → length ds ≤ 9 →
-    n ≡ digits_value 10 (take i ds) → n ≤ 999999999
-so_far ds i n all few is =
-    omega (arith, nine ds all few, digits_value-take-le 10 ds i (omega arith))

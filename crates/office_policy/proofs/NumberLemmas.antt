@@ -6,8 +6,8 @@ use Rattle.std.specs.List.{list_all}
 use Rattle.std.specs.Char.{is_ascii_digit}
 use Rattle.std.specs.Str.Parse.{digits_value}
 use Rattle.std.proofs.lemmas.Bool.{leb-true}
+use Rattle.exam_lists.proofs.Digits.{nine_digits}
 use Rattle.office_policy.specs.Numbers.{IsSmall, number_of}
-use Rattle.office_policy.proofs.DigitLemmas.{nine}
 
 -- nine digits write a small number
 pub number_small : (text : List ℕ) → IfSome (number_of text) IsSmall
@@ -18,6 +18,6 @@ number_small (b ∷ bs) =
     go : (few all : Bool) → nat_le (length (b ∷ bs)) 9 ≡ few
         → list_all is_ascii_digit (b ∷ bs) ≡ all
         → IfSome (if few && all then Some (digits_value 10 (b ∷ bs)) else None) IsSmall
-    go true true e f = omega (arith, nine (b ∷ bs) f (leb-true (length (b ∷ bs)) 9 e))
+    go true true e f = omega (arith, nine_digits (b ∷ bs) f (leb-true (length (b ∷ bs)) 9 e))
     go true false e f = tt
     go false all e f = tt

@@ -35,12 +35,6 @@ pub no_office : {A : Type 0} (gives : CommandResult A) (fault : StoreFault)
 no_office gives fault P (inl is) there holds = rw is tt
 no_office gives fault P (inr none) there holds = absurd (none there holds)
 
--- two facts of the errors give a fact of an `Err`
-pub if_err : {A E : Type 0} (result : Result A E) (P Q T : E → Type 0)
-    → ((e : E) → P e → Q e → T e) → IfErr result P → IfErr result Q → IfErr result T
-if_err (Ok a) P Q T follows p q = tt
-if_err (Err e) P Q T follows p q = follows e p q
-
 -- a fact that holds if the office refuses
 pub if_refused : {P T : Type 0} (fault : LoadFault) → (P → T) → IfRefused P fault
     → IfRefused T fault

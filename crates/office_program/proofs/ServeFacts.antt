@@ -2,9 +2,9 @@
 use Rattle.std.proofs.Common.{◌≡◌, ◌≢◌, ◌⊎◌, ◌∙◌, ℕ, Bool, true, false, List, [], Option}
 use Rattle.std.proofs.Common.{Some, Result, Ok, Err, IfErr, IfOk, IsTrue, arith, inl, inr, refl, subst, sym}
 use Rattle.std.proofs.lemmas.List.Elements.{All-nil}
-use Rattle.std.specs.Prelude.{MatchBool}
 use Rattle.std.specs.Io.KnownBytes.{Appends, Keeps}
 use Rattle.std.proofs.KnownBytes.{Appends-nil}
+use Rattle.exam_lists.proofs.Booleans.{MatchBool_true}
 use Rattle.sqlite.specs.Held.{Held, state}
 use Rattle.sqlite.specs.Store.{Ghosts}
 use Rattle.sqlite.proofs.StateLemmas.{survives_then}
@@ -36,11 +36,6 @@ use Rattle.office_program.specs.declared.ending.Ending.{Ending}
 use Rattle.office_program.specs.declared.faults.ProgramFault.{ProgramFault}
 use Rattle.office_program.specs.declared.faults.ProgramFault.TheVariants.{CannotListen, CannotWrite}
 use Rattle.office_program.specs.declared.words.Terms.{Terms}
-
--- the case of a bool that is true
-pub if_so : (b : Bool) → IsTrue b → (P Q : Type 0) → MatchBool b P Q → P
-if_so true so P Q h = h
-if_so false so P Q h = absurd cc
 
 -- an office that served no client
 pub nobody_served : (office : OfficeState) → ServesAllByView [] office office
@@ -187,7 +182,7 @@ module _ {S : Type 0} (store : Ghosts S) where
       → SaysWhetherShut store old said new → b ≡ is_said_shut said → IsTrue b
       → IsStoreShut store new
   said_right old new (Ok is_shut) b x is shut clean =
-      if_so is_shut (sym is ∙ shut) _ _ (x.right clean)
+      MatchBool_true is_shut (sym is ∙ shut) _ _ (x.right clean)
   said_right old new (Err fault) b x is shut clean =
       let never : true ≡ false = sym shut ∙ is in absurd cc
 

@@ -1,5 +1,5 @@
 -- Texts of standard input and of files.
-use Rattle.std.proofs.Common.{◌≡◌, Bool, List, None, Option, Some, IfSome, ap, false, refl, subst, sym, ◌∙◌, true, ℕ, Err, Ok, Result}
+use Rattle.std.proofs.Common.{◌≡◌, Bool, List, None, Option, Some, IfSome, ap, false, refl, subst, sym, ◌∙◌, true, ℕ, Ok, Result}
 use Rattle.std.specs.Prelude.{◌≤◌, IfOk, if◌then◌else◌, length, option_map}
 use Rattle.exam_model.specs.Enrolments.{Enrolled}
 use Rattle.exam_model.specs.Instance.{Session}
@@ -63,12 +63,6 @@ pub some_text : (known : Known) (left : Option (List ℕ)) → IsReaderOf known 
 some_text known None reads P each some = (some.0, read_text known None reads some.0 tt, some.1)
 some_text known (Some xs) reads P each some = (xs, read_text known (Some xs) reads xs refl, each)
 
--- two facts of the values give a fact of an `Ok`
-pub if_ok_both : {A E : Type 0} (result : Result A E) (P Q T : A → Type 0)
-    → ((a : A) → P a → Q a → T a) → IfOk result P → IfOk result Q → IfOk result T
-if_ok_both (Ok a) P Q T follows p q = follows a p q
-if_ok_both (Err e) P Q T follows p q = tt
-
 -- the text of a reader is one of its file
 pub own_text : (known : Known) (left : Option (List ℕ)) → IsReaderOf known left
     → (text : List ℕ) → IsTextOf (option_map Some left) text → IsTextOf known text
@@ -100,11 +94,6 @@ line_less I E form path a b line less of = record {
   breach = of.breach;
 }
 
--- a watched reader that hasn't failed has left what its reader has
-watched : (has_failed : Bool) (left : Option (List ℕ)) → has_failed ≡ false
-    → (if has_failed then None else left) ≡ left
-watched has_failed left is = ap (λ (b : Bool). if b then None else left) is
-
 -- ---- two readers
 
 -- what holds of texts of watched readers that haven't failed holds of those of their readers
@@ -112,8 +101,9 @@ pub of_watched : (one two left right : Option (List ℕ)) (a b : Bool)
     (P : Session → Enrolled → Placing → Type 0) → a ≡ false → b ≡ false → left ≡ one → right ≡ two
     → OfInputs (if a then None else left) (if b then None else right) P → OfInputs one two P
 of_watched one two left right a b P a_is b_is first second of =
-    subst (λ o. OfInputs one o P) (watched b right b_is ∙ second)
-    (subst (λ o. OfInputs o (if b then None else right) P) (watched a left a_is ∙ first) of)
+    subst (λ o. OfInputs one o P) (ap (λ (t : Bool). if t then None else right) b_is ∙ second)
+    (subst (λ o. OfInputs o (if b then None else right) P)
+    (ap (λ (t : Bool). if t then None else left) a_is ∙ first) of)
 
 -- what holds of texts of the readers holds of texts of their files
 pub of_files : (first second : Known) (one two : Option (List ℕ)) → IsReaderOf first one

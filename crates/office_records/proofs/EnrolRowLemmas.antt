@@ -1,6 +1,6 @@
 -- Rows of enrolments, one after another.
 use Rattle.std.proofs.lemmas.Grind.{common_steps}
-use Rattle.std.proofs.Common.{◌≡◌, ◌≢◌, ℕ, suc, ◌<◌, inl, inr, Bool, true, false, ◌&&◌, ◌||◌, eqb, Decides, List, [], ◌∷◌, ◌++◌, map, length, get_or, take, drop, refl, sym, ◌∙◌, ap, arith, subst}
+use Rattle.std.proofs.Common.{◌≡◌, ◌≢◌, ℕ, suc, ◌<◌, inl, inr, Bool, true, false, ◌&&◌, eqb, Decides, List, [], ◌∷◌, ◌++◌, map, length, get_or, take, drop, refl, sym, ◌∙◌, ap, arith, subst}
 use Rattle.std.specs.Prelude.{All, Contains}
 use Rattle.std.specs.List.{AllByRecursion, list_any}
 use Rattle.std.proofs.Math.Seq.{split_at}
@@ -13,6 +13,7 @@ use Rattle.exam_lists.proofs.Chains.{IsChain, chain_before, chain_from_index, ch
 use Rattle.exam_lists.proofs.Each.{each_weaker}
 use Rattle.exam_lists.proofs.Tests.{any_map}
 use Rattle.exam_lists.proofs.Reordered.{reordered}
+use Rattle.exam_lists.proofs.Permutations.{chain_permutation}
 use Rattle.sqlite_keyed.proofs.ListLemmas.{any_from_none}
 use Rattle.sqlite_trees.proofs.ListLemmas.{all-map, all-permutation}
 use Rattle.exam_model.specs.Enrolments.{Adds, Enrolled, AreEnrolments, has, pair_count}
@@ -23,7 +24,6 @@ use Rattle.office_tables.specs.declared.enrol.EnrolRow.{EnrolRow}
 use Rattle.office_records.specs.Found.{AreEnrolRows}
 use Rattle.office_records.specs.NextRow.{IsNewPair}
 use Rattle.office_records.specs.TableRows.{enrol_row}
-use Rattle.office_records.proofs.ListLemmas.{chain_moved}
 
 -- ---- a row among rows
 
@@ -78,12 +78,6 @@ pub record AreTaken (n : ℕ) (done : List EnrolRow) (E : Enrolled) : Type 0 whe
   pub pairs : pair_count E ≡ length done
   pub members : (s e : ℕ) → has E s e ≡ list_any (is_row s e) done
 
-or_flip : (a b : Bool) → (a || b) ≡ (b || (a || false))
-or_flip true true = refl
-or_flip true false = refl
-or_flip false true = refl
-or_flip false false = refl
-
 -- one more row
 pub taken_more : (n : ℕ) (done : List EnrolRow) (E F : Enrolled) (row : EnrolRow)
     → AreTaken n done E → IsNewPair E row → Adds E F row.student row.exam → AreEnrolments F
@@ -114,7 +108,7 @@ rows_taken I rows E taken = record {
 module _ (I : Session) (rows : List EnrolRow) (F : Enrolled) (are : AreEnrolRows I rows F) where
   apart : IsChain (λ x y. x ≢ y) rows
   apart =
-      chain_moved (λ (x y : EnrolRow). x ≢ y) (λ x y other same. other (sym same)) (rows_of F) rows
+      chain_permutation (λ (x y : EnrolRow). x ≢ y) (λ x y other same. other (sym same)) (rows_of F) rows
       (IsPermutation-sym rows (rows_of F) are.rows) (rows_apart F are.enrolled.set)
 
   each_exists : AllByRecursion (λ row. row.exam < length F) rows

@@ -1,6 +1,6 @@
 -- The publication found is the only one with these rows.
 use Rattle.std.proofs.lemmas.Grind.{common_steps}
-use Rattle.std.proofs.Common.{◌≡◌, Bool, true, false, List, [], length, map, nat_eq, Option, Some, None, Result, Ok, Err, sym, ◌∙◌, ap, subst, true≢false, arith}
+use Rattle.std.proofs.Common.{◌≡◌, Bool, true, false, List, [], map, Option, Some, None, Result, Ok, Err, sym, ◌∙◌, ap, subst, true≢false, arith, subst₂}
 use Rattle.std.specs.Prelude.{◌↔◌, IfErr, IsPermutation, IsTrue, OnErr, Vec}
 use Rattle.std.specs.declared.alloc.Global.{Global}
 use Rattle.exam_lists.proofs.Permutations.{IsPermutation-nil}
@@ -24,12 +24,6 @@ use Rattle.office_records.proofs.PublicationLemmas.{has_places_and_seats}
 -- a timetable and its seats, if there are such
 abbrev Found : Type 0
 Found = Option (Placing × Vec publish.SeatRow Global)
-
--- an empty list, and one that isn't
-pub not_empty : {X : Type 0} (xs : List X) (is_known : Bool) → is_known ≡ nat_eq (length xs) 0
-    → is_known ≡ false → xs ≡ [] → ⊥
-not_empty xs is_known is untrue none =
-    true≢false (sym (is ∙ ap (λ l. nat_eq (length l) 0) none) ∙ untrue)
 
 module _ (I : Session) (mark : Bool) (places : List PlacedRow) (seats : List SeatRow) where
   -- no publication of the session has these rows
@@ -101,18 +95,12 @@ module _ (I : Session) (mark : Bool) (places : List PlacedRow) (seats : List Sea
 
 -- ---- with shares
 
--- a fact about two lists holds for equal lists
-pub of_same : {X Y : Type 0} (P : List X → List Y → Type 0) {xs us : List X} {ys vs : List Y}
-    → xs ≡ us → ys ≡ vs → P xs ys → P us vs
-of_same P {us = us} {ys = ys} same other p =
-    subst (λ l. P us l) other (subst (λ l. P l ys) same p)
-
 -- shares of the same publication in the same rows
 pub shared_same : {I : Session} {o p : Option Publication} {students others : List StudentShareRow}
     {parts rows : List PartShareRow} → o ≡ p → students ≡ others → parts ≡ rows
     → AreShared I o students parts → AreShared I p others rows
 shared_same {I} {p = p} {students = students} {parts = parts} same one other are =
-    of_same (AreShared I p) one other (subst (λ o. AreShared I o students parts) same are)
+    subst₂ (AreShared I p) one other (subst (λ o. AreShared I o students parts) same are)
 
 -- if nothing is published, there is no share
 pub no_shares : (I : Session) (students : List StudentShareRow) (parts : List PartShareRow)

@@ -1,5 +1,3 @@
-pub mod ListLemmas
-pub mod NumberedLemmas
 pub mod DraftRowLemmas
 pub mod EnrolRowLemmas
 pub mod MemoryLemmas

@@ -6,6 +6,7 @@ use Rattle.std.proofs.lemmas.List.{length-replicate}
 use Rattle.std.proofs.lemmas.List.Sorted.{IsPermutation-sym, IsPermutation-trans, list_any-IsPermutation}
 use Rattle.exam_lists.proofs.Parts.{same_head}
 use Rattle.exam_lists.proofs.Results.{same_Ok}
+use Rattle.exam_lists.proofs.Permutations.{IsPermutation-unmap}
 use Rattle.sqlite.specs.Effect.{Database}
 use Rattle.exam_model.specs.Enrolments.{Enrolled, AreEnrolments, no_pairs, students}
 use Rattle.exam_model.specs.Instance.{Session, IsInstance}
@@ -23,7 +24,6 @@ use Rattle.office_model.specs.Office.{OfficeState, Records, IsOffice, AreEnrolle
 use Rattle.office_records.specs.Memory.{memory_of}
 use Rattle.office_records.specs.Representation.{RepresentsOffice, TablesRepresentOffice, TablesRepresentRecords, RepresentsOfficeIn}
 use Rattle.office_records.specs.TableRows.{enrol_row}
-use Rattle.office_records.proofs.ListLemmas.{moved_back}
 use Rattle.office_records.proofs.SameTables.{same_represents_in}
 
 -- ---- the row of the session
@@ -56,7 +56,7 @@ pub same_enrolments : (I : Session) (E F : Enrolled) → AreEnrolled I E → Are
     → IsPermutation (map enrol_row (pairs_of E)) (map enrol_row (pairs_of F)) → E ≡ F
 same_enrolments I E F e f p =
     let back : EnrolRow → Pair = λ r. record { exam = r.exam; student = r.student } in
-    let pairs = moved_back enrol_row back (λ p. refl) (pairs_of E) (pairs_of F) p in
+    let pairs = IsPermutation-unmap enrol_row back (λ p. refl) (pairs_of E) (pairs_of F) p in
     same_set E F (e.exams ∙ sym f.exams) e.set.ascending f.set.ascending
     (λ s x. sym ((are_pairs E e.set).members s x)
     ∙ list_any-IsPermutation (is_pair s x) (pairs_of E) (pairs_of F) pairs

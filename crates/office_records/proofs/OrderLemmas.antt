@@ -1,17 +1,17 @@
 -- Strictly rising rows have no other rising order.
 use Rattle.std.proofs.lemmas.Grind.{common_steps}
-use Rattle.std.proofs.Common.{◌≡◌, ℕ, ◌+◌, ◌<◌, ◌≤◌, ◌⊎◌, List, ◌++◌, map, length, get_or, is_lt, Less, Ordering, nat_cmp, refl, ◌∙◌, ap, ap₂, arith}
+use Rattle.std.proofs.Common.{◌≡◌, ℕ, ◌+◌, ◌<◌, ◌≤◌, List, ◌++◌, map, length, get_or, is_lt, Less, Ordering, refl, ◌∙◌, ap, ap₂, arith}
 use Rattle.std.specs.Cmp.{IsTotalOrder}
 use Rattle.std.specs.List.{AllByRecursion}
 use Rattle.std.specs.List.Sorted.{IsSortedByKey}
-use Rattle.std.specs.Ordering.{ordering_reverse, ordering_then}
+use Rattle.std.specs.Ordering.{ordering_reverse}
 use Rattle.std.specs.Prelude.{IsPermutation}
-use Rattle.std.proofs.lemmas.Bool.Decides.{nat_tests}
-use Rattle.std.proofs.lemmas.Cmp.{nat_cmp_total, on_total, then_total}
+use Rattle.std.proofs.lemmas.Cmp.{on_total}
 use Rattle.std.proofs.lemmas.List.{get_or-map, length-map}
 use Rattle.std.proofs.lemmas.List.Sorted.{IsPermutation-sym, IsPermutation-trans}
 use Rattle.exam_lists.proofs.Chains.{IsChain, chain_from_index, chain_weaker, chain_with_each}
 use Rattle.exam_lists.proofs.Each.{each_append, each_weaker}
+use Rattle.exam_lists.proofs.Orders.{PairBefore, pair_cmp, pair_less, pair_total}
 use Rattle.sqlite_trees.specs.Tree.{IsAscending}
 use Rattle.sqlite_keyed.proofs.ListLemmas.{ascending-append, ascending-map, ascending_weaker}
 use Rattle.sqlite_keyed.proofs.SortLemmas.{sorted_unique}
@@ -23,7 +23,7 @@ use Rattle.office_tables.specs.declared.share_part.PartShareRow.{PartShareRow}
 use Rattle.office_tables.specs.declared.seat.SeatRow.{SeatRow}
 use Rattle.office_records.specs.Publications.{stored_seat}
 use Rattle.office_records.specs.PartShares.{part_rows, plain_rows, room_rows}
-use Rattle.office_records.proofs.NumberedLemmas.{each_numbered, rows_rise}
+use Rattle.exam_lists.proofs.Numbered.{each_numbered, rows_rise}
 use Rattle.office_records.proofs.PartRowLemmas.{no_share, plain_are, rooms_are}
 
 -- ---- one order
@@ -39,26 +39,6 @@ module _ {X K : Type 0} (key : X → K) (cmp : K → K → Ordering) (total : Is
       (ascending_weaker (λ x y. Before (key x) (key y)) (λ x y. cmp (key x) (key y) ≡ Less)
       (λ x y h. less (key x) (key y) h) rising up)
       (IsPermutation-trans _ _ _ (IsPermutation-sym _ _ same) moved) order
-
--- by one number
-pub less_is : (m n : ℕ) → m < n → nat_cmp m n ≡ Less
-less_is m n h = grind (arith, nat_tests)
-
--- by two numbers
-abbrev pub pair_cmp : ℕ × ℕ → ℕ × ℕ → Ordering
-pair_cmp x y = ordering_then (nat_cmp x.0 y.0) (nat_cmp x.1 y.1)
-
-pub pair_total : IsTotalOrder pair_cmp
-pair_total =
-    then_total (on_total (λ (p : ℕ × ℕ). p.0) nat_cmp_total)
-    (on_total (λ (p : ℕ × ℕ). p.1) nat_cmp_total)
-
--- a smaller first number, or the same and a smaller second one
-abbrev pub PairBefore : ℕ × ℕ → ℕ × ℕ → Type 0
-PairBefore x y = (x.0 < y.0) ⊎ ((x.0 ≡ y.0) × (x.1 < y.1))
-
-pub before_is : (x y : ℕ × ℕ) → PairBefore x y → pair_cmp x y ≡ Less
-before_is x y h = grind (arith, nat_tests, h)
 
 -- ---- seats
 
@@ -96,7 +76,7 @@ seats_sorted own order k d least within =
     (get_or-map stored_seat own (k + 1) (own_row d) d second)
     (get_or-map stored_seat own k (own_row d) d (omega (arith, second)))
     ∙ ap is_lt (pair_total.antisymm (seat_key y) (seat_key x)
-    ∙ ap ordering_reverse (before_is (seat_key x) (seat_key y)
+    ∙ ap ordering_reverse (pair_less (seat_key x) (seat_key y)
     (order k (k + 1) (own_row d) (omega arith) second)))
 
 -- ---- parts of shares

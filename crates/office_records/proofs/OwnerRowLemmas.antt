@@ -1,11 +1,12 @@
 -- Rows of owners, one after another.
 use Rattle.std.proofs.lemmas.Grind.{common_steps}
-use Rattle.std.proofs.Common.{◌≡◌, ◌≢◌, ℕ, suc, ◌<◌, ◌≤◌, Bool, true, false, cond, eqb, List, [], ◌∷◌, ◌++◌, map, length, get_or, refl, sym, ◌∙◌, ap, arith, take, drop}
+use Rattle.std.proofs.Common.{◌≡◌, ◌≢◌, ℕ, suc, ◌<◌, ◌≤◌, cond, eqb, List, [], ◌∷◌, ◌++◌, map, length, get_or, refl, sym, ◌∙◌, ap, arith, take, drop}
 use Rattle.std.proofs.Math.Seq.{split_at}
 use Rattle.std.proofs.lemmas.Bool.{eq-eqb, eqb-false}
 use Rattle.std.proofs.lemmas.Bool.Decides.{nat_tests}
-use Rattle.std.proofs.lemmas.List.{length-append, map-append}
+use Rattle.std.proofs.lemmas.List.{map-append}
 use Rattle.std.proofs.lemmas.List.Elements.{filter-append}
+use Rattle.exam_lists.proofs.Parts.{append_only}
 use Rattle.exam_model.specs.Instance.{Session}
 use Rattle.office_tables.specs.declared.owner.OwnerRow.{OwnerRow}
 use Rattle.office_records.specs.Found.{AreOwners}
@@ -31,15 +32,6 @@ pub owners_named : (I : Session) (rows : List OwnerRow) (departments : List ℕ)
     → AreNamed (length I.exams) rows departments → AreOwners I rows (λ e. get_or departments e 0)
 owners_named I rows departments named = grind (arith, common_steps)
 
--- a department in a list of at most one is the only one in it
-one_dept : (d x : ℕ) (b : Bool) (xs ys : List ℕ) → xs ++ x ∷ ys ≡ cond b [] (d ∷ [])
-    → (xs ≡ []) × (x ≡ d) × (b ≡ false)
-one_dept d x true xs ys is =
-    absurd (let long = ap length is in omega (arith, length-append xs (x ∷ ys)))
-one_dept d x false [] ys is = (refl, ap (λ l. get_or l 0 0) is, refl)
-one_dept d x false (z ∷ xs) ys is =
-    absurd (let long = ap length is in omega (arith, length-append xs (x ∷ ys)))
-
 none_is : (d : ℕ) → some_dept d ≡ [] → d ≡ 0
 none_is d is = grind (arith, nat_tests, is)
 
@@ -59,7 +51,7 @@ owner_first I rows i d departments owner_of lt named owners =
     ∙ sym (split row.exam before row after)
     ∙ ap (λ l. map (λ (o : OwnerRow). o.dept) (owners_at row.exam l)) (sym (split_at rows i d lt))
     ∙ owners.rows row.exam in
-    let one = one_dept (owner_of row.exam) row.dept (eqb (owner_of row.exam) 0) _ _ whole in
+    let one = append_only (owner_of row.exam) row.dept (eqb (owner_of row.exam) 0) _ _ whole in
     let some : owner_of row.exam ≢ 0 = eqb-false (owner_of row.exam) 0 one.2 in
     let few = owners.departments row.exam in
     record {

@@ -10,7 +10,7 @@ use Rattle.exam_publish.specs.declared.share_lists.RoomShare.{RoomShare}
 use Rattle.office_tables.specs.SharePart.{ArePartAmounts}
 use Rattle.office_tables.specs.declared.share_part.PartShareRow.{PartShareRow}
 use Rattle.office_records.specs.PartShares.{part_rows, plain_rows, room_rows}
-use Rattle.office_records.proofs.NumberedLemmas.{AreRowsOf, each_numbered}
+use Rattle.exam_lists.proofs.Numbered.{AreRowsOf, each_numbered}
 
 abbrev pub no_row : PartShareRow
 no_row = record { kind = 0; no = 0; penalty = 0; mixed = 0 }

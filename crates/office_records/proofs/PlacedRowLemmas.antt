@@ -4,6 +4,7 @@ use Rattle.std.proofs.Common.{◌≡◌, ℕ, ◌+◌, ◌<◌, List, [], ◌∷
 use Rattle.std.specs.List.{cons_option}
 use Rattle.std.specs.Prelude.{IsPermutation}
 use Rattle.std.proofs.lemmas.List.Sorted.{IsPermutation-map}
+use Rattle.exam_lists.proofs.Permutations.{IsPermutation-unmap}
 use Rattle.exam_model.specs.Instance.{Session}
 use Rattle.exam_model.specs.Timetable.{Placing}
 use Rattle.exam_terms.specs.declared.place.Place.{Place}
@@ -13,8 +14,7 @@ use Rattle.office_records.specs.Found.{AreSlots}
 use Rattle.office_records.specs.Publications.{placed_from, placed_row}
 use Rattle.office_records.specs.FoundPublications.{ArePlaces, placed_slot}
 use Rattle.office_records.specs.TableRows.{slots_at, slots_from}
-use Rattle.office_records.proofs.ListLemmas.{moved_back}
-use Rattle.office_records.proofs.NumberedLemmas.{AreRowsOf, rows_next}
+use Rattle.exam_lists.proofs.Numbered.{AreRowsOf, rows_next}
 use Rattle.office_records.proofs.SlotLemmas.{same_timetable}
 
 -- ---- as places of draft 0
@@ -47,7 +47,7 @@ module _ (I : Session) (found : List PlacedRow) (T : Placing) where
   places_from_slots are = record {
     exams = are.exams;
     places = are.places;
-    rows = moved_back placed_slot place_back (λ row. refl) found (placed_from 0 T)
+    rows = IsPermutation-unmap placed_slot place_back (λ row. refl) found (placed_from 0 T)
         (subst (IsPermutation (map placed_slot found)) (sym (placed_slots 0 T))
         (subst (λ l. IsPermutation l (slots_from 0 0 T)) (all_own found) are.rows));
   }

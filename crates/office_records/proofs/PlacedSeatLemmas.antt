@@ -10,12 +10,12 @@ use Rattle.std.proofs.lemmas.Bool.Decides.{nat_tests}
 use Rattle.std.proofs.lemmas.Cmp.{nat_cmp_total, on_total, then_total}
 use Rattle.std.proofs.lemmas.List.Sorted.{IsPermutation-sym}
 use Rattle.exam_lists.proofs.Chains.{chain_from_index, chain_from_next, chain_weaker, index_from_chain}
+use Rattle.exam_lists.proofs.Permutations.{chain_permutation}
 use Rattle.exam_publish.specs.declared.seat_row.SeatRow.{SeatRow}
 use Rattle.exam_publish.specs.Rows.{RowBefore, RowsInOrder, is_pair_before, row_pair}
 use Rattle.exam_publish.specs.Seats.{HaveOwnSeats}
 use Rattle.exam_publish.proofs.ChangedLemmas.{before_from_test}
 use Rattle.office_records.specs.FoundPublications.{is_same_seat}
-use Rattle.office_records.proofs.ListLemmas.{chain_moved}
 use Rattle.office_records.proofs.OrderLemmas.{before_then}
 
 abbrev no_row : SeatRow
@@ -84,7 +84,7 @@ pub own_seats_are : (rows sorted : List SeatRow) (r : Bool) → IsPermutation ro
     → IsTrue r ↔ AllPairs HaveOwnSeats rows
 own_seats_are rows sorted true moved order all = (
   λ _. index_from_chain HaveOwnSeats rows
-      (chain_moved HaveOwnSeats own_turned sorted rows (IsPermutation-sym rows sorted moved)
+      (chain_permutation HaveOwnSeats own_turned sorted rows (IsPermutation-sym rows sorted moved)
       (chain_weaker (λ x y. row_cmp x y ≡ Less) HaveOwnSeats own_from_less sorted
       (chain_from_next (λ x y. row_cmp x y ≡ Less) total.trans sorted
       (λ k d within. less_from (get_or sorted k d) (get_or sorted (k + 1) d)
@@ -96,6 +96,6 @@ own_seats_are rows sorted false moved order some = (
   λ own. absurd (not_own (get_or sorted some.0 no_row) (get_or sorted (some.0 + 1) no_row)
       (some.2 no_row)
       (index_from_chain HaveOwnSeats sorted
-      (chain_moved HaveOwnSeats own_turned rows sorted moved
+      (chain_permutation HaveOwnSeats own_turned rows sorted moved
       (chain_from_index HaveOwnSeats rows own)) some.0 (some.0 + 1) no_row (omega arith) some.1)),
 )

@@ -46,7 +46,7 @@ use Rattle.office_records.specs.SharesStored.{student_share_row, student_share_r
 use Rattle.office_records.specs.Representation.{IsSound, TablesRepresentOffice, RepresentsOfficeIn}
 use Rattle.office_records.specs.FoundPublications.{placed_slot}
 use Rattle.office_records.specs.TableRows.{some_dept, number_if, slot_rows, slots_from, enrol_row}
-use Rattle.office_records.proofs.NumberedLemmas.{each_numbered}
+use Rattle.exam_lists.proofs.Numbered.{each_numbered}
 use Rattle.office_records.proofs.PartRowLemmas.{each_part, no_share, plain_are, rooms_are}
 use Rattle.office_records.proofs.PlacedRowLemmas.{placed_slots}
 use Rattle.office_records.proofs.PublicationLemmas.{has_places_and_seats}

@@ -3,7 +3,7 @@ use Rattle.std.proofs.lemmas.Grind.{common_steps}
 use Rattle.std.proofs.Common.{◌≡◌, ℕ, zero, suc, ◌≤◌, pos, Bool, true, false, List, [], ◌∷◌, map, length, Some, None, refl, ap, arith, eqb}
 use Rattle.std.specs.Prelude.{IsPermutation, is_some}
 use Rattle.std.proofs.lemmas.List.Sorted.{IsPermutation-sym, IsPermutation-trans}
-use Rattle.exam_lists.proofs.Permutations.{few_read}
+use Rattle.exam_lists.proofs.Permutations.{few_read, IsPermutation-unmap, same_few_as}
 use Rattle.sqlite_value.specs.Order.{Row, column}
 use Rattle.sqlite_value.specs.declared.value.Value.{Value}
 use Rattle.sqlite_value.specs.declared.value.Value.TheVariants.{Int}
@@ -31,7 +31,6 @@ use Rattle.office_model.specs.Office.{OfficeState, Records}
 use Rattle.office_tables.proofs.RecordsBack.{bytes_in, owner_of, enrol_of, slot_of, placement_of, seat_of, part_share_of, batch_of}
 use Rattle.office_records.specs.Representation.{IsScoredRow, IsSound, TablesRepresentOffice, TablesRepresentRecords}
 use Rattle.office_records.specs.TableRows.{meta_row, some_dept, number_if}
-use Rattle.office_records.proofs.ListLemmas.{few_moved, moved_back}
 
 few_depts : (n : ℕ) → length (some_dept n) ≤ 1
 few_depts n = grind (arith, common_steps)
@@ -45,7 +44,7 @@ same_rows : {X : Type 0} (show : Row → Row) (row : X → Row) (back : Row → 
     → ((x : X) → back (row x) ≡ x) → (xs ys : List X) (stored : List Row)
     → Holds show (map row xs) stored → Holds show (map row ys) stored → IsPermutation xs ys
 same_rows show row back is xs ys stored p q =
-    moved_back row back is xs ys (IsPermutation-trans _ _ _ (IsPermutation-sym _ _ p.same) q.same)
+    IsPermutation-unmap row back is xs ys (IsPermutation-trans _ _ _ (IsPermutation-sym _ _ p.same) q.same)
 
 -- ---- the row of the session
 
@@ -116,11 +115,11 @@ module _ (version : Version) (db : Database) (t u : Tables) (p : HoldsTablesIn v
     where
       none : {X : Type 0} (rows : Tables → List X) → length (rows empty_tables) ≤ 1
           → IsPermutation (rows t) (rows u) → rows u ≡ rows empty_tables
-      none rows few = few_moved (rows t) (rows empty_tables) (rows u) (ap rows is) few
+      none rows few = same_few_as (rows t) (rows empty_tables) (rows u) (ap rows is) few
 
   loaded : (r : Records) → TablesRepresentRecords t r → TablesRepresentRecords u r
   loaded r h = record {
-    meta = few_moved t.meta (meta_row (is_some r.published) r.session ∷ []) u.meta h.meta
+    meta = same_few_as t.meta (meta_row (is_some r.published) r.session ∷ []) u.meta h.meta
         (omega arith) metas;
     owner = λ e. few_read (λ (o : OwnerRow). o.dept) _ _ _
         (IsPermutation-filter (λ o. eqb o.exam e) _ _ owners) (h.owner e)

@@ -3,17 +3,18 @@ use Rattle.std.proofs.Common.{◌≡◌, ℕ, ◌<◌, ◌≤◌, List, length, 
 use Rattle.std.specs.List.Sorted.{IsSortedByKey}
 use Rattle.std.specs.Prelude.{IsPermutation}
 use Rattle.std.proofs.lemmas.List.{get_or-map, length-map}
+use Rattle.exam_lists.proofs.Maps.{same_unmapped}
+use Rattle.exam_lists.proofs.Orders.{PairBefore, pair_cmp, pair_less, pair_total}
 use Rattle.exam_publish.specs.declared.seat_row.SeatRow as publish
 use Rattle.exam_publish.specs.Rows.{AreNumbered, RowsInOrder}
 use Rattle.office_tables.specs.declared.seat.SeatRow.{SeatRow}
 use Rattle.office_records.specs.Publications.{stored_seat}
-use Rattle.office_records.proofs.ListLemmas.{same_back}
-use Rattle.office_records.proofs.OrderLemmas.{PairBefore, before_is, one_order, own_row, pair_cmp, pair_total, seat_key, seats_rise, seats_sorted}
+use Rattle.office_records.proofs.OrderLemmas.{one_order, own_row, seat_key, seats_rise, seats_sorted}
 
 -- stored rows are those of one list of seats
 pub same_seats : (own others : List publish.SeatRow) → map stored_seat own ≡ map stored_seat others
     → own ≡ others
-same_seats = same_back stored_seat own_row (λ x. refl)
+same_seats = same_unmapped stored_seat own_row (λ x. refl)
 
 -- a stored row's student has a number
 pub not_numbered : (rows : List SeatRow) (own : List publish.SeatRow) → AreNumbered own
@@ -33,7 +34,7 @@ pub sorted_seats : (found sorted : List SeatRow) (own : List publish.SeatRow) �
     → IsPermutation found (map stored_seat own) → IsPermutation found sorted
     → IsSortedByKey seat_key pair_cmp sorted → sorted ≡ map stored_seat own
 sorted_seats found sorted own order =
-    one_order seat_key pair_cmp pair_total PairBefore before_is found (map stored_seat own) sorted
+    one_order seat_key pair_cmp pair_total PairBefore pair_less found (map stored_seat own) sorted
     (seats_rise own order)
 
 -- rows are those of one list of seats in order

@@ -5,13 +5,14 @@ use Rattle.std.specs.Prelude.{IsPermutation}
 use Rattle.std.proofs.lemmas.Cmp.{nat_cmp_total}
 use Rattle.std.proofs.lemmas.List.{get_or-map, length-map}
 use Rattle.exam_lists.proofs.Chains.{chain_unmap}
+use Rattle.exam_lists.proofs.Orders.{less_from_lt}
 use Rattle.sqlite_keyed.proofs.ListLemmas.{ascending-map}
 use Rattle.exam_model.specs.Enrolments.{IsAscending}
 use Rattle.exam_publish.proofs.ListLemmas.{chain_from_ascending}
 use Rattle.exam_score.specs.Penalty.{PersonalPenalty}
 use Rattle.office_tables.specs.declared.share_student.StudentShareRow.{StudentShareRow}
 use Rattle.office_records.specs.SharesStored.{IsShare, student_share_row}
-use Rattle.office_records.proofs.OrderLemmas.{less_is, one_order}
+use Rattle.office_records.proofs.OrderLemmas.{one_order}
 
 abbrev Share : Type 0
 Share = ℕ × PersonalPenalty
@@ -41,7 +42,7 @@ pub sorted_shares : (found sorted : List StudentShareRow) (shares : List Share)
     → IsSortedByKey (λ (row : StudentShareRow). row.student) nat_cmp sorted
     → sorted ≡ map student_share_row shares
 sorted_shares found sorted shares up =
-    one_order (λ (row : StudentShareRow). row.student) nat_cmp nat_cmp_total (λ m n. m < n) less_is
+    one_order (λ (row : StudentShareRow). row.student) nat_cmp nat_cmp_total (λ m n. m < n) less_from_lt
     found (map student_share_row shares) sorted
     (ascending-map (λ (x : StudentShareRow) y. x.student < y.student) student_share_row shares
     (chain_unmap (λ x y. x < y) (λ (share : Share). share.0) shares

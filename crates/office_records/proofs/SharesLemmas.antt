@@ -7,6 +7,7 @@ use Rattle.std.proofs.lemmas.List.{drop_at, take_at}
 use Rattle.std.proofs.lemmas.List.Elements.{All-from_recursion, recursion_from_All}
 use Rattle.std.proofs.lemmas.List.FromFn.{length-map-range_with_len}
 use Rattle.exam_lists.proofs.Each.{each_map}
+use Rattle.exam_lists.proofs.Maps.{same_unmapped}
 use Rattle.exam_model.specs.Enrolments.{IsAscending}
 use Rattle.exam_model.specs.Instance.{IsInstance, Session}
 use Rattle.exam_model.proofs.StudentLemmas.{each_with}
@@ -24,8 +25,7 @@ use Rattle.office_model.specs.Office.{Publication}
 use Rattle.office_records.specs.FoundPublications.{HasPlacesAndSeats}
 use Rattle.office_records.specs.SharesStored.{AreShared, IsShare, student_share_row}
 use Rattle.office_records.specs.PartShares.{HasFewParts, HasShareOfEach, part_rows, plain_rows, room_rows}
-use Rattle.office_records.proofs.ListLemmas.{same_back}
-use Rattle.office_records.proofs.NumberedLemmas.{length-rows, rows_same}
+use Rattle.exam_lists.proofs.Numbered.{length-rows, rows_same}
 use Rattle.office_records.proofs.PartRowLemmas.{plain_are, room_share_back, rooms_are}
 use Rattle.office_records.proofs.ShareRowLemmas.{share_back}
 
@@ -181,7 +181,7 @@ pub one_read : {I : Session} {students : List StudentShareRow} {rows : List Part
     {shares others : Sharing} → AreRead I students rows shares → AreRead I students rows others
     → shares ≡ others
 one_read {shares = a} {others = b} is also = λ i. record {
-  students = same_back student_share_row share_back (λ x. refl) a.students b.students
+  students = same_unmapped student_share_row share_back (λ x. refl) a.students b.students
       (is.personal ∙ sym also.personal) i;
   exams = rows_same (plain_are 0) (λ (row : PartShareRow). row.penalty) (λ n x. refl) 0 a.exams
       b.exams (is.of_exams ∙ sym also.of_exams) i;

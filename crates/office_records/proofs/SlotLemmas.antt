@@ -9,6 +9,7 @@ use Rattle.std.proofs.lemmas.List.Elements.{All-set}
 use Rattle.std.proofs.lemmas.List.Sorted.{IsPermutation-cons, IsPermutation-sym, IsPermutation-trans, IsPermutation-middle, IsPermutation-push_more}
 use Rattle.exam_lists.proofs.Chains.{IsChain, chain_before, chain_weaker}
 use Rattle.exam_lists.proofs.Each.{each_at_middle}
+use Rattle.exam_lists.proofs.Permutations.{chain_permutation}
 use Rattle.sqlite_trees.proofs.ListLemmas.{IsPermutation-same, all-permutation}
 use Rattle.exam_model.specs.Fits.{PlaceExists}
 use Rattle.exam_model.specs.Instance.{Session}
@@ -18,8 +19,7 @@ use Rattle.office_tables.specs.declared.slot.SlotRow.{SlotRow}
 use Rattle.office_records.specs.Found.{AreSlots}
 use Rattle.office_records.specs.NextRow.{IsFree, IsSlotPlaced}
 use Rattle.office_records.specs.TableRows.{slots_at, slots_from, slot_row}
-use Rattle.office_records.proofs.ListLemmas.{chain_moved}
-use Rattle.office_records.proofs.NumberedLemmas.{AreRowsOf, each_numbered, numbered_each, rows_rise}
+use Rattle.exam_lists.proofs.Numbered.{AreRowsOf, each_numbered, numbered_each, rows_rise}
 
 -- ---- the rows of a timetable
 
@@ -200,7 +200,7 @@ module _ (I : Session) (d i : ℕ) (found : List SlotRow) (o : SlotRow) (within 
         others =
             all-permutation (λ x. AreOfOthers x row) _ _ are.rows
             (chain_before AreOfOthers (slots_at d done) row rest
-            (chain_moved AreOfOthers (λ x y other same. other (sym same)) _ _ back (rows_apart d U)))
+            (chain_permutation AreOfOthers (λ x y other same. other (sym same)) _ _ back (rows_apart d U)))
 
         free : (o : Option Place) → get_or T row.exam None ≡ o → get_or T row.exam None ≡ None
         free None is = is

@@ -1,5 +1,5 @@
 -- Numbers with zeros in front.
-use Rattle.std.proofs.Common.{◌≡◌, ℕ, ◌-◌, ◌^◌, ◌++◌, ◌∷◌, [], List, false, length, append-nil, append_assoc, arith, ◌∙◌}
+use Rattle.std.proofs.Common.{◌≡◌, ℕ, ◌-◌, ◌^◌, [], false, length, append-nil, arith}
 use Rattle.std.specs.Prelude.{decimal}
 use Rattle.std.specs.Fmt.{padded_integral, format_spec, char_count, styled_decimal}
 use Rattle.office_replies.specs.DayTexts.{zero_padded}
@@ -25,15 +25,3 @@ two_written n = two_padded n
 -- the text written for `{:04}`
 pub four_written : (n : ℕ) → styled_decimal (format_spec 32 0 4 4 (2 ^ 64 - 1)) n ≡ zero_padded 4 n
 four_written n = four_padded n
-
-regrouped : (sign : ℕ) (a b c : List ℕ)
-    → a ++ (sign ∷ (b ++ (sign ∷ c))) ≡ a ++ (sign ∷ []) ++ b ++ (sign ∷ []) ++ c
-regrouped sign a b c = simp append_assoc
-
--- three numbers with a sign between them, appended to an empty text
-pub joined : (sign : ℕ) (empty a a2 b b2 c c2 : List ℕ) → empty ≡ [] → a ≡ a2 → b ≡ b2 → c ≡ c2
-    → empty ++ (a ++ (sign ∷ (b ++ (sign ∷ c)))) ≡ a2 ++ (sign ∷ []) ++ b2 ++ (sign ∷ []) ++ c2
-joined sign empty a a2 b b2 c c2 none first second third =
-    let same : empty ++ (a ++ (sign ∷ (b ++ (sign ∷ c)))) ≡ a2 ++ (sign ∷ (b2 ++ (sign ∷ c2)))
-    = cc in
-    same ∙ regrouped sign a2 b2 c2

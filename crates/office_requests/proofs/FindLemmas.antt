@@ -2,7 +2,7 @@
 use Rattle.std.proofs.Common.{◌≡◌, ◌<◌, ◌≤◌, ◌⊎◌, ℕ, zero, suc, Bool, true, false}
 use Rattle.std.proofs.Common.{not, ◌&&◌, ◌==◌, List, [], ◌∷◌, length, Option, Some}
 use Rattle.std.proofs.Common.{None, refl, sym, ap, subst, ◌∙◌, inl, inr, arith}
-use Rattle.std.proofs.lemmas.Bool.{eqb-true, eq-eqb, not-true}
+use Rattle.std.proofs.lemmas.Bool.{eqb-true, eq-eqb, not-true, and_parts}
 use Rattle.std.proofs.lemmas.Bool.Decides.{nat_tests}
 use Rattle.matchit.specs.Rows.{RowsOf, param_token}
 use Rattle.matchit.specs.Level.{IsText}
@@ -13,10 +13,6 @@ use Rattle.office_requests.specs.Pages.{IsIn, Finds}
 use Rattle.office_requests.proofs.Plain.{FindsNone, EndsSegment, ArePlain}
 use Rattle.office_requests.proofs.SeekLemmas.{AreTails, has_more, param_at, param_found, param_lost}
 use Rattle.office_requests.proofs.SeekLemmas.{param_last, param_slash, seek_end, seek_is, no_rest}
-
-pub both : (x y : Bool) → (x && y) ≡ true → (x ≡ true) × (y ≡ true)
-both true y h = (refl, h)
-both false y h = cc
 
 module _ {K : Type 0} where
   in_step : (b : ℕ) (rows : RowsOf K) (t : List ℕ) (k : K) → IsIn t k (step b rows) →
@@ -288,14 +284,14 @@ module _ (K : Type 0) where
 
       go : (v : Bool) → (x == 256) ≡ v → Complete n → ⊥
       go true e more =
-          let parts = both _ _ (let t2 : (not (b == slash) && is_match s (rest_of_segment path))
+          let parts = and_parts _ _ (let t2 : (not (b == slash) && is_match s (rest_of_segment path))
           ≡ true = rw e at t in t2) in
           let open_byte : b == 47 ≡ false = not-true (b == 47) parts.0 in
           let i2 = subst (λ (z : ℕ). IsIn (z ∷ s) k rows) (eqb-true x 256 e) i in
           complete_param n more rows b path (omega arith) good none.1 s k
           (step_in param_token rows s k i2) open_byte parts.1
       go false e more =
-          let parts = both _ _ (let t2 : ((x == b) && is_match s path) ≡ true = rw e at t in t2) in
+          let parts = and_parts _ _ (let t2 : ((x == b) && is_match s path) ≡ true = rw e at t in t2) in
           let i2 = subst (λ (z : ℕ). IsIn (z ∷ s) k rows) (eqb-true x b parts.0) i in
           more (step b rows) path (omega arith) (plain_step b rows good) none.0 s k
           (step_in b rows s k i2) parts.1

@@ -2,7 +2,7 @@
 use Rattle.std.proofs.Common.{◌≡◌, ◌<◌, ◌&&◌, ◌==◌, not, nat_lt, Bool, true, false, List, ℕ}
 use Rattle.std.proofs.Common.{◌∷◌, [], refl, sym, ap, subst, ◌∙◌, inl, inr, arith}
 use Rattle.std.specs.Prelude.{if◌then◌else◌}
-use Rattle.std.proofs.lemmas.Bool.{eqb-true}
+use Rattle.std.proofs.lemmas.Bool.{eqb-true, and_parts}
 use Rattle.std.proofs.lemmas.Bool.Decides.{nat_tests}
 use Rattle.matchit.specs.Rows.{param_token}
 use Rattle.matchit.specs.Seek.{slash}
@@ -10,7 +10,6 @@ use Rattle.office_requests.specs.declared.routes.Page.{Page}
 use Rattle.office_requests.specs.Patterns.{is_match, rest_of_segment}
 use Rattle.office_requests.specs.Pages.{IsIn}
 use Rattle.office_requests.specs.Pages.{pages, IsRouteTo}
-use Rattle.office_requests.proofs.FindLemmas.{both}
 
 -- two patterns differ in a byte that each has, or one ends first
 abbrev apart : List ℕ → List ℕ → Bool
@@ -34,7 +33,7 @@ literal : (x : ℕ) (s : List ℕ) (b : ℕ) (path : List ℕ) → x < 256 → i
 literal x s b path small h =
     let byte : x == 256 ≡ false = grind (arith, nat_tests) in
     let h2 : ((x == b) && is_match s path) ≡ true = rw byte at h in
-    eqb-true x b (both _ _ h2).0
+    eqb-true x b (and_parts _ _ h2).0
 
 apart_takes : (s t path : List ℕ) → apart s t ≡ true → is_match s path ≡ true → is_match t path ≡ true → ⊥
 apart_takes [] [] path a h k = cc
@@ -54,12 +53,12 @@ apart_takes (x ∷ s) (y ∷ t) (b ∷ path) a h k =
         let h2 : (not (b == slash) && is_match s (rest_of_segment path)) ≡ true = rw e at h in
         let e2 : y == 256 ≡ true = ap (λ (z : ℕ). z == 256) (sym same) ∙ e in
         let k2 : (not (b == slash) && is_match t (rest_of_segment path)) ≡ true = rw e2 at k in
-        later a2 (both _ _ h2).1 (both _ _ k2).1
+        later a2 (and_parts _ _ h2).1 (and_parts _ _ k2).1
     kind false e same a2 later next =
         let h2 : ((x == b) && is_match s path) ≡ true = rw e at h in
         let e2 : y == 256 ≡ false = ap (λ (z : ℕ). z == 256) (sym same) ∙ e in
         let k2 : ((y == b) && is_match t path) ≡ true = rw e2 at k in
-        next a2 (both _ _ h2).1 (both _ _ k2).1
+        next a2 (and_parts _ _ h2).1 (and_parts _ _ k2).1
 
     go : (v : Bool) → (x == y) ≡ v
         → (apart s t ≡ true → is_match s (rest_of_segment path) ≡ true →
@@ -68,7 +67,7 @@ apart_takes (x ∷ s) (y ∷ t) (b ∷ path) a h k =
     go true e later next = kind (x == 256) refl (eqb-true x y e) (rw e at a) later next
     go false e later next =
         let small : (nat_lt x 256 && nat_lt y 256) ≡ true = rw e at a in
-        let parts = both (nat_lt x 256) (nat_lt y 256) small in
+        let parts = and_parts (nat_lt x 256) (nat_lt y 256) small in
         let lx : x < 256 = grind (arith, nat_tests, parts.0) in
         let ly : y < 256 = grind (arith, nat_tests, parts.1) in
         let xb = literal x s b path lx h in
@@ -80,23 +79,23 @@ apart_in : (rows : List (List ℕ × Page)) (s t path : List ℕ) (q : Page) →
     IsIn t q rows → is_match s path ≡ true → is_match t path ≡ true → ⊥
 apart_in [] s t path q a i h k = i
 apart_in (row ∷ rows) s t path q a (inl i) h k =
-    apart_takes s row.0 path (both _ _ a).0 h
+    apart_takes s row.0 path (and_parts _ _ a).0 h
     (subst (λ (z : List ℕ). is_match z path ≡ true) (sym i.0) k)
 apart_in (row ∷ rows) s t path q a (inr i) h k =
-    apart_in rows s t path q (both (apart s row.0) _ a).1 i h k
+    apart_in rows s t path q (and_parts (apart s row.0) _ a).1 i h k
 
 one_of : (rows : List (List ℕ × Page)) (s t path : List ℕ) (p q : Page) → all_apart rows ≡ true →
     IsIn s p rows → IsIn t q rows → is_match s path ≡ true → is_match t path ≡ true → p ≡ q
 one_of [] s t path p q a i j h k = absurd i
 one_of (row ∷ rows) s t path p q a (inl i) (inl j) h k = sym i.1 ∙ j.1
 one_of (row ∷ rows) s t path p q a (inl i) (inr j) h k =
-    absurd (apart_in rows row.0 t path q (both (apart_from row.0 rows) _ a).0 j
+    absurd (apart_in rows row.0 t path q (and_parts (apart_from row.0 rows) _ a).0 j
     (subst (λ (z : List ℕ). is_match z path ≡ true) (sym i.0) h) k)
 one_of (row ∷ rows) s t path p q a (inr i) (inl j) h k =
-    absurd (apart_in rows row.0 s path p (both (apart_from row.0 rows) _ a).0 i
+    absurd (apart_in rows row.0 s path p (and_parts (apart_from row.0 rows) _ a).0 i
     (subst (λ (z : List ℕ). is_match z path ≡ true) (sym j.0) k) h)
 one_of (row ∷ rows) s t path p q a (inr i) (inr j) h k =
-    one_of rows s t path p q (both (apart_from row.0 rows) _ a).1 i j h k
+    one_of rows s t path p q (and_parts (apart_from row.0 rows) _ a).1 i j h k
 
 pages_apart : all_apart pages ≡ true
 pages_apart = refl

@@ -2,7 +2,7 @@
 use Rattle.std.proofs.Common.{◌≡◌, ◌<◌, ◌⊎◌, ◌&&◌, ◌||◌, ◌==◌, ltb, Bool, true, false, List, ℕ, ◌∷◌}
 use Rattle.std.proofs.Common.{[], suc, get_or, Option, Some, None, IfSome, IsNone, option_map}
 use Rattle.std.proofs.Common.{map, refl, sym, ap, subst, ◌∙◌, inl, inr}
-use Rattle.std.proofs.lemmas.Bool.{eqb-true, ltb-true, or_cases}
+use Rattle.std.proofs.lemmas.Bool.{eqb-true, ltb-true, or_cases, and_parts}
 use Rattle.matchit.specs.Rows.{param_token}
 use Rattle.matchit.specs.Level.{IsText}
 use Rattle.matchit.specs.Route.{scan}
@@ -17,7 +17,7 @@ use Rattle.office_requests.specs.Pages.{pages, IsRouteTo}
 use Rattle.std.specs.Prelude.{find}
 use Rattle.office_requests.specs.Pages.{page_of}
 use Rattle.office_requests.proofs.OnePageLemmas.{one_page}
-use Rattle.office_requests.proofs.FindLemmas.{both, first_found, first_none}
+use Rattle.office_requests.proofs.FindLemmas.{first_found, first_none}
 
 abbrev shown : List ℕ × RouteOf Page → List ℕ × Page
 shown row = (row.0, row.1.value)
@@ -45,19 +45,19 @@ ends_of (x ∷ t) h = eqb-true x slash h
 
 plain_of : (t : List ℕ) → is_plain t ≡ true → IsPlain t
 plain_of [] h = tt
-plain_of (x ∷ t) h = go (or_cases _ _ (both _ _ h).0) (plain_of t (both _ _ h).1)
+plain_of (x ∷ t) h = go (or_cases _ _ (and_parts _ _ h).0) (plain_of t (and_parts _ _ h).1)
   where
     go : ((ltb x param_token ≡ true) ⊎ (((x == param_token) && ends_segment t) ≡ true)) →
         IsPlain t → IsPlain (x ∷ t)
     go (inl small) rest = (inl (ltb-true x param_token small), rest)
     go (inr is) rest = (
-      inr (eqb-true x param_token (both _ _ is).0, ends_of t (both _ _ is).1),
+      inr (eqb-true x param_token (and_parts _ _ is).0, ends_of t (and_parts _ _ is).1),
       rest,
     )
 
 plain_rows : (rows : Rows) → are_plain (map shown rows) ≡ true → ArePlain rows
 plain_rows [] h = tt
-plain_rows (row ∷ rows) h = let p = both (is_plain row.0) (are_plain (map shown rows)) h in
+plain_rows (row ∷ rows) h = let p = and_parts (is_plain row.0) (are_plain (map shown rows)) h in
     (plain_of row.0 p.0, plain_rows rows p.1)
 
 table_plain : ArePlain table
@@ -154,7 +154,7 @@ none_in (r ∷ rows) path t p e i k = go (is_match r.0 path) refl i (none_in row
         let none : ◌≡◌ {A = Option (List ℕ × Page)} (Some r) None = rw u at e in cc
     go false u (inl here) more =
         let same = ap (λ (x : List ℕ). is_match x path) here.0 in
-        let both : true ≡ false = sym k ∙ sym same ∙ u in cc
+        let and_parts : true ≡ false = sym k ∙ sym same ∙ u in cc
     go false u (inr there) more = more (rw u at e) there k
 
 -- the page of a path, if it has one

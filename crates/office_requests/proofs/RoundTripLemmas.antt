@@ -4,7 +4,7 @@ use Rattle.std.proofs.Common.{Option, Some, Ok}
 use Rattle.std.proofs.Common.{refl, sym, ap, ◌∙◌, inl, inr}
 use Rattle.std.specs.Prelude.{decimal, option_map}
 use Rattle.std.specs.List.{list_all}
-use Rattle.std.proofs.lemmas.Bool.{eq-eqb, not-true}
+use Rattle.std.proofs.lemmas.Bool.{eq-eqb, not-true, and_parts}
 use Rattle.matchit.specs.Rows.{param_token}
 use Rattle.matchit.specs.Seek.{slash}
 use Rattle.exam_terms.specs.declared.place.Place.{Place}
@@ -29,7 +29,6 @@ use Rattle.office_requests.specs.Requests.{command_by, command_or_refusal}
 use Rattle.office_requests.specs.declared.methods.Verb.{Verb}
 use Rattle.office_requests.specs.declared.routes.Page.{Page}
 use Rattle.office_requests.specs.declared.routes.Page.TheVariants as page
-use Rattle.office_requests.proofs.FindLemmas.{both}
 use Rattle.office_requests.proofs.Plain.{EndsSegment}
 use Rattle.office_requests.proofs.PageLemmas.{page_some}
 use Rattle.office_requests.proofs.PrintLemmas.{NoSlash, takes_number, number_here, rest_of_digits, bare_number}
@@ -48,15 +47,15 @@ are_words (number ∷ parts) = are_words parts
 bare_word : (w : List ℕ) → is_word w ≡ true → NoSlash w
 bare_word [] is = tt
 bare_word (b ∷ w) is =
-    let parts = both _ _ is in
-    (not-true (b == slash) (both _ _ parts.0).0, bare_word w parts.1)
+    let parts = and_parts _ _ is in
+    (not-true (b == slash) (and_parts _ _ parts.0).0, bare_word w parts.1)
 
 takes_word : (w pattern path : List ℕ) → is_word w ≡ true
     → is_match (w ++ pattern) (w ++ path) ≡ is_match pattern path
 takes_word [] pattern path is = refl
 takes_word (b ∷ w) pattern path is =
-    let parts = both _ _ is in
-    let other : (b == param_token) ≡ false = not-true (b == param_token) (both _ _ parts.0).1 in
+    let parts = and_parts _ _ is in
+    let other : (b == param_token) ≡ false = not-true (b == param_token) (and_parts _ _ parts.0).1 in
     rw (other, eq-eqb b b refl)
     (takes_word w pattern path parts.1)
 
@@ -82,7 +81,7 @@ takes_path : (parts : List Part) (ns : List ℕ) → are_words parts ≡ true �
 takes_path [] [] words fills = refl
 takes_path [] (n ∷ ns) words fills = absurd fills
 takes_path (word w ∷ parts) ns words fills =
-    let is = both (is_word w) (are_words parts) words in
+    let is = and_parts (is_word w) (are_words parts) words in
     takes_word w (pattern_of parts) (path_with parts ns) is.0 ∙ takes_path parts ns is.1 fills
 takes_path (number ∷ parts) [] words fills = absurd fills
 takes_path (number ∷ parts) (n ∷ ns) words fills =
@@ -95,7 +94,7 @@ numbers_back : (parts : List Part) (ns front : List ℕ) → are_words parts ≡
 numbers_back [] [] front words fills bare = refl
 numbers_back [] (n ∷ ns) front words fills bare = absurd fills
 numbers_back (word w ∷ parts) ns front words fills bare =
-    let is = both (is_word w) (are_words parts) words in
+    let is = and_parts (is_word w) (are_words parts) words in
     ap (numbers_in parts) (rest_of_digits front (w ++ path_with parts ns) bare)
     ∙ numbers_back parts ns w is.1 fills (bare_word w is.0)
 numbers_back (number ∷ parts) [] front words fills bare = absurd fills

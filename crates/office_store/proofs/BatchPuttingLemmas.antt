@@ -6,6 +6,7 @@ use Rattle.std.proofs.lemmas.Bool.Decides.{nat_tests}
 use Rattle.std.proofs.lemmas.Option.{same_Some, some_pair_parts}
 use Rattle.std.proofs.lemmas.List.{append-nil}
 use Rattle.std.proofs.lemmas.List.Sorted.{IsPermutation-reverse}
+use Rattle.exam_lists.proofs.Options.{is_some-map}
 use Rattle.sqlite.specs.Effect.{Database}
 use Rattle.sqlite_trees.proofs.ListLemmas.{all_weaker}
 use Rattle.exam_terms.specs.Refusing.{◌>>=◌, unless}
@@ -36,7 +37,7 @@ use Rattle.office_store.specs.Memory.{AreDraftRows, AreRescored, AreScored, IsMe
 use Rattle.office_store.specs.NewBatches.{AreDraftsWith, students_of, Enrols, IsNewFor, drafts_after, with_line, new_batch_put}
 use Rattle.office_store.specs.Running.{IsFault}
 use Rattle.office_store.specs.declared.memory.OfficeMemory.{OfficeMemory}
-use Rattle.office_store.proofs.RememberingLemmas.{is_some-map, twice, after_lines, next_is}
+use Rattle.office_store.proofs.RememberingLemmas.{twice, after_lines, next_is}
 use Rattle.office_store.proofs.EditCallLemmas.{there_of}
 use Rattle.office_batches.specs.BatchText.{batch_in}
 use Rattle.office_tables.specs.Alterations.{after_all}

@@ -7,7 +7,7 @@ use Rattle.std.proofs.lemmas.List.Elements.{filter-append}
 use Rattle.std.proofs.lemmas.List.Sorted.{IsPermutation-refl, IsPermutation-sym, IsPermutation-trans, IsPermutation-append, IsPermutation-reverse}
 use Rattle.std.proofs.lemmas.Option.{same_Some}
 use Rattle.exam_lists.proofs.Each.{each_none_pass}
-use Rattle.exam_lists.proofs.Keys.{all_of_other, each_left, none_of}
+use Rattle.exam_lists.proofs.Keys.{all_of_other, each_left, none_of, key_removed}
 use Rattle.exam_lists.proofs.Maps.{map_to_nil}
 use Rattle.exam_lists.proofs.Permutations.{IsPermutation-nil}
 use Rattle.sqlite_trees.proofs.ListLemmas.{IsPermutation-filter}
@@ -25,7 +25,7 @@ use Rattle.office_model.specs.Office.{Records, set_at, OfficeState}
 use Rattle.office_model.proofs.RecordLemmas.{left_records, made_records}
 use Rattle.office_records.specs.Representation.{TablesRepresentRecords, IsSound, IsScoredRow, RepresentsOffice, parts_of}
 use Rattle.office_records.specs.TableRows.{drafts_at, slots_at, slots_from, slot_rows, slot_row, number_if}
-use Rattle.exam_lists.proofs.Options.{none_from_test}
+use Rattle.exam_lists.proofs.Options.{none_from_test, is_some-map}
 use Rattle.exam_model.specs.Enrolments.{Enrolled}
 use Rattle.exam_model.specs.Instance.{Session}
 use Rattle.exam_terms.specs.Refusing.{◌>>=◌, else_err}
@@ -48,32 +48,10 @@ use Rattle.office_model.specs.declared.fault.Refusal.TheVariants.{File}
 use Rattle.office_model.specs.declared.fault.StoreFault.{StoreFault}
 use Rattle.office_model.specs.declared.fault.StoreFault.TheVariants.{NoDraft, DraftTaken, Store}
 use Rattle.office_store.proofs.CommandLemmas.{fault_of, Denies, MovesBy, Remembers, RowsChanged}
-use Rattle.office_store.proofs.RememberingLemmas.{is_some-map, next_is, one_changed}
+use Rattle.office_store.proofs.RememberingLemmas.{next_is, one_changed}
 use Rattle.office_store.proofs.RunLemmas.{IsKeptOf, remembered_of}
 
 -- ---- rows by a number of each, its key
-
--- the rows of one key after those of this or another key are deleted
-pub of_key_removed : {X Y : Type 0} (key : X → ℕ) (f : X → Y) (d n : ℕ) (b : Bool) → eqb n d ≡ b
-    → (xs : List X) → map f (filter (λ x. eqb (key x) n) (filter (λ x. not (eqb (key x) d)) xs))
-    ≡ cond b [] (map f (filter (λ x. eqb (key x) n) xs))
-of_key_removed key f d n true e xs = ap (map f) (none_of key d n (eqb-true n d e) xs)
-of_key_removed key f d n false e xs = ap (map f) (all_of_other key d n e xs)
-
--- the same, with one row in place of the deleted ones
-pub of_key_replaced : {X Y : Type 0} (key : X → ℕ) (f : X → Y) (x : X) (n : ℕ) (b : Bool) → eqb n (key x) ≡ b
-    → (xs : List X)
-    → map f (filter (λ y. eqb (key y) n) (x ∷ filter (λ y. not (eqb (key y) (key x))) xs))
-    ≡ cond b (f x ∷ []) (map f (filter (λ y. eqb (key y) n) xs))
-of_key_replaced key f x n true e xs =
-    let passes : eqb (key x) n ≡ true = grind (arith, nat_tests, e) in
-    let rest = filter (λ y. eqb (key y) n) (filter (λ y. not (eqb (key y) (key x))) xs) in
-    ap (λ c. map f (cond c (x ∷ rest) rest)) passes
-    ∙ ap (λ l. f x ∷ l) (of_key_removed key f (key x) n true e xs)
-of_key_replaced key f x n false e xs =
-    let fails : eqb (key x) n ≡ false = grind (arith, nat_tests, e) in
-    let rest = filter (λ y. eqb (key y) n) (filter (λ y. not (eqb (key y) (key x))) xs) in
-    ap (λ c. map f (cond c (x ∷ rest) rest)) fails ∙ of_key_removed key f (key x) n false e xs
 
 -- ---- the rows of one draft
 
@@ -210,8 +188,8 @@ module _ (t : Tables) (r : Records) (d : ℕ) (h : TablesRepresentRecords t r) w
   left_draft : (n : ℕ) (b : Bool) → eqb n d ≡ b
       → map (λ (x : DraftRow). x.no) (drafts_at n (filter (λ x. not (eqb x.no d)) t.draft))
       ≡ number_if (is_some (cond b None (r.draft n))) n
-  left_draft n true e = of_key_removed (λ (x : DraftRow). x.no) (λ x. x.no) d n true e t.draft
-  left_draft n false e = of_key_removed (λ (x : DraftRow). x.no) (λ x. x.no) d n false e t.draft ∙ h.draft n
+  left_draft n true e = key_removed (λ (x : DraftRow). x.no) (λ x. x.no) d n true e t.draft
+  left_draft n false e = key_removed (λ (x : DraftRow). x.no) (λ x. x.no) d n false e t.draft ∙ h.draft n
 
   left_slot : (n : ℕ) (b : Bool) → eqb n d ≡ b
       → IsPermutation (slots_at n (filter (λ s. not (eqb s.draft d)) t.slot))

@@ -23,7 +23,7 @@ use Rattle.office_tables.specs.declared.slot.DeleteSlot.{DeleteSlot}
 use Rattle.office_tables.specs.Inserted.{InsertSlot}
 use Rattle.office_store.specs.Changes.{move_writes, new_place, slot_put, slots_put, edit_put}
 use Rattle.office_records.specs.TableRows.{slots_at, slots_from, slot_row, drafts_at, slot_rows, number_if}
-use Rattle.exam_lists.proofs.Keys.{each_left}
+use Rattle.exam_lists.proofs.Keys.{each_left, key_replaced}
 use Rattle.sqlite.specs.Effect.{Database}
 use Rattle.exam_model.specs.Fits.{Fits}
 use Rattle.exam_model.specs.Instance.{Session}
@@ -40,7 +40,6 @@ use Rattle.exam_draft.specs.declared.edit.Edit.{Edit}
 use Rattle.office_model.specs.Office.{Records, set_at}
 use Rattle.office_records.specs.Representation.{TablesRepresentRecords, IsSound, IsScoredRow, RepresentsOffice, parts_of}
 use Rattle.office_model.proofs.RecordLemmas.{made_records}
-use Rattle.office_store.proofs.CallLemmas.{of_key_replaced}
 use Rattle.exam_draft.specs.declared.edit.Edit.TheVariants as edit
 
 -- ---- the places of a timetable except one
@@ -303,10 +302,10 @@ module _ (t : Tables) (r : Records) (T new : Placing) (row : DraftRow) (exams : 
       → map (λ (x : DraftRow). x.no) (drafts_at n replaced.draft)
       ≡ number_if (is_some (cond b (Some new) (r.draft n))) n
   edit_draft n true e =
-      of_key_replaced (λ (x : DraftRow). x.no) (λ x. x.no) row n true e t.draft
+      key_replaced (λ (x : DraftRow). x.no) (λ x. x.no) row n true e t.draft
       ∙ ap (λ m. m ∷ []) (sym (eqb-true n row.no e))
   edit_draft n false e =
-      of_key_replaced (λ (x : DraftRow). x.no) (λ x. x.no) row n false e t.draft ∙ h.draft n
+      key_replaced (λ (x : DraftRow). x.no) (λ x. x.no) row n false e t.draft ∙ h.draft n
 
   module _ (long : length T ≡ length new) (touches : Touches exams T new (length T)) where
     edit_slot : (n : ℕ) (b : Bool) → eqb n row.no ≡ b

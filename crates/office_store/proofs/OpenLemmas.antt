@@ -1,6 +1,5 @@
 -- The office that a database represents when it is opened, by whether it has a table.
-use Rattle.std.proofs.Common.{◌≡◌, ◌∙◌, ◌⊎◌, None, ap, arith, inl, inr, length, sym, Bool, true, false}
-use Rattle.std.specs.Prelude.{IsTrue}
+use Rattle.std.proofs.Common.{◌≡◌, ◌∙◌, ◌⊎◌, None, ap, arith, inl, inr, length, sym}
 use Rattle.sqlite.specs.Effect.{Database}
 use Rattle.sqlite_schema.specs.declared.schema.Schema.{Schema}
 use Rattle.office_tables.specs.Schema.{no_schema}
@@ -43,10 +42,6 @@ pub holds : (db : Database) (there : OfficeState) → (db.schema ≡ no_schema �
     → IsOfficeOf db there → HoldsOffice db there
 holds db there tables (inl is) = absurd (tables is.0)
 holds db there tables (inr held) = held
-
--- a test that fails
-pub fails : (b : Bool) (P : Type 0) → (P → IsTrue b) → b ≡ false → P → ⊥
-fails b P implies is holds = let never : true ≡ false = sym (implies holds) ∙ is in cc
 
 -- a fault of the database is `Store` or `BadSchema`
 pub or_none : {fault : StoreFault} {P : Type 0} → IsOfDatabase fault → (fault ≡ BadSchema → P)

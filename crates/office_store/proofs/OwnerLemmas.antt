@@ -3,6 +3,7 @@ use Rattle.std.proofs.Common.{◌≡◌, ℕ, ◌<◌, ◌≤◌, Bool, true, fa
 use Rattle.std.proofs.lemmas.Bool.Decides.{nat_tests}
 use Rattle.std.specs.Prelude.{Option, Some, None, length, IsPermutation}
 use Rattle.exam_lists.proofs.Permutations.{few_read}
+use Rattle.exam_lists.proofs.Keys.{key_removed, key_replaced}
 use Rattle.sqlite.specs.Effect.{Database}
 use Rattle.office_tables.specs.Alterations.{after_some}
 use Rattle.office_tables.specs.Tables.{Tables}
@@ -18,7 +19,6 @@ use Rattle.office_model.proofs.RecordLemmas.{owner_records}
 use Rattle.office_store.specs.Memory.{IsMemoryOf}
 use Rattle.office_store.specs.declared.memory.OfficeMemory.{OfficeMemory}
 use Rattle.office_store.proofs.CommandLemmas.{Denies, MovesBy, Remembers, RowsChanged}
-use Rattle.office_store.proofs.CallLemmas.{of_key_removed, of_key_replaced}
 use Rattle.office_store.proofs.RememberingLemmas.{next_is}
 use Rattle.office_store.proofs.RunLemmas.{remembered_of}
 use Rattle.exam_draft.specs.Edits.{exam_exists}
@@ -38,8 +38,8 @@ module _ (t : Tables) (r : Records) (e d : ℕ) (h : TablesRepresentRecords t r)
 
   none : (x : ℕ) (b : Bool) → eqb x e ≡ b
       → map (λ (o : OwnerRow). o.dept) (owners_at x left) ≡ some_dept (cond b 0 (r.owner_of x))
-  none x true f = of_key_removed (λ (o : OwnerRow). o.exam) (λ o. o.dept) e x true f t.owner
-  none x false f = of_key_removed (λ (o : OwnerRow). o.exam) (λ o. o.dept) e x false f t.owner ∙ h.owner x
+  none x true f = key_removed (λ (o : OwnerRow). o.exam) (λ o. o.dept) e x true f t.owner
+  none x false f = key_removed (λ (o : OwnerRow). o.exam) (λ o. o.dept) e x false f t.owner ∙ h.owner x
 
   abbrev pub row : OwnerRow
   row = record { exam = e; dept = d }
@@ -48,10 +48,10 @@ module _ (t : Tables) (r : Records) (e d : ℕ) (h : TablesRepresentRecords t r)
       → map (λ (o : OwnerRow). o.dept) (owners_at x (row ∷ left))
       ≡ some_dept (cond b d (r.owner_of x))
   one x true f is =
-      of_key_replaced (λ (o : OwnerRow). o.exam) (λ o. o.dept) row x true f t.owner
+      key_replaced (λ (o : OwnerRow). o.exam) (λ o. o.dept) row x true f t.owner
       ∙ sym (ap (λ c. cond c [] (d ∷ [])) is)
   one x false f is =
-      of_key_replaced (λ (o : OwnerRow). o.exam) (λ o. o.dept) row x false f t.owner ∙ h.owner x
+      key_replaced (λ (o : OwnerRow). o.exam) (λ o. o.dept) row x false f t.owner ∙ h.owner x
 
   zero_is : eqb d 0 ≡ true → 0 ≡ d
   zero_is is = grind (arith, nat_tests, is)

@@ -4,7 +4,7 @@ use Rattle.std.specs.Prelude.{IsPermutation, Vec, slice_get, slice_index, ◌||�
 use Rattle.std.specs.declared.alloc.Global.{Global}
 use Rattle.std.proofs.lemmas.Option.{get_or_from_slice_get, slice_get_within}
 use Rattle.std.proofs.lemmas.List.FromFn.{length-map-range_with_len}
-use Rattle.std.proofs.lemmas.List.Sorted.{IsPermutation-refl, IsPermutation-append, length_permutation, IsPermutation-reverse, IsPermutation-sym, IsPermutation-trans}
+use Rattle.std.proofs.lemmas.List.Sorted.{IsPermutation-refl, length_permutation, IsPermutation-sym, IsPermutation-trans}
 use Rattle.std.specs.List.{list_any}
 use Rattle.std.proofs.lemmas.List.{append-nil, nil_from_length}
 use Rattle.std.proofs.lemmas.Simd.{map-map}
@@ -19,7 +19,6 @@ use Rattle.exam_publish.specs.Rows.{enrolled_in, RowsInOrder}
 use Rattle.exam_publish.specs.declared.fault.PublishFault.{PublishFault}
 use Rattle.exam_publish.specs.declared.fault.PublishFault.TheVariants.{Broken, NoMemory, Unplaced}
 use Rattle.office_tables.specs.declared.seat.SeatRow.{SeatRow}
-use Rattle.exam_publish.proofs.AmongLemmas.{map_filter}
 use Rattle.exam_score.specs.Penalty.{Penalty, PersonalPenalty, total_of}
 use Rattle.exam_score.specs.Track.{track}
 use Rattle.exam_score.specs.FrontLoad.{exam_front}
@@ -37,8 +36,10 @@ use Rattle.office_store.specs.NewPublications.{AreInserted, Publishes, IsInserte
 use Rattle.office_store.specs.Running.{IsFault}
 use Rattle.office_store.specs.declared.new_publication.NewPublication.{NewPublication}
 use Rattle.exam_lists.proofs.Booleans.{eqb_swap}
+use Rattle.exam_lists.proofs.Filters.{filter-map}
 use Rattle.exam_lists.proofs.Maps.{map_back}
 use Rattle.exam_lists.proofs.Tests.{any_map}
+use Rattle.exam_lists.proofs.Permutations.{IsPermutation-reverse_as, IsPermutation-reverse_over}
 use Rattle.sqlite.specs.Effect.{Database}
 use Rattle.exam_model.specs.Fits.{Fits}
 use Rattle.exam_publish.proofs.PublishedLemmas.{same_enrolments}
@@ -116,7 +117,7 @@ pub rows_among : (students : List ℕ) (shares : List (ℕ × PersonalPenalty))
     → map student_share_row (filter (λ share. has_number students share.0) shares)
     ≡ share_rows_of students (map student_share_row shares)
 rows_among students shares =
-    map_filter student_share_row (λ row. has_number students row.student) shares
+    sym (filter-map (λ row. has_number students row.student) student_share_row shares)
 
 -- ---- refusals
 
@@ -267,18 +268,6 @@ shares_made new {gone = gone} {students = students} {parts = parts} a b c t =
 
 -- ---- the rows that are inserted
 
--- rows that are inserted, one after the other
-put_in : {X : Type 0} (rows xs : List X) → rows ≡ xs → IsPermutation (reverse rows) xs
-put_in rows xs is =
-    subst (IsPermutation (reverse rows)) is (IsPermutation-sym _ _ (IsPermutation-reverse rows))
-
--- inserted rows in front of the rows that are left after a delete
-put_over : {X Y : Type 0} (left : List Y → List X) (gone who : List Y) (rows xs : List X)
-    → gone ≡ who → rows ≡ xs → IsPermutation (reverse rows ++ left gone) (xs ++ left who)
-put_over left gone who rows xs same is =
-    IsPermutation-append _ _ _ _ (put_in rows xs is)
-    (subst (λ l. IsPermutation (left gone) (left l)) same (IsPermutation-refl (left gone)))
-
 -- no exam has two published placements
 own_of : (published : Option Publication) (before : List PlacedRow)
     → IsPermutation before (placed_rows published) → AreOwnExams before
@@ -295,7 +284,7 @@ placed_in : (published : Option Publication) (rows before placed : List PlacedRo
     ++ placements_without (map (λ (it : DeletePlacement). it.exam) gone) placed) rows
 placed_in published rows before placed gone put away come were are =
     IsPermutation-trans _ _ _
-    (put_over (λ (l : List ℕ). placements_without l placed)
+    (IsPermutation-reverse_over (λ (l : List ℕ). placements_without l placed)
     (map (λ (it : DeletePlacement). it.exam) gone) (exams_of (changed_rows before rows))
     (map (λ (it : InsertPlacement). it.row) put) (changed_rows rows before)
     (ap (map (λ (it : DeletePlacement). it.exam)) away
@@ -388,7 +377,7 @@ module _ (r : Records) (T : Placing) (is : AreRecords r) (fits : Fits r.session 
         let come = map stored_seat (rows_beside (publication_rows r.published) new_one.rows) in
         let gone = map stored_seat (rows_beside new_one.rows (publication_rows r.published)) in
         IsPermutation-trans _ _ _
-        (put_over (λ (l : List DeleteSeat). seats_left l t.seat)
+        (IsPermutation-reverse_over (λ (l : List DeleteSeat). seats_left l t.seat)
         new.seats_gone.items (map seat_gone gone)
         (map (λ (it : InsertSeat). it.row) new.seats.items) come
         put.seats_gone
@@ -405,7 +394,7 @@ module _ (r : Records) (T : Placing) (is : AreRecords r) (fits : Fits r.session 
         let all = student_share_rows r.session (Some new_one) in
         let before = candidates_before (publication_rows r.published) retimed in
         IsPermutation-trans _ _ _
-        (put_over (λ (l : List ℕ). share_rows_without l t.share_student)
+        (IsPermutation-reverse_over (λ (l : List ℕ). share_rows_without l t.share_student)
         (map (λ (it : DeleteStudentShare). it.student) new.deleted_shares.items) before
         (map (λ (it : InsertStudentShare). it.row) new.students.items) (share_rows_of retimed all)
         (ap (map (λ (it : DeleteStudentShare). it.student)) put.deleted_shares
@@ -440,7 +429,7 @@ module _ (r : Records) (T : Placing) (is : AreRecords r) (fits : Fits r.session 
       scored = h.scored;
       shared = record {
         of_students = share_of_rows h.shared.of_students;
-        of_parts = put_in _ (part_share_rows r.session (Some new_one))
+        of_parts = IsPermutation-reverse_as _ (part_share_rows r.session (Some new_one))
             (ap (map (λ (it : InsertPartShare). it.row)) put.parts
             ∙ map_back _ (λ (it : InsertPartShare). it.row) (λ x. refl)
             (part_share_rows r.session (Some new_one)));

@@ -1,6 +1,6 @@
 -- What is in memory after a command.
 use Rattle.std.proofs.Common.{◌≡◌, ℕ, ◌+◌, ◌<◌, ◌≤◌, inl, inr, subst, Bool, true, false, cond, eqb, eqb-true, List, length, Option, Some, None, Result, Ok, option_map, refl, sym, ◌∙◌, ap, arith}
-use Rattle.std.specs.Prelude.{IfSome, Vec, is_some}
+use Rattle.std.specs.Prelude.{IfSome, Vec}
 use Rattle.std.specs.declared.alloc.Global.{Global}
 use Rattle.std.proofs.lemmas.Bool.{cases_lt}
 use Rattle.std.proofs.lemmas.Bool.Decides.{nat_tests}
@@ -21,10 +21,6 @@ use Rattle.office_records.specs.Memory.{draft_at, with_penalty}
 use Rattle.office_records.specs.declared.drafts.Draft.{Draft}
 use Rattle.office_store.specs.Memory.{AreRescored, HasJudged, HasPublished, HasPut, IsMemoryOf, IsBatchApplied, rescored_draft}
 use Rattle.office_store.specs.declared.memory.OfficeMemory.{OfficeMemory}
-
-pub is_some-map : {X Y : Type 0} (f : X → Y) (x : Option X) → is_some (option_map f x) ≡ is_some x
-is_some-map f None = refl
-is_some-map f (Some x) = refl
 
 -- a command leads to only one office
 pub next_is : {A : Type 0} {x y : A} {o p : OfficeState}

@@ -102,11 +102,6 @@ pub leaves_tables : {S X : Type 0} {result : Result X Error} (g : Ghosts S) (q :
     → LeavesIfPlain sql g old new result → LeavesTables g old new result
 leaves_tables g q sql means old new h = leaves_after g q sql means old new h (λ _ p. p)
 
--- a permutation of a list's images is the images of a permutation of the list
-pub unmapped : {X Y : Type 0} (f : X → Y) (xs : List X) (ys : List Y) → IsPermutation (map f xs) ys
-    → (zs : List X) × (ys ≡ map f zs) × IsPermutation xs zs
-unmapped f xs ys h = let back = pull_back f _ _ h xs refl in (back.0, back.2, back.1)
-
 -- ---- answers
 
 pub command_is : (q : Query) (names : List (List ℕ)) (r : Result Compiled CompileError)
@@ -143,13 +138,13 @@ arranged from where_ shown order trees params rows a =
     let q = select_query from where_ shown order in
     let kept : a.kept ≡ map (output q) (matches trees where_ from (params ∷ [])) =
     a.distinct ∙ ap (map (output q)) a.grouped in
-    let u = unmapped (output q) (matches trees where_ from (params ∷ [])) a.ordered
-    (subst (λ k. IsPermutation k a.ordered) kept a.same) in
-    let up = subst (IsSorted (output_cmp q)) u.1 a.sorted in
+    let all = matches trees where_ from (params ∷ []) in
+    let u = pull_back (output q) _ _ (subst (λ k. IsPermutation k a.ordered) kept a.same) all refl in
+    let up = subst (IsSorted (output_cmp q)) u.2 a.sorted in
     let long = length-map u.0 (output q) in (
       u.0,
-      a.shown ∙ ap (map (λ (o : Output). o.1)) u.1 ∙ map-map (λ (o : Output). o.1) (output q) u.0,
-      u.2,
+      a.shown ∙ ap (map (λ (o : Output). o.1)) u.2 ∙ map-map (λ (o : Output). o.1) (output q) u.0,
+      u.1,
       λ k d low within. subst₂ (λ x y. is_lt (output_cmp q x y) ≡ false)
           (get_or-map (output q) u.0 (k + 1) d (output q d) within)
           (get_or-map (output q) u.0 k d (output q d) (omega arith))

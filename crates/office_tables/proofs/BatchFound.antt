@@ -10,7 +10,7 @@ use Rattle.exam_lists.proofs.Maps.{map_agree, map_same}
 use Rattle.sqlite_schema.specs.declared.schema.Constraint.TheVariants.{Datatype, NotNull}
 use Rattle.sqlite_schema.specs.Rules.{are_typed, are_present, passes, suits}
 use Rattle.sqlite_sql.specs.Ops.{is_null}
-use Rattle.sqlite_trees.proofs.ListLemmas.{map-map, all_of, all_both, all-map, all_from_map, all-permutation}
+use Rattle.sqlite_trees.proofs.ListLemmas.{map-map, pull_back, all_of, all_both, all-map, all_from_map, all-permutation}
 use Rattle.sqlite_value.specs.declared.value.Value.{Value}
 use Rattle.sqlite_value.specs.declared.value.Value.TheVariants.{Blob}
 use Rattle.sqlite_value.specs.Order.{Row, column}
@@ -23,7 +23,6 @@ use Rattle.office_tables.specs.Finders.{IsFound}
 use Rattle.office_tables.specs.Stored.{keyed_columns}
 use Rattle.office_tables.specs.Batch.{batch_columns}
 use Rattle.office_tables.specs.declared.batch.BatchCountsRow.{BatchCountsRow}
-use Rattle.office_tables.proofs.AskLemmas.{unmapped}
 use Rattle.office_tables.proofs.ListTexts.{counts_shown}
 use Rattle.office_tables.proofs.Queries.{column_later}
 use Rattle.office_tables.proofs.RecordsBack.{batch_of, counts_in}
@@ -95,11 +94,11 @@ module _ (version : Version) (db : Database) (is : db.schema ≡ schema_of versi
       let shown = map keyed_columns (db.trees 14) in
       let moved = subst (λ l. IsPermutation l (map counts_columns found.items)) (sym counts_listed)
       holds.same in
-      let u = unmapped picked shown (map counts_columns found.items) moved in
-      let here = all-permutation IsWhole shown u.0 u.2 all_whole in
+      let u = pull_back picked _ _ moved shown refl in
+      let here = all-permutation IsWhole shown u.0 u.1 all_whole in
       let Counted = λ (q : Row). (f : BatchCountsRow) × (q ≡ counts_columns f) in
       let counted : AllByRecursion (λ q. Counted (picked q)) u.0 =
-      all_from_map Counted picked u.0 (subst (AllByRecursion Counted) u.1
+      all_from_map Counted picked u.0 (subst (AllByRecursion Counted) u.2
       (all-map Counted counts_columns found.items (all_of _ (λ f. (f, refl)) found.items))) in
       let rows : u.0 ≡ map batch_columns (map batch_of u.0) =
       all_same (λ q. batch_columns (batch_of q)) u.0
@@ -108,11 +107,11 @@ module _ (version : Version) (db : Database) (is : db.schema ≡ schema_of versi
       ∙ sym (map-map batch_columns batch_of u.0) in
       let numbers : map counts_of (map batch_of u.0) ≡ found.items =
       map-map counts_of batch_of u.0 ∙ sym (map-map counts_in picked u.0)
-      ∙ ap (map counts_in) (sym u.1) ∙ map-map counts_in counts_columns found.items
+      ∙ ap (map counts_in) (sym u.2) ∙ map-map counts_in counts_columns found.items
       ∙ map_same (λ f. counts_in (counts_columns f)) (λ f. refl) found.items in (
         map batch_of u.0,
         numbers,
-        record { rowids = holds.rowids; same = subst (IsPermutation shown) rows u.2 },
+        record { rowids = holds.rowids; same = subst (IsPermutation shown) rows u.1 },
       )
   batches_found None none = λ batches fit holds.
       let typed : map picked (map batch_columns batches)

@@ -10,7 +10,7 @@ use Rattle.sqlite_rules.specs.Cast.{cast_row}
 use Rattle.sqlite_rules.specs.Edit.{are_fresh, numbered, put_all}
 use Rattle.sqlite_rules.specs.declared.error.Rowids.TheVariants.{Chosen}
 use Rattle.sqlite_trees.specs.Tree.{put_row}
-use Rattle.sqlite_trees.proofs.ListLemmas.{map-map}
+use Rattle.sqlite_trees.proofs.ListLemmas.{map-map, pull_back}
 use Rattle.sqlite_value.specs.declared.keys.Collation.TheVariants.{Binary}
 use Rattle.sqlite_value.specs.declared.value.Value.TheVariants.{Int, Null}
 use Rattle.sqlite_value.specs.Order.{Row, column}
@@ -39,7 +39,6 @@ use Rattle.office_tables.specs.ShareStudent.{share_student_columns, night_share_
 use Rattle.office_tables.specs.TablesHeld.{HoldsTables, HoldsOldTables, all_columns}
 use Rattle.office_tables.specs.Stored.{Holds, keyed_columns}
 use Rattle.office_tables.specs.Tables.{Tables}
-use Rattle.office_tables.proofs.AskLemmas.{unmapped}
 use Rattle.office_tables.proofs.Casts.{cast_int, cast_null}
 use Rattle.office_tables.proofs.Frames.{AllShown, OneShown, all_still, both_held, holds_none, night_tables, shown_next, tables_held}
 use Rattle.office_tables.proofs.DeleteLemmas.{cleared}
@@ -122,10 +121,10 @@ module _ (sql : List ℕ) (plain : IsPlain (understood office_schema sql)) (at t
       (passed columns_of keyed_columns (shown_of [] fill_terms) front (λ _. refl) (λ x. fills (key x))
       (λ x. ap (λ v. v ∷ Null ∷ Int (pos 0) ∷ []) (firsts x)) (passes [] []) (λ _. true) (λ _. refl)
       (λ _. true) (λ _. refl) (old.now.trees from) xs holds.same)) in
-      let u = unmapped fills (map key xs) done.0
-      (IsPermutation-trans _ _ _ (IsPermutation-sym _ _ typed) answer) in
+      let u = pull_back fills _ _
+      (IsPermutation-trans _ _ _ (IsPermutation-sym _ _ typed) answer) (map key xs) refl in
       let cast : map (λ s. cast_row table (drop 0 s)) done.0 ≡ map fills u.0 =
-      ap (map (λ s. cast_row table (drop 0 s))) u.1
+      ap (map (λ s. cast_row table (drop 0 s))) u.2
       ∙ map-map (λ s. cast_row table (drop 0 s)) fills u.0
       ∙ map_agree (λ n. cast_row table (drop 0 (fills n))) fills cast_same u.0 in
       let news : numbered Chosen (old.now.trees tree) (map (λ s. cast_row table (drop 0 s)) done.0)
@@ -140,7 +139,7 @@ module _ (sql : List ℕ) (plain : IsPlain (understood office_schema sql)) (at t
       edit.rows ∙ ap (put_all (old.now.trees tree)) news in
       let same : IsPermutation (map amounts u.0) (map (λ x. amounts (key x)) xs) =
       subst (IsPermutation (map amounts u.0)) (map-map amounts key xs)
-      (IsPermutation-map amounts _ _ (IsPermutation-sym _ _ u.2)) in
+      (IsPermutation-map amounts _ _ (IsPermutation-sym _ _ u.1)) in
       record {
         schema = done.1;
         others = edit.tables;

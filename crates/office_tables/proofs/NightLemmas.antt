@@ -1,6 +1,6 @@
 -- Rows of two tables with the same numbers, as the rows of one list.
 use Rattle.std.proofs.lemmas.Grind.{common_steps}
-use Rattle.std.proofs.Common.{◌≡◌, ◌≢◌, ◌<ℤ◌, int_cmp, Less, ℕ, ℤ, pos, List, [], ◌∷◌, map, Option, Some, None, refl, sym, ap, subst, ◌∙◌, arith, IsPermutation}
+use Rattle.std.proofs.Common.{◌≡◌, ◌≢◌, ◌<ℤ◌, int_cmp, Less, ℕ, ℤ, pos, unsigned_abs, List, [], ◌∷◌, map, Option, Some, None, refl, sym, ap, subst, ◌∙◌, arith, IsPermutation}
 use Rattle.std.specs.List.{AllByRecursion}
 use Rattle.std.specs.Prelude.{Vec, IfSome}
 use Rattle.std.specs.declared.alloc.Global.{Global}
@@ -8,7 +8,7 @@ use Rattle.std.specs.List.Sorted.{IsStrictlySortedBy}
 use Rattle.std.proofs.lemmas.Cmp.{int_cmp_total}
 use Rattle.std.proofs.lemmas.Int.{ints}
 use Rattle.std.proofs.lemmas.List.Sorted.{Contains-permutation, IsPermutation-map, IsPermutation-sym, IsPermutation-trans}
-use Rattle.exam_lists.proofs.Maps.{map_agree, map_back}
+use Rattle.exam_lists.proofs.Maps.{map_agree, same_unmapped}
 use Rattle.exam_lists.proofs.Sorted.{same_sorted, sorted_cons, sorted_nil}
 use Rattle.sqlite_rules.specs.Edit.{id_in}
 use Rattle.sqlite_trees.specs.Tree.{IsAscending}
@@ -45,16 +45,7 @@ one_order xs ys p q same =
     (λ x. Contains-permutation xs ys x same) (λ x. Contains-permutation ys xs x (IsPermutation-sym _ _ same))
 
 same_ints : (xs ys : List ℤ) → map Int xs ≡ map Int ys → xs ≡ ys
-same_ints xs ys same =
-    sym (map_back Int id_in (λ _. refl) xs) ∙ ap (map id_in) same ∙ map_back Int id_in (λ _. refl) ys
-
-same_numbers : (xs ys : List ℕ) → map pos xs ≡ map pos ys → xs ≡ ys
-same_numbers xs ys same =
-    sym (map_back pos back (λ _. refl) xs) ∙ ap (map back) same ∙ map_back pos back (λ _. refl) ys
-  where
-    back : ℤ → ℕ
-    back (pos n) = n
-    back _ = 0
+same_ints = same_unmapped Int id_in (λ _. refl)
 
 -- numbers in a column that rises rise
 pub keys_rise : {X : Type 0} (row_of : X → Row) (at : ℕ) (key : X → ℕ)
@@ -162,7 +153,7 @@ module _ {X : Type 0} (fits : X → Type 0) (shown columns_of nights_of : X → 
       (IsPermutation-trans _ _ _ (IsPermutation-sym _ _ two.same) second.same) in
       let first_up = keys_rise columns_of 0 number splits.number_is rows up in
       let second_up = keys_rise night_columns 0 amount (λ n. refl) nights rise in
-      differ (same_numbers (map number rows) (map amount nights)
+      differ (same_unmapped pos unsigned_abs (λ _. refl) (map number rows) (map amount nights)
       (one_order (map pos (map number rows)) (map pos (map amount nights)) first_up second_up
       (IsPermutation-trans _ _ _ there here)))
 

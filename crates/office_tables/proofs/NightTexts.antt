@@ -1,9 +1,8 @@
 -- The rows that queries read from two tables, if the rows of both have the same numbers.
 use Rattle.std.proofs.lemmas.Grind.{common_steps}
-use Rattle.std.proofs.Common.{◌≡◌, ◌≢◌, inl, inr, ℕ, pos, List, [], ◌∷◌, ◌++◌, map, filter, flat_map, Bool, true, false, cond, ◌&&◌, ◌==◌, refl, sym, ap, subst, ◌∙◌, arith, IsPermutation}
-use Rattle.std.specs.List.{AllByRecursion}
+use Rattle.std.proofs.Common.{◌≡◌, ◌≢◌, inl, inr, ℕ, pos, List, [], ◌∷◌, map, filter, flat_map, Bool, true, cond, ◌&&◌, ◌==◌, sym, ap, subst, ◌∙◌, arith, IsPermutation}
 use Rattle.std.proofs.lemmas.Bool.Decides.{nat_tests}
-use Rattle.exam_lists.proofs.Filters.{filter_false}
+use Rattle.exam_lists.proofs.Keys.{each_with_itself, no_partner}
 use Rattle.exam_lists.proofs.Maps.{map_agree}
 use Rattle.sqlite_sql.specs.declared.ops.BinaryOp.TheVariants.{Compare}
 use Rattle.sqlite_sql.specs.declared.ops.CompareOp.TheVariants.{Eq}
@@ -29,11 +28,6 @@ module _ {X : Type 0} (key : X → ℕ) where
   itself : (n : ℕ) → (n == n) ≡ true
   itself n = grind (arith, nat_tests)
 
-  no_partner : (x : X) (xs : List X) → AllByRecursion (λ y. key x ≢ key y) xs
-      → filter (λ y. key y == key x) xs ≡ []
-  no_partner x [] all = refl
-  no_partner x (y ∷ ys) all = grind (arith, common_steps, no_partner x ys all.1)
-
   one_partner : (xs : List X) → IsAscending (λ a b. key a ≢ key b) xs → (x : X) → Has xs x
       → filter (λ y. key y == key x) xs ≡ x ∷ []
   one_partner [] once x h = absurd h
@@ -41,28 +35,14 @@ module _ {X : Type 0} (key : X → ℕ) where
       subst (λ z. filter (λ w. key w == key z) (y ∷ ys) ≡ z ∷ []) (sym same)
       (ap (λ b. cond b (y ∷ filter (λ z. key z == key y) ys) (filter (λ z. key z == key y) ys))
       (itself (key y))
-      ∙ ap (λ l. y ∷ l) (no_partner y ys once.0))
+      ∙ ap (λ l. y ∷ l) (no_partner key y ys once.0))
   one_partner (y ∷ ys) once x (inr later) = grind (arith, common_steps, all_has, one_partner ys once.1 x later)
 
   module _ {Y : Type 0} (t : X → Bool) (f : X → X → Y) (xs : List X) where
-    one_pair : (b : Bool) (x : X) → filter (λ y. key y == key x) xs ≡ x ∷ []
-        → (rest : List Y) (later : List X) → rest ≡ map (λ z. f z z) later
-        → map (f x) (filter (λ y. b && (key y == key x)) xs) ++ rest
-        ≡ map (λ z. f z z) (cond b (x ∷ later) later)
-    one_pair true x single rest later is =
-        ap (λ l. map (f x) l ++ rest) single ∙ ap (λ l. f x x ∷ l) is
-    one_pair false x single rest later is = ap (λ l. map (f x) l ++ rest) (filter_false xs) ∙ is
-
-    pairs_of : (zs : List X) → AllByRecursion (λ x. filter (λ y. key y == key x) xs ≡ x ∷ []) zs
-        → flat_map (λ x. map (f x) (filter (λ y. t x && (key y == key x)) xs)) zs
-        ≡ map (λ x. f x x) (filter t zs)
-    pairs_of [] all = refl
-    pairs_of (x ∷ zs) all = one_pair (t x) x all.0 _ (filter t zs) (pairs_of zs all.1)
-
     pub paired : IsAscending (λ a b. key a ≢ key b) xs
         → flat_map (λ x. map (f x) (filter (λ y. t x && (key y == key x)) xs)) xs
         ≡ map (λ x. f x x) (filter t xs)
-    paired once = pairs_of xs (all_from _ xs (one_partner xs once))
+    paired once = each_with_itself key t f xs xs (all_from _ xs (one_partner xs once))
 
 -- ---- the matches of a join
 

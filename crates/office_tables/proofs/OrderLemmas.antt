@@ -1,16 +1,16 @@
 -- Rows in the order of ORDER BY, as records in the order of their numbers.
 use Rattle.std.proofs.lemmas.Grind.{common_steps}
-use Rattle.std.proofs.Common.{◌≡◌, ◌≤◌, ℕ, zero, suc, ◌+◌, ◌<◌, pos, Bool, false, List, [], ◌∷◌, map, filter, length, get_or, nat_cmp, int_cmp, Ordering, Less, is_lt, refl, sym, ap, ap₂, subst, subst₂, ◌∙◌, arith, IsPermutation}
+use Rattle.std.proofs.Common.{◌≡◌, ◌≤◌, ℕ, zero, suc, ◌+◌, ◌<◌, pos, Bool, List, [], ◌∷◌, map, filter, length, get_or, nat_cmp, int_cmp, Ordering, Less, is_lt, refl, sym, ap, ap₂, subst, ◌∙◌, arith, IsPermutation}
 use Rattle.std.specs.Prelude.{slice_index_or, IsSortedByKey}
 use Rattle.std.specs.List.{AllByRecursion}
 use Rattle.std.specs.Ordering.{on}
 use Rattle.std.specs.Cmp.Lexicographic.{slice_cmp}
-use Rattle.std.proofs.lemmas.Bool.Decides.{nat_tests}
 use Rattle.std.proofs.lemmas.Cmp.{on_total, nat_list_cmp_total}
 use Rattle.std.proofs.lemmas.Int.{ints}
 use Rattle.std.proofs.lemmas.List.{get_or-map, length-map}
 use Rattle.std.proofs.lemmas.List.Sorted.{IsPermutation-map, IsPermutation-trans, IsPermutation-sym}
-use Rattle.exam_lists.proofs.Maps.{map_agree, map_back}
+use Rattle.exam_lists.proofs.Maps.{map_agree, same_unmapped}
+use Rattle.exam_lists.proofs.Orders.{single_less}
 use Rattle.sqlite_value.specs.declared.value.Value.{Value}
 use Rattle.sqlite_value.specs.declared.value.Value.TheVariants.{Int, Null}
 use Rattle.sqlite_value.specs.declared.keys.Collation.TheVariants.{Binary}
@@ -18,7 +18,7 @@ use Rattle.sqlite_value.specs.declared.keys.Key.{Key}
 use Rattle.sqlite_value.specs.Keys.{ascending}
 use Rattle.sqlite_value.specs.Order.{Row, column, value_cmp}
 use Rattle.sqlite_value.proofs.OrderLemmas.{value_cmp-Int}
-use Rattle.sqlite_trees.proofs.ListLemmas.{map-map, all_of, all-map, all-permutation, ascending_weaker}
+use Rattle.sqlite_trees.proofs.ListLemmas.{map-map, pull_back, all_of, all-map, all-permutation, ascending_weaker}
 use Rattle.sqlite_keyed.proofs.SortLemmas.{sorted_unique}
 use Rattle.sqlite_sql.proofs.QueryLemmas.{key_cmp_shift}
 use Rattle.sqlite_trees.specs.Tree.{Trees, IsAscending}
@@ -27,7 +27,7 @@ use Rattle.sqlite.specs.Term.{Term, Env, lit, eval, eval_all}
 use Rattle.office_tables.specs.Asking.{select_query, IsReadOf}
 use Rattle.office_tables.specs.Records.{columns_from}
 use Rattle.office_tables.specs.Selections.{AreListed}
-use Rattle.office_tables.proofs.AskLemmas.{arranged, unmapped}
+use Rattle.office_tables.proofs.AskLemmas.{arranged}
 use Rattle.office_tables.proofs.Queries.{matched, passes, shown_filter}
 
 -- ---- an order by numbers
@@ -95,25 +95,6 @@ only_order key xs ys strict same up =
 
 -- ---- orders in words of numbers
 
-pub one_less : (a b : ℕ) → a < b → numbers_cmp (a ∷ []) (b ∷ []) ≡ Less
-one_less a b low = grind (arith, nat_tests)
-
--- lists with the same numbers, in the same order, both rise or neither does
-pub rise_alike : {R : Type 0} (key : R → List ℕ) (xs ys : List R) → map key xs ≡ map key ys
-    → Rises key xs → Rises key ys
-rise_alike {R} key xs ys same up =
-    λ k d low within.
-    let long : length xs ≡ length ys =
-    sym (length-map xs key) ∙ ap length same ∙ length-map ys key in
-    subst₂ (λ m n. is_lt (numbers_cmp m n) ≡ false) (at (k + 1) d (omega (arith, long)) within)
-    (at k d (omega (arith, long)) (omega arith)) (up k d low (omega (arith, long)))
-  where
-    at : (k : ℕ) (d : R) → k < length xs → k < length ys
-        → key (get_or xs k d) ≡ key (get_or ys k d)
-    at k d here there =
-        sym (get_or-map key xs k d [] here) ∙ ap (λ l. get_or l k []) same
-        ∙ get_or-map key ys k d [] there
-
 -- a list that rises is the one list of its rows that rises strictly
 pub in_this_order : {R : Type 0} (Before : R → R → Type 0) (key : R → List ℕ)
     → ((x y : R) → Before x y → numbers_cmp (key x) (key y) ≡ Less)
@@ -132,7 +113,7 @@ pub by_number : {R : Type 0} (number : R → ℕ) (rows found : List R)
     → AreListed (IsAscending (λ a b. number a < number b)) rows found
 by_number number =
     in_this_order (λ a b. number a < number b) (λ x. number x ∷ [])
-    (λ x y. one_less (number x) (number y))
+    (λ x y. single_less (number x) (number y))
 
 -- ---- from matches to records
 
@@ -143,17 +124,6 @@ pub typed : {R X : Type 0} (row_of : X → Row) (row : R → X) (width : ℕ) (p
     → IsReadOf row_of width params q trees (map row records)
 typed row_of row width params q trees records h =
     (h.0, map-map row_of row records ∙ h.1, h.2)
-
--- if the typed rows rise, so do the records
-pub rises_typed : {R X : Type 0} (key : X → List ℕ) (row : R → X) (records : List R)
-    → Rises key (map row records) → Rises (λ r. key (row r)) records
-rises_typed key row records up =
-    λ k d low within.
-    let long = length-map records row in
-    subst₂ (λ m n. is_lt (numbers_cmp m n) ≡ false)
-    (ap key (get_or-map row records (k + 1) d (row d) within))
-    (ap key (get_or-map row records k d (row d) (omega arith)))
-    (up k (row d) low (omega (arith, long)))
 
 module _ {R : Type 0} (record_of : Row → R) (row_of : R → Row) (width : ℕ)
     (back : (x : R) → record_of (row_of x) ≡ x)
@@ -171,27 +141,26 @@ module _ {R : Type 0} (record_of : Row → R) (row_of : R → Row) (width : ℕ)
       let found = a.0 in
       let moved = IsPermutation-trans _ _ _ (IsPermutation-sym _ _ shows)
       (IsPermutation-map (eval_all shown) _ _ a.2) in
-      let u = unmapped row_of xs (map (eval_all shown) found) moved in
+      let u = pull_back row_of _ _ moved xs refl in
       let columns : map row_of records ≡ map row_of u.0 =
-      h.1 ∙ ap (map (columns_from 0 width)) (a.1 ∙ u.1)
+      h.1 ∙ ap (map (columns_from 0 width)) (a.1 ∙ u.2)
       ∙ map-map (columns_from 0 width) row_of u.0
       ∙ map_agree (λ x. columns_from 0 width (row_of x)) row_of whole u.0 in
       let is : records ≡ u.0 =
-      sym (map_back row_of record_of back records) ∙ ap (map record_of) columns
-      ∙ map_back row_of record_of back u.0 in
+      same_unmapped row_of record_of back records u.0 columns in
       let long : length found ≡ length u.0 =
-      sym (length-map found (eval_all shown)) ∙ ap length u.1 ∙ length-map u.0 row_of in
+      sym (length-map found (eval_all shown)) ∙ ap length u.2 ∙ length-map u.0 row_of in
       let at : (k : ℕ) (d : R) → k < length u.0
       → map (column (eval_all shown (get_or found k []))) by ≡ map int (key (get_or u.0 k d)) =
       λ k d lt. ap (λ (q : Row). map (column q) by)
       (sym (get_or-map (eval_all shown) found k [] [] (omega arith))
-      ∙ ap (λ (l : List Row). get_or l k []) u.1 ∙ get_or-map row_of u.0 k d [] lt)
+      ∙ ap (λ (l : List Row). get_or l k []) u.2 ∙ get_or-map row_of u.0 k d [] lt)
       ∙ keyed (get_or u.0 k d) in
       let up : Rises key u.0 = λ k d low within.
       sym (ap is_lt (sort_is shown by _ _ (key (get_or u.0 (k + 1) d)) (key (get_or u.0 k d))
       (at (k + 1) d within) (at k d (omega arith))))
       ∙ a.3 k [] low (omega arith) in
-      (subst (IsPermutation xs) (sym is) u.2, subst (Rises key) (sym is) up)
+      (subst (IsPermutation xs) (sym is) u.1, subst (Rises key) (sym is) up)
 
 -- if the matches show these typed rows, the rows of an answer show them too
 pub columns_shown : {R : Type 0} (row_of : R → Row) (width : ℕ)

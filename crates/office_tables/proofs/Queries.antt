@@ -1,6 +1,6 @@
 -- The answer of a query over one table, and the rows that a DELETE by such a query leaves.
 use Rattle.std.proofs.lemmas.Grind.{common_steps}
-use Rattle.std.proofs.Common.{◌≡◌, inl, inr, ℕ, ℤ, suc, pos, List, [], ◌∷◌, map, filter, flat_map, drop, not, Bool, true, false, cond, ◌&&◌, ◌||◌, ◌==◌, ◌^◌, Some, None, refl, sym, ap, ap₂, subst, ◌∙◌, arith, Ordering, Equal, is_eq, int_cmp}
+use Rattle.std.proofs.Common.{◌≡◌, inl, inr, ℕ, ℤ, suc, pos, List, [], ◌∷◌, map, filter, flat_map, drop, not, Bool, true, false, cond, ◌&&◌, ◌||◌, ◌==◌, ◌^◌, Some, None, refl, sym, ap, ap₂, subst, ◌∙◌, arith, Equal, is_eq, int_cmp}
 use Rattle.std.specs.List.{list_any, list_all}
 use Rattle.std.specs.Prelude.{IsPermutation, nat_le, unwrap_or}
 use Rattle.std.proofs.lemmas.Bool.{cases_Bool, false_from_ne_true}
@@ -23,6 +23,7 @@ use Rattle.std.proofs.lemmas.Int.{ints}
 use Rattle.std.proofs.Math.Bool.{and-true}
 use Rattle.exam_lists.proofs.Booleans.{cond_same}
 use Rattle.exam_lists.proofs.Filters.{filter-filter}
+use Rattle.exam_lists.proofs.Orders.{equal_from_test}
 use Rattle.office_tables.specs.Stored.{HasRowids}
 pub use Rattle.office_tables.specs.Listings.{one_table}
 use Rattle.office_tables.proofs.TableLemmas.{rowid_once}
@@ -134,10 +135,6 @@ without_is (id ∷ ids) rows =
     de_morgan true b = refl
     de_morgan false b = refl
 
-is_equal : (o : Ordering) → is_eq o ≡ true → o ≡ Equal
-is_equal Equal h = refl
-is_equal _ h = absurd (cc)
-
 unmapped : {A B : Type 0} (f : A → B) (xs : List A) (y : B) → Has (map f xs) y
     → (x : A) × Has xs x × (y ≡ f x)
 unmapped f [] y h = absurd h
@@ -175,7 +172,7 @@ left_of test stored rows rowids same =
         let is = int_is (rowid other) (all_has _ stored other rowids.ints k) in
         let here = int_is (rowid r) (all_has _ stored r rowids.ints h) in
         let both : value_cmp (Int (id_of r)) (Int (id_of other)) ≡ Equal =
-        ap (λ v. value_cmp v (Int (id_of other))) (sym here) ∙ is_equal _ e in
+        ap (λ v. value_cmp v (Int (id_of other))) (sym here) ∙ equal_from_test _ e in
         rowid_once stored r other rowids h k
         (here ∙ ap Int (same_integer _ _ (sym (value_cmp-Int (id_of r) (id_of other)) ∙ both))
         ∙ sym is)

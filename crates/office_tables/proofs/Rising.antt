@@ -1,6 +1,6 @@
 -- Numbers of rows that rise, and numbers that are distinct.
 use Rattle.std.proofs.lemmas.Grind.{common_steps}
-use Rattle.std.proofs.Common.{◌≡◌, ◌≢◌, ◌<ℤ◌, ℕ, zero, suc, ℤ, List, [], ◌∷◌, ◌++◌, map, take, drop, length, Option, Some, None, Ordering, Less, Equal, Greater, is_lt, int_cmp, add-one, false, refl, sym, ap, ap₂, subst, ◌∙◌, IsSorted, arith}
+use Rattle.std.proofs.Common.{◌≡◌, ◌≢◌, ◌<ℤ◌, ℕ, zero, suc, ℤ, List, [], ◌∷◌, ◌++◌, map, take, drop, length, Option, Some, None, Equal, is_lt, int_cmp, add-one, false, refl, sym, ap, ap₂, subst, ◌∙◌, IsSorted, arith}
 use Rattle.std.specs.List.{AllByRecursion}
 use Rattle.std.specs.Ordering.{ordering_then}
 use Rattle.std.specs.Prelude.{IfSome}
@@ -8,6 +8,7 @@ use Rattle.std.proofs.lemmas.Bool.Decides.{nat_tests}
 use Rattle.std.proofs.lemmas.Int.{ints}
 use Rattle.std.proofs.lemmas.List.{map-append, take-map}
 use Rattle.exam_lists.proofs.Each.{each_at_middle, each_take}
+use Rattle.exam_lists.proofs.Orders.{then_equal}
 use Rattle.sqlite_rules.specs.Edit.{id_in}
 use Rattle.sqlite_rules.proofs.TableLemmas.{int_is}
 use Rattle.sqlite_trees.specs.Tree.{rowid, IsAscending}
@@ -70,11 +71,6 @@ pub rowids_from_rising : (at : ℕ) (rows : List Row) → ColumnRises at rows
 rowids_from_rising at rows h = rowids_of at rows h.0 h.1 h.2
 
 -- ---- sorted rows with distinct numbers have numbers that rise
-
-then_equal : (o : Ordering) → ordering_then o Equal ≡ o
-then_equal Less = refl
-then_equal Equal = refl
-then_equal Greater = refl
 
 by_one : (u v : Value) (a b : ℤ) → u ≡ Int a → v ≡ Int b
     → key_cmp 0 (ascending Binary ∷ []) (u ∷ []) (v ∷ []) ≡ int_cmp a b

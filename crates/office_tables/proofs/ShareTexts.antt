@@ -4,6 +4,7 @@ use Rattle.std.proofs.Common.{◌≡◌, ℕ, pos, List, [], ◌∷◌, map, fil
 use Rattle.std.specs.List.{AllByRecursion}
 use Rattle.std.proofs.lemmas.List.Sorted.{IsPermutation-map, IsPermutation-sym}
 use Rattle.exam_lists.proofs.Filters.{filter_every}
+use Rattle.exam_lists.proofs.Sorted.{sorted_by_alike, sorted_by_map}
 use Rattle.sqlite_trees.specs.Tree.{Trees}
 use Rattle.sqlite_trees.proofs.ListLemmas.{all_of, all-map, map-map}
 use Rattle.sqlite_value.specs.declared.value.Value.TheVariants.{Int}
@@ -29,7 +30,7 @@ use Rattle.office_tables.specs.SharePart.{share_part_columns}
 use Rattle.office_tables.specs.Selections.{AreListed}
 use Rattle.office_tables.proofs.NightLemmas.{bare_columns_are, bare_holds, bare_rows, bare_shown, no_nights, none_over_night, shown_holds}
 use Rattle.office_tables.proofs.NightTexts.{joined_shown, same_number}
-use Rattle.office_tables.proofs.OrderLemmas.{Rises, by_number, columns_shown, int, read, rise_alike, rises_typed, rising, table_shown, typed}
+use Rattle.office_tables.proofs.OrderLemmas.{Rises, numbers_cmp, by_number, columns_shown, int, read, rising, table_shown, typed}
 use Rattle.office_tables.proofs.Queries.{column_less, column_later, equal_pairs, equals}
 use Rattle.office_tables.proofs.RecordLemmas.{IsFull}
 use Rattle.office_tables.proofs.RecordsBack.{number, student_share_of, part_share_of}
@@ -137,7 +138,7 @@ first_read db xs rows holds is =
           (subst (λ l. IsPermutation l (map share_with_none (map bare_share rows)))
           (shares_back xs none)
           (IsPermutation-map share_with_none _ _ found.0)),
-      rises_typed (λ (b : BareShare). b.student ∷ []) bare_share rows found.1,
+      sorted_by_map numbers_cmp (λ (b : BareShare). b.student ∷ []) bare_share rows found.1,
     )
 
 -- if no share has an amount over night, the first list has the shares
@@ -224,7 +225,7 @@ student_shares_read db t represents found is =
           (holds_moved keyed_columns _ _ (db.trees 11) columns (held_at 7 represents))
           represents.night_share
           (holds_moved keyed_columns _ _ (db.trees 16) amounts represents.night_share),
-      rise_alike (λ (x : StudentShareRow). x.student ∷ []) is.rows found
+      sorted_by_alike numbers_cmp (λ (x : StudentShareRow). x.student ∷ []) is.rows found
           (sym (same_numbers found is.rows is.columns)) first.1,
     )
 

@@ -1,5 +1,5 @@
 -- The effect of a statement of a known form, for any table.
-use Rattle.std.proofs.Common.{◌≡◌, ◌/◌, ◌⊎◌, inl, inr, ℕ, List, [], ◌∷◌, ◌++◌, length, slice_get, false, Some, None, Ok, Err, sym, ap, subst, ◌∙◌, append-nil}
+use Rattle.std.proofs.Common.{◌≡◌, ◌/◌, ℕ, List, [], ◌∷◌, ◌++◌, length, slice_get, false, Some, None, Ok, sym, ap, subst, ◌∙◌, append-nil}
 use Rattle.sqlite_trees.specs.Tree.{Trees}
 use Rattle.sqlite_schema.specs.declared.schema.Table.{Table}
 use Rattle.sqlite_schema.specs.declared.schema.Schema.{Schema}
@@ -25,18 +25,12 @@ use Rattle.sqlite.specs.Does.{Tally, Does, lacks_sequence}
 use Rattle.sqlite.specs.Change.{created, next_tree, KeepsRows}
 use Rattle.sqlite.specs.Compile.{table_defined_by}
 use Rattle.std.specs.List.{AllByRecursion}
-use Rattle.exam_lists.proofs.Results.{same_Ok}
+use Rattle.exam_lists.proofs.Results.{same_Ok, did_not_stop}
 pub use Rattle.office_tables.specs.Inserting.{simple_table}
 use Rattle.office_tables.specs.Schema.{HasRows}
 use Rattle.sqlite.specs.Rows.{Written}
 use Rattle.sqlite.specs.State.{State, mode_of, Writes, Executes, Runs, Shown}
 use Rattle.sqlite.proofs.Callers.{IsPlain, command_of, statement_of, runs_as, reads_as, one_step}
-
--- a step that returned a value did not stop
-pub went : {B E R : Type 0} {b : B} {Stops : E → Type 0}
-    → ((stop : E) × Stops stop × (Ok b ≡ Err stop)) ⊎ R → R
-went (inl stopped) = absurd (let e = stopped.2 in cc)
-went (inr on) = on
 
 -- what a write leaves lists its schema and obeys it
 writes_sound : (command : Command) (old new : State) (text : List ℕ) (params : Row) (count : ℕ)
@@ -81,11 +75,11 @@ module _ (sql : List ℕ) (params : Row) (old new : State) (count : ℕ) (schema
       (λ s. Does old.step_limit (mode_of old) params
       (record old.now { schema = s }) text None command (Ok (w.tally, new.now)))
       has w.changed in
-      let done = went (rw found at all) in
-      let now = ap (λ (p : Tally × Database). p.1) (same_Ok (went (went done.2).2).2) in
-      let given = went done.1 in
-      let written = went (went given.2).2 in
-      let counted = went written.2 in
+      let done = did_not_stop (rw found at all) in
+      let now = ap (λ (p : Tally × Database). p.1) (same_Ok (did_not_stop (did_not_stop done.2).2).2) in
+      let given = did_not_stop done.1 in
+      let written = did_not_stop (did_not_stop given.2).2 in
+      let counted = did_not_stop written.2 in
       let trees : done.0.trees ≡ written.0 =
       ap (λ (it : Written). it.trees) (same_Ok counted.2) ∙ same_Ok counted.1 in
       let edit = edit_of old.now.trees table [] Chosen 0 given.0 in
@@ -145,10 +139,10 @@ module _ (sql : List ℕ) (params : Row) (old new : State) (count : ℕ) (schema
       (λ s. Does old.step_limit (mode_of old) params
       (record old.now { schema = s }) text None command (Ok (w.tally, new.now)))
       has w.changed in
-      let done = went (rw found at all) in
-      let now = ap (λ (p : Tally × Database). p.1) (same_Ok (went (went done.2).2).2) in
-      let given = went done.1 in
-      let written = went given.2 in
+      let done = did_not_stop (rw found at all) in
+      let now = ap (λ (p : Tally × Database). p.1) (same_Ok (did_not_stop (did_not_stop done.2).2).2) in
+      let given = did_not_stop done.1 in
+      let written = did_not_stop given.2 in
       let trees : done.0.trees ≡ written.0 =
       ap (λ (it : Written). it.trees) (same_Ok written.2) in
       let edit = edit_of old.now.trees table (ids_of given.0) Given 0 [] in
@@ -199,8 +193,8 @@ pub creates : (sql : List ℕ) (old new : State) (count : ℕ) (schema : Schema)
 creates sql old new count schema table trees none plain is whole defined uncounted h has =
     let w = subst (λ t. Writes old new None CreateTable t [] count) whole
     (runs_as sql [] old new schema has.schema_is CreateTable is plain count h) in
-    let all = went w.changed in
-    let first = went all.1 in
+    let all = did_not_stop w.changed in
+    let first = did_not_stop all.1 in
     let made = first.1 in
     let same : made.table ≡ table = same_Ok (sym made.defined ∙ defined) in
     let schema_is : first.0.schema ≡ created schema table =

@@ -1,8 +1,9 @@
 -- Each stored row of the tables has its columns, and no more.
 use Rattle.std.proofs.lemmas.Grind.{common_steps}
-use Rattle.std.proofs.Common.{◌≡◌, ◌≤◌, ◌<◌, ◌+◌, ◌++◌, ◌&&◌, ◌||◌, not, ℕ, zero, suc, List, [], ◌∷◌, drop, length, Bool, true, false, if◌then◌else◌, Option, refl, sym, ap, subst, ◌∙◌, arith, length-append}
+use Rattle.std.proofs.Common.{◌≡◌, ◌≤◌, ◌<◌, ◌+◌, ◌++◌, ℕ, zero, suc, List, [], ◌∷◌, drop, length, true, false, if◌then◌else◌, Option, refl, sym, ap, subst, ◌∙◌, arith, length-append}
 use Rattle.std.specs.List.{AllByRecursion}
 use Rattle.std.proofs.lemmas.Bool.{and_parts}
+use Rattle.exam_lists.proofs.Booleans.{last_fails}
 use Rattle.sqlite_schema.specs.declared.schema.Column.{Column}
 use Rattle.sqlite_schema.specs.declared.schema.Constraint.{Constraint}
 use Rattle.sqlite_schema.specs.declared.schema.Constraint.TheVariants.{Datatype, NotNull}
@@ -52,16 +53,11 @@ there [] k h = absurd (cc)
 there (v ∷ row) zero h = omega arith
 there (v ∷ row) (suc k) h = let more = there row k h in omega (arith, more)
 
-last_is : (key present null : Bool) → ((key || not present || not null) && true) ≡ true
-    → key ≡ false → present ≡ true → null ≡ false
-last_is false true false h k p = refl
-last_is _ _ _ h k p = absurd (cc)
-
 last_present : (key : Option ℕ) (at k : ℕ) (cols : List Column) (c : Column) (row : Row)
     → at + length cols ≡ k
     → are_present key at (cols ++ c ∷ []) row ≡ true → is_key key k ≡ false → c.not_null ≡ true
     → is_null (column row (k + 1)) ≡ false
-last_present key at k [] c row at_is h unkeyed present = grind (arith, common_steps, last_is)
+last_present key at k [] c row at_is h unkeyed present = grind (arith, common_steps, last_fails)
 last_present key at k (x ∷ cols) c row at_is h unkeyed present =
     last_present key (at + 1) k cols c row (omega (arith, at_is)) (and_parts _ _ h).1 unkeyed
     present

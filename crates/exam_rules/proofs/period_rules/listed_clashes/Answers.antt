@@ -1,5 +1,6 @@
 use Rattle.std.specs.List.{list_any}
-use Rattle.std.proofs.Common.{◌≡◌, Bool, true, false, ◌&&◌, ◌==◌, refl, ap, ◌∙◌}
+use Rattle.std.proofs.Common.{true, false, ◌&&◌, ◌==◌, ap, ◌∙◌}
+use Rattle.exam_lists.proofs.Booleans.{and_turned}
 use Rattle.exam_model.specs.Conflicts.{is_conflict}
 use Rattle.exam_model.proofs.ConflictLemmas.{conflict_members}
 use Rattle.exam_rules.specs.declared.breach.BreachRule.TheVariants.{Clash}
@@ -8,13 +9,6 @@ use Rattle.exam_rules.specs.HardRules.{breaks}
 use Rattle.exam_rules.proofs.FindingLemmas.{found_none, found_more, found_all, of_both}
 use Rattle.exam_rules.proofs.PlaceLemmas.{breaking_exist}
 use Rattle.exam_rules.proofs.period_rules.listed_clashes.Goals as goal
-
-and_between : (a b c : Bool) → ((a && b) && c) ≡ (a && (c && b))
-and_between true true true = refl
-and_between true true false = refl
-and_between true false true = refl
-and_between true false false = refl
-and_between false b c = refl
 
 pub conflicts-init : goal.conflicts-init
 conflicts-init c = rw c.new-found.ensures.items found_none
@@ -38,6 +32,6 @@ returns c I E fits listed =
           found_all c.conflicts.invariant c.conflicts-test.false e f
           ∙ ap (λ cs. list_any (is_conflict e f) cs && in_one_period T e f) listed
           ∙ ap (λ b. b && in_one_period T e f) (conflict_members E e f)
-          ∙ and_between _ _ (in_one_period T e f);
+          ∙ and_turned _ _ (in_one_period T e f);
       exist = breaking_exist I E T Clash _ fits.timetable;
     })

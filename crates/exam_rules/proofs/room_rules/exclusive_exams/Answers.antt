@@ -1,7 +1,8 @@
-use Rattle.std.proofs.Common.{ℕ, ◌<◌, ◌==◌, length, map, List, ◌∙◌, ap, sym}
+use Rattle.std.proofs.Common.{ℕ, nat_eq, ◌<◌, ◌==◌, length, map, List, ◌∙◌, ap, sym}
 use Rattle.std.specs.Prelude.{All}
 use Rattle.std.proofs.lemmas.List.Elements.{All-map}
 use Rattle.std.proofs.lemmas.List.Filters.{dedup_is, All-dedup}
+use Rattle.std.proofs.lemmas.List.Kept.{Contains-dedup_nat}
 use Rattle.std.proofs.lemmas.List.Sorted.{All-permutation, list_any-IsPermutation}
 use Rattle.exam_lists.proofs.Tests.{any_map, any_dedup}
 use Rattle.exam_model.specs.declared.rules.RoomRule.{RoomRule}
@@ -14,7 +15,7 @@ returns-clause-members c e =
     let is = dedup_is _ _ _ c.dedup.ensures.filtered in
     let named = rw c.room_rules.ensures.rules at c.in_ok-exams.ensures in
     ap (λ xs. has_number xs e) is
-    ∙ any_dedup (λ k. k == e) _
+    ∙ any_dedup nat_eq Contains-dedup_nat (λ k. k == e) _
     ∙ sym (list_any-IsPermutation (λ k. k == e) _ _ c.sort_unstable.ensures.permutation)
     ∙ ap (λ xs. has_number xs e) named
     ∙ any_map (λ k. k == e) (λ line. line.0) lines

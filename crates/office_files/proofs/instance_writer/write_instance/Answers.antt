@@ -1,16 +1,17 @@
 use Rattle.std.proofs.Common.{◌≡◌, ◌∙◌, List, ℕ, Vec, Global, ap, sym, subst}
+use Rattle.exam_lists.proofs.Appended.{appended}
 use Rattle.office_files.specs.CanonicalText.{canonical_instance}
 use Rattle.office_files.specs.InstanceText.{InstanceText, instance_in}
 use Rattle.office_files.proofs.CanonicalInstance.{instance_spelled, instance_same}
-use Rattle.office_files.proofs.CanonicalSteps.{six_written}
 use Rattle.office_files.proofs.instance_writer.write_instance.Goals as goal
 
 pub returns-clause-text : goal.returns-clause-text
 returns-clause-text c =
     ap (λ (v : Vec ℕ Global). v.items) c.into_bytes.ensures.value
-    ∙ six_written _ _ _ _ _ _ _ _ _ _ _ _ _ c.new-text.ensures.bytes c.in_ok-add_exams.ensures
-    c.in_ok-add_periods.ensures c.in_ok-add_rooms.ensures c.in_ok-add_period_rules.ensures
-    c.in_ok-add_room_rules.ensures c.in_ok-add_weightings.ensures
+    ∙ appended _ (appended _ (appended _ (appended _ (appended _
+    (appended _ c.new-text.ensures.bytes c.in_ok-add_exams.ensures) c.in_ok-add_periods.ensures)
+    c.in_ok-add_rooms.ensures) c.in_ok-add_period_rules.ensures) c.in_ok-add_room_rules.ensures)
+    c.in_ok-add_weightings.ensures
 
 pub returns-clause-spells : goal.returns-clause-spells
 returns-clause-spells c =

@@ -1,5 +1,6 @@
 use Rattle.std.proofs.Common.{arith}
-use Rattle.office_policy.proofs.DigitLemmas.{one_more, so_far}
+use Rattle.exam_lists.proofs.Digits.{nine_digits_front}
+use Rattle.office_policy.proofs.DigitLemmas.{one_more}
 use Rattle.office_policy.proofs.numbers.value.Goals as goal
 
 -- one digit more keeps the number below 10 ^ 9
@@ -27,5 +28,5 @@ loop-digit-preserved c =
 
 pub returns-clause-within : goal.returns-clause-within
 returns-clause-within c =
-    so_far c.args.digits.now c.loop-digit.digit-index c.loop-digit.value
+    nine_digits_front c.args.digits.now c.loop-digit.digit-index c.loop-digit.value
     c.requires.digits c.requires.few c.loop-digit.invariant

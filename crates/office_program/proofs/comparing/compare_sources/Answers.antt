@@ -1,7 +1,7 @@
 use Rattle.std.proofs.Common.{◌∙◌, sym}
 use Rattle.std.proofs.lemmas.Result.{IfOk-weaker}
+use Rattle.exam_lists.proofs.Results.{IfErr_both}
 use Rattle.office_program.proofs.CompareSources.{of_three, three_refused}
-use Rattle.office_program.proofs.LoadFacts.{if_err}
 use Rattle.office_program.proofs.SourceFacts.{file_reader, stdin_reader}
 use Rattle.office_program.proofs.comparing.compare_sources.Goals as goal
 
@@ -22,7 +22,7 @@ pub returns-then-is_stdin-clause-refused : goal.returns-then-is_stdin-clause-ref
 returns-then-is_stdin-clause-refused g c =
     let stdin = g.I.Read.remaining c.args.stdin.now in
     let files = g.T.Texts.known c.args.files.now in
-    if_err c.compare_readers.result _ _ _ (λ fault refuses may shared. three_refused _ _ _ _ _ _
+    IfErr_both c.compare_readers.result _ _ _ (λ fault refuses may shared. three_refused _ _ _ _ _ _
     (stdin_reader stdin files c.args.session.now (sym c.is_stdin.ensures ∙ c.if-is_stdin.true))
     (file_reader stdin files c.args.before.now c.in_ok-before_file.ensures.named _
     c.in_ok-before_file.ensures.opened)
@@ -74,7 +74,7 @@ pub returns-clause-refused : goal.returns-clause-refused
 returns-clause-refused g c =
     let stdin = g.I.Read.remaining c.args.stdin.now in
     let files = g.T.Texts.known c.args.files.now in
-    if_err c.compare_readers-2.result _ _ _ (λ fault refuses may shared. three_refused _ _ _ _ _ _
+    IfErr_both c.compare_readers-2.result _ _ _ (λ fault refuses may shared. three_refused _ _ _ _ _ _
     (file_reader stdin files c.args.session.now c.in_ok-session_file.ensures.named _
     c.in_ok-session_file.ensures.opened)
     (file_reader stdin files c.args.before.now c.in_ok-before_file-2.ensures.named _

@@ -1,26 +1,26 @@
 use Rattle.std.proofs.Common.{inl, inr, refl, rules}
-use Rattle.office_program.proofs.EndingFacts.{if_ok}
-use Rattle.office_program.proofs.LoadFacts.{if_err}
+use Rattle.std.proofs.lemmas.Result.{IfOk-weaker}
+use Rattle.exam_lists.proofs.Results.{IfErr_both}
 use Rattle.office_program.proofs.program.load.Goals as goal
 
 -- the fault of an office is one of `load`
 pub returns-in-Ok-clause-fault : goal.returns-in-Ok-clause-fault
 returns-in-Ok-clause-fault g c =
     let of = c.load_text.ensures.fault in
-    if_err c.load_text.result _ _ _ (λ fault of again.
+    IfErr_both c.load_text.result _ _ _ (λ fault of again.
     inr (c.deref.result.now, search rules, of)) of of
 
 -- the text of the file is loaded
 pub returns-in-Ok-clause-uses : goal.returns-in-Ok-clause-uses
 returns-in-Ok-clause-uses g c =
-    if_ok c.load_text.result _ _ (λ ending used. (c.deref.result.now, search rules, used))
+    IfOk-weaker c.load_text.result _ _ (λ ending used. (c.deref.result.now, search rules, used))
     c.load_text.ensures.uses
 
 -- a fault leaves of the database what it leaves if its text is loaded
 pub returns-in-Ok-clause-leaves : goal.returns-in-Ok-clause-leaves
 returns-in-Ok-clause-leaves g c =
     let leaves = c.load_text.ensures.leaves in
-    if_err c.load_text.result _ _ _ (λ shown left again.
+    IfErr_both c.load_text.result _ _ _ (λ shown left again.
     inr (c.deref.result.now, search rules, left)) leaves leaves
 
 -- nor is a database opened if the text can't be taken

@@ -1,26 +1,26 @@
 use Rattle.std.proofs.Common.{◌∙◌, rules, sym}
-use Rattle.office_program.proofs.EndingFacts.{if_ok}
-use Rattle.office_program.proofs.LoadFacts.{if_err}
+use Rattle.std.proofs.lemmas.Result.{IfOk-weaker}
+use Rattle.exam_lists.proofs.Results.{IfErr_both}
 use Rattle.office_program.proofs.program.run_task.Goals as goal
 
 -- a server that is done printed its port
 pub returns-in-Serve-clause-done : goal.returns-in-Serve-clause-done
 returns-in-Serve-clause-done g c =
-    if_ok c.open_and_serve.result _ _ (λ ending served zero. rw c.in-Serve.is served.port)
+    IfOk-weaker c.open_and_serve.result _ _ (λ ending served zero. rw c.in-Serve.is served.port)
     c.open_and_serve.ensures.served
 
 -- a server that failed printed nothing, or its port
 pub returns-in-Serve-clause-unwritten : goal.returns-in-Serve-clause-unwritten
 returns-in-Serve-clause-unwritten g c =
     let port = c.open_and_serve.ensures.port in
-    if_err c.open_and_serve.result _ _ _ (λ fault err_line again other. rw c.in-Serve.is
+    IfErr_both c.open_and_serve.result _ _ _ (λ fault err_line again other. rw c.in-Serve.is
     (err_line other)) port
     port
 
 -- the report with its status
 pub returns-in-Check-clause-done : goal.returns-in-Check-clause-done
 returns-in-Check-clause-done g c =
-    if_ok c.check.result _ _ (λ ending done zero. rw c.in-Check.is (record {
+    IfOk-weaker c.check.result _ _ (λ ending done zero. rw c.in-Check.is (record {
       instance = done.instance;
       solution = done.solution;
       of_first = search rules;
@@ -36,7 +36,7 @@ returns-in-Check-clause-done g c =
 
 pub returns-in-Check-clause-broken : goal.returns-in-Check-clause-broken
 returns-in-Check-clause-broken g c =
-    if_ok c.check.result _ _ (λ ending done three. rw c.in-Check.is (record {
+    IfOk-weaker c.check.result _ _ (λ ending done three. rw c.in-Check.is (record {
       instance = done.instance;
       solution = done.solution;
       of_first = search rules;
@@ -53,7 +53,7 @@ returns-in-Check-clause-broken g c =
 -- and in another form
 pub returns-in-CheckAs-clause-done : goal.returns-in-CheckAs-clause-done
 returns-in-CheckAs-clause-done g c =
-    if_ok c.check_as.result _ _ (λ ending done zero. rw c.in-CheckAs.is (record {
+    IfOk-weaker c.check_as.result _ _ (λ ending done zero. rw c.in-CheckAs.is (record {
       instance = done.instance;
       solution = done.solution;
       of_first = search rules;
@@ -66,7 +66,7 @@ returns-in-CheckAs-clause-done g c =
 
 pub returns-in-CheckAs-clause-broken : goal.returns-in-CheckAs-clause-broken
 returns-in-CheckAs-clause-broken g c =
-    if_ok c.check_as.result _ _ (λ ending done three. rw c.in-CheckAs.is (record {
+    IfOk-weaker c.check_as.result _ _ (λ ending done three. rw c.in-CheckAs.is (record {
       instance = done.instance;
       solution = done.solution;
       of_first = search rules;
@@ -80,7 +80,7 @@ returns-in-CheckAs-clause-broken g c =
 -- the list of an exam's places
 pub returns-in-Places-clause-done : goal.returns-in-Places-clause-done
 returns-in-Places-clause-done g c =
-    if_ok c.list_places.result _ _ (λ ending done zero. rw c.in-Places.is (record {
+    IfOk-weaker c.list_places.result _ _ (λ ending done zero. rw c.in-Places.is (record {
       instance = done.instance;
       solution = done.solution;
       of_first = search rules;
@@ -91,20 +91,20 @@ returns-in-Places-clause-done g c =
 -- the database that a task names
 pub returns-in-Load-clause-uses : goal.returns-in-Load-clause-uses
 returns-in-Load-clause-uses g c =
-    if_ok c.load.result _ _
+    IfOk-weaker c.load.result _ _
     (λ ending used zero.
     rw (c.in-Load.is, ← c.deref-in-Load.ensures, ← c.deref-in-Load-2.ensures) used)
     c.load.ensures.uses
 
 pub returns-in-Serve-clause-uses : goal.returns-in-Serve-clause-uses
 returns-in-Serve-clause-uses g c =
-    if_ok c.open_and_serve.result _ _
+    IfOk-weaker c.open_and_serve.result _ _
     (λ ending used zero. rw (c.in-Serve.is, ← c.deref-in-Serve.ensures) used)
     c.open_and_serve.ensures.serves
 
 pub returns-in-Export-clause-uses : goal.returns-in-Export-clause-uses
 returns-in-Export-clause-uses g c =
-    if_ok c.export.result _ _
+    IfOk-weaker c.export.result _ _
     (λ ending used zero. rw (c.in-Export.is, ← c.deref-in-Export.ensures) used)
     c.export.ensures.uses
 
@@ -112,20 +112,20 @@ returns-in-Export-clause-uses g c =
 pub returns-in-Load-clause-leaves : goal.returns-in-Load-clause-leaves
 returns-in-Load-clause-leaves g c =
     let leaves = c.load.ensures.leaves in
-    if_err c.load.result _ _ _
+    IfErr_both c.load.result _ _ _
     (λ shown left again.
     rw (c.in-Load.is, ← c.deref-in-Load.ensures, ← c.deref-in-Load-2.ensures) left) leaves leaves
 
 pub returns-in-Serve-clause-leaves : goal.returns-in-Serve-clause-leaves
 returns-in-Serve-clause-leaves g c =
     let leaves = c.open_and_serve.ensures.unserved in
-    if_err c.open_and_serve.result _ _ _
+    IfErr_both c.open_and_serve.result _ _ _
     (λ shown left again. rw (c.in-Serve.is, ← c.deref-in-Serve.ensures) left) leaves leaves
 
 pub returns-in-Export-clause-leaves : goal.returns-in-Export-clause-leaves
 returns-in-Export-clause-leaves g c =
     let leaves = c.export.ensures.leaves in
-    if_err c.export.result _ _ _
+    IfErr_both c.export.result _ _ _
     (λ shown left again. rw (c.in-Export.is, ← c.deref-in-Export.ensures) left) leaves leaves
 
 -- the lines about the work of the task may be written

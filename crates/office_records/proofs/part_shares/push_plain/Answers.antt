@@ -1,6 +1,6 @@
 use Rattle.std.proofs.Common.{ℕ, [], ◌∷◌, ◌++◌, get_or, ap, ◌∙◌}
 use Rattle.office_records.specs.PartShares.{part_kind_number}
-use Rattle.office_records.proofs.NumberedLemmas.{rows_added}
+use Rattle.exam_lists.proofs.Numbered.{rows_added}
 use Rattle.office_records.proofs.PartRowLemmas.{plain_are, plain_row}
 use Rattle.office_records.proofs.part_shares.push_plain.Goals as goal
 

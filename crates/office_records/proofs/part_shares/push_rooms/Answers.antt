@@ -1,6 +1,6 @@
 use Rattle.std.proofs.Common.{ℕ, [], ◌∷◌, ◌++◌, get_or, ap, ◌∙◌}
 use Rattle.office_tables.specs.declared.share_part.PartShareRow.{PartShareRow}
-use Rattle.office_records.proofs.NumberedLemmas.{rows_added}
+use Rattle.exam_lists.proofs.Numbered.{rows_added}
 use Rattle.office_records.proofs.PartRowLemmas.{no_share, rooms_are}
 use Rattle.office_records.proofs.part_shares.push_rooms.Goals as goal
 

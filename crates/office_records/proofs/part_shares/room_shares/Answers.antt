@@ -1,6 +1,6 @@
 use Rattle.std.proofs.Common.{◌≡◌, [], ◌∷◌, ◌++◌, get_or, refl, rules}
 use Rattle.std.proofs.lemmas.Bool.{false≢true}
-use Rattle.office_records.proofs.NumberedLemmas.{row_is, rows_read}
+use Rattle.exam_lists.proofs.Numbered.{row_is, rows_read}
 use Rattle.office_records.proofs.PartRowLemmas.{no_row, room_from_parts, room_parts, room_share_back, rooms_are}
 use Rattle.office_records.proofs.part_shares.room_shares.Goals as goal
 

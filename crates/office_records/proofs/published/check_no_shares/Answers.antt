@@ -1,4 +1,5 @@
-use Rattle.office_records.proofs.FoundLemmas.{no_shares, not_empty}
+use Rattle.exam_lists.proofs.Parts.{not_empty}
+use Rattle.office_records.proofs.FoundLemmas.{no_shares}
 use Rattle.office_records.proofs.published.check_no_shares.Goals as goal
 use Rattle.office_records.proofs.published.check_no_shares.Goals.{else-is_empty-via-then-is_empty+else-is_empty-2, else-is_empty-via-else-is_empty}
 

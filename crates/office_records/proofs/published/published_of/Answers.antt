@@ -1,8 +1,7 @@
-use Rattle.std.proofs.Common.{◌≡◌, sym, subst}
+use Rattle.std.proofs.Common.{◌≡◌, sym, subst, subst₂}
 use Rattle.office_records.specs.Publications.{ArePublicationRows}
 use Rattle.office_records.specs.FoundPublications.{ArePublished, publication_from}
 use Rattle.office_records.specs.SharesStored.{AreShared}
-use Rattle.office_records.proofs.FoundLemmas.{of_same}
 use Rattle.office_records.proofs.ResultLemmas.{passed_on}
 use Rattle.office_records.proofs.published.published_of.Goals as goal
 
@@ -16,7 +15,7 @@ returns-in_err-check_published-clause-none c =
     (λ bad published are.
     let same : own ≡ published
     = c.in_ok-published.ensures.only published
-    (of_same (λ p s. ArePublicationRows found.meta.published p s published)
+    (subst₂ (λ p s. ArePublicationRows found.meta.published p s published)
     (sym c.deref.ensures.value) (sym c.deref-2.ensures.value) are.rows) are.is in
     c.in_err-check_published.ensures.none bad (subst (ArePublished I) (sym same) are.is)
     (subst (λ o. AreShared I o found.student_shares.items found.part_shares.items) (sym same)
@@ -26,7 +25,7 @@ pub returns-clause-are : goal.returns-clause-are
 returns-clause-are c =
     let own = publication_from c.in_ok-published.published in
     record {
-      rows = of_same (λ p s. ArePublicationRows c.args.found.now.meta.published p s own)
+      rows = subst₂ (λ p s. ArePublicationRows c.args.found.now.meta.published p s own)
           c.deref.ensures.value c.deref-2.ensures.value c.in_ok-published.ensures.rows;
       is = c.in_ok-check_published.ensures.valid;
       shared = c.in_ok-check_published.ensures.shared;

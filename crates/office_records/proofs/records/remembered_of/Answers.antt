@@ -1,4 +1,4 @@
-use Rattle.std.proofs.Common.{◌≡◌, ◌↔◌, ℕ, Bool, false, List, map, IsTrue, Result, Ok, Err, Some, None, sym, ◌∙◌, subst}
+use Rattle.std.proofs.Common.{◌≡◌, ◌↔◌, ℕ, Bool, false, List, map, IsTrue, Result, Ok, Err, Some, None, sym, ◌∙◌, subst, subst₂}
 use Rattle.std.specs.Prelude.{IfErr, Option}
 use Rattle.std.specs.Result.{IsErrAnd}
 use Rattle.exam_model.specs.Enrolments.{Enrolled}
@@ -20,7 +20,6 @@ use Rattle.office_records.specs.Representation.{IsSound, TablesRepresentOffice}
 use Rattle.office_records.specs.declared.fault.RecordFault.{RecordFault}
 use Rattle.office_records.specs.declared.fault.RecordFault.TheVariants.{BadRows}
 use Rattle.office_records.proofs.DraftRowLemmas.{drafts_suited}
-use Rattle.office_records.proofs.FoundLemmas.{of_same}
 use Rattle.office_records.proofs.RecordLemmas.{AreRowsOfOffice, draft_rows, enrol_rows, kept_rows, office_of, nothing_loaded, owner_rows, published_rows, unloaded as unloaded_found}
 use Rattle.office_records.proofs.records.remembered_of.Goals as goal
 
@@ -89,7 +88,7 @@ returns-in_err-drafts-clause-none c =
     refused c.in_err-drafts.field-0.0 c.from_residual-in_err-drafts.result
     c.is_unloaded.ensures c.if-is_unloaded.false c.from_residual-in_err-drafts.ensures.1
     (λ bad r of. none bad r.draft
-    (of_same (λ rows slots. AreDrafts I E rows slots r.draft) (sym c.deref-3.ensures.value)
+    (subst₂ (λ rows slots. AreDrafts I E rows slots r.draft) (sym c.deref-3.ensures.value)
     (sym c.deref-4.ensures.value) (draft_rows of c.in_ok-instance.ensures.is E enrolled)))
 
 pub returns-in_err-published-clause-none : goal.returns-in_err-published-clause-none
@@ -116,7 +115,7 @@ returns-clause-are c batches these =
     c.in_ok-check_owners.ensures.are)
     (subst (λ rows. AreEnrolRows I rows E) c.deref-2.ensures.value c.in_ok-enrolments.ensures.are)
     c.in_ok-drafts.drafts
-    (of_same (λ rows slots. Drafted I E rows slots c.in_ok-drafts.drafts) c.deref-3.ensures.value
+    (subst₂ (λ rows slots. Drafted I E rows slots c.in_ok-drafts.drafts) c.deref-3.ensures.value
     c.deref-4.ensures.value c.in_ok-drafts.ensures.are)
     (publication_from c.in_ok-published.published) c.in_ok-published.ensures.are
     (subst AreBatchRows c.deref-5.ensures.value c.in_ok-check_batches.ensures.are) these

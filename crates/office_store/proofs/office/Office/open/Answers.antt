@@ -1,10 +1,11 @@
 use Rattle.std.proofs.Common.{inl, inr, None, refl, sym, subst, rules}
 use Rattle.exam_lists.proofs.Results.{IfErr_both, IfOk_both}
+use Rattle.exam_lists.proofs.Booleans.{not_when_false}
 use Rattle.sqlite.specs.Held.{state}
 use Rattle.sqlite.proofs.StateLemmas.{survives_weaker}
 use Rattle.office_records.specs.Representation.{RepresentsOffice}
 use Rattle.office_store.specs.Leaving.{connection_of}
-use Rattle.office_store.proofs.OpenLemmas.{before_load, fails, holds, or_none}
+use Rattle.office_store.proofs.OpenLemmas.{before_load, holds, or_none}
 use Rattle.office_store.proofs.office.Office.open.Goals as goal
 
 -- a new office has no session
@@ -18,7 +19,7 @@ returns-then-is_bare-clause-found g c = IfOk_both c.create.result _ _ _
 pub returns-else-is_bare-clause-found : goal.returns-else-is_bare-clause-found
 returns-else-is_bare-clause-found g c = IfOk_both c.adopt.result _ _ _
     (λ office adopted _ clean there is stays. (adopted clean).represents there
-    (holds _ there (fails _ _ c.is_bare.ensures.1 c.if-is_bare.false) is))
+    (holds _ there (not_when_false _ _ c.is_bare.ensures.1 c.if-is_bare.false) is))
     c.adopt.ensures.adopted c.adopt.ensures.adopted
 
 -- the database had no table
@@ -37,7 +38,7 @@ returns-else-is_bare-clause-stood g c = IfOk_both c.adopt.result _ _ _
 pub returns-else-is_bare-clause-refused : goal.returns-else-is_bare-clause-refused
 returns-else-is_bare-clause-refused g c = IfErr_both c.adopt.result _ _ _
     (λ e fault no_office clean. or_none fault (λ wrong there is. no_office wrong clean there
-    (holds _ there (fails _ _ c.is_bare.ensures.1 c.if-is_bare.false) is)))
+    (holds _ there (not_when_false _ _ c.is_bare.ensures.1 c.if-is_bare.false) is)))
     c.adopt.ensures.fault c.adopt.ensures.no_office
 
 pub returns-then-is_bare-clause-leaves : goal.returns-then-is_bare-clause-leaves

@@ -1,11 +1,12 @@
 -- Rows of a list's elements, one after another, with numbers from n on.
 use Rattle.std.proofs.lemmas.Grind.{common_steps}
-use Rattle.std.proofs.Common.{◌≡◌, ℕ, zero, suc, ◌+◌, ◌<◌, List, [], ◌∷◌, ◌++◌, length, map, take, get_or, Option, Some, None, refl, sym, ◌∙◌, ap, ap₂, subst, arith, append_assoc}
+use Rattle.std.proofs.Common.{◌≡◌, ℕ, zero, suc, ◌+◌, ◌<◌, List, [], ◌∷◌, ◌++◌, length, map, take, get_or, Option, Some, sym, ◌∙◌, ap, ap₂, subst, arith, append_assoc}
 use Rattle.std.specs.List.{AllByRecursion, cons_option}
 use Rattle.std.specs.Prelude.{◌≤◌, IfSome}
 use Rattle.std.proofs.lemmas.List.{length-take, take_more}
-use Rattle.exam_lists.proofs.Chains.{IsChain}
+use Rattle.exam_lists.proofs.Chains.{IsChain, chain_cons_option}
 use Rattle.exam_lists.proofs.Each.{each_weaker}
+use Rattle.exam_lists.proofs.Options.{cons_option-append, each_cons_option, each_of_cons_option}
 
 -- these are the rows of a list from a number on: an element has one row or none
 pub record AreRowsOf {X Y : Type 0} (rows : ℕ → List X → List Y) (one : ℕ → X → Option Y)
@@ -14,34 +15,12 @@ pub record AreRowsOf {X Y : Type 0} (rows : ℕ → List X → List Y) (one : �
   pub first : (n : ℕ) (x : X) (xs : List X)
       → rows n (x ∷ xs) ≡ cons_option (one n x) (rows (n + 1) xs)
 
-cons-append : {Y : Type 0} (o : Option Y) (xs ys : List Y)
-    → cons_option o (xs ++ ys) ≡ cons_option o xs ++ ys
-cons-append None xs ys = refl
-cons-append (Some y) xs ys = refl
-
-each_cons : {Y : Type 0} (P : Y → Type 0) (o : Option Y) (ys : List Y) → IfSome o P
-    → AllByRecursion P ys → AllByRecursion P (cons_option o ys)
-each_cons P None ys h all = all
-each_cons P (Some y) ys h all = (h, all)
-
-cons_each : {Y : Type 0} (P : Y → Type 0) (o : Option Y) (ys : List Y)
-    → AllByRecursion P (cons_option o ys) → IfSome o P × AllByRecursion P ys
-cons_each P None ys all = (tt, all)
-cons_each P (Some y) ys all = all
-
-chain_cons : {Y : Type 0} (key : Y → ℕ) (n : ℕ) (o : Option Y) (ys : List Y)
-    → IfSome o (λ y. key y ≡ n) → AllByRecursion (λ y. n < key y) ys
-    → IsChain (λ x y. key x < key y) ys → IsChain (λ x y. key x < key y) (cons_option o ys)
-chain_cons key n None ys is above up = up
-chain_cons key n (Some y) ys is above up =
-    (each_weaker (λ z. n < key z) (λ z. key y < key z) (λ z h. omega (arith, is, h)) ys above, up)
-
 module _ {X Y : Type 0} {rows : ℕ → List X → List Y} {one : ℕ → X → Option Y}
     (are : AreRowsOf rows one) where
   pub rows-append : (n : ℕ) (xs ys : List X)
       → rows n (xs ++ ys) ≡ rows n xs ++ rows (n + length xs) ys
   rows-append n [] ys = rw (are.none n) (ap (λ m. rows m ys) (omega arith))
-  rows-append n (x ∷ xs) ys = grind (arith, common_steps, cons-append, rows-append (n + 1) xs ys)
+  rows-append n (x ∷ xs) ys = grind (arith, common_steps, cons_option-append, rows-append (n + 1) xs ys)
 
   pub rows_push : (n m : ℕ) (xs : List X) (x : X) → m ≡ n + length xs
       → rows n (xs ++ x ∷ []) ≡ rows n xs ++ cons_option (one m x) []
@@ -65,7 +44,7 @@ module _ {X Y : Type 0} {rows : ℕ → List X → List Y} {one : ℕ → X → 
   each_numbered P z n [] h = subst (AllByRecursion P) (sym (are.none n)) tt
   each_numbered P z n (x ∷ xs) h =
       subst (AllByRecursion P) (sym (are.first n x xs))
-      (each_cons P (one n x) (rows (n + 1) xs) (h 0 n (omega arith) (omega arith))
+      (each_cons_option P (one n x) (rows (n + 1) xs) (h 0 n (omega arith) (omega arith))
       (each_numbered P z (n + 1) xs (λ k m within is. h (suc k) m (omega arith) (omega arith))))
 
   pub numbered_each : (P : Y → Type 0) (z : X) (n k m : ℕ) (xs : List X) → k < length xs
@@ -73,22 +52,22 @@ module _ {X Y : Type 0} {rows : ℕ → List X → List Y} {one : ℕ → X → 
   numbered_each P z n k m [] within is all = absurd (omega arith)
   numbered_each P z n zero m (x ∷ xs) within is all =
       subst (λ j. IfSome (one j x) P) (let same : n ≡ m = omega arith in same)
-      (cons_each P (one n x) (rows (n + 1) xs) (subst (AllByRecursion P) (are.first n x xs) all)).0
+      (each_of_cons_option P (one n x) (rows (n + 1) xs) (subst (AllByRecursion P) (are.first n x xs) all)).0
   numbered_each P z n (suc k) m (x ∷ xs) within is all =
       numbered_each P z (n + 1) k m xs (omega arith) (omega arith)
-      (cons_each P (one n x) (rows (n + 1) xs) (subst (AllByRecursion P) (are.first n x xs) all)).1
+      (each_of_cons_option P (one n x) (rows (n + 1) xs) (subst (AllByRecursion P) (are.first n x xs) all)).1
 
   -- the rows rise by their numbers
   module _ (key : Y → ℕ) (keyed : (n : ℕ) (x : X) → IfSome (one n x) (λ y. key y ≡ n)) where
     rows_above : (m n : ℕ) (xs : List X) → m ≤ n → AllByRecursion (λ y. m ≤ key y) (rows n xs)
     rows_above m n [] low = subst (AllByRecursion (λ y. m ≤ key y)) (sym (are.none n)) tt
-    rows_above m n (x ∷ xs) low = grind (arith, common_steps, each_cons, rows_above m (n + 1) xs (omega arith))
+    rows_above m n (x ∷ xs) low = grind (arith, common_steps, each_cons_option, rows_above m (n + 1) xs (omega arith))
 
     pub rows_rise : (n : ℕ) (xs : List X) → IsChain (λ x y. key x < key y) (rows n xs)
     rows_rise n [] = subst (IsChain (λ x y. key x < key y)) (sym (are.none n)) tt
     rows_rise n (x ∷ xs) =
         subst (IsChain (λ x y. key x < key y)) (sym (are.first n x xs))
-        (chain_cons key n (one n x) (rows (n + 1) xs) (keyed n x)
+        (chain_cons_option key n (one n x) (rows (n + 1) xs) (keyed n x)
         (each_weaker (λ y. n + 1 ≤ key y) (λ y. n < key y) (λ y h. omega (arith, h)) _
         (rows_above (n + 1) (n + 1) xs (omega arith)))
         (rows_rise (n + 1) xs))
