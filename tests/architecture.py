@@ -10,7 +10,7 @@ import re
 import sys
 
 from cases import Cases
-from sources import TOP, files_of, listed, without_comments
+from sources import TOP, files_of, imported, listed, statements, without_comments
 
 # Who may know SQL: its grammar and its meaning, and the texts of statements.
 SQL_CRATES = {"office_schema", "office_tables"}
@@ -37,6 +37,10 @@ WRAPS = re.compile(r"\b(?:wrapping|overflowing|unchecked)_[a-z]+\b"
                    r"|\b(?!1(?:u32|u64|usize)?\b)[\w)\]]+ <<=? [\w(]")
 # The one shift whose contract says which bits are dropped.
 SAID_SHIFT = ("office_files", "    word << (56 - 8 * count) << 8 ")
+# What makes a statement one on lists, or on values that may be missing.
+OF_LISTS = {"List", "Option", "Result", "Ordering", "IsPermutation", "∷", "++", "map"}
+# It is one on a number's digits, or on a stream, if it names one of these.
+OF_TEXTS = {"decimal", "padded_integral", "AllBelowBase", "number_l", "Consumes"}
 CODE_USE = re.compile(r"^\s*(?:pub(?:\([a-z]+\))?\s+)?use\s+([a-z][a-z0-9_]*)", re.M)
 
 
@@ -136,6 +140,21 @@ def no_arithmetic_wraps(crates, knows):
                     yield f"{path.relative_to(TOP)}:{number} may wrap or drop bits"
 
 
+def lemmas_of_lists_have_one_home(crates, knows):
+    """A lemma on lists or on values that may be missing, in std's words, is one of exam_lists."""
+    for crate in crates:
+        for path in files_of(crate, ["proofs"]) if crate != "exam_lists" else ():
+            text = without_comments(path)
+            stated = list(statements(text))
+            foreign = imported(text, r"Rattle\.(?!(?:std|core|exam_lists)\b)")
+            for name, is_lemma, words in stated:
+                own = {part for other, *_ in stated if other != name
+                       for part in other.replace("◌", " ").split()}
+                if (is_lemma and words & {"→", "≡"} and words & OF_LISTS
+                        and not words & (OF_TEXTS | foreign | own)):
+                    yield f"{path.relative_to(TOP)}: {name} names no word but std's"
+
+
 INVARIANTS = [
     session_knows_no_file_and_no_database,
     only_the_calendar_loads_jiff,
@@ -143,6 +162,7 @@ INVARIANTS = [
     messages_know_no_route,
     main_knows_the_program_alone,
     no_arithmetic_wraps,
+    lemmas_of_lists_have_one_home,
 ]
 
 

@@ -100,6 +100,47 @@ def parameters(module):
                    for line in textwrap.wrap(text, 96, break_long_words=False))
 
 
+# a definition or a lemma of a page of proofs, and an import with the words that it brings
+STATED = re.compile(r"( *)((?:(?:pub|abbrev|unfoldable|opaque|data|record) +)*)([^\s:(){}]+)"
+                    r"(?= :|(?: [({][^=]*)? : )")
+IMPORT = re.compile(r"^(?:pub )?use (\S+?)(?:\.\{([^}]*)\})?(?: as (\S+))?$", re.M)
+STATED_WORD = re.compile(r"[^\s(){}\[\],;.]+")
+# the variables that a statement binds
+BOUND = re.compile(r"[({]((?:[^\s:(){}]+ )+): |λ ?((?:[^\s.()]+ ?)+)\.|λ \(([^:]+):|let (\S+)")
+
+
+def statements(text):
+    """What a page of proofs defines, outside of proofs: each name with whether it is a lemma, which
+    binds a variable, and the words of its statement and of the modules that it is in, without the
+    variables bound there."""
+    lines, modules, at = text.splitlines(), [], 0
+    while at < len(lines):
+        line, end = lines[at], at + 1
+        indent = len(line) - len(line.lstrip())
+        if line.strip():
+            modules = modules[:indent // 2]
+        if line.lstrip().startswith("module _ "):
+            while not lines[end - 1].endswith(" where"):
+                end += 1
+            modules.append(" ".join(lines[at:end]))
+        elif (stated := STATED.match(line)) and indent == 2 * len(modules):
+            while end < len(lines) and lines[end].startswith(" " * (indent + 4)):
+                end += 1
+            statement = " ".join([line[stated.end():], *lines[at + 1:end], *modules])
+            bound = {name for found in BOUND.findall(statement) for names in found
+                     for name in names.split()}
+            is_lemma = stated[2].strip() in ("", "pub") and bool(bound)
+            yield stated[3], is_lemma, {*STATED_WORD.findall(statement)} - bound
+        at = end
+
+
+def imported(text, pages):
+    """The words that a page imports from pages whose names begin so."""
+    return {part for page, words, other in IMPORT.findall(text) if re.match(pages, page)
+            for word in (words.split(",") if words else [other or page.rsplit(".", 1)[-1]])
+            for part in word.split(" as ")[-1].replace("◌", " ").split()}
+
+
 def type_of(lines):
     """The lines of a definition up to its first equation, with the fields of a record."""
     indent = "  " if WITH_MEMBERS.match(lines[0]) else "    "
