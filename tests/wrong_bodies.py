@@ -8,7 +8,8 @@
         lists those that have to be tried, and counts those that are due
     python3 tests/wrong_bodies.py renamed COMMIT OLD=NEW..
         notes those that were refused at a commit, if what decides them is the same since but for
-        these names, of which no new one was a word there
+        these names, of which no new one was a word there; with a slash, a name is that of a file
+        that was moved, or of a file and a function of it
 
 A crate is proved first, without an edit. Then its edits are tried in a copy, over what that proof
 kept, so that a check proves what an edit touches; each must be refused by the prover. A function is
@@ -116,7 +117,7 @@ def note_renamed(crates, commit, pairs):
                                check=True).stdout
         subprocess.run(["tar", "-x"], cwd=copy, input=files, check=True)
         for new in names.values():
-            if not run(["grep", "-rqw", "--", new, "crates"], copy).returncode:
+            if "/" not in new and not run(["grep", "-rqw", "--", new, "crates"], copy).returncode:
                 print(f"wrong bodies: {new} was a word of that commit", file=sys.stderr)
                 return 1
         for file in TOP.glob("tests/*.py"):
@@ -141,9 +142,18 @@ def refused_with(crates, names):
 
 def with_names(name, at, names):
     """A hash of each text that decides an edit, with other names, however it is laid out."""
-    texts = [WORD.sub(lambda word: names.get(word[0], word[0]), text)
+    texts = [WORD.sub(lambda word: names.get(word[0], word[0]), moved(text, names))
              for found in texts_of(name, at) for text in found]
     return [hash_of([re.sub(r",(?=[)\]}])", "", re.sub(r"\s", "", text))])[:16] for text in texts]
+
+
+def moved(text, names):
+    """An edit's text with other files for those that were moved."""
+    for old, new in names.items():
+        if "/" in old:
+            text = re.sub(rf"^((?:in|file): ){re.escape(old)}(?= |$)", rf"\g<1>{new}", text,
+                          flags=re.M)
+    return text
 
 
 def try_all(names):
