@@ -1,4 +1,4 @@
--- The small session by the definitions alone: its report, and that its files have no fault.
+-- The small session by the definitions only: its report, and that its files have no fault.
 use Rattle.std.proofs.Common.{[], ◌≡◌, ◌∙◌, ◌++◌, None, Result, Ok, Err, ap, ap₂, refl, sym}
 use Rattle.core.specs.Fmt.{digits}
 use Rattle.jiff_core.specs.Calendar.{day_count, days_from_civil, days_of_months, days_of_years}

@@ -1,4 +1,4 @@
--- The tasks of words on the small session, by the definitions of the command line alone.
+-- The tasks of words on the small session, by the definitions of the command line only.
 use Rattle.std.proofs.Common.{[], ◌≡◌, ◌∙◌, List, Option, Some, None, ap, false, refl, sym, true}
 use Rattle.std.specs.Prelude.{codes, string_bytes}
 use Rattle.std.specs.Str.{bytes_eq}
