@@ -29,10 +29,19 @@ def cited_words(crates):
     type's."""
     found = {}
     for crate in crates:
-        for cited, folder, page, word in citations(crate, crates):
-            page, *of = page.split(".")
+        for cited, folder, path, word in citations(crate, crates):
+            page, of = page_of(cited, folder, path.split("."))
             found.setdefault((cited, folder, page), set()).add(of[0] if of else word)
     return found
+
+
+def page_of(crate, folder, path):
+    """The page that a path leads to, which may be in the folder of another page, and what is left
+    of the path."""
+    at = TOP / "crates" / crate / folder
+    end = max((end for end in range(1, len(path) + 1)
+               if at.joinpath(*path[:end]).with_suffix(".antt").exists()), default=1)
+    return "/".join(path[:end]), path[end:]
 
 
 def citations(crate, crates):

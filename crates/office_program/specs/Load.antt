@@ -8,7 +8,7 @@ use Rattle.sqlite_trees.specs.Tree.{Trees}
 use Rattle.exam_model.specs.Enrolments.{Enrolled}
 use Rattle.exam_model.specs.Instance.{Session}
 use Rattle.office_files.specs.InstanceText.{instance_in}
-use Rattle.office_schema.specs.Schema.{schema_before}
+use Rattle.office_tables.specs.Tables.{schema_before}
 use Rattle.office_tables.specs.Alterations.{found_in}
 use Rattle.office_tables.specs.Schema.{no_schema}
 use Rattle.office_model.specs.Office.{OfficeState}

@@ -9,10 +9,10 @@ use Rattle.exam_model.specs.Instance.{Session}
 use Rattle.exam_model.specs.Timetable.{Placing}
 use Rattle.exam_model.specs.declared.change.Change.{Change}
 use Rattle.exam_score.specs.Track.{track}
-use Rattle.office_tables.specs.Batch.{FitsBatch}
-use Rattle.office_tables.specs.Tables.{Tables, Batch}
-use Rattle.office_tables.specs.declared.draft.DraftRow.{DraftRow}
-use Rattle.office_tables.specs.declared.slot.SlotRow.{SlotRow}
+use Rattle.office_tables.specs.Tables.Batches.{FitsBatch, Batch}
+use Rattle.office_tables.specs.Tables.{Tables}
+use Rattle.office_tables.specs.declared.tables.draft.DraftRow.{DraftRow}
+use Rattle.office_tables.specs.declared.tables.slot.SlotRow.{SlotRow}
 use Rattle.office_model.specs.Office.{AreRecords, Records}
 use Rattle.office_model.specs.declared.counts.Counts.{Counts}
 use Rattle.office_enrolment.specs.AfterBatch.{lines_with_effect, after_batch, lines_in}

@@ -10,9 +10,9 @@ use Rattle.exam_lists.proofs.Chains.{chain_from_index, chain_map, index_from_cha
 use Rattle.exam_lists.proofs.Each.{each_from_filter}
 use Rattle.exam_lists.proofs.Maps.{map_back}
 use Rattle.sqlite_trees.proofs.ListLemmas.{IsPermutation-same, all-map, all-permutation, all_both, all_from_map, all_weaker}
-use Rattle.office_tables.specs.Batch.{counts_of, FitsBatch}
-use Rattle.office_tables.specs.Tables.{Batch, Tables}
-use Rattle.office_tables.specs.declared.batch.BatchCountsRow.{BatchCountsRow}
+use Rattle.office_tables.specs.Tables.Batches.{counts_of, FitsBatch, Batch}
+use Rattle.office_tables.specs.Tables.{Tables}
+use Rattle.office_tables.specs.declared.tables.batch.BatchCountsRow.{BatchCountsRow}
 use Rattle.office_model.specs.Office.{AreKept, IsKeptBatch, IsOffice, KeptBatch, OfficeState}
 use Rattle.office_records.specs.FoundBatches.{AreBatchRows, AreFoundBatches, IsBatchRow, IsShort}
 use Rattle.office_records.specs.Representation.{TablesRepresentOffice, RowsRepresentBatches}

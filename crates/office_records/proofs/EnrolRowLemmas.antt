@@ -20,7 +20,7 @@ use Rattle.exam_model.specs.Enrolments.{Adds, Enrolled, AreEnrolments, has, pair
 use Rattle.exam_model.specs.Instance.{Session}
 use Rattle.exam_model.specs.Pairs.{Pair, pairs_of, ComesBefore}
 use Rattle.exam_model.proofs.PairLemmas.{are_pairs, from_within}
-use Rattle.office_tables.specs.declared.enrol.EnrolRow.{EnrolRow}
+use Rattle.office_tables.specs.declared.tables.enrol.EnrolRow.{EnrolRow}
 use Rattle.office_records.specs.Found.{AreEnrolRows}
 use Rattle.office_records.specs.NextRow.{IsNewPair}
 use Rattle.office_records.specs.TableRows.{enrol_row}

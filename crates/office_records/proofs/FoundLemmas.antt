@@ -8,10 +8,10 @@ use Rattle.exam_model.specs.Instance.{Session}
 use Rattle.exam_model.specs.Timetable.{Placing}
 use Rattle.exam_publish.specs.declared.seat_row.SeatRow as publish
 use Rattle.exam_publish.specs.Rows.{AreNumbered, RowsInOrder}
-use Rattle.office_tables.specs.declared.placed.PlacedRow.{PlacedRow}
-use Rattle.office_tables.specs.declared.share_part.PartShareRow.{PartShareRow}
-use Rattle.office_tables.specs.declared.seat.SeatRow.{SeatRow}
-use Rattle.office_tables.specs.declared.share_student.StudentShareRow.{StudentShareRow}
+use Rattle.office_tables.specs.declared.tables.placed.PlacedRow.{PlacedRow}
+use Rattle.office_tables.specs.declared.tables.share_part.PartShareRow.{PartShareRow}
+use Rattle.office_tables.specs.declared.tables.seat.SeatRow.{SeatRow}
+use Rattle.office_tables.specs.declared.tables.share_student.StudentShareRow.{StudentShareRow}
 use Rattle.office_model.specs.Office.{IsPublication, Publication}
 use Rattle.office_records.specs.Publications.{ArePublicationRows, stored_seat}
 use Rattle.office_records.specs.FoundPublications.{ArePlaces, ArePublished, HasPlacesAndSeats, publication}

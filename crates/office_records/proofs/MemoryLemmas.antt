@@ -16,10 +16,11 @@ use Rattle.exam_model.proofs.SameSet.{same_set}
 use Rattle.office_files.specs.CanonicalText.{canonical_instance}
 use Rattle.office_files.specs.InstanceText.{instance_in}
 use Rattle.office_files.proofs.CanonicalInstance.{instance_same}
-use Rattle.office_tables.specs.Tables.{Tables, Meta, empty_tables}
+use Rattle.office_tables.specs.Tables.{Tables, empty_tables}
+use Rattle.office_tables.specs.Tables.Metadata.{Meta}
 use Rattle.office_tables.specs.declared.version.Version.{Version}
 use Rattle.office_tables.specs.declared.version.Version.TheVariants.{Two}
-use Rattle.office_tables.specs.declared.enrol.EnrolRow.{EnrolRow}
+use Rattle.office_tables.specs.declared.tables.enrol.EnrolRow.{EnrolRow}
 use Rattle.office_model.specs.Office.{OfficeState, Records, IsOffice, AreEnrolled}
 use Rattle.office_records.specs.Memory.{memory_of}
 use Rattle.office_records.specs.Representation.{RepresentsOffice, TablesRepresentOffice, TablesRepresentRecords, RepresentsOfficeIn}

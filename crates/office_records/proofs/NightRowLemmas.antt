@@ -9,9 +9,9 @@ use Rattle.exam_model.proofs.SumLemmas.{sum_pairs-le}
 use Rattle.exam_score.specs.Cost.{night_cost}
 use Rattle.exam_score.specs.Regrouping.{candidate_cost}
 use Rattle.exam_score.proofs.NightLemmas.{night_weightless}
-use Rattle.office_tables.specs.ShareStudent.{HaveNoNight}
+use Rattle.office_tables.specs.Tables.ShareStudent.{HaveNoNight}
 use Rattle.office_tables.specs.Tables.{Tables}
-use Rattle.office_tables.specs.declared.share_student.StudentShareRow.{StudentShareRow}
+use Rattle.office_tables.specs.declared.tables.share_student.StudentShareRow.{StudentShareRow}
 use Rattle.office_model.specs.Office.{OfficeState, Publication}
 use Rattle.office_records.specs.Memory.{HasNoNightWeight, memory_of}
 use Rattle.office_records.specs.Representation.{IsSound, TablesRepresentOffice}

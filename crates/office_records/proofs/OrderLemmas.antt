@@ -19,8 +19,8 @@ use Rattle.exam_model.specs.Pairs.{Pair, ComesBefore}
 use Rattle.exam_publish.specs.declared.seat_row.SeatRow as publish
 use Rattle.exam_publish.specs.Rows.{RowBefore, RowsInOrder}
 use Rattle.exam_publish.specs.Shares.{Sharing}
-use Rattle.office_tables.specs.declared.share_part.PartShareRow.{PartShareRow}
-use Rattle.office_tables.specs.declared.seat.SeatRow.{SeatRow}
+use Rattle.office_tables.specs.declared.tables.share_part.PartShareRow.{PartShareRow}
+use Rattle.office_tables.specs.declared.tables.seat.SeatRow.{SeatRow}
 use Rattle.office_records.specs.Publications.{stored_seat}
 use Rattle.office_records.specs.PartShares.{part_rows, plain_rows, room_rows}
 use Rattle.exam_lists.proofs.Numbered.{each_numbered, rows_rise}

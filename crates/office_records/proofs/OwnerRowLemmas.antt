@@ -8,7 +8,7 @@ use Rattle.std.proofs.lemmas.List.{map-append}
 use Rattle.std.proofs.lemmas.List.Elements.{filter-append}
 use Rattle.exam_lists.proofs.Parts.{append_only}
 use Rattle.exam_model.specs.Instance.{Session}
-use Rattle.office_tables.specs.declared.owner.OwnerRow.{OwnerRow}
+use Rattle.office_tables.specs.declared.tables.owner.OwnerRow.{OwnerRow}
 use Rattle.office_records.specs.Found.{AreOwners}
 use Rattle.office_records.specs.NextRow.{IsFirstOwner}
 use Rattle.office_records.specs.TableRows.{owners_at, some_dept}

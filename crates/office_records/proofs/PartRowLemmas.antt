@@ -7,8 +7,8 @@ use Rattle.exam_lists.proofs.Each.{each_append}
 use Rattle.exam_publish.specs.AddUp.{AreSmall}
 use Rattle.exam_publish.specs.Shares.{Sharing}
 use Rattle.exam_publish.specs.declared.share_lists.RoomShare.{RoomShare}
-use Rattle.office_tables.specs.SharePart.{ArePartAmounts}
-use Rattle.office_tables.specs.declared.share_part.PartShareRow.{PartShareRow}
+use Rattle.office_tables.specs.Tables.SharePart.{ArePartAmounts}
+use Rattle.office_tables.specs.declared.tables.share_part.PartShareRow.{PartShareRow}
 use Rattle.office_records.specs.PartShares.{part_rows, plain_rows, room_rows}
 use Rattle.exam_lists.proofs.Numbered.{AreRowsOf, each_numbered}
 

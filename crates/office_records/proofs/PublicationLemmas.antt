@@ -20,7 +20,7 @@ use Rattle.exam_publish.specs.declared.seat_row.SeatRow.{SeatRow}
 use Rattle.exam_publish.proofs.PermitLemmas.{neither, none_unplaced}
 use Rattle.exam_publish.proofs.PlaceLemmas.{rows_exist}
 use Rattle.exam_publish.proofs.RowLemmas.{are_enrolments, pairs_in, rows_numbered}
-use Rattle.office_tables.specs.declared.enrol.EnrolRow.{EnrolRow}
+use Rattle.office_tables.specs.declared.tables.enrol.EnrolRow.{EnrolRow}
 use Rattle.office_model.specs.Office.{AreEnrolled, IsPublication, Publication}
 use Rattle.office_model.proofs.RecordLemmas.{are_enrolled as enrolled_of_exams}
 use Rattle.office_records.specs.Found.{AreEnrolRows}

@@ -25,19 +25,19 @@ use Rattle.exam_publish.specs.declared.seat_row.SeatRow as publish
 use Rattle.exam_publish.proofs.PlaceLemmas.{row_exists}
 use Rattle.exam_score.specs.Penalty.{PersonalPenalty}
 use Rattle.office_tables.specs.declared.version.Version.{Version}
-use Rattle.office_tables.specs.Adopting.{AreReadable, IsForeign}
-use Rattle.office_tables.specs.Owner.{FitsOwner}
-use Rattle.office_tables.specs.Enrol.{FitsEnrol}
-use Rattle.office_tables.specs.Draft.{FitsDraft}
-use Rattle.office_tables.specs.Slot.{FitsSlot}
-use Rattle.office_tables.specs.Placed.{FitsPlacement}
-use Rattle.office_tables.specs.Seat.{FitsSeat}
-use Rattle.office_tables.specs.ShareStudent.{FitsStudentShare}
-use Rattle.office_tables.specs.SharePart.{FitsPartShare}
-use Rattle.office_tables.specs.Tables.{Tables}
-use Rattle.office_tables.specs.declared.owner.OwnerRow.{OwnerRow}
-use Rattle.office_tables.specs.declared.draft.DraftRow.{DraftRow}
-use Rattle.office_tables.specs.declared.slot.SlotRow.{SlotRow}
+use Rattle.office_tables.specs.Tables.{AreReadable, Tables}
+use Rattle.office_tables.specs.Adopting.{IsForeign}
+use Rattle.office_tables.specs.Tables.Owner.{FitsOwner}
+use Rattle.office_tables.specs.Tables.Enrol.{FitsEnrol}
+use Rattle.office_tables.specs.Tables.Draft.{FitsDraft}
+use Rattle.office_tables.specs.Tables.Slot.{FitsSlot}
+use Rattle.office_tables.specs.Tables.Placed.{FitsPlacement}
+use Rattle.office_tables.specs.Tables.Seat.{FitsSeat}
+use Rattle.office_tables.specs.Tables.ShareStudent.{FitsStudentShare}
+use Rattle.office_tables.specs.Tables.SharePart.{FitsPartShare}
+use Rattle.office_tables.specs.declared.tables.owner.OwnerRow.{OwnerRow}
+use Rattle.office_tables.specs.declared.tables.draft.DraftRow.{DraftRow}
+use Rattle.office_tables.specs.declared.tables.slot.SlotRow.{SlotRow}
 use Rattle.office_model.specs.Office.{OfficeState, Records, Publication, AreRecords, IsOffice, IsPublication}
 use Rattle.office_model.specs.Publishing.{publication_rows}
 use Rattle.office_records.specs.Publications.{placed_from, placed_rows, stored_seat}

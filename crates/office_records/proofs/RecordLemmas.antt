@@ -8,12 +8,11 @@ use Rattle.exam_lists.proofs.Parts.{same_head}
 use Rattle.exam_model.specs.Enrolments.{Enrolled}
 use Rattle.exam_model.specs.Instance.{Session}
 use Rattle.exam_model.specs.Timetable.{Placing}
-use Rattle.office_tables.specs.Adopting.{tables_of}
-use Rattle.office_tables.specs.Batch.{counts_of}
-use Rattle.office_tables.specs.Meta.{meta_from}
-use Rattle.office_tables.specs.Tables.{Tables, Meta, Batch, empty_tables}
-use Rattle.office_tables.specs.declared.found.Found.{Found}
-use Rattle.office_tables.specs.declared.enrol.EnrolRow.{EnrolRow}
+use Rattle.office_tables.specs.Tables.{tables_of, Tables, empty_tables}
+use Rattle.office_tables.specs.Tables.Batches.{counts_of, Batch}
+use Rattle.office_tables.specs.Tables.Metadata.{meta_from, Meta}
+use Rattle.office_tables.specs.declared.tables.Found.{Found}
+use Rattle.office_tables.specs.declared.tables.enrol.EnrolRow.{EnrolRow}
 use Rattle.office_records.specs.Found.{AreDrafts, AreEnrolRows, AreOwners, ArePublication, IsSessionRow, IsUnloaded}
 use Rattle.office_records.specs.FoundBatches.{AreBatchRows, AreFoundBatches}
 use Rattle.office_model.specs.Office.{OfficeState, Publication, Records, AreRecords, IsOffice, IsPublication}

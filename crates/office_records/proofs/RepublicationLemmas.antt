@@ -19,7 +19,7 @@ use Rattle.exam_publish.specs.Shares.{share_of, student_shares}
 use Rattle.exam_publish.proofs.ChangedLemmas.{changed_has_row}
 use Rattle.exam_publish.proofs.ListLemmas.{ascending_from_chain, chain_ascending, has_ascending, has_filter}
 use Rattle.exam_publish.proofs.ShareLemmas.{same_share}
-use Rattle.office_tables.specs.declared.share_student.StudentShareRow.{StudentShareRow}
+use Rattle.office_tables.specs.declared.tables.share_student.StudentShareRow.{StudentShareRow}
 use Rattle.office_model.specs.Office.{Publication}
 use Rattle.office_model.specs.Publishing.{publication_rows}
 use Rattle.office_records.specs.SharesStored.{retimed_students, share_rows_of, share_rows_without, student_share_row, student_share_rows, student_shares_put, timed}

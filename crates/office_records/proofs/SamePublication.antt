@@ -2,7 +2,8 @@
 use Rattle.std.proofs.Common.{◌≡◌, true, Option, Some, None, refl, sym, ◌∙◌, ap, subst}
 use Rattle.std.specs.Prelude.{is_some}
 use Rattle.exam_lists.proofs.Parts.{same_head}
-use Rattle.office_tables.specs.Tables.{Meta, Tables}
+use Rattle.office_tables.specs.Tables.Metadata.{Meta}
+use Rattle.office_tables.specs.Tables.{Tables}
 use Rattle.office_model.specs.Office.{AreRecords, IsPublication, Publication, Records}
 use Rattle.office_records.specs.Publications.{RowsRepresentPublication}
 use Rattle.office_records.specs.Representation.{TablesRepresentRecords}

@@ -9,24 +9,24 @@ use Rattle.sqlite_value.specs.declared.value.Value.{Value}
 use Rattle.sqlite_value.specs.declared.value.Value.TheVariants.{Int}
 use Rattle.sqlite.specs.Effect.{Database}
 use Rattle.sqlite_trees.proofs.ListLemmas.{IsPermutation-filter, all-permutation}
-use Rattle.office_tables.specs.Batch.{FitsBatch, batch_columns}
-use Rattle.office_tables.specs.Tables.{Tables, Meta, empty_tables}
+use Rattle.office_tables.specs.Tables.Batches.{FitsBatch, batch_columns}
+use Rattle.office_tables.specs.Tables.{Tables, empty_tables}
+use Rattle.office_tables.specs.Tables.Metadata.{Meta, flag, meta_columns}
 use Rattle.office_tables.specs.Stored.{Holds, keyed_columns, keyless_columns}
 use Rattle.office_tables.specs.TablesHeld.{HoldsTables, HoldsTablesIn}
 use Rattle.office_tables.specs.declared.version.Version.{Version}
 use Rattle.office_tables.specs.declared.version.Version.TheVariants.{Two}
 use Rattle.office_tables.proofs.Frames.{held_at}
 use Rattle.office_tables.proofs.SameRows.{same_drafts, same_student_shares}
-use Rattle.office_tables.specs.Owner.{owner_columns}
-use Rattle.office_tables.specs.Enrol.{enrol_columns}
-use Rattle.office_tables.specs.Slot.{slot_columns}
-use Rattle.office_tables.specs.Placed.{placed_columns}
-use Rattle.office_tables.specs.Seat.{seat_columns}
-use Rattle.office_tables.specs.SharePart.{share_part_columns}
-use Rattle.office_tables.specs.Meta.{flag, meta_columns}
-use Rattle.office_tables.specs.declared.owner.OwnerRow.{OwnerRow}
-use Rattle.office_tables.specs.declared.draft.DraftRow.{DraftRow}
-use Rattle.office_tables.specs.declared.slot.SlotRow.{SlotRow}
+use Rattle.office_tables.specs.Tables.Owner.{owner_columns}
+use Rattle.office_tables.specs.Tables.Enrol.{enrol_columns}
+use Rattle.office_tables.specs.Tables.Slot.{slot_columns}
+use Rattle.office_tables.specs.Tables.Placed.{placed_columns}
+use Rattle.office_tables.specs.Tables.Seat.{seat_columns}
+use Rattle.office_tables.specs.Tables.SharePart.{share_part_columns}
+use Rattle.office_tables.specs.declared.tables.owner.OwnerRow.{OwnerRow}
+use Rattle.office_tables.specs.declared.tables.draft.DraftRow.{DraftRow}
+use Rattle.office_tables.specs.declared.tables.slot.SlotRow.{SlotRow}
 use Rattle.office_model.specs.Office.{OfficeState, Records}
 use Rattle.office_tables.proofs.RecordsBack.{bytes_in, owner_of, enrol_of, slot_of, placement_of, seat_of, part_share_of, batch_of}
 use Rattle.office_records.specs.Representation.{IsScoredRow, IsSound, TablesRepresentOffice, TablesRepresentRecords}

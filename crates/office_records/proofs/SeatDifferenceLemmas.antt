@@ -20,7 +20,7 @@ use Rattle.exam_publish.specs.declared.seat_row.SeatRow.{SeatRow}
 use Rattle.exam_publish.specs.Changed.{same_row}
 use Rattle.exam_publish.specs.Rows.{RowBefore, RowsInOrder, is_pair_before, row_pair}
 use Rattle.exam_publish.proofs.ChangedLemmas.{before_from_test}
-use Rattle.office_tables.specs.declared.seat.SeatRow as tables
+use Rattle.office_tables.specs.declared.tables.seat.SeatRow as tables
 use Rattle.office_records.specs.Publications.{stored_seat}
 use Rattle.office_records.specs.SeatsStored.{has_same, rows_beside, seats_without}
 use Rattle.office_records.proofs.OrderLemmas.{before_then}

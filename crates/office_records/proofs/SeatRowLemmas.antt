@@ -7,7 +7,7 @@ use Rattle.exam_lists.proofs.Maps.{same_unmapped}
 use Rattle.exam_lists.proofs.Orders.{PairBefore, pair_cmp, pair_less, pair_total}
 use Rattle.exam_publish.specs.declared.seat_row.SeatRow as publish
 use Rattle.exam_publish.specs.Rows.{AreNumbered, RowsInOrder}
-use Rattle.office_tables.specs.declared.seat.SeatRow.{SeatRow}
+use Rattle.office_tables.specs.declared.tables.seat.SeatRow.{SeatRow}
 use Rattle.office_records.specs.Publications.{stored_seat}
 use Rattle.office_records.proofs.OrderLemmas.{one_order, own_row, seat_key, seats_rise, seats_sorted}
 

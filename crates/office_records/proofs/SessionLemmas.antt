@@ -5,7 +5,7 @@ use Rattle.exam_model.specs.Enrolments.{Enrolled, no_pairs}
 use Rattle.exam_model.specs.Instance.{Session}
 use Rattle.office_files.specs.declared.fault.FileFault.{FileFault}
 use Rattle.office_files.specs.InstanceText.{instance_in}
-use Rattle.office_tables.specs.Tables.{Meta}
+use Rattle.office_tables.specs.Tables.Metadata.{Meta}
 use Rattle.office_records.specs.Found.{IsSessionRow}
 use Rattle.office_records.proofs.MemoryLemmas.{read_back}
 

@@ -10,7 +10,7 @@ use Rattle.sqlite_keyed.proofs.ListLemmas.{ascending-map}
 use Rattle.exam_model.specs.Enrolments.{IsAscending}
 use Rattle.exam_publish.proofs.ListLemmas.{chain_from_ascending}
 use Rattle.exam_score.specs.Penalty.{PersonalPenalty}
-use Rattle.office_tables.specs.declared.share_student.StudentShareRow.{StudentShareRow}
+use Rattle.office_tables.specs.declared.tables.share_student.StudentShareRow.{StudentShareRow}
 use Rattle.office_records.specs.SharesStored.{IsShare, student_share_row}
 use Rattle.office_records.proofs.OrderLemmas.{one_order}
 

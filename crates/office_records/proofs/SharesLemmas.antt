@@ -19,8 +19,8 @@ use Rattle.exam_publish.specs.declared.seat_row.SeatRow.{SeatRow}
 use Rattle.exam_publish.proofs.AddUpLemmas.{adds_up}
 use Rattle.exam_publish.proofs.ShareLemmas.{published_small, shares_ascend}
 use Rattle.exam_model.specs.Timetable.{Placing}
-use Rattle.office_tables.specs.declared.share_part.PartShareRow.{PartShareRow}
-use Rattle.office_tables.specs.declared.share_student.StudentShareRow.{StudentShareRow}
+use Rattle.office_tables.specs.declared.tables.share_part.PartShareRow.{PartShareRow}
+use Rattle.office_tables.specs.declared.tables.share_student.StudentShareRow.{StudentShareRow}
 use Rattle.office_model.specs.Office.{Publication}
 use Rattle.office_records.specs.FoundPublications.{HasPlacesAndSeats}
 use Rattle.office_records.specs.SharesStored.{AreShared, IsShare, student_share_row}

@@ -1,9 +1,10 @@
 -- The effect of an accepted batch on the rows of an office.
 use Rattle.std.specs.Prelude.{◌&&◌, ◌==◌, List, ◌∷◌, refl}
 use Rattle.exam_model.specs.declared.change.Change.{Change}
-use Rattle.office_tables.specs.Tables.{Tables, Batch}
-use Rattle.office_tables.specs.declared.draft.DraftRow.{DraftRow}
-use Rattle.office_tables.specs.declared.enrol.EnrolRow.{EnrolRow}
+use Rattle.office_tables.specs.Tables.{Tables}
+use Rattle.office_tables.specs.Tables.Batches.{Batch}
+use Rattle.office_tables.specs.declared.tables.draft.DraftRow.{DraftRow}
+use Rattle.office_tables.specs.declared.tables.enrol.EnrolRow.{EnrolRow}
 use Rattle.office_enrolment.specs.Rows.{RowKind, after_rows}
 use Rattle.office_records.specs.TableRows.{enrol_row}
 

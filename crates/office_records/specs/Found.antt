@@ -8,17 +8,17 @@ use Rattle.exam_model.specs.Instance.{Session, IsInstance}
 use Rattle.exam_model.specs.Pairs.{pairs_of}
 use Rattle.exam_model.specs.Timetable.{Placing}
 use Rattle.exam_score.specs.Track.{track}
-use Rattle.office_tables.specs.Adopting.{tables_of}
-use Rattle.office_tables.specs.Tables.{Meta, empty_tables}
-use Rattle.office_tables.specs.declared.found.Found.{Found}
-use Rattle.office_tables.specs.declared.owner.OwnerRow.{OwnerRow}
-use Rattle.office_tables.specs.declared.enrol.EnrolRow.{EnrolRow}
-use Rattle.office_tables.specs.declared.draft.DraftRow.{DraftRow}
-use Rattle.office_tables.specs.declared.slot.SlotRow.{SlotRow}
-use Rattle.office_tables.specs.declared.share_part.PartShareRow.{PartShareRow}
-use Rattle.office_tables.specs.declared.placed.PlacedRow.{PlacedRow}
-use Rattle.office_tables.specs.declared.seat.SeatRow.{SeatRow}
-use Rattle.office_tables.specs.declared.share_student.StudentShareRow.{StudentShareRow}
+use Rattle.office_tables.specs.Tables.{tables_of, empty_tables}
+use Rattle.office_tables.specs.Tables.Metadata.{Meta}
+use Rattle.office_tables.specs.declared.tables.Found.{Found}
+use Rattle.office_tables.specs.declared.tables.owner.OwnerRow.{OwnerRow}
+use Rattle.office_tables.specs.declared.tables.enrol.EnrolRow.{EnrolRow}
+use Rattle.office_tables.specs.declared.tables.draft.DraftRow.{DraftRow}
+use Rattle.office_tables.specs.declared.tables.slot.SlotRow.{SlotRow}
+use Rattle.office_tables.specs.declared.tables.share_part.PartShareRow.{PartShareRow}
+use Rattle.office_tables.specs.declared.tables.placed.PlacedRow.{PlacedRow}
+use Rattle.office_tables.specs.declared.tables.seat.SeatRow.{SeatRow}
+use Rattle.office_tables.specs.declared.tables.share_student.StudentShareRow.{StudentShareRow}
 use Rattle.office_model.specs.Office.{AreEnrolled, Publication}
 use Rattle.office_records.specs.Publications.{ArePublicationRows}
 use Rattle.office_records.specs.FoundPublications.{ArePublished}

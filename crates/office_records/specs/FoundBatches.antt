@@ -1,9 +1,8 @@
 -- When the rows of batches found, without their bytes, are those of kept batches.
 use Rattle.std.specs.Prelude.{◌≡◌, ◌≢◌, ◌≤◌, List, map, length, All, AllPairs}
 use Rattle.exam_terms.specs.declared.limits.TheConstants.{MAX_BATCH, MAX_BATCHES, TEXT_BYTES}
-use Rattle.office_tables.specs.Batch.{counts_of, FitsCounts}
-use Rattle.office_tables.specs.Tables.{Batch}
-use Rattle.office_tables.specs.declared.batch.BatchCountsRow.{BatchCountsRow}
+use Rattle.office_tables.specs.Tables.Batches.{counts_of, FitsCounts, Batch}
+use Rattle.office_tables.specs.declared.tables.batch.BatchCountsRow.{BatchCountsRow}
 
 -- the row of a batch with a valid number
 pub record IsBatchRow (row : BatchCountsRow) : Type 0 where

@@ -7,9 +7,9 @@ use Rattle.exam_model.specs.Timetable.{Placing}
 use Rattle.exam_publish.specs.Rows.{AreNumbered, ArePublishedRows, IsAtExam}
 use Rattle.exam_publish.specs.Seats.{AreSeated, HasSeat}
 use Rattle.exam_publish.specs.declared.seat_row.SeatRow as publish
-use Rattle.office_tables.specs.declared.enrol.EnrolRow.{EnrolRow}
-use Rattle.office_tables.specs.declared.placed.PlacedRow.{PlacedRow}
-use Rattle.office_tables.specs.declared.slot.SlotRow.{SlotRow}
+use Rattle.office_tables.specs.declared.tables.enrol.EnrolRow.{EnrolRow}
+use Rattle.office_tables.specs.declared.tables.placed.PlacedRow.{PlacedRow}
+use Rattle.office_tables.specs.declared.tables.slot.SlotRow.{SlotRow}
 use Rattle.office_model.specs.Office.{Publication, IsPublication}
 use Rattle.office_records.specs.Publications.{placed_from}
 

@@ -4,9 +4,9 @@ use Rattle.exam_terms.specs.declared.limits.TheConstants.{MAX_DEPARTMENT, MAX_PA
 use Rattle.exam_model.specs.Enrolments.{Enrolled, has, pair_count}
 use Rattle.exam_model.specs.Instance.{Session}
 use Rattle.exam_model.specs.Timetable.{Placing, place_of}
-use Rattle.office_tables.specs.declared.enrol.EnrolRow.{EnrolRow}
-use Rattle.office_tables.specs.declared.owner.OwnerRow.{OwnerRow}
-use Rattle.office_tables.specs.declared.slot.SlotRow.{SlotRow}
+use Rattle.office_tables.specs.declared.tables.enrol.EnrolRow.{EnrolRow}
+use Rattle.office_tables.specs.declared.tables.owner.OwnerRow.{OwnerRow}
+use Rattle.office_tables.specs.declared.tables.slot.SlotRow.{SlotRow}
 
 -- an owner within the limits, of an exam that exists and has no owner among these departments
 pub record IsFirstOwner (departments : List ℕ) (row : OwnerRow) : Type 0 where

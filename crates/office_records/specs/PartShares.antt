@@ -4,7 +4,7 @@ use Rattle.exam_terms.specs.declared.limits.TheConstants.{MAX_EXAMS, MAX_PERIODS
 use Rattle.exam_model.specs.Instance.{Session}
 use Rattle.exam_publish.specs.Shares.{Sharing, shares_of}
 use Rattle.exam_publish.specs.declared.share_lists.RoomShare.{RoomShare}
-use Rattle.office_tables.specs.declared.share_part.PartShareRow.{PartShareRow}
+use Rattle.office_tables.specs.declared.tables.share_part.PartShareRow.{PartShareRow}
 use Rattle.office_model.specs.Office.{Publication}
 use Rattle.office_records.specs.declared.part_shares.PartKind.{PartKind}
 use Rattle.office_records.specs.declared.part_shares.PartKind.TheVariants.{Exam, Period, Room}

@@ -7,9 +7,9 @@ use Rattle.exam_model.specs.Timetable.{Placing}
 use Rattle.exam_score.specs.Penalty.{Penalty}
 use Rattle.exam_score.specs.Track.{track}
 use Rattle.office_tables.specs.TablesHeld as tables
-use Rattle.office_tables.specs.Batch.{FitsBatch}
-use Rattle.office_tables.specs.Tables.{Tables, Batch, empty_tables}
-use Rattle.office_tables.specs.declared.draft.DraftRow.{DraftRow}
+use Rattle.office_tables.specs.Tables.Batches.{FitsBatch, Batch}
+use Rattle.office_tables.specs.Tables.{Tables, empty_tables}
+use Rattle.office_tables.specs.declared.tables.draft.DraftRow.{DraftRow}
 use Rattle.office_tables.specs.declared.version.Version.{Version}
 use Rattle.office_tables.specs.declared.version.Version.TheVariants.{Two}
 use Rattle.office_model.specs.Office.{OfficeState, Records, KeptBatch, IsOffice}

@@ -3,7 +3,7 @@ use Rattle.std.specs.Prelude.{Bool, not, ◌&&◌, ◌==◌, List, filter}
 use Rattle.std.specs.List.{list_any}
 use Rattle.exam_publish.specs.declared.seat_row.SeatRow as publish
 use Rattle.exam_publish.specs.Changed.{same_row}
-use Rattle.office_tables.specs.declared.seat.SeatRow.{SeatRow}
+use Rattle.office_tables.specs.declared.tables.seat.SeatRow.{SeatRow}
 
 -- whether one of these rows agrees with a row in all that it says
 abbrev pub has_same : List publish.SeatRow → publish.SeatRow → Bool

@@ -6,11 +6,12 @@ use Rattle.exam_model.specs.Pairs.{Pair}
 use Rattle.exam_model.specs.Timetable.{Placing}
 use Rattle.exam_terms.specs.declared.place.Place.{Place}
 use Rattle.office_files.specs.CanonicalText.{canonical_instance}
-use Rattle.office_tables.specs.Tables.{Meta, Batch}
-use Rattle.office_tables.specs.declared.owner.OwnerRow.{OwnerRow}
-use Rattle.office_tables.specs.declared.enrol.EnrolRow.{EnrolRow}
-use Rattle.office_tables.specs.declared.draft.DraftRow.{DraftRow}
-use Rattle.office_tables.specs.declared.slot.SlotRow.{SlotRow}
+use Rattle.office_tables.specs.Tables.Metadata.{Meta}
+use Rattle.office_tables.specs.Tables.Batches.{Batch}
+use Rattle.office_tables.specs.declared.tables.owner.OwnerRow.{OwnerRow}
+use Rattle.office_tables.specs.declared.tables.enrol.EnrolRow.{EnrolRow}
+use Rattle.office_tables.specs.declared.tables.draft.DraftRow.{DraftRow}
+use Rattle.office_tables.specs.declared.tables.slot.SlotRow.{SlotRow}
 use Rattle.office_model.specs.Office.{KeptBatch}
 
 -- the canonical text of a session, which names no student

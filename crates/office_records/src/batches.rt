@@ -4,7 +4,7 @@ ghost use Rattle.office_records.specs.FoundBatches.{AreBatchRows, IsBatchRow};
 
 use crate::fault::RecordFault;
 use exam_terms::limits::{MAX_BATCH, MAX_BATCHES};
-use office_tables::BatchCountsRow;
+use office_tables::tables::BatchCountsRow;
 
 // Returns `Ok` if an office may keep batches with these rows, for some bytes. `BadRows`: there are
 // too many, or a number is beyond the limit.

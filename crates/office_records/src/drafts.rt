@@ -5,7 +5,7 @@ ghost use Rattle.std.specs.List.{list_all, list_any};
 ghost use Rattle.exam_terms.specs.declared.limits.TheConstants.{MAX_DRAFTS};
 ghost use Rattle.exam_model.specs.Timetable.{Placing};
 ghost use Rattle.exam_score.specs.Track.{track};
-ghost use Rattle.office_tables.specs.Draft.{AreAmounts};
+ghost use Rattle.office_tables.specs.Tables.Draft.{AreAmounts};
 ghost use Rattle.office_records.specs.Found.{AreDrafts, AreSlots};
 ghost use Rattle.office_records.specs.Memory.{AreScoredDrafts, draft_at, with_penalty};
 ghost use Rattle.office_records.specs.Representation.{parts_of};
@@ -15,7 +15,7 @@ use crate::timetable::timetable_of;
 use exam_model::{Enrolments, Instance, Timetable};
 use exam_score::{Parts, score};
 use exam_terms::limits::MAX_DRAFTS;
-use office_tables::{DraftRow, SlotRow};
+use office_tables::tables::{DraftRow, SlotRow};
 use std::alloc::Global;
 
 /// A draft with its penalty.

@@ -6,7 +6,7 @@ ghost use Rattle.office_records.specs.NextRow.{IsNewPair};
 
 use crate::fault::RecordFault;
 use exam_model::{Enrolments, ExamNo, Instance, ModelFault, StudentNo};
-use office_tables::EnrolRow;
+use office_tables::tables::EnrolRow;
 use std::alloc::Global;
 
 // Returns the enrolments of a session's exams with these rows. `BadRows`: no enrolments have them.

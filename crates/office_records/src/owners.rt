@@ -5,7 +5,7 @@ ghost use Rattle.office_records.specs.NextRow.{IsFirstOwner};
 
 use crate::fault::RecordFault;
 use exam_model::{DeptNo, Instance};
-use office_tables::OwnerRow;
+use office_tables::tables::OwnerRow;
 use std::alloc::Global;
 
 // Returns `Ok` if these rows name owners of a session's exams; else `BadRows`.

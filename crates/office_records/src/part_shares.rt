@@ -4,12 +4,12 @@ ghost use Rattle.exam_terms.specs.declared.limits.TheConstants.{MAX_EXAMS};
 ghost use Rattle.exam_publish.specs.AddUp.{AreSmall};
 ghost use Rattle.exam_publish.specs.Shares.{Sharing};
 ghost use Rattle.exam_publish.specs.declared.share_lists.RoomShare.{RoomShare};
-ghost use Rattle.office_tables.specs.SharePart.{ArePartAmounts};
+ghost use Rattle.office_tables.specs.Tables.SharePart.{ArePartAmounts};
 ghost use Rattle.office_records.specs.PartShares.{HasFewParts, part_kind_number, part_rows, plain_rows, room_rows};
 
 use crate::fault::RecordFault;
 use exam_publish::{RoomShare, Shares};
-use office_tables::PartShareRow;
+use office_tables::tables::PartShareRow;
 use std::alloc::{AllocError, Global};
 
 /// The kind of thing that has the share.

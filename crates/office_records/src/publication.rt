@@ -15,7 +15,7 @@ use crate::timetable::timetable_of;
 use exam_model::{ExamNo, Instance, Timetable};
 use exam_publish as publish;
 use exam_publish::{PublishFault, numbers_identify, permit};
-use office_tables::{EnrolRow, PlacedRow, SeatRow, SlotRow};
+use office_tables::tables::{EnrolRow, PlacedRow, SeatRow, SlotRow};
 use std::alloc::{AllocError, Global};
 
 // Returns the publication of a session with these rows, by the flag whether something is

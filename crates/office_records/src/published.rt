@@ -11,7 +11,7 @@ use crate::publication::{check_publication, publication_of};
 use crate::shares::check_shares;
 use exam_model::{Instance, Timetable};
 use exam_publish::SeatRow;
-use office_tables::{Found, PartShareRow, StudentShareRow};
+use office_tables::tables::{Found, PartShareRow, StudentShareRow};
 use std::alloc::Global;
 
 // Returns the publication of a session with these rows of a publication and its shares; `None` if

@@ -1,8 +1,7 @@
 // The records that rows represent.
 ghost use Rattle.std.specs.Prelude.{◌≡◌, ◌↔◌, IfErr, IfOk, IfSome, IsTrue, List, map, ℕ};
-ghost use Rattle.office_tables.specs.Adopting.{tables_of};
-ghost use Rattle.office_tables.specs.Batch.{counts_of};
-ghost use Rattle.office_tables.specs.Tables.{Batch};
+ghost use Rattle.office_tables.specs.Tables.{tables_of};
+ghost use Rattle.office_tables.specs.Tables.Batches.{counts_of, Batch};
 ghost use Rattle.office_model.specs.Office.{IsOffice, OfficeState};
 ghost use Rattle.office_records.specs.Found.{HasNoPublication, IsUnloaded};
 ghost use Rattle.office_records.specs.FoundBatches.{AreFoundBatches};
@@ -19,7 +18,7 @@ use crate::published::published_of;
 use crate::session::session_of;
 use exam_model::{Enrolments, Instance, Timetable};
 use exam_publish::SeatRow;
-use office_tables::Found;
+use office_tables::tables::Found;
 use std::alloc::Global;
 
 /// The part of an office that is kept in memory.

@@ -10,7 +10,7 @@ use crate::fault::RecordFault;
 use exam_model::{ExamNo, PeriodNo, RoomNo, StudentNo};
 use exam_publish as publish;
 use exam_publish::is_before;
-use office_tables::SeatRow;
+use office_tables::tables::SeatRow;
 use std::alloc::{AllocError, Global};
 
 /// Returns the rows to be stored for those of these seats that aren't among the others: with which

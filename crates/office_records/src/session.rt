@@ -1,14 +1,14 @@
 // The row of a session.
 ghost use Rattle.std.specs.Prelude.{◌≡◌, IfErr, IfOk};
 ghost use Rattle.exam_model.specs.Instance.{IsInstance, Session};
-ghost use Rattle.office_tables.specs.Meta.{meta_from};
+ghost use Rattle.office_tables.specs.Tables.Metadata.{meta_from};
 ghost use Rattle.office_records.specs.Found.{IsSessionRow};
 ghost use Rattle.office_records.specs.TableRows.{session_text};
 
 use crate::fault::RecordFault;
 use exam_model::{Enrolments, Instance};
 use office_files::{read_instance, write_instance};
-use office_tables::MetaRow;
+use office_tables::tables::MetaRow;
 use std::alloc::Global;
 
 /// Returns the stored text of a session: its canonical text, which names no student.

@@ -12,7 +12,7 @@ use crate::part_shares::{PartKind, part_share_rows, parts_in_order, plain_shares
 use crate::student_shares::{personal_shares, student_share_rows, students_in_order};
 use exam_model::{Instance, Timetable};
 use exam_publish::{SeatRow, Shares, shares};
-use office_tables::{PartShareRow, StudentShareRow};
+use office_tables::tables::{PartShareRow, StudentShareRow};
 use std::alloc::Global;
 
 // Returns `Ok` if these rows are the shares of a publication; else `BadRows`.

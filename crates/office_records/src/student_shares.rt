@@ -2,14 +2,14 @@
 ghost use Rattle.std.specs.Prelude.{◌≡◌, ℕ, List, map, All, IfErr, IfNone, IfOk, IfSome, IsPermutation};
 ghost use Rattle.exam_model.specs.Enrolments.{IsAscending};
 ghost use Rattle.exam_score.specs.Penalty.{PersonalPenalty};
-ghost use Rattle.office_tables.specs.ShareStudent.{AreStudentAmounts};
+ghost use Rattle.office_tables.specs.Tables.ShareStudent.{AreStudentAmounts};
 ghost use Rattle.office_records.specs.SharesStored.{IsShare, student_share_row};
 
 use crate::fault::RecordFault;
 use exam_model::StudentNo;
 use exam_publish::Shares;
 use exam_score::PersonalParts;
-use office_tables::StudentShareRow;
+use office_tables::tables::StudentShareRow;
 use std::alloc::{AllocError, Global};
 
 /// Returns the rows of all candidates' shares, in their order.

@@ -6,7 +6,7 @@ ghost use Rattle.office_records.specs.NextRow.{IsFree, IsSlotPlaced};
 
 use crate::fault::RecordFault;
 use exam_model::{ExamNo, Instance, PeriodNo, Place, RoomNo, Timetable};
-use office_tables::SlotRow;
+use office_tables::tables::SlotRow;
 use std::alloc::Global;
 
 /// Returns the timetable of a draft from its rows among those of all drafts. `BadRows`: no

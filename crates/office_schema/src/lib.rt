@@ -1,9 +1,8 @@
-//! The schema of an office's SQLite file, and whether a database has it.
+//! Whether a schema of SQLite has the tables that a program declares.
 #![tactic(auto)]
 
 mod parts;
-mod tables;
 mod whole;
 
-pub use tables::TABLES_BEFORE;
-pub use whole::{is_office_schema, is_schema_before};
+pub use parts::{Declared, TableKey, is_pair_index, is_seat_index};
+pub use whole::are_tables;

@@ -1,4 +1,5 @@
-// Whether parts of a schema are those of an office: columns, keys and indexes.
+// A table as a program declares it, and whether parts of a schema are those of such tables: their
+// columns, keys and indexes.
 ghost use Rattle.std.specs.Prelude.{◌≡◌, ◌↔◌, [], ◌∷◌, None, Some, false, IfOk, IsTrue};
 ghost use Rattle.sqlite_value.specs.Keys.{plain};
 ghost use Rattle.sqlite_value.specs.declared.value.Value.TheVariants.{Null};
@@ -11,24 +12,24 @@ use sqlite_value::keys::{Collation, Order};
 use sqlite_value::value::Value;
 use std::alloc::{AllocError, Global};
 
-// A table of an office: its name, the tree of its rows, its key, and the names and kinds of its
-// columns.
+/// A table: its name, the tree of its rows, its key, and the names and kinds of its columns. All
+/// columns are STRICT and NOT NULL.
 #[derive(Clone, Copy)]
-pub(crate) struct Declared {
+pub struct Declared {
     pub name: &'static str,
     pub tree: u32,
     pub key: TableKey,
     pub columns: &'static [(&'static str, Kind)],
 }
 
-// The columns of a table that are its key.
+/// The columns of a table that are its key.
 #[derive(Clone, Copy)]
-pub(crate) enum TableKey {
-    // The first column, which is the row's number.
+pub enum TableKey {
+    /// The first column, which is the row's number.
     Number,
-    // The first two columns.
+    /// The first two columns.
     Pair,
-    // The first two columns; and no two rows agree in the next three.
+    /// The first two columns; and no two rows agree in the next three.
     PairAndTriple,
 }
 
@@ -231,15 +232,17 @@ fn has_no_terms(alloc: Global, terms: &Terms) -> Result<bool, AllocError>
     Ok(lent.roots.is_empty())
 }
 
-// Returns whether this is the index of a key of two columns.
-pub(crate) fn is_pair_index(index: &Index, name: &[u8], tree: u32, table: u32) -> bool
+/// Returns whether this is the index, of this name and tree, of a key that is the first two columns
+/// of the table of the tree `table`.
+pub fn is_pair_index(index: &Index, name: &[u8], tree: u32, table: u32) -> bool
     ensures { IsTrue result ↔ (index.now ≡ index_of name.now tree table (1 ∷ 2 ∷ [])) }
 {
     is_index(index, name, tree, table) && is_pair(index.columns.as_slice())
 }
 
-// Returns whether this is the index of the seats in a room.
-pub(crate) fn is_seat_index(index: &Index, name: &[u8], tree: u32, table: u32) -> bool
+/// Returns whether this is the index, of this name and tree, that keeps the third, fourth and fifth
+/// columns of the table of the tree `table` apart.
+pub fn is_seat_index(index: &Index, name: &[u8], tree: u32, table: u32) -> bool
     ensures { IsTrue result ↔ (index.now ≡ index_of name.now tree table (3 ∷ 4 ∷ 5 ∷ [])) }
 {
     is_index(index, name, tree, table) && is_triple(index.columns.as_slice())

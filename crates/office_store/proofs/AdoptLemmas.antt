@@ -11,13 +11,13 @@ use Rattle.sqlite.specs.Effect.{Database, IsDatabase}
 use Rattle.sqlite.specs.Held.{Held, state}
 use Rattle.sqlite.specs.State.{HasCleanDisk, IsUnchanged, State, Survives}
 use Rattle.sqlite.specs.Store.{Ghosts}
-use Rattle.office_tables.specs.Adopting.{IsAdopted, tables_of}
-use Rattle.office_tables.specs.Batch.{counts_of, batch_columns}
+use Rattle.office_tables.specs.Adopting.{IsAdopted}
+use Rattle.office_tables.specs.Tables.{tables_of, Tables}
+use Rattle.office_tables.specs.Tables.Batches.{counts_of, batch_columns, Batch}
 use Rattle.office_tables.specs.Readers.{Keeps, LeavesFile, LeavesTablesIn}
-use Rattle.office_tables.specs.Tables.{Batch, Tables}
 use Rattle.office_tables.specs.TablesHeld.{HoldsSomeTables, HoldsTables, HoldsTablesIn}
 use Rattle.office_tables.specs.Versions.{schema_of}
-use Rattle.office_tables.specs.declared.found.Found.{Found}
+use Rattle.office_tables.specs.declared.tables.Found.{Found}
 use Rattle.office_tables.specs.declared.version.Version.{Version}
 use Rattle.office_tables.specs.declared.version.Version.TheVariants.{One, Two}
 use Rattle.office_tables.proofs.Frames.{held_at}

@@ -17,7 +17,7 @@ use Rattle.exam_model.specs.declared.change.Change.{Change}
 use Rattle.exam_draft.specs.declared.fault.EditFault.TheVariants.{NoSuch}
 use Rattle.exam_score.specs.Rescoring.{OthersUnchanged}
 use Rattle.exam_score.specs.Track.{track}
-use Rattle.office_tables.specs.declared.draft.DraftRow.{DraftRow}
+use Rattle.office_tables.specs.declared.tables.draft.DraftRow.{DraftRow}
 use Rattle.office_enrolment.specs.AfterBatch.{Refuses, lines_with_effect, after_batch, current_enrolments, names_exam, lines_in}
 use Rattle.office_enrolment.specs.Keeping.{batch_stored}
 use Rattle.office_enrolment.proofs.OfficeLemmas.{as_office}
@@ -41,12 +41,10 @@ use Rattle.office_store.proofs.RememberingLemmas.{twice, after_lines, next_is}
 use Rattle.office_store.proofs.EditCallLemmas.{there_of}
 use Rattle.office_batches.specs.BatchText.{batch_in}
 use Rattle.office_tables.specs.Alterations.{after_all}
-use Rattle.office_tables.specs.Draft.{no_drafts, with_draft}
-use Rattle.office_tables.specs.Batch.{with_batch}
-use Rattle.office_tables.specs.Enrol.{with_enrol, without_enrol}
-use Rattle.office_tables.specs.Tables.{Batch, Tables}
-use Rattle.office_tables.specs.declared.draft.InsertDraft.{InsertDraft}
-use Rattle.office_tables.specs.declared.enrol.EnrolRow.{EnrolRow}
+use Rattle.office_tables.specs.Tables.{no_drafts, with_draft, with_batch, with_enrol, without_enrol, Tables}
+use Rattle.office_tables.specs.Tables.Batches.{Batch}
+use Rattle.office_tables.specs.declared.tables.draft.InsertDraft.{InsertDraft}
+use Rattle.office_tables.specs.declared.tables.enrol.EnrolRow.{EnrolRow}
 use Rattle.office_tables.proofs.AlterationLemmas.{drafts_put}
 use Rattle.office_enrolment.specs.Rows.{after_row, after_rows, pair_of}
 use Rattle.office_enrolment.proofs.KeptLemmas.{Ascend, they_ascend}

@@ -16,10 +16,10 @@ use Rattle.exam_model.specs.Fits.{Fits}
 use Rattle.exam_model.specs.Timetable.{Placing}
 use Rattle.exam_terms.specs.declared.place.Place.{Place}
 use Rattle.exam_score.specs.Track.{track}
-use Rattle.office_tables.specs.Tables.{Tables}
+use Rattle.office_tables.specs.Tables.{Tables, with_draft, with_slot}
 use Rattle.office_tables.specs.TablesHeld.{HoldsTables}
-use Rattle.office_tables.specs.declared.draft.DraftRow.{DraftRow}
-use Rattle.office_tables.specs.declared.slot.SlotRow.{SlotRow}
+use Rattle.office_tables.specs.declared.tables.draft.DraftRow.{DraftRow}
+use Rattle.office_tables.specs.declared.tables.slot.SlotRow.{SlotRow}
 use Rattle.office_store.specs.Changes.{draft_put, draft_removed}
 use Rattle.office_model.specs.Office.{Records, set_at, OfficeState}
 use Rattle.office_model.proofs.RecordLemmas.{left_records, made_records}
@@ -32,9 +32,7 @@ use Rattle.exam_terms.specs.Refusing.{◌>>=◌, else_err}
 use Rattle.exam_score.specs.Penalty.{total_of}
 use Rattle.office_files.specs.SolutionText.{solution_in}
 use Rattle.office_tables.specs.Alterations.{after_all}
-use Rattle.office_tables.specs.Draft.{with_draft}
-use Rattle.office_tables.specs.Slot.{with_slot}
-use Rattle.office_tables.specs.Inserted.{InsertSlot}
+use Rattle.office_tables.specs.Tables.Slot.{InsertSlot}
 use Rattle.office_tables.proofs.AlterationLemmas.{slots_put}
 use Rattle.office_records.specs.Memory.{draft_at, with_penalty, scored_draft}
 use Rattle.office_records.specs.declared.drafts.Draft.{Draft}

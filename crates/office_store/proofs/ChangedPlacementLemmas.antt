@@ -10,7 +10,7 @@ use Rattle.exam_lists.proofs.Booleans.{eqb_swap}
 use Rattle.sqlite_trees.proofs.ListLemmas.{IsPermutation-filter}
 use Rattle.exam_model.specs.Enrolments.{has_number}
 use Rattle.exam_model.specs.Timetable.{Placing, place_of}
-use Rattle.office_tables.specs.declared.placed.PlacedRow.{PlacedRow}
+use Rattle.office_tables.specs.declared.tables.placed.PlacedRow.{PlacedRow}
 use Rattle.office_records.specs.Publications.{placed_from, placed_row}
 use Rattle.office_store.specs.ChangedPlacements.{changed_rows, exams_of, is_same_row, is_there, placements_without}
 

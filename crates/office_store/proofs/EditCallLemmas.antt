@@ -14,12 +14,12 @@ use Rattle.exam_draft.specs.Edits.{Edited, edit_result}
 use Rattle.exam_draft.specs.Judged.{IsEditedAt, edited_exams}
 use Rattle.exam_draft.specs.declared.edit.Edit.{Edit}
 use Rattle.office_tables.specs.Alterations.{after_all}
-use Rattle.office_tables.specs.Draft.{with_draft, without_draft}
+use Rattle.office_tables.specs.Tables.{with_draft, without_draft}
 use Rattle.office_tables.specs.TablesHeld.{HoldsTables}
 use Rattle.office_tables.specs.declared.altering.Both.{Both}
-use Rattle.office_tables.specs.declared.draft.DraftRow.{DraftRow}
-use Rattle.office_tables.specs.declared.slot.DeleteSlot.{DeleteSlot}
-use Rattle.office_tables.specs.Inserted.{InsertSlot}
+use Rattle.office_tables.specs.declared.tables.draft.DraftRow.{DraftRow}
+use Rattle.office_tables.specs.declared.tables.slot.DeleteSlot.{DeleteSlot}
+use Rattle.office_tables.specs.Tables.Slot.{InsertSlot}
 use Rattle.office_model.specs.Commands.{renamed_fault}
 use Rattle.office_model.specs.DraftCommands.{draft_edited, live_penalty}
 use Rattle.office_model.specs.Office.{OfficeState, Records, set_at}

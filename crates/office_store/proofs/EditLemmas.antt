@@ -14,13 +14,12 @@ use Rattle.exam_model.specs.Timetable.{Placing, place_of}
 use Rattle.exam_terms.specs.declared.place.Place.{Place}
 use Rattle.exam_model.specs.Enrolments.{has_number, Enrolled}
 use Rattle.exam_score.specs.Changes.{DiffersAtMost}
-use Rattle.office_tables.specs.Slot.{with_slot, without_slot}
+use Rattle.office_tables.specs.Tables.{with_slot, without_slot, Tables, with_draft, without_draft}
 use Rattle.office_tables.specs.Alterations.{after_all, after_some}
-use Rattle.office_tables.specs.Tables.{Tables}
 use Rattle.office_tables.specs.declared.altering.Both.{Both}
-use Rattle.office_tables.specs.declared.slot.SlotRow.{SlotRow}
-use Rattle.office_tables.specs.declared.slot.DeleteSlot.{DeleteSlot}
-use Rattle.office_tables.specs.Inserted.{InsertSlot}
+use Rattle.office_tables.specs.declared.tables.slot.SlotRow.{SlotRow}
+use Rattle.office_tables.specs.declared.tables.slot.DeleteSlot.{DeleteSlot}
+use Rattle.office_tables.specs.Tables.Slot.{InsertSlot}
 use Rattle.office_store.specs.Changes.{move_writes, new_place, slot_put, slots_put, edit_put}
 use Rattle.office_records.specs.TableRows.{slots_at, slots_from, slot_row, drafts_at, slot_rows, number_if}
 use Rattle.exam_lists.proofs.Keys.{each_left, key_replaced}
@@ -33,8 +32,7 @@ use Rattle.exam_rules.specs.Breaches.{least_breach_of}
 use Rattle.exam_score.specs.Track.{track}
 use Rattle.exam_draft.specs.Edits.{exam_exists, place_exists, is_placed, unless_broken, edit_result}
 use Rattle.office_tables.specs.TablesHeld.{HoldsTables}
-use Rattle.office_tables.specs.Draft.{with_draft, without_draft}
-use Rattle.office_tables.specs.declared.draft.DraftRow.{DraftRow}
+use Rattle.office_tables.specs.declared.tables.draft.DraftRow.{DraftRow}
 use Rattle.exam_draft.specs.Judged.{edited_exams}
 use Rattle.exam_draft.specs.declared.edit.Edit.{Edit}
 use Rattle.office_model.specs.Office.{Records, set_at}

@@ -12,9 +12,9 @@ use Rattle.sqlite_trees.proofs.ListLemmas.{all-append}
 use Rattle.exam_model.specs.Enrolments.{Enrolled}
 use Rattle.exam_model.specs.Instance.{Session}
 use Rattle.exam_score.specs.Track.{track}
-use Rattle.office_tables.specs.Draft.{AreAmounts}
-use Rattle.office_tables.specs.declared.draft.DraftRow.{DraftRow}
-use Rattle.office_tables.specs.declared.draft.InsertDraft.{InsertDraft}
+use Rattle.office_tables.specs.Tables.Draft.{AreAmounts}
+use Rattle.office_tables.specs.declared.tables.draft.DraftRow.{DraftRow}
+use Rattle.office_tables.specs.declared.tables.draft.InsertDraft.{InsertDraft}
 use Rattle.office_records.specs.Representation.{parts_of}
 use Rattle.office_records.specs.TableRows.{drafts_at, number_if}
 use Rattle.office_records.specs.Memory.{draft_at}

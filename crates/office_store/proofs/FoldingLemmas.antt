@@ -34,11 +34,11 @@ use Rattle.exam_score.proofs.ConcernedLemmas.{edit_is, track_is}
 use Rattle.office_model.specs.declared.fault.StoreFault.TheVariants.{BadSchema}
 use Rattle.office_records.specs.Representation.{RepresentsOffice}
 use Rattle.office_records.proofs.ReadableLemmas.{are_readable}
-use Rattle.office_tables.specs.Enrol.{FitsEnrol, StudentEnrolsRise}
+use Rattle.office_tables.specs.Tables.Enrol.{FitsEnrol, StudentEnrolsRise}
 use Rattle.office_tables.specs.Selections.{AreListed, AreListedIfFit}
 use Rattle.office_tables.specs.Tables.{Tables}
 use Rattle.office_tables.specs.TablesHeld.{HoldsTables}
-use Rattle.office_tables.specs.declared.enrol.EnrolRow.{EnrolRow}
+use Rattle.office_tables.specs.declared.tables.enrol.EnrolRow.{EnrolRow}
 use Rattle.office_store.specs.FoldReads.{HadEnrolments, HasRead, RowsUnchanged}
 use Rattle.office_store.specs.Running.{ReturnsValue}
 use Rattle.office_store.specs.declared.editing.EditedTimetable.{EditedTimetable}

@@ -10,9 +10,9 @@ use Rattle.exam_lists.proofs.Parts.{same_head}
 use Rattle.exam_lists.proofs.Chains.{IsChain, chain_from_index}
 use Rattle.exam_lists.proofs.Permutations.{same_few}
 use Rattle.sqlite_trees.proofs.ListLemmas.{IsPermutation-filter, filter-map}
-use Rattle.office_tables.specs.Batch.{batch_from}
-use Rattle.office_tables.specs.Tables.{Batch, Tables}
-use Rattle.office_tables.specs.declared.batch.BatchRow.{BatchRow}
+use Rattle.office_tables.specs.Tables.Batches.{batch_from, Batch}
+use Rattle.office_tables.specs.Tables.{Tables}
+use Rattle.office_tables.specs.declared.tables.batch.BatchRow.{BatchRow}
 use Rattle.exam_terms.specs.Refusing.{◌>>=◌, unless}
 use Rattle.exam_model.specs.declared.change.Change.{Change}
 use Rattle.office_batches.specs.BatchText.{batch_in}

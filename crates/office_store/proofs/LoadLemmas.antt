@@ -12,12 +12,10 @@ use Rattle.office_files.specs.ExamLines.{ExamLine}
 use Rattle.office_files.specs.Spelled.{session_of}
 use Rattle.office_files.specs.InstanceText.{InstanceText, instance_in}
 use Rattle.office_tables.specs.Alterations.{after_all}
-use Rattle.office_tables.specs.Meta.{no_meta, with_meta}
-use Rattle.office_tables.specs.Enrol.{with_enrol}
-use Rattle.office_tables.specs.Tables.{Tables, empty_tables}
+use Rattle.office_tables.specs.Tables.{no_meta, with_meta, with_enrol, Tables, empty_tables}
 use Rattle.office_tables.specs.TablesHeld.{HoldsTables}
-use Rattle.office_tables.specs.Inserted.{InsertEnrol}
-use Rattle.office_tables.specs.declared.enrol.EnrolRow.{EnrolRow}
+use Rattle.office_tables.specs.Tables.Enrol.{InsertEnrol}
+use Rattle.office_tables.specs.declared.tables.enrol.EnrolRow.{EnrolRow}
 use Rattle.office_tables.proofs.AlterationLemmas.{enrols_put}
 use Rattle.office_records.specs.Memory.{draft_at}
 use Rattle.office_store.specs.Changes.{session_put}

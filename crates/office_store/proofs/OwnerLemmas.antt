@@ -6,11 +6,10 @@ use Rattle.exam_lists.proofs.Permutations.{few_read}
 use Rattle.exam_lists.proofs.Keys.{key_removed, key_replaced}
 use Rattle.sqlite.specs.Effect.{Database}
 use Rattle.office_tables.specs.Alterations.{after_some}
-use Rattle.office_tables.specs.Tables.{Tables}
+use Rattle.office_tables.specs.Tables.{Tables, without_owner, with_owner}
 use Rattle.office_tables.specs.TablesHeld.{HoldsTables}
-use Rattle.office_tables.specs.Owner.{without_owner, with_owner}
-use Rattle.office_tables.specs.Inserted.{InsertOwner}
-use Rattle.office_tables.specs.declared.owner.OwnerRow.{OwnerRow}
+use Rattle.office_tables.specs.Tables.Owner.{InsertOwner}
+use Rattle.office_tables.specs.declared.tables.owner.OwnerRow.{OwnerRow}
 use Rattle.office_store.specs.Changes.{new_owner, owner_put}
 use Rattle.exam_model.specs.Enrolments.{Enrolled}
 use Rattle.exam_model.specs.Instance.{Session}

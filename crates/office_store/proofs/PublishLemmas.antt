@@ -18,7 +18,7 @@ use Rattle.exam_publish.specs.Shares.{period_share, room_share, shares_among, st
 use Rattle.exam_publish.specs.Rows.{enrolled_in, RowsInOrder}
 use Rattle.exam_publish.specs.declared.fault.PublishFault.{PublishFault}
 use Rattle.exam_publish.specs.declared.fault.PublishFault.TheVariants.{Broken, NoMemory, Unplaced}
-use Rattle.office_tables.specs.declared.seat.SeatRow.{SeatRow}
+use Rattle.office_tables.specs.declared.tables.seat.SeatRow.{SeatRow}
 use Rattle.exam_score.specs.Penalty.{Penalty, PersonalPenalty, total_of}
 use Rattle.exam_score.specs.Track.{track}
 use Rattle.exam_score.specs.FrontLoad.{exam_front}
@@ -31,7 +31,7 @@ use Rattle.office_records.specs.Memory.{memory_of}
 use Rattle.office_records.specs.Publications.{placed_rows, placed_from, stored_seat}
 use Rattle.office_records.specs.PartShares.{HasFewParts, part_share_rows}
 use Rattle.office_records.specs.SharesStored.{share_rows_of, student_share_row, retimed_students, share_rows_without, student_share_rows}
-use Rattle.office_tables.specs.declared.placed.PlacedRow.{PlacedRow}
+use Rattle.office_tables.specs.declared.tables.placed.PlacedRow.{PlacedRow}
 use Rattle.office_store.specs.NewPublications.{AreInserted, Publishes, IsInserted, InsertsOrRefuses, candidates_before, mark_text}
 use Rattle.office_store.specs.Running.{IsFault}
 use Rattle.office_store.specs.declared.new_publication.NewPublication.{NewPublication}
@@ -44,18 +44,17 @@ use Rattle.sqlite.specs.Effect.{Database}
 use Rattle.exam_model.specs.Fits.{Fits}
 use Rattle.exam_publish.proofs.PublishedLemmas.{same_enrolments}
 use Rattle.office_tables.specs.Alterations.{after_all}
-use Rattle.office_tables.specs.SharePart.{no_part_shares, with_part_share}
-use Rattle.office_tables.specs.Placed.{with_placement, without_placement}
-use Rattle.office_tables.specs.Seat.{with_seat, without_seat}
-use Rattle.office_tables.specs.ShareStudent.{with_student_share, without_student_share}
-use Rattle.office_tables.specs.Tables.{Meta, Tables}
+use Rattle.office_tables.specs.Tables.{no_part_shares, with_part_share, with_placement, without_placement, with_seat, without_seat, with_student_share, without_student_share, Tables}
+use Rattle.office_tables.specs.Tables.Metadata.{Meta}
 use Rattle.office_tables.proofs.AlterationLemmas.{part_shares_put, placements_gone, placements_put, seats_put, seats_gone, student_shares_gone, student_shares_put}
-use Rattle.office_tables.specs.declared.placed.DeletePlacement.{DeletePlacement}
-use Rattle.office_tables.specs.Inserted.{InsertPlacement, InsertSeat, InsertPartShare}
-use Rattle.office_tables.specs.declared.seat.DeleteSeat.{DeleteSeat}
-use Rattle.office_tables.specs.declared.share_student.DeleteStudentShare.{DeleteStudentShare}
-use Rattle.office_tables.specs.declared.share_student.InsertStudentShare.{InsertStudentShare}
-use Rattle.office_tables.specs.declared.share_student.StudentShareRow.{StudentShareRow}
+use Rattle.office_tables.specs.declared.tables.placed.DeletePlacement.{DeletePlacement}
+use Rattle.office_tables.specs.Tables.Placed.{InsertPlacement}
+use Rattle.office_tables.specs.Tables.Seat.{InsertSeat}
+use Rattle.office_tables.specs.Tables.SharePart.{InsertPartShare}
+use Rattle.office_tables.specs.declared.tables.seat.DeleteSeat.{DeleteSeat}
+use Rattle.office_tables.specs.declared.tables.share_student.DeleteStudentShare.{DeleteStudentShare}
+use Rattle.office_tables.specs.declared.tables.share_student.InsertStudentShare.{InsertStudentShare}
+use Rattle.office_tables.specs.declared.tables.share_student.StudentShareRow.{StudentShareRow}
 use Rattle.office_model.proofs.RecordLemmas.{old_seated, published_records}
 use Rattle.office_records.specs.SeatsStored.{rows_beside, seats_without}
 use Rattle.office_records.specs.Representation.{RepresentsOffice, IsSound, TablesRepresentRecords}

@@ -18,12 +18,12 @@ use Rattle.exam_model.specs.Enrolments.{AreEnrolments, Enrolled, has, has_number
 use Rattle.exam_model.specs.Enrolments as rising
 use Rattle.exam_model.specs.Pairs.{Pair, pairs_at, pairs_from, pairs_of}
 use Rattle.exam_publish.proofs.ListLemmas.{chain_from_ascending, chain_ascending, has_ascending}
-use Rattle.office_tables.specs.Enrol.{StudentEnrolsRise}
+use Rattle.office_tables.specs.Tables.Enrol.{StudentEnrolsRise}
 use Rattle.office_tables.specs.Selections.{IsInOrder}
-use Rattle.office_tables.specs.Placed.{PlacementsRise, placed_of}
-use Rattle.office_tables.specs.Tables.{Tables}
-use Rattle.office_tables.specs.declared.enrol.EnrolRow.{EnrolRow}
-use Rattle.office_tables.specs.declared.placed.PlacedRow.{PlacedRow}
+use Rattle.office_tables.specs.Tables.Placed.{PlacementsRise}
+use Rattle.office_tables.specs.Tables.{placed_of, Tables}
+use Rattle.office_tables.specs.declared.tables.enrol.EnrolRow.{EnrolRow}
+use Rattle.office_tables.specs.declared.tables.placed.PlacedRow.{PlacedRow}
 use Rattle.office_model.specs.Office.{AreRecords, IsOffice, OfficeState, Publication, Records}
 use Rattle.office_model.specs.Views.{published_place, no_view, view_from, view_of}
 use Rattle.office_model.specs.ViewRows.{AreOfPublication, places_in}
@@ -48,9 +48,9 @@ use Rattle.exam_publish.specs.Shares.{share_of, shares_of, student_shares}
 use Rattle.exam_publish.specs.declared.seat_row.SeatRow as publish
 use Rattle.exam_publish.proofs.AddUpLemmas.{adds_up}
 use Rattle.exam_publish.proofs.ShareLemmas.{published_small}
-use Rattle.office_tables.specs.Seat.{StudentSeatsRise}
-use Rattle.office_tables.specs.declared.seat.SeatRow.{SeatRow}
-use Rattle.office_tables.specs.declared.share_student.StudentShareRow.{StudentShareRow}
+use Rattle.office_tables.specs.Tables.Seat.{StudentSeatsRise}
+use Rattle.office_tables.specs.declared.tables.seat.SeatRow.{SeatRow}
+use Rattle.office_tables.specs.declared.tables.share_student.StudentShareRow.{StudentShareRow}
 use Rattle.office_model.specs.Publishing.{publication_rows}
 use Rattle.office_model.specs.Shown.{shown_exams, shown_penalty}
 use Rattle.office_model.specs.declared.views.ViewRow.{ViewRow}

@@ -2,7 +2,7 @@
 use Rattle.std.specs.Prelude.{ℕ, Bool, false, not, ◌&&◌, ◌==◌, if◌then◌else◌, List, [], ◌∷◌, filter, map}
 use Rattle.std.specs.Prelude.{Option, None, Some}
 use Rattle.exam_model.specs.Enrolments.{has_number}
-use Rattle.office_tables.specs.declared.placed.PlacedRow.{PlacedRow}
+use Rattle.office_tables.specs.declared.tables.placed.PlacedRow.{PlacedRow}
 
 -- whether two placements are the same
 abbrev pub is_same_row : PlacedRow → PlacedRow → Bool

@@ -2,18 +2,14 @@
 use Rattle.std.specs.Prelude.{ℕ, false, ◌==◌, if◌then◌else◌, List, [], ◌∷◌, Option, Some, None, option_map}
 use Rattle.exam_model.specs.Timetable.{Placing, place_of}
 use Rattle.exam_terms.specs.declared.place.Place.{Place}
-use Rattle.office_tables.specs.Meta.{with_meta, no_meta}
-use Rattle.office_tables.specs.Owner.{with_owner, without_owner}
-use Rattle.office_tables.specs.Enrol.{with_enrols}
-use Rattle.office_tables.specs.Draft.{with_draft, without_draft}
-use Rattle.office_tables.specs.Slot.{with_slot, with_slots, without_slot, without_slots}
-use Rattle.office_tables.specs.Tables.{Tables}
+use Rattle.office_tables.specs.Tables.{with_meta, no_meta, with_owner, without_owner, with_enrols, with_draft, without_draft, with_slot, with_slots, without_slot, without_slots, Tables}
 use Rattle.office_tables.specs.declared.altering.Both.{Both}
-use Rattle.office_tables.specs.declared.draft.DraftRow.{DraftRow}
-use Rattle.office_tables.specs.declared.enrol.EnrolRow.{EnrolRow}
-use Rattle.office_tables.specs.declared.slot.SlotRow.{SlotRow}
-use Rattle.office_tables.specs.declared.slot.DeleteSlot.{DeleteSlot}
-use Rattle.office_tables.specs.Inserted.{InsertOwner, InsertSlot}
+use Rattle.office_tables.specs.declared.tables.draft.DraftRow.{DraftRow}
+use Rattle.office_tables.specs.declared.tables.enrol.EnrolRow.{EnrolRow}
+use Rattle.office_tables.specs.declared.tables.slot.SlotRow.{SlotRow}
+use Rattle.office_tables.specs.declared.tables.slot.DeleteSlot.{DeleteSlot}
+use Rattle.office_tables.specs.Tables.Owner.{InsertOwner}
+use Rattle.office_tables.specs.Tables.Slot.{InsertSlot}
 use Rattle.office_records.specs.TableRows.{slot_row}
 
 -- the tables after a session and its enrolments are inserted

@@ -5,7 +5,7 @@ use Rattle.sqlite.specs.Held.{Held, state}
 use Rattle.sqlite.specs.State.{HasCleanDisk, State, Survives}
 use Rattle.sqlite.specs.Store.{Ghosts}
 use Rattle.sqlite_trees.specs.Tree.{Trees}
-use Rattle.office_schema.specs.Schema.{schema_before}
+use Rattle.office_tables.specs.Tables.{schema_before}
 use Rattle.office_tables.specs.Alterations.{Undone, found_in}
 use Rattle.office_tables.specs.Schema.{no_schema}
 use Rattle.office_model.specs.Commands.{CommandResult}

@@ -10,7 +10,7 @@ use Rattle.exam_rules.specs.Breaches.{breaches_of}
 use Rattle.exam_rules.specs.declared.breach.Breach.{Breach}
 use Rattle.exam_score.specs.Penalty.{Penalty}
 use Rattle.exam_score.specs.Track.{track}
-use Rattle.office_tables.specs.declared.draft.DraftRow.{DraftRow}
+use Rattle.office_tables.specs.declared.tables.draft.DraftRow.{DraftRow}
 use Rattle.office_model.specs.Office.{OfficeState, Publication, published_enrolments}
 use Rattle.office_records.specs.FoundPublications.{AreFound, publication_from}
 use Rattle.office_records.specs.Memory.{AreSuited, AreConsistent, draft_at, memory_of, published_in, with_penalty, scored_draft}

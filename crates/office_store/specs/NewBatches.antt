@@ -4,12 +4,11 @@ use Rattle.exam_terms.specs.Refusing.{◌>>=◌, unless}
 use Rattle.exam_terms.specs.declared.limits.TheConstants.{MAX_BATCHES}
 use Rattle.exam_model.specs.Enrolments.{Enrolled}
 use Rattle.exam_model.specs.declared.change.Change.{Change}
-use Rattle.office_tables.specs.Enrol.{with_enrol, without_enrol}
-use Rattle.office_tables.specs.Batch.{batch_from}
-use Rattle.office_tables.specs.Tables.{Batch, Tables}
-use Rattle.office_tables.specs.declared.batch.BatchRow.{BatchRow}
-use Rattle.office_tables.specs.declared.draft.DraftRow.{DraftRow}
-use Rattle.office_tables.specs.declared.slot.SlotRow.{SlotRow}
+use Rattle.office_tables.specs.Tables.{with_enrol, without_enrol, Tables}
+use Rattle.office_tables.specs.Tables.Batches.{batch_from, Batch}
+use Rattle.office_tables.specs.declared.tables.batch.BatchRow.{BatchRow}
+use Rattle.office_tables.specs.declared.tables.draft.DraftRow.{DraftRow}
+use Rattle.office_tables.specs.declared.tables.slot.SlotRow.{SlotRow}
 use Rattle.office_enrolment.specs.AfterBatch.{lines_with_effect, after_batch, current_enrolments}
 use Rattle.office_enrolment.specs.Rows.{pair_of}
 use Rattle.office_model.specs.Batches.{newly_enrolled, same_bytes}

@@ -4,7 +4,7 @@ use Rattle.exam_model.specs.Enrolments.{Enrolled}
 use Rattle.exam_model.specs.Fits.{Fits}
 use Rattle.exam_model.specs.Instance.{Session}
 use Rattle.exam_score.specs.Track.{track}
-use Rattle.office_tables.specs.declared.slot.SlotRow.{SlotRow}
+use Rattle.office_tables.specs.declared.tables.slot.SlotRow.{SlotRow}
 use Rattle.office_records.specs.TableRows.{slots_from}
 use Rattle.office_model.specs.DraftCommands.{first_timetable}
 use Rattle.office_records.specs.declared.drafts.Draft.{Draft}

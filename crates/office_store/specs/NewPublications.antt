@@ -10,9 +10,9 @@ use Rattle.exam_publish.specs.Shares.{shares_of, student_shares}
 use Rattle.exam_publish.specs.declared.seat_row.SeatRow.{SeatRow}
 use Rattle.exam_score.specs.Penalty.{Penalty}
 use Rattle.exam_score.specs.Track.{track}
-use Rattle.office_tables.specs.declared.placed.PlacedRow.{PlacedRow}
-use Rattle.office_tables.specs.SharePart.{ArePartAmounts}
-use Rattle.office_tables.specs.ShareStudent.{AreStudentAmounts}
+use Rattle.office_tables.specs.declared.tables.placed.PlacedRow.{PlacedRow}
+use Rattle.office_tables.specs.Tables.SharePart.{ArePartAmounts}
+use Rattle.office_tables.specs.Tables.ShareStudent.{AreStudentAmounts}
 use Rattle.office_model.specs.Office.{OfficeState, Records}
 use Rattle.office_model.specs.Publishing.{draft_published, published_as, publication_rows}
 use Rattle.office_model.specs.DraftCommands.{live_penalty}

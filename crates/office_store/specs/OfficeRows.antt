@@ -1,8 +1,8 @@
 -- What the rows that are read mean for an office.
 use Rattle.std.specs.Prelude.{List, [], Some, None, Result, Ok, Err, IsPermutation}
 use Rattle.std.specs.Borrow.{Bor}
-use Rattle.office_tables.specs.declared.share_part.PartShareRow.{PartShareRow}
-use Rattle.office_tables.specs.declared.share_student.StudentShareRow.{StudentShareRow}
+use Rattle.office_tables.specs.declared.tables.share_part.PartShareRow.{PartShareRow}
+use Rattle.office_tables.specs.declared.tables.share_student.StudentShareRow.{StudentShareRow}
 use Rattle.office_model.specs.Office.{OfficeState}
 use Rattle.office_records.specs.SharesStored.{student_share_rows}
 use Rattle.office_records.specs.PartShares.{part_share_rows}

@@ -1,12 +1,11 @@
 -- The office that a database represents when it is opened.
 use Rattle.std.specs.Prelude.{◌≡◌, ◌⊎◌, List, None, map}
 use Rattle.sqlite.specs.Effect.{Database}
-use Rattle.office_tables.specs.Adopting.{tables_of}
-use Rattle.office_tables.specs.Batch.{counts_of}
+use Rattle.office_tables.specs.Tables.{tables_of}
+use Rattle.office_tables.specs.Tables.Batches.{counts_of, Batch}
 use Rattle.office_tables.specs.Schema.{no_schema}
 use Rattle.office_tables.specs.TablesHeld.{HoldsTablesIn}
-use Rattle.office_tables.specs.Tables.{Batch}
-use Rattle.office_tables.specs.declared.found.Found.{Found}
+use Rattle.office_tables.specs.declared.tables.Found.{Found}
 use Rattle.office_tables.specs.declared.version.Version.{Version}
 use Rattle.office_tables.specs.declared.version.Version.TheVariants.{One, Two}
 use Rattle.office_model.specs.Office.{OfficeState}

@@ -2,9 +2,10 @@
 use Rattle.std.specs.Prelude.{◌++◌, ◌&&◌, ◌==◌, ℕ, List, filter, map, not, reverse, true, [], ◌∷◌, Option, None, Some, Vec}
 use Rattle.std.specs.List.{list_any}
 use Rattle.std.specs.declared.alloc.Global.{Global}
-use Rattle.office_tables.specs.Tables.{Meta, Tables}
-use Rattle.office_tables.specs.declared.seat.DeleteSeat.{DeleteSeat}
-use Rattle.office_tables.specs.declared.seat.SeatRow.{SeatRow}
+use Rattle.office_tables.specs.Tables.Metadata.{Meta}
+use Rattle.office_tables.specs.Tables.{Tables}
+use Rattle.office_tables.specs.declared.tables.seat.DeleteSeat.{DeleteSeat}
+use Rattle.office_tables.specs.declared.tables.seat.SeatRow.{SeatRow}
 use Rattle.office_records.specs.SharesStored.{share_rows_without}
 use Rattle.office_store.specs.ChangedPlacements.{placements_without}
 use Rattle.office_store.specs.declared.new_publication.NewPublication.{NewPublication}

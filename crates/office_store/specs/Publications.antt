@@ -9,8 +9,8 @@ use Rattle.exam_publish.specs.declared.seat_row.SeatRow.{SeatRow}
 use Rattle.exam_score.specs.Track.{track}
 use Rattle.office_model.specs.Office.{OfficeState, Publication, published_enrolments}
 use Rattle.office_model.specs.Step.{publication_in}
-use Rattle.office_tables.specs.declared.share_part.PartShareRow.{PartShareRow}
-use Rattle.office_tables.specs.declared.share_student.StudentShareRow.{StudentShareRow}
+use Rattle.office_tables.specs.declared.tables.share_part.PartShareRow.{PartShareRow}
+use Rattle.office_tables.specs.declared.tables.share_student.StudentShareRow.{StudentShareRow}
 use Rattle.office_records.specs.SharesStored.{AreSharesOf}
 
 -- the place of each exam, and the seats

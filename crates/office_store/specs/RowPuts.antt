@@ -1,16 +1,16 @@
 -- The rows of a publication as parts of a transaction.
 use Rattle.std.specs.Prelude.{ℕ}
-use Rattle.office_tables.specs.declared.placed.DeletePlacement.{DeletePlacement}
-use Rattle.office_tables.specs.Inserted.{InsertPlacement}
-use Rattle.office_tables.specs.declared.share_part.PartShareRow.{PartShareRow}
-use Rattle.office_tables.specs.declared.placed.PlacedRow.{PlacedRow}
-use Rattle.office_tables.specs.declared.seat.SeatRow as stored
-use Rattle.office_tables.specs.declared.share_student.StudentShareRow.{StudentShareRow}
-use Rattle.office_tables.specs.declared.seat.DeleteSeat.{DeleteSeat}
-use Rattle.office_tables.specs.Inserted.{InsertSeat}
-use Rattle.office_tables.specs.declared.share_student.DeleteStudentShare.{DeleteStudentShare}
-use Rattle.office_tables.specs.Inserted.{InsertPartShare}
-use Rattle.office_tables.specs.declared.share_student.InsertStudentShare.{InsertStudentShare}
+use Rattle.office_tables.specs.declared.tables.placed.DeletePlacement.{DeletePlacement}
+use Rattle.office_tables.specs.Tables.Placed.{InsertPlacement}
+use Rattle.office_tables.specs.declared.tables.share_part.PartShareRow.{PartShareRow}
+use Rattle.office_tables.specs.declared.tables.placed.PlacedRow.{PlacedRow}
+use Rattle.office_tables.specs.declared.tables.seat.SeatRow as stored
+use Rattle.office_tables.specs.declared.tables.share_student.StudentShareRow.{StudentShareRow}
+use Rattle.office_tables.specs.declared.tables.seat.DeleteSeat.{DeleteSeat}
+use Rattle.office_tables.specs.Tables.Seat.{InsertSeat}
+use Rattle.office_tables.specs.declared.tables.share_student.DeleteStudentShare.{DeleteStudentShare}
+use Rattle.office_tables.specs.Tables.SharePart.{InsertPartShare}
+use Rattle.office_tables.specs.declared.tables.share_student.InsertStudentShare.{InsertStudentShare}
 
 -- the delete of an exam's published place
 abbrev pub deleted_placement : PlacedRow → DeletePlacement

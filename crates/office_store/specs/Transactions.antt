@@ -3,11 +3,11 @@ use Rattle.std.specs.Prelude.{◌≡◌, List, OnErr, Result}
 use Rattle.sqlite.specs.Effect.{Database}
 use Rattle.sqlite.specs.Held.{Held}
 use Rattle.sqlite.specs.Store.{Ghosts}
-use Rattle.office_tables.specs.Adopting.{tables_of}
+use Rattle.office_tables.specs.Tables.{tables_of}
 use Rattle.office_tables.specs.Alterations.{IsWritten, TransactionRan}
-use Rattle.office_tables.specs.Tables.{Batch}
+use Rattle.office_tables.specs.Tables.Batches.{Batch}
 use Rattle.office_tables.specs.TablesHeld.{HoldsOldTables}
-use Rattle.office_tables.specs.declared.found.Found.{Found}
+use Rattle.office_tables.specs.declared.tables.Found.{Found}
 use Rattle.office_tables.specs.declared.version.Version.{Version}
 use Rattle.office_tables.specs.declared.version.Version.TheVariants.{One, Two}
 

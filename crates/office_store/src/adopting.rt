@@ -2,7 +2,7 @@
 ghost use Rattle.std.specs.Prelude.{◌≡◌, ◌⊎◌, false, IfErr, IfOk, IfSome, IsTrue, OnErr, OnOk};
 ghost use Rattle.sqlite.specs.Held.{state};
 ghost use Rattle.sqlite.specs.State.{HasCleanDisk, IsUnchanged};
-ghost use Rattle.office_schema.specs.Schema.{office_schema};
+ghost use Rattle.office_tables.specs.Tables.{office_schema};
 ghost use Rattle.office_tables.specs.Readers.{LeavesFile};
 ghost use Rattle.office_model.specs.Office.{OfficeState};
 ghost use Rattle.office_store.specs.Faults.{IsOfDatabase};
@@ -23,7 +23,8 @@ use exam_publish::{SeatRow, shares};
 use exam_score::Parts;
 use office_model::StoreFault;
 use office_records::{Remembered, remembered_of};
-use office_tables::{AdoptFault, Found, Version, adopt_tables};
+use office_tables::tables::Found;
+use office_tables::{AdoptFault, Version, adopt_tables};
 use sqlite::{Alter, Connection};
 use std::alloc::Global;
 

@@ -2,11 +2,11 @@
 ghost use Rattle.std.specs.Prelude.{◌≡◌, ◌<◌, ◌^◌, [], ◌∷◌, Ok, Some};
 ghost use Rattle.exam_score.specs.Penalty.{personal_total};
 ghost use Rattle.office_store.specs.Viewing.{no_share, share_in_row};
-ghost use Rattle.office_tables.specs.declared.share_student.StudentShareRow.{StudentShareRow as ShareRow};
+ghost use Rattle.office_tables.specs.declared.tables.share_student.StudentShareRow.{StudentShareRow as ShareRow};
 
 use exam_score::PersonalParts;
 use office_model::StoreFault;
-use office_tables::StudentShareRow;
+use office_tables::tables::StudentShareRow;
 
 // Returns the share in a candidate's row; all amounts are 0 if there is no row. `BadSchema`: there
 // are two rows, or the row's amounts are too large for a share.

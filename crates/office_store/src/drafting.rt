@@ -15,8 +15,9 @@ use exam_terms::limits::MAX_DRAFTS;
 use office_files::read_solution;
 use office_model::StoreFault;
 use office_records::{Draft, draft_row};
-use office_tables::{
-    Both, DeleteDraft, DeleteSlots, InsertDraft, InsertSlot, InsertSlots, SlotRow,
+use office_tables::Both;
+use office_tables::tables::{
+    DeleteDraft, DeleteSlots, InsertDraft, InsertSlot, InsertSlots, SlotRow,
 };
 use sqlite::Alter;
 use std::alloc::{AllocError, Global};

@@ -27,7 +27,8 @@ use exam_draft::{Edit, judge};
 use exam_model::{Enrolments, ExamNo, Instance, Place, Timetable};
 use office_model::{Refusal, StoreFault};
 use office_records::{Draft, draft_row};
-use office_tables::{Both, DeleteDraft, DeleteSlot, Each, InsertDraft, InsertSlot, SlotRow};
+use office_tables::tables::{DeleteDraft, DeleteSlot, InsertDraft, InsertSlot, SlotRow};
+use office_tables::{Both, Each};
 use sqlite::{Alter, Connection};
 use std::alloc::{AllocError, Global};
 

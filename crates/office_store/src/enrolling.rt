@@ -10,7 +10,7 @@ ghost use Rattle.office_records.specs.Representation.{RepresentsOffice};
 ghost use Rattle.office_store.specs.NewBatches.{first_counts};
 ghost use Rattle.office_store.specs.Leaving.{LeavesNext};
 ghost use Rattle.office_store.specs.Running.{IsCommitted, CommandRan};
-ghost use Rattle.office_tables.specs.Batch.{batch_from};
+ghost use Rattle.office_tables.specs.Tables.Batches.{batch_from};
 
 use crate::new_batch::{new_batch, put_batch};
 use crate::office::Office;
@@ -18,7 +18,7 @@ use exam_model::Change;
 use office_batches::read_batch;
 use office_enrolment::{batch_leaves_an_office, lines_are_counted};
 use office_model::{Counts, StoreFault};
-use office_tables::{BatchOf, BatchRow};
+use office_tables::tables::{BatchOf, BatchRow};
 use sqlite::Alter;
 use std::alloc::Global;
 

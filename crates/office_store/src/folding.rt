@@ -19,7 +19,8 @@ use exam_publish::in_order;
 use exam_score::{EditFold, Parts, sizes_of};
 use exam_terms::limits::MAX_PAIRS;
 use office_model::StoreFault;
-use office_tables::{EnrolRow, FindEnrolsOf, Query};
+use office_tables::Query;
+use office_tables::tables::{EnrolRow, FindEnrolsOf};
 use sqlite::{Alter, Connection};
 use std::alloc::{AllocError, Global};
 

@@ -4,7 +4,7 @@ ghost use Rattle.std.specs.List.{AllByRecursion};
 ghost use Rattle.std.specs.Prelude.{option_to_list};
 ghost use Rattle.sqlite.specs.Held.{state};
 ghost use Rattle.sqlite.specs.State.{HasCleanDisk};
-ghost use Rattle.office_tables.specs.Batch.{batch_from, counts_of};
+ghost use Rattle.office_tables.specs.Tables.Batches.{batch_from, counts_of};
 ghost use Rattle.office_tables.specs.Readers.{LeavesFile, LeavesTablesIn};
 ghost use Rattle.office_tables.specs.TablesHeld.{HoldsSomeTables, HoldsTablesIn};
 ghost use Rattle.office_tables.specs.Tables.{Tables};
@@ -14,7 +14,7 @@ ghost use Rattle.office_store.specs.Faults.{IsOfDatabase};
 
 use exam_terms::limits::TEXT_BYTES;
 use office_model::StoreFault;
-use office_tables::{BatchCountsRow, BatchRow, batch_of};
+use office_tables::tables::{BatchCountsRow, BatchRow, batch_of};
 use sqlite::{Alter, Connection};
 use std::alloc::Global;
 

@@ -15,7 +15,8 @@ use exam_model::{Enrolments, ExamNo, Instance, StudentNo};
 use office_files::read_instance;
 use office_model::{Loaded, StoreFault};
 use office_records::text_of;
-use office_tables::{Both, DeleteMeta, EnrolRow, InsertEnrol, InsertEnrols, InsertMeta};
+use office_tables::Both;
+use office_tables::tables::{DeleteMeta, EnrolRow, InsertEnrol, InsertEnrols, InsertMeta};
 use sqlite::Alter;
 use std::alloc::{AllocError, Global};
 

@@ -16,7 +16,7 @@ use exam_rules::Breach;
 use exam_score::Parts;
 use exam_terms::limits::MAX_DRAFTS;
 use office_records::{Draft, Drafts, NUMBERS, no_drafts, placement_rows};
-use office_tables::PlacedRow;
+use office_tables::tables::PlacedRow;
 use std::alloc::{AllocError, Global};
 
 // Breaches of drafts, each draft's at its number's index.

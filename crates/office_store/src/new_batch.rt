@@ -4,7 +4,7 @@ ghost use Rattle.std.specs.Prelude.{false, length, map};
 ghost use Rattle.sqlite.specs.Effect.{Database};
 ghost use Rattle.exam_terms.specs.declared.limits.TheConstants.{MAX_BATCHES, TEXT_BYTES};
 ghost use Rattle.exam_score.specs.Rescoring.{OthersUnchanged};
-ghost use Rattle.office_tables.specs.Draft.{AreAmounts};
+ghost use Rattle.office_tables.specs.Tables.Draft.{AreAmounts};
 ghost use Rattle.office_model.specs.Office.{Records};
 ghost use Rattle.office_records.specs.Memory.{AreSuited, memory_of};
 ghost use Rattle.office_records.specs.Representation.{RepresentsOffice};
@@ -21,10 +21,10 @@ use exam_terms::limits::MAX_BATCHES;
 use office_enrolment::{AfterBatch, after_batch};
 use office_model::{Counts, StoreFault};
 use office_records::{Drafts, no_drafts};
-use office_tables::{
-    Alteration, Both, DeleteDrafts, DeleteEnrol, Each, EnrolRow, InsertBatch, InsertDraft,
-    InsertEnrol,
+use office_tables::tables::{
+    DeleteDrafts, DeleteEnrol, EnrolRow, InsertBatch, InsertDraft, InsertEnrol,
 };
+use office_tables::{Alteration, Both, Each};
 use sqlite::{Alter, Connection, Error, Transaction};
 use std::alloc::{AllocError, Global};
 

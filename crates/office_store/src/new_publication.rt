@@ -21,8 +21,8 @@ ghost use Rattle.office_store.specs.NewPublications.{candidates_before};
 ghost use Rattle.office_store.specs.RowPuts.{part_share_put, seat_gone, seat_put};
 ghost use Rattle.office_store.specs.RowPuts.{deleted_share, student_share_put};
 ghost use Rattle.office_store.specs.Running.{IsFault};
-ghost use Rattle.office_tables.specs.SharePart.{ArePartAmounts};
-ghost use Rattle.office_tables.specs.ShareStudent.{AreStudentAmounts};
+ghost use Rattle.office_tables.specs.Tables.SharePart.{ArePartAmounts};
+ghost use Rattle.office_tables.specs.Tables.ShareStudent.{AreStudentAmounts};
 
 use crate::memory::OfficeMemory;
 use crate::rewritten_places::{deleted_placements, mark_text, placements_put};
@@ -33,7 +33,7 @@ use office_model::{Published, StoreFault};
 use office_records::{
     Draft, part_share_rows, placement_rows, retimed_students, seats_beside, student_share_rows,
 };
-use office_tables::{
+use office_tables::tables::{
     DeletePlacement, DeleteSeat, DeleteStudentShare, InsertPartShare, InsertPlacement, InsertSeat,
     InsertStudentShare, PlacedRow, SeatRow as StoredSeat,
 };

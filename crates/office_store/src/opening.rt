@@ -2,7 +2,7 @@
 ghost use Rattle.std.specs.Prelude.{◌≡◌, ◌⊎◌, ◌↔◌, IfErr, IfOk, IsTrue};
 ghost use Rattle.sqlite.specs.Held.{state};
 ghost use Rattle.sqlite.specs.State.{HasCleanDisk};
-ghost use Rattle.office_schema.specs.Schema.{schema_before};
+ghost use Rattle.office_tables.specs.Tables.{schema_before};
 ghost use Rattle.office_model.specs.Office.{OfficeState};
 ghost use Rattle.office_store.specs.Faults.{IsOfDatabase};
 ghost use Rattle.office_store.specs.Leaving.{LeavesOpened, MayOpen};
@@ -11,8 +11,8 @@ ghost use Rattle.office_store.specs.Running.{Represents};
 
 use crate::office::Office;
 use office_model::StoreFault;
-use office_schema::is_schema_before;
 use office_tables::is_bare;
+use office_tables::tables::is_schema_before;
 use sqlite::{Alter, Connection};
 use std::alloc::{AllocError, Global};
 

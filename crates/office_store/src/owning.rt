@@ -12,7 +12,8 @@ use crate::transactions::put;
 use exam_draft::EditFault;
 use exam_model::ExamNo;
 use office_model::{Refusal, StoreFault};
-use office_tables::{Both, DeleteOwner, InsertOwner, OwnerRow, OwnersOf};
+use office_tables::Both;
+use office_tables::tables::{DeleteOwner, InsertOwner, OwnerRow, OwnersOf};
 use sqlite::Alter;
 use std::alloc::Global;
 

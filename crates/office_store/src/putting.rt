@@ -7,10 +7,11 @@ ghost use Rattle.office_store.specs.PublicationChanges.{publication_put, shares_
 ghost use Rattle.office_store.specs.NewPublications.{AreSmallShares};
 
 use crate::new_publication::NewPublication;
-use office_tables::{
-    Alteration, Both, DeleteMeta, DeletePartShares, Each, InsertMeta, InsertPartShares,
-    InsertPlacements, InsertSeats, InsertStudentShares,
+use office_tables::tables::{
+    DeleteMeta, DeletePartShares, InsertMeta, InsertPartShares, InsertPlacements, InsertSeats,
+    InsertStudentShares,
 };
+use office_tables::{Alteration, Both, Each};
 use sqlite::{Alter, Error, Transaction};
 
 impl Alteration for NewPublication {

@@ -3,8 +3,8 @@ ghost use Rattle.std.specs.Prelude.{◌≡◌, ◌++◌, [], ◌∷◌, All, IfO
 ghost use Rattle.exam_model.specs.Fits.{Suits};
 ghost use Rattle.exam_score.specs.Rescoring.{OthersUnchanged};
 ghost use Rattle.exam_score.specs.Track.{track};
-ghost use Rattle.office_tables.specs.Draft.{AreAmounts};
-ghost use Rattle.office_tables.specs.declared.draft.DraftRow.{DraftRow};
+ghost use Rattle.office_tables.specs.Tables.Draft.{AreAmounts};
+ghost use Rattle.office_tables.specs.declared.tables.draft.DraftRow.{DraftRow};
 ghost use Rattle.office_records.specs.Representation.{parts_of};
 ghost use Rattle.office_records.specs.Memory.{AreSuited};
 ghost use Rattle.office_store.specs.Memory.{AreDraftRows, AreRescored, AreScored, rescored_draft};
@@ -12,7 +12,7 @@ ghost use Rattle.office_store.specs.Memory.{AreDraftRows, AreRescored, AreScored
 use exam_model::{Enrolments, Instance, StudentNo};
 use exam_score::rescore;
 use office_records::{Draft, Drafts, NUMBERS, draft_row, no_drafts};
-use office_tables::InsertDraft;
+use office_tables::tables::InsertDraft;
 use std::alloc::{AllocError, Global};
 
 // Returns the drafts with their penalties by the enrolments after a change, if they have those by

@@ -6,7 +6,7 @@ ghost use Rattle.office_store.specs.RowPuts.{deleted_placement, placement_put};
 
 use exam_model::Instance;
 use office_records::{RecordFault, text_of};
-use office_tables::{DeletePlacement, InsertPlacement, PlacedRow};
+use office_tables::tables::{DeletePlacement, InsertPlacement, PlacedRow};
 use std::alloc::{AllocError, Global};
 
 // Returns the text of the row about the office. `None`: something is already published, and the row

@@ -9,7 +9,7 @@ ghost use Rattle.office_store.specs.OfficeRows.{AreShareRowsOf};
 
 use crate::fault::StatementFailed;
 use crate::office::Office;
-use office_tables::{PartShareRow, PartShares, StudentShareRow, StudentShares};
+use office_tables::tables::{PartShareRow, PartShares, StudentShareRow, StudentShares};
 use sqlite::Alter;
 use std::alloc::Global;
 

@@ -18,7 +18,7 @@ use exam_model::{ExamNo, Instance, PeriodNo, Place, RoomNo, StudentNo};
 use exam_score::PersonalParts;
 use office_model::{CandidateView, StoreFault, ViewRow, view_rows};
 use office_records::own_seats;
-use office_tables::{
+use office_tables::tables::{
     EnrolRow, EnrolsOf, PlacedRow, PlacementsOf, SeatRow, SeatsOf, StudentSharesOf,
 };
 use sqlite::Alter;

@@ -10,20 +10,20 @@ use Rattle.sqlite.specs.Store.{Ghosts}
 use Rattle.sqlite.specs.State.{State, HasCleanDisk, IsUnchanged}
 use Rattle.sqlite.proofs.StateLemmas.{survives_then}
 use Rattle.office_tables.specs.Adopting.{AdoptsRows, HaveDrafts, HaveShares, IsAdopted, IsForeign, IsForeignIn, found_or_fault}
-use Rattle.office_tables.specs.Batch.{IsFoundBatches}
-use Rattle.office_tables.specs.declared.found.AdoptFault.{AdoptFault}
-use Rattle.office_tables.specs.declared.found.AdoptFault.TheVariants.{Foreign, Failed}
-use Rattle.office_tables.specs.declared.found.Found.{Found}
+use Rattle.office_tables.specs.Tables.Batches.{IsFoundBatches}
+use Rattle.office_tables.specs.declared.adopting.AdoptFault.{AdoptFault}
+use Rattle.office_tables.specs.declared.adopting.AdoptFault.TheVariants.{Foreign, Failed}
+use Rattle.office_tables.specs.declared.tables.Found.{Found}
 use Rattle.office_tables.specs.Finders.{ReadsUnknownFile, HasTables, ReadEffect}
-use Rattle.office_tables.specs.Meta.{IsFoundMeta}
-use Rattle.office_tables.specs.Owner.{owner_columns}
-use Rattle.office_tables.specs.Enrol.{enrol_columns}
-use Rattle.office_tables.specs.Slot.{slot_columns}
-use Rattle.office_tables.specs.Placed.{placed_columns}
-use Rattle.office_tables.specs.Seat.{seat_columns}
-use Rattle.office_tables.specs.SharePart.{share_part_columns}
+use Rattle.office_tables.specs.Tables.Metadata.{IsFoundMeta}
+use Rattle.office_tables.specs.Tables.Owner.{owner_columns}
+use Rattle.office_tables.specs.Tables.Enrol.{enrol_columns}
+use Rattle.office_tables.specs.Tables.Slot.{slot_columns}
+use Rattle.office_tables.specs.Tables.Placed.{placed_columns}
+use Rattle.office_tables.specs.Tables.Seat.{seat_columns}
+use Rattle.office_tables.specs.Tables.SharePart.{share_part_columns}
 use Rattle.sqlite_schema.specs.declared.schema.Schema.{Schema}
-use Rattle.office_schema.specs.Schema.{office_schema, schema_before}
+use Rattle.office_tables.specs.Tables.{office_schema, schema_before}
 use Rattle.office_tables.specs.declared.version.Version.{Version}
 use Rattle.office_tables.specs.declared.version.Version.TheVariants.{One, Two}
 use Rattle.office_tables.specs.Versions.{schema_of}

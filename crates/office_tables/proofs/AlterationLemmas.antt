@@ -5,20 +5,17 @@ use Rattle.std.specs.List.{list_any}
 use Rattle.exam_lists.proofs.Filters.{filter_not-filter_not, filter_true}
 use Rattle.exam_lists.proofs.Parts.{reverse_cons_append}
 use Rattle.office_tables.specs.Alterations.{after_all}
-use Rattle.office_tables.specs.Draft.{with_draft}
-use Rattle.office_tables.specs.Enrol.{with_enrol, with_enrols}
-use Rattle.office_tables.specs.Placed.{with_placement, without_placement}
-use Rattle.office_tables.specs.Seat.{with_seat, without_seat}
-use Rattle.office_tables.specs.SharePart.{with_part_share}
-use Rattle.office_tables.specs.ShareStudent.{with_student_share, without_student_share}
-use Rattle.office_tables.specs.Slot.{with_slot, with_slots}
-use Rattle.office_tables.specs.Tables.{Tables}
-use Rattle.office_tables.specs.declared.draft.InsertDraft.{InsertDraft}
-use Rattle.office_tables.specs.declared.placed.DeletePlacement.{DeletePlacement}
-use Rattle.office_tables.specs.declared.seat.DeleteSeat.{DeleteSeat}
-use Rattle.office_tables.specs.declared.share_student.DeleteStudentShare.{DeleteStudentShare}
-use Rattle.office_tables.specs.declared.share_student.InsertStudentShare.{InsertStudentShare}
-use Rattle.office_tables.specs.Inserted.{InsertPartShare, InsertSeat, InsertPlacement, InsertEnrol, InsertSlot}
+use Rattle.office_tables.specs.Tables.{with_draft, with_enrol, with_enrols, with_placement, without_placement, with_seat, without_seat, with_part_share, with_student_share, without_student_share, with_slot, with_slots, Tables}
+use Rattle.office_tables.specs.declared.tables.draft.InsertDraft.{InsertDraft}
+use Rattle.office_tables.specs.declared.tables.placed.DeletePlacement.{DeletePlacement}
+use Rattle.office_tables.specs.declared.tables.seat.DeleteSeat.{DeleteSeat}
+use Rattle.office_tables.specs.declared.tables.share_student.DeleteStudentShare.{DeleteStudentShare}
+use Rattle.office_tables.specs.declared.tables.share_student.InsertStudentShare.{InsertStudentShare}
+use Rattle.office_tables.specs.Tables.SharePart.{InsertPartShare}
+use Rattle.office_tables.specs.Tables.Seat.{InsertSeat}
+use Rattle.office_tables.specs.Tables.Placed.{InsertPlacement}
+use Rattle.office_tables.specs.Tables.Enrol.{InsertEnrol}
+use Rattle.office_tables.specs.Tables.Slot.{InsertSlot}
 
 pub enrols_put : (its : List InsertEnrol) (t : Tables)
     → after_all (λ it. with_enrol it.row) its t ≡ with_enrols (map (λ it. it.row) its) t

@@ -15,14 +15,13 @@ use Rattle.sqlite_value.specs.declared.value.Value.{Value}
 use Rattle.sqlite_value.specs.declared.value.Value.TheVariants.{Blob}
 use Rattle.sqlite_value.specs.Order.{Row, column}
 use Rattle.sqlite.specs.Effect.{Database, IsDatabase}
-use Rattle.office_schema.specs.Schema.{int, blob, batch_table}
+use Rattle.office_schema.specs.Schema.{int, blob}
+use Rattle.office_tables.specs.Tables.Batches.{batch_table, IsFoundBatches, counts_of, counts_columns, FitsCounts, batch_columns}
 use Rattle.office_tables.specs.declared.version.Version.{Version}
 use Rattle.office_tables.specs.Versions.{schema_of}
-use Rattle.office_tables.specs.Batch.{IsFoundBatches, counts_of, counts_columns, FitsCounts}
 use Rattle.office_tables.specs.Finders.{IsFound}
 use Rattle.office_tables.specs.Stored.{keyed_columns}
-use Rattle.office_tables.specs.Batch.{batch_columns}
-use Rattle.office_tables.specs.declared.batch.BatchCountsRow.{BatchCountsRow}
+use Rattle.office_tables.specs.declared.tables.batch.BatchCountsRow.{BatchCountsRow}
 use Rattle.office_tables.proofs.ListTexts.{counts_shown}
 use Rattle.office_tables.proofs.Queries.{column_later}
 use Rattle.office_tables.proofs.RecordsBack.{batch_of, counts_in}

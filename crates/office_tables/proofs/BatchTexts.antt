@@ -21,11 +21,11 @@ use Rattle.office_tables.specs.declared.version.Version.{Version}
 use Rattle.office_tables.specs.declared.version.Version.TheVariants.{One, Two}
 use Rattle.office_tables.specs.Versions.{schema_of}
 use Rattle.office_tables.specs.Asking.{select_query, IsReadOf, Means}
-use Rattle.office_tables.specs.Batch.{batch_from, batch_columns}
-use Rattle.office_tables.specs.Tables.{Tables, Batch}
+use Rattle.office_tables.specs.Tables.Batches.{batch_from, batch_columns, Batch}
+use Rattle.office_tables.specs.Tables.{Tables}
 use Rattle.office_tables.specs.TablesHeld.{HoldsTablesIn}
 use Rattle.office_tables.specs.Stored.{keyed_columns}
-use Rattle.office_tables.specs.declared.batch.BatchRow.{BatchRow}
+use Rattle.office_tables.specs.declared.tables.batch.BatchRow.{BatchRow}
 use Rattle.office_tables.proofs.OrderLemmas.{read, rising, table_shown, typed}
 use Rattle.office_tables.proofs.Queries.{column_later, equal_numbers, equals, passes}
 use Rattle.office_tables.proofs.RecordsBack.{batch_of}

@@ -9,7 +9,9 @@ use Rattle.sqlite.specs.State.{State}
 use Rattle.sqlite_schema.specs.declared.schema.Schema.{Schema}
 use Rattle.sqlite_schema.specs.declared.schema.Table.{Table}
 use Rattle.sqlite_trees.specs.Tree.{Trees}
-use Rattle.office_schema.specs.Schema.{office_schema, schema_before, night_draft_table, night_share_table}
+use Rattle.office_tables.specs.Tables.{office_schema, schema_before}
+use Rattle.office_tables.specs.Tables.Draft.{night_draft_table}
+use Rattle.office_tables.specs.Tables.ShareStudent.{night_share_table}
 use Rattle.office_tables.specs.Schema.{CreateAll, HasRows, created_all, no_schema}
 use Rattle.office_tables.specs.Steps.{HasRun, Establishes}
 use Rattle.office_tables.proofs.Statements.{creates, sound_after}

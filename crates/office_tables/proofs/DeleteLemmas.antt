@@ -20,12 +20,10 @@ use Rattle.sqlite.specs.Effect.{IsDatabase}
 use Rattle.sqlite.specs.State.{State, Executes}
 use Rattle.sqlite.specs.Term.{Term}
 use Rattle.sqlite.proofs.Callers.{IsPlain, command_of}
-use Rattle.office_schema.specs.Schema.{office_schema}
+use Rattle.office_tables.specs.Tables.{office_schema, Tables, all_columns}
 use Rattle.office_tables.specs.Inserting.{IsTable, Stores}
 use Rattle.office_tables.specs.Stored.{shown_by}
 use Rattle.office_tables.specs.Steps.{HasRun, TablesBecome}
-use Rattle.office_tables.specs.Tables.{Tables}
-use Rattle.office_tables.specs.TablesHeld.{all_columns}
 use Rattle.office_tables.proofs.Frames.{AllShown, all_shown, own_shown, shown_next, tables_held}
 use Rattle.office_tables.proofs.Inside.{changes_by}
 use Rattle.office_tables.proofs.Queries.{answered, column_later, column_less, equal_numbers, equals, left_of, one_table, passes, rowids, shown_filter}

@@ -4,13 +4,12 @@ use Rattle.sqlite_value.specs.declared.value.Value.TheVariants.{Int}
 use Rattle.sqlite.specs.Listing.{understood}
 use Rattle.sqlite.specs.State.{State, Executes}
 use Rattle.sqlite_tied.specs.Compute.{everything}
-use Rattle.office_schema.specs.Schema.{night_draft_table}
-use Rattle.office_tables.specs.declared.draft.DraftRow.{DraftRow}
-use Rattle.office_tables.specs.Draft.{draft_columns, night_draft_columns}
+use Rattle.office_tables.specs.Tables.Draft.{night_draft_table, draft_columns, night_draft_columns}
+use Rattle.office_tables.specs.declared.tables.draft.DraftRow.{DraftRow}
 use Rattle.office_tables.specs.Inserting.{IsInsert}
 use Rattle.office_tables.specs.Alterations.{IsWritten}
-use Rattle.office_tables.specs.Tables.{Tables}
-use Rattle.office_tables.specs.TablesHeld.{HoldsTables, all_columns}
+use Rattle.office_tables.specs.Tables.{Tables, all_columns}
+use Rattle.office_tables.specs.TablesHeld.{HoldsTables}
 use Rattle.office_tables.proofs.DeleteLemmas.{IsDelete, cleared, delete_sound, deleted}
 use Rattle.office_tables.proofs.Frames.{all_shown, tables_held}
 use Rattle.office_tables.proofs.InsertLemmas.{insert_sound, row_added}

@@ -13,13 +13,12 @@ use Rattle.sqlite.specs.Listing.{understood}
 use Rattle.sqlite.specs.Query.{Query, inner, end, matches}
 use Rattle.sqlite.specs.Term.{Term, col, eval_all}
 use Rattle.sqlite_tied.specs.Compute.{everything}
-use Rattle.office_schema.specs.Schema.{office_schema}
+use Rattle.office_tables.specs.Tables.{office_schema, Tables}
 use Rattle.office_tables.specs.Asking.{select_query, IsReadOf, Means}
 use Rattle.office_tables.specs.Readings.{IsReadAnswer}
-use Rattle.office_tables.specs.Enrol.{FitsEnrol, StudentEnrolsRise, enrol_columns}
+use Rattle.office_tables.specs.Tables.Enrol.{FitsEnrol, StudentEnrolsRise, enrol_columns}
 use Rattle.office_tables.specs.Selections.{AreListed, AreListedIfFit}
-use Rattle.office_tables.specs.declared.enrol.EnrolRow.{EnrolRow}
-use Rattle.office_tables.specs.Tables.{Tables}
+use Rattle.office_tables.specs.declared.tables.enrol.EnrolRow.{EnrolRow}
 use Rattle.office_tables.specs.TablesHeld.{HoldsTables}
 use Rattle.office_tables.specs.Stored.{keyless_columns}
 use Rattle.office_tables.proofs.OrderLemmas.{by_number, columns_shown, read, rising, table_shown}

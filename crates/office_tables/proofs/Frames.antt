@@ -10,10 +10,11 @@ use Rattle.sqlite_value.specs.Order.{Row}
 use Rattle.sqlite_trees.specs.Tree.{Trees}
 use Rattle.sqlite_schema.specs.declared.schema.Table.{Table}
 use Rattle.sqlite.specs.Effect.{Database}
-use Rattle.office_schema.specs.Schema.{night_draft_table, night_share_table, office_schema, schema_before}
+use Rattle.office_tables.specs.Tables.Draft.{night_draft_table}
+use Rattle.office_tables.specs.Tables.ShareStudent.{night_share_table}
+use Rattle.office_tables.specs.Tables.{office_schema, schema_before, Tables, all_columns, columns_in}
 use Rattle.office_tables.specs.Inserting.{IsTable, OtherTreesUnchanged, has_own_tree, simple_table}
-use Rattle.office_tables.specs.Tables.{Tables}
-use Rattle.office_tables.specs.TablesHeld.{HoldsTables, HoldsTablesIn, all_columns, columns_in}
+use Rattle.office_tables.specs.TablesHeld.{HoldsTables, HoldsTablesIn}
 use Rattle.office_tables.specs.Stored.{HoldAll, Holds, shown_by}
 use Rattle.office_tables.specs.declared.version.Version.{Version}
 

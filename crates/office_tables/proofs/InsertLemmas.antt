@@ -14,13 +14,12 @@ use Rattle.sqlite_value.specs.Order.{Row, column}
 use Rattle.sqlite.specs.Effect.{IsDatabase}
 use Rattle.sqlite.specs.State.{State, Executes}
 use Rattle.sqlite.specs.Term.{eval_all}
-use Rattle.office_schema.specs.Schema.{office_schema}
+use Rattle.office_tables.specs.Tables.{office_schema, Tables, all_columns}
 use Rattle.office_tables.specs.Alterations.{IsWritten, after_all}
 use Rattle.office_tables.specs.Inserting.{Inserts, IsInsert, TableOf, Stores, given_row, next_params, row_terms, with_row, row_fits, rows_fit}
 use Rattle.office_tables.specs.Stored.{shown_by}
 use Rattle.office_tables.specs.Steps.{TablesBecome}
-use Rattle.office_tables.specs.Tables.{Tables}
-use Rattle.office_tables.specs.TablesHeld.{HoldsTables, all_columns}
+use Rattle.office_tables.specs.TablesHeld.{HoldsTables}
 use Rattle.office_tables.proofs.Frames.{AllShown, all_shown, own_shown, shown_next, tables_held}
 use Rattle.office_tables.proofs.ManyRows.{added_rows, after_append, values_there}
 use Rattle.office_tables.proofs.Statements.{sound_after}

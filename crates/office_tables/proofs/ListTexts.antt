@@ -12,7 +12,16 @@ use Rattle.office_tables.specs.declared.version.Version.{Version}
 use Rattle.office_tables.specs.declared.version.Version.TheVariants.{One, Two}
 use Rattle.office_tables.specs.Listings.{Lists, ListsKeyed, ListsTable, IsListed, selected_columns, ordered_by}
 use Rattle.office_tables.specs.Versions.{schema_of}
-use Rattle.office_schema.specs.Schema.{int, blob, meta_table, owner_table, enrol_table, draft_table, slot_table, placed_table, seat_table, share_student_table, share_part_table, night_draft_table, night_share_table}
+use Rattle.office_schema.specs.Schema.{int, blob}
+use Rattle.office_tables.specs.Tables.Metadata.{meta_table}
+use Rattle.office_tables.specs.Tables.Owner.{owner_table}
+use Rattle.office_tables.specs.Tables.Enrol.{enrol_table}
+use Rattle.office_tables.specs.Tables.Draft.{draft_table, night_draft_table}
+use Rattle.office_tables.specs.Tables.Slot.{slot_table}
+use Rattle.office_tables.specs.Tables.Placed.{placed_table}
+use Rattle.office_tables.specs.Tables.Seat.{seat_table}
+use Rattle.office_tables.specs.Tables.ShareStudent.{share_student_table, night_share_table}
+use Rattle.office_tables.specs.Tables.SharePart.{share_part_table}
 use Rattle.office_tables.specs.Stored.{keyed_columns, keyless_columns}
 use Rattle.office_tables.proofs.WholeRows.{dropped, rows_long}
 use Rattle.office_tables.proofs.WholeTables.{ListsAll, in_both, in_second, lists_both, lists_table}

@@ -1,5 +1,5 @@
 -- If a query is answered, the store was open.
-use Rattle.std.proofs.Common.{ℕ, List, Some, None, Option, IsTrue, codes, sym, subst, refl, Result, Ok, Err, OnErr}
+use Rattle.std.proofs.Common.{ℕ, List, Some, None, Option, IsTrue, codes, sym, subst, refl}
 use Rattle.sqlite_value.specs.Order.{Row}
 use Rattle.sqlite_schema.specs.declared.command.Returning.{Returning}
 use Rattle.sqlite_resolve.specs.declared.compiled.Compiled.{Compiled}
@@ -7,9 +7,8 @@ use Rattle.sqlite.specs.Listing.{understood}
 use Rattle.sqlite.specs.State.{State, Shown, ShowsRows}
 use Rattle.sqlite.proofs.Callers.{IsPlain}
 use Rattle.sqlite_tied.specs.Compute.{everything}
-use Rattle.office_schema.specs.Schema.{office_schema}
+use Rattle.office_tables.specs.Tables.{office_schema, Tables}
 use Rattle.office_tables.specs.TablesHeld.{HoldsTables}
-use Rattle.office_tables.specs.Tables.{Tables}
 
 open_rows : (old new : State) (sql : List ℕ) (c : Compiled) (params : Row) (rows : List Row)
     (r : Option Returning)

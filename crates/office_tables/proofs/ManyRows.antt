@@ -10,7 +10,7 @@ use Rattle.sqlite_rules.specs.Cast.{cast_row}
 use Rattle.sqlite_rules.specs.Edit.{numbered, put_all, with_rowid, edit_of, are_fresh, Applies}
 use Rattle.sqlite_rules.specs.declared.error.Rowids.TheVariants.{Chosen}
 use Rattle.sqlite_schema.specs.declared.schema.Keys.TheVariants.{Enforced}
-use Rattle.office_schema.specs.Schema.{office_schema}
+use Rattle.office_tables.specs.Tables.{office_schema, Tables}
 use Rattle.sqlite_schema.specs.declared.schema.Table.{Table}
 use Rattle.sqlite_trees.specs.Tree.{put_row, rowid}
 use Rattle.sqlite_trees.specs.View.{is_int}
@@ -25,7 +25,6 @@ use Rattle.sqlite.proofs.Callers.{IsPlain, command_of}
 use Rattle.office_tables.specs.Alterations.{after_all}
 pub use Rattle.office_tables.specs.Inserting.{next_params, terms_from}
 use Rattle.office_tables.specs.Stored.{Holds}
-use Rattle.office_tables.specs.Tables.{Tables}
 use Rattle.office_tables.proofs.Statements.{inserts, simple_table}
 use Rattle.office_tables.proofs.TableLemmas.{holds_more}
 

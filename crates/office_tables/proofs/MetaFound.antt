@@ -9,12 +9,11 @@ use Rattle.sqlite_trees.specs.View.{is_int}
 use Rattle.sqlite_trees.proofs.ListLemmas.{all_from_map, all-map, all_of, all-permutation}
 use Rattle.sqlite_value.specs.Order.{Row}
 use Rattle.sqlite.specs.Effect.{Database, IsDatabase}
-use Rattle.office_tables.specs.declared.meta.MetaRow.{MetaRow}
-use Rattle.office_tables.specs.Meta.{IsReadMeta, IsFoundMeta, meta_from, meta_columns}
+use Rattle.office_tables.specs.declared.tables.meta.MetaRow.{MetaRow}
+use Rattle.office_tables.specs.Tables.Metadata.{IsReadMeta, IsFoundMeta, meta_from, meta_columns, Meta}
 use Rattle.office_tables.specs.Listings.{selected_columns}
 use Rattle.office_tables.specs.declared.version.Version.{Version}
 use Rattle.office_tables.specs.Versions.{schema_of}
-use Rattle.office_tables.specs.Tables.{Meta}
 use Rattle.office_tables.specs.Stored.{HasRowids, Holds, keyed_columns}
 use Rattle.office_tables.proofs.ListTexts.{meta_terms, meta_whole}
 use Rattle.office_tables.proofs.WholeRows.{dropped}

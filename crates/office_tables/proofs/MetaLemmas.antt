@@ -12,13 +12,12 @@ use Rattle.sqlite.specs.State.{State, Executes}
 use Rattle.sqlite.specs.Term.{Term, lit, col}
 use Rattle.sqlite.proofs.Callers.{IsPlain, command_of}
 use Rattle.sqlite_tied.specs.Compute.{everything}
-use Rattle.office_schema.specs.Schema.{office_schema, meta_table}
+use Rattle.office_tables.specs.Tables.{office_schema, Tables, empty_tables, all_columns}
+use Rattle.office_tables.specs.Tables.Metadata.{meta_table, Meta, flag, meta_columns}
 use Rattle.office_tables.specs.declared.version.Version.TheVariants.{Two}
 use Rattle.office_tables.specs.Schema.{IsBlank}
 use Rattle.office_tables.specs.Alterations.{IsWritten}
-use Rattle.office_tables.specs.Tables.{Tables, Meta, empty_tables}
-use Rattle.office_tables.specs.TablesHeld.{HoldsTables, all_columns}
-use Rattle.office_tables.specs.Meta.{flag, meta_columns}
+use Rattle.office_tables.specs.TablesHeld.{HoldsTables}
 use Rattle.office_tables.specs.Stored.{keyed_columns}
 use Rattle.office_tables.proofs.Casts.{cast_int, cast_null}
 use Rattle.office_tables.proofs.Frames.{all_shown, held_at, none_shown, shown_next, tables_held}

@@ -26,19 +26,19 @@ use Rattle.sqlite_tied.specs.Compute.{everything}
 use Rattle.std.specs.Fmt.{digits}
 use Rattle.exam_lists.proofs.Filters.{filter_true}
 use Rattle.exam_lists.proofs.Maps.{map_agree}
-use Rattle.office_schema.specs.Schema.{office_schema, schema_before, keyed_table, int}
-use Rattle.office_tables.specs.declared.draft.DraftRow.{DraftRow}
-use Rattle.office_tables.specs.declared.share_student.StudentShareRow.{StudentShareRow}
+use Rattle.office_tables.specs.Tables.{office_schema, schema_before, all_columns, Tables}
+use Rattle.office_schema.specs.Schema.{keyed_table, int}
+use Rattle.office_tables.specs.declared.tables.draft.DraftRow.{DraftRow}
+use Rattle.office_tables.specs.declared.tables.share_student.StudentShareRow.{StudentShareRow}
 use Rattle.office_tables.specs.declared.version.Version.TheVariants.{One}
-use Rattle.office_tables.specs.Draft.{draft_columns, night_draft_columns}
-use Rattle.office_tables.specs.Meta.{meta_columns}
+use Rattle.office_tables.specs.Tables.Draft.{draft_columns, night_draft_columns}
+use Rattle.office_tables.specs.Tables.Metadata.{meta_columns}
 use Rattle.office_tables.specs.Inserting.{IsTable}
 use Rattle.office_tables.specs.Migrating.{IsWidened, without_nights}
 use Rattle.office_tables.specs.Schema.{HasRows}
-use Rattle.office_tables.specs.ShareStudent.{share_student_columns, night_share_columns}
-use Rattle.office_tables.specs.TablesHeld.{HoldsTables, HoldsOldTables, all_columns}
+use Rattle.office_tables.specs.Tables.ShareStudent.{share_student_columns, night_share_columns}
+use Rattle.office_tables.specs.TablesHeld.{HoldsTables, HoldsOldTables}
 use Rattle.office_tables.specs.Stored.{Holds, keyed_columns}
-use Rattle.office_tables.specs.Tables.{Tables}
 use Rattle.office_tables.proofs.Casts.{cast_int, cast_null}
 use Rattle.office_tables.proofs.Frames.{AllShown, OneShown, all_still, both_held, holds_none, night_tables, shown_next, tables_held}
 use Rattle.office_tables.proofs.DeleteLemmas.{cleared}

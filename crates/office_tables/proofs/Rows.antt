@@ -1,17 +1,17 @@
 -- What each table stores.
 use Rattle.std.proofs.lemmas.Grind.{common_steps}
 use Rattle.std.proofs.Common.{refl, arith}
-use Rattle.office_schema.specs.Schema.{meta_table, owner_table, enrol_table, draft_table, slot_table, placed_table, seat_table, share_student_table, share_part_table, batch_table, night_draft_table, night_share_table}
+use Rattle.office_tables.specs.Tables.Metadata.{meta_table}
+use Rattle.office_tables.specs.Tables.Owner.{owner_table, owner_columns}
+use Rattle.office_tables.specs.Tables.Enrol.{enrol_table, enrol_columns}
+use Rattle.office_tables.specs.Tables.Draft.{draft_table, night_draft_table, draft_columns, night_draft_columns}
+use Rattle.office_tables.specs.Tables.Slot.{slot_table, slot_columns}
+use Rattle.office_tables.specs.Tables.Placed.{placed_table, placed_columns}
+use Rattle.office_tables.specs.Tables.Seat.{seat_table, seat_columns}
+use Rattle.office_tables.specs.Tables.ShareStudent.{share_student_table, night_share_table, share_student_columns, night_share_columns}
+use Rattle.office_tables.specs.Tables.SharePart.{share_part_table, share_part_columns}
+use Rattle.office_tables.specs.Tables.Batches.{batch_table, batch_columns}
 use Rattle.office_tables.specs.Inserting.{IsTable, Stores}
-use Rattle.office_tables.specs.Owner.{owner_columns}
-use Rattle.office_tables.specs.Enrol.{enrol_columns}
-use Rattle.office_tables.specs.Draft.{draft_columns, night_draft_columns}
-use Rattle.office_tables.specs.Slot.{slot_columns}
-use Rattle.office_tables.specs.Placed.{placed_columns}
-use Rattle.office_tables.specs.Seat.{seat_columns}
-use Rattle.office_tables.specs.ShareStudent.{share_student_columns, night_share_columns}
-use Rattle.office_tables.specs.SharePart.{share_part_columns}
-use Rattle.office_tables.specs.Batch.{batch_columns}
 use Rattle.office_tables.proofs.Casts.{cast_int, cast_null}
 
 pub meta_is : IsTable 0 meta_table

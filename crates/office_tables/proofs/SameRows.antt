@@ -10,12 +10,12 @@ use Rattle.sqlite_value.specs.declared.value.Value.{Value}
 use Rattle.sqlite_value.specs.declared.value.Value.TheVariants.{Int}
 use Rattle.sqlite_value.specs.Order.{Row, column}
 use Rattle.sqlite.specs.Effect.{Database}
-use Rattle.office_tables.specs.declared.draft.DraftRow.{DraftRow}
-use Rattle.office_tables.specs.declared.share_student.StudentShareRow.{StudentShareRow}
+use Rattle.office_tables.specs.declared.tables.draft.DraftRow.{DraftRow}
+use Rattle.office_tables.specs.declared.tables.share_student.StudentShareRow.{StudentShareRow}
 use Rattle.office_tables.specs.declared.version.Version.{Version}
 use Rattle.office_tables.specs.declared.version.Version.TheVariants.{One, Two}
-use Rattle.office_tables.specs.Draft.{draft_columns, night_draft_columns}
-use Rattle.office_tables.specs.ShareStudent.{night_share_columns, share_shown, share_student_columns}
+use Rattle.office_tables.specs.Tables.Draft.{draft_columns, night_draft_columns}
+use Rattle.office_tables.specs.Tables.ShareStudent.{night_share_columns, share_shown, share_student_columns}
 use Rattle.office_tables.specs.TablesHeld.{HoldsTablesIn}
 use Rattle.office_tables.specs.Stored.{Holds, keyed_columns}
 use Rattle.office_tables.specs.Tables.{Tables}

@@ -12,13 +12,12 @@ use Rattle.sqlite.specs.Listing.{understood}
 use Rattle.sqlite.specs.Query.{Query, inner, end}
 use Rattle.sqlite.specs.Term.{Term, col}
 use Rattle.sqlite_tied.specs.Compute.{everything}
-use Rattle.office_schema.specs.Schema.{office_schema}
+use Rattle.office_tables.specs.Tables.{office_schema, Tables}
 use Rattle.office_tables.specs.Asking.{select_query, IsReadOf, Means}
-use Rattle.office_tables.specs.declared.seat.SeatRow.{SeatRow}
-use Rattle.office_tables.specs.Tables.{Tables}
+use Rattle.office_tables.specs.declared.tables.seat.SeatRow.{SeatRow}
 use Rattle.office_tables.specs.TablesHeld.{HoldsTables}
 use Rattle.office_tables.specs.Stored.{keyless_columns}
-use Rattle.office_tables.specs.Seat.{StudentSeatsRise, seat_columns}
+use Rattle.office_tables.specs.Tables.Seat.{StudentSeatsRise, seat_columns}
 use Rattle.office_tables.specs.Selections.{AreListed}
 use Rattle.office_tables.proofs.OrderLemmas.{by_number, read, rising, table_shown}
 use Rattle.office_tables.proofs.Queries.{column_less, equal_numbers, equals, passes}

@@ -4,13 +4,12 @@ use Rattle.sqlite_value.specs.declared.value.Value.TheVariants.{Int}
 use Rattle.sqlite.specs.Listing.{understood}
 use Rattle.sqlite.specs.State.{State, Executes}
 use Rattle.sqlite_tied.specs.Compute.{everything}
-use Rattle.office_schema.specs.Schema.{night_share_table}
-use Rattle.office_tables.specs.declared.share_student.StudentShareRow.{StudentShareRow}
-use Rattle.office_tables.specs.ShareStudent.{share_student_columns, night_share_columns}
+use Rattle.office_tables.specs.Tables.ShareStudent.{night_share_table, share_student_columns, night_share_columns}
+use Rattle.office_tables.specs.declared.tables.share_student.StudentShareRow.{StudentShareRow}
 use Rattle.office_tables.specs.Inserting.{IsInsert}
 use Rattle.office_tables.specs.Alterations.{IsWritten}
-use Rattle.office_tables.specs.Tables.{Tables}
-use Rattle.office_tables.specs.TablesHeld.{HoldsTables, all_columns}
+use Rattle.office_tables.specs.Tables.{Tables, all_columns}
+use Rattle.office_tables.specs.TablesHeld.{HoldsTables}
 use Rattle.office_tables.proofs.DeleteLemmas.{IsDelete, delete_sound, deleted}
 use Rattle.office_tables.proofs.Frames.{all_shown, tables_held}
 use Rattle.office_tables.proofs.InsertLemmas.{insert_sound, row_added, rows_added}

@@ -14,19 +14,18 @@ use Rattle.sqlite.specs.Listing.{understood}
 use Rattle.sqlite.specs.Query.{Query, inner, end, matches}
 use Rattle.sqlite.specs.Term.{Term, col, eval_all}
 use Rattle.sqlite_tied.specs.Compute.{everything}
-use Rattle.office_schema.specs.Schema.{office_schema}
+use Rattle.office_tables.specs.Tables.{office_schema, Tables}
 use Rattle.office_tables.specs.Asking.{select_query, IsReadOf, Means}
 use Rattle.office_tables.specs.Joining.{IsReadWith}
 use Rattle.office_tables.specs.Nights.{night_columns}
 use Rattle.office_tables.specs.declared.nights.NightRow.{NightRow}
-use Rattle.office_tables.specs.declared.share_student.StudentShareRow.{StudentShareRow}
-use Rattle.office_tables.specs.declared.share_part.PartShareRow.{PartShareRow}
-use Rattle.office_tables.specs.Tables.{Tables}
+use Rattle.office_tables.specs.declared.tables.share_student.StudentShareRow.{StudentShareRow}
+use Rattle.office_tables.specs.declared.tables.share_part.PartShareRow.{PartShareRow}
 use Rattle.office_tables.specs.TablesHeld.{HoldsTables}
 use Rattle.office_tables.specs.Stored.{Holds, keyed_columns, keyless_columns}
-use Rattle.office_tables.specs.ShareStudent.{bare_share_columns, share_student_columns, night_share_columns, share_shown, HaveNoNight, StudentSharesRise}
+use Rattle.office_tables.specs.Tables.ShareStudent.{bare_share_columns, share_student_columns, night_share_columns, share_shown, HaveNoNight, StudentSharesRise}
 use Rattle.office_tables.specs.Records.{columns_from}
-use Rattle.office_tables.specs.SharePart.{share_part_columns}
+use Rattle.office_tables.specs.Tables.SharePart.{share_part_columns}
 use Rattle.office_tables.specs.Selections.{AreListed}
 use Rattle.office_tables.proofs.NightLemmas.{bare_columns_are, bare_holds, bare_rows, bare_shown, no_nights, none_over_night, shown_holds}
 use Rattle.office_tables.proofs.NightTexts.{joined_shown, same_number}

@@ -11,7 +11,7 @@ use Rattle.sqlite_schema.specs.declared.schema.Schema.{Schema}
 use Rattle.sqlite_syntax.specs.declared.statement.Parsed.{Parsed}
 use Rattle.sqlite_trees.specs.Tree.{Trees}
 use Rattle.sqlite_value.specs.Order.{Row}
-use Rattle.sqlite_resolve.specs.Compile.{command, compiled, first, meaning, planned, returning, returning_by, shows, source_of, target}
+use Rattle.sqlite_resolve.specs.Compile.{compiled, first, meaning, planned, returning, returning_by, shows, source_of, target}
 use Rattle.sqlite_resolve.specs.Body.{table_at}
 use Rattle.sqlite_resolve.specs.Given.{returned}
 use Rattle.sqlite_resolve.specs.Lowering.{Checked, and_then}

@@ -1,10 +1,10 @@
 -- The rows of drafts and of students' shares are in two tables.
 use Rattle.std.proofs.Common.{refl}
-use Rattle.office_tables.specs.declared.draft.DraftRow.{DraftRow}
-use Rattle.office_tables.specs.declared.share_student.StudentShareRow.{StudentShareRow}
-use Rattle.office_tables.specs.Draft.{bare_draft_columns, draft_columns, night_draft_columns, FitsDraft}
+use Rattle.office_tables.specs.declared.tables.draft.DraftRow.{DraftRow}
+use Rattle.office_tables.specs.declared.tables.share_student.StudentShareRow.{StudentShareRow}
+use Rattle.office_tables.specs.Tables.Draft.{bare_draft_columns, draft_columns, night_draft_columns, FitsDraft}
 use Rattle.office_tables.specs.Joining.{NightSplit}
-use Rattle.office_tables.specs.ShareStudent.{bare_share_columns, night_share_columns, share_student_columns, FitsStudentShare}
+use Rattle.office_tables.specs.Tables.ShareStudent.{bare_share_columns, night_share_columns, share_student_columns, FitsStudentShare}
 
 pub draft_splits : NightSplit FitsDraft bare_draft_columns draft_columns night_draft_columns
     (λ (r : DraftRow). r.no) (λ (r : DraftRow). r.night)

@@ -18,7 +18,9 @@ use Rattle.sqlite_value.specs.declared.value.Value.{Value}
 use Rattle.sqlite_value.specs.Order.{Row, column}
 use Rattle.sqlite.specs.Effect.{Database, IsDatabase}
 use Rattle.office_tables.specs.Records.{columns_from}
-use Rattle.office_schema.specs.Schema.{office_schema, schema_before, night_draft_table, night_share_table}
+use Rattle.office_tables.specs.Tables.{office_schema, schema_before}
+use Rattle.office_tables.specs.Tables.Draft.{night_draft_table}
+use Rattle.office_tables.specs.Tables.ShareStudent.{night_share_table}
 use Rattle.office_tables.specs.declared.version.Version.{Version}
 use Rattle.office_tables.specs.declared.version.Version.TheVariants.{One, Two}
 use Rattle.office_tables.specs.Versions.{schema_of}

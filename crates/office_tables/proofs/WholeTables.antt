@@ -14,7 +14,7 @@ use Rattle.sqlite_value.specs.declared.value.Value.{Value}
 use Rattle.sqlite_value.specs.Order.{Row, column}
 use Rattle.sqlite.specs.Effect.{Database, IsDatabase}
 use Rattle.sqlite.specs.Term.{Term, col, eval_all}
-use Rattle.office_schema.specs.Schema.{office_schema, schema_before}
+use Rattle.office_tables.specs.Tables.{office_schema, schema_before}
 use Rattle.office_tables.specs.declared.version.Version.{Version}
 use Rattle.office_tables.specs.declared.version.Version.TheVariants.{One, Two}
 use Rattle.office_tables.specs.Stored.{shown_by}

@@ -1,45 +1,23 @@
 -- The rows found in the tables of an existing file.
-use Rattle.std.specs.Prelude.{◌≡◌, List, [], ◌∷◌, map, Option, Some, None, Result, Ok, Err}
-use Rattle.std.specs.List.{AllByRecursion}
+use Rattle.std.specs.Prelude.{◌≡◌, List, map, Option, Some, None, Result, Ok, Err}
 use Rattle.sqlite.specs.declared.error.Error.{Error}
 use Rattle.sqlite.specs.Effect.{Database}
 use Rattle.sqlite.specs.Held.{Held, state}
 use Rattle.sqlite.specs.State.{HasCleanDisk, IsUnchanged}
 use Rattle.sqlite.specs.Store.{Ghosts}
-use Rattle.office_tables.specs.declared.found.AdoptFault.{AdoptFault}
-use Rattle.office_tables.specs.declared.found.AdoptFault.TheVariants.{Foreign, Failed}
-use Rattle.office_tables.specs.declared.found.Found.{Found}
-use Rattle.office_tables.specs.declared.share_student.StudentShareRow.{StudentShareRow}
-use Rattle.office_tables.specs.declared.draft.DraftRow.{DraftRow}
+use Rattle.office_tables.specs.declared.adopting.AdoptFault.{AdoptFault}
+use Rattle.office_tables.specs.declared.adopting.AdoptFault.TheVariants.{Foreign, Failed}
+use Rattle.office_tables.specs.declared.tables.Found.{Found}
+use Rattle.office_tables.specs.declared.tables.share_student.StudentShareRow.{StudentShareRow}
+use Rattle.office_tables.specs.declared.tables.draft.DraftRow.{DraftRow}
 use Rattle.office_tables.specs.declared.version.Version.{Version}
-use Rattle.office_tables.specs.Batch.{counts_of, FitsBatch}
-use Rattle.office_tables.specs.Draft.{draft_columns, night_draft_columns, FitsDraft}
-use Rattle.office_tables.specs.Enrol.{FitsEnrol}
+use Rattle.office_tables.specs.Tables.Batches.{counts_of, Batch}
+use Rattle.office_tables.specs.Tables.Draft.{draft_columns, night_draft_columns}
 use Rattle.office_tables.specs.Finders.{HasTables, ReadEffect}
 use Rattle.office_tables.specs.Joining.{HaveRows}
-use Rattle.office_tables.specs.Meta.{meta_from}
-use Rattle.office_tables.specs.Owner.{FitsOwner}
-use Rattle.office_tables.specs.Placed.{FitsPlacement}
-use Rattle.office_tables.specs.Seat.{FitsSeat}
-use Rattle.office_tables.specs.SharePart.{FitsPartShare}
-use Rattle.office_tables.specs.ShareStudent.{share_student_columns, night_share_columns, FitsStudentShare}
-use Rattle.office_tables.specs.Slot.{FitsSlot}
+use Rattle.office_tables.specs.Tables.ShareStudent.{share_student_columns, night_share_columns}
 use Rattle.office_tables.specs.TablesHeld.{HoldsTablesIn}
-use Rattle.office_tables.specs.Tables.{Tables, Meta, Batch}
-
--- the tables of an office, with numbers that fit the program's types
-pub record AreReadable (t : Tables) : Type 0 where
-  pub row : Meta
-  pub meta : t.meta ≡ row ∷ []
-  pub owner : AllByRecursion FitsOwner t.owner
-  pub enrol : AllByRecursion FitsEnrol t.enrol
-  pub draft : AllByRecursion FitsDraft t.draft
-  pub slot : AllByRecursion FitsSlot t.slot
-  pub placed : AllByRecursion FitsPlacement t.placed
-  pub seat : AllByRecursion FitsSeat t.seat
-  pub share_student : AllByRecursion FitsStudentShare t.share_student
-  pub share_part : AllByRecursion FitsPartShare t.share_part
-  pub batch : AllByRecursion FitsBatch t.batch
+use Rattle.office_tables.specs.Tables.{tables_of, AreReadable, Tables}
 
 -- the database doesn't hold the rows of an office in this version
 abbrev pub IsForeignIn : Version → Database → Type 0
@@ -60,21 +38,6 @@ abbrev pub HaveShares : Version → Database → List StudentShareRow → Type 0
 HaveShares version db =
     HaveRows version share_student_columns night_share_columns
     (λ (r : StudentShareRow). r.night) (db.trees 11) (db.trees 16)
-
--- the tables with the rows found and with these batches
-abbrev pub tables_of : Found → List Batch → Tables
-tables_of found batches = record {
-  meta = meta_from found.meta ∷ [];
-  owner = found.owners.items;
-  enrol = found.enrols.items;
-  draft = found.drafts.items;
-  slot = found.slots.items;
-  placed = found.placements.items;
-  seat = found.seats.items;
-  share_student = found.student_shares.items;
-  share_part = found.part_shares.items;
-  batch = batches;
-}
 
 -- `Ok`: the database holds the rows that were found, and batches with these counts. `Foreign`: it
 -- doesn't hold the rows of an office

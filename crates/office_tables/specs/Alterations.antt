@@ -5,8 +5,7 @@ use Rattle.sqlite.specs.Held.{Held, state}
 use Rattle.sqlite.specs.State.{HasCleanDisk, State, Survives}
 use Rattle.sqlite.specs.Store.{Ghosts}
 use Rattle.sqlite_trees.specs.Tree.{Trees}
-use Rattle.office_schema.specs.Schema.{office_schema}
-use Rattle.office_tables.specs.Tables.{Tables}
+use Rattle.office_tables.specs.Tables.{office_schema, Tables}
 use Rattle.office_tables.specs.TablesHeld.{HoldsTables}
 
 -- the new database has these tables; if the old trees listed their schema and obeyed it, so do the

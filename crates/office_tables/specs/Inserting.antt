@@ -16,10 +16,8 @@ use Rattle.sqlite.specs.Listing.{understood}
 use Rattle.sqlite.specs.Source.TheVariants.{Values}
 use Rattle.sqlite.specs.Term.{Term, lit, col}
 use Rattle.sqlite.proofs.Callers.{IsPlain, command_of}
-use Rattle.office_schema.specs.Schema.{office_schema}
+use Rattle.office_tables.specs.Tables.{office_schema, Tables, all_columns}
 use Rattle.office_tables.specs.Stored.{shown_by}
-use Rattle.office_tables.specs.Tables.{Tables}
-use Rattle.office_tables.specs.TablesHeld.{all_columns}
 
 -- a table with no AUTOINCREMENT and no default that reads the time
 abbrev pub simple_table : Table → Table

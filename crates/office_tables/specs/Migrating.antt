@@ -2,10 +2,9 @@
 use Rattle.std.specs.Prelude.{◌==◌, ◌||◌, if◌then◌else◌, []}
 use Rattle.sqlite_trees.specs.Tree.{Trees}
 use Rattle.sqlite.specs.Effect.{Database}
-use Rattle.office_schema.specs.Schema.{office_schema}
+use Rattle.office_tables.specs.Tables.{office_schema, Tables}
 use Rattle.office_tables.specs.Schema.{HasRows}
 use Rattle.office_tables.specs.TablesHeld.{HoldsOldTables}
-use Rattle.office_tables.specs.Tables.{Tables}
 
 -- the same trees, without rows in the tables of amounts over night
 abbrev pub without_nights : Trees → Trees

@@ -1,43 +1,16 @@
 -- When a database has the tables of an office, and which rows they hold.
-use Rattle.std.specs.Prelude.{◌≡◌, ◌++◌, List, [], ◌∷◌, map}
+use Rattle.std.specs.Prelude.{◌≡◌}
 use Rattle.sqlite.specs.Effect.{Database}
-use Rattle.sqlite_value.specs.Order.{Row}
-use Rattle.office_schema.specs.Schema.{schema_before}
-use Rattle.office_tables.specs.declared.draft.DraftRow.{DraftRow}
-use Rattle.office_tables.specs.declared.share_student.StudentShareRow.{StudentShareRow}
+use Rattle.office_tables.specs.Tables.{columns_in, schema_before, Tables}
+use Rattle.office_tables.specs.declared.tables.draft.DraftRow.{DraftRow}
+use Rattle.office_tables.specs.declared.tables.share_student.StudentShareRow.{StudentShareRow}
 use Rattle.office_tables.specs.declared.version.Version.{Version}
 use Rattle.office_tables.specs.declared.version.Version.TheVariants.{One, Two}
-use Rattle.office_tables.specs.Meta.{meta_columns}
-use Rattle.office_tables.specs.Owner.{owner_columns}
-use Rattle.office_tables.specs.Enrol.{enrol_columns}
-use Rattle.office_tables.specs.Draft.{draft_columns, night_draft_columns}
-use Rattle.office_tables.specs.Slot.{slot_columns}
-use Rattle.office_tables.specs.Placed.{placed_columns}
-use Rattle.office_tables.specs.Seat.{seat_columns}
-use Rattle.office_tables.specs.ShareStudent.{share_student_columns, night_share_columns}
-use Rattle.office_tables.specs.SharePart.{share_part_columns}
-use Rattle.office_tables.specs.Batch.{batch_columns}
+use Rattle.office_tables.specs.Tables.Draft.{night_draft_columns}
+use Rattle.office_tables.specs.Tables.ShareStudent.{night_share_columns}
 use Rattle.office_tables.specs.Nights.{HoldsNights}
 use Rattle.office_tables.specs.Stored.{HoldAll}
-use Rattle.office_tables.specs.Tables.{Tables}
 use Rattle.office_tables.specs.Versions.{schema_of}
-
--- the columns of the rows of the tables of both versions, in the order of the schema
-abbrev pub columns_in : Version → Tables → List (List Row)
-columns_in version t =
-    map (meta_columns version) t.meta ∷ map owner_columns t.owner ∷ map enrol_columns t.enrol
-    ∷ map draft_columns t.draft ∷ map slot_columns t.slot ∷ map placed_columns t.placed
-    ∷ map seat_columns t.seat ∷ map share_student_columns t.share_student
-    ∷ map share_part_columns t.share_part ∷ map batch_columns t.batch ∷ []
-
--- those of the amounts over night
-abbrev pub night_columns_of : Tables → List (List Row)
-night_columns_of t =
-    map night_draft_columns t.draft ∷ map night_share_columns t.share_student ∷ []
-
--- the columns of the rows of all twelve tables, in the order of the schema
-abbrev pub all_columns : Tables → List (List Row)
-all_columns t = columns_in Two t ++ night_columns_of t
 
 -- the database has the tables of this version, and they hold these rows; the amounts over night of
 -- drafts and students are in the last two tables, and are 0 in version 1

@@ -1,7 +1,7 @@
 -- The two versions of an office's file.
-use Rattle.std.specs.Prelude.{◌≡◌, ◌≢◌, ℕ, Option, None, Some}
+use Rattle.std.specs.Prelude.{◌≡◌, ◌≢◌, Option, None, Some}
 use Rattle.sqlite_schema.specs.declared.schema.Schema.{Schema}
-use Rattle.office_schema.specs.Schema.{office_schema, schema_before}
+use Rattle.office_tables.specs.Tables.{office_schema, schema_before}
 use Rattle.office_tables.specs.declared.version.Version.{Version}
 use Rattle.office_tables.specs.declared.version.Version.TheVariants.{One, Two}
 
@@ -9,11 +9,6 @@ use Rattle.office_tables.specs.declared.version.Version.TheVariants.{One, Two}
 abbrev pub schema_of : Version → Schema
 schema_of One = schema_before
 schema_of Two = office_schema
-
--- its number, as the table meta has it
-abbrev pub number_of : Version → ℕ
-number_of One = 1
-number_of Two = 2
 
 -- `Some`: the schema is that of this version. `None`: it is that of neither
 abbrev pub IsVersionOf : Schema → Option Version → Type 0

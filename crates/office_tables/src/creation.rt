@@ -1,6 +1,6 @@
 // All twelve tables, and the row of an office without a session.
 ghost use Rattle.std.specs.Prelude.{◌≡◌, ◌↔◌, [], List, IsTrue};
-ghost use Rattle.office_schema.specs.Schema.{office_schema, schema_before};
+ghost use Rattle.office_tables.specs.Tables.{office_schema, schema_before, empty_tables};
 ghost use Rattle.sqlite.specs.Held.{state};
 ghost use Rattle.sqlite_schema.specs.declared.schema.Schema.{Schema};
 ghost use Rattle.sqlite_schema.specs.declared.schema.Table.{Table};
@@ -8,17 +8,11 @@ ghost use Rattle.sqlite_trees.specs.Tree.{Trees};
 ghost use Rattle.office_tables.specs.Schema.{created_all, no_schema, CreateAll, HasRows, IsBlank};
 ghost use Rattle.office_tables.specs.Steps.{StepEstablishes, IsUncommitted};
 ghost use Rattle.office_tables.specs.TablesHeld.{HoldsTables};
-ghost use Rattle.office_tables.specs.Tables.{empty_tables};
 
 use crate::altering::Alteration;
-use crate::meta::InsertMeta;
 use crate::running::run;
-use crate::texts::create_text;
-use office_schema::{TABLES_BEFORE, tables};
+use crate::tables::{CREATE_TEXTS, InsertMeta, TABLES_BEFORE};
 use sqlite::{Alter, Connection, Error, Transaction};
-
-// The tables of version 2: those of version 1, and then two of amounts over night.
-const TABLES: [&str; 12] = tables!(create_text);
 
 /// Returns whether the database has no table, no index and no view.
 pub fn is_bare<S: Alter>(conn: &Connection<S>) -> bool
@@ -51,7 +45,7 @@ fn create_old_tables<S: Alter>(tx: &mut Transaction<'_, S>) -> Result<(), Error>
         tx.old.conn.now tx.new.conn.now result }
     ensures within { IsUncommitted (state S.Store tx.old.conn.now) (state S.Store tx.new.conn.now) }
 {
-    create(tx, &TABLES[..TABLES_BEFORE])
+    create(tx, &CREATE_TEXTS[..TABLES_BEFORE])
 }
 
 // Creates the tables that version 2 adds: the amounts over night of drafts and of candidates'
@@ -63,7 +57,7 @@ pub(crate) fn create_night_tables<S: Alter>(tx: &mut Transaction<'_, S>) -> Resu
         tx.old.conn.now tx.new.conn.now result }
     ensures within { IsUncommitted (state S.Store tx.old.conn.now) (state S.Store tx.new.conn.now) }
 {
-    create(tx, &TABLES[TABLES_BEFORE..])
+    create(tx, &CREATE_TEXTS[TABLES_BEFORE..])
 }
 
 // Creates a table by each text; the rows of the tables before them stay.

@@ -1,9 +1,9 @@
 // Shares of students that one query reads from both of their tables.
 ghost use Rattle.std.specs.Prelude.{◌≡◌, map, IfOk};
-ghost use Rattle.office_tables.specs.ShareStudent.{share_shown, FitsStudentShare};
+ghost use Rattle.office_tables.specs.Tables.ShareStudent.{share_shown, FitsStudentShare};
 
 use crate::records::Record;
-use crate::share_student::StudentShareRow;
+use crate::tables::StudentShareRow;
 use sqlite::{Error, Row};
 use std::alloc::{AllocError, Global};
 

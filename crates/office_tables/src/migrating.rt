@@ -1,16 +1,15 @@
 // The migration of a file from version 1 to version 2.
 ghost use Rattle.std.specs.Prelude.{◌≡◌, [], ◌∷◌};
 ghost use Rattle.sqlite.specs.Held.{state};
-ghost use Rattle.office_tables.specs.Meta.{no_meta};
+ghost use Rattle.office_tables.specs.Tables.{no_meta, Tables};
 ghost use Rattle.office_tables.specs.Migrating.{IsWidened};
 ghost use Rattle.office_tables.specs.TablesHeld.{HoldsTables, HoldsOldTables};
 ghost use Rattle.office_tables.specs.Steps.{StepEstablishes, IsUncommitted};
-ghost use Rattle.office_tables.specs.Tables.{Tables};
 
 use crate::altering::Alteration;
 use crate::creation::create_night_tables;
-use crate::meta::InsertMeta;
 use crate::running::run;
+use crate::tables::InsertMeta;
 use sqlite::{Alter, Error, Transaction};
 
 /// Migrates the tables from version 1, with this row about the office, to version 2. The rows stay

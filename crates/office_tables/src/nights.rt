@@ -3,7 +3,7 @@ ghost use Rattle.std.specs.Prelude.{◌≡◌, ℕ, IfOk};
 ghost use Rattle.sqlite.specs.Held.{state};
 ghost use Rattle.sqlite.specs.Query.{Query};
 ghost use Rattle.sqlite_value.specs.Order.{Row as Columns};
-ghost use Rattle.office_schema.specs.Schema.{office_schema};
+ghost use Rattle.office_tables.specs.Tables.{office_schema};
 ghost use Rattle.office_tables.specs.Asking.{Means};
 ghost use Rattle.office_tables.specs.declared.version.Version.{Version};
 ghost use Rattle.office_tables.specs.declared.version.Version.TheVariants.{Two};

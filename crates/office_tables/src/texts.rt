@@ -1,5 +1,30 @@
-// The texts of statements, and a row's record and values, from the columns that office_schema
-// declares of a table.
+// The texts of statements, a row's record and values, and what a schema has to declare, from the
+// columns of a table. A table's file passes to a macro its name, its tree, its key, its columns,
+// each with the word of SQL for its kind, and then what the use adds. The key is the first column
+// (`Number`), the first two (`Pair`), or these two, and no two rows agree in the next three
+// (`PairAndTriple`).
+
+// Returns what a schema has to declare of a table.
+macro_rules! declared {
+    ($name:ident $tree:literal $key:ident [$($column:ident $kind:ident),*]) => {
+        Declared {
+            name: stringify!($name),
+            tree: $tree,
+            key: TableKey::$key,
+            columns: &[$((stringify!($column), kind_of!($kind))),*],
+        }
+    };
+}
+
+// Returns the kind that a word of SQL names.
+macro_rules! kind_of {
+    (INTEGER) => {
+        Kind::Integer
+    };
+    (BLOB) => {
+        Kind::Blob
+    };
+}
 
 // Returns the text of a query of a table's columns, with this end.
 macro_rules! select {
@@ -151,9 +176,11 @@ macro_rules! in_places {
 }
 
 pub(crate) use create_text;
+pub(crate) use declared;
 pub(crate) use in_places;
 pub(crate) use insert;
 pub(crate) use inserts;
+pub(crate) use kind_of;
 pub(crate) use listing;
 pub(crate) use record;
 pub(crate) use select;

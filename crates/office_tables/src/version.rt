@@ -1,8 +1,9 @@
 // The versions of an office's file.
 ghost use Rattle.std.specs.Prelude.{◌≡◌, IfOk};
-ghost use Rattle.office_tables.specs.Versions.{number_of, IsVersionOf};
+ghost use Rattle.office_tables.specs.Tables.Metadata.{number_of};
+ghost use Rattle.office_tables.specs.Versions.{IsVersionOf};
 
-use office_schema::{is_office_schema, is_schema_before};
+use crate::tables::{is_office_schema, is_schema_before};
 use sqlite_schema::schema::Schema;
 use std::alloc::{AllocError, Global};
 

@@ -1,16 +1,18 @@
 // The tables of an office's file, over a database in memory.
-ghost use Rattle.office_tables.specs.SharePart.{ArePartAmounts};
-ghost use Rattle.office_tables.specs.ShareStudent.{AreStudentAmounts};
+ghost use Rattle.office_tables.specs.Tables.SharePart.{ArePartAmounts};
+ghost use Rattle.office_tables.specs.Tables.ShareStudent.{AreStudentAmounts};
 
 use crate::given::assert_same;
-use office_tables::{
-    Alteration, Both, DeleteDraft, DeleteMeta, DeleteOwner, DeletePartShares, DeletePlacement,
-    DeleteSeat, DeleteSlot, DeleteSlots, DeleteStudentShare, DraftRow, Each, EnrolRow, EnrolsOf,
-    FindEnrolsOf, InsertDraft, InsertEnrol, InsertEnrols, InsertMeta, InsertOwner, InsertPartShare,
+use office_tables::tables::{
+    DeleteDraft, DeleteMeta, DeleteOwner, DeletePartShares, DeletePlacement, DeleteSeat,
+    DeleteSlot, DeleteSlots, DeleteStudentShare, DraftRow, EnrolRow, EnrolsOf, FindEnrolsOf,
+    InsertDraft, InsertEnrol, InsertEnrols, InsertMeta, InsertOwner, InsertPartShare,
     InsertPlacement, InsertPlacements, InsertSeat, InsertSeats, InsertSlot, InsertSlots,
     InsertStudentShare, OwnerRow, OwnersOf, PartShareRow, PartShares, PlacedRow, PlacementsOf,
-    Query, SeatRow, SeatsOf, SlotRow, StudentShareRow, StudentShares, StudentSharesOf,
-    adopt_tables, check_open, create_tables, is_bare, transact,
+    SeatRow, SeatsOf, SlotRow, StudentShareRow, StudentShares, StudentSharesOf,
+};
+use office_tables::{
+    Alteration, Both, Each, Query, adopt_tables, check_open, create_tables, is_bare, transact,
 };
 use sqlite::{Connection, Error, MemStore, Transaction};
 use std::alloc::Global;

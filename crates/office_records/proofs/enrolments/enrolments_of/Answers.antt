@@ -1,6 +1,6 @@
 use Rattle.std.proofs.Common.{length, take, get_or, sym, subst, arith}
 use Rattle.std.proofs.lemmas.List.{take_all, take_more}
-use Rattle.office_tables.specs.declared.enrol.EnrolRow.{EnrolRow}
+use Rattle.office_tables.specs.declared.tables.enrol.EnrolRow.{EnrolRow}
 use Rattle.office_records.specs.Found.{AreEnrolRows}
 use Rattle.office_records.proofs.EnrolRowLemmas.{AreTaken, row_new, rows_taken, taken_more}
 use Rattle.std.proofs.lemmas.Result.{err_from_is_err_and}

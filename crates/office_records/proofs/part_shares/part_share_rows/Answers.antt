@@ -1,6 +1,6 @@
 use Rattle.std.proofs.Common.{sym, subst}
 use Rattle.std.specs.Prelude.{All}
-use Rattle.office_tables.specs.SharePart.{ArePartAmounts}
+use Rattle.office_tables.specs.Tables.SharePart.{ArePartAmounts}
 use Rattle.office_records.proofs.PartRowLemmas.{parts_small}
 use Rattle.office_records.proofs.part_shares.part_share_rows.Goals as goal
 

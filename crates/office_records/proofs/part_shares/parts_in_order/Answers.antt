@@ -2,7 +2,7 @@ use Rattle.std.proofs.Common.{ℕ, rules, subst}
 use Rattle.std.specs.Prelude.{IsPermutation}
 use Rattle.std.proofs.lemmas.Fn.{always_returns_same}
 use Rattle.exam_lists.proofs.Orders.{PairBefore, pair_cmp, pair_less, pair_total}
-use Rattle.office_tables.specs.declared.share_part.PartShareRow.{PartShareRow}
+use Rattle.office_tables.specs.declared.tables.share_part.PartShareRow.{PartShareRow}
 use Rattle.office_records.specs.PartShares.{part_rows}
 use Rattle.office_records.proofs.OrderLemmas.{one_order, part_key, parts_rise}
 use Rattle.office_records.proofs.part_shares.parts_in_order.Goals as goal

@@ -1,6 +1,6 @@
 use Rattle.std.proofs.Common.{◌≡◌, [], ◌∷◌, ◌++◌, get_or, refl, rules}
 use Rattle.std.proofs.lemmas.Bool.{false≢true}
-use Rattle.office_tables.specs.declared.share_part.PartShareRow.{PartShareRow}
+use Rattle.office_tables.specs.declared.tables.share_part.PartShareRow.{PartShareRow}
 use Rattle.office_records.specs.PartShares.{part_kind_number}
 use Rattle.exam_lists.proofs.Numbered.{row_is, rows_read}
 use Rattle.office_records.proofs.PartRowLemmas.{no_row, plain_are, plain_from_parts, plain_parts}

@@ -1,5 +1,5 @@
 use Rattle.std.proofs.Common.{ℕ, [], ◌∷◌, ◌++◌, get_or, ap, ◌∙◌}
-use Rattle.office_tables.specs.declared.share_part.PartShareRow.{PartShareRow}
+use Rattle.office_tables.specs.declared.tables.share_part.PartShareRow.{PartShareRow}
 use Rattle.exam_lists.proofs.Numbered.{rows_added}
 use Rattle.office_records.proofs.PartRowLemmas.{no_share, rooms_are}
 use Rattle.office_records.proofs.part_shares.push_rooms.Goals as goal

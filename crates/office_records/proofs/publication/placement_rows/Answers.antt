@@ -1,7 +1,7 @@
 use Rattle.std.proofs.Common.{ℕ, ◌<◌, ◌++◌, List, [], ◌∷◌, Global, Vec, length, sym, ◌∙◌, ap, ap₂, arith}
 use Rattle.std.proofs.lemmas.List.{append-nil}
 use Rattle.exam_model.specs.Timetable.{place_of}
-use Rattle.office_tables.specs.declared.placed.PlacedRow.{PlacedRow}
+use Rattle.office_tables.specs.declared.tables.placed.PlacedRow.{PlacedRow}
 use Rattle.office_records.specs.Publications.{placed_row}
 use Rattle.office_records.proofs.PlacedRowLemmas.{placed_next}
 use Rattle.office_records.proofs.publication.placement_rows.Goals as goal

@@ -4,12 +4,11 @@ use Rattle.std.specs.Result.{IsErrAnd}
 use Rattle.exam_model.specs.Enrolments.{Enrolled}
 use Rattle.exam_model.specs.Instance.{Session}
 use Rattle.exam_model.specs.Timetable.{Placing}
-use Rattle.office_tables.specs.Adopting.{tables_of}
-use Rattle.office_tables.specs.Batch.{counts_of}
-use Rattle.office_tables.specs.Tables.{Batch}
-use Rattle.office_tables.specs.declared.draft.DraftRow.{DraftRow}
-use Rattle.office_tables.specs.declared.found.Found.{Found}
-use Rattle.office_tables.specs.declared.slot.SlotRow.{SlotRow}
+use Rattle.office_tables.specs.Tables.{tables_of}
+use Rattle.office_tables.specs.Tables.Batches.{counts_of, Batch}
+use Rattle.office_tables.specs.declared.tables.draft.DraftRow.{DraftRow}
+use Rattle.office_tables.specs.declared.tables.Found.{Found}
+use Rattle.office_tables.specs.declared.tables.slot.SlotRow.{SlotRow}
 use Rattle.office_records.specs.Found.{AreDrafts, AreEnrolRows, AreOwners, IsUnloaded}
 use Rattle.office_records.specs.FoundBatches.{AreBatchRows}
 use Rattle.office_records.specs.FoundPublications.{publication_from}

@@ -1,7 +1,7 @@
 use Rattle.std.proofs.Common.{ℕ, rules, subst}
 use Rattle.std.specs.Prelude.{IsPermutation}
 use Rattle.std.proofs.lemmas.Fn.{always_returns_same}
-use Rattle.office_tables.specs.declared.seat.SeatRow.{SeatRow}
+use Rattle.office_tables.specs.declared.tables.seat.SeatRow.{SeatRow}
 use Rattle.office_records.proofs.OrderLemmas.{seat_key}
 use Rattle.office_records.proofs.SeatRowLemmas.{sorted_seats}
 use Rattle.office_records.proofs.seats.by_exam.Goals as goal

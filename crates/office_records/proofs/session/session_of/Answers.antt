@@ -9,8 +9,7 @@ use Rattle.exam_model.specs.Instance.{Session}
 use Rattle.office_files.specs.declared.fault.FaultKind.TheVariants.{NoMemory}
 use Rattle.office_files.specs.declared.fault.FileFault.{FileFault}
 use Rattle.office_files.specs.InstanceText.{instance_in}
-use Rattle.office_tables.specs.Meta.{meta_from}
-use Rattle.office_tables.specs.Tables.{Meta}
+use Rattle.office_tables.specs.Tables.Metadata.{meta_from, Meta}
 use Rattle.office_records.specs.Faults.{text_fault}
 use Rattle.office_records.specs.Found.{IsSessionRow}
 use Rattle.office_records.specs.TableRows.{session_text}

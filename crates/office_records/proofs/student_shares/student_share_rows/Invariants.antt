@@ -1,6 +1,6 @@
 use Rattle.std.proofs.Common.{◌≡◌, map, take}
 use Rattle.std.specs.Prelude.{All}
-use Rattle.office_tables.specs.ShareStudent.{AreStudentAmounts}
+use Rattle.office_tables.specs.Tables.ShareStudent.{AreStudentAmounts}
 use Rattle.office_records.specs.SharesStored.{student_share_row}
 use Rattle.office_records.proofs.student_shares.student_share_rows.Given as goal
 

@@ -1,7 +1,7 @@
 use Rattle.std.proofs.Common.{ℕ, rules, subst}
 use Rattle.std.specs.Prelude.{IsPermutation}
 use Rattle.std.proofs.lemmas.Fn.{always_returns_same}
-use Rattle.office_tables.specs.declared.share_student.StudentShareRow.{StudentShareRow}
+use Rattle.office_tables.specs.declared.tables.share_student.StudentShareRow.{StudentShareRow}
 use Rattle.office_records.proofs.ShareRowLemmas.{sorted_shares}
 use Rattle.office_records.proofs.student_shares.students_in_order.Goals as goal
 

@@ -3,9 +3,10 @@ use Rattle.std.specs.Prelude.{IfErr}
 use Rattle.std.specs.Result.{IsErrAnd}
 use Rattle.std.proofs.lemmas.List.{length-map}
 use Rattle.sqlite.specs.Held.{state}
-use Rattle.office_tables.specs.Adopting.{IsAdopted, tables_of}
-use Rattle.office_tables.specs.Batch.{counts_of}
-use Rattle.office_tables.specs.declared.found.AdoptFault.TheVariants.{Foreign}
+use Rattle.office_tables.specs.Adopting.{IsAdopted}
+use Rattle.office_tables.specs.Tables.{tables_of}
+use Rattle.office_tables.specs.Tables.Batches.{counts_of}
+use Rattle.office_tables.specs.declared.adopting.AdoptFault.TheVariants.{Foreign}
 use Rattle.office_records.specs.declared.fault.RecordFault.{RecordFault}
 use Rattle.office_records.specs.declared.fault.RecordFault.TheVariants.{NoMemory, BadRows}
 use Rattle.office_records.proofs.ReadableLemmas.{not_foreign_in}

@@ -1,5 +1,5 @@
 use Rattle.std.proofs.Common.{◌≡◌, ◌∷◌, ap, rules, subst, sym, []}
-use Rattle.office_tables.specs.Adopting.{tables_of}
+use Rattle.office_tables.specs.Tables.{tables_of}
 use Rattle.office_tables.specs.declared.version.Version.TheVariants.{One}
 use Rattle.office_tables.proofs.TurnLemmas.{ran_weaker}
 use Rattle.office_store.specs.Transactions.{Migrated, RowsMigrated}

@@ -1,7 +1,7 @@
 use Rattle.std.proofs.Common.{rules, ◌≡◌, ◌<◌, ◌++◌, ◌∷◌, map, length, take, None, Some, get_or, ◌∙◌, sym, ap, []}
 use Rattle.std.proofs.lemmas.List.{append-nil, map-append}
-use Rattle.office_tables.specs.declared.slot.SlotRow.{SlotRow}
-use Rattle.office_tables.specs.Inserted.{InsertSlot}
+use Rattle.office_tables.specs.declared.tables.slot.SlotRow.{SlotRow}
+use Rattle.office_tables.specs.Tables.Slot.{InsertSlot}
 use Rattle.office_records.specs.TableRows.{slot_row, slots_from}
 use Rattle.office_store.proofs.CallLemmas.{slots_more, same_row}
 use Rattle.office_store.proofs.drafting.slot_rows.Goals as goal

@@ -1,8 +1,8 @@
 use Rattle.std.proofs.Common.{◌≡◌, List, ◌∷◌, ◌++◌, map, take, Option, sym, ◌∙◌, ap, []}
 use Rattle.std.proofs.lemmas.List.{map-append, take_more}
 use Rattle.office_tables.specs.declared.altering.Both.{Both}
-use Rattle.office_tables.specs.declared.slot.DeleteSlot.{DeleteSlot}
-use Rattle.office_tables.specs.Inserted.{InsertSlot}
+use Rattle.office_tables.specs.declared.tables.slot.DeleteSlot.{DeleteSlot}
+use Rattle.office_tables.specs.Tables.Slot.{InsertSlot}
 use Rattle.office_store.specs.Changes.{move_writes, new_place}
 use Rattle.office_store.proofs.editing.new_places.Goals as goal
 

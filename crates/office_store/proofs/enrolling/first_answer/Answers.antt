@@ -1,5 +1,5 @@
 use Rattle.std.proofs.Common.{true, false, not, sym, ◌∙◌, ap}
-use Rattle.office_tables.specs.Batch.{batch_from}
+use Rattle.office_tables.specs.Tables.Batches.{batch_from}
 use Rattle.office_store.proofs.KeptBatchLemmas.{answer_is, returned_same}
 use Rattle.office_store.proofs.enrolling.first_answer.Goals as goal
 

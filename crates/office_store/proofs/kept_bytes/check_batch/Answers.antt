@@ -5,7 +5,7 @@ use Rattle.std.proofs.lemmas.List.Elements.{recursion_from_All}
 use Rattle.std.proofs.lemmas.Result.{on_ok_weaker}
 use Rattle.exam_lists.proofs.Results.{OnOk_any}
 use Rattle.sqlite_trees.proofs.ListLemmas.{all-filter}
-use Rattle.office_tables.specs.Tables.{Batch}
+use Rattle.office_tables.specs.Tables.Batches.{Batch}
 use Rattle.office_model.specs.declared.fault.StoreFault.{StoreFault}
 use Rattle.office_model.specs.declared.fault.StoreFault.TheVariants.{BadSchema}
 use Rattle.office_records.specs.FoundBatches.{IsShort}

@@ -2,8 +2,8 @@ use Rattle.std.proofs.Common.{◌≡◌, All, Err, filter, eqb, rules, subst, ar
 use Rattle.std.specs.List.{AllByRecursion}
 use Rattle.std.proofs.lemmas.List.{take_all}
 use Rattle.std.proofs.lemmas.List.Elements.{All-more}
-use Rattle.office_tables.specs.Tables.{Batch}
-use Rattle.office_tables.specs.declared.batch.BatchCountsRow.{BatchCountsRow}
+use Rattle.office_tables.specs.Tables.Batches.{Batch}
+use Rattle.office_tables.specs.declared.tables.batch.BatchCountsRow.{BatchCountsRow}
 use Rattle.office_records.specs.FoundBatches.{IsShort}
 use Rattle.office_records.proofs.BatchRowLemmas.{no_row, short_by_rows}
 use Rattle.office_store.proofs.RunLemmas.{clean_before}

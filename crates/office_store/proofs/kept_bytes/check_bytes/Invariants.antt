@@ -6,7 +6,7 @@ use Rattle.office_tables.specs.Readers.{LeavesFile}
 use Rattle.office_tables.specs.Tables.{Tables}
 use Rattle.office_tables.specs.TablesHeld.{HoldsSomeTables, HoldsTablesIn}
 use Rattle.office_tables.specs.declared.version.Version.{Version}
-use Rattle.office_tables.specs.declared.batch.BatchCountsRow.{BatchCountsRow}
+use Rattle.office_tables.specs.declared.tables.batch.BatchCountsRow.{BatchCountsRow}
 use Rattle.office_model.specs.declared.fault.StoreFault.{StoreFault}
 use Rattle.office_records.specs.FoundBatches.{IsShort}
 use Rattle.office_store.proofs.kept_bytes.check_bytes.Given as goal

@@ -1,8 +1,8 @@
 use Rattle.std.proofs.Common.{◌≡◌, ℕ, List, ◌++◌, ◌∷◌, map, take, get_or, sym, ◌∙◌, ap, []}
 use Rattle.std.proofs.lemmas.List.{append-nil, get_or_default, map-append}
 use Rattle.exam_model.specs.Pairs.{pairs_at}
-use Rattle.office_tables.specs.Inserted.{InsertEnrol}
-use Rattle.office_tables.specs.declared.enrol.EnrolRow.{EnrolRow}
+use Rattle.office_tables.specs.Tables.Enrol.{InsertEnrol}
+use Rattle.office_tables.specs.declared.tables.enrol.EnrolRow.{EnrolRow}
 use Rattle.office_records.specs.TableRows.{enrol_row}
 use Rattle.office_store.proofs.LoadLemmas.{added}
 use Rattle.office_store.proofs.loading.add_rows.Goals as goal

@@ -4,8 +4,8 @@ use Rattle.std.proofs.lemmas.List.{take_all}
 use Rattle.std.proofs.lemmas.List.Sorted.{IsPermutation-map, IsPermutation-sym}
 use Rattle.exam_model.specs.Enrolments.{students}
 use Rattle.exam_model.specs.Pairs.{pairs_at, pairs_of}
-use Rattle.office_tables.specs.declared.enrol.EnrolRow.{EnrolRow}
-use Rattle.office_tables.specs.Inserted.{InsertEnrol}
+use Rattle.office_tables.specs.declared.tables.enrol.EnrolRow.{EnrolRow}
+use Rattle.office_tables.specs.Tables.Enrol.{InsertEnrol}
 use Rattle.office_records.specs.TableRows.{enrol_row}
 use Rattle.office_store.proofs.LoadLemmas.{exam_added}
 use Rattle.office_store.proofs.loading.enrol_rows.Goals as goal

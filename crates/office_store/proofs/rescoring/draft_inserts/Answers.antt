@@ -2,8 +2,8 @@ use Rattle.std.proofs.Common.{None, arith, map, subst, sym}
 use Rattle.std.specs.List.{AllByRecursion}
 use Rattle.std.proofs.lemmas.List.Elements.{All-from_recursion}
 use Rattle.std.proofs.lemmas.List.{get_or_default, get_or_past}
-use Rattle.office_tables.specs.Draft.{AreAmounts}
-use Rattle.office_tables.specs.declared.draft.InsertDraft.{InsertDraft}
+use Rattle.office_tables.specs.Tables.Draft.{AreAmounts}
+use Rattle.office_tables.specs.declared.tables.draft.InsertDraft.{InsertDraft}
 use Rattle.office_store.proofs.FillingLemmas.{AreFirstRows, all_rows, more_rows, no_rows}
 use Rattle.office_store.proofs.rescoring.draft_inserts.Goals as goal
 

@@ -1,6 +1,6 @@
 use Rattle.std.specs.List.{AllByRecursion}
 use Rattle.std.specs.Prelude.{map}
-use Rattle.office_tables.specs.Draft.{AreAmounts}
+use Rattle.office_tables.specs.Tables.Draft.{AreAmounts}
 use Rattle.office_store.proofs.FillingLemmas.{AreFirstRows}
 use Rattle.office_store.proofs.rescoring.draft_inserts.Given as goal
 

@@ -1,7 +1,7 @@
 use Rattle.std.proofs.Common.{◌+◌, ◌++◌, ◌∙◌, Vec, Global, drop, false, true, sym, ap}
 use Rattle.std.proofs.lemmas.List.{append-nil}
 use Rattle.std.proofs.Math.ListN.{drop_of_length-le}
-use Rattle.office_tables.specs.declared.placed.PlacedRow.{PlacedRow}
+use Rattle.office_tables.specs.declared.tables.placed.PlacedRow.{PlacedRow}
 use Rattle.office_store.specs.ChangedPlacements.{changed_rows}
 use Rattle.office_store.proofs.ChangedPlacementLemmas.{next_changed}
 use Rattle.office_store.proofs.rewritten_places.changed_rows.Goals as goal

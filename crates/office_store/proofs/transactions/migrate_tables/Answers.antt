@@ -6,7 +6,8 @@ use Rattle.sqlite.specs.State.{State}
 use Rattle.office_tables.specs.Alterations.{IsWritten, TransactionRan}
 use Rattle.office_tables.specs.Steps.{Establishes}
 use Rattle.office_tables.specs.TablesHeld.{HoldsTables, HoldsOldTables}
-use Rattle.office_tables.specs.Tables.{Meta, Tables, empty_tables}
+use Rattle.office_tables.specs.Tables.Metadata.{Meta}
+use Rattle.office_tables.specs.Tables.{Tables, empty_tables}
 use Rattle.office_tables.proofs.TurnLemmas.{IsOfRows, done_by, survives_by, undone_by, written_in}
 use Rattle.office_store.proofs.transactions.migrate_tables.Goals as goal
 

@@ -1,5 +1,5 @@
 use Rattle.std.proofs.Common.{ap, map, sym, ◌∙◌}
-use Rattle.office_tables.specs.declared.enrol.EnrolRow.{EnrolRow}
+use Rattle.office_tables.specs.declared.tables.enrol.EnrolRow.{EnrolRow}
 use Rattle.office_store.specs.Judging.{plain_list}
 use Rattle.office_store.specs.Viewing.{place_in_row}
 use Rattle.office_store.proofs.PublishedReadLemmas.{returned_fault}

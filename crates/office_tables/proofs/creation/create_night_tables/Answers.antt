@@ -1,7 +1,9 @@
 use Rattle.std.proofs.Common.{[], ◌∷◌, refl, subst}
 use Rattle.sqlite.specs.Listing.{understood}
 use Rattle.sqlite_tied.specs.Compute.{everything}
-use Rattle.office_schema.specs.Schema.{night_draft_table, night_share_table, schema_before}
+use Rattle.office_tables.specs.Tables.Draft.{night_draft_table}
+use Rattle.office_tables.specs.Tables.ShareStudent.{night_share_table}
+use Rattle.office_tables.specs.Tables.{schema_before}
 use Rattle.office_tables.specs.Schema.{HasRows}
 use Rattle.office_tables.specs.Steps.{StepEstablishes}
 use Rattle.office_tables.proofs.Creates.{whole}

@@ -1,7 +1,7 @@
 use Rattle.std.proofs.Common.{[], refl, subst}
 use Rattle.sqlite.specs.Listing.{understood}
 use Rattle.sqlite_tied.specs.Compute.{everything}
-use Rattle.office_schema.specs.Schema.{schema_before}
+use Rattle.office_tables.specs.Tables.{schema_before}
 use Rattle.office_tables.specs.Schema.{IsBlank, no_schema}
 use Rattle.office_tables.specs.Steps.{StepEstablishes}
 use Rattle.office_tables.proofs.Creates.{ten}

@@ -1,5 +1,5 @@
 use Rattle.std.proofs.Common.{◌≡◌, true, false, rules}
-use Rattle.office_tables.specs.declared.enrol.EnrolRow.{EnrolRow}
+use Rattle.office_tables.specs.declared.tables.enrol.EnrolRow.{EnrolRow}
 use Rattle.office_store.proofs.BatchPuttingLemmas.{line_comes, line_goes}
 use Rattle.office_store.proofs.StepLemmas.{changes_as}
 use Rattle.office_store.proofs.new_batch.LineWriteAlteration.apply.Goals as goal

@@ -1,6 +1,6 @@
 use Rattle.std.proofs.Common.{◌==◌, filter, subst, IsPermutation}
 use Rattle.sqlite.specs.Held.{state}
-use Rattle.office_tables.specs.declared.share_student.StudentShareRow.{StudentShareRow}
+use Rattle.office_tables.specs.declared.tables.share_student.StudentShareRow.{StudentShareRow}
 use Rattle.office_store.specs.OfficeRows.{student_rows_in}
 use Rattle.office_model.specs.Shown.{shown_penalty}
 use Rattle.office_model.specs.Views.{view_of}

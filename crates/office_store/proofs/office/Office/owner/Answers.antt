@@ -1,6 +1,6 @@
 use Rattle.std.proofs.Common.{ap, map, subst, ◌==◌, ◌∙◌, filter, IsPermutation}
 use Rattle.sqlite.specs.Held.{state}
-use Rattle.office_tables.specs.declared.owner.OwnerRow.{OwnerRow}
+use Rattle.office_tables.specs.declared.tables.owner.OwnerRow.{OwnerRow}
 use Rattle.office_model.specs.Commands.{owner_in}
 use Rattle.office_store.specs.Running.{Represents}
 use Rattle.office_store.proofs.CommandLemmas.{shown, stays_by}

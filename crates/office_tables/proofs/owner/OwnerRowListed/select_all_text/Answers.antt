@@ -1,5 +1,0 @@
-use Rattle.office_tables.proofs.ListTexts.{owner_lists}
-use Rattle.office_tables.proofs.owner.OwnerRowListed.select_all_text.Goals as goal
-
-pub returns : goal.returns
-returns c version = owner_lists version

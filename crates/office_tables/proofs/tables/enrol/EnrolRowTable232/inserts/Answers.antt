@@ -1,0 +1,10 @@
+use Rattle.std.proofs.lemmas.Grind.{common_steps}
+use Rattle.std.proofs.Common.{arith}
+use Rattle.sqlite.specs.Listing.{understood}
+use Rattle.sqlite_tied.specs.Compute.{everything}
+use Rattle.office_tables.proofs.Rows.{enrols}
+use Rattle.office_tables.proofs.tables.enrol.EnrolRowTable232.inserts.Goals as goal
+
+pub returns : goal.returns
+unfolding understood everything
+returns c = grind (arith, common_steps, enrols)
