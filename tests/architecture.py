@@ -41,6 +41,9 @@ SAID_SHIFT = ("office_files", "    word << (56 - 8 * count) << 8 ")
 OF_LISTS = {"List", "Option", "Result", "Ordering", "IsPermutation", "∷", "++", "map"}
 # It is one on a number's digits, or on a stream, if it names one of these.
 OF_TEXTS = {"decimal", "padded_integral", "AllBelowBase", "number_l", "Consumes"}
+# The pages that know the rows with amounts over night, which are in two tables each.
+OF_NIGHTS = {"src/joined_share.rt", "specs/Adopting.antt", "specs/TablesHeld.antt"}
+NIGHT_ROWS = {"DraftRow", "StudentShareRow"}
 CODE_USE = re.compile(r"^\s*(?:pub(?:\([a-z]+\))?\s+)?use\s+([a-z][a-z0-9_]*)", re.M)
 
 
@@ -155,6 +158,23 @@ def lemmas_of_lists_have_one_home(crates, knows):
                     yield f"{path.relative_to(TOP)}: {name} names no word but std's"
 
 
+def a_table_has_four_files(crates, knows):
+    """The type of a table's rows is named in the table's own file and page, and in those of all
+    tables; if it has amounts over night, also where its two tables are joined."""
+    top = TOP / "crates" / "office_tables"
+    texts = {path.relative_to(top).as_posix(): without_comments(path)
+             for path in files_of("office_tables", ["src", "specs"])}
+    for own in [name for name in texts if name.startswith("src/tables/")]:
+        for row in re.findall(r"^pub struct (\w+Row)\b", texts[own], re.M):
+            naming = {name for name, text in texts.items() if re.search(rf"\b{row}\b", text)}
+            naming -= OF_NIGHTS if row in NIGHT_ROWS else set()
+            pages = {name for name in naming if name.startswith("specs/Tables/")}
+            for name in sorted(naming - pages - {own, "src/tables.rt", "specs/Tables.antt"}):
+                yield f"crates/office_tables/{name} names {row}"
+            if len(pages) > 1:
+                yield f"{row} is named in {len(pages)} pages of specs/Tables/"
+
+
 INVARIANTS = [
     session_knows_no_file_and_no_database,
     only_the_calendar_loads_jiff,
@@ -163,6 +183,7 @@ INVARIANTS = [
     main_knows_the_program_alone,
     no_arithmetic_wraps,
     lemmas_of_lists_have_one_home,
+    a_table_has_four_files,
 ]
 
 
