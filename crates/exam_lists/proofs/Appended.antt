@@ -1,5 +1,6 @@
 -- Texts that are appended one after another.
-use Rattle.std.proofs.Common.{List, [], ap, append-nil, append_assoc, length, length-append, refl, ◌++◌, ◌+◌, ◌∙◌, ◌∷◌, ◌≡◌}
+use Rattle.std.proofs.lemmas.Grind.{common_steps}
+use Rattle.std.proofs.Common.{List, [], ap, append-nil, append_assoc, length, length-append, ◌++◌, ◌+◌, ◌∙◌, ◌∷◌, ◌≡◌, arith}
 
 -- one more text
 pub appended : {X : Type 0} {s t u : List X} (xs : List X) → t ≡ s → u ≡ t ++ xs → u ≡ s ++ xs
@@ -17,14 +18,7 @@ six_nested a b c d e f = rw (append-nil f) (simp append_assoc)
 
 pub length_six : {X : Type 0} (a b c d e f : List X) → length (a ++ b ++ c ++ d ++ e ++ f)
     ≡ length a + length b + length c + length d + length e + length f
-length_six a b c d e f =
-    rw (
-      length-append (a ++ b ++ c ++ d ++ e) f,
-      length-append (a ++ b ++ c ++ d) e,
-      length-append (a ++ b ++ c) d,
-      length-append (a ++ b) c,
-      length-append a b,
-    ) refl
+length_six a b c d e f = grind (arith, common_steps, length-append)
 
 pub append_under_first : {X : Type 0} (a b c d e : List X)
     → (((a ++ b) ++ c) ++ d) ++ e ≡ a ++ (((b ++ c) ++ d) ++ e)
@@ -43,13 +37,9 @@ pub three_appended : {X : Type 0} (x : X) (empty a a2 b b2 c c2 : List X) → em
     → b ≡ b2 → c ≡ c2
     → empty ++ (a ++ (x ∷ (b ++ (x ∷ c)))) ≡ a2 ++ (x ∷ []) ++ b2 ++ (x ∷ []) ++ c2
 three_appended x empty a a2 b b2 c c2 none first second third =
-    let same : empty ++ (a ++ (x ∷ (b ++ (x ∷ c)))) ≡ a2 ++ (x ∷ (b2 ++ (x ∷ c2))) = cc in
-    same ∙ append_between x a2 b2 c2
+    grind (arith, common_steps, append_between)
 
 -- three texts with an element between them, one before and two after
 pub append_around : {X : Type 0} (x : X) (a b c d e f : List X)
     → a ++ ((b ++ x ∷ (c ++ x ∷ d)) ++ (e ++ f)) ≡ ((((a ++ b) ++ x ∷ c) ++ x ∷ d) ++ e) ++ f
-append_around {X} x a b c d e f = simp (append_assoc, cons-append)
-  where
-    cons-append : (y : X) (xs ys : List X) → (y ∷ xs) ++ ys ≡ y ∷ (xs ++ ys)
-    cons-append y xs ys = refl
+append_around {X} x a b c d e f = grind (arith, common_steps, append_assoc)

@@ -1,5 +1,6 @@
 -- Tests, and numbers that depend on one.
-use Rattle.std.proofs.Common.{Bool, ap, arith, cond, eqb, false, inl, inr, le-ltb, lt-ltb, ltb, not, one-mul, refl, sym, true, zero-mul, ℕ, ◌&&◌, ◌*◌, ◌+◌, ◌∙◌, ◌≡◌, ◌≤◌, zero-add, add-zero, IsTrue}
+use Rattle.std.proofs.lemmas.Grind.{common_steps}
+use Rattle.std.proofs.Common.{Bool, ap, arith, cond, eqb, false, le-ltb, lt-ltb, ltb, not, one-mul, refl, sym, true, zero-mul, ℕ, ◌&&◌, ◌*◌, ◌+◌, ◌∙◌, ◌≡◌, ◌≤◌, zero-add, add-zero, IsTrue}
 use Rattle.std.proofs.lemmas.Bool.{cases_lt, cond-false, cond-true}
 use Rattle.std.proofs.lemmas.Bool.Decides.{nat_tests}
 use Rattle.std.specs.Prelude.{◌||◌, MatchBool}
@@ -65,10 +66,7 @@ cond_one_le false = omega arith
 pub cond_below_or_none : (amount : ℕ → ℕ) (x n : ℕ) → (n ≤ x → amount x ≡ 0)
     → cond (ltb x n) (amount x) 0 ≡ amount x
 cond_below_or_none amount x n past =
-    elim (cases_lt x n) as (λ _. cond (ltb x n) (amount x) 0 ≡ amount x) [
-      | inl less ↦ cond-true (ltb x n) (amount x) 0 (lt-ltb x n less)
-      | inr more ↦ cond-false (ltb x n) (amount x) 0 (le-ltb x n more) ∙ sym (past more)
-    ]
+    grind (arith, common_steps, cases_lt, cond-false, cond-true, le-ltb, lt-ltb)
 
 -- one more at most
 pub count_new_le : (before here : Bool) (n k e : ℕ) → k ≡ cond (here && not before) 1 0
@@ -101,13 +99,7 @@ cond_and_swap false b = cond_swap false b
 
 pub cond_and_turned : (a b c : Bool) (n : ℕ) → cond c (cond (a && b) n 0) 0
     ≡ cond b (cond c (cond a n 0) 0) 0
-cond_and_turned a b c n =
-    elim a as (λ a. cond c (cond (a && b) n 0) 0 ≡ cond b (cond c (cond a n 0) 0) 0) [
-      | true ↦ elim b as (λ b. cond c (cond b n 0) 0 ≡ cond b (cond c n 0) 0)
-          [ true ↦ refl | false ↦ cond_same c 0 ]
-      | false ↦ elim b as (λ b. ◌≡◌ {A = ℕ} (cond c 0 0) (cond b (cond c 0 0) 0))
-          [ true ↦ refl | false ↦ cond_same c 0 ]
-    ]
+cond_and_turned a b c n = grind (arith, common_steps, cond_same)
 
 -- an amount if a test passes and another doesn't
 pub cond_and_not : (a b : Bool) (n : ℕ) → cond a (cond b 0 n) 0 ≡ cond (a && not b) n 0

@@ -1,6 +1,7 @@
 -- Lists each of whose elements is related to all later ones.
+use Rattle.std.proofs.lemmas.Grind.{common_steps}
 use Rattle.exam_lists.proofs.Each.{each_at_middle, each_both, each_filter, each_filter_map, each_map, each_push, each_unmap, each_weaker}
-use Rattle.std.proofs.Common.{AllPairs, Bool, List, None, Option, Some, [], add-one, arith, cond, false, filter, filter_map, get_or, length, map, suc, true, ℕ, ◌++◌, ◌+◌, ◌<◌, ◌∷◌, ◌≡◌, ◌≤◌}
+use Rattle.std.proofs.Common.{AllPairs, Bool, List, None, Option, Some, [], add-one, arith, filter, filter_map, get_or, length, map, suc, ℕ, ◌++◌, ◌+◌, ◌<◌, ◌∷◌, ◌≡◌, ◌≤◌}
 use Rattle.std.proofs.lemmas.List.Elements.{All-from_recursion, recursion_from_All}
 use Rattle.std.proofs.lemmas.List.Kept.{AllPairs-cons}
 use Rattle.std.specs.List.{AllByRecursion, cons_option}
@@ -82,11 +83,7 @@ chain_unmap R f (x ∷ xs) h = (each_unmap (R (f x)) f xs h.0, chain_unmap R f x
 pub chain_filter : {X : Type 0} (R : X → X → Type 0) (t : X → Bool) (xs : List X) → IsChain R xs
     → IsChain R (filter t xs)
 chain_filter R t [] h = tt
-chain_filter R t (x ∷ xs) h = go (t x) (chain_filter R t xs h.1)
-  where
-    go : (b : Bool) → IsChain R (filter t xs) → IsChain R (cond b (x ∷ filter t xs) (filter t xs))
-    go true more = (each_filter (R x) t xs h.0, more)
-    go false more = more
+chain_filter R t (x ∷ xs) h = grind (arith, common_steps, chain_filter R t xs h.1, each_filter)
 
 pub chain_filter_map : {X Y : Type 0} (R : Y → Y → Type 0) (f : X → Option Y) (xs : List X)
     → IsChain (λ x y. IfSome (f x) (λ r. IfSome (f y) (R r))) xs → IsChain R (filter_map f xs)

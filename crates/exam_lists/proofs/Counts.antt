@@ -1,6 +1,7 @@
 -- How many elements pass a test.
+use Rattle.std.proofs.lemmas.Grind.{common_steps}
 use Rattle.exam_lists.proofs.Sums.{sum_by-ones, sum_by-zeros}
-use Rattle.std.proofs.Common.{Bool, List, [], ap, arith, cond, count_by, drop, false, get_or, if◌then◌else◌, length, nat_lt, refl, suc, take, true, ℕ, ◌+◌, ◌<◌, ◌||◌, ◌∙◌, ◌∷◌, ◌≡◌, ◌≤◌}
+use Rattle.std.proofs.Common.{Bool, List, [], ap, arith, cond, count_by, false, get_or, length, nat_lt, refl, suc, take, true, ℕ, ◌+◌, ◌<◌, ◌∷◌, ◌≡◌, ◌≤◌, rules}
 use Rattle.std.proofs.lemmas.Bool.{false≢true}
 use Rattle.std.proofs.lemmas.Bool.Decides.{nat_tests}
 use Rattle.std.proofs.lemmas.List.{get_or-drop, length-drop}
@@ -25,11 +26,7 @@ pub count_by-take : {X : Type 0} (t : X → Bool) (xs : List X) (i : ℕ)
     → ((k : ℕ) (d : X) → i ≤ k → k < length xs → t (get_or xs k d) ≡ false)
     → count_by t xs ≡ count_by t (take i xs)
 count_by-take t xs i none =
-    let rest : count_by t (drop i xs) ≡ 0 =
-    count_by-none t (drop i xs) (λ k d lt.
-    let within : i + k < length xs = (let l = length-drop i xs in omega (arith, l, lt)) in
-    ap t (get_or-drop i xs k d) ∙ none (i + k) d (omega arith) within) in
-    omega (arith, sum_by-take-drop (λ y. cond (t y) 1 0) xs i, rest)
+    search (rules, count_by-none, get_or-drop, length-drop, sum_by-take-drop)
 
 -- tests that always fail, or pass
 pub count_by-never : {X : Type 0} (xs : List X) → count_by (λ x. false) xs ≡ 0
@@ -41,13 +38,7 @@ count_by-always xs = sum_by-ones xs
 -- some element passes exactly if more than none do
 pub count_by_any : {X : Type 0} (p : X → Bool) (xs : List X) → nat_lt 0 (count_by p xs) ≡ list_any p xs
 count_by_any p [] = refl
-count_by_any p (x ∷ xs) =
-    ap (λ n. nat_lt 0 n) (sum_by-cons (λ y. if p y then 1 else 0) x xs)
-    ∙ go (p x) (count_by p xs) ∙ ap (λ b. p x || b) (count_by_any p xs)
-  where
-    go : (b : Bool) (n : ℕ) → nat_lt 0 ((if b then 1 else 0) + n) ≡ (b || nat_lt 0 n)
-    go true n = grind (arith, nat_tests)
-    go false n = grind (arith, nat_tests)
+count_by_any p (x ∷ xs) = grind (arith, common_steps, count_by_any p xs, sum_by-cons)
 
 cond_le_cond : (b d : Bool) → (b ≡ true → d ≡ true) → ◌≤◌ (cond b 1 0) (cond d 1 0)
 cond_le_cond false d h = omega arith
@@ -57,9 +48,7 @@ cond_le_cond true false h = absurd (false≢true (h refl))
 -- a test that passes more often
 pub count_by-le : {X : Type 0} (p q : X → Bool) (xs : List X) → ((x : X) → p x ≡ true → q x ≡ true)
     → count_by p xs ≤ count_by q xs
-count_by-le p q xs h =
-    sum_by-le-sum_by (λ x. cond (p x) 1 0) (λ x. cond (q x) 1 0) xs
-    (λ x. cond_le_cond (p x) (q x) (h x))
+count_by-le p q xs h = grind (arith, common_steps, cond_le_cond, sum_by-le-sum_by)
 
 le_parts : (t x : ℕ)
     → ◌≡◌ {A = ℕ} (cond (nat_le t x) 1 0) (cond (nat_lt t x) 1 0 + cond (x == t) 1 0)
@@ -70,9 +59,4 @@ pub count_by-reaches : (t : ℕ) (xs : List ℕ)
     → count_by (λ x. nat_le t x) xs ≡ count_by (λ x. nat_lt t x) xs + count_by (λ x. x == t) xs
 count_by-reaches t [] = refl
 count_by-reaches t (x ∷ xs) =
-    let rest = count_by-reaches t xs in
-    let here = le_parts t x in
-    let le = sum_by-cons (λ y. cond (nat_le t y) 1 0) x xs in
-    let lt = sum_by-cons (λ y. cond (nat_lt t y) 1 0) x xs in
-    let equal = sum_by-cons (λ y. cond (y == t) 1 0) x xs in
-    omega (arith, rest, here, le, lt, equal)
+    grind (arith, common_steps, count_by-reaches t xs, le_parts, sum_by-cons)

@@ -1,5 +1,5 @@
 -- Texts of decimal digits.
-use Rattle.std.proofs.Common.{Bool, List, [], arith, false, get_or, length, refl, sym, true, ℕ, ◌-◌, ◌<◌, ◌∙◌, ◌∷◌, ◌≡◌, ◌≤◌, take}
+use Rattle.std.proofs.Common.{List, [], arith, get_or, length, refl, true, ℕ, ◌-◌, ◌<◌, ◌∷◌, ◌≡◌, ◌≤◌, take, rules}
 use Rattle.std.proofs.lemmas.Bool.Decides.{nat_tests}
 use Rattle.std.proofs.lemmas.Grind.{common_steps}
 use Rattle.std.proofs.lemmas.List.Folds.{list_all_at}
@@ -24,33 +24,24 @@ value_of_digit d e = grind (arith, nat_tests)
 -- each byte of a text of digits is one
 pub digit_at : (ds : List ℕ) (i : ℕ) → list_all is_ascii_digit ds ≡ true → i < length ds
     → is_ascii_digit (get_or ds i 0) ≡ true
-digit_at ds i all inside = go (is_ascii_digit (get_or ds i 0)) refl
-  where
-    go : (b : Bool) → is_ascii_digit (get_or ds i 0) ≡ b → is_ascii_digit (get_or ds i 0) ≡ true
-    go true e = e
-    go false e = e ∙ sym (list_all_at is_ascii_digit ds i 0 inside e) ∙ all
+digit_at ds i all inside = grind (arith, common_steps, list_all_at)
 
 -- a text of digits, by the test and by their values
 pub AllDigits-from_test : (ds : List ℕ) → list_all is_ascii_digit ds ≡ true → AllDigits 10 ds
 AllDigits-from_test [] h = tt
 AllDigits-from_test (d ∷ ds) h =
-    let first = digit_at (d ∷ ds) 0 h (omega arith) in
-    let rest : list_all is_ascii_digit ds ≡ true = grind (arith, nat_tests) in
-    let value = value_of_digit d first in
-    (omega (arith, value.2, value.1), AllDigits-from_test ds rest)
+    search (rules, AllDigits-from_test ds (grind (arith, nat_tests)), digit_at, value_of_digit)
 
 pub test-from_AllDigits : (ds : List ℕ) → AllDigits 10 ds → list_all is_ascii_digit ds ≡ true
 test-from_AllDigits [] all = refl
 test-from_AllDigits (b ∷ bs) all =
-    let range = digit_from_value b all.0 in
-    rw (is_digit b range.0 range.1) (test-from_AllDigits bs all.1)
+    grind (arith, common_steps, test-from_AllDigits bs all.1, digit_from_value)
 
 -- nine digits write less than 10 ^ 9
 pub nine_digits : (ds : List ℕ) → list_all is_ascii_digit ds ≡ true → length ds ≤ 9 →
     digits_value 10 ds < 1000000000
 nine_digits ds h short =
-    let bound = pow-le-pow_right {n = 10} (omega arith) short in
-    omega (arith, digits_value-lt 10 ds (AllDigits-from_test ds h), bound)
+    grind (arith, common_steps, AllDigits-from_test, digits_value-lt, pow-le-pow_right)
 
 -- the value of the first digits is below 10 ^ 9 too
 pub nine_digits_front : (ds : List ℕ) (i n : ℕ) → list_all is_ascii_digit ds ≡ true → length ds ≤ 9 →

@@ -1,7 +1,8 @@
 -- A fact of each element, along a list.
-use Rattle.std.proofs.Common.{Bool, List, None, Option, Some, [], cond, false, filter, filter_map, map, refl, suc, sym, take, true, true≢false, zero, ℕ, ◌++◌, ◌∙◌, ◌∷◌, ◌≡◌}
+use Rattle.std.proofs.lemmas.Grind.{common_steps}
+use Rattle.std.proofs.Common.{Bool, List, Option, [], cond, false, filter, filter_map, map, refl, suc, take, true, zero, ℕ, ◌++◌, ◌∷◌, ◌≡◌, arith}
 use Rattle.std.proofs.lemmas.List.Elements.{recursion_from_All}
-use Rattle.std.specs.List.{AllByRecursion, cons_option}
+use Rattle.std.specs.List.{AllByRecursion}
 use Rattle.std.specs.Prelude.{All, IfSome}
 
 -- a weaker fact
@@ -35,9 +36,7 @@ each_append_right P (x ∷ xs) ys h = each_append_right P xs ys h.1
 pub each_append_parts : {X : Type 0} (P : X → Type 0) (xs ys : List X) → AllByRecursion P (xs ++ ys)
     → AllByRecursion P xs × AllByRecursion P ys
 each_append_parts P [] ys h = (tt, h)
-each_append_parts P (x ∷ xs) ys h =
-    let both = each_append_parts P xs ys h.1 in
-    ((h.0, both.0), both.1)
+each_append_parts P (x ∷ xs) ys h = grind (arith, common_steps, each_append_parts P xs ys h.1)
 
 pub each_push : {X : Type 0} (P : X → Type 0) (xs : List X) (y : X) → AllByRecursion P xs → P y
     → AllByRecursion P (xs ++ y ∷ [])
@@ -71,43 +70,23 @@ each_unmap P f (x ∷ xs) h = (h.0, each_unmap P f xs h.1)
 pub each_filter : {X : Type 0} (P : X → Type 0) (t : X → Bool) (xs : List X) → AllByRecursion P xs
     → AllByRecursion P (filter t xs)
 each_filter P t [] a = tt
-each_filter P t (x ∷ xs) a = go (t x) (each_filter P t xs a.1)
-  where
-    go : (b : Bool) → AllByRecursion P (filter t xs)
-        → AllByRecursion P (cond b (x ∷ filter t xs) (filter t xs))
-    go true more = (a.0, more)
-    go false more = more
+each_filter P t (x ∷ xs) a = grind (arith, common_steps, each_filter P t xs a.1)
 
 pub each_filter_passes : {X : Type 0} (t : X → Bool) (xs : List X)
     → AllByRecursion (λ x. t x ≡ true) (filter t xs)
 each_filter_passes t [] = tt
-each_filter_passes {X} t (x ∷ xs) = go (t x) refl (each_filter_passes t xs)
-  where
-    go : (b : Bool) → t x ≡ b → AllByRecursion (λ y. t y ≡ true) (filter t xs)
-        → AllByRecursion (λ y. t y ≡ true) (cond b (x ∷ filter t xs) (filter t xs))
-    go true e more = (e, more)
-    go false e more = more
+each_filter_passes {X} t (x ∷ xs) = grind (arith, common_steps, each_filter_passes t xs)
 
 pub each_filter_weaker : {X : Type 0} (P Q : X → Type 0) (t : X → Bool)
     → ((x : X) → P x → t x ≡ true → Q x) → (xs : List X) → AllByRecursion P xs → AllByRecursion Q (filter t xs)
 each_filter_weaker P Q t h [] a = tt
-each_filter_weaker {X} P Q t h (x ∷ xs) a = go (t x) refl (each_filter_weaker P Q t h xs a.1)
-  where
-    go : (b : Bool) → t x ≡ b → AllByRecursion Q (filter t xs)
-        → AllByRecursion Q (cond b (x ∷ filter t xs) (filter t xs))
-    go true e more = (h x a.0 e, more)
-    go false e more = more
+each_filter_weaker {X} P Q t h (x ∷ xs) a =
+    grind (arith, common_steps, each_filter_weaker P Q t h xs a.1)
 
 pub each_from_filter : {X : Type 0} (P : X → Type 0) (q : X → Bool) (xs : List X)
     → AllByRecursion P (filter q xs) → AllByRecursion (λ x. q x ≡ true → P x) xs
 each_from_filter P q [] all = tt
-each_from_filter {X} P q (x ∷ xs) all = go (q x) refl all (each_from_filter P q xs)
-  where
-    go : (b : Bool) → q x ≡ b → AllByRecursion P (cond b (x ∷ filter q xs) (filter q xs))
-        → (AllByRecursion P (filter q xs) → AllByRecursion (λ y. q y ≡ true → P y) xs)
-        → (q x ≡ true → P x) × AllByRecursion (λ y. q y ≡ true → P y) xs
-    go true is h more = (λ _. h.0, more h.1)
-    go false is h more = (λ no. absurd (true≢false (sym no ∙ is)), more h)
+each_from_filter {X} P q (x ∷ xs) all = grind (arith, common_steps, each_from_filter P q xs)
 
 -- if no element passes, a fact of those that fail
 pub each_none_pass : {X : Type 0} (p : X → Bool) (P Q : X → Type 0) → ((x : X) → P x → p x ≡ false → Q x)
@@ -123,12 +102,7 @@ each_none_pass p P Q h (x ∷ xs) e a = go (p x) refl e (λ rest. each_none_pass
 pub each_filter_map : {X Y : Type 0} (P : Y → Type 0) (f : X → Option Y) (xs : List X)
     → AllByRecursion (λ x. IfSome (f x) P) xs → AllByRecursion P (filter_map f xs)
 each_filter_map P f [] h = tt
-each_filter_map P f (x ∷ xs) h = go (f x) h.0 (each_filter_map P f xs h.1)
-  where
-    go : (o : Option _) → IfSome o P → AllByRecursion P (filter_map f xs)
-        → AllByRecursion P (cons_option o (filter_map f xs))
-    go None k more = more
-    go (Some y) k more = (k, more)
+each_filter_map P f (x ∷ xs) h = grind (arith, common_steps, each_filter_map P f xs h.1)
 
 -- by index, and along the list
 pub each_from_All : {X : Type 0} (P Q : X → Type 0) → ((x : X) → P x → Q x) → (xs : List X) → All P xs

@@ -1,5 +1,6 @@
 -- The values of a function along a list, and its lists one after the other.
-use Rattle.std.proofs.Common.{List, [], ap, append_assoc, ap₂, arith, length, length-append, map, refl, suc, suc-mul, sym, take, ℕ, ◌*◌, ◌++◌, ◌+◌, ◌∙◌, ◌∷◌, ◌≡◌, ◌≤◌}
+use Rattle.std.proofs.lemmas.Grind.{common_steps}
+use Rattle.std.proofs.Common.{List, [], ap, append_assoc, ap₂, arith, length, length-append, map, refl, suc-mul, sym, take, ℕ, ◌*◌, ◌++◌, ◌+◌, ◌∙◌, ◌∷◌, ◌≡◌, ◌≤◌, rules}
 use Rattle.std.proofs.lemmas.List.{append-nil, flat_map_more, map-append, take_all, take_more}
 use Rattle.std.proofs.lemmas.List.Concat.{flat_map-cons}
 use Rattle.std.proofs.lemmas.Option.{get_or_from_slice_get, slice_get_within}
@@ -26,9 +27,7 @@ map_same f same (x ∷ xs) = ap₂ (λ y ys. y ∷ ys) (same x) (map_same f same
 pub map_back : {X Y : Type 0} (put : X → Y) (row : Y → X) → ((x : X) → row (put x) ≡ x)
     → (xs : List X) → map row (map put xs) ≡ xs
 map_back put row is [] = refl
-map_back {X} put row is (x ∷ xs) =
-    ap (λ y. y ∷ map row (map put xs)) (is x)
-    ∙ ap (λ (l : List X). x ∷ l) (map_back put row is xs)
+map_back {X} put row is (x ∷ xs) = grind (arith, common_steps, map_back put row is xs)
 
 pub map_to_nil : {A B : Type 0} (f : A → B) (xs : List A) → map f xs ≡ [] → xs ≡ []
 map_to_nil f [] e = refl
@@ -57,12 +56,7 @@ pub length_flat_map-le : {X Y : Type 0} (f : X → List Y) (k : ℕ) (xs : List 
     → AllByRecursion (λ x. length (f x) ≤ k) xs → length (flat_map f xs) ≤ length xs * k
 length_flat_map-le f k [] short = omega arith
 length_flat_map-le f k (x ∷ xs) short =
-    let more = length_flat_map-le f k xs short.1 in
-    let both : length (flat_map f (x ∷ xs)) ≡ length (f x) + length (flat_map f xs)
-    = ap length (flat_map-cons f x xs) ∙ length-append (f x) (flat_map f xs) in
-    let first : length (f x) ≤ k = short.0 in
-    let times : suc (length xs) * k ≡ length xs * k + k = suc-mul (length xs) k in
-    omega arith
+    search (rules, length_flat_map-le f k xs short.1, flat_map-cons, length-append, suc-mul)
 
 -- the lists of the first elements, with one more
 pub flat_map_take_more : {X Y : Type 0} (f : X → List Y) (start t t' : List Y) (xs : List X) (i : ℕ)
@@ -80,9 +74,7 @@ flat_map_take_more f start t t' xs i x at was now =
 pub flat_map_take_all : {X Y : Type 0} (f : X → List Y) (s head t : List Y) (xs : List X) (n : ℕ)
     → length xs ≤ n → t ≡ (s ++ head) ++ flat_map f (take n xs)
     → t ≡ s ++ (head ++ flat_map f xs)
-flat_map_take_all f s head t xs n all is =
-    is ∙ ap (λ ys. (s ++ head) ++ flat_map f ys) (take_all n xs all)
-    ∙ append_assoc s head (flat_map f xs)
+flat_map_take_all f s head t xs n all is = grind (arith, common_steps, append_assoc, take_all)
 
 -- equal images are of equal elements, if an element is read back from its image
 pub same_unmapped : {X Y : Type 0} (put : X → Y) (row : Y → X) → ((x : X) → row (put x) ≡ x)

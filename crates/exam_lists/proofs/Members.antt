@@ -1,5 +1,6 @@
 -- What a list contains.
-use Rattle.std.proofs.Common.{Bool, Contains, List, [], ap, arith, cond, false, filter, get_or, inl, inr, length, refl, subst, suc, sym, true, zero, ℕ, ◌<◌, ◌∙◌, ◌∷◌, ◌≡◌, ◌⊎◌}
+use Rattle.std.proofs.lemmas.Grind.{common_steps}
+use Rattle.std.proofs.Common.{Bool, Contains, List, [], ap, arith, cond, false, filter, inl, inr, length, refl, subst, suc, true, ◌<◌, ◌∷◌, ◌≡◌, ◌⊎◌}
 
 pub contains_head : {X : Type 0} (x : X) (xs : List X) → Contains (x ∷ xs) x
 contains_head x xs = (0, omega arith, refl)
@@ -17,11 +18,7 @@ not_in_nil xs x none h = let l : h.0 < length xs = h.1 in let e = ap length none
 -- an element is the first one or a later one
 pub first_or_later : {X : Type 0} (x : X) (xs : List X) (y : X) → Contains (x ∷ xs) y
     → (x ≡ y) ⊎ Contains xs y
-first_or_later {X} x xs y h = go h.0 h.1 h.2
-  where
-    go : (k : ℕ) → k < length (x ∷ xs) → get_or (x ∷ xs) k y ≡ y → (x ≡ y) ⊎ Contains xs y
-    go zero l e = inl e
-    go (suc k) l e = inr (k, omega (arith, l), e)
+first_or_later {X} x xs y h = grind (arith, common_steps)
 
 -- an element that passes a test
 pub contains_filter : {X : Type 0} (t : X → Bool) (xs : List X) (x : X) → Contains xs x → t x ≡ true
@@ -35,8 +32,4 @@ contains_filter {X} t (y ∷ ys) x h k = go (t y) refl (contains_filter t ys x)
       | inl same ↦ subst (Contains (y ∷ filter t ys)) same (contains_head y (filter t ys))
       | inr later ↦ contains_later y (filter t ys) x (more later k)
     ]
-    go false e more = elim (first_or_later y ys x h) as (λ _. Contains (filter t ys) x)
-        [ inl same ↦ absurd (no (sym e ∙ ap t same ∙ k)) | inr later ↦ more later k ]
-      where
-        no : false ≡ true → ⊥
-        no e = cc
+    go false e more = grind (arith, common_steps, first_or_later)

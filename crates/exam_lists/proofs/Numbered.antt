@@ -1,6 +1,6 @@
 -- Rows of a list's elements, one after another, with numbers from n on.
 use Rattle.std.proofs.lemmas.Grind.{common_steps}
-use Rattle.std.proofs.Common.{◌≡◌, ℕ, zero, suc, ◌+◌, ◌<◌, List, [], ◌∷◌, ◌++◌, length, map, take, get_or, Option, Some, sym, ◌∙◌, ap, ap₂, subst, arith, append_assoc}
+use Rattle.std.proofs.Common.{◌≡◌, ℕ, zero, suc, ◌+◌, ◌<◌, List, [], ◌∷◌, ◌++◌, length, map, take, get_or, Option, Some, sym, ◌∙◌, ap, ap₂, subst, arith, append_assoc, rules}
 use Rattle.std.specs.List.{AllByRecursion, cons_option}
 use Rattle.std.specs.Prelude.{◌≤◌, IfSome}
 use Rattle.std.proofs.lemmas.List.{length-take, take_more}
@@ -24,18 +24,12 @@ module _ {X Y : Type 0} {rows : ℕ → List X → List Y} {one : ℕ → X → 
 
   pub rows_push : (n m : ℕ) (xs : List X) (x : X) → m ≡ n + length xs
       → rows n (xs ++ x ∷ []) ≡ rows n xs ++ cons_option (one m x) []
-  rows_push n m xs x is =
-      rows-append n xs (x ∷ [])
-      ∙ ap (λ k. rows n xs ++ rows k (x ∷ [])) (sym is)
-      ∙ ap (λ l. rows n xs ++ l) (are.first m x [] ∙ ap (cons_option (one m x)) (are.none (m + 1)))
+  rows_push n m xs x is = grind (arith, common_steps, rows-append)
 
   -- the row of the next element
   pub rows_next : (xs : List X) (i : ℕ) (d : X) → i < length xs
       → rows 0 (take (i + 1) xs) ≡ rows 0 (take i xs) ++ cons_option (one i (get_or xs i d)) []
-  rows_next xs i d within =
-      ap (rows 0) (take_more xs i d within)
-      ∙ rows_push 0 i (take i xs) (get_or xs i d)
-      (let front = length-take i xs in omega (arith, front, within))
+  rows_next xs i d within = grind (arith, common_steps, length-take, rows_push, take_more)
 
   -- a fact of each element's row
   pub each_numbered : (P : Y → Type 0) (z : X) (n : ℕ) (xs : List X)
@@ -51,8 +45,7 @@ module _ {X Y : Type 0} {rows : ℕ → List X → List Y} {one : ℕ → X → 
       → m ≡ n + k → AllByRecursion P (rows n xs) → IfSome (one m (get_or xs k z)) P
   numbered_each P z n k m [] within is all = absurd (omega arith)
   numbered_each P z n zero m (x ∷ xs) within is all =
-      subst (λ j. IfSome (one j x) P) (let same : n ≡ m = omega arith in same)
-      (each_of_cons_option P (one n x) (rows (n + 1) xs) (subst (AllByRecursion P) (are.first n x xs) all)).0
+      grind (arith, common_steps, each_of_cons_option)
   numbered_each P z n (suc k) m (x ∷ xs) within is all =
       numbered_each P z (n + 1) k m xs (omega arith) (omega arith)
       (each_of_cons_option P (one n x) (rows (n + 1) xs) (subst (AllByRecursion P) (are.first n x xs) all)).1
@@ -66,11 +59,7 @@ module _ {X Y : Type 0} {rows : ℕ → List X → List Y} {one : ℕ → X → 
     pub rows_rise : (n : ℕ) (xs : List X) → IsChain (λ x y. key x < key y) (rows n xs)
     rows_rise n [] = subst (IsChain (λ x y. key x < key y)) (sym (are.none n)) tt
     rows_rise n (x ∷ xs) =
-        subst (IsChain (λ x y. key x < key y)) (sym (are.first n x xs))
-        (chain_cons_option key n (one n x) (rows (n + 1) xs) (keyed n x)
-        (each_weaker (λ y. n + 1 ≤ key y) (λ y. n < key y) (λ y h. omega (arith, h)) _
-        (rows_above (n + 1) (n + 1) xs (omega arith)))
-        (rows_rise (n + 1) xs))
+        search (rules, rows_rise (n + 1) xs, IsChain, chain_cons_option, each_weaker, rows_above)
 
 -- ---- one row of each element
 
@@ -87,8 +76,7 @@ module _ {X Y : Type 0} {rows : ℕ → List X → List Y} {row : ℕ → X → 
   rows_at n zero m (x ∷ xs) z d within is =
       ap (λ l. get_or l 0 d) (are.first n x xs) ∙ ap (λ j. row j x) (omega arith)
   rows_at n (suc k) m (x ∷ xs) z d within is =
-      ap (λ l. get_or l (suc k) d) (are.first n x xs)
-      ∙ rows_at (n + 1) k m xs z d (omega arith) (omega arith)
+      grind (arith, common_steps, rows_at (n + 1) k m xs z d (omega arith) (omega arith))
 
   -- one more row is written
   pub rows_added : (xs : List X) (i : ℕ) (z : X) (start old more : List Y) → i < length xs

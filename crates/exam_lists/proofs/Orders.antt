@@ -1,5 +1,5 @@
 -- Orders of numbers and of pairs.
-use Rattle.std.proofs.Common.{arith, is_lt, eqb, not, ℕ, ◌&&◌, ◌≡◌, Less, nat_cmp, ◌<◌, Ordering, ◌⊎◌, Equal, is_eq, refl, true, Greater, [], ◌∷◌}
+use Rattle.std.proofs.Common.{arith, is_lt, eqb, not, ℕ, ◌&&◌, ◌≡◌, Less, nat_cmp, ◌<◌, Ordering, ◌⊎◌, Equal, is_eq, refl, true, Greater, [], ◌∷◌, rules}
 use Rattle.std.proofs.lemmas.Bool.Decides.{nat_tests}
 use Rattle.std.specs.Ordering.{ordering_then}
 use Rattle.std.proofs.lemmas.Cmp.{nat_cmp_total, on_total, then_total}
@@ -18,9 +18,7 @@ abbrev pub pair_cmp : ℕ × ℕ → ℕ × ℕ → Ordering
 pair_cmp x y = ordering_then (nat_cmp x.0 y.0) (nat_cmp x.1 y.1)
 
 pub pair_total : IsTotalOrder pair_cmp
-pair_total =
-    then_total (on_total (λ (p : ℕ × ℕ). p.0) nat_cmp_total)
-    (on_total (λ (p : ℕ × ℕ). p.1) nat_cmp_total)
+pair_total = search (rules, nat_cmp_total, on_total, then_total)
 
 -- a smaller first number, or the same and a smaller second one
 abbrev pub PairBefore : ℕ × ℕ → ℕ × ℕ → Type 0

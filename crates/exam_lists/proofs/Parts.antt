@@ -1,4 +1,5 @@
 -- Lists taken apart and put together.
+use Rattle.std.proofs.lemmas.Grind.{common_steps}
 use Rattle.std.proofs.Common.{Bool, List, [], add-one, ap, append_assoc, arith, drop, false, get_or, length, length-append, length-drop, refl, reverse, suc, sym, take, take-append-drop, true, zero, ℕ, ◌++◌, ◌+◌, ◌-◌, ◌<◌, ◌∙◌, ◌∷◌, ◌≡◌, ◌≤◌, nat_eq, true≢false, cond}
 use Rattle.std.proofs.Math.Seq.{take-append_seam, drop-append_seam}
 use Rattle.std.proofs.lemmas.Bool.Decides.{Decides-eqb}
@@ -29,10 +30,7 @@ drop_at_head (x ∷ xs) (suc i) y d ys e =
 -- a list without its end
 pub take_front : {X : Type 0} (front q : List X) (n : ℕ) → n ≡ length q
     → take (length (front ++ q) - n) (front ++ q) ≡ front
-take_front front q n same =
-    let start : length (front ++ q) - n ≡ length front =
-    omega (arith, length-append front q, same) in
-    ap (λ (k : ℕ). take k (front ++ q)) start ∙ take-append_seam front q
+take_front front q n same = grind (arith, common_steps, length-append, take-append_seam)
 
 -- a list with an element has a last one
 pub last_of : {X : Type 0} (x : X) (xs : List X)
@@ -48,11 +46,7 @@ nil_no_append xs y ys e = omega (arith, ap length e, length-append xs (y ∷ ys)
 pub append_take_more : {X : Type 0} (all first rest : List X) (n : ℕ) → all ≡ first ++ rest
     → all ≡ (first ++ take n rest) ++ take (length rest - n) (drop n rest)
 append_take_more {X} all first rest n e =
-    e ∙ ap (λ (l : List X). first ++ l)
-    (sym (take-append-drop n rest)
-    ∙ ap (λ (l : List X). take n rest ++ l)
-    (sym (take_all (length rest - n) (drop n rest) (omega (arith, length-drop n rest)))))
-    ∙ sym (append_assoc first (take n rest) (take (length rest - n) (drop n rest)))
+    grind (arith, common_steps, append_assoc, length-drop, take-append-drop, take_all)
 
 pub length_append_some : {X : Type 0} (xs ys : List X) → 0 < length ys → 0 < length (xs ++ ys)
 length_append_some [] ys some = some
@@ -67,9 +61,7 @@ length_choice-le false xs ys le = omega arith
 -- an element that comes before others comes last in their reverse
 pub reverse_cons_append : {X : Type 0} (x : X) (xs ys : List X)
     → reverse xs ++ (x ∷ ys) ≡ reverse (x ∷ xs) ++ ys
-reverse_cons_append x xs ys =
-    sym (append_assoc (reverse xs) (x ∷ []) ys)
-    ∙ ap (λ l. l ++ ys) (sym (reverse-append (x ∷ []) xs))
+reverse_cons_append x xs ys = grind (arith, common_steps, append_assoc, reverse-append)
 
 -- an element put onto the first list
 pub some_onto_first : {X : Type 0} (b : X) (xs : List (List X)) → 0 < length (onto_first b xs)
@@ -165,8 +157,4 @@ append_only d x false (z ∷ xs) ys is =
 -- the end of a text is compared with as many bytes
 pub ends_with_same : (front p q : List ℕ) → length p ≡ length q
     → ends_with nat_eq (front ++ q) p ≡ pointwise nat_eq p q
-ends_with_same front p q same =
-    let start : length (front ++ q) - length p ≡ length front =
-    omega (arith, length-append front q, same) in
-    ap (λ (k : ℕ). pointwise nat_eq p (drop k (front ++ q))) start
-    ∙ ap (pointwise nat_eq p) (drop-append_seam front q)
+ends_with_same front p q same = grind (arith, common_steps, drop-append_seam, length-append, nat_eq)

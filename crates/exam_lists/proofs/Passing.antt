@@ -1,8 +1,9 @@
 -- The elements of a list that pass a test: none, one, two or all.
+use Rattle.std.proofs.lemmas.Grind.{common_steps}
 use Rattle.std.proofs.Common.{Bool, List, [], ap, arith, cond, false, filter, get_or, length, refl, suc, true, zero, ℕ, ◌<◌, ◌∙◌, ◌∷◌, ◌≡◌, ◌≤◌}
 use Rattle.std.proofs.lemmas.List.Folds.{list_all_at, list_any_at}
 use Rattle.std.specs.List.{list_all, list_any}
-use Rattle.std.specs.Prelude.{All, ◌&&◌, ◌||◌}
+use Rattle.std.specs.Prelude.{All, ◌&&◌}
 
 module _ {X : Type 0} (p : X → Bool) where
   -- no element passes
@@ -15,23 +16,12 @@ module _ {X : Type 0} (p : X → Bool) where
   -- some element passes: at least one is left
   pub one_passes : (xs : List X) → list_any p xs ≡ true → 1 ≤ length (filter p xs)
   one_passes [] h = absurd (cc)
-  one_passes (x ∷ xs) h = go (p x) h (one_passes xs)
-    where
-      go : (b : Bool) → (b || list_any p xs) ≡ true
-          → (list_any p xs ≡ true → 1 ≤ length (filter p xs))
-          → 1 ≤ length (cond b (x ∷ filter p xs) (filter p xs))
-      go true h more = omega arith
-      go false h more = more h
+  one_passes (x ∷ xs) h = grind (arith, common_steps, one_passes xs)
 
   -- at least one is left: some element passes
   pub found_one : (xs : List X) → 1 ≤ length (filter p xs) → list_any p xs ≡ true
   found_one [] h = absurd (omega (arith, h))
-  found_one (x ∷ xs) h = go (p x) h (found_one xs)
-    where
-      go : (b : Bool) → 1 ≤ length (cond b (x ∷ filter p xs) (filter p xs))
-          → (1 ≤ length (filter p xs) → list_any p xs ≡ true) → (b || list_any p xs) ≡ true
-      go true h more = refl
-      go false h more = more h
+  found_one (x ∷ xs) h = grind (arith, common_steps, found_one xs)
 
   -- the element at an index passes
   pub passes_at : (xs : List X) (k : ℕ) (d : X) → k < length xs → p (get_or xs k d) ≡ true
@@ -40,11 +30,7 @@ module _ {X : Type 0} (p : X → Bool) where
 
   -- all elements pass
   pub each_passes : (xs : List X) → list_all p xs ≡ true → All (λ x. p x ≡ true) xs
-  each_passes xs h k d lt = go (p (get_or xs k d)) refl
-    where
-      go : (b : Bool) → p (get_or xs k d) ≡ b → b ≡ true
-      go true f = refl
-      go false f = absurd (let no = list_all_at p xs k d lt f in cc)
+  each_passes xs h k d lt = grind (arith, common_steps, list_all_at)
 
   -- no element fails
   pub all_pass : (xs : List X) → All (λ x. p x ≡ true) xs → list_all p xs ≡ true

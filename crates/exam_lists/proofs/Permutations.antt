@@ -1,4 +1,5 @@
 -- Filters of a list in another order, and lists of at most one element.
+use Rattle.std.proofs.lemmas.Grind.{common_steps}
 use Rattle.std.proofs.Common.{All, Bool, IsPermutation, List, [], ap, append_assoc, arith, cond, false, filter, get_or, if◌then◌else◌, length, map, refl, set, subst, suc, true, true≢false, zero, ℕ, ◌++◌, ◌<◌, ◌||◌, ◌∷◌, ◌≡◌, ◌≤◌, reverse}
 use Rattle.std.proofs.lemmas.List.{nil_from_length}
 use Rattle.std.proofs.lemmas.List.Sorted.{All-permutation, IsPermutation-append_left, IsPermutation-cons, IsPermutation-keeps, IsPermutation-map, IsPermutation-middle, IsPermutation-refl, IsPermutation-sym, IsPermutation-to_front, IsPermutation-trans, length_permutation, IsPermutation-reverse, IsPermutation-append}
@@ -33,8 +34,7 @@ module _ {X : Type 0} (R : List X → List X → Type 0) (same : (xs : List X) �
   exchanged (x ∷ xs) zero (suc j) d lt within = with_first xs j x d (omega arith)
   exchanged (x ∷ xs) (suc i) zero d lt within = with_first xs i x d (omega arith)
   exchanged (x ∷ xs) (suc i) (suc j) d lt within =
-      under x xs (set (set xs i (get_or xs j d)) j (get_or xs i d))
-      (exchanged xs i j d (omega arith) (omega arith))
+      grind (arith, common_steps, exchanged xs i j d (omega arith) (omega arith), under)
 
   swapped : (xs : List X) (i j : ℕ) → i < length xs → j < length xs → R xs (swap xs i j)
   swapped [] i j lt within = absurd (omega arith)
@@ -55,13 +55,7 @@ IsPermutation-filter {X} p =
   where
     under : (x : X) (xs ys : List X) → IsPermutation (filter p xs) (filter p ys)
         → IsPermutation (filter p (x ∷ xs)) (filter p (x ∷ ys))
-    under x xs ys h =
-        let fs : List X = filter p xs in
-        let gs : List X = filter p ys in
-        elim (p x) as (λ b. IsPermutation (if b then x ∷ fs else fs) (if b then x ∷ gs else gs)) [
-          | true ↦ IsPermutation-cons x fs gs h
-          | false ↦ h
-        ]
+    under x xs ys h = grind (arith, common_steps, IsPermutation-cons)
 
     turned : (x y : X) (xs : List X)
         → IsPermutation (filter p (x ∷ y ∷ xs)) (filter p (y ∷ x ∷ xs))
@@ -148,9 +142,7 @@ same_few (x ∷ []) (y ∷ z ∷ ys) few p =
 -- the values of at most one element
 pub few_read : {X Y : Type 0} (f : X → Y) (xs ys : List X) (zs : List Y) → IsPermutation xs ys
     → map f xs ≡ zs → length zs ≤ 1 → map f ys ≡ zs
-few_read f xs ys zs p is few =
-    same_few zs (map f ys) few
-    (subst (λ l. IsPermutation l (map f ys)) is (IsPermutation-map f _ _ p))
+few_read f xs ys zs p is few = grind (arith, common_steps, IsPermutation-map, same_few)
 
 -- rows of the same values, if a value is read back from its row
 pub IsPermutation-unmap : {X Y : Type 0} (row : X → Y) (back : Y → X) → ((x : X) → back (row x) ≡ x)

@@ -1,5 +1,6 @@
 -- Facts of an `Ok`, or of an `Err`.
-use Rattle.std.proofs.Common.{Err, IfErr, IfOk, Ok, OnErr, OnOk, Result, ap, refl, ◌≡◌, inl, inr, ◌⊎◌}
+use Rattle.std.proofs.lemmas.Grind.{common_steps}
+use Rattle.std.proofs.Common.{Err, IfErr, IfOk, Ok, OnErr, OnOk, Result, refl, ◌≡◌, inl, inr, ◌⊎◌, arith}
 
 -- what holds in any case holds after an error, or an `Ok`
 pub OnErr_any : {T E P : Type 0} (r : Result T E) → P → OnErr r P
@@ -52,9 +53,7 @@ ok_same r x y one other = cc
 -- and one pair
 pub same_pair : {A B F : Type 0} (r : Result (A × B) F) (x v : A) (y w : B) → r ≡ Ok (x, y) →
     r ≡ Ok (v, w) → (x ≡ v) × (y ≡ w)
-same_pair r x v y w one other =
-    let both = ok_same r (x, y) (v, w) one other in
-    (ap (λ p. p.0) both, ap (λ p. p.1) both)
+same_pair r x v y w one other = grind (arith, common_steps, ok_same)
 
 pub same_Ok : {B E : Type 0} {a b : B} → ◌≡◌ {A = Result B E} (Ok a) (Ok b) → a ≡ b
 same_Ok e = cc

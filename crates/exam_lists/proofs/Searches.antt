@@ -1,9 +1,9 @@
 -- The first element that passes, and the element at an index.
-use Rattle.std.proofs.Common.{Bool, List, None, Option, Some, [], ap, arith, cond, false, get_or, length, length-append, refl, suc, sym, true, zero, ℕ, ◌++◌, ◌+◌, ◌<◌, ◌↔◌, ◌∙◌, ◌∷◌, ◌≡◌, ◌≤◌, Contains, add-zero, eqb, set, ◌≢◌, Err, Ok, Ordering, Result, inl, inr}
+use Rattle.std.proofs.lemmas.Grind.{common_steps}
+use Rattle.std.proofs.Common.{Bool, List, None, Option, Some, [], ap, arith, cond, false, get_or, length, length-append, refl, suc, sym, true, zero, ℕ, ◌++◌, ◌+◌, ◌<◌, ◌↔◌, ◌∙◌, ◌∷◌, ◌≡◌, ◌≤◌, Contains, add-zero, eqb, set, Err, Ok, Ordering, Result}
 use Rattle.std.proofs.lemmas.Option.{none-some}
 use Rattle.std.specs.List.{AllByRecursion, find, position_or_len, list_any}
-use Rattle.std.specs.Prelude.{IfSome, IsSome, not, option_to_list, nat_lt, replicate, slice_get, is_ok}
-use Rattle.std.proofs.lemmas.Bool.Decides.{nat_tests}
+use Rattle.std.specs.Prelude.{IfSome, IsSome, option_to_list, nat_lt, replicate, slice_get, is_ok}
 use Rattle.std.proofs.lemmas.List.{get_or-set_other, get_or-set_same}
 use Rattle.std.proofs.lemmas.Bool.{cases_lt}
 use Rattle.std.proofs.lemmas.List.Folds.{list_any_at, list_any_none}
@@ -36,19 +36,11 @@ find_one t (y ∷ ys) (suc i) x lt is here before =
 pub find_keeps : {X : Type 0} (P : X → Type 0) (t : X → Bool) (xs : List X) → AllByRecursion P xs
     → IfSome (find t xs) (λ x. P x × (t x ≡ true))
 find_keeps P t [] a = tt
-find_keeps {X} P t (x ∷ xs) a = go (t x) refl (find_keeps P t xs a.1)
-  where
-    go : (b : Bool) → t x ≡ b → IfSome (find t xs) (λ x. P x × (t x ≡ true))
-        → IfSome (cond b (Some x) (find t xs)) (λ x. P x × (t x ≡ true))
-    go true is more = (a.0, is)
-    go false is more = more
+find_keeps {X} P t (x ∷ xs) a = grind (arith, common_steps, find_keeps P t xs a.1)
 
 pub position-le-length : {X : Type 0} (p : X → Bool) (xs : List X) → position_or_len p xs ≤ length xs
 position-le-length p [] = omega arith
-position-le-length p (x ∷ xs) =
-    let more = position-le-length p xs in
-    elim (p x) as (λ b. cond (not b) (1 + position_or_len p xs) 0 ≤ length (x ∷ xs))
-    [ true ↦ omega arith | false ↦ omega arith ]
+position-le-length p (x ∷ xs) = grind (arith, common_steps, position-le-length p xs)
 
 -- a list without a first element is empty
 pub slice_get_none : {X : Type 0} (xs : List X) → slice_get xs 0 ≡ None → xs ≡ []
@@ -88,9 +80,7 @@ pub last_only : {X : Type 0} (xs rest : List X) (last : Option X) → xs ≡ res
 last_only [] rest None is some few = refl
 last_only (x ∷ xs) rest None is some few = let there = some.1 (omega arith) in cc
 last_only xs [] (Some y) is some few = is
-last_only xs (z ∷ rest) (Some y) is some few =
-    let long = length-append rest (y ∷ []) in
-    absurd (omega (arith, few, long, ap length is))
+last_only xs (z ∷ rest) (Some y) is some few = grind (arith, common_steps, length-append)
 
 pub slice_get_from_none : {X : Type 0} (xs : List X) → ((x : X) → Contains xs x → ⊥) → slice_get xs 0 ≡ None
 slice_get_from_none [] none = refl
@@ -100,17 +90,8 @@ slice_get_from_none (x ∷ xs) none = absurd (none x (contains_head x xs))
 pub get_or_set_true : (before : List Bool) (k m n : ℕ) → k < length before
     → get_or before m false ≡ nat_lt 0 n
     → get_or (set before k true) m false ≡ nat_lt 0 (n + cond (eqb k m) 1 0)
-get_or_set_true before k m n lt known = go (eqb k m) refl
-  where
-    go : (b : Bool) → eqb k m ≡ b → get_or (set before k true) m false ≡ nat_lt 0 (n + cond b 1 0)
-    go true e =
-        let same : k ≡ m = grind (arith, nat_tests) in
-        let some : nat_lt 0 (n + 1) ≡ true = grind (arith, nat_tests) in
-        ap (λ j. get_or (set before k true) j false) (sym same)
-        ∙ get_or-set_same before k true false lt ∙ sym some
-    go false e =
-        let other : m ≢ k = grind (arith, nat_tests) in
-        get_or-set_other before k m true false other ∙ known ∙ ap (nat_lt 0) (sym (add-zero n))
+get_or_set_true before k m n lt known =
+    grind (arith, common_steps, add-zero, get_or-set_other, get_or-set_same)
 
 -- a search finds an equal element exactly if there is one
 pub search_finds_any : {X K : Type 0} (R : K → K → Ordering) (o : IsTotalOrder R) (key : X → K)
@@ -121,9 +102,4 @@ pub search_finds_any : {X K : Type 0} (R : K → K → Ordering) (o : IsTotalOrd
 search_finds_any R o key xs x d (Ok i) sorted bound is =
     sym (list_any_at (λ y. is_eq (R (key y) x)) xs i d bound (ap is_eq (is d)))
 search_finds_any R o key xs x d (Err i) sorted bound is =
-    let parts = is (searchable_from_sorted o key xs x sorted) in
-    sym (list_any_none (λ y. is_eq (R (key y) x)) xs
-    (λ k e lt. elim (cases_lt k i) as (λ _. is_eq (R (key (get_or xs k e)) x) ≡ false) [
-      | inl below ↦ ap is_eq (parts.0 k e (omega arith) below)
-      | inr above ↦ ap is_eq (parts.1 k e above lt)
-    ]))
+    grind (arith, common_steps, cases_lt, list_any_none, searchable_from_sorted o key xs x sorted)

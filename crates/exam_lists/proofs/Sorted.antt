@@ -1,13 +1,13 @@
 -- Strictly sorted lists: made, compared and searched.
+use Rattle.std.proofs.lemmas.Grind.{common_steps}
 use Rattle.exam_lists.proofs.Chains.{IsChain}
 use Rattle.exam_lists.proofs.Each.{each_append}
 use Rattle.exam_lists.proofs.Members.{contains_head, contains_later, first_or_later, none_in_nil}
-use Rattle.std.proofs.Common.{Bool, Contains, Greater, Less, List, None, Option, Ordering, Some, [], ap, ap₂, cond, false, inl, inr, refl, subst, sym, true, ◌++◌, ◌∙◌, ◌∷◌, ◌≡◌, ◌⊎◌, arith, get_or, is_lt, length, map, subst₂, ℕ, ◌+◌, ◌<◌}
+use Rattle.std.proofs.Common.{Bool, Contains, Less, List, None, Option, Ordering, Some, [], ap, ap₂, false, inl, inr, refl, sym, true, ◌++◌, ◌∙◌, ◌∷◌, ◌≡◌, ◌⊎◌, arith, get_or, is_lt, length, map, subst₂, ℕ, ◌+◌, ◌<◌}
 use Rattle.std.proofs.lemmas.List.Elements.{All-contains, All-from_recursion}
 use Rattle.std.specs.Cmp.{IsTotalOrder}
 use Rattle.std.specs.List.{AllByRecursion, find}
 use Rattle.std.specs.List.Sorted.{IsStrictlySortedBy}
-use Rattle.std.specs.Ordering.{ordering_reverse}
 use Rattle.std.specs.Prelude.{IsSortedByKey, slice_get}
 use Rattle.std.proofs.lemmas.List.{get_or-map, length-map}
 
@@ -62,13 +62,7 @@ same_sorted {K} {R} o (x ∷ xs) (y ∷ ys) a b to from =
         All-contains (λ y. R x y ≡ Less) xs z (All-from_recursion (λ y. R x y ≡ Less) xs h) k
 
     clash : IsTotalOrder R → (x y : K) → R y x ≡ Less → R x y ≡ Less → ⊥
-    clash o x y p q = less_once (R x y) (R y x) q p (o.antisymm x y)
-      where
-        less_once : (s t : Ordering) → s ≡ Less → t ≡ Less → s ≡ ordering_reverse t → ⊥
-        less_once s t p q e = not_less (sym p ∙ e ∙ ap ordering_reverse q)
-          where
-            not_less : Less ≡ Greater → ⊥
-            not_less e = cc
+    clash o x y p q = grind (arith, common_steps)
 
     keep : IsTotalOrder R → (x y : K) (xs ys : List K) (z : K) → x ≡ y
         → AllByRecursion (λ y. R x y ≡ Less) xs → Contains xs z
@@ -107,38 +101,17 @@ pub find_is_first : {X : Type 0} (R : X → X → Ordering) (p : X → Bool) (xs
     → IsFirst R p xs (find p xs)
 unfolding IsStrictlySortedBy
 find_is_first R p [] up = λ y h. absurd (none_in_nil h)
-find_is_first {X} R p (x ∷ xs) up = here (find_is_first R p xs up.1) (p x) refl
-  where
-    here : IsFirst R p xs (find p xs) → (b : Bool) → p x ≡ b
-        → IsFirst R p (x ∷ xs) (cond b (Some x) (find p xs))
-    here in_rest true is = (
-      contains_head x xs,
-      is,
-      λ y h passes. elim (first_or_later x xs y h) as (λ _. (y ≡ x) ⊎ (R x y ≡ Less)) [
-        | inl e ↦ inl (sym e)
-        | inr later ↦
-            inr (All-contains (λ z. R x z ≡ Less) xs y
-            (All-from_recursion (λ z. R x z ≡ Less) xs up.0) later)
-      ],
+find_is_first {X} R p (x ∷ xs) up =
+    grind (
+      arith,
+      common_steps,
+      find_is_first R p xs up.1,
+      All-contains,
+      All-from_recursion,
+      contains_head,
+      contains_later,
+      first_or_later,
     )
-    here in_rest false isnt = later (find p xs) in_rest
-      where
-        later : (found : Option X) → IsFirst R p xs found → IsFirst R p (x ∷ xs) found
-        later None none = λ y h. elim (first_or_later x xs y h) as (λ _. p y ≡ false) [
-          | inl e ↦ subst (λ z. p z ≡ false) e isnt
-          | inr in_rest ↦ none y in_rest
-        ]
-        later (Some least) first = (
-          contains_later x xs least first.0,
-          first.1,
-          λ y h passes. elim (first_or_later x xs y h) as (λ _. (y ≡ least) ⊎ (R least y ≡ Less)) [
-            | inl e ↦ absurd (no (sym isnt ∙ ap p e ∙ passes))
-            | inr in_rest ↦ first.2 y in_rest passes
-          ],
-        )
-          where
-            no : false ≡ true → ⊥
-            no e = cc
 
 -- lists with the same keys, in the same order, are both sorted or neither is
 pub sorted_by_alike : {R K : Type 0} (cmp : K → K → Ordering) (key : R → K) (xs ys : List R)

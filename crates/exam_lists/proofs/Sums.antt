@@ -1,4 +1,5 @@
 -- Sums over a list.
+use Rattle.std.proofs.lemmas.Grind.{common_steps}
 use Rattle.exam_lists.proofs.Chains.{IsChain, chain_weaker}
 use Rattle.exam_lists.proofs.Each.{each_weaker}
 use Rattle.std.proofs.Common.{Bool, List, [], add-mul, ap, ap₂, arith, cond, false, filter, length, map, refl, sum_by, sym, true, zero-add, zero-mul, ℕ, ◌*◌, ◌+◌, ◌<◌, ◌||◌, ◌∙◌, ◌∷◌, ◌≡◌, ◌≤◌, eqb, ◌≢◌}
@@ -36,19 +37,12 @@ sum_by-ones {X} (x ∷ xs) = omega (arith, sum_by-cons (λ (x : X). 1) x xs, sum
 pub sum_by-add : {X : Type 0} (f g : X → ℕ) (xs : List X)
     → sum_by (λ x. f x + g x) xs ≡ sum_by f xs + sum_by g xs
 sum_by-add f g [] = refl
-sum_by-add f g (x ∷ xs) =
-    let e = sum_by-add f g xs in
-    let h = sum_by-cons (λ x. f x + g x) x xs in
-    let k = sum_by-cons f x xs in
-    let m = sum_by-cons g x xs in
-    omega arith
+sum_by-add f g (x ∷ xs) = grind (arith, common_steps, sum_by-add f g xs, sum_by-cons)
 
 pub sum_by-times : {X : Type 0} (f : X → ℕ) (k : ℕ) (xs : List X)
     → sum_by (λ x. f x * k) xs ≡ sum_by f xs * k
 sum_by-times f k [] = sym (zero-mul k)
-sum_by-times f k (x ∷ xs) =
-    sum_by-cons (λ x. f x * k) x xs ∙ ap (λ n. f x * k + n) (sum_by-times f k xs)
-    ∙ sym (add-mul (f x) (sum_by f xs) k) ∙ ap (λ n. n * k) (sym (sum_by-cons f x xs))
+sum_by-times f k (x ∷ xs) = grind (arith, common_steps, sum_by-times f k xs, add-mul, sum_by-cons)
 
 -- two sums, in either order
 pub sum_by-turned : {X Y : Type 0} (g : X → Y → ℕ) (xs : List X) (ys : List Y)
@@ -69,15 +63,7 @@ sum_by-map g f (x ∷ xs) = sum_by-cons g (f x) (map f xs) ∙ ap (λ n. g (f x)
 pub sum_by-filter-le : {X : Type 0} (f : X → ℕ) (t : X → Bool) (xs : List X)
     → sum_by f (filter t xs) ≤ sum_by f xs
 sum_by-filter-le f t [] = omega arith
-sum_by-filter-le f t (x ∷ xs) = go (t x) (sum_by-filter-le f t xs)
-  where
-    go : (b : Bool) → sum_by f (filter t xs) ≤ sum_by f xs
-        → sum_by f (cond b (x ∷ filter t xs) (filter t xs)) ≤ sum_by f (x ∷ xs)
-    go true more =
-        let some = sum_by-cons f x (filter t xs) in
-        let all = sum_by-cons f x xs in
-        omega arith
-    go false more = let all = sum_by-cons f x xs in omega arith
+sum_by-filter-le f t (x ∷ xs) = grind (arith, common_steps, sum_by-filter-le f t xs, sum_by-cons)
 
 -- each term is below what the sum is below
 pub each_below_sum : {X : Type 0} (f : X → ℕ) (n : ℕ) (xs : List X) → sum_by f xs < n
@@ -94,9 +80,7 @@ cond-sum_by b h xs = elim b as (λ c. cond c (sum_by h xs) 0 ≡ sum_by (λ x. c
 
 any_step : (b c : Bool) (w n : ℕ) → (b ≡ true → n ≡ 0) → cond c w 0 ≡ n
     → cond (b || c) w 0 ≡ cond b w 0 + n
-any_step b c w n =
-    elim b as (λ d. (d ≡ true → n ≡ 0) → cond c w 0 ≡ n → cond (d || c) w 0 ≡ cond d w 0 + n)
-    [ true ↦ λ z e. (let h = z refl in omega arith) | false ↦ λ z e. e ∙ sym (zero-add n) ]
+any_step b c w n = grind (arith, common_steps, zero-add)
 
 -- a test that passes at most once
 pub sum_by-once : {X : Type 0} (t : X → Bool) (w : ℕ) (xs : List X)
@@ -112,10 +96,7 @@ sum_by-once t w (x ∷ xs) h =
     ∙ sym (sum_by-cons (λ x. cond (t x) w 0) x xs)
 
 same_test : (x s : ℕ) (K : ℕ → ℕ) → cond (eqb x s) (K s) 0 ≡ cond (eqb s x) (K x) 0
-same_test x s K =
-    let k : (a b k m : ℕ) → (a ≡ b → k ≡ m) → cond (eqb a b) m 0 ≡ cond (eqb b a) k 0 =
-    λ a b k m e. grind (arith, nat_tests) in
-    k x s (K x) (K s) (λ e. ap K e)
+same_test x s K = grind (arith, common_steps)
 
 other_number : (x s t : ℕ) → s ≢ t → eqb s x ≡ true → eqb t x ≡ false
 other_number x s t ne e = grind (arith, nat_tests)

@@ -1,6 +1,7 @@
 -- Tests of some, of all or of pairs of elements.
+use Rattle.std.proofs.lemmas.Grind.{common_steps}
 use Rattle.exam_lists.proofs.Booleans.{same_tests}
-use Rattle.std.proofs.Common.{Bool, Contains, List, [], ap, ap₂, eqb-true, false, map, nat_eq, refl, sym, true, ℕ, ◌&&◌, ◌++◌, ◌==◌, ◌||◌, ◌∙◌, ◌∷◌, ◌≡◌, true≢false, ◌≢◌}
+use Rattle.std.proofs.Common.{Bool, Contains, List, [], ap, eqb-true, false, map, nat_eq, refl, sym, true, ℕ, ◌&&◌, ◌++◌, ◌==◌, ◌||◌, ◌∙◌, ◌∷◌, ◌≡◌, true≢false, ◌≢◌, arith, rules}
 use Rattle.std.proofs.Math.Bool.{and-false, and-true}
 use Rattle.std.proofs.lemmas.Bool.{and_parts, eq-eqb}
 use Rattle.std.proofs.lemmas.List.Folds.{Any-from_list_any, list_any-append, list_any_at}
@@ -30,9 +31,7 @@ pub any_and : {X : Type 0} (p : X → Bool) (c : Bool) (xs : List X)
 any_and p true xs = any_agree (λ x. p x && true) p (λ x. and-true (p x)) xs
     ∙ sym (and-true (list_any p xs))
 any_and p false [] = refl
-any_and p false (x ∷ xs) =
-    ap₂ (λ a b. a || b) (and-false (p x)) (any_and p false xs ∙ and-false (list_any p xs))
-    ∙ sym (and-false (p x || list_any p xs))
+any_and p false (x ∷ xs) = grind (arith, common_steps, any_and p false xs, and-false)
 
 -- of the numbers, only e counts
 pub any_at : (e : ℕ) (t : ℕ → Bool) (xs : List ℕ)
@@ -79,9 +78,7 @@ pub same_pointwise : (xs ys : List ℕ) → pointwise nat_eq xs ys ≡ true → 
 same_pointwise [] [] equal = refl
 same_pointwise [] (y ∷ ys) equal = absurd (clash (sym equal))
 same_pointwise (x ∷ xs) [] equal = absurd (clash (sym equal))
-same_pointwise (x ∷ xs) (y ∷ ys) equal =
-    let parts = and_parts _ _ equal in
-    ap₂ (λ z zs. z ∷ zs) (eqb-true x y parts.0) (same_pointwise xs ys parts.1)
+same_pointwise (x ∷ xs) (y ∷ ys) equal = search (rules, and_parts, eqb-true)
 
 -- numbers that pass a test are not one that fails it
 pub all_apart : (p : ℕ → Bool) (c : ℕ) → p c ≡ false → (xs : List ℕ) → list_all p xs ≡ true
