@@ -1,8 +1,8 @@
 -- The enrolments of one student, and their summands.
+use Rattle.std.proofs.lemmas.Grind.{common_steps}
 use Rattle.std.specs.Prelude.{◌==◌}
 use Rattle.std.specs.List.{AllByRecursion}
-use Rattle.std.proofs.Common.{◌≡◌, ℕ, suc, ◌+◌, ◌-◌, ◌*◌, append-nil, append_assoc, replicate, set, take, ◌≤◌, ◌<◌, Bool, true, false, cond, ◌&&◌, ◌||◌, List, [], ◌∷◌, ◌++◌, Option, Some, None, count_by, filter, length, map, sum_by, refl, sym, ◌∙◌, ap, ap₂, arith, subst, one-mul, zero-mul, add-zero, eqb-true}
-use mathlib.Core.Bool.{true≢false}
+use Rattle.std.proofs.Common.{◌≡◌, ℕ, suc, ◌+◌, ◌-◌, ◌*◌, append-nil, append_assoc, replicate, set, take, ◌≤◌, ◌<◌, Bool, true, false, cond, ◌&&◌, List, [], ◌∷◌, ◌++◌, Option, Some, None, count_by, length, sum_by, refl, sym, ◌∙◌, ap, ap₂, arith, one-mul, zero-mul, add-zero, eqb-true, rules}
 use Rattle.std.proofs.lemmas.Bool.{eq-eqb}
 use Rattle.std.proofs.Math.Seq.{set-append_seam}
 use Rattle.std.proofs.lemmas.List.{length-map, length-take-le, map-append, map_more, take_all}
@@ -12,7 +12,6 @@ use Rattle.std.proofs.Math.ListN.{get_or-map}
 use Rattle.exam_model.specs.Enrolments.{AreEnrolments, AreNumbers, Enrolled, IsAscending, has, has_number, pair_count, shared_students, students}
 use Rattle.exam_model.specs.Fits.{period_of}
 use Rattle.exam_model.specs.Instance.{Session}
-use Rattle.exam_model.specs.PairCost.{cost_between}
 use Rattle.exam_model.specs.Pairs.{Pair, pairs_at, pairs_from, pairs_of}
 use Rattle.exam_model.specs.Timetable.{Placing}
 use Rattle.exam_model.proofs.PairLemmas.{are_pairs}
@@ -23,7 +22,6 @@ use Rattle.exam_score.specs.Track.{pair_parts}
 use Rattle.exam_score.proofs.RegroupingLemmas.{regrouped_by_students}
 use Rattle.std.specs.List.{filter_map}
 use Rattle.std.proofs.Math.Bool.{or-false}
-use Rattle.exam_reasons.specs.Lists.{all_below, listed}
 use Rattle.exam_reasons.specs.Reasons.{kind_of, pair_reason, pair_reasons}
 use Rattle.exam_reasons.specs.Students.{AreOwn, OwnReasonsAddUp, own_enrolments, own_reason, own_reasons, own_share, own_students}
 use Rattle.exam_reasons.specs.declared.reasons.PairKind.{PairKind}
@@ -43,20 +41,12 @@ is_own s = rw (eq-eqb s s refl) refl
 shared_by : (s : ℕ) (b c : Bool)
     → count_by (λ t. has_number (cond c (s ∷ []) []) t) (cond b (s ∷ []) []) ≡ cond (b && c) 1 0
 shared_by s false c = refl
-shared_by s true c =
-    let sits : ℕ → ℕ = λ t. cond (has_number (cond c (s ∷ []) []) t) 1 0 in
-    sum_by-cons sits s [] ∙ add-zero (sits s) ∙ ap (λ h. cond h 1 0) (is_in c)
-  where
-    is_in : (c : Bool) → has_number (cond c (s ∷ []) []) s ≡ c
-    is_in true = is_own s
-    is_in false = refl
+shared_by s true c = grind (arith, common_steps, add-zero, is_own, sum_by-cons)
 
 -- one student is shared by the exams that they sit
 own_shared : (s : ℕ) (E : Enrolled) (e f : ℕ)
     → shared_students (own_enrolments s E) e f ≡ cond (has E s e && has E s f) 1 0
-own_shared s E e f =
-    (λ i. count_by (λ t. has_number (own_at s E f i) t) (own_at s E e i))
-    ∙ shared_by s (has E s e) (has E s f)
+own_shared s E e f = search (rules, own_at, shared_by)
 
 -- ---- the summands
 
@@ -71,34 +61,19 @@ reason_by e f n w false is = rw is (rw (zero-mul w) refl)
 
 same_reason : (I : Session) (E : Enrolled) (T : Placing) (s : ℕ) (kind : PairKind) (e f : ℕ)
     → pair_reason I (own_enrolments s E) T kind e f ≡ own_reason I E T s kind e f
-same_reason I E T s kind e f =
-    reason_by e f (shared_students (own_enrolments s E) e f)
-    (cost_between (cost_in I (kind_of kind)) (period_of T e) (period_of T f))
-    (has E s e && has E s f) (own_shared s E e f)
+same_reason I E T s kind e f = grind (arith, common_steps, own_shared, reason_by)
 
 same_reasons : (I : Session) (E : Enrolled) (T : Placing) (s : ℕ) (kind : PairKind)
     → pair_reasons I (own_enrolments s E) T kind ≡ own_reasons I E T s kind
-same_reasons I E T s kind =
-    λ i. all_below (length-map E (own_students s) i)
-    (λ f. all_below f (λ e. listed (same_reason I E T s kind e f i)))
+same_reasons I E T s kind = grind (arith, common_steps, length-map, same_reason)
 
 -- ---- the enrolments
 
 own_ascends : (s : ℕ) (xs : List ℕ) → IsAscending (own_students s xs)
-own_ascends s xs = by_test (has_number xs s)
-  where
-    by_test : (b : Bool) → IsAscending (cond b (s ∷ []) [])
-    by_test true i j lt within = absurd (omega arith)
-    by_test false i j lt within = absurd (omega arith)
+own_ascends s xs = grind (arith, common_steps)
 
 own_numbers : (s : ℕ) (xs : List ℕ) → AreNumbers xs → AreNumbers (own_students s xs)
-own_numbers s xs known t = by_test (has_number xs s) refl
-  where
-    by_test : (b : Bool) → has_number xs s ≡ b → has_number (cond b (s ∷ []) []) t ≡ true
-        → t ≤ 999999999
-    by_test true sits is =
-        subst (λ u. u ≤ 999999999) (eqb-true s t (sym (or-false (s == t)) ∙ is)) (known s sits)
-    by_test false sits is = absurd (true≢false (sym is))
+own_numbers s xs known t = grind (arith, common_steps, eqb-true, or-false)
 
 own_few : (s : ℕ) (E : Enrolled) → pair_count (own_enrolments s E) ≤ length E
 own_few s [] = omega arith
@@ -113,16 +88,7 @@ own_few s (xs ∷ rest) =
     by_test false = omega arith
 
 own_are : (s : ℕ) (E : Enrolled) → AreEnrolments E → AreEnrolments (own_enrolments s E)
-own_are s E known =
-    let count = length-map E (own_students s) in
-    record {
-      exams = (omega (arith, known.exams.0, count), omega (arith, known.exams.1, count));
-      ascending = λ e within.
-          subst IsAscending (sym (own_at s E e)) (own_ascends s (students E e));
-      pairs = (let few = own_few s E in omega (arith, few, known.exams.1));
-      numbers = λ e.
-          subst AreNumbers (sym (own_at s E e)) (own_numbers s (students E e) (known.numbers e));
-    }
+own_are s E known = search (rules, length-map, own_ascends, own_at, own_few, own_numbers)
 
 -- ---- the student's exams
 
@@ -133,17 +99,15 @@ exams_with : (k s : ℕ) (xs : List ℕ) → IsAscending xs
     → exams_of (pairs_at k xs) s ≡ cond (has_number xs s) (k ∷ []) []
 exams_with k s [] up = refl
 exams_with k s (x ∷ xs) up =
-    let rest = exams_with k s xs (tail_ascends x xs up) in
-    let others = filter (is_pair_of s) (pairs_at k xs) in
-    elim (x == s)
-    as (λ b. (b ≡ true → has_number xs s ≡ false)
-    → map (λ (p : Pair). p.exam)
-    (cond b (record { exam = k; student = x } ∷ others) others)
-    ≡ cond (b || has_number xs s) (k ∷ []) []) [
-      | true ↦ λ once. ap (λ es. k ∷ es) (rest ∙ ap (λ h. cond h (k ∷ []) []) (once refl))
-      | false ↦ λ once. rest
-    ]
-    (λ is. subst (λ t. has_number xs t ≡ false) (eqb-true x s is) (first_once x xs up))
+    grind (
+      arith,
+      common_steps,
+      exams_with k s xs (tail_ascends x xs up),
+      eqb-true,
+      first_once x xs
+          up,
+      tail_ascends x xs up,
+    )
 
 exams_alone : (k s : ℕ) (b : Bool)
     → exams_of (pairs_at k (cond b (s ∷ []) [])) s ≡ cond b (k ∷ []) []
@@ -152,9 +116,7 @@ exams_alone k s false = refl
 
 exams_append : (ps qs : List Pair) (s : ℕ)
     → exams_of (ps ++ qs) s ≡ exams_of ps s ++ exams_of qs s
-exams_append ps qs s =
-    ap (map (λ (p : Pair). p.exam)) (filter-append (is_pair_of s) ps qs)
-    ∙ map-append (λ (p : Pair). p.exam) (filter (is_pair_of s) ps) (filter (is_pair_of s) qs)
+exams_append ps qs s = grind (arith, common_steps, filter-append, map-append)
 
 exams_from : (k s : ℕ) (E : Enrolled) → ((e : ℕ) → e < length E → IsAscending (students E e))
     → exams_of (pairs_from k (own_enrolments s E)) s ≡ exams_of (pairs_from k E) s
@@ -174,12 +136,7 @@ each_own s = AllByRecursion (λ p. has_number (s ∷ []) p.student ≡ true)
 
 own_pairs : (k s : ℕ) (E : Enrolled) → each_own s (pairs_from k (own_enrolments s E))
 own_pairs k s [] = tt
-own_pairs k s (xs ∷ rest) = by_test (has_number xs s) (own_pairs (k + 1) s rest)
-  where
-    by_test : (b : Bool) → each_own s (pairs_from (k + 1) (own_enrolments s rest))
-        → each_own s (pairs_at k (cond b (s ∷ []) []) ++ pairs_from (k + 1) (own_enrolments s rest))
-    by_test true others = (is_own s, others)
-    by_test false others = others
+own_pairs k s (xs ∷ rest) = grind (arith, common_steps, own_pairs (k + 1) s rest, is_own)
 
 only_student : (s : ℕ) (E : Enrolled) → AreStudentsOf (own_enrolments s E) (s ∷ [])
 only_student s E = record {
@@ -217,9 +174,13 @@ own_sum : (I : Session) (E : Enrolled) (T : Placing) (s : ℕ) (kind : PairKind)
     → sum_by (λ reason. reason.points) (own_reasons I E T s kind)
     ≡ candidate_cost (cost_in I (kind_of kind)) (periods_of (pairs_of E) (period_of T) s)
 own_sum I E T s kind known =
-    ap (sum_by (λ reason. reason.points)) (sym (same_reasons I E T s kind))
-    ∙ pairs_sum I (own_enrolments s E) T kind
-    ∙ own_part (cost_in I (kind_of kind)) E (period_of T) s known
+    grind (
+      arith,
+      common_steps,
+      own_part (cost_in I (kind_of kind)) E (period_of T) s known,
+      pairs_sum I (own_enrolments s E) T kind,
+      same_reasons I E T s kind,
+    )
 
 pub own_add_up : (I : Session) (E : Enrolled) (T : Placing) (s : ℕ) → AreEnrolments E
     → OwnReasonsAddUp I E T s
@@ -253,7 +214,4 @@ own_more s E own k lt is =
 -- the enrolments of all exams
 pub own_whole : (s : ℕ) (E own : Enrolled) (k : ℕ) → length E ≤ k
     → own ≡ own_enrolments s (take k E) ++ replicate (length E - k) [] → own ≡ own_enrolments s E
-own_whole s E own k le is =
-    let none : length E - k ≡ 0 = omega arith in
-    is ∙ ap₂ (λ xs n. own_enrolments s xs ++ replicate n []) (take_all k E le) none
-    ∙ append-nil (own_enrolments s E)
+own_whole s E own k le is = grind (arith, common_steps, append-nil, take_all)

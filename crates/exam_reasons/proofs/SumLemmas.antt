@@ -1,6 +1,7 @@
 -- The points of reasons, added up.
+use Rattle.std.proofs.lemmas.Grind.{common_steps}
 use Rattle.std.specs.Prelude.{slice_get}
-use Rattle.std.proofs.Common.{◌≡◌, ℕ, zero, suc, ◌+◌, ◌*◌, ◌==◌, Bool, true, false, cond, List, Option, Some, None, length, sum_by, refl, sym, ◌∙◌, ap, ap₂, arith}
+use Rattle.std.proofs.Common.{◌≡◌, ℕ, zero, suc, ◌+◌, ◌*◌, ◌==◌, Bool, cond, List, Option, Some, None, length, sum_by, refl, sym, ◌∙◌, ap, arith}
 use Rattle.std.proofs.lemmas.Bool.{eqb-true}
 use Rattle.std.proofs.lemmas.List.Sums.{sum_by-append}
 use Rattle.std.proofs.lemmas.Option.{slice_get_past}
@@ -25,20 +26,14 @@ use Rattle.exam_reasons.specs.declared.reasons.PairKind.TheVariants.{Day, Night,
 -- a reason that is left out if it has no points
 points_listed : {X : Type 0} (points : X → ℕ) (p : ℕ) (reason : X) → points reason ≡ p
     → sum_by points (listed (cond (p == 0) None (Some reason))) ≡ p
-points_listed {X} points p reason is = by_test (p == 0) refl
-  where
-    by_test : (none : Bool) → (p == 0) ≡ none
-        → sum_by points (listed (cond (p == 0) None (Some reason))) ≡ p
-    by_test true same = rw same (sym (eqb-true p 0 same))
-    by_test false same = rw same (grind (arith, is))
+points_listed {X} points p reason is = grind (arith, common_steps, eqb-true)
 
 -- the lists that numbers give, by the sum of each
 points_below : {X : Type 0} (points : X → ℕ) (n : ℕ) (f : ℕ → List X) (g : ℕ → ℕ)
     → ((k : ℕ) → sum_by points (f k) ≡ g k) → sum_by points (all_below n f) ≡ sum_below n g
 points_below points zero f g each = refl
 points_below points (suc n) f g each =
-    sum_by-append points (all_below n f) (f n)
-    ∙ ap₂ (λ a b. a + b) (points_below points n f g each) (each n)
+    grind (arith, common_steps, points_below points n f g each, sum_by-append)
 
 -- ---- amounts of places, once for each exam there
 
@@ -105,10 +100,7 @@ pub pairs_sum : (I : Session) (E : Enrolled) (T : Placing) (kind : PairKind)
     → sum_by (λ reason. reason.points)
     (all_below (length E) (λ f. all_below f (λ e. listed (pair_reason I E T kind e f))))
     ≡ sum_below (length E) (λ f. sum_below f (λ e. pair_points I E T kind e f))
-pairs_sum I E T kind =
-    points_below _ (length E) _ _
-    (λ f. points_below _ f _ (λ e. pair_points I E T kind e f)
-    (λ e. points_listed _ (pair_points I E T kind e f) _ refl))
+pairs_sum I E T kind = grind (arith, common_steps, points_below, points_listed)
 
 pub add_up : (I : Session) (E : Enrolled) (T : Placing) → Fits I E T → ReasonsAddUp I E T
 add_up I E T fits = record {
