@@ -1,4 +1,5 @@
 -- A search for a breach in a list in order.
+use Rattle.std.proofs.lemmas.Grind.{common_steps}
 use Rattle.std.specs.Cmp.{IsTotalOrder, nat_cmp_total, on_total, then_total}
 use Rattle.std.specs.List.{list_any}
 use Rattle.std.specs.List.Sorted.{IsBinarySearchResult, IsSearchInRange, IsSortedBy, IsStrictlySortedBy}
@@ -73,12 +74,7 @@ same_ranks : (a b : Breach) → is_eq (breach_cmp a b) ≡ true
 same_ranks a b is = (grind (arith, nat_tests, is), grind (arith, nat_tests, is), grind (arith, nat_tests, is))
 
 same_breach : (a b : Breach) → is_eq (breach_cmp a b) ≡ true → a ≡ b
-same_breach a b is =
-    let same = same_ranks a b is in
-    let rule : a.rule ≡ b.rule = sym (rule_ranked a.rule) ∙ ap rule_at same.0 ∙ rule_ranked b.rule in
-    ap (λ (r : BreachRule). record { rule = r; exam = a.exam; other = a.other }) rule
-    ∙ ap (λ (e : ℕ). record { rule = b.rule; exam = e; other = a.other }) same.1
-    ∙ ap (λ (e : ℕ). record { rule = b.rule; exam = b.exam; other = e }) same.2
+same_breach a b is = grind (arith, common_steps, rule_ranked, same_ranks)
 
 equal_itself : (b : Breach) → is_eq (breach_cmp b b) ≡ true
 equal_itself b = grind (arith, nat_tests)
@@ -93,15 +89,10 @@ listed_as xs test says b = go (list_any equal xs) refl (test b) refl
     equal c = is_eq (breach_cmp c b)
 
     there : list_any equal xs ≡ true → test b ≡ true
-    there is =
-        let found = Any-from_list_any equal xs is in
-        let same = same_breach found.1 b found.4 in
-        (says b).0 (subst (Contains xs) same (found.0, found.2, found.3))
+    there is = grind (arith, common_steps, Any-from_list_any, same_breach)
 
     here : test b ≡ true → list_any equal xs ≡ true
-    here is =
-        let at = (says b).1 is in
-        list_any_at equal xs at.0 b at.1 (ap equal at.2 ∙ equal_itself b)
+    here is = grind (arith, common_steps, equal_itself, list_any_at)
 
     go : (m : Bool) → list_any equal xs ≡ m → (n : Bool) → test b ≡ n → m ≡ n
     go true is true of = refl
