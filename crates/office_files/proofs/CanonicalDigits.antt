@@ -1,5 +1,6 @@
 -- Numbers in two digits and in four.
-use Rattle.std.proofs.Common.{◌≡◌, ℕ, ◌+◌, ◌/◌, ◌%◌, ◌^◌, ◌-◌, ◌<◌, ◌≤◌, ◌++◌, ◌∷◌, [], List, arith, refl, false, ◌∙◌, ap, inl, inr}
+use Rattle.std.proofs.lemmas.Grind.{common_steps}
+use Rattle.std.proofs.Common.{◌≡◌, ℕ, ◌+◌, ◌/◌, ◌%◌, ◌^◌, ◌-◌, ◌<◌, ◌≤◌, ◌++◌, ◌∷◌, [], arith, refl, false, inl, inr}
 use Rattle.std.specs.Prelude.{decimal}
 use Rattle.std.specs.Fmt.{padded_integral, format_spec, char_count}
 use Rattle.std.proofs.lemmas.Fmt.{decimal_digit, decimal_step}
@@ -8,35 +9,16 @@ use Rattle.office_files.specs.CanonicalLines.{two_digits}
 
 -- a number of two digits
 tens : (n : ℕ) → 10 ≤ n → n < 100 → decimal n ≡ two_digits n
-tens n least most =
-    decimal_step n least (omega arith)
-    ∙ ap (λ (ds : List ℕ). ds ++ (48 + n % 10) ∷ []) (decimal_digit (n / 10) (omega arith))
+tens n least most = grind (arith, common_steps, decimal_digit, decimal_step)
 
 -- a number of three digits
 hundreds : (n : ℕ) → 100 ≤ n → n < 1000
     → decimal n ≡ (48 + n / 100) ∷ two_digits (n % 100)
-hundreds n least most =
-    let high : n / 10 / 10 ≡ n / 100 = omega arith in
-    let mid : n / 10 % 10 ≡ n % 100 / 10 = omega arith in
-    let low : n % 10 ≡ n % 100 % 10 = omega arith in
-    rw (decimal_step n (omega arith) (omega arith), tens (n / 10) (omega arith) (omega arith), high, mid, low)
-    refl
+hundreds n least most = grind (arith, common_steps, decimal_step, tens)
 
 -- a number of four digits
 thousands : (n : ℕ) → 1000 ≤ n → n ≤ 9999 → decimal n ≡ two_digits (n / 100) ++ two_digits (n % 100)
-thousands n least most =
-    let first : n / 10 / 100 ≡ n / 100 / 10 = omega arith in
-    let second : n / 10 % 100 / 10 ≡ n / 100 % 10 = omega arith in
-    let third : n / 10 % 100 % 10 ≡ n % 100 / 10 = omega arith in
-    let last : n % 10 ≡ n % 100 % 10 = omega arith in
-    rw (
-      decimal_step n (omega arith) (omega arith),
-      hundreds (n / 10) (omega arith) (omega arith),
-      first,
-      second,
-      third,
-      last,
-    ) refl
+thousands n least most = grind (arith, common_steps, decimal_step, hundreds)
 
 -- the text written for `{:02}`
 pub two_padded : (n : ℕ) → n < 100 →

@@ -1,5 +1,6 @@
 -- The canonical text of an instance is a text of it.
-use Rattle.std.proofs.Common.{◌≡◌, ℕ, zero, suc, ◌+◌, ◌*◌, ◌<◌, ◌≤◌, ◌/◌, false, List, [], ◌∷◌, ◌++◌, length}
+use Rattle.std.proofs.lemmas.Grind.{common_steps}
+use Rattle.std.proofs.Common.{◌≡◌, ℕ, zero, suc, ◌+◌, ◌*◌, ◌<◌, ◌≤◌, ◌/◌, false, List, [], ◌∷◌, ◌++◌, length, rules}
 use Rattle.std.proofs.Common.{Ok, eqb, refl, sym, ap, subst, ◌∙◌, arith, length-append}
 use Rattle.std.specs.Prelude.{map, decimal, codes, All, nat_lt, not, ◌==◌}
 use Rattle.std.specs.List.{flat_map, AllByRecursion}
@@ -23,7 +24,6 @@ use Rattle.exam_model.specs.declared.rules.PeriodRule.{PeriodRule}
 use Rattle.exam_model.specs.declared.rules.PeriodRule.TheVariants.{After, Coincidence, Exclusion}
 use Rattle.exam_model.specs.declared.rules.RoomRule.{RoomRule}
 use Rattle.office_files.specs.CanonicalLines.{line_of, field_before, exam_text, period_text, room_text}
-use Rattle.office_files.specs.CanonicalLines.{date_text, time_text}
 use Rattle.office_files.specs.CanonicalText.{header_text, section_text}
 use Rattle.office_files.specs.CanonicalLines.{period_rule_text, room_rule_text, weighting_text}
 use Rattle.office_files.specs.CanonicalText.{nights_of, weightings_of, exam_lines_of, canonical_instance}
@@ -152,12 +152,7 @@ pairs_all [] [] same = refl
 pairs_all [] (ss ∷ E) same = absurd (omega arith)
 pairs_all (e ∷ es) [] same = absurd (omega arith)
 pairs_all (e ∷ es) (ss ∷ E) same =
-    let line : ExamLine = record { minutes = e.minutes; students = ss } in
-    let count : ExamLine → ℕ = λ line. length line.students in
-    let first = sum_by-cons count line (exam_lines_of es E) in
-    let whole = sum_by-cons length ss E in
-    let others = pairs_all es E (omega arith) in
-    omega arith
+    grind (arith, common_steps, pairs_all es E (omega arith), sum_by-cons)
 
 exams_back : (es : List Exam) (E : Enrolled) → length E ≡ length es
     → map exam_of (exam_lines_of es E) ≡ es
@@ -295,9 +290,7 @@ exam_short e is =
     numbers_short : (ss : List ℕ) → AllByRecursion (λ s. s ≤ 999999999) ss
         → AllByRecursion (λ s. length (44 ∷ 32 ∷ decimal s) ≤ 11) ss
     numbers_short [] all = tt
-    numbers_short (s ∷ ss) all =
-        let one = length_decimal 9 s (omega arith) (omega (arith, all.0)) (omega (arith, all.0)) in
-        (omega arith, numbers_short ss all.1)
+    numbers_short (s ∷ ss) all = grind (arith, common_steps, numbers_short ss all.1, length_decimal)
 
 exams_short : (es : List ExamLine) → AllByRecursion IsSuch es
     → length (flat_map (λ e. line_of (exam_text e)) es) ≤ length es * 6 + pairs_on es * 11
@@ -313,62 +306,30 @@ exams_short (e ∷ es) such =
     omega arith
 
 period_short : (p : Period) → PeriodInLimits p → length (line_of (period_text p)) ≤ 36
-period_short p is =
-    let line = line_length (period_text p) in
-    let last = before_length (decimal p.length) (decimal p.penalty) in
-    let mid = before_length (time_text p) (field_before (decimal p.length) (decimal p.penalty)) in
-    let all = before_length (date_text p.date)
-    (field_before (time_text p) (field_before (decimal p.length) (decimal p.penalty))) in
-    let date : length (date_text p.date) ≡ 10 = refl in
-    let time : length (time_text p) ≡ 8 = refl in
-    let minutes = four p.length (omega (arith, is.4)) in
-    let penalty = amount p.penalty is.5 in
-    omega arith
+period_short p is = grind (arith, common_steps, amount, before_length, four, line_length)
 
 room_short : (r : Room) → RoomInLimits r → length (line_of (room_text r)) ≤ 36
-room_short r is =
-    let line = line_length (room_text r) in
-    let all = before_length (decimal r.capacity) (decimal r.penalty) in
-    let capacity = amount r.capacity is.0 in
-    let penalty = amount r.penalty is.1 in
-    omega arith
+room_short r is = grind (arith, common_steps, amount, before_length, line_length)
 
 rule_length : (a b : ℕ) (word : List ℕ) → a < 2000 → b < 2000 → length word ≤ 16
     → length (line_of (field_before (decimal a) (field_before word (decimal b)))) ≤ 36
-rule_length a b word a_in b_in short =
-    let line = line_length (field_before (decimal a) (field_before word (decimal b))) in
-    let mid = before_length word (decimal b) in
-    let all = before_length (decimal a) (field_before word (decimal b)) in
-    let one = four a (omega arith) in
-    let other = four b (omega arith) in
-    omega arith
+rule_length a b word a_in b_in short = grind (arith, common_steps, before_length, four, line_length)
 
 period_rule_short : (n : ℕ) (r : PeriodRule) → n ≤ 2000 → PeriodRuleExists n r
     → length (line_of (period_rule_text r)) ≤ 36
 period_rule_short n (After a b) le is =
     rule_length a b (codes "AFTER") (omega (arith, is.0)) (omega (arith, is.1)) (omega arith)
-period_rule_short n (Coincidence a b) le is =
-    rule_length a b (codes "EXAM_COINCIDENCE") (omega (arith, is.0))
-    (omega (arith, is.1)) (omega arith)
+period_rule_short n (Coincidence a b) le is = search (rules, rule_length)
 period_rule_short n (Exclusion a b) le is =
     rule_length a b (codes "EXCLUSION") (omega (arith, is.0)) (omega (arith, is.1)) (omega arith)
 
 room_rule_short : (n : ℕ) (r : RoomRule) → n ≤ 2000 → RoomRuleExists n r
     → length (line_of (room_rule_text r)) ≤ 36
-room_rule_short n r le is =
-    let line = line_length (room_rule_text r) in
-    let all = before_length (decimal r.0) (codes "ROOM_EXCLUSIVE") in
-    let one = four r.0 (omega (arith, is)) in
-    let word : length (codes "ROOM_EXCLUSIVE") ≡ 14 = refl in
-    omega arith
+room_rule_short n r le is = grind (arith, common_steps, before_length, four, line_length)
 
 weighed_short : (word : List ℕ) (n : ℕ) → n ≤ 100000 → length word ≤ 17
     → length (line_of (word ++ 44 ∷ decimal n)) ≤ 36
-weighed_short word n le short =
-    let line = line_length (word ++ 44 ∷ decimal n) in
-    let all = length-append word (44 ∷ decimal n) in
-    let one = amount n le in
-    omega arith
+weighed_short word n le short = grind (arith, common_steps, amount, length-append, line_length)
 
 nights_short : (n : ℕ) → n ≤ 100000
     → AllByRecursion (λ s. length (line_of (weighting_text s)) ≤ 36) (nights_of n)
@@ -404,17 +365,7 @@ weightings_short w is = (
         (codes "FRONTLOAD" ++ 44 ∷ (decimal n ++ 44 ∷ (decimal k ++ 44 ∷ decimal v))))
         ≤ 36
     front_short n k v n_in k_in v_in =
-        let text : List ℕ =
-        codes "FRONTLOAD" ++ 44 ∷ (decimal n ++ 44 ∷ (decimal k ++ 44 ∷ decimal v)) in
-        let line = line_length text in
-        let word = length-append (codes "FRONTLOAD")
-        (44 ∷ (decimal n ++ 44 ∷ (decimal k ++ 44 ∷ decimal v))) in
-        let front = length-append (decimal n) (44 ∷ (decimal k ++ 44 ∷ decimal v)) in
-        let back = length-append (decimal k) (44 ∷ decimal v) in
-        let one = amount n n_in in
-        let two = amount k k_in in
-        let three = amount v v_in in
-        omega arith
+        grind (arith, common_steps, amount, length-append, line_length)
 
 -- ---- the whole
 

@@ -1,17 +1,17 @@
 -- The line written for an item reads back as the item.
-use Rattle.std.proofs.Common.{◌≡◌, ◌≢◌, ℕ, zero, suc, ◌+◌, ◌-◌, ◌*◌, ◌/◌, ◌%◌, ◌<◌, ◌≤◌, true}
-use Rattle.std.proofs.Common.{List, [], ◌∷◌, ◌++◌, length, Some, None, Ok, refl, sym, subst, ◌∙◌, arith, append-nil}
+use Rattle.std.proofs.lemmas.Grind.{common_steps}
+use Rattle.std.proofs.Common.{◌≡◌, ◌≢◌, ℕ, zero, suc, ◌+◌, ◌-◌, ◌*◌, ◌/◌, ◌%◌, ◌<◌, ◌≤◌, true, rules}
+use Rattle.std.proofs.Common.{List, [], ◌∷◌, ◌++◌, length, Some, None, Ok, refl, sym, subst, arith, append-nil}
 use Rattle.std.specs.Prelude.{map, decimal, codes}
 use Rattle.std.specs.List.{flat_map, AllByRecursion}
 use Rattle.std.proofs.lemmas.Bool.{eq-eqb, ne_eqb, le-leb}
 use Rattle.std.proofs.lemmas.List.Concat.{flat_map-cons}
 use Rattle.std.proofs.Math.Bool.{or-false}
-use Rattle.exam_lists.proofs.Digits.{is_digit}
 use Rattle.exam_calendar.specs.Dates.{is_civil}
 use Rattle.exam_calendar.specs.declared.date.Date.{Date}
 use Rattle.exam_calendar.proofs.DateLemmas.{date_ranges}
 use Rattle.exam_model.proofs.SameSet.{same_list}
-use Rattle.exam_model.specs.Enrolments.{IsAscending, has_number}
+use Rattle.exam_model.specs.Enrolments.{IsAscending}
 use Rattle.exam_model.specs.Instance.{PeriodRuleExists, RoomRuleExists}
 use Rattle.exam_model.specs.Limits.{PeriodInLimits, RoomInLimits, WeightsInLimits}
 use Rattle.exam_model.specs.declared.parts.Period.{Period}
@@ -52,11 +52,7 @@ room_written r is =
     (line_single (decimal r.penalty) (field_decimal r.penalty (omega (arith, is.1))))
 
 pub room_back : (r : Room) → RoomInLimits r → room_in (room_fields r) ≡ Ok r
-room_back r is =
-    rw (
-      number_decimal 100000 r.capacity is.0 (omega arith),
-      number_decimal 100000 r.penalty is.1 (omega arith),
-    ) refl
+room_back r is = grind (arith, common_steps, number_decimal)
 
 -- ---- rules
 
@@ -87,21 +83,9 @@ period_rule_written n (Exclusion a b) le is =
 
 pub period_rule_back : (n : ℕ) (r : PeriodRule) → n ≤ 2000 → PeriodRuleExists n r
     → period_rule_in n (period_rule_fields r) ≡ Ok r
-period_rule_back n (After a b) le is =
-    rw (
-      number_decimal (n - 1) a (omega (arith, is.0)) (omega arith),
-      number_decimal (n - 1) b (omega (arith, is.1)) (omega arith),
-    ) refl
-period_rule_back n (Coincidence a b) le is =
-    rw (
-      number_decimal (n - 1) a (omega (arith, is.0)) (omega arith),
-      number_decimal (n - 1) b (omega (arith, is.1)) (omega arith),
-    ) refl
-period_rule_back n (Exclusion a b) le is =
-    rw (
-      number_decimal (n - 1) a (omega (arith, is.0)) (omega arith),
-      number_decimal (n - 1) b (omega (arith, is.1)) (omega arith),
-    ) refl
+period_rule_back n (After a b) le is = grind (arith, common_steps, number_decimal)
+period_rule_back n (Coincidence a b) le is = grind (arith, common_steps, number_decimal)
+period_rule_back n (Exclusion a b) le is = grind (arith, common_steps, number_decimal)
 
 abbrev pub room_rule_fields : RoomRule → List (List ℕ)
 room_rule_fields r = decimal r.0 ∷ codes "ROOM_EXCLUSIVE" ∷ []
@@ -230,26 +214,17 @@ exam_written e le all =
 all_named : (ss : List ℕ) → AllByRecursion (λ s. s ≤ 999999999) ss
     → (named_in (map decimal ss) ≡ ss) × (fault_in (map decimal ss) ≡ None)
 all_named [] all = (refl, refl)
-all_named (s ∷ ss) all =
-    let first = number_decimal 999999999 s all.0 (omega arith) in
-    let others = all_named ss all.1 in
-    (rw (first, others.0) refl, rw (first, others.1) refl)
+all_named (s ∷ ss) all = grind (arith, common_steps, all_named ss all.1, number_decimal)
 
 in_order : (ss : List ℕ) → IsAscending ss → with_students ss [] ≡ ss
 in_order ss up =
-    same_list (with_students ss []) ss (ascending-students ss [] ascending-none) up
-    (λ t. has-students ss [] t ∙ or-false (has_number ss t))
+    search (rules, ascending-none, ascending-students, has-students, or-false, same_list)
 
 pub exam_back : (pairs : ℕ) (e : ExamLine) → e.minutes ≤ 1440
     → AllByRecursion (λ s. s ≤ 999999999) e.students → IsAscending e.students
     → pairs + length e.students ≤ 200000 → exam_after_pairs pairs (exam_fields e) ≡ Ok e
 exam_back pairs e le all up fits =
-    let named = all_named e.students all in
-    let inside = in_order e.students up in
-    let read = rw (named.0, named.1, inside) at (students_in-within pairs []
-    (map decimal e.students)
-    (rw (named.0, inside) fits)) in
-    rw (number_decimal 1440 e.minutes le (omega arith), read) refl
+    search (rules, all_named, in_order, number_decimal, students_in-within)
 
 -- ---- dates and times
 
@@ -262,40 +237,15 @@ two_apart : (n : ℕ) → n < 100 → AllByRecursion (λ b. b ≢ 58) (two_digit
 two_apart n lt = ((λ same. omega arith), ((λ same. omega arith), tt))
 
 number_two : (limit n : ℕ) → n < 100 → n ≤ limit → number limit (two_digits n) ≡ Ok n
-number_two limit n lt le =
-    let value : 10 * (10 * 0 + (48 + n / 10 - 48)) + (48 + n % 10 - 48) ≡ n = omega arith in
-    rw (
-      is_digit (48 + n / 10) (omega arith) (omega arith),
-      is_digit (48 + n % 10) (omega arith) (omega arith),
-      value,
-      le-leb n limit le,
-    ) refl
+number_two limit n lt le = grind (arith, common_steps, le-leb)
 
 pub time_back : (p : Period) → p.hour ≤ 23 → p.minute ≤ 59 → p.second ≤ 59
     → time_of (time_text p) ≡ Ok (p.hour, p.minute, p.second)
-time_back p hour minute second =
-    rw (
-      split_stop 58 (two_digits p.hour) (two_digits p.minute ++ 58 ∷ two_digits p.second)
-          (two_apart p.hour (omega arith)),
-      split_stop 58 (two_digits p.minute) (two_digits p.second) (two_apart p.minute (omega arith)),
-      number_two 23 p.hour (omega arith) hour,
-      number_two 59 p.minute (omega arith) minute,
-      number_two 59 p.second (omega arith) second,
-    ) refl
+time_back p hour minute second = grind (arith, common_steps, number_two, split_stop, two_apart)
 
 number_four : (a b y : ℕ) → a < 100 → b < 100 → y ≡ a * 100 + b → y ≤ 9999
     → number 9999 (two_digits a ++ two_digits b) ≡ Ok y
-number_four a b y a_in b_in is le =
-    let value : 10 * (10 * (10 * (10 * 0 + (48 + a / 10 - 48)) + (48 + a % 10 - 48))
-    + (48 + b / 10 - 48)) + (48 + b % 10 - 48) ≡ y = omega arith in
-    rw (
-      is_digit (48 + a / 10) (omega arith) (omega arith),
-      is_digit (48 + a % 10) (omega arith) (omega arith),
-      is_digit (48 + b / 10) (omega arith) (omega arith),
-      is_digit (48 + b % 10) (omega arith) (omega arith),
-      value,
-      le-leb y 9999 le,
-    ) refl
+number_four a b y a_in b_in is le = grind (arith, common_steps, le-leb)
 
 pub date_back : (d : Date) → is_civil d ≡ true → date_of (date_text d) ≡ Ok d
 date_back d civil =
@@ -325,25 +275,10 @@ two_field : (n : ℕ) → (plain_byte (48 + n / 10) ≡ true) × (plain_byte (48
 two_field n = (plain_digit (48 + n / 10) (omega arith), plain_digit (48 + n % 10) (omega arith))
 
 date_field : (d : Date) → IsField (date_text d)
-date_field d =
-    let day = two_field d.day in
-    let month = two_field d.month in
-    let front = two_field (d.year / 100) in
-    let back = two_field (d.year % 100) in
-    record {
-      some = omega arith;
-      plain = rw (day.0, day.1, month.0, month.1, front.0, front.1, back.0, back.1) refl;
-    }
+date_field d = grind (arith, common_steps, two_field)
 
 time_field : (p : Period) → IsField (time_text p)
-time_field p =
-    let hour = two_field p.hour in
-    let minute = two_field p.minute in
-    let second = two_field p.second in
-    record {
-      some = omega arith;
-      plain = rw (hour.0, hour.1, minute.0, minute.1, second.0, second.1) refl;
-    }
+time_field p = grind (arith, common_steps, two_field)
 
 pub period_written : (p : Period) → PeriodInLimits p → IsLine (period_text p) (period_fields p)
 period_written p is =
@@ -357,10 +292,4 @@ period_written p is =
     (line_single (decimal p.penalty) (field_decimal p.penalty (omega (arith, is.5))))))
 
 pub period_back : (p : Period) → PeriodInLimits p → period_in (period_fields p) ≡ Ok p
-period_back p is =
-    rw (
-      date_back p.date is.0,
-      time_back p is.1 is.2 is.3,
-      number_decimal 1440 p.length is.4 (omega arith),
-      number_decimal 100000 p.penalty is.5 (omega arith),
-    ) refl
+period_back p is = grind (arith, common_steps, date_back, number_decimal, time_back)

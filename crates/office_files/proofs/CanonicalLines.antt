@@ -1,10 +1,10 @@
 -- Written lines are read back: as many lines, and of each its fields.
-use Rattle.std.proofs.Common.{◌≡◌, ◌≢◌, ℕ, ◌+◌, ◌-◌, ◌*◌, ◌%◌, ◌^◌, ◌<◌, ◌≤◌, Bool, true, false}
+use Rattle.std.proofs.lemmas.Grind.{common_steps}
+use Rattle.std.proofs.Common.{◌≡◌, ◌≢◌, ℕ, ◌+◌, ◌-◌, ◌*◌, ◌%◌, ◌^◌, ◌<◌, ◌≤◌, Bool, true, false, rules}
 use Rattle.std.proofs.Common.{List, [], ◌∷◌, ◌++◌, length, refl, sym, ap, ap₂, ◌∙◌, arith, append-nil}
 use Rattle.std.specs.Prelude.{◌==◌, ◌&&◌, not, nat_lt, map, decimal, Result, Ok}
 use Rattle.std.specs.List.{list_all, flat_map, AllByRecursion}
 use Rattle.std.specs.Char.{is_ascii_digit}
-use mathlib.Core.Bool.{true≢false}
 use Rattle.std.proofs.lemmas.Bool.{eq-eqb, ne_eqb, and_parts, lt-ltb, le-leb}
 use Rattle.std.proofs.lemmas.Fmt.{decimal_by_steps, length-decimal-le}
 use Rattle.std.proofs.lemmas.List.{append_assoc}
@@ -38,11 +38,7 @@ pub record IsField (f : List ℕ) : Type 0 where
   pub plain : list_all plain_byte f ≡ true
 
 no_blank : (b : ℕ) → plain_byte b ≡ true → is_blank b ≡ false
-no_blank b e =
-    rw (
-      ne_eqb b 32 (λ same. true≢false (sym e ∙ ap plain_byte same)),
-      ne_eqb b 9 (λ same. true≢false (sym e ∙ ap plain_byte same)),
-    ) refl
+no_blank b e = grind (arith, common_steps, ne_eqb)
 
 -- ---- cutting
 
@@ -84,9 +80,7 @@ end_after (x ∷ xs) ys some e =
 
 start_plain : (f ys : List ℕ) → IsField f → trim_start (f ++ ys) ≡ f ++ ys
 start_plain [] ys is = let some = is.some in absurd (omega arith)
-start_plain (x ∷ xs) ys is =
-    trim_start-kept x (xs ++ ys)
-    (no_blank x (and_parts (plain_byte x) (list_all plain_byte xs) is.plain).0)
+start_plain (x ∷ xs) ys is = grind (arith, common_steps, and_parts, no_blank, trim_start-kept)
 
 -- ---- lines
 
@@ -101,14 +95,7 @@ pub record IsLine (text : List ℕ) (fields : List (List ℕ)) : Type 0 where
 field_single : (f : List ℕ) → IsField f → fields_of f ≡ f ∷ []
 field_single [] is = let some = is.some in absurd (omega arith)
 field_single (x ∷ xs) is =
-    let f : List ℕ = x ∷ xs in
-    ap (map trimmed_text) (parts_single 44 x xs (all_apart plain_byte 44 refl f is.plain))
-    ∙ ap (λ (g : List ℕ). g ∷ []) (trimmed_plain f is)
-  where
-    trimmed_plain : (f : List ℕ) → IsField f → trimmed_text f ≡ f
-    trimmed_plain f is =
-        ap trim_end (ap trim_start (sym (append-nil f)) ∙ start_plain f [] is ∙ append-nil f)
-        ∙ end_plain f is.plain
+    grind (arith, common_steps, all_apart, append-nil, end_plain, parts_single, start_plain)
 
 -- a line with one field
 pub line_single : (f : List ℕ) → IsField f → IsLine f (f ∷ [])
@@ -122,10 +109,7 @@ line_single f is = record {
 
 field_first : (f ys : List ℕ) → IsField f → fields_of (f ++ 44 ∷ ys) ≡ f ∷ fields_of ys
 field_first f ys is =
-    ap (map trimmed_text) (parts_stop 44 f ys (all_apart plain_byte 44 refl f is.plain))
-    ∙ ap (λ (g : List ℕ). g ∷ fields_of ys)
-    (ap trim_end (ap trim_start (sym (append-nil f)) ∙ start_plain f [] is ∙ append-nil f)
-    ∙ end_plain f is.plain)
+    grind (arith, common_steps, all_apart, append-nil f, end_plain, parts_stop, start_plain f [] is)
 
 -- a field in front of others, with only a comma between
 pub line_comma : (f ys : List ℕ) (fields : List (List ℕ)) → IsField f → IsLine ys fields
@@ -203,9 +187,7 @@ field_decimal n lt =
 -- that reads as the number
 pub number_decimal : (limit n : ℕ) → n ≤ limit → limit < 2000000000
     → number limit (decimal n) ≡ Ok n
-number_decimal limit n le lt =
-    let is = is_decimal n (small n (omega arith)) in
-    rw (lt-ltb 0 (length (decimal n)) is.some, is.digits, is.value, le-leb n limit le) refl
+number_decimal limit n le lt = grind (arith, common_steps, is_decimal, le-leb, lt-ltb, small)
 
 -- a byte that is no digit isn't in a decimal
 pub decimal_apart : (c n : ℕ) → is_ascii_digit c ≡ false → n < 2000000000
@@ -224,9 +206,7 @@ decimal_first n ys lt =
     first (d ∷ ds) some all = ne_eqb d 91 all.0
 
 pub trimmed_field : (f : List ℕ) → IsField f → trimmed_text f ≡ f
-trimmed_field f is =
-    ap trim_end (ap trim_start (sym (append-nil f)) ∙ start_plain f [] is ∙ append-nil f)
-    ∙ end_plain f is.plain
+trimmed_field f is = grind (arith, common_steps, append-nil f, end_plain, start_plain f [] is)
 
 -- a decimal has at most this many digits
 pub length_decimal : (k n : ℕ) → 0 < k → n < 10 ^ k → n < 2000000000 → length (decimal n) ≤ k
@@ -270,9 +250,7 @@ row_first text fields is line at ys =
 module _ {A : Type 0} (text : A → List ℕ) (fields : A → List (List ℕ)) where
   all_split : (x : A) (xs : List A) (ys : List ℕ) → flat_map (λ x. line_of (text x)) (x ∷ xs) ++ ys
       ≡ line_of (text x) ++ (flat_map (λ x. line_of (text x)) xs ++ ys)
-  all_split x xs ys =
-      ap (λ (zs : List ℕ). zs ++ ys) (flat_map-cons (λ x. line_of (text x)) x xs)
-      ∙ append_assoc (line_of (text x)) (flat_map (λ x. line_of (text x)) xs) ys
+  all_split x xs ys = grind (arith, common_steps, append_assoc, flat_map-cons)
 
   -- a line for each element of a list, followed by the others
   pub row_each : (xs : List A) → AllByRecursion (λ x. IsLine (text x) (fields x)) xs
@@ -307,9 +285,4 @@ module _ {A : Type 0} (text : A → List ℕ) (fields : A → List (List ℕ)) w
   read_each read done [] (row ∷ found) is e r = cc
   read_each read done (x ∷ xs) [] is e r = cc
   read_each read done (x ∷ xs) (row ∷ found) is e r =
-      let head : row.text ≡ text x = cc in
-      let tail : map (λ row. row.text) found ≡ map text xs = cc in
-      let first : read done (fields_of row.text) ≡ Ok x
-      = ap (λ t. read done (fields_of t)) head ∙ ap (read done) is.0.fields_are ∙ r.0 in
-      let more = read_each read (done ++ x ∷ []) xs found is.1 tail r.1 in
-      rw first (more ∙ rw append_assoc refl)
+      search (rules, read_each read (done ++ x ∷ []) xs found is.1 (cc) r.1, append_assoc)

@@ -1,4 +1,5 @@
 -- A section that is written is a section of the text.
+use Rattle.std.proofs.lemmas.Grind.{common_steps}
 use Rattle.std.proofs.Common.{◌≡◌, ◌≢◌, ℕ, ◌+◌, ◌*◌, ◌<◌, ◌≤◌, true, false, List, [], ◌∷◌, ◌++◌, length}
 use Rattle.std.proofs.Common.{Result, Ok, refl, sym, ap, subst, ◌∙◌, append_assoc, arith, length-append}
 use Rattle.std.specs.Prelude.{map, decimal, All}
@@ -54,14 +55,7 @@ plain_said word is =
 
 pub counted_field : (word : List ℕ) (n : ℕ) → IsWord word → n < 2000000000
     → IsField (91 ∷ (word ++ 58 ∷ (decimal n ++ 93 ∷ [])))
-counted_field word n is lt =
-    let digits = field_decimal n lt in
-    record {
-      some = omega arith;
-      plain = list_all-append plain_byte word (58 ∷ (decimal n ++ 93 ∷ []))
-          ∙ rw (is.field.plain, list_all-append plain_byte (decimal n) (93 ∷ []), digits.plain)
-          refl;
-    }
+counted_field word n is lt = grind (arith, common_steps, field_decimal, list_all-append, plain_byte)
 
 pub plain_field : (word : List ℕ) → IsWord word → IsField (91 ∷ (word ++ 93 ∷ []))
 plain_field word is = record {
@@ -81,11 +75,7 @@ counted_short word n is le =
 
 pub plain_short : (word : List ℕ) → IsWord word
     → length (line_of (91 ∷ (word ++ 93 ∷ []))) ≤ 45
-plain_short word is =
-    let all = length-append word (93 ∷ []) in
-    let line = length-append (91 ∷ (word ++ 93 ∷ [])) (13 ∷ 10 ∷ []) in
-    let short = is.short in
-    omega arith
+plain_short word is = grind (arith, common_steps, length-append)
 
 -- lines that begin with a header
 pub at_header : (text ys : List ℕ) → IsField text → is_header text ≡ true → (line at : ℕ)
@@ -105,10 +95,7 @@ module _ {A : Type 0} (heading : Heading) (read : List A → List (List ℕ) →
   no_headers [] (row ∷ found) e none = cc
   no_headers (x ∷ xs) [] e none = cc
   no_headers (x ∷ xs) (row ∷ found) e none =
-      let head : row.text ≡ text x = cc in
-      let tail : map (λ row. row.text) found ≡ map text xs = cc in
-      All-cons (λ (line : Located). is_header line.text ≡ false) row found
-      (ap is_header head ∙ none.0) (no_headers xs found tail none.1)
+      grind (arith, common_steps, no_headers xs found (cc) none.1, All-cons)
 
   pub record IsWritten (xs : List A) : Type 0 where
     pub headed : header_in heading (length xs) (header_text heading (length xs)) ≡ Ok tt
@@ -161,11 +148,7 @@ module _ {A : Type 0} (heading : Heading) (read : List A → List (List ℕ) →
       → length (line_of (header_text heading (length xs))) ≤ 45
       → AllByRecursion (λ x. length (line_of (text x)) ≤ k) xs
       → length (section_text heading text xs) ≤ 45 + length xs * k
-  section_short k xs header lines =
-      let flat : List ℕ = flat_map (λ x. line_of (text x)) xs in
-      let short = length_flat_map-le (λ x. line_of (text x)) k xs lines in
-      let both = length-append (line_of (header_text heading (length xs))) flat in
-      omega arith
+  section_short k xs header lines = grind (arith, common_steps, length-append, length_flat_map-le)
 
   -- it begins with its header
   pub at_section : (xs : List A) → IsWritten xs → (ys : List ℕ) (line at : ℕ)

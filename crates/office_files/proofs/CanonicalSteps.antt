@@ -1,4 +1,5 @@
 -- Lines added one after another.
+use Rattle.std.proofs.lemmas.Grind.{common_steps}
 use Rattle.std.proofs.Common.{◌≡◌, ℕ, zero, suc, ◌<◌, List, [], ◌∷◌, ◌++◌, length}
 use Rattle.std.proofs.Common.{refl, ap, arith, append_assoc, append-nil}
 use Rattle.std.specs.Prelude.{Some, slice_get}
@@ -39,7 +40,5 @@ pub line_at : (es : List Exam) (E : Enrolled) (i : ℕ) (e : Exam) → length E 
     ≡ Some (record { minutes = e.minutes; students = students E i })
 line_at [] E i e same at = cc
 line_at (e ∷ es) [] i x same at = absurd (omega arith)
-line_at (e ∷ es) (ss ∷ E) zero x same at =
-    let is : e ≡ x = cc in
-    ap (λ (y : Exam). Some (record { minutes = y.minutes; students = ss })) is
+line_at (e ∷ es) (ss ∷ E) zero x same at = grind (arith, common_steps)
 line_at (e ∷ es) (ss ∷ E) (suc i) x same at = line_at es E i x (omega arith) at

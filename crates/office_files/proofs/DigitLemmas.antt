@@ -1,7 +1,8 @@
 -- Digits that are read from the front.
+use Rattle.std.proofs.lemmas.Grind.{common_steps}
 use Rattle.std.proofs.Common.{◌≡◌, ℕ, ◌+◌, ◌-◌, ◌*◌, ◌<◌, ◌≤◌, true}
 use Rattle.std.proofs.Common.{List, [], ◌∷◌, length, get_or, drop, drop-cons, add-one}
-use Rattle.std.proofs.Common.{inl, inr, Result, Ok, Err, refl, sym, ap, ◌∙◌, arith}
+use Rattle.std.proofs.Common.{Result, Ok, Err, refl, sym, ◌∙◌, arith}
 use Rattle.std.specs.Prelude.{min, nat_le, if◌then◌else◌}
 use Rattle.std.specs.List.{list_all}
 use Rattle.std.specs.Char.{is_ascii_digit}
@@ -44,8 +45,4 @@ goes_on-digit limit n text i lt digit = rw (add-one i, drop-cons text i 0, digit
 -- above every limit a number may be cut down
 pub goes_on-capped : (limit cap n : ℕ) (ds : List ℕ) → limit < cap →
     goes_on limit (min n cap) ds ≡ goes_on limit n ds
-goes_on-capped limit cap n ds below =
-    elim (cases_lt cap n) as (λ _. goes_on limit (min n cap) ds ≡ goes_on limit n ds) [
-      | inl past ↦ goes_on-alike limit (min n cap) n ds (omega arith) (omega arith)
-      | inr within ↦ let same : min n cap ≡ n = omega arith in ap (λ k. goes_on limit k ds) same
-    ]
+goes_on-capped limit cap n ds below = grind (arith, common_steps, cases_lt, goes_on-alike)

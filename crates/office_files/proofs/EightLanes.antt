@@ -1,5 +1,5 @@
 -- Eight digits in the bytes of a word, joined two by two, then four by four.
-use Rattle.std.proofs.Common.{◌≡◌, ℕ, ◌+◌, ◌-◌, ◌*◌, ◌/◌, ◌%◌, ◌^◌, ◌<◌, List, [], ◌∷◌, length, refl, ap, sym, ◌∙◌, arith}
+use Rattle.std.proofs.Common.{◌≡◌, ℕ, ◌+◌, ◌-◌, ◌*◌, ◌/◌, ◌%◌, ◌^◌, ◌<◌, List, [], ◌∷◌, length, refl, ap, ◌∙◌, arith, rules}
 use Rattle.std.proofs.Math.Nat.{add_comm, mul_comm, mod-eq_of_lt}
 use Rattle.std.specs.Int.Bits.{bit_and}
 use lib.Arith.{digits_div, digits_mod}
@@ -19,12 +19,7 @@ lanes k [] [] e h g = refl
 lanes k [] (m ∷ ms) e h g = absurd (omega arith)
 lanes k (x ∷ xs) [] e h g = absurd (omega arith)
 lanes k (x ∷ xs) (m ∷ ms) e h g =
-    let xn = number_l (2 ^ k) xs in
-    let mn = number_l (2 ^ k) ms in
-    (λ i. bit_and (turned (2 ^ k) x xn i) (turned (2 ^ k) m mn i))
-    ∙ and_block k xn mn x m h.0 g.0
-    ∙ ap (λ n. n * 2 ^ k + bit_and x m) (lanes k xs ms (omega arith) h.1 g.1)
-    ∙ sym (turned (2 ^ k) (bit_and x m) (number_l (2 ^ k) (zip2 bit_and xs ms)))
+    search (rules, lanes k xs ms (omega arith) h.1 g.1, and_block, number_l, turned)
 
 -- four or eight digits below a base
 four : (n a b c d : ℕ) → a < n → b < n → c < n → d < n → AllBelowBase n (a ∷ b ∷ c ∷ d ∷ [])

@@ -1,7 +1,8 @@
 -- The ascending list after students are added.
-use Rattle.std.proofs.Common.{◌≡◌, ℕ, zero, suc, ◌+◌, ◌<◌, ◌≤◌, true, false, cond}
+use Rattle.std.proofs.lemmas.Grind.{common_steps}
+use Rattle.std.proofs.Common.{◌≡◌, ℕ, zero, suc, ◌+◌, ◌<◌, ◌≤◌, true, false, rules}
 use Rattle.std.proofs.Common.{List, [], ◌∷◌, length}
-use Rattle.std.proofs.Common.{add-one, refl, ap, sym, subst, ◌∙◌, inl, inr, arith}
+use Rattle.std.proofs.Common.{add-one, refl, ap, sym, ◌∙◌, inl, inr, arith}
 use Rattle.std.specs.Prelude.{◌==◌, ◌||◌, nat_eq, slice_index}
 use Rattle.std.specs.List.{dedup}
 use Rattle.std.specs.List.Sorted.{IsPermutation, IsSorted, IsStrictlyIncreasing}
@@ -21,12 +22,7 @@ use Rattle.office_files.specs.ExamStudents.{with_students}
 pub length-with : (s : ℕ) (xs : List ℕ) →
     (length xs ≤ length (with_student s xs)) × (length (with_student s xs) ≤ length xs + 1)
 length-with s [] = (omega arith, omega arith)
-length-with s (u ∷ us) =
-    let one = length-with s us in
-    with_cases s u us (λ ys. (length (u ∷ us) ≤ length ys) × (length ys ≤ length (u ∷ us) + 1))
-    (λ before. (omega arith, omega arith))
-    (λ same. (omega arith, omega arith))
-    (λ after. (omega arith, omega arith))
+length-with s (u ∷ us) = grind (arith, common_steps, length-with s us, with_cases)
 
 -- a new student makes it longer by one
 pub length-with_new : (s : ℕ) (xs : List ℕ) → has_number xs s ≡ false →
@@ -45,14 +41,7 @@ length-with_new s (u ∷ us) new =
 pub with_again : (s : ℕ) (xs : List ℕ) → IsAscending xs → has_number xs s ≡ true →
     with_student s xs ≡ xs
 with_again s xs up there =
-    same_list (with_student s xs) xs (ascending-with s xs up) up (λ t. has-with s xs t ∙ known t)
-  where
-    known : (t : ℕ) → ((s == t) || has_number xs t) ≡ has_number xs t
-    known t =
-        elim (s == t) as (λ b. (s == t) ≡ b → (b || has_number xs t) ≡ has_number xs t) [
-          | true ↦ λ e. subst (λ z. true ≡ has_number xs z) (eqb-true s t e) (sym there)
-          | false ↦ λ e. refl
-        ] refl
+    grind (arith, common_steps, ascending-with, eqb-true, has-with, same_list)
 
 pub ascending-students : (ss seen : List ℕ) → IsAscending seen →
     IsAscending (with_students ss seen)
@@ -64,23 +53,18 @@ pub has-students : (ss seen : List ℕ) (t : ℕ) →
     has_number (with_students ss seen) t ≡ (has_number ss t || has_number seen t)
 has-students [] seen t = refl
 has-students (s ∷ ss) seen t =
-    has-students ss (with_student s seen) t
-    ∙ ap (λ b. has_number ss t || b) (has-with s seen t)
-    ∙ or_middle (has_number ss t) (s == t) (has_number seen t)
-    ∙ sym (or_assoc (s == t) (has_number ss t) (has_number seen t))
+    search (rules, has-students ss (with_student s seen) t, has-with, or_assoc, or_middle)
 
 pub length-students : (ss seen : List ℕ) → length seen ≤ length (with_students ss seen)
 length-students [] seen = omega arith
 length-students (s ∷ ss) seen =
-    let one = length-with s seen in
-    omega (arith, length-students ss (with_student s seen))
+    grind (arith, common_steps, length-students ss (with_student s seen), length-with)
 
 -- the ascending list of the same students is the list of the students added one by one
 pub students-same : (names xs : List ℕ) → IsAscending xs →
     ((t : ℕ) → has_number xs t ≡ has_number names t) → xs ≡ with_students names []
 students-same names xs up same =
-    same_list xs (with_students names []) up (ascending-students names [] ascending-none)
-    (λ t. same t ∙ sym (or-false (has_number names t)) ∙ sym (has-students names [] t))
+    search (rules, ascending-none, ascending-students, has-students, or-false, same_list)
 
 -- students in ascending order are that list
 pub students-ascending : (names : List ℕ) → IsAscending names → names ≡ with_students names []
@@ -108,15 +92,7 @@ has-dedup (x ∷ xs) t = from x xs
   where
     from : (x : ℕ) (xs : List ℕ) → has_number (dedup nat_eq (x ∷ xs)) t ≡ has_number (x ∷ xs) t
     from x [] = refl
-    from x (y ∷ ys) =
-        let repeated = dedup nat_eq (x ∷ ys) in
-        let new = x ∷ dedup nat_eq (y ∷ ys) in
-        elim (nat_eq y x) as (λ b. nat_eq y x ≡ b →
-        has_number (cond b repeated new) t ≡ ((x == t) || ((y == t) || has_number ys t))) [
-          | true ↦ λ e.
-              from x ys ∙ rw (eqb-true y x e) (sym (or_self_left (x == t) (has_number ys t)))
-          | false ↦ λ e. ap (λ b. (x == t) || b) (from y ys)
-        ] refl
+    from x (y ∷ ys) = grind (arith, common_steps, from x ys, from y ys, eqb-true, or_self_left)
 
 -- sorted students, each kept once, are the list of the students added one by one
 pub students-sorted : (names sorted kept : List ℕ) → IsPermutation names sorted →

@@ -1,12 +1,13 @@
 -- How the limit of the pairs judges the students of a line, and the set with these students.
+use Rattle.std.proofs.lemmas.Grind.{common_steps}
 use Rattle.std.proofs.Common.{◌≡◌, ℕ, ◌+◌, ◌<◌, ◌≤◌, Bool, true, false, List, [], ◌∷◌}
 use Rattle.std.proofs.Common.{length, set, Result, Ok, Err, Option, Some, None}
-use Rattle.std.proofs.Common.{refl, ap, ◌∙◌, arith}
+use Rattle.std.proofs.Common.{refl, arith}
 use Rattle.std.specs.Prelude.{◌≢◌, ◌||◌, nat_lt}
 use Rattle.std.proofs.lemmas.Bool.{ltb-true, lt-ltb}
 use Rattle.std.proofs.lemmas.List.Sums.{sum_by-set}
 use Rattle.exam_terms.specs.Refusing.{◌>>=◌, unless}
-use Rattle.exam_model.specs.Enrolments.{Enrolled, IsAscending, RefusesAll, has_number, students}
+use Rattle.exam_model.specs.Enrolments.{Enrolled, IsAscending, RefusesAll, has_number}
 use Rattle.exam_model.specs.Enrolments.{pair_count}
 use Rattle.exam_model.specs.declared.fault.ModelFault.{ModelFault}
 use Rattle.exam_model.specs.declared.fault.ModelFault.TheVariants.{Range, NoSuch, NoMemory}
@@ -49,29 +50,14 @@ goes_on-full pairs seen fields s full = rw full refl
 -- if the pairs with the student are within their limit, there is room
 room_for : (pairs : ℕ) (seen : List ℕ) (s : ℕ) →
     pairs + length (with_student s seen) ≤ 200000 → has_room pairs seen s ≡ true
-room_for pairs seen s within =
-    let below = nat_lt (pairs + length seen) 200000 in
-    elim (has_number seen s) as (λ b. has_number seen s ≡ b → (b || below) ≡ true) [
-      | true ↦ λ there. refl
-      | false ↦ λ new.
-          let longer = length-with_new s seen new in
-          lt-ltb (pairs + length seen) 200000 (omega arith)
-    ] refl
+room_for pairs seen s within = grind (arith, common_steps, length-with_new, lt-ltb)
 
 -- if there is room, the pairs with the student are within their limit
 pub room_left : (pairs : ℕ) (seen : List ℕ) (s : ℕ) → IsAscending seen →
     pairs + length seen ≤ 200000 → has_room pairs seen s ≡ true →
     pairs + length (with_student s seen) ≤ 200000
 room_left pairs seen s up within =
-    let below = nat_lt (pairs + length seen) 200000 in
-    let Fits : Type 0 = pairs + length (with_student s seen) ≤ 200000 in
-    elim (has_number seen s) as (λ b. has_number seen s ≡ b → (b || below) ≡ true → Fits) [
-      | true ↦ λ there room. rw (with_again s seen up there) within
-      | false ↦ λ new room.
-          let longer = length-with_new s seen new in
-          let lt = ltb-true (pairs + length seen) 200000 room in
-          omega arith
-    ] refl
+    grind (arith, common_steps, length-with_new, ltb-true, with_again)
 
 -- the number of pairs with the students whom the good fields name
 abbrev pub pairs_with : ℕ → List ℕ → List ℕ → ℕ
@@ -90,8 +76,7 @@ within_by : (pairs : ℕ) (seen : List ℕ) (fields : List (List ℕ)) (r : Resu
     ≡ judged (fault_first r (fault_in fields))
     (with_students (named_first r (named_in fields)) seen)
 within_by pairs seen fields (Ok s) later within =
-    let longer = length-students (named_in fields) (with_student s seen) in
-    goes_on-room pairs seen fields s (room_for pairs seen s (omega arith)) ∙ later s within
+    grind (arith, common_steps, goes_on-room, length-students, room_for)
 within_by pairs seen fields (Err what) later within = refl
 
 -- if there is room for all students whom the good fields name, these are the line's students
@@ -110,13 +95,7 @@ past_by : (pairs : ℕ) (seen : List ℕ) (fields : List (List ℕ)) (r : Result
     200000 < pairs_with pairs seen (named_first r (named_in fields)) →
     goes_on pairs seen fields r ≡ Err OutOfRange
 past_by pairs seen fields (Ok s) up within later past =
-    let Refused : Type 0 = goes_on pairs seen fields (Ok s) ≡ Err OutOfRange in
-    elim (has_room pairs seen s) as (λ b. has_room pairs seen s ≡ b → Refused) [
-      | true ↦ λ room.
-          goes_on-room pairs seen fields s room
-          ∙ later s (room_left pairs seen s up within room) past
-      | false ↦ λ full. goes_on-full pairs seen fields s full
-    ] refl
+    grind (arith, common_steps, goes_on-full, goes_on-room, room_left)
 past_by pairs seen fields (Err what) up within later past = absurd (omega arith)
 
 -- if there isn't, a field is out of range
@@ -132,10 +111,7 @@ students_in-past pairs seen (field ∷ fields) up within past =
 -- the number of pairs with these students in an exam that had none
 pub pair_count-enrolled : (E : Enrolled) (e : ℕ) (sitters : List ℕ) → IsEmptyExam E e →
     pair_count (set E e sitters) ≡ pair_count E + length sitters
-pair_count-enrolled E e sitters empty =
-    let sums = sum_by-set length E e sitters [] empty.exists in
-    let none : length (students E e) ≡ 0 = ap length empty.none in
-    omega arith
+pair_count-enrolled E e sitters empty = grind (arith, common_steps, sum_by-set)
 
 -- if students are refused and memory didn't run out, they are too many
 pub too_many : (E : Enrolled) (sitters : List ℕ) (fault : ModelFault) →

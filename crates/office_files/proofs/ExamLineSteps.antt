@@ -1,4 +1,5 @@
 -- The values of a line of the section of exams, and the lines so far.
+use Rattle.std.proofs.lemmas.Grind.{common_steps}
 use Rattle.std.proofs.Common.{◌≡◌, ℕ, suc, ◌+◌, ◌-◌, ◌<◌, List, [], ◌∷◌, ◌++◌, length, set, take}
 use Rattle.std.proofs.Common.{Result, Ok, Err, Option, Some, None, refl, ap, sym, ◌∙◌, arith}
 use Rattle.std.proofs.Common.{append_assoc}
@@ -44,15 +45,7 @@ pub read_of : (fields now tail : List (List ℕ)) (minutes : ℕ) (named ordered
     named ≡ named_in tail → fault ≡ fault_in tail → ordered ≡ with_students named [] →
     sitters ≡ ordered → IsReadOf fields minutes sitters fault
 read_of fields now tail minutes named ordered sitters fault all is others names faulty order same =
-    let after : tail ≡ other_fields fields = others ∙ ap other_fields all in
-    record {
-      minutes_are = ap (λ xs. number 1440 (first_field xs)) (sym all) ∙ sym is;
-      students_are =
-          same
-          ∙ order
-          ∙ ap (λ (xs : List ℕ). with_students xs []) (names ∙ ap named_in after);
-      fault_is = faulty ∙ ap fault_in after;
-    }
+    grind (arith, common_steps)
 
 module _ (E : Enrolled) (e : ℕ) (fields : List (List ℕ)) (minutes : ℕ) (sitters : List ℕ)
     (fault : Option FaultKind) (empty : IsEmptyExam E e)
@@ -62,15 +55,7 @@ module _ (E : Enrolled) (e : ℕ) (fields : List (List ℕ)) (minutes : ℕ) (si
       exam_after_pairs (pair_count E) fields
       ≡ (judged fault sitters >>= λ xs. Ok (record { minutes = minutes; students = xs }))
   line_within new changed kept =
-      let pairs : pair_count new ≡ pair_count E + length sitters =
-      ap pair_count changed ∙ pair_count-enrolled E e sitters empty in
-      let few = kept.pairs in
-      let size = ap length is.students_are in
-      let said : students_in (pair_count E) [] (other_fields fields) ≡ judged fault sitters =
-      students_in-within (pair_count E) [] (other_fields fields) (omega arith)
-      ∙ ap (judged (fault_in (other_fields fields))) (sym is.students_are)
-      ∙ ap (λ (f : Option FaultKind). judged f sitters) (sym is.fault_is) in
-      after_minutes (pair_count E) minutes fields _ is.minutes_are said
+      grind (arith, common_steps, after_minutes, judged, pair_count-enrolled, students_in-within)
 
   -- a line without a fault
   pub line_entered : (new : Enrolled) → fault ≡ None → new ≡ set E e sitters → AreEnrolments new →
@@ -91,21 +76,13 @@ module _ (E : Enrolled) (e : ℕ) (fields : List (List ℕ)) (minutes : ℕ) (si
   -- a line with too many students
   pub line_past : 200000 < pair_count E + length sitters →
       exam_after_pairs (pair_count E) fields ≡ Err OutOfRange
-  line_past past =
-      let few = empty.kept.pairs in
-      let size = ap length is.students_are in
-      let said = students_in-past (pair_count E) [] (other_fields fields) ascending-none
-      (omega arith) (omega arith) in
-      after_minutes (pair_count E) minutes fields _ is.minutes_are said
+  line_past past = grind (arith, common_steps, after_minutes, ascending-none, students_in-past)
 
 -- the pairs on lines are those of their students
 sum_by-students : (lines : List ExamLine) →
     sum_by length (map (λ line. line.students) lines) ≡ pairs_on lines
 sum_by-students [] = refl
-sum_by-students (line ∷ lines) =
-    sum_by-cons length line.students (map (λ line. line.students) lines)
-    ∙ ap (λ n. length line.students + n) (sum_by-students lines)
-    ∙ sym (sum_by-cons (λ line. length line.students) line lines)
+sum_by-students (line ∷ lines) = grind (arith, common_steps, sum_by-students lines, sum_by-cons)
 
 -- the item of a line is added after those of the lines before it
 items-more : (before : List ExamLine) (said : ExamLine) (row : Located) (rows : List Located)
@@ -145,12 +122,7 @@ module _ (all left : List Located) (count done : ℕ) (exams : List Exam) (E : E
 
   -- the number of pairs is that on the lines
   pairs_are : pair_count E ≡ pairs_on so_far.before
-  pairs_are =
-      let both = sum_by-append length enrolled (no_pairs (count - done)) in
-      let none = sum_by-replicate {X = List ℕ} length (count - done) [] in
-      let same = ap pair_count so_far.are_students in
-      let here : sum_by length enrolled ≡ pairs_on so_far.before = sum_by-students so_far.before in
-      omega arith
+  pairs_are = grind (arith, common_steps, sum_by-append, sum_by-replicate, sum_by-students)
 
   said_so : exam_line so_far.before (fields_of row.text)
       ≡ exam_after_pairs (pair_count E) (fields_of row.text)
@@ -158,10 +130,7 @@ module _ (all left : List Located) (count done : ℕ) (exams : List Exam) (E : E
 
   whole : items_of exam_line so_far.before (take (suc others) (row ∷ rows))
       ≡ items_of exam_line [] (take count all)
-  whole =
-      ap (λ rs. items_of exam_line so_far.before (take (suc others) rs)) (sym next)
-      ∙ ap (λ k. items_of exam_line so_far.before (take k left)) (sym one_more)
-      ∙ so_far.read
+  whole = grind (arith, common_steps, one_more)
 
   -- a faulty line is the fault of all
   pub so_far_fault : (what : FaultKind) →
@@ -173,32 +142,20 @@ module _ (all left : List Located) (count done : ℕ) (exams : List Exam) (E : E
   -- an exam's students are added after those of the exams before it
   enrolled-more : (sitters : List ℕ) →
       set E done sitters ≡ (enrolled ++ sitters ∷ []) ++ no_pairs others
-  enrolled-more sitters =
-      let front : length enrolled ≡ done =
-      length-map so_far.before (λ line. line.students) ∙ so_far.number in
-      ap (λ (F : Enrolled). set F done sitters)
-      (so_far.are_students ∙ ap (λ k. enrolled ++ no_pairs k) one_more)
-      ∙ set_at enrolled [] (no_pairs others) sitters done front
-      ∙ sym (append_assoc enrolled (sitters ∷ []) (no_pairs others))
+  enrolled-more sitters = grind (arith, common_steps, append_assoc, length-map, one_more, set_at)
 
   -- one more line
   pub so_far_more : (made : Exam) (new : Enrolled) →
       EntersLine E new done (fields_of row.text) made →
       IsSoFar all rows count (done + 1) (exams ++ made ∷ []) new
   so_far_more made new entered =
-      let said = entered.said in
-      record {
-        before = so_far.before ++ said ∷ [];
-        number = omega (arith, length-append so_far.before (said ∷ []), so_far.number);
-        read =
-            sym (items-more so_far.before said row rows others (said_so ∙ entered.read)) ∙ whole;
-        are_exams =
-            ap (λ (xs : List Exam). xs ++ made ∷ []) so_far.are_exams
-            ∙ ap (λ (x : Exam). map exam_of so_far.before ++ x ∷ []) entered.is_exam
-            ∙ sym (map_push exam_of so_far.before said);
-        are_students =
-            entered.changed
-            ∙ enrolled-more said.students
-            ∙ ap (λ (xs : Enrolled). xs ++ no_pairs others)
-            (sym (map_push (λ line. line.students) so_far.before said));
-      }
+      grind (
+        arith,
+        common_steps,
+        enrolled-more,
+        items-more,
+        length-append,
+        map_push,
+        said_so,
+        whole,
+      )

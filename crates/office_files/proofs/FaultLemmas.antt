@@ -1,5 +1,6 @@
 -- The fault of a reading of several lines: that of the first faulty line.
-use Rattle.std.proofs.Common.{◌≡◌, ℕ, ◌+◌, true, false, List, [], ◌∷◌, ◌++◌, length, take, drop}
+use Rattle.std.proofs.lemmas.Grind.{common_steps}
+use Rattle.std.proofs.Common.{◌≡◌, ℕ, ◌+◌, true, false, List, [], ◌∷◌, ◌++◌, length, take, drop, arith}
 use Rattle.std.proofs.Common.{Option, Some, None, Result, Ok, Err, refl, sym, ◌∙◌, add-one, inl}
 use Rattle.std.proofs.Common.{inr}
 use Rattle.std.specs.Prelude.{if◌then◌else◌, nat_lt, ◌==◌}
@@ -51,9 +52,7 @@ pub items_push : {A : Type 0} (read : List A → List (List ℕ) → Result A Fa
     (before all : List A) (lines : List Located) (line : Located) (x : A) →
     items_of read before lines ≡ Ok all → read all (fields_of line.text) ≡ Ok x →
     items_of read before (lines ++ line ∷ []) ≡ Ok (all ++ x ∷ [])
-items_push read before all [] line x e is =
-    let same : before ≡ all = cc in
-    rw (same, is) refl
+items_push read before all [] line x e is = grind (arith, common_steps)
 items_push read before all (l ∷ lines) line x e is =
     let head = bind_ok (at_line l.line (read before (fields_of l.text))) _ all e in
     rw head.1 (items_push read (before ++ head.0 ∷ []) all lines line x head.2 is)

@@ -1,9 +1,9 @@
 -- The results of cutting and trimming.
-use Rattle.std.proofs.Common.{◌≡◌, ℕ, zero, suc, ◌+◌, ◌<◌, Bool, true, false, List, [], ◌∷◌}
-use Rattle.std.proofs.Common.{length, get_or, take, drop, refl, ap, sym, ◌∙◌, arith, if◌then◌else◌}
+use Rattle.std.proofs.lemmas.Grind.{common_steps}
+use Rattle.std.proofs.Common.{◌≡◌, ℕ, zero, suc, ◌+◌, ◌<◌, Bool, true, List, [], ◌∷◌}
+use Rattle.std.proofs.Common.{length, get_or, take, drop, refl, ap, sym, ◌∙◌, arith}
 use Rattle.std.proofs.Common.{add-one}
 use Rattle.std.specs.Prelude.{◌==◌, map}
-use Rattle.std.specs.List.{onto_first}
 use Rattle.std.proofs.lemmas.Bool.{eq-eqb, ne_eqb}
 use Rattle.exam_lists.proofs.Parts.{some_onto_first}
 use mathlib.Core.Bool.{true≢false}
@@ -37,12 +37,7 @@ parts_at c (b ∷ bs) (suc i) lt is other =
 
 pub parts_some : (c : ℕ) (bs : List ℕ) → 0 < length bs → 0 < length (ended_parts c bs)
 parts_some c [] some = absurd (omega arith)
-parts_some c (b ∷ bs) some =
-    elim (b == c) as (λ v.
-    0 < length (if v then [] ∷ ended_parts c bs else onto_first b (ended_parts c bs))) [
-      | true ↦ omega arith
-      | false ↦ some_onto_first b (ended_parts c bs)
-    ]
+parts_some c (b ∷ bs) some = grind (arith, common_steps, some_onto_first)
 
 length-map : (xs : List (List ℕ)) → length (map trimmed_text xs) ≡ length xs
 length-map [] = refl
@@ -51,11 +46,7 @@ length-map (x ∷ xs) = omega (arith, length-map xs)
 -- only an empty line has no fields
 pub fields_none : (line : List ℕ) → fields_of line ≡ [] → line ≡ []
 fields_none [] e = refl
-fields_none (b ∷ bs) e =
-    let some = parts_some 44 (b ∷ bs) (omega arith) in
-    let same = length-map (ended_parts 44 (b ∷ bs)) in
-    let zero_of : length (fields_of (b ∷ bs)) ≡ 0 = ap length e in
-    absurd (omega arith)
+fields_none (b ∷ bs) e = grind (arith, common_steps, length-map, parts_some)
 
 -- a test of the length decides whether a field is left
 pub fields_test : (line : List ℕ) (b : Bool) → b ≡ (length line == 0) →

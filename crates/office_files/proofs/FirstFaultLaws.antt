@@ -1,4 +1,5 @@
 -- A reading is refused with the first fault of the file, and exactly if there is one.
+use Rattle.std.proofs.lemmas.Grind.{common_steps}
 use Rattle.std.proofs.Common.{◌≡◌, ◌≢◌, ℕ, ◌+◌, ◌<◌, ◌≤◌, Bool, true, false, List, [], ◌∷◌, ◌++◌}
 use Rattle.std.proofs.Common.{length, map, IfOk, IfErr, Option, Some, None, Result, Ok, Err, refl}
 use Rattle.std.proofs.Common.{ap, sym, ◌∙◌, arith, inl, inr}
@@ -24,7 +25,7 @@ use Rattle.office_files.specs.ItemLines.{place_line}
 use Rattle.office_files.specs.Lines.{Located, is_header, lines_of, line_count}
 use Rattle.office_files.specs.Reading.{at_line, items_of, AnswersReading}
 use Rattle.office_files.specs.Sections.{section_in, AtHeader}
-use Rattle.office_files.specs.SolutionText.{counts_in, solution_in}
+use Rattle.office_files.specs.SolutionText.{solution_in}
 use Rattle.office_files.specs.Weightings.{weighting_line}
 use Rattle.office_files.specs.declared.counts.Counts.{Counts}
 use Rattle.office_files.specs.declared.fault.FaultKind.TheVariants.{TooLong, CountMismatch}
@@ -137,10 +138,7 @@ no_fault_of_instance b r e = instance_fault b ∙ ap fault_of e
 -- a place is read only if there is an exam for it
 place_has_exam : (counts : Counts) (before : List Place) (fields : List (List ℕ)) (p : Place) →
     place_line counts before fields ≡ Ok p → length before < counts.exams
-place_has_exam counts before fields p e =
-    let room = nat_lt (length before) counts.exams in
-    let some = bind_ok (unless room CountMismatch) _ p e in
-    ltb-true (length before) counts.exams (unless_ok room CountMismatch some.0 some.1)
+place_has_exam counts before fields p e = grind (arith, common_steps, bind_ok, ltb-true, unless_ok)
 
 -- after the last place, others are missing, or none
 none_missing : (places exams end : ℕ) (x : Placing) → places ≤ exams →
@@ -181,9 +179,7 @@ places_fault counts end lines =
 -- the first fault of a solution file is that of its reading
 pub solution_fault : (I : Session) (b : List ℕ) →
     first_solution_fault I b ≡ fault_of (solution_in I b)
-solution_fault I b =
-    within_first (nat_le (length b) 1048576) _ _
-    (places_fault (counts_in I) (line_count b + 1) (lines_of b))
+solution_fault I b = grind (arith, common_steps, places_fault, within_first)
 
 -- the fault of the reading of a solution is the first fault of the file
 pub first_of_solution : (I : Session) (b : List ℕ) (f : FileFault) → solution_in I b ≡ Err f →

@@ -1,5 +1,6 @@
 -- An instance file that was read is the text of an instance, and each such text is read.
-use Rattle.std.proofs.Common.{◌≡◌, ℕ, ◌+◌, ◌<◌, ◌≤◌, List, [], ◌∷◌, length, Result, Ok, refl, sym, subst}
+use Rattle.std.proofs.lemmas.Grind.{common_steps}
+use Rattle.std.proofs.Common.{◌≡◌, ℕ, ◌+◌, ◌<◌, ◌≤◌, List, [], ◌∷◌, length, Result, Ok, refl, sym, subst, arith}
 use Rattle.std.specs.Prelude.{All, nat_le}
 use Rattle.std.proofs.lemmas.Bool.{leb-true, le-leb}
 use Rattle.std.proofs.lemmas.List.{length-map}
@@ -170,13 +171,7 @@ pub sections_are_read : (b : List ℕ) (exams : List ExamLine) (after : List Loc
     later_sections (line_count b + 1) exams after ≡ Ok said →
     instance_in b ≡ Ok (session_of said, enrolled_of said)
 sections_are_read b exams after said within first later =
-    let short = nat_le (length b) 4194304 in
-    let end = line_count b + 1 in
-    let passed = ok_unless short TooLong (le-leb (length b) 4194304 within) in
-    let read : Session × Enrolled = (session_of said, enrolled_of said) in
-    ok_bind (at_line 0 (unless short TooLong)) _ tt read (ok_at_line 0 _ tt passed)
-    (ok_bind (section_in exams_heading exam_line end (lines_of b)) _ (exams, after) read first
-    (ok_bind (later_sections end exams after) _ said read later refl))
+    grind (arith, common_steps, le-leb, ok_at_line, ok_bind, ok_unless)
 
 -- a session that a text describes is read from it
 pub text_is_read : (b : List ℕ) (I : Session) (E : Enrolled) → InstanceText b I E →

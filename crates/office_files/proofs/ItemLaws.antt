@@ -1,14 +1,13 @@
 -- The values of a line are within the limits of an instance.
+use Rattle.std.proofs.lemmas.Grind.{common_steps}
 use Rattle.std.proofs.Common.{◌≡◌, ℕ, ◌-◌, ◌<◌, ◌≤◌, Bool, true, false, List, [], ◌∷◌, length, Option, Some, None, Result, Ok, Err, refl, subst, arith}
-use Rattle.std.specs.Prelude.{All, nat_le, nat_lt, not, codes, if◌then◌else◌, ◌&&◌}
-use Rattle.std.specs.List.{list_any}
-use Rattle.std.specs.Str.{str_eq_ignore_ascii_case}
+use Rattle.std.specs.Prelude.{All, if◌then◌else◌}
 use Rattle.std.proofs.lemmas.Bool.{ltb-true}
 use Rattle.std.proofs.lemmas.List.Elements.{All-head, All-tail}
 use Rattle.exam_lists.proofs.Results.{ok_same}
 use Rattle.exam_calendar.specs.Dates.{is_civil}
 use Rattle.exam_calendar.specs.declared.date.Date.{Date}
-use Rattle.exam_terms.specs.Refusing.{◌>>=◌, unless, else_err}
+use Rattle.exam_terms.specs.Refusing.{◌>>=◌, else_err}
 use Rattle.exam_model.specs.Limits.{IsAmount, ExamInLimits, PeriodInLimits, RoomInLimits, WeightsInLimits}
 use Rattle.exam_model.specs.Instance.{PeriodRuleExists, RoomRuleExists}
 use Rattle.exam_model.specs.declared.parts.Period.{Period}
@@ -18,14 +17,13 @@ use Rattle.exam_model.specs.declared.parts.Weights.{Weights}
 use Rattle.exam_model.specs.declared.rules.PeriodRule.{PeriodRule}
 use Rattle.exam_model.specs.declared.rules.RoomRule.{RoomRule}
 use Rattle.office_files.specs.Dates.{or_fault, digits_of, date_if_any, date_of, time_of}
-use Rattle.office_files.specs.ExamStudents.{students_in}
-use Rattle.office_files.specs.ExamLines.{ExamLine, exam_line, exam_of, pairs_on}
+use Rattle.office_files.specs.ExamLines.{ExamLine, exam_line, exam_of}
 use Rattle.office_files.specs.Fields.{first_field, other_fields, end_of_fields, split_once}
 use Rattle.office_files.specs.Items.{period_in, room_in}
-use Rattle.office_files.specs.RuleWords.{rule_word, rule_by}
+use Rattle.office_files.specs.RuleWords.{rule_by}
 use Rattle.office_files.specs.ItemLines.{period_rule_line, room_rule_line, place_line}
 use Rattle.office_files.specs.Numbers.{number}
-use Rattle.office_files.specs.Weightings.{weight_word, has_word, amount_in, front_in, weighting_by}
+use Rattle.office_files.specs.Weightings.{weight_word, amount_in, front_in, weighting_by}
 use Rattle.office_files.specs.Weightings.{weighting_line}
 use Rattle.office_files.specs.Weights.{with_weighting, with_weightings, no_weights}
 use Rattle.office_files.specs.declared.counts.Counts.{Counts}
@@ -36,18 +34,14 @@ use Rattle.office_files.specs.declared.weightings.Weighting.TheVariants as said
 use Rattle.office_files.specs.declared.weightings.WeightWord.{WeightWord}
 use Rattle.office_files.specs.declared.weightings.WeightWord.TheVariants as word
 use Rattle.office_files.specs.declared.fault.FaultKind.{FaultKind}
-use Rattle.office_files.specs.declared.fault.FaultKind.TheVariants.{BadDate, BadTime, BadWord, OutOfRange, CountMismatch, Repeated}
+use Rattle.office_files.specs.declared.fault.FaultKind.TheVariants.{BadDate}
 use Rattle.office_files.proofs.ReadingLaws.{bind_ok, unless_ok, number_le}
 
 -- an exam's duration is within a day
 pub exam_line_within : (before : List ExamLine) (fields : List (List ℕ)) (x : ExamLine) →
     exam_line before fields ≡ Ok x →
     ExamInLimits (exam_of x)
-exam_line_within before fields x e =
-    let minutes = bind_ok (number 1440 (first_field fields)) _ x e in
-    let students = bind_ok (students_in (pairs_on before) [] (other_fields fields)) _ x minutes.2 in
-    let same = ok_same _ _ x refl students.2 in
-    subst (λ y. ExamInLimits (exam_of y)) same (number_le 1440 (first_field fields) minutes.0 minutes.1)
+exam_line_within before fields x e = grind (arith, common_steps, bind_ok, number_le, ok_same)
 
 -- the result of a reading with its fault replaced
 or_fault_ok : {A : Type 0} (fault : FaultKind) (r : Result A FaultKind) (x : A) →
@@ -63,10 +57,7 @@ digits_by fault false r n e = cc
 digits_le : (fault : FaultKind) (least most limit : ℕ) (text : List ℕ) (n : ℕ) →
     digits_of fault least most limit text ≡ Ok n →
     n ≤ limit
-digits_le fault least most limit text n e =
-    number_le limit text n
-    (digits_by fault (nat_le least (length text) && nat_le (length text) most)
-    (number limit text) n e)
+digits_le fault least most limit text n e = grind (arith, common_steps, digits_by, number_le)
 
 else_ok : {A F : Type 0} (fault : F) (o : Option A) (x : A) → else_err fault o ≡ Ok x → o ≡ Some x
 else_ok fault (Some y) x e = cc
@@ -74,9 +65,7 @@ else_ok fault None x e = cc
 
 date_is_civil : (made : Date) (civil : Bool) → is_civil made ≡ civil → (date : Date) →
     (if civil then Some made else None) ≡ Some date → is_civil date ≡ true
-date_is_civil made true e date is =
-    let same : made ≡ date = cc in
-    subst (λ (x : Date). is_civil x ≡ true) same e
+date_is_civil made true e date is = grind (arith, common_steps)
 date_is_civil made false e date is = cc
 
 date_within : (text : List ℕ) (date : Date) → date_of text ≡ Ok date → is_civil date ≡ true
@@ -96,18 +85,7 @@ date_within text date e =
 
 time_within : (text : List ℕ) (time : ℕ × ℕ × ℕ) → time_of text ≡ Ok time →
     (time.0 ≤ 23) × (time.1 ≤ 59) × (time.2 ≤ 59)
-time_within text time e =
-    let front = bind_ok (else_err BadTime (split_once 58 text)) _ time e in
-    let back = bind_ok (else_err BadTime (split_once 58 front.0.1)) _ time front.2 in
-    let hour = bind_ok (digits_of BadTime 1 2 23 front.0.0) _ time back.2 in
-    let minute = bind_ok (digits_of BadTime 1 2 59 back.0.0) _ time hour.2 in
-    let second = bind_ok (digits_of BadTime 1 2 59 back.0.1) _ time minute.2 in
-    let same = ok_same _ _ time refl second.2 in
-    subst (λ (t : ℕ × ℕ × ℕ). (t.0 ≤ 23) × (t.1 ≤ 59) × (t.2 ≤ 59)) same (
-      digits_le BadTime 1 2 23 front.0.0 hour.0 hour.1,
-      digits_le BadTime 1 2 59 back.0.0 minute.0 minute.1,
-      digits_le BadTime 1 2 59 back.0.1 second.0 second.1,
-    )
+time_within text time e = grind (arith, common_steps, bind_ok, digits_le, ok_same)
 
 -- a period is of a date of the calendar, at a time of day
 pub period_within : (fields : List (List ℕ)) (p : Period) → period_in fields ≡ Ok p →
@@ -132,14 +110,7 @@ period_within fields p e =
 
 -- a room's capacity and penalty
 pub room_within : (fields : List (List ℕ)) (r : Room) → room_in fields ≡ Ok r → RoomInLimits r
-room_within fields r e =
-    let capacity = bind_ok (number 100000 (first_field fields)) _ r e in
-    let penalty = bind_ok (number 100000 (first_field (other_fields fields))) _ r capacity.2 in
-    let end = bind_ok (end_of_fields (other_fields (other_fields fields))) _ r penalty.2 in
-    subst RoomInLimits (ok_same _ _ r refl end.2) (
-      number_le 100000 (first_field fields) capacity.0 capacity.1,
-      number_le 100000 (first_field (other_fields fields)) penalty.0 penalty.1,
-    )
+room_within fields r e = grind (arith, common_steps, bind_ok, number_le, ok_same)
 
 rule_exists : (n : ℕ) (w : RuleWord) (a b : ℕ) → a < n → b < n → PeriodRuleExists n (rule_by w a b)
 rule_exists n rule.After a b one other = (one, other)
@@ -156,19 +127,7 @@ pub period_rule_within : (counts : Counts) (before : List PeriodRule) (fields : 
     1 ≤ counts.exams → period_rule_line counts before fields ≡ Ok r →
     (length before < 5000) × PeriodRuleExists counts.exams r
 period_rule_within counts before fields r some e =
-    let n = counts.exams in
-    let two = other_fields (other_fields fields) in
-    let left = bind_ok (unless (nat_lt (length before) 5000) OutOfRange) _ r e in
-    let a = bind_ok (number (n - 1) (first_field fields)) _ r left.2 in
-    let w = bind_ok (rule_word (first_field (other_fields fields))) _ r a.2 in
-    let b = bind_ok (number (n - 1) (first_field two)) _ r w.2 in
-    let end = bind_ok (end_of_fields (other_fields two)) _ r b.2 in
-    let same = ok_same _ _ r refl end.2 in (
-      ltb-true (length before) 5000 (unless_ok _ OutOfRange left.0 left.1),
-      subst (PeriodRuleExists n) same
-          (rule_exists n w.0 a.0 b.0 (among n (first_field fields) a.0 some a.1)
-          (among n (first_field two) b.0 some b.1)),
-    )
+    grind (arith, common_steps, among, bind_ok, ltb-true, ok_same, rule_exists, unless_ok)
 
 -- the exam of a rule on its room exists, and there is room for the rule
 pub room_rule_within : (counts : Counts) (before : List RoomRule) (fields : List (List ℕ))
@@ -176,16 +135,7 @@ pub room_rule_within : (counts : Counts) (before : List RoomRule) (fields : List
     1 ≤ counts.exams → room_rule_line counts before fields ≡ Ok r →
     (length before < 5000) × RoomRuleExists counts.exams r
 room_rule_within counts before fields r some e =
-    let n = counts.exams in
-    let left = bind_ok (unless (nat_lt (length before) 5000) OutOfRange) _ r e in
-    let a = bind_ok (number (n - 1) (first_field fields)) _ r left.2 in
-    let named = bind_ok
-    (unless (str_eq_ignore_ascii_case (first_field (other_fields fields)) (codes "ROOM_EXCLUSIVE")) BadWord) _
-    r a.2 in
-    let end = bind_ok (end_of_fields (other_fields (other_fields fields))) _ r named.2 in (
-      ltb-true (length before) 5000 (unless_ok _ OutOfRange left.0 left.1),
-      subst (RoomRuleExists n) (ok_same _ _ r refl end.2) (among n (first_field fields) a.0 some a.1),
-    )
+    grind (arith, common_steps, among, bind_ok, ltb-true, ok_same, unless_ok)
 
 -- the numbers of a weighting
 abbrev pub HasAmounts : Weighting → Type 0
@@ -197,32 +147,16 @@ HasAmounts (said.Front n k w) = IsAmount n × IsAmount k × IsAmount w
 HasAmounts (said.Night n) = IsAmount n
 
 amount_within : (fields : List (List ℕ)) (n : ℕ) → amount_in fields ≡ Ok n → IsAmount n
-amount_within fields n e =
-    let amount = bind_ok (number 100000 (first_field fields)) _ n e in
-    let end = bind_ok (end_of_fields (other_fields fields)) _ n amount.2 in
-    subst IsAmount (ok_same _ _ n refl end.2) (number_le 100000 (first_field fields) amount.0 amount.1)
+amount_within fields n e = grind (arith, common_steps, bind_ok, number_le, ok_same)
 
 front_within : (fields : List (List ℕ)) (s : Weighting) → front_in fields ≡ Ok s → HasAmounts s
-front_within fields s e =
-    let two = other_fields (other_fields fields) in
-    let exams = bind_ok (number 100000 (first_field fields)) _ s e in
-    let periods = bind_ok (number 100000 (first_field (other_fields fields))) _ s exams.2 in
-    let weight = bind_ok (number 100000 (first_field two)) _ s periods.2 in
-    let end = bind_ok (end_of_fields (other_fields two)) _ s weight.2 in
-    subst HasAmounts (ok_same _ _ s refl end.2) (
-      number_le 100000 (first_field fields) exams.0 exams.1,
-      number_le 100000 (first_field (other_fields fields)) periods.0 periods.1,
-      number_le 100000 (first_field two) weight.0 weight.1,
-    )
+front_within fields s e = grind (arith, common_steps, bind_ok, number_le, ok_same)
 
 -- one number after a word
 one_within : (make : ℕ → Weighting) (fields : List (List ℕ)) (s : Weighting) →
     ((n : ℕ) → IsAmount n → HasAmounts (make n)) →
     (amount_in fields >>= λ n. Ok (make n)) ≡ Ok s → HasAmounts s
-one_within make fields s each_is e =
-    let amount = bind_ok (amount_in fields) _ s e in
-    subst HasAmounts (ok_same _ _ s refl amount.2)
-    (each_is amount.0 (amount_within fields amount.0 amount.1))
+one_within make fields s each_is e = grind (arith, common_steps, amount_within, bind_ok, ok_same)
 
 weighting_within : (w : WeightWord) (fields : List (List ℕ)) (s : Weighting) →
     weighting_by w fields ≡ Ok s → HasAmounts s
@@ -238,9 +172,7 @@ pub weighting_line_within : (counts : Counts) (before : List Weighting) (fields 
     (s : Weighting) →
     weighting_line counts before fields ≡ Ok s → HasAmounts s
 weighting_line_within counts before fields s e =
-    let w = bind_ok (weight_word (first_field fields)) _ s e in
-    let new = bind_ok (unless (not (list_any (has_word w.0) before)) Repeated) _ s w.2 in
-    weighting_within w.0 (other_fields fields) s new.2
+    grind (arith, common_steps, bind_ok (weight_word (first_field fields)) _ s e, weighting_within)
 
 -- a weighting keeps the weights within their limits
 with_within : (w : Weights) (s : Weighting) → HasAmounts s → WeightsInLimits w →
@@ -268,17 +200,7 @@ all_with_within w (s ∷ ss) all limits =
 -- the weights that lines say are in their limits
 pub weights_within : (ss : List Weighting) → All HasAmounts ss →
     WeightsInLimits (with_weightings no_weights ss)
-weights_within ss all =
-    all_with_within no_weights ss all (
-      omega arith,
-      omega arith,
-      omega arith,
-      omega arith,
-      omega arith,
-      omega arith,
-      omega arith,
-      omega arith,
-    )
+weights_within ss all = grind (arith, common_steps, all_with_within)
 
 -- the place's period and room are below these counts
 abbrev pub PlaceExists : Counts → Place → Type 0
@@ -289,11 +211,4 @@ pub place_within : (counts : Counts) (before : List Place) (fields : List (List 
     1 ≤ counts.periods → 1 ≤ counts.rooms → place_line counts before fields ≡ Ok p →
     PlaceExists counts p
 place_within counts before fields p periods rooms e =
-    let left = bind_ok (unless (nat_lt (length before) counts.exams) CountMismatch) _ p e in
-    let period = bind_ok (number (counts.periods - 1) (first_field fields)) _ p left.2 in
-    let room = bind_ok (number (counts.rooms - 1) (first_field (other_fields fields))) _ p period.2 in
-    let end = bind_ok (end_of_fields (other_fields (other_fields fields))) _ p room.2 in
-    subst (PlaceExists counts) (ok_same _ _ p refl end.2) (
-      among counts.periods (first_field fields) period.0 periods period.1,
-      among counts.rooms (first_field (other_fields fields)) room.0 rooms room.1,
-    )
+    grind (arith, common_steps, among, bind_ok, ok_same)

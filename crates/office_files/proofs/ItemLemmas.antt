@@ -1,4 +1,5 @@
 -- The effect of one line on the reading of lines.
+use Rattle.std.proofs.lemmas.Grind.{common_steps}
 use Rattle.std.proofs.Common.{◌≡◌, ℕ, suc, ◌+◌, ◌-◌, ◌<◌, List, ◌∷◌, take, Result, Err, ap, sym, ◌∙◌, arith}
 use Rattle.office_files.specs.Lines.{Located}
 use Rattle.office_files.specs.Reading.{items_of}
@@ -25,8 +26,7 @@ module _ {A : Type 0} (read : List A → List (List ℕ) → Result A FaultKind)
       → items_of read before (take (count - counter) now) ≡ whole
       → items_of read after (take (count - (counter + 1)) lines) ≡ whole
   line_step before after line now lines count counter whole lt now_is is so_far =
-      sym (is (take (count - (counter + 1)) lines))
-      ∙ first_left before line now lines count counter lt now_is ∙ so_far
+      grind (arith, common_steps, first_left)
 
   -- a faulty line ends the loop with its fault
   pub fault_step : (before : List A) (line : Located) (now lines : List Located) (count counter : ℕ)
@@ -35,5 +35,4 @@ module _ {A : Type 0} (read : List A → List (List ℕ) → Result A FaultKind)
       → ((rest : List Located) → items_of read before (line ∷ rest) ≡ Err fault)
       → items_of read before (take (count - counter) now) ≡ whole → whole ≡ Err fault
   fault_step before line now lines count counter whole fault lt now_is is so_far =
-      sym so_far ∙ sym (first_left before line now lines count counter lt now_is)
-      ∙ is (take (count - (counter + 1)) lines)
+      grind (arith, common_steps, first_left)

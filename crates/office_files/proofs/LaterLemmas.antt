@@ -1,5 +1,6 @@
 -- The sections after that of the exams, read one after another.
-use Rattle.std.proofs.Common.{◌≡◌, ℕ, List, length, Ok, Err, refl}
+use Rattle.std.proofs.lemmas.Grind.{common_steps}
+use Rattle.std.proofs.Common.{◌≡◌, ℕ, List, length, Ok, Err, refl, arith}
 use Rattle.exam_model.specs.declared.parts.Period.{Period}
 use Rattle.exam_model.specs.declared.parts.Room.{Room}
 use Rattle.exam_model.specs.declared.rules.PeriodRule.{PeriodRule}
@@ -57,9 +58,7 @@ module _ (end n : ℕ) (exams : List ExamLine) (same : length exams ≡ n)
       -- a line after the last section
       pub faulty_end : (fault : FileFault) → no_more after ≡ Err fault
           → later_sections end exams lines ≡ Err fault
-      faulty_end fault is =
-          rw (same, are_periods, are_rooms, are_period_rules, are_room_rules, are_weightings, is)
-          refl
+      faulty_end fault is = grind (arith, common_steps)
 
       -- all sections
       pub all_sections : no_more after ≡ Ok tt → later_sections end exams lines ≡ Ok (record {
@@ -70,6 +69,4 @@ module _ (end n : ℕ) (exams : List ExamLine) (same : length exams ≡ n)
         room_rules = room_rules;
         weightings = weightings;
       })
-      all_sections is =
-          rw (same, are_periods, are_rooms, are_period_rules, are_room_rules, are_weightings, is)
-          refl
+      all_sections is = grind (arith, common_steps)

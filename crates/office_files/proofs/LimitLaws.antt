@@ -1,7 +1,8 @@
 -- The values that a text describes are within their limits: an instance, its enrolments, and a
 -- timetable of places that exist.
+use Rattle.std.proofs.lemmas.Grind.{common_steps}
 use Rattle.std.proofs.Common.{◌≡◌, ℕ, zero, suc, ◌+◌, ◌<◌, ◌≤◌, true, false, List, [], ◌∷◌, length, take, map, Some, Ok, get_or, add-one, inl, inr, refl, ap, sym, subst, ◌∙◌, arith}
-use Rattle.std.specs.Prelude.{◌==◌, ◌||◌, nat_le, nat_lt, option_map}
+use Rattle.std.specs.Prelude.{◌==◌, ◌||◌, nat_le, nat_lt}
 use Rattle.std.proofs.lemmas.Bool.{cases_lt, eqb-true}
 use Rattle.std.proofs.lemmas.List.{get_or_past, length-map, take_all}
 use Rattle.std.proofs.lemmas.List.Sums.{sum_by-cons, sum_by_more}
@@ -14,7 +15,7 @@ use Rattle.exam_model.specs.Instance.{IsInstance, Session}
 use Rattle.exam_model.specs.Timetable.{Placing}
 use Rattle.exam_model.proofs.StudentLemmas.{ascending-none, ascending-with, has-with}
 use Rattle.office_files.specs.ExamStudents.{students_in}
-use Rattle.office_files.specs.ExamLines.{ExamLine, exam_line, exam_of, pairs_on}
+use Rattle.office_files.specs.ExamLines.{ExamLine, exam_line, pairs_on}
 use Rattle.office_files.specs.Fields.{fields_of, first_field, other_fields}
 use Rattle.office_files.specs.Spelled.{exams_heading}
 use Rattle.office_files.specs.InstanceText.{InstanceText}
@@ -51,9 +52,7 @@ none_number t there = absurd (cc there)
 
 sitters_read : (pairs : ℕ) (seen : List ℕ) (fields : List (List ℕ)) (out : List ℕ)
     → AreSitters pairs seen → students_in pairs seen fields ≡ Ok out → AreSitters pairs out
-sitters_read pairs seen [] out were is =
-    let same : seen ≡ out = cc in
-    subst (AreSitters pairs) same were
+sitters_read pairs seen [] out were is = grind (arith, common_steps)
 sitters_read pairs seen (f ∷ fs) out were is =
     let one = bind_ok (number 999999999 f) _ out is in
     let room = has_number seen one.0 || nat_lt (pairs + length seen) 200000 in
@@ -85,10 +84,7 @@ line_sitters before fields item few is =
 pairs_listed : (items : List ExamLine)
     → pair_count (map (λ (x : ExamLine). x.students) items) ≡ pairs_on items
 pairs_listed [] = refl
-pairs_listed (x ∷ xs) =
-    sum_by-cons length x.students (map (λ (y : ExamLine). y.students) xs)
-    ∙ ap (λ n. length x.students + n) (pairs_listed xs)
-    ∙ sym (sum_by-cons (λ (y : ExamLine). length y.students) x xs)
+pairs_listed (x ∷ xs) = grind (arith, common_steps, pairs_listed xs, sum_by-cons)
 
 abbrev no_exam : ExamLine
 no_exam = record { minutes = 0; students = [] }
@@ -127,10 +123,7 @@ module _ (lines : List Located) (items : List ExamLine)
   students_at : (e : ℕ) → e < length items
       → students enrolled e ≡ (get_or items e no_exam).students
   students_at e within =
-      get_or_from_slice_get enrolled e (get_or items e no_exam).students []
-      (slice_get-map (λ (x : ExamLine). x.students) items e
-      ∙ ap (λ o. option_map (λ (x : ExamLine). x.students) o)
-      (slice_get-get_or items e no_exam within))
+      grind (arith, common_steps, get_or_from_slice_get, slice_get-get_or, slice_get-map)
 
   listed_within : (1 ≤ length items) × (length items ≤ 2000) → AreEnrolments enrolled
   listed_within many = record {
@@ -172,11 +165,7 @@ enrolments_within b I E t =
 
 pub one_number : (b : List ℕ) (I : Session) (E : Enrolled) → InstanceText b I E
     → length E ≡ length I.exams
-one_number b I E t =
-    ap (λ (xs : Enrolled). length xs) t.enrolled
-    ∙ length-map t.said.exams (λ (x : ExamLine). x.students)
-    ∙ sym (length-map t.said.exams exam_of)
-    ∙ ap (λ (J : Session). length J.exams) (sym t.session)
+one_number b I E t = grind (arith, common_steps, length-map)
 
 pub timetable_suits : (b : List ℕ) (I : Session) (T : Placing) → IsInstance I → SolutionText b I T
     → Suits I T

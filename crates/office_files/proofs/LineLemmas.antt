@@ -1,13 +1,13 @@
 -- The results of dropping the end of a line, and the position of a line.
-use Rattle.std.specs.Prelude.{◌==◌, if◌then◌else◌}
-use Rattle.std.specs.List.{onto_first}
+use Rattle.std.proofs.lemmas.Grind.{common_steps}
+use Rattle.std.specs.Prelude.{◌==◌}
 use Rattle.office_files.specs.Fields.{ended_parts}
 use Rattle.office_files.specs.Lines.{section_size}
-use Rattle.std.proofs.Common.{true, false, get_or, ◌≡◌, ◌≢◌, ℕ, suc, ◌+◌, ◌<◌}
+use Rattle.std.proofs.Common.{true, false, get_or, ◌≡◌, ◌≢◌, ℕ, ◌+◌, ◌<◌}
 use Rattle.std.proofs.Common.{◌≤◌, List, [], ◌∷◌, ◌++◌, length, refl, ap, ◌∙◌, arith}
 use Rattle.std.proofs.lemmas.Bool.{ne_eqb}
 use Rattle.exam_lists.proofs.Parts.{length_onto_first-le}
-use Rattle.office_files.specs.Lines.{without_return, Piece, Located, pieces_from, trimmed_piece, unless_blank}
+use Rattle.office_files.specs.Lines.{without_return, Piece, Located, pieces_from, unless_blank}
 use Rattle.office_files.specs.Lines.{lines_from, is_header}
 
 return_some : (b c : ℕ) (xs : List ℕ) →
@@ -30,13 +30,7 @@ pub ruleset return_facts = (without_return-cr, without_return-other)
 
 pub length-parts : (c : ℕ) (bs : List ℕ) → length (ended_parts c bs) ≤ length bs
 length-parts c [] = omega arith
-length-parts c (b ∷ bs) =
-    elim (b == c) as (λ v.
-    length (if v then [] ∷ ended_parts c bs else onto_first b (ended_parts c bs))
-    ≤ suc (length bs)) [
-      | true ↦ omega (arith, length-parts c bs)
-      | false ↦ omega (arith, length-parts c bs, length_onto_first-le b (ended_parts c bs))
-    ]
+length-parts c (b ∷ bs) = grind (arith, common_steps, length-parts c bs, length_onto_first-le)
 
 length-placed : (at : ℕ) (xs : List (List ℕ)) → length (pieces_from at xs) ≡ length xs
 length-placed at [] = refl
@@ -44,32 +38,17 @@ length-placed at (x ∷ xs) = omega (arith, length-placed (at + length x + 1) xs
 
 length-unless_blank : (s : Located) (rows : List Located) →
     length (unless_blank s rows) ≤ length rows + 1
-length-unless_blank s rows =
-    elim (length s.text == 0) as (λ v. length (if v then rows else s ∷ rows) ≤ length rows + 1) [
-      | true ↦ omega arith
-      | false ↦ omega arith
-    ]
+length-unless_blank s rows = grind (arith, common_steps)
 
 length-rows : (line : ℕ) (ps : List Piece) → length (lines_from line ps) ≤ length ps
 length-rows line [] = omega arith
 length-rows line (p ∷ ps) =
-    omega (
-      arith,
-      length-rows (line + 1) ps,
-      length-unless_blank (trimmed_piece line (record p { text = without_return p.text }))
-          (lines_from (line + 1) ps),
-    )
+    grind (arith, common_steps, length-rows (line + 1) ps, length-unless_blank)
 
 -- there are no more rows than bytes
 pub rows-le : (line at : ℕ) (bs : List ℕ) →
     length (lines_from line (pieces_from at (ended_parts 10 bs))) ≤ length bs
-rows-le line at bs =
-    omega (
-      arith,
-      length-rows line (pieces_from at (ended_parts 10 bs)),
-      length-placed at (ended_parts 10 bs),
-      length-parts 10 bs,
-    )
+rows-le line at bs = grind (arith, common_steps, length-parts, length-placed, length-rows)
 
 pub size_head : (r : Located) (rs : List Located) → is_header r.text ≡ true →
     section_size (r ∷ rs) ≡ 0

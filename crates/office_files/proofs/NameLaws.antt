@@ -1,4 +1,5 @@
 -- The students who sit an exam are those whom the fields of its line name.
+use Rattle.std.proofs.lemmas.Grind.{common_steps}
 use Rattle.std.proofs.Common.{◌≡◌, ℕ, suc, ◌+◌, ◌<◌, List, [], ◌∷◌, ◌++◌, length, take, map, Some, Ok, get_or, ap, sym, ◌∙◌, add-one, arith}
 use Rattle.std.specs.Prelude.{◌==◌, ◌||◌, nat_lt, option_map, slice_get, slice_index_or}
 use Rattle.std.proofs.lemmas.List.{get_or_append_left, length-map}
@@ -24,9 +25,7 @@ use Rattle.office_files.proofs.ReadingLaws.{bind_ok}
 named : (pairs : ℕ) (seen : List ℕ) (fields : List (List ℕ)) (out : List ℕ)
     → students_in pairs seen fields ≡ Ok out
     → (t : ℕ) → has_number out t ≡ (has_number seen t || name_student fields t)
-named pairs seen [] out is t =
-    let same : seen ≡ out = cc in
-    ap (λ xs. has_number xs t) (sym same) ∙ sym (or-false (has_number seen t))
+named pairs seen [] out is t = grind (arith, common_steps, or-false)
 named pairs seen (f ∷ fs) out is t =
     let one = bind_ok (number 999999999 f) _ out is in
     let two = bind_ok

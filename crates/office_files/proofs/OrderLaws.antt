@@ -1,13 +1,14 @@
 -- The tokens of a text come one after another.
+use Rattle.std.proofs.lemmas.Grind.{common_steps}
 use Rattle.std.proofs.Common.{◌≡◌, ℕ, suc, ◌+◌, ◌≤◌, true, false, List, []}
 use Rattle.std.proofs.Common.{◌∷◌, ◌++◌, length, refl, arith, length-append}
 use Rattle.std.specs.Prelude.{◌==◌, if◌then◌else◌, map}
-use Rattle.std.specs.List.{onto_first, flat_map}
+use Rattle.std.specs.List.{flat_map}
 use Rattle.exam_lists.proofs.Parts.{extent, extent_onto}
 use Rattle.exam_terms.specs.Texts.{trim_start, trim_end, trimmed_text}
 use Rattle.office_files.specs.Fields.{ended_parts}
 use Rattle.office_files.specs.Lines.{Piece, Located, pieces_from, without_return, inner_start, trimmed_piece}
-use Rattle.office_files.specs.Lines.{lines_from, is_header}
+use Rattle.office_files.specs.Lines.{lines_from}
 use Rattle.office_files.specs.Tokens.{tokens_in, tokens_of, AreInRow}
 use Rattle.office_files.proofs.SliceLaws.{tokens_slice, trim_start-le, trim_end_front, return_front}
 
@@ -23,14 +24,7 @@ joined low mid high (x ∷ xs) ys a b = (a.0, a.1, joined x.end mid high xs ys a
 
 extent-le : (c : ℕ) (bs : List ℕ) → extent (ended_parts c bs) ≤ length bs + 1
 extent-le c [] = omega arith
-extent-le c (b ∷ bs) =
-    elim (b == c) as (λ v.
-    extent (if v then [] ∷ ended_parts c bs else onto_first b (ended_parts c bs))
-    ≤ suc (length bs) + 1) [
-      | true ↦ omega (arith, extent-le c bs)
-      | false ↦ omega
-          (arith, extent_onto b (ended_parts c bs) (length bs) (extent-le c bs) (λ _. omega arith))
-    ]
+extent-le c (b ∷ bs) = grind (arith, common_steps, extent-le c bs, extent, extent_onto)
 
 -- a located text is inside its piece
 pub inner : (line : ℕ) (p : Piece) → record {
@@ -63,14 +57,7 @@ fields_run line start high (x ∷ y ∷ ys) reach le =
 -- the tokens of a row are inside it
 row_runs : (row : Located) → row.end ≡ row.start + length row.text →
     AreInRow row.start (tokens_in row) row.end
-row_runs row e =
-    let fields = map (trimmed_piece row.line) (pieces_from row.start (ended_parts 44 row.text)) in
-    elim (is_header row.text) as (λ v.
-    AreInRow row.start (if v then row ∷ [] else fields) row.end) [
-      | true ↦ (omega arith, omega arith, omega arith)
-      | false ↦ fields_run row.line row.start row.end (ended_parts 44 row.text)
-          (omega (arith, extent-le 44 row.text)) (omega arith)
-    ]
+row_runs row e = grind (arith, common_steps, extent-le, fields_run)
 
 rows_run : (line start high : ℕ) (xs : List (List ℕ)) → start + extent xs ≤ high →
     AreInRow start (flat_map tokens_in (lines_from line (pieces_from start xs))) high

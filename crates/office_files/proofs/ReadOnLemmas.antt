@@ -1,5 +1,6 @@
 -- Digits at the front of a line, and the value of a field of few digits.
-use Rattle.std.proofs.Common.{◌≡◌, ◌≢◌, ℕ, zero, suc, ◌+◌, ◌-◌, ◌*◌, ◌^◌, ◌<◌, ◌≤◌}
+use Rattle.std.proofs.lemmas.Grind.{common_steps}
+use Rattle.std.proofs.Common.{◌≡◌, ◌≢◌, ℕ, zero, suc, ◌+◌, ◌-◌, ◌*◌, ◌^◌, ◌<◌, ◌≤◌, rules}
 use Rattle.std.proofs.Common.{Bool, true, false, List, [], ◌∷◌, ◌++◌, length, get_or, take, drop}
 use Rattle.std.proofs.Common.{add-one, Some, None, refl, sym, ap, subst, eqb-true, ◌∙◌, inl, inr, arith, le-ltb}
 use Rattle.std.specs.Prelude.{◌&&◌, ◌==◌, not, nat_le, nat_lt, if◌then◌else◌, map}
@@ -36,15 +37,11 @@ pub read_on-more : (n : ℕ) (xs : List ℕ) (i : ℕ) → i < length xs →
 read_on-more n [] i lt = absurd (omega arith)
 read_on-more n (d ∷ ds) zero lt = refl
 read_on-more n (d ∷ ds) (suc i) lt =
-    let next = read_on-more (10 * n + (d - 48)) ds i (omega arith) in
-    rw (add-one (suc i)) (rw (add-one i) at next)
+    search (rules, read_on-more (10 * n + (d - 48)) ds i (omega arith))
 
 -- a number of eight digits or fewer has room for one more
 pub small_room : (n i : ℕ) → i < 9 → n < 10 ^ i → n < 100000000
-small_room n i lt small =
-    let most : 10 ^ i ≤ 10 ^ 8 =
-    pow-le-pow_right {n = 10} (omega arith) {i = i} {j = 8} (omega arith) in
-    omega arith
+small_room n i lt small = grind (arith, common_steps, pow-le-pow_right)
 
 pub small_more : (n i d : ℕ) → n < 10 ^ i → d ≤ 9 → 10 * n + d < 10 ^ (i + 1)
 small_more n i d small digit =
@@ -83,47 +80,23 @@ low_is_digit b lt low =
 
 pub high_is_none : (b : ℕ) → b < 256 → 9 < bit_xor b 48 → is_ascii_digit b ≡ false
 unfolding digit_decided
-high_is_none b lt high =
-    let decided = subst (λ t. (if t then is_ascii_digit b && (bit_xor b 48 == b - 48)
-    else not (is_ascii_digit b)) ≡ true) (lt-leb (bit_xor b 48) 9 high) (byte_decided b lt) in
-    not_true (is_ascii_digit b) decided
-  where
-    not_true : (a : Bool) → not a ≡ true → a ≡ false
-    not_true true is = sym is
-    not_true false is = refl
+high_is_none b lt high = grind (arith, common_steps, byte_decided, lt-leb)
 
 pub digit_no_blank : (b : ℕ) → is_ascii_digit b ≡ true → is_blank b ≡ false
-digit_no_blank b e =
-    let range = digit_range b e in
-    rw (ne_eqb b 32 (λ same. omega arith), ne_eqb b 9 (λ same. omega arith))
+digit_no_blank b e = grind (arith, common_steps, digit_range, ne_eqb)
 
 -- one more digit at the front
 pub has-more : (text : List ℕ) (value count digit : ℕ) → count < length text →
     is_ascii_digit (get_or text count 0) ≡ true → digit ≡ get_or text count 0 - 48 →
     HasDigits text value count → HasDigits text (10 * value + digit) (count + 1)
 has-more text value count digit lt is same has =
-    let range = digit_range (get_or text count 0) is in
-    record {
-      within = omega arith;
-      digits = rw (list_all_more is_ascii_digit text count 0 lt, has.digits, is) refl;
-      same = rw (read_on-more 0 text count lt, has.same, same) refl;
-      small = small_more value count digit has.small (omega arith);
-    }
+    grind (arith, common_steps, digit_range, list_all_more, read_on-more, small_more)
 
 -- the digits at the front of a text's first bytes are those of the text
 pub has_front : (most : ℕ) (text : List ℕ) (value count : ℕ) →
     HasDigits (take most text) value count →
     HasDigits text value count
-has_front most text value count has =
-    let least = length-take most text in
-    let short : count ≤ most = omega arith in
-    let front = take-take count most text short in
-    record {
-      within = omega arith;
-      digits = rw (← front) has.digits;
-      same = rw (← front) has.same;
-      small = has.small;
-    }
+has_front most text value count has = grind (arith, common_steps, length-take, take-take)
 
 first-onto : (b : ℕ) (parts : List (List ℕ)) → first_field (onto_first b parts) ≡ b ∷ first_field parts
 first-onto b [] = refl
@@ -144,10 +117,7 @@ others-byte : (b : ℕ) (bs : List ℕ) → b ≢ 44 →
 others-byte b bs other = rw (ne_eqb b 44 other) (rest-onto b (ended_parts 44 bs))
 
 digit_no_comma : (d : ℕ) (ds : List ℕ) → AllDigits (d ∷ ds) → d ≢ 44
-digit_no_comma d ds all same =
-    let both = and_parts (is_ascii_digit d) (list_all is_ascii_digit ds) all in
-    let range = digit_range d both.0 in
-    absurd (omega arith)
+digit_no_comma d ds all same = grind (arith, common_steps, and_parts, digit_range)
 
 -- digits come first in their part, followed by the rest of it
 part-digits : (ds after : List ℕ) → AllDigits ds →
@@ -181,13 +151,7 @@ pub no_digit : (line : List ℕ) → NoDigitAt line 0 →
     few_digits (first_field (ended_parts 44 line)) ≡ None
 no_digit [] other = refl
 no_digit (b ∷ bs) other =
-    let more = first_field (ended_parts 44 bs) in
-    elim (cases_eq b 44) as (λ _. few_digits (first_field (ended_parts 44 (b ∷ bs))) ≡ None) [
-      | inl same ↦ rw (eq-eqb b 44 same) refl
-      | inr differs ↦
-          ap few_digits (part-byte b bs differs)
-          ∙ few_digits-other (b ∷ more) (all_fails is_ascii_digit [] b more (other (omega arith)))
-    ]
+    grind (arith, common_steps, all_fails, cases_eq, eq-eqb, few_digits-other, part-byte)
 
 -- the number that digits write is their value
 written : (n : ℕ) (ds : List ℕ) → AllDigits ds → digits_value_after 10 n ds ≡ read_on n ds
@@ -220,16 +184,14 @@ pub eight_have : (text : List ℕ) (end value : ℕ) → length text ≤ 8 → e
     → value ≡ digits_value 10 (take end text)
     → HasDigits text value end × NoDigitAt text end × (value < 100000000)
 eight_have text end value few ends is =
-    let within = prefix_len-le-length is_ascii_digit text in
-    let has = front_has text end (omega (arith, ends)) in
-    let room : 10 ^ end ≤ 10 ^ 8 =
-    pow-le-pow_right {n = 10} (omega arith) {i = end} {j = 8} (omega (arith, ends, within)) in
-    let small = has.small in
-    let same : value ≡ read_on 0 (take end text) = is ∙ written 0 (take end text) has.digits in (
-      subst (λ n. HasDigits text n end) (sym same) has,
-      λ lt. subst (λ k. is_ascii_digit (get_or text k 0) ≡ false) (sym ends)
-          (prefix_len_stops is_ascii_digit text 0 (omega (arith, ends))),
-      omega (arith, same, small, room),
+    grind (
+      arith,
+      common_steps,
+      front_has,
+      pow-le-pow_right,
+      prefix_len-le-length,
+      prefix_len_stops,
+      written,
     )
 
 -- all of these bytes are digits
@@ -242,27 +204,20 @@ eight_are line value count long most has =
 pub eight_front : (line : List ℕ) (value count : ℕ) → 8 < length line → 8 ≤ count
     → HasDigits (take 8 line) value count → is_ascii_digit (get_or line 8 0) ≡ false
     → IsFront line value count
-eight_front line value count long most has other =
-    let eight = eight_are line value count long most has in
-    record {
-      has = has_front 8 line value count has;
-      few = omega arith;
-      whole = λ _ lt. subst (λ k. is_ascii_digit (get_or line k 0) ≡ false) (sym eight) other;
-    }
+eight_front line value count long most has other = search (rules, eight_are, has_front)
 
 -- nine digits
 pub nine_front : (line : List ℕ) (value count digit : ℕ) → 8 < length line → 8 ≤ count
     → HasDigits (take 8 line) value count → is_ascii_digit (get_or line 8 0) ≡ true
     → digit ≡ get_or line 8 0 - 48 → IsFront line (10 * value + digit) (count + 1)
 nine_front line value count digit long most has is same =
-    let eight = eight_are line value count long most has in
-    let here : get_or line count 0 ≡ get_or line 8 0 = ap (λ k. get_or line k 0) eight in
-    record {
-      has = has-more line value count digit (omega arith) (ap is_ascii_digit here ∙ is)
-          (same ∙ ap (λ b. b - 48) (sym here)) (has_front 8 line value count has);
-      few = omega arith;
-      whole = λ less. absurd (omega arith);
-    }
+    grind (
+      arith,
+      common_steps,
+      eight_are line value count long most has,
+      has-more,
+      has_front 8 line value count has,
+    )
 
 module _ (line : List ℕ) (value count : ℕ) (is : IsFront line value count) where
   abbrev front : List ℕ
@@ -287,48 +242,37 @@ module _ (line : List ℕ) (value count : ℕ) (is : IsFront line value count) w
 
   value_is : first_field (ended_parts 44 left) ≡ [] → 0 < count →
       few_digits (first_field (ended_parts 44 line)) ≡ Some value
-  value_is none some =
-      let few = is.few in
-      ap few_digits (part_is ∙ ap (λ (xs : List ℕ). front ++ xs) none ∙ append-nil front)
-      ∙ few_digits-all front (omega (arith, size)) (omega (arith, size)) is.has.digits
-      ∙ ap Some is.has.same
+  value_is none some = grind (arith, common_steps, append-nil, few_digits-all, part_is, size)
 
   -- the line ends after them
   pub at_end : left ≡ [] → 0 < count →
       (few_digits (first_field (ended_parts 44 line)) ≡ Some value)
       × (ended_parts 44 left ≡ other_fields (ended_parts 44 line))
-  at_end none some =
-      let parts : ended_parts 44 left ≡ [] = ap (ended_parts 44) none in
-      (value_is (ap first_field parts) some, parts ∙ sym (others_are ∙ ap other_fields parts))
+  at_end none some = grind (arith, common_steps, others_are, value_is)
 
   -- a comma ends them
   pub at_comma : (after : List ℕ) → left ≡ 44 ∷ after → 0 < count →
       (few_digits (first_field (ended_parts 44 line)) ≡ Some value)
       × (ended_parts 44 after ≡ other_fields (ended_parts 44 line))
-  at_comma after next some =
-      let parts : ended_parts 44 left ≡ [] ∷ ended_parts 44 after = ap (ended_parts 44) next in
-      (value_is (ap first_field parts) some, sym (others_are ∙ ap other_fields parts))
+  at_comma after next some = grind (arith, common_steps, others_are, value_is)
 
   -- another byte follows them
   pub at_other : (b : ℕ) (bs : List ℕ) → left ≡ b ∷ bs → b ≢ 44 →
       few_digits (first_field (ended_parts 44 line)) ≡ None
   at_other b bs next other =
-      let more = first_field (ended_parts 44 bs) in
-      let part : first_field (ended_parts 44 line) ≡ front ++ b ∷ more =
-      part_is
-      ∙ ap (λ xs. front ++ first_field (ended_parts 44 xs)) next
-      ∙ ap (λ (xs : List ℕ). front ++ xs) (part-byte b bs other) in
-      let here = drop_at_head line count b 0 bs next in
-      ap few_digits part
-      ∙ elim (cases_lt count 9) as (λ _. few_digits (front ++ b ∷ more) ≡ None) [
-        | inl less ↦
-            few_digits-other (front ++ b ∷ more)
-            (all_fails is_ascii_digit front b more
-            (ap is_ascii_digit (sym here.1) ∙ is.whole less here.0))
-        | inr more_than ↦
-            few_digits-long (front ++ b ∷ more)
-            (omega (arith, size, length-append front (b ∷ more)))
-      ]
+      grind (
+        arith,
+        common_steps,
+        all_fails,
+        cases_lt,
+        drop_at_head,
+        few_digits-long,
+        few_digits-other,
+        length-append,
+        part-byte,
+        part_is,
+        size,
+      )
 
 -- digits have no blanks at their end
 trim_end_digits : (ds : List ℕ) → AllDigits ds → trim_end ds ≡ ds
@@ -343,26 +287,16 @@ trim_end_digits (d ∷ e ∷ ds) all =
 trimmed_digits : (ds : List ℕ) → AllDigits ds → trimmed_text ds ≡ ds
 trimmed_digits [] all = refl
 trimmed_digits (d ∷ ds) all =
-    let both = and_parts (is_ascii_digit d) (list_all is_ascii_digit ds) all in
-    rw (digit_no_blank d both.0) (trim_end_digits (d ∷ ds) all)
+    grind (arith, common_steps, and_parts, digit_no_blank, trim_end_digits)
 
 -- few digits are a number
 few_parts : (text : List ℕ) (value : ℕ) → few_digits text ≡ Some value →
     (is_number text ≡ true) × (read_on 0 text ≡ value)
-few_parts text value said = by (is_number text && nat_le (length text) 9) refl said
-  where
-    by : (b : Bool) → (is_number text && nat_le (length text) 9) ≡ b →
-        (if b then Some (read_on 0 text) else None) ≡ Some value →
-        (is_number text ≡ true) × (read_on 0 text ≡ value)
-    by true is e = ((and_parts (is_number text) (nat_le (length text) 9) is).0, cc)
-    by false is e = cc
+few_parts text value said = grind (arith, common_steps, and_parts)
 
 number-few : (text : List ℕ) (value limit : ℕ) → few_digits text ≡ Some value →
     number limit (trimmed_text text) ≡ at_most limit value
-number-few text value limit said =
-    let parts = few_parts text value said in
-    let digits = and_parts (nat_lt 0 (length text)) (list_all is_ascii_digit text) parts.0 in
-    ap (number limit) (trimmed_digits text digits.1) ∙ rw (parts.0, parts.1) refl
+number-few text value limit said = grind (arith, common_steps, and_parts, few_parts, trimmed_digits)
 
 first-trimmed : (parts : List (List ℕ)) → first_field (map trimmed_text parts) ≡ trimmed_text (first_field parts)
 first-trimmed [] = refl
@@ -410,15 +344,9 @@ module _ (line : List ℕ) (value : ℕ)
 
   -- the first field of the line is that number
   pub number_first : (limit : ℕ) → number limit (first_field (fields_of line)) ≡ at_most limit value
-  number_first limit =
-      ap (λ fields. number limit (first_field fields)) (sym same_fields)
-      ∙ ap (number limit) (first-trimmed (ended_parts 44 other))
-      ∙ number-few (first_field (ended_parts 44 other)) value limit said
+  number_first limit = grind (arith, common_steps, first-trimmed, number-few, same_fields)
 
   -- the other fields are those after it
   pub rest_first : (after : List ℕ) → ended_parts 44 after ≡ other_fields (ended_parts 44 other) →
       fields_of after ≡ other_fields (fields_of line)
-  rest_first after are =
-      ap (map trimmed_text) are
-      ∙ sym (rest-trimmed (ended_parts 44 other))
-      ∙ ap other_fields same_fields
+  rest_first after are = grind (arith, common_steps, rest-trimmed, same_fields)

@@ -1,6 +1,6 @@
 -- The results of the two readers, by the relations of text and item.
-use Rattle.std.proofs.Common.{◌≡◌, ◌≢◌, ℕ, ◌+◌, ◌≤◌, ◌==◌, List, [], length, map, Some}
-use Rattle.std.proofs.Common.{Result, Ok, Err, IfOk, IfErr, sym, ap, ◌∙◌, refl, subst, arith}
+use Rattle.std.proofs.Common.{◌≡◌, ◌≢◌, ℕ, ◌+◌, ◌≤◌, ◌==◌, List, [], length, map, Some, rules}
+use Rattle.std.proofs.Common.{Result, Ok, Err, IfOk, IfErr, sym, ◌∙◌, refl, subst, arith}
 use Rattle.std.proofs.lemmas.List.{length-map}
 use Rattle.std.proofs.lemmas.List.Elements.{All-map, All-weaker}
 use Rattle.std.specs.Prelude.{All}
@@ -10,7 +10,6 @@ use Rattle.exam_model.specs.Fits.{PlaceExists}
 use Rattle.exam_model.specs.Instance.{Session}
 use Rattle.exam_terms.specs.Refusing.{unless}
 use Rattle.exam_model.specs.Timetable.{Placing}
-use Rattle.office_files.specs.ExamLines.{ExamLine, exam_of}
 use Rattle.office_files.specs.InstanceText.{InstanceText, instance_in}
 use Rattle.office_files.specs.ItemLines.{place_line}
 use Rattle.office_files.specs.Lines.{lines_of, line_count}
@@ -50,12 +49,7 @@ module _ {X : Type 0} (view : X → Session × Enrolled) (b : List ℕ) where
   -- as many exams as the instance has
   pub instance_fits : (r : Result X FileFault) → AnswersReading view r (instance_in b)
       → IfOk r (λ x. length (view x).1 ≡ length (view x).0.exams)
-  instance_fits (Ok x) is =
-      let text = read_is_text b (view x).0 (view x).1 is in
-      ap length text.enrolled
-      ∙ length-map text.said.exams (λ (line : ExamLine). line.students)
-      ∙ sym (length-map text.said.exams exam_of)
-      ∙ sym (ap (λ (I : Session). length I.exams) text.session)
+  instance_fits (Ok x) is = search (rules, length-map, read_is_text)
   instance_fits (Err f) is = tt
 
 module _ {X : Type 0} (view : X → Placing) (I : Session) (b : List ℕ) where

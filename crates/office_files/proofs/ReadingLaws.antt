@@ -1,13 +1,14 @@
 -- The values of lines that were read, one by one, and the reading of lines with these values.
+use Rattle.std.proofs.lemmas.Grind.{common_steps}
 use Rattle.std.proofs.Common.{◌≡◌, ℕ, zero, suc, ◌<◌, ◌≤◌, Bool, true, false, List, [], ◌∷◌, ◌++◌, length, take, Some, Result, Ok, Err, refl, ap, sym, ◌∙◌, subst, arith}
-use Rattle.std.specs.Prelude.{All, slice_get, nat_le, if◌then◌else◌}
+use Rattle.std.specs.Prelude.{All, slice_get, if◌then◌else◌}
 use Rattle.std.proofs.lemmas.Bool.{leb-true}
 use Rattle.std.proofs.lemmas.List.{append-nil, append_assoc, length-append}
 use Rattle.std.proofs.lemmas.List.Elements.{All-nil, All-push}
 use Rattle.exam_terms.specs.Refusing.{◌>>=◌, unless}
 use Rattle.office_files.specs.Fields.{fields_of}
 use Rattle.office_files.specs.Lines.{Located}
-use Rattle.office_files.specs.Numbers.{number, is_number, read_on}
+use Rattle.office_files.specs.Numbers.{number}
 use Rattle.office_files.specs.Reading.{at_line, items_of, Spell}
 use Rattle.office_files.specs.declared.fault.FaultKind.{FaultKind}
 use Rattle.office_files.specs.declared.fault.FaultKind.TheVariants.{BadNumber, OutOfRange}
@@ -54,9 +55,7 @@ number_by false within value n e = cc
 
 -- a number that was read is within its limit
 pub number_le : (limit : ℕ) (text : List ℕ) (n : ℕ) → number limit text ≡ Ok n → n ≤ limit
-number_le limit text n e =
-    let by = number_by (is_number text) (nat_le (read_on 0 text) limit) (read_on 0 text) n e in
-    omega (arith, leb-true (read_on 0 text) limit by.0)
+number_le limit text n e = grind (arith, common_steps, leb-true, number_by)
 
 module _ {A : Type 0} (read : List A → List (List ℕ) → Result A FaultKind) where
   -- lines describe items that follow others
@@ -117,9 +116,7 @@ module _ {A : Type 0} (read : List A → List (List ℕ) → Result A FaultKind)
   -- the lines describe the items read
   pub items_spelled : (lines : List Located) (items : List A) → items_of read [] lines ≡ Ok items →
       Spell read lines items
-  items_spelled lines items e =
-      let found = read_rest [] lines items e in
-      rw found.1 (record { as_many = found.2.as_many; each = found.2.each })
+  items_spelled lines items e = grind (arith, common_steps, read_rest)
 
   -- the items that the lines describe are read
   pub spelled_items : (lines : List Located) (items : List A) → Spell read lines items →

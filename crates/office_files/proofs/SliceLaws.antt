@@ -1,6 +1,7 @@
 -- Each piece of a text is at its recorded place in it.
-use Rattle.std.proofs.Common.{◌≡◌, ℕ, suc, ◌+◌, ◌-◌, ◌≤◌, true, false, List, [], ◌∷◌, ◌++◌}
-use Rattle.std.proofs.Common.{length, drop, refl, ap, subst, sym, ◌∙◌, arith}
+use Rattle.std.proofs.lemmas.Grind.{common_steps}
+use Rattle.std.proofs.Common.{◌≡◌, ℕ, ◌+◌, ◌-◌, ◌≤◌, true, false, List, [], ◌∷◌, ◌++◌, rules}
+use Rattle.std.proofs.Common.{length, drop, refl, ap, subst, sym, arith}
 use Rattle.std.proofs.Common.{length-append, length-drop, append-nil}
 use Rattle.std.specs.Prelude.{◌==◌, if◌then◌else◌, map}
 use Rattle.std.specs.List.{AllByRecursion, onto_first, flat_map}
@@ -9,7 +10,7 @@ use Rattle.exam_lists.proofs.Parts.{drop_next, Lies, drop_within, lies_front, li
 use Rattle.exam_terms.specs.Texts.{is_blank, before_end, trim_start, trim_end, trimmed_text}
 use Rattle.office_files.specs.Fields.{ended_parts}
 use Rattle.office_files.specs.Lines.{Piece, Located, pieces_from, without_return, inner_start, trimmed_piece}
-use Rattle.office_files.specs.Lines.{lines_from, lines_of, is_header}
+use Rattle.office_files.specs.Lines.{lines_from, lines_of}
 use Rattle.office_files.specs.Tokens.{tokens_in, tokens_of, IsSliceOf}
 
 -- a text at this place is that slice
@@ -17,15 +18,14 @@ pub lies_slice : (source : List ℕ) (line : ℕ) (start end : ℕ) (text : List
     end ≡ start + length text → Lies source start text →
     IsSliceOf source (record { line = line; start = start; end = end; text = text })
 lies_slice source line start end text e l =
-    let len = ap length l.here in
-    let n : end - start ≡ length text = omega arith in
-    record {
-      rises = omega arith;
-      within = omega (arith, l.within, length-drop start source, length-append text l.tail);
-      slice = rw (n, l.here) (sym (
-          take-append-le (length text) text l.tail (omega arith)
-          ∙ take_all (length text) text (omega arith)));
-    }
+    grind (
+      arith,
+      common_steps,
+      length-append,
+      length-drop start source,
+      take-append-le,
+      take_all (length text) text (omega arith),
+    )
 
 abbrev pub AllLie : List ℕ → List Piece → Type 0
 AllLie source = AllByRecursion (λ (p : Piece). Lies source p.start p.text)
@@ -34,60 +34,39 @@ AllLie source = AllByRecursion (λ (p : Piece). Lies source p.start p.text)
 onto_lie : (source : List ℕ) (at b : ℕ) (bs tail : List ℕ) (parts : List (List ℕ)) →
     drop at source ≡ b ∷ (bs ++ tail) → AllLie source (pieces_from (at + 1) parts) →
     AllLie source (pieces_from at (onto_first b parts))
-onto_lie source at b bs tail [] e all =
-    let inside = drop_within source at b (bs ++ tail) e in
-    (record { within = omega arith; tail = bs ++ tail; here = e }, tt)
-onto_lie source at b bs tail (x ∷ xs) e all =
-    let inside = drop_within source at b (bs ++ tail) e in
-    let next = drop_next source at b (bs ++ tail) e in
-    let same : at + 1 + length x + 1 ≡ at + suc (length x) + 1 = omega arith in (
-      record {
-        within = omega arith;
-        tail = all.0.tail;
-        here = e ∙ ap (λ (ys : List ℕ). b ∷ ys) (sym next ∙ all.0.here);
-      },
-      subst (λ k. AllLie source (pieces_from k xs)) same all.1,
-    )
+onto_lie source at b bs tail [] e all = grind (arith, common_steps, drop_within)
+onto_lie source at b bs tail (x ∷ xs) e all = grind (arith, common_steps, drop_next, drop_within)
 
 -- the parts of a text in the source are in the source
 pub parts_lie : (c : ℕ) (text : List ℕ) (source : List ℕ) (at : ℕ) (tail : List ℕ) →
     drop at source ≡ text ++ tail → AllLie source (pieces_from at (ended_parts c text))
 parts_lie c [] source at tail e = tt
 parts_lie c (b ∷ bs) source at tail e =
-    let inside = drop_within source at b (bs ++ tail) e in
-    let next = drop_next source at b (bs ++ tail) e in
-    let left = ended_parts c bs in
-    elim (b == c) as (λ v. AllLie source (pieces_from at (if v then [] ∷ left else onto_first b left))) [
-      | true ↦ (
-        record { within = omega arith; tail = b ∷ (bs ++ tail); here = e },
-        subst (λ k. AllLie source (pieces_from k (ended_parts c bs))) {x = at + 1} (omega arith)
-            (parts_lie c bs source (at + 1) tail next),
-      )
-      | false ↦ onto_lie source at b bs tail (ended_parts c bs) e
-          (parts_lie c bs source (at + 1) tail next)
-    ]
+    grind (
+      arith,
+      common_steps,
+      parts_lie c bs source (at + 1) tail (drop_next source at b (bs ++ tail) e),
+      drop_next,
+      drop_within,
+      onto_lie,
+    )
 
 pub trim_start-le : (text : List ℕ) → length (trim_start text) ≤ length text
 trim_start-le [] = omega arith
-trim_start-le (b ∷ bs) =
-    elim (is_blank b) as (λ v. length (if v then trim_start bs else b ∷ bs) ≤ suc (length bs)) [
-      | true ↦ omega (arith, trim_start-le bs)
-      | false ↦ omega arith
-    ]
+trim_start-le (b ∷ bs) = grind (arith, common_steps, trim_start-le bs)
 
 lies_trim_start : (source : List ℕ) (start : ℕ) (text : List ℕ) → Lies source start text →
     Lies source (start + (length text - length (trim_start text))) (trim_start text)
 lies_trim_start source start [] l = subst (λ k. Lies source k []) {x = start} (omega arith) l
 lies_trim_start source start (b ∷ bs) l =
-    let inner : ℕ = start + 1 + (length bs - length (trim_start bs)) in
-    elim (is_blank b) as (λ v.
-    Lies source (start + (suc (length bs) - length (if v then trim_start bs else b ∷ bs)))
-    (if v then trim_start bs else b ∷ bs)) [
-      | true ↦
-          subst (λ k. Lies source k (trim_start bs)) {x = inner} (omega (arith, trim_start-le bs))
-          (lies_trim_start source (start + 1) bs (lies_next source start b bs l))
-      | false ↦ subst (λ k. Lies source k (b ∷ bs)) {x = start} (omega arith) l
-    ]
+    grind (
+      arith,
+      common_steps,
+      lies_trim_start source (start + 1) bs (lies_next source start b bs l),
+      Lies,
+      lies_next,
+      trim_start-le,
+    )
 
 end_front : (b : ℕ) (t ys bs : List ℕ) → bs ≡ t ++ ys →
     (zs : List ℕ) × (b ∷ bs ≡ before_end b t ++ zs)
@@ -158,13 +137,7 @@ fields_located source line (p ∷ ps) all =
 
 tokens_in_located : (source : List ℕ) (row : Located) → IsLocated source row →
     AllLocated source (tokens_in row)
-tokens_in_located source row st =
-    let fields = map (trimmed_piece row.line) (pieces_from row.start (ended_parts 44 row.text)) in
-    elim (is_header row.text) as (λ v. AllLocated source (if v then row ∷ [] else fields)) [
-      | true ↦ (st, tt)
-      | false ↦ fields_located source row.line (pieces_from row.start (ended_parts 44 row.text))
-          (parts_lie 44 row.text source row.start st.lies.tail st.lies.here)
-    ]
+tokens_in_located source row st = grind (arith, common_steps, fields_located, parts_lie)
 
 located_append : (source : List ℕ) (xs ys : List Located) → AllLocated source xs
     → AllLocated source ys →
@@ -176,8 +149,7 @@ all_tokens_located : (source : List ℕ) (rows : List Located) → AllLocated so
     AllLocated source (flat_map tokens_in rows)
 all_tokens_located source [] all = tt
 all_tokens_located source (r ∷ rs) all =
-    located_append source (tokens_in r) (flat_map tokens_in rs) (tokens_in_located source r all.0)
-    (all_tokens_located source rs all.1)
+    search (rules, all_tokens_located source rs all.1, located_append, tokens_in_located)
 
 -- each token of a text is its slice of the text
 pub tokens_located : (source : List ℕ) → AllLocated source (tokens_of source)

@@ -1,5 +1,6 @@
 -- A solution file that was read is the text of the timetable, and each such text is read.
-use Rattle.std.proofs.Common.{◌≡◌, ℕ, ◌+◌, ◌≤◌, List, [], length, map, Some, Ok, refl, sym, ap}
+use Rattle.std.proofs.lemmas.Grind.{common_steps}
+use Rattle.std.proofs.Common.{◌≡◌, ℕ, ◌+◌, ◌≤◌, List, [], length, map, Some, Ok, refl, sym, arith, rules}
 use Rattle.std.specs.Prelude.{All, nat_le, ◌==◌}
 use Rattle.std.proofs.lemmas.Bool.{leb-true, le-leb, eqb-true, eq-eqb}
 use Rattle.exam_lists.proofs.Results.{ok_same}
@@ -41,23 +42,11 @@ solution_is_text I b T e =
 pub text_is_solution : (I : Session) (b : List ℕ) (T : Placing) → SolutionText b I T →
     solution_in I b ≡ Ok T
 text_is_solution I b T t =
-    let counts = counts_in I in
-    let short = nat_le (length b) 1048576 in
-    let whole = length t.places == length I.exams in
-    let fits = ok_at_line 0 (unless short TooLong) tt
-    (ok_unless short TooLong (le-leb (length b) 1048576 t.within)) in
-    let places = spelled_items (place_line counts) (lines_of b) t.places t.spelled in
-    let all = ok_at_line (line_count b + 1) (unless whole CountMismatch) tt
-    (ok_unless whole CountMismatch (eq-eqb (length t.places) (length I.exams) t.complete)) in
-    ok_bind (at_line 0 (unless short TooLong)) _ tt T fits
-    (ok_bind (items_of (place_line counts) [] (lines_of b)) _ t.places T places
-    (ok_bind (at_line (line_count b + 1) (unless whole CountMismatch)) _ tt T all
-    (ap Ok (sym t.timetable))))
+    grind (arith, common_steps, eq-eqb, le-leb, ok_at_line, ok_bind, ok_unless, spelled_items)
 
 -- the places that were read exist
 pub places_exist : (counts : Counts) (lines : List Located) (places : List Place) →
     1 ≤ counts.periods → 1 ≤ counts.rooms →
     items_of (place_line counts) [] lines ≡ Ok places → All (PlaceExists counts) places
 places_exist counts lines places periods rooms e =
-    items_all (place_line counts) (PlaceExists counts)
-    (λ before fields p is. place_within counts before fields p periods rooms is) lines places e
+    search (rules, PlaceExists, items_all, place_within)

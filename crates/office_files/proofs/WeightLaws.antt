@@ -1,6 +1,7 @@
 -- The weights of a text are the numbers on the lines of their words.
+use Rattle.std.proofs.lemmas.Grind.{common_steps}
 use Rattle.std.proofs.Common.{◌≡◌, ℕ, suc, Bool, true, false, List, [], ◌∷◌, ◌++◌, Result, Ok, inl, inr, refl, ap, sym, subst, ◌∙◌, arith}
-use Rattle.std.specs.Prelude.{All, ◌||◌}
+use Rattle.std.specs.Prelude.{All}
 use Rattle.std.specs.List.{list_any}
 use Rattle.std.proofs.lemmas.Bool.{cases_Bool, true≢false}
 use Rattle.std.proofs.lemmas.List.{append-nil}
@@ -20,7 +21,7 @@ use Rattle.office_files.specs.Reading.{at_line, items_of}
 use Rattle.office_files.specs.WeightLines.{last_section, field_after, begins_with, number_after, HasAmount, Weighs}
 use Rattle.office_files.specs.Headers.{Heading}
 use Rattle.office_files.specs.Sections.{AtHeader, IsSection}
-use Rattle.office_files.specs.Weightings.{weight_word, has_word, weighting_by, weighting_line}
+use Rattle.office_files.specs.Weightings.{has_word, weighting_by, weighting_line}
 use Rattle.office_files.specs.Weights.{with_weighting, with_weightings, no_weights}
 use Rattle.office_files.specs.declared.counts.Counts.{Counts}
 use Rattle.office_files.specs.declared.fault.FaultKind.{FaultKind}
@@ -73,9 +74,7 @@ module _ (w : WeightWord) (place : ℕ) (get : Weights → ℕ) (is : IsWeight w
 
   has_begun : (before : List Weighting) (line : Located) (s : Weighting)
       → WasRead before (fields_of line.text) s → begins_with (text_of w) line ≡ true → word_of s ≡ w
-  has_begun before line s was begins =
-      ok_same (weight_word (first_field (fields_of line.text))) (word_of s) w was.word
-      (word_read w (first_field (fields_of line.text)) begins)
+  has_begun before line s was begins = grind (arith, common_steps, ok_same, word_of, word_read)
 
   passed : (before : List Weighting) (s : Weighting) → has_word w s ≡ false
       → weight (before ++ s ∷ []) ≡ weight before
@@ -86,9 +85,7 @@ module _ (w : WeightWord) (place : ℕ) (get : Weights → ℕ) (is : IsWeight w
   come : (before : List Weighting) (lines : List Located) (all : List Weighting)
       → list_any (has_word w) before ≡ true → items_of reads before lines ≡ Ok all
       → All Lacks lines × (weight all ≡ weight before)
-  come before [] all there read =
-      let same : before ≡ all = cc in
-      (All-nil Lacks, ap weight (sym same))
+  come before [] all there read = grind (arith, common_steps, All-nil)
   come before (line ∷ lines) all there read =
       let New : WeightWord → Type 0 = λ v. list_any (has_word v) before ≡ false in
       let head = bind_ok (at_line line.line (reads before (fields_of line.text))) _ all read in
@@ -115,13 +112,7 @@ module _ (w : WeightWord) (place : ℕ) (get : Weights → ℕ) (is : IsWeight w
       → list_any (has_word w) before ≡ false → weight before ≡ 0
       → items_of reads before lines ≡ Ok all
       → HasAmount lines (text_of w) (suc place) (weight all)
-  weight_after before [] all missing zero_yet read =
-      let same : before ≡ all = cc in
-      record {
-        once = λ i j d lt within. absurd (omega (arith, within));
-        said = All-nil (LineGives all);
-        unsaid = λ none. ap weight (sym same) ∙ zero_yet;
-      }
+  weight_after before [] all missing zero_yet read = grind (arith, common_steps, All-nil)
   weight_after before (line ∷ lines) all missing zero_yet read =
       let head = bind_ok (at_line line.line (reads before (fields_of line.text))) _ all read in
       let was = was_read counts before (fields_of line.text) head.0
@@ -283,23 +274,14 @@ has_header lines = list_any (λ (line : Located). is_header line.text) lines
 skipped : (xs ys : List Located) → has_header ys ≡ true
     → (has_header (xs ++ ys) ≡ true) × (last_section (xs ++ ys) ≡ last_section ys)
 skipped [] ys there = (there, refl)
-skipped (x ∷ xs) ys there =
-    let more = skipped xs ys there in (
-      elim (is_header x.text) as (λ b. (b || has_header (xs ++ ys)) ≡ true) [
-        | true ↦ refl
-        | false ↦ more.0
-      ],
-      rw more.0 more.1,
-    )
+skipped (x ∷ xs) ys there = grind (arith, common_steps, skipped xs ys there)
 
 module _ {A : Type 0} (heading : Heading) (read : List A → List (List ℕ) → Result A FaultKind)
     (lines : List Located) (items : List A) (after : List Located)
     (s : IsSection heading read lines items after) where
   -- a section that begins at a header has a header
   section_headed : AtHeader lines → has_header lines ≡ true
-  section_headed at =
-      let headed : is_header s.header.text ≡ true = subst AtHeader s.cut at in
-      rw (s.cut, headed) refl
+  section_headed at = grind (arith, common_steps)
 
   -- then the last section is that of the lines after it
   section_skipped : has_header after ≡ true → last_section lines ≡ last_section after
@@ -310,13 +292,7 @@ module _ {A : Type 0} (heading : Heading) (read : List A → List (List ℕ) →
 section_last : {A : Type 0} (heading : Heading) (read : List A → List (List ℕ) → Result A FaultKind)
     (lines : List Located) (items : List A) (s : IsSection heading read lines items [])
     → AtHeader lines → last_section lines ≡ s.body
-section_last heading read lines items s at =
-    let headed : is_header s.header.text ≡ true = subst AtHeader s.cut at in
-    let none : has_header s.body ≡ false
-    = list_any_none (λ (line : Located). is_header line.text) s.body s.no_header in
-    ap last_section s.cut
-    ∙ ap (λ xs. last_section (s.header ∷ xs)) (append-nil s.body)
-    ∙ rw (none, headed) refl
+section_last heading read lines items s at = grind (arith, common_steps, append-nil, list_any_none)
 
 -- ---- the text
 

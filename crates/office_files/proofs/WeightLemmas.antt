@@ -1,14 +1,15 @@
 -- The values of one line of the weightings: its word, and the numbers after it.
-use Rattle.std.proofs.Common.{◌≡◌, ℕ, Bool, true, false, List, [], ◌∷◌, ◌++◌, Result, Ok, Err, refl, ap, sym, subst, ◌∙◌}
+use Rattle.std.proofs.lemmas.Grind.{common_steps}
+use Rattle.std.proofs.Common.{◌≡◌, ℕ, Bool, true, false, List, [], ◌∷◌, ◌++◌, Result, Ok, Err, refl, ap, subst, ◌∙◌, arith, rules}
 use Rattle.std.specs.Prelude.{not, codes, if◌then◌else◌}
 use Rattle.std.specs.List.{list_any}
-use Rattle.std.specs.Str.{bytes_eq, str_eq_ignore_ascii_case, str_to_ascii_lowercase}
+use Rattle.std.specs.Str.{str_eq_ignore_ascii_case}
 use Rattle.std.proofs.lemmas.Slice.Eq.{bytes_eq-Decides}
 use Rattle.std.proofs.lemmas.Bool.{not-true}
 use Rattle.exam_lists.proofs.Results.{ok_same}
 use Rattle.exam_terms.specs.Refusing.{◌>>=◌, unless}
 use Rattle.exam_model.specs.declared.parts.Weights.{Weights}
-use Rattle.office_files.specs.Fields.{first_field, other_fields, end_of_fields}
+use Rattle.office_files.specs.Fields.{first_field, other_fields}
 use Rattle.office_files.specs.Numbers.{number}
 use Rattle.office_files.specs.WeightLines.{field_after}
 use Rattle.office_files.specs.Weightings.{weight_word, has_word, amount_in, front_in, weighting_by}
@@ -42,45 +43,16 @@ is_word w text = str_eq_ignore_ascii_case text (text_of w)
 -- a text is at most one word
 no_other : (w v : WeightWord) (text : List ℕ) → is_word w text ≡ true
     → is_word v (text_of w) ≡ false → is_word v text ≡ false
-no_other w v text is differ =
-    let lower = str_to_ascii_lowercase in
-    let same = (bytes_eq-Decides (lower text) (lower (text_of w))).0 is in
-    ap (λ t. bytes_eq t (lower (text_of v))) same ∙ differ
+no_other w v text is differ = grind (arith, common_steps, bytes_eq-Decides)
 
 -- a text that is a word is read as it
 pub word_read : (w : WeightWord) (text : List ℕ) → is_word w text ≡ true → weight_word text ≡ Ok w
 word_read word.Row text is = rw is refl
 word_read word.Day text is = rw (no_other word.Day word.Row text is refl, is) refl
-word_read word.Spread text is =
-    rw (
-      no_other word.Spread word.Row text is refl,
-      no_other word.Spread word.Day text is refl,
-      is,
-    ) refl
-word_read word.Mixed text is =
-    rw (
-      no_other word.Mixed word.Row text is refl,
-      no_other word.Mixed word.Day text is refl,
-      no_other word.Mixed word.Spread text is refl,
-      is,
-    ) refl
-word_read word.Front text is =
-    rw (
-      no_other word.Front word.Row text is refl,
-      no_other word.Front word.Day text is refl,
-      no_other word.Front word.Spread text is refl,
-      no_other word.Front word.Mixed text is refl,
-      is,
-    ) refl
-word_read word.Night text is =
-    rw (
-      no_other word.Night word.Row text is refl,
-      no_other word.Night word.Day text is refl,
-      no_other word.Night word.Spread text is refl,
-      no_other word.Night word.Mixed text is refl,
-      no_other word.Night word.Front text is refl,
-      is,
-    ) refl
+word_read word.Spread text is = grind (arith, common_steps, no_other)
+word_read word.Mixed text is = grind (arith, common_steps, no_other)
+word_read word.Front text is = search (rules, no_other)
+word_read word.Night text is = search (rules, no_other)
 
 -- one of six tests, that of the word
 abbrev test_of : WeightWord → Bool → Bool → Bool → Bool → Bool → Bool → Bool
@@ -117,10 +89,7 @@ tested word.Night text = refl
 
 -- a text that is read as a word is that word
 pub read_word : (w : WeightWord) (text : List ℕ) → weight_word text ≡ Ok w → is_word w text ≡ true
-read_word w text is =
-    sym (tested w text)
-    ∙ test_held (is_word word.Row text) (is_word word.Day text) (is_word word.Spread text)
-    (is_word word.Mixed text) (is_word word.Front text) (is_word word.Night text) w is
+read_word w text is = grind (arith, common_steps, test_held, tested)
 
 -- ---- the values of one line
 
@@ -152,30 +121,20 @@ its_word _ _ has = cc
 
 amount_read : (fields : List (List ℕ)) (n : ℕ) → amount_in fields ≡ Ok n
     → number MAX_AMOUNT (first_field fields) ≡ Ok n
-amount_read fields n is =
-    let amount = bind_ok (number MAX_AMOUNT (first_field fields)) _ n is in
-    let end = bind_ok (end_of_fields (other_fields fields)) _ n amount.2 in
-    amount.1 ∙ end.2
+amount_read fields n is = grind (arith, common_steps, bind_ok)
 
 -- one number after a word
 pub one_read : (make : ℕ → Weighting) (fields : List (List ℕ)) (s : Weighting)
     → (amount_in fields >>= λ n. Ok (make n)) ≡ Ok s
     → (n : ℕ) × (number MAX_AMOUNT (first_field fields) ≡ Ok n) × (make n ≡ s)
-one_read make fields s is =
-    let amount = bind_ok (amount_in fields) _ s is in
-    (amount.0, amount_read fields amount.0 amount.1, ok_same _ _ s refl amount.2)
+one_read make fields s is = grind (arith, common_steps, amount_read, bind_ok, ok_same)
 
 -- the three numbers of the front load
 pub front_read : (fields : List (List ℕ)) (s : Weighting) → front_in fields ≡ Ok s
     → (n : ℕ) × (k : ℕ) × (v : ℕ) × (number MAX_AMOUNT (field_after 0 fields) ≡ Ok n)
     × (number MAX_AMOUNT (field_after 1 fields) ≡ Ok k)
     × (number MAX_AMOUNT (field_after 2 fields) ≡ Ok v) × (said.Front n k v ≡ s)
-front_read fields s is =
-    let exams = bind_ok (number MAX_AMOUNT (first_field fields)) _ s is in
-    let periods = bind_ok (number MAX_AMOUNT (first_field (other_fields fields))) _ s exams.2 in
-    let weight = bind_ok (number MAX_AMOUNT (first_field (other_fields (other_fields fields)))) _ s periods.2 in
-    let end = bind_ok (end_of_fields (other_fields (other_fields (other_fields fields)))) _ s weight.2 in
-    (exams.0, periods.0, weight.0, exams.1, periods.1, weight.1, ok_same _ _ s refl end.2)
+front_read fields s is = grind (arith, common_steps, bind_ok, ok_same)
 
 -- a weighting read by a word has that word
 by_word : (w : WeightWord) (fields : List (List ℕ)) (s : Weighting) → weighting_by w fields ≡ Ok s
