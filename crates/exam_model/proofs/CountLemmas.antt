@@ -1,4 +1,5 @@
 -- What stays true of the lists and the count of pairs if the list of one exam changes.
+use Rattle.std.proofs.lemmas.Grind.{common_steps}
 use Rattle.std.proofs.Common.{◌≡◌, ◌∙◌, ℕ, ◌+◌, ◌-◌, ◌<◌, ◌≤◌, true, false, List, [], length, set, sym, ap, subst, arith, slice_index_or, Fits, w32}
 use Rattle.std.proofs.lemmas.List.{get_or_read, set-get_or}
 use Rattle.exam_model.specs.Enrolments.{Enrolled, AreEnrolments, AreNumbers, IsAscending, Adds, Removes, students, has, has_number, pair_count}
@@ -40,23 +41,17 @@ is_has E e s roll lt is =
 pub full_refuses : (E : Enrolled) (e s p : ℕ) (roll : List ℕ) → e < length E
     → roll ≡ slice_index_or E e roll → false ≡ has_number roll s → 200000 ≤ p → IsCounted E p
     → (e < length E) × (has E s e ≡ false) × (pair_count E ≡ 200000)
-full_refuses E e s p roll lt is absent full was =
-    let count : p ≡ pair_count E = was.1 in
-    (lt, sym (is_has E e s roll lt is) ∙ sym absent, omega (arith, was.0.pairs))
+full_refuses E e s p roll lt is absent full was = grind (arith, is_has)
 
 -- a student added to the exam's list is a pair added
 pub adds_entered : (E : Enrolled) (e s : ℕ) (roll new : List ℕ) → e < length E
     → roll ≡ slice_index_or E e roll → Enters roll new s → Adds E (set E e new) s e
-adds_entered E e s roll new lt is enters =
-    adds_set E e s new lt
-    (subst (λ (r : List ℕ). Enters r new s) (get_or_read E e roll lt is []) enters)
+adds_entered E e s roll new lt is enters = grind (arith, common_steps, adds_set, get_or_read)
 
 pub pair_entered : (E : Enrolled) (e s p : ℕ) (roll new : List ℕ) → e < length E
     → roll ≡ slice_index_or E e roll → Enters roll new s → IsCounted E p
     → set E e new ≡ with_pair E s e
-pair_entered E e s p roll new lt is enters was =
-    ap (set E e) (entered s (students E e) new (was.0.ascending e lt)
-    (subst (λ (r : List ℕ). Enters r new s) (get_or_read E e roll lt is []) enters))
+pair_entered E e s p roll new lt is enters was = grind (arith, entered, get_or_read)
 
 -- the count rises by one for a new student, and stays for one who was there
 pub counted_new : (E : Enrolled) (e s p : ℕ) (roll new : List ℕ) → e < length E
@@ -81,9 +76,7 @@ counted_old E e s p roll new lt known is enters present was =
 -- a student removed from the exam's list is a pair removed
 pub removes_left : (E : Enrolled) (e s : ℕ) (roll new : List ℕ) → e < length E
     → roll ≡ slice_index_or E e roll → Leaves roll new s → Removes E (set E e new) s e
-removes_left E e s roll new lt is leaves =
-    removes_set E e s new lt
-    (subst (λ (r : List ℕ). Leaves r new s) (get_or_read E e roll lt is []) leaves)
+removes_left E e s roll new lt is leaves = grind (arith, common_steps, get_or_read, removes_set)
 
 pub pair_left : (E : Enrolled) (e s : ℕ) (roll new : List ℕ) → e < length E
     → roll ≡ slice_index_or E e roll → Leaves roll new s → AreEnrolments E
@@ -104,24 +97,20 @@ pub count_less : (E : Enrolled) (e s p : ℕ) (roll new : List ℕ) → e < leng
     → roll ≡ slice_index_or E e roll → Leaves roll new s → has_number roll s ≡ true
     → p ≡ pair_count E → p ≡ pair_count (set E e new) + 1
 count_less E e s p roll new lt is leaves present was =
-    let there = sym (is_has E e s roll lt is) ∙ present in
-    was ∙ rw there at ((removes_left E e s roll new lt is leaves).pairs)
+    grind (arith, common_steps, is_has, removes_left)
 
 pub count_same : (E : Enrolled) (e s p : ℕ) (roll new : List ℕ) → e < length E
     → roll ≡ slice_index_or E e roll → Leaves roll new s → has_number roll s ≡ false
     → p ≡ pair_count E → p ≡ pair_count (set E e new)
 count_same E e s p roll new lt is leaves absent was =
-    let none = sym (is_has E e s roll lt is) ∙ absent in
-    was ∙ rw none at ((removes_left E e s roll new lt is leaves).pairs)
+    grind (arith, common_steps, is_has, removes_left)
 
 -- students put into an empty exam add as many pairs
 pub counted_filled : (E : Enrolled) (e p : ℕ) (xs : List ℕ) → e < length E → students E e ≡ []
     → IsAscending xs → AreNumbers xs → length xs ≤ 200000 - p → IsCounted E p
     → IsCounted (set E e xs) (p + length xs)
 counted_filled E e p xs lt none up known fits was =
-    let count : p ≡ pair_count E = was.1 in
-    let sum = pair_count-enrol E e xs lt none in
-    (enrolments_enrol E e xs lt none up known (omega (arith, was.0.pairs)) was.0, omega arith)
+    grind (arith, common_steps, enrolments_enrol, pair_count-enrol)
 
 -- more students than there is room for are refused, and the number of those there is room for fits
 pub more_refuse : (E : Enrolled) (p n : ℕ) → 200000 - p < n → IsCounted E p

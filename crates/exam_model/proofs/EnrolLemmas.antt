@@ -1,5 +1,5 @@
 -- The enrolments after one exam's list of students is replaced.
-use Rattle.std.proofs.Common.{◌≡◌, ℕ, ◌+◌, ◌<◌, ◌≤◌, List, [], length, set, ap, inl, inr, arith}
+use Rattle.std.proofs.Common.{◌≡◌, ℕ, ◌+◌, ◌<◌, ◌≤◌, List, [], length, set, inl, inr, arith}
 use Rattle.std.proofs.Common.{get_or-set_other, get_or-set_same}
 use Rattle.std.proofs.lemmas.Bool.{cases_eq}
 use Rattle.std.proofs.lemmas.List.{length-set}
@@ -9,10 +9,7 @@ use Rattle.exam_model.specs.Enrolments.{Enrolled, AreEnrolments, AreNumbers, IsA
 -- the number of pairs after these students are put into an empty exam
 pub pair_count-enrol : (E : Enrolled) (e : ℕ) (xs : List ℕ) → e < length E → students E e ≡ [] →
     pair_count (set E e xs) ≡ pair_count E + length xs
-pair_count-enrol E e xs lt none =
-    let sums = sum_by-set length E e xs [] lt in
-    let empty : length (students E e) ≡ 0 = ap length none in
-    omega arith
+pair_count-enrol E e xs lt none = grind (arith, sum_by-set)
 
 -- the invariant of the type holds after it
 pub enrolments_enrol : (E : Enrolled) (e : ℕ) (xs : List ℕ) → e < length E → students E e ≡ [] →

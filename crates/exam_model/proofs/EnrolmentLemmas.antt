@@ -1,6 +1,6 @@
 -- The lists of students after a change, and those of no pairs.
 use mathlib.Core.Bool.{true≢false}
-use Rattle.std.proofs.Common.{◌≡◌, ◌∙◌, eqb, ℕ, zero, suc, ◌+◌, ◌<◌, ◌≤◌, true, false, List, [], length, set, refl, subst, sym, inl, inr, arith, if◌then◌else◌}
+use Rattle.std.proofs.Common.{◌≡◌, ◌∙◌, eqb, ℕ, zero, suc, ◌+◌, ◌<◌, ◌≤◌, true, false, List, [], length, set, refl, sym, inl, inr, arith, if◌then◌else◌}
 use Rattle.std.specs.Prelude.{◌==◌, ◌||◌, ◌&&◌, not, replicate}
 use Rattle.std.proofs.lemmas.Bool.{eq-eqb, ne_eqb, cases_eq, and_parts}
 use Rattle.std.proofs.lemmas.List.{length-set, length-replicate}
@@ -35,15 +35,7 @@ enrolments_none n low high = record {
 -- the number of pairs after one exam's list is replaced
 count_set : (E : Enrolled) (e s : ℕ) (new : List ℕ) → e < length E → Enters (students E e) new s
     → pair_count (set E e new) ≡ (if has E s e then pair_count E else pair_count E + 1)
-count_set E e s new lt enters =
-    let sums = sum_by-set length E e new [] lt in
-    let size = enters.size in
-    elim (has E s e)
-    as (λ b. has E s e ≡ b
-    → pair_count (set E e new) ≡ (if b then pair_count E else pair_count E + 1)) [
-      | true ↦ λ e. let same = rw e at size in omega arith
-      | false ↦ λ e. let more = rw e at size in omega arith
-    ] refl
+count_set E e s new lt enters = grind (arith, sum_by-set)
 
 -- a student added to one exam's list is a pair added
 pub adds_set : (E : Enrolled) (e s : ℕ) (new : List ℕ) → e < length E → Enters (students E e) new s
@@ -57,26 +49,16 @@ adds_set E e s new lt enters = record {
   pairs = count_set E e s new lt enters;
 } where
   members_here : (t f : ℕ) → e ≡ f → has (set E e new) t f ≡ (((s == t) && (e == f)) || has E t f)
-  members_here t f same =
-      let at = get_or-set_same E e new [] lt in
-      subst (λ g. has (set E e new) t g ≡ (((s == t) && (e == g)) || has E t g)) same
-      (rw (eq-eqb e e refl, at, and-true (s == t)) (enters.members t))
+  members_here t f same = grind (arith, and-true, eq-eqb, get_or-set_same)
 
   members_there : (t f : ℕ) → (e ≡ f → ⊥) → has (set E e new) t f
       ≡ (((s == t) && (e == f)) || has E t f)
-  members_there t f other =
-      let back : f ≡ e → ⊥ = λ q. other (sym q) in
-      rw (ne_eqb e f other, get_or-set_other E e f new [] back, and-false (s == t)) refl
+  members_there t f other = grind (arith, and-false, get_or-set_other, ne_eqb)
 
 -- all numbers are in their range after one was added
 numbers_entered : (old new : List ℕ) (s : ℕ) → s ≤ 999999999 → Enters old new s → AreNumbers old
     → AreNumbers new
-numbers_entered old new s known enters was t is =
-    elim (cases_eq s t) [
-      | inl same ↦ subst (λ (x : ℕ). x ≤ 999999999) same known
-      | inr other ↦ was t (subst (λ b. (b || has_number old t) ≡ true) (ne_eqb s t other)
-          (sym (enters.members t) ∙ is))
-    ]
+numbers_entered old new s known enters was t is = grind (arith, cases_eq, ne_eqb)
 
 numbers_left : (old new : List ℕ) (s : ℕ) → Leaves old new s → AreNumbers old → AreNumbers new
 numbers_left old new s leaves was t is =
@@ -120,27 +102,15 @@ removes_set E e s new lt leaves = record {
 } where
   members_here : (t f : ℕ) → e ≡ f
       → has (set E e new) t f ≡ (not ((s == t) && (e == f)) && has E t f)
-  members_here t f same =
-      let at = get_or-set_same E e new [] lt in
-      subst (λ g. has (set E e new) t g ≡ (not ((s == t) && (e == g)) && has E t g)) same
-      (rw (eq-eqb e e refl, at, and-true (s == t)) (leaves.members t))
+  members_here t f same = grind (arith, and-true, eq-eqb, get_or-set_same)
 
   members_there : (t f : ℕ) → (e ≡ f → ⊥)
       → has (set E e new) t f ≡ (not ((s == t) && (e == f)) && has E t f)
-  members_there t f other =
-      let back : f ≡ e → ⊥ = λ q. other (sym q) in
-      rw (ne_eqb e f other, get_or-set_other E e f new [] back, and-false (s == t)) refl
+  members_there t f other = grind (arith, and-false, get_or-set_other, ne_eqb)
 
   pairs_left : pair_count E
       ≡ (if has E s e then pair_count (set E e new) + 1 else pair_count (set E e new))
-  pairs_left =
-      let sums = sum_by-set length E e new [] lt in
-      let size = leaves.size in
-      elim (has E s e) as (λ b. has E s e ≡ b → pair_count E
-      ≡ (if b then pair_count (set E e new) + 1 else pair_count (set E e new))) [
-        | true ↦ λ e. let same = rw e at size in omega arith
-        | false ↦ λ e. let more = rw e at size in omega arith
-      ] refl
+  pairs_left = grind (arith, sum_by-set)
 
 -- the invariant of the type holds after it
 pub enrolments_left : (E : Enrolled) (e s : ℕ) (new : List ℕ) → e < length E

@@ -1,14 +1,15 @@
 -- Links of slots: one more link, and the links from one to the one before it in its slot.
+use Rattle.std.proofs.lemmas.Grind.{common_steps}
 use Rattle.std.specs.List.{AllByRecursion}
-use Rattle.std.specs.Prelude.{◌==◌, ◌&&◌, All}
-use Rattle.std.proofs.Common.{◌≡◌, ℕ, ◌+◌, ◌-◌, ◌<◌, ◌≤◌, Bool, true, false, cond, List, [], length, get_or, map, take, count_by, inl, inr, sym, subst, ◌∙◌, ap, arith, length-take}
+use Rattle.std.specs.Prelude.{◌==◌, All}
+use Rattle.std.proofs.Common.{◌≡◌, ℕ, ◌+◌, ◌-◌, ◌<◌, ◌≤◌, Bool, true, false, cond, List, [], length, get_or, map, take, count_by, inl, inr, sym, subst, ◌∙◌, ap, arith, length-take, rules}
 use Rattle.std.proofs.lemmas.Bool.{cases_lt}
 use Rattle.std.proofs.lemmas.List.{get_or_past, get_or-take, length-map, take-take}
 use Rattle.std.proofs.lemmas.List.Elements.{All-from_recursion}
 use Rattle.std.proofs.lemmas.List.Folds.{fold-map}
 use Rattle.std.proofs.lemmas.List.Sums.{sum_by_more, sum_by-take-le}
 use Rattle.exam_lists.proofs.Counts.{count_by-take}
-use Rattle.exam_model.specs.Enrolments.{AreEnrolments, Enrolled, has, pair_count, students}
+use Rattle.exam_model.specs.Enrolments.{AreEnrolments, Enrolled, has, students}
 use Rattle.exam_model.specs.Links.{AreLinked, IsLast, is_link, pair_at, slot_of}
 use Rattle.exam_model.specs.Pairs.{Pair, pairs_of}
 use Rattle.exam_model.specs.declared.links.Link.{Link}
@@ -32,9 +33,7 @@ none_between xs m s e n k le last =
 link_at : (xs : List Link) (last : List ℕ) (x : Link) (n : ℕ) → AreLinked xs last → 0 < n
     → n ≤ length xs → x ≡ get_or xs (n - 1) x
     → IsLast xs (length last) (slot_of (length last) x.sitter.student) x.before (n - 1)
-link_at xs last x n h some le here =
-    subst (λ z. IsLast xs (length last) (slot_of (length last) z.sitter.student) z.before (n - 1))
-    (sym here) (h.chain (n - 1) x (omega arith))
+link_at xs last x n h some le here = grind (arith, common_steps)
 
 -- one link of the slot, and those before it
 pub counted_on : (xs : List Link) (last : List ℕ) (x : Link) (s e n : ℕ) → AreLinked xs last
@@ -59,9 +58,7 @@ pub way_on : (xs : List Link) (last : List ℕ) (x : Link) (s n : ℕ) → AreLi
     → n ≤ length xs → x ≡ get_or xs (n - 1) x
     → slot_of (length last) x.sitter.student ≡ slot_of (length last) s
     → IsLast xs (length last) (slot_of (length last) s) x.before (n - 1)
-way_on xs last x s n h some le here slot =
-    subst (λ b. IsLast xs (length last) b x.before (n - 1)) slot
-    (link_at xs last x n h some le here)
+way_on xs last x s n h some le here slot = grind (arith, link_at)
 
 -- ---- the links of all earlier exams
 
@@ -76,10 +73,7 @@ links_exist E n xs are =
 -- the links of a student and an exam
 links_of : (E : Enrolled) (n s e : ℕ) (xs : List Link) → map pair_at xs ≡ pairs_of (take n E)
     → count_by (is_link s e) xs ≡ count_by (λ t. t == s) (students (take n E) e)
-links_of E n s e xs are =
-    sym (fold-map (λ a (p : Pair). a + cond ((p.exam == e) && (p.student == s)) 1 0) pair_at 0 xs)
-    ∙ ap (count_by (λ (p : Pair). (p.exam == e) && (p.student == s))) are
-    ∙ count_from e 0 e (λ t. t == s) (take n E) (omega arith)
+links_of E n s e xs are = search (rules, count_from, fold-map)
 
 -- those of an earlier exam
 pub links_counted : (E : Enrolled) (n s e : ℕ) (xs : List Link) → e < n
@@ -114,9 +108,4 @@ links_once E n s e xs known le are = elim (cases_lt e n) [
 pub links_few : (E : Enrolled) (n : ℕ) (xs : List Link) → AreEnrolments E → n < length E
     → map pair_at xs ≡ pairs_of (take n E) → length xs + length (students E n) ≤ 200000
 links_few E n xs known lt are =
-    let own : length xs ≡ pair_count (take n E) =
-    sym (length-map xs pair_at) ∙ ap length are ∙ length_from 0 (take n E) in
-    let more : pair_count (take (n + 1) E) ≡ pair_count (take n E) + length (students E n) =
-    sum_by_more length E n [] lt in
-    let most = sum_by-take-le length E (n + 1) in
-    omega (arith, own, more, most, known.pairs)
+    grind (arith, common_steps, length-map, length_from, sum_by-take-le, sum_by_more)

@@ -1,5 +1,6 @@
 -- Facts about the list of a set's pairs: by induction over the exams, from any number on.
-use Rattle.std.proofs.Common.{◌≡◌, ℕ, zero, suc, ◌+◌, ◌<◌, ◌≤◌, Bool, true, false, List, [], ◌∷◌, ◌++◌, length, take, count_by, refl, ap, sym, ◌∙◌, inl, inr, arith, append-nil, append_assoc, length-take, if◌then◌else◌}
+use Rattle.std.proofs.lemmas.Grind.{common_steps}
+use Rattle.std.proofs.Common.{◌≡◌, ℕ, zero, suc, ◌+◌, ◌<◌, ◌≤◌, Bool, false, List, [], ◌∷◌, ◌++◌, length, take, count_by, refl, ap, ◌∙◌, inl, inr, arith, append-nil, append_assoc, length-take, if◌then◌else◌, rules}
 use Rattle.std.specs.Prelude.{◌==◌, ◌||◌, ◌&&◌, All}
 use Rattle.std.specs.List.{list_any, AllByRecursion}
 use Rattle.std.proofs.lemmas.Bool.{eq-eqb, ne_eqb}
@@ -30,28 +31,21 @@ any_at s e f xs = any_map (is_pair s e) (λ t. pair f t) xs
 any_first : (s e f : ℕ) (xs : List ℕ) (rest : Enrolled)
     → list_any (is_pair s e) (pairs_from f (xs ∷ rest))
     ≡ (((f == e) && has_number xs s) || list_any (is_pair s e) (pairs_from (f + 1) rest))
-any_first s e f xs rest =
-    let others : List Pair = pairs_from (f + 1) rest in
-    list_any-append (is_pair s e) (pairs_at f xs) others
-    ∙ ap (λ b. b || list_any (is_pair s e) others) (any_at s e f xs)
+any_first s e f xs rest = grind (arith, any_at, list_any-append)
 
 -- no pair has an exam below the first
 any_below : (s e f : ℕ) (E : Enrolled) → e < f → list_any (is_pair s e) (pairs_from f E) ≡ false
 any_below s e f [] lt = refl
 any_below s e f (xs ∷ rest) lt =
-    any_first s e f xs rest
-    ∙ rw (ne_eqb f e (omega arith)) (any_below s e (f + 1) rest (omega arith))
+    grind (arith, any_below s e (f + 1) rest (omega arith), any_first, ne_eqb)
 
 any_from : (s e f k : ℕ) (E : Enrolled) → e ≡ f + k
     → list_any (is_pair s e) (pairs_from f E) ≡ has E s k
 any_from s e f k [] here = refl
 any_from s e f zero (xs ∷ rest) here =
-    any_first s e f xs rest
-    ∙ rw (eq-eqb f e (omega arith), any_below s e (f + 1) rest (omega arith))
-    (or-false (has_number xs s))
+    grind (arith, any_below, any_first, eq-eqb, or-false)
 any_from s e f (suc k) (xs ∷ rest) here =
-    any_first s e f xs rest
-    ∙ rw (ne_eqb f e (omega arith)) (any_from s e (f + 1) k rest (omega arith))
+    grind (arith, any_from s e (f + 1) k rest (omega arith), any_first, ne_eqb)
 
 -- ---- counts
 
@@ -67,11 +61,7 @@ count_first : (e f : ℕ) (t : ℕ → Bool) (xs : List ℕ) (rest : Enrolled)
     → count_by (λ p. (p.exam == e) && t p.student) (pairs_from f (xs ∷ rest))
     ≡ count_by (λ s. (f == e) && t s) xs
     + count_by (λ p. (p.exam == e) && t p.student) (pairs_from (f + 1) rest)
-count_first e f t xs rest =
-    let is : Pair → Bool = λ p. (p.exam == e) && t p.student in
-    let others : List Pair = pairs_from (f + 1) rest in
-    sum_by-append (λ p. if is p then 1 else 0) (pairs_at f xs) others
-    ∙ ap (λ n. n + count_by is others) (count_at e f t xs)
+count_first e f t xs rest = grind (arith, common_steps, count_at, sum_by-append)
 
 -- no pair of an exam below the first is counted
 count_below : (e f : ℕ) (t : ℕ → Bool) (E : Enrolled) → e < f
@@ -96,11 +86,7 @@ count_from e f (suc k) t (xs ∷ rest) here =
 pub length_from : (f : ℕ) (E : Enrolled) → length (pairs_from f E) ≡ pair_count E
 length_from f [] = refl
 length_from f (xs ∷ rest) =
-    let both = length-append (pairs_at f xs) (pairs_from (f + 1) rest) in
-    let first = length-map xs (λ s. pair f s) in
-    let others = length_from (f + 1) rest in
-    let sum = sum_by-cons length xs rest in
-    omega arith
+    grind (arith, common_steps, length_from (f + 1) rest, length-append, length-map, sum_by-cons)
 
 -- ---- the order
 
@@ -148,17 +134,11 @@ pairs_from-push : (k : ℕ) (E : Enrolled) (xs : List ℕ)
     → pairs_from k (E ++ xs ∷ []) ≡ pairs_from k E ++ pairs_at (k + length E) xs
 pairs_from-push k [] xs = append-nil (pairs_at k xs) ∙ ap (λ n. pairs_at n xs) (omega arith)
 pairs_from-push k (ys ∷ E) xs =
-    ap (λ ps. pairs_at k ys ++ ps)
-    (pairs_from-push (k + 1) E xs
-    ∙ ap (λ n. pairs_from (k + 1) E ++ pairs_at n xs) (omega arith))
-    ∙ sym (append_assoc (pairs_at k ys) (pairs_from (k + 1) E) (pairs_at (k + length (ys ∷ E)) xs))
+    grind (arith, pairs_from-push (k + 1) E xs, append_assoc)
 
 pub pairs_more : (E : Enrolled) (e : ℕ) → e < length E
     → pairs_of (take (e + 1) E) ≡ pairs_of (take e E) ++ pairs_at e (students E e)
-pairs_more E e lt =
-    ap (pairs_from 0) (take_more E e [] lt) ∙ pairs_from-push 0 (take e E) (students E e)
-    ∙ ap (λ n. pairs_of (take e E) ++ pairs_at n (students E e))
-    (let l = length-take e E in omega arith)
+pairs_more E e lt = grind (arith, common_steps, length-take, pairs_from-push, take_more)
 
 -- ---- each pair's exam exists
 
@@ -172,17 +152,12 @@ pub from_within : (n f : ℕ) (E : Enrolled) → f + length E ≤ n
     → AllByRecursion (λ p. p.exam < n) (pairs_from f E)
 from_within n f [] h = tt
 from_within n f (xs ∷ rest) h =
-    at_within n f xs (pairs_from (f + 1) rest) (omega arith)
-    (from_within n (f + 1) rest (omega arith))
+    grind (arith, from_within n (f + 1) rest (omega arith), at_within)
 
 -- ---- all of it
 
 size_from : (e : ℕ) (E : Enrolled) → count_by (λ p. p.exam == e) (pairs_of E) ≡ size_of E e
-size_from e E =
-    let same : count_by (λ p. (p.exam == e) && true) (pairs_of E)
-    ≡ count_by (λ p. p.exam == e) (pairs_of E)
-    = λ i. count_by (λ p. and-true (p.exam == e) i) (pairs_of E) in
-    sym same ∙ count_from e 0 e (λ s. true) E (omega arith) ∙ count_by-always (students E e)
+size_from e E = search (rules, and-true, count_by-always, count_from)
 
 -- the list of a set's pairs represents the set
 pub are_pairs : (E : Enrolled) → AreEnrolments E → ArePairsOf E (pairs_of E)

@@ -10,10 +10,7 @@ use Rattle.exam_model.specs.Timetable.{Placing, period_number, place_of}
 -- the index is within the table
 pub slot_within : (periods rooms : ℕ) (p : Place) → p.period < periods → p.room < rooms
     → slot_of rooms p < periods * rooms
-slot_within periods rooms p hp hr =
-    let lt = mul-add-lt p.period rooms p.room periods hp hr in
-    let turn = mul_comm rooms periods in
-    omega arith
+slot_within periods rooms p hp hr = grind (arith, mul-add-lt, mul_comm)
 
 -- the number of an exam's period in the list of all exams' numbers
 pub number_at : (T : Placing) (numbers : List ℕ) (e : ℕ) → numbers ≡ map period_number T

@@ -1,5 +1,5 @@
 -- The results of a search among ascending numbers, and of an insert at the place found.
-use Rattle.std.proofs.Common.{◌≡◌, ℕ, suc, ◌+◌, ◌-◌, ◌<◌, ◌≤◌, Bool, true, false, List, [], ◌∷◌, ◌++◌, length, Result, Ok, Err, IfOk, IfErr, refl, ap, subst, sym, ◌∙◌, inl, inr, arith, take, drop}
+use Rattle.std.proofs.Common.{◌≡◌, ℕ, suc, ◌+◌, ◌-◌, ◌<◌, ◌≤◌, Bool, true, false, List, [], ◌∷◌, ◌++◌, length, Result, Ok, Err, IfOk, IfErr, refl, ap, subst, sym, ◌∙◌, inl, inr, arith, take, drop, rules}
 use Rattle.std.specs.Prelude.{◌==◌, ◌||◌, ◌&&◌, not, is_ok, slice_index}
 use Rattle.std.specs.List.{insert, remove, list_any}
 use Rattle.std.specs.List.Sorted.{IsBinarySearchResult}
@@ -123,22 +123,7 @@ gap_remove xs x i at up = record {
 pub ascending_remove : (xs : List ℕ) (i : ℕ) → i < length xs → IsAscending xs
     → IsAscending (remove xs i)
 ascending_remove xs i lt up j k less within =
-    let size = length-remove xs i lt in
-    let below : (j : ℕ) → j < i → slice_index (remove xs i) j ≡ slice_index xs j
-    = λ j b. get_or-remove_below xs i 0 j b lt in
-    let above : (j : ℕ) → i ≤ j → slice_index (remove xs i) j ≡ slice_index xs (j + 1)
-    = λ j a. get_or-remove_above xs i 0 j a lt in
-    grind (
-      arith,
-      size,
-      below j,
-      above j,
-      below k,
-      above k,
-      up j k,
-      up j (k + 1),
-      up (j + 1) (k + 1),
-    )
+    search (rules, get_or-remove_above, get_or-remove_below, length-remove)
 
 -- each old element is the removed student or is left
 has_remove : (xs : List ℕ) (x i t : ℕ) → IsAt xs x i

@@ -1,5 +1,5 @@
 -- Ascending lists with the same members are equal.
-use Rattle.std.proofs.Common.{◌≡◌, ℕ, suc, ◌<◌, true, false, List, [], ◌∷◌, length, refl, ap, sym, ◌∙◌, inl, inr, arith, subst}
+use Rattle.std.proofs.Common.{◌≡◌, ℕ, suc, ◌<◌, true, false, List, [], ◌∷◌, length, refl, ap, sym, ◌∙◌, inl, inr, arith, subst, rules}
 use mathlib.Core.Bool.{true≢false}
 use Rattle.std.proofs.lemmas.Bool.{eq-eqb, ne_eqb, cases_order}
 use Rattle.exam_model.specs.Enrolments.{Enrolled, IsAscending, has_number, students, has}
@@ -40,13 +40,7 @@ same_heads x y xs ys up up' same =
 same_tails : (x : ℕ) (xs ys : List ℕ) → IsAscending (x ∷ xs) → IsAscending (x ∷ ys)
     → ((t : ℕ) → has_number (x ∷ xs) t ≡ has_number (x ∷ ys) t) → (t : ℕ) → has_number xs t
     ≡ has_number ys t
-same_tails x xs ys up up' same t =
-    elim (cases_order x t) [
-      | inl e ↦ subst (λ z. has_number xs z ≡ has_number ys z) e
-          (first_once x xs up ∙ sym (first_once x ys up'))
-      | inr (inl less) ↦ rw (ne_eqb x t (omega arith)) at (same t)
-      | inr (inr more) ↦ rw (ne_eqb x t (omega arith)) at (same t)
-    ]
+same_tails x xs ys up up' same t = search (rules, cases_order, first_once, ne_eqb)
 
 pub same_list : (xs ys : List ℕ) → IsAscending xs → IsAscending ys
     → ((t : ℕ) → has_number xs t ≡ has_number ys t) → xs ≡ ys

@@ -1,8 +1,9 @@
 -- The results of adding a student to an ascending list, and of removing one.
+use Rattle.std.proofs.lemmas.Grind.{common_steps}
 use Rattle.std.proofs.Common.{◌≡◌, ◌≢◌, ◌∙◌, ℕ, zero, suc, ◌<◌, true, false, List, [], ◌∷◌, length, set, refl, ap, sym, inl, inr, arith, if◌then◌else◌}
 use Rattle.std.proofs.Common.{get_or-set_other, get_or-set_same}
-use Rattle.std.specs.Prelude.{◌==◌, ◌||◌, ◌&&◌, not, nat_lt}
-use Rattle.std.specs.List.{AllByRecursion, range_with_len}
+use Rattle.std.specs.Prelude.{◌==◌, ◌||◌, ◌&&◌, not}
+use Rattle.std.specs.List.{AllByRecursion}
 use Rattle.std.proofs.lemmas.Bool.{ltb-true, ltb-false, eqb-true, eqb-false, ne_eqb, eq-eqb, cases_eq, cases_lt}
 use Rattle.std.proofs.lemmas.List.{length-set, set_past}
 use Rattle.std.proofs.lemmas.List.Elements.{filter_agree}
@@ -19,39 +20,21 @@ pub with_cases : (s u : ℕ) (us : List ℕ) (P : List ℕ → Type 0) →
     (s < u → P (s ∷ u ∷ us)) → (s ≡ u → P (u ∷ us)) → (u < s → P (u ∷ with_student s us)) →
     P (with_student s (u ∷ us))
 with_cases s u us P before same after =
-    let not_before = if s == u then u ∷ us else u ∷ with_student s us in
-    elim (nat_lt s u) as (λ b. nat_lt s u ≡ b → P (if b then s ∷ u ∷ us else not_before)) [
-      | true ↦ λ lt. before (ltb-true s u lt)
-      | false ↦ λ ge.
-          elim (s == u) as (λ b. (s == u) ≡ b → P (if b then u ∷ us else u ∷ with_student s us)) [
-            | true ↦ λ eq. same (eqb-true s u eq)
-            | false ↦ λ ne.
-                let above = ltb-false s u ge in
-                let other = eqb-false s u ne in
-                after (grind (arith, above, other))
-          ] refl
-    ] refl
+    grind (arith, eqb-false, eqb-true, ltb-false, ltb-true)
 
 -- the student is a member, and the old members stay
 pub has-with : (s : ℕ) (xs : List ℕ) (t : ℕ) →
     has_number (with_student s xs) t ≡ ((s == t) || has_number xs t)
 has-with s [] t = refl
 has-with s (u ∷ us) t =
-    with_cases s u us (λ ys. has_number ys t ≡ ((s == t) || has_number (u ∷ us) t))
-    (λ lt. refl)
-    (λ same. rw same (sym (or_self_left (u == t) (has_number us t))))
-    (λ above. ap (λ b. (u == t) || b) (has-with s us t)
-    ∙ or_middle (u == t) (s == t) (has_number us t))
+    grind (arith, has-with s us t, or_middle, or_self_left, with_cases)
 
 -- a fact about the student and about each member holds for all
 pub each_with : (P : ℕ → Type 0) (s : ℕ) (xs : List ℕ) → P s → AllByRecursion P xs →
     AllByRecursion P (with_student s xs)
 each_with P s [] own each = (own, tt)
 each_with P s (u ∷ us) own each =
-    with_cases s u us (AllByRecursion P)
-    (λ before. (own, each))
-    (λ same. each)
-    (λ after. (each.0, each_with P s us own each.1))
+    grind (arith, each_with P s us own each.1, with_cases)
 
 above_with : (x s : ℕ) (ys : List ℕ) → x < s → Above x ys → Above x (with_student s ys)
 above_with x s [] lt above = above_cons x s [] lt above
@@ -98,11 +81,7 @@ has-without s (u ∷ us) t = elim (cases_eq u s) [
   where
     first_is_she : (not (s == t) && has_number us t)
         ≡ (not (s == t) && ((s == t) || has_number us t))
-    first_is_she =
-        elim (s == t) as (λ b. (not b && has_number us t) ≡ (not b && (b || has_number us t))) [
-          | true ↦ refl
-          | false ↦ refl
-        ]
+    first_is_she = grind (arith, common_steps)
 
     first_is_other : (u ≡ s → ⊥) → ((u == t) || (not (s == t) && has_number us t))
         ≡ (not (s == t) && ((u == t) || has_number us t))
@@ -136,15 +115,11 @@ ascending-without s (u ∷ us) up =
 -- the list that the student has entered, and the one that they have left
 pub entered : (s : ℕ) (old new : List ℕ) → IsAscending old → Enters old new s
     → new ≡ with_student s old
-entered s old new up enters =
-    same_list new (with_student s old) enters.ascending (ascending-with s old up)
-    (λ t. enters.members t ∙ sym (has-with s old t))
+entered s old new up enters = grind (arith, ascending-with, has-with, same_list)
 
 pub left : (s : ℕ) (old new : List ℕ) → IsAscending old → Leaves old new s
     → new ≡ without_student s old
-left s old new up leaves =
-    same_list new (without_student s old) leaves.ascending (ascending-without s old up)
-    (λ t. leaves.members t ∙ sym (has-without s old t))
+left s old new up leaves = grind (arith, ascending-without, has-without, same_list)
 
 -- if a new list of an exam has a student as before, the student sits each exam as before
 has_in : (E : Enrolled) (e t : ℕ) (new : List ℕ) → has_number new t ≡ has_number (students E e) t →
@@ -160,18 +135,11 @@ has_in E e t new same f = elim (cases_lt e (length E)) [
 -- the student then sits the same exams
 sat_in : (E : Enrolled) (e t : ℕ) (new : List ℕ) → has_number new t ≡ has_number (students E e) t →
     exams_sat (set E e new) t ≡ exams_sat E t
-sat_in E e t new same =
-    rw (length-set E e new)
-    (filter_agree (λ f. has (set E e new) t f) (λ f. has E t f) (has_in E e t new same)
-    (range_with_len 0 (length E)))
+sat_in E e t new same = grind (arith, filter_agree, has_in, length-set)
 
 pub with_others : (E : Enrolled) (s e t : ℕ) → t ≢ s → exams_sat (with_pair E s e) t ≡ exams_sat E t
-with_others E s e t other =
-    sat_in E e t (with_student s (students E e))
-    (has-with s (students E e) t ∙ rw (ne_eqb s t (λ q. other (sym q))) refl)
+with_others E s e t other = grind (arith, has-with, ne_eqb, sat_in)
 
 pub without_others : (E : Enrolled) (s e t : ℕ) → t ≢ s
     → exams_sat (without_pair E s e) t ≡ exams_sat E t
-without_others E s e t other =
-    sat_in E e t (without_student s (students E e))
-    (has-without s (students E e) t ∙ rw (ne_eqb s t (λ q. other (sym q))) refl)
+without_others E s e t other = grind (arith, has-without, ne_eqb, sat_in)

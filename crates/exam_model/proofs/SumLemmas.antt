@@ -1,4 +1,5 @@
 -- Sums over numbers, and over the pairs of places of a list.
+use Rattle.std.proofs.lemmas.Grind.{common_steps}
 use Rattle.std.proofs.Common.{◌≡◌, ℕ, zero, suc, ◌+◌, ◌*◌, cond, eqb, ltb, List, [], ◌∷◌, sum_by, refl, sym, ◌∙◌, ap, ap₂, arith, ◌<◌, ◌≤◌, ◌++◌, take, length, get_or, IsPermutation, suc-mul, add-one, add-zero, zero-mul, add-mul, le-ltb}
 use Rattle.std.proofs.lemmas.List.{take_more}
 use Rattle.std.proofs.lemmas.List.Sums.{sum_by-cons, sum_by_push, sum_by-le}
@@ -63,10 +64,7 @@ pub sum_pairs-push : {X : Type 0} (g : X → X → ℕ) (xs : List X) (y : X)
     → sum_pairs g (xs ++ y ∷ []) ≡ sum_pairs g xs + sum_by (λ x. g x y) xs
 sum_pairs-push g [] y = refl
 sum_pairs-push g (x ∷ xs) y =
-    let a = sum_by_push (g x) xs y in
-    let b = sum_pairs-push g xs y in
-    let c = sum_by-cons (λ x. g x y) x xs in
-    omega arith
+    grind (arith, common_steps, sum_pairs-push g xs y, sum_by-cons, sum_by_push)
 
 pub sum_pairs-more : {X : Type 0} (g : X → X → ℕ) (xs : List X) (i : ℕ) (d : X) → i < length xs
     → sum_pairs g (take (i + 1) xs)
@@ -77,10 +75,7 @@ sum_pairs-more g xs i d h =
 pub sum_pairs-le : {X : Type 0} (g : X → X → ℕ) (m : ℕ) → ((x y : X) → g x y ≤ m) → (xs : List X)
     → sum_pairs g xs ≤ length xs * (length xs * m)
 sum_pairs-le g m small [] = omega arith
-sum_pairs-le g m small (x ∷ xs) =
-    let own = sum_by-le (g x) m xs (λ k d h. small x (get_or xs k d)) in
-    let rest = sum_pairs-le g m small xs in
-    omega arith
+sum_pairs-le g m small (x ∷ xs) = grind (arith, sum_pairs-le g m small xs, sum_by-le)
 
 -- if the order in a pair doesn't matter, all pairs of places, in both orders
 pub sum_pairs-twice : {X : Type 0} (g : X → X → ℕ) → ((x : X) → g x x ≡ 0)
@@ -129,10 +124,7 @@ sum_below-times f k (suc n) =
 pub sum_below-le : (f : ℕ → ℕ) (m n : ℕ) → ((e : ℕ) → e < n → f e ≤ m) → sum_below n f ≤ n * m
 sum_below-le f m zero h = omega arith
 sum_below-le f m (suc n) h =
-    let more = sum_below-le f m n (λ e l. h e (omega arith)) in
-    let here = h n (omega arith) in
-    let product = suc-mul n m in
-    omega arith
+    grind (arith, sum_below-le f m n (λ e l. h e (omega arith)), suc-mul)
 
 -- a sum with one more number
 pub sum_below_more : (f : ℕ → ℕ) (n : ℕ) → sum_below (n + 1) f ≡ sum_below n f + f n
