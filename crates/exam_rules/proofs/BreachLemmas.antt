@@ -1,9 +1,8 @@
 -- The list of all breaches: it is in order, and has exactly the breaches.
+use Rattle.std.proofs.lemmas.Grind.{common_steps}
 use Rattle.std.specs.List.{AllByRecursion, flat_map}
 use Rattle.std.specs.List.Sorted.{IsStrictlySortedBy}
-use Rattle.std.specs.Ordering.{nat_cmp, ordering_then}
-use Rattle.std.proofs.Common.{◌≡◌, ℕ, ◌+◌, ◌<◌, ◌≤◌, ◌↔◌, inl, inr, true, List, [], ◌∷◌, ◌++◌, map, length, Contains, Less, Equal, refl, sym, ◌∙◌, ap, ap₂, subst, arith}
-use Rattle.std.proofs.lemmas.Bool.Decides.{nat_tests}
+use Rattle.std.proofs.Common.{◌≡◌, ℕ, ◌+◌, ◌<◌, ◌≤◌, ◌↔◌, inl, inr, true, List, [], ◌∷◌, ◌++◌, map, length, Contains, Less, Equal, refl, sym, ◌∙◌, ap, subst, arith}
 use Rattle.std.proofs.lemmas.List.{flat_map_more}
 use Rattle.std.proofs.lemmas.List.Elements.{Contains-append_left, Contains-append_right, Contains-append_cases}
 use Rattle.exam_lists.proofs.Each.{each_all, each_append, each_map, each_weaker}
@@ -27,19 +26,11 @@ use Rattle.exam_rules.proofs.PlaceLemmas.{breaking_exist}
 -- two breaches of one rule are in the order of their exams
 same_rule : (r : BreachRule) (p q : ExamPair) → exam_pair_cmp p q ≡ Less
     → breach_cmp (breach r p) (breach r q) ≡ Less
-same_rule r p q less = ap (λ o. ordering_then o (exam_pair_cmp p q)) (equal (rank_of r)) ∙ less
-  where
-    equal : (n : ℕ) → nat_cmp n n ≡ Equal
-    equal n = grind (arith, nat_tests)
+same_rule r p q less = grind (arith, common_steps)
 
 -- the breach of the earlier rule comes first
 earlier_rule : (a b : Breach) → rank_of a.rule < rank_of b.rule → breach_cmp a b ≡ Less
-earlier_rule a b lt =
-    ap (λ o. ordering_then o (ordering_then (nat_cmp a.exam b.exam) (nat_cmp a.other b.other)))
-    (less (rank_of a.rule) (rank_of b.rule) lt)
-  where
-    less : (m n : ℕ) → m < n → nat_cmp m n ≡ Less
-    less m n lt = grind (arith, nat_tests)
+earlier_rule a b lt = grind (arith, common_steps)
 
 block_sorted : (r : BreachRule) (ps : List ExamPair) → IsStrictlySortedBy exam_pair_cmp ps
     → IsStrictlySortedBy breach_cmp (map (breach r) ps)
@@ -110,14 +101,7 @@ from_block r (p ∷ ps) b h =
 to_block : (r : BreachRule) (ps : List ExamPair) (p : ExamPair) → Contains ps p
     → Contains (map (breach r) ps) (breach r p)
 to_block r [] p h = absurd (none_in_nil h)
-to_block r (q ∷ ps) p h =
-    elim (first_or_later q ps p h)
-    as (λ _. Contains (breach r q ∷ map (breach r) ps) (breach r p)) [
-      | inl same ↦ subst (λ x. Contains (breach r q ∷ map (breach r) ps) (breach r x)) same
-          (contains_head (breach r q) (map (breach r) ps))
-      | inr later ↦ contains_later (breach r q) (map (breach r) ps) (breach r p)
-          (to_block r ps p later)
-    ]
+to_block r (q ∷ ps) p h = grind (arith, common_steps, contains_head, contains_later, first_or_later)
 
 from_blocks : (f : BreachRule → List ExamPair) (rs : List BreachRule) (b : Breach)
     → Contains (blocks f rs) b
@@ -169,6 +153,4 @@ pub next_rule : (f : BreachRule → List ExamPair) (done : List BreachRule)
     (r : BreachRule) {x y : List Breach} {ps : List ExamPair}
     → x ≡ flat_map (λ r. map (breach r) (f r)) done → y ≡ x ++ map (breach r) ps → ps ≡ f r
     → y ≡ flat_map (λ r. map (breach r) (f r)) (done ++ r ∷ [])
-next_rule f done r so_far added is =
-    added ∙ ap₂ (λ xs ps. xs ++ map (breach r) ps) so_far is
-    ∙ flat_map_more (λ r. map (breach r) (f r)) [] done r
+next_rule f done r so_far added is = grind (arith, common_steps, flat_map_more)

@@ -1,7 +1,8 @@
 -- All pairs of exams in order, and the list of those that pass a test.
+use Rattle.std.proofs.lemmas.Grind.{common_steps}
 use Rattle.std.specs.List.{AllByRecursion, list_any, flat_map, range_with_len}
 use Rattle.std.specs.List.Sorted.{IsStrictlySortedBy}
-use Rattle.std.proofs.Common.{◌≡◌, ℕ, zero, suc, ◌+◌, ◌<◌, ◌≤◌, Bool, true, ◌&&◌, nat_lt, List, map, filter, Contains, Less, refl, sym, ◌∙◌, ap₂, arith}
+use Rattle.std.proofs.Common.{◌≡◌, ℕ, zero, suc, ◌+◌, ◌<◌, ◌≤◌, Bool, true, ◌&&◌, nat_lt, List, map, Contains, Less, refl, sym, ◌∙◌, ap₂, arith, rules}
 use Rattle.std.proofs.lemmas.Bool.{and_from, lt-ltb}
 use Rattle.std.proofs.lemmas.Bool.Decides.{nat_tests}
 use Rattle.std.proofs.lemmas.List.Elements.{filter_passes, All-contains}
@@ -36,11 +37,7 @@ row_of e a (suc m) = (
 row_sorted : (e a m : ℕ) → IsStrictlySortedBy exam_pair_cmp (row e a m)
 row_sorted e a zero = sorted_nil exam_pair_cmp
 row_sorted e a (suc m) =
-    sorted_cons exam_pair_cmp (pair e a) (row e (a + 1) m)
-    (each_weaker (λ p. (p.exam ≡ e) × (a + 1 ≤ p.other)) (λ p. exam_pair_cmp (pair e a) p ≡ Less)
-    (λ p h. lesser_other (pair e a) p (sym h.0) (omega (arith, h.1))) (row e (a + 1) m)
-    (row_of e (a + 1) m))
-    (row_sorted e (a + 1) m)
+    search (rules, row_sorted e (a + 1) m, each_weaker, lesser_other, row_of, sorted_cons)
 
 -- the pairs of the k exams from a on with the exams below n
 abbrev rows : ℕ → ℕ → ℕ → List ExamPair
@@ -49,11 +46,7 @@ rows n a k = flat_map (λ e. map (pair e) (range_with_len 0 n)) (range_with_len 
 rows_of : (n a k : ℕ) → AllByRecursion (λ p. a ≤ p.exam) (rows n a k)
 rows_of n a zero = tt
 rows_of n a (suc k) =
-    each_append (λ p. a ≤ p.exam) (row a 0 n) (rows n (a + 1) k)
-    (each_weaker (λ p. (p.exam ≡ a) × (0 ≤ p.other)) (λ p. a ≤ p.exam) (λ p h. omega (arith, h.0))
-    (row a 0 n) (row_of a 0 n))
-    (each_weaker (λ p. a + 1 ≤ p.exam) (λ p. a ≤ p.exam) (λ p h. omega (arith, h))
-    (rows n (a + 1) k) (rows_of n (a + 1) k))
+    grind (arith, common_steps, rows_of n (a + 1) k, each_append, each_weaker, row_of)
 
 rows_sorted : (n a k : ℕ) → IsStrictlySortedBy exam_pair_cmp (rows n a k)
 rows_sorted n a zero = sorted_nil exam_pair_cmp
@@ -78,17 +71,12 @@ pairs_have n e f =
 -- the pairs that pass are in order
 pub passing_sorted : (test : ℕ → ℕ → Bool) (n : ℕ)
     → IsStrictlySortedBy exam_pair_cmp (passing_pairs test n)
-passing_sorted test n =
-    IsStrictlySortedBy-filter exam_pair_cmp (λ p. test p.exam p.other) (exam_pairs n)
-    (rows_sorted n 0 n)
+passing_sorted test n = grind (arith, common_steps, IsStrictlySortedBy-filter, rows_sorted)
 
 -- each of them passes
 pub passing_only : (test : ℕ → ℕ → Bool) (n : ℕ) (p : ExamPair) → Contains (passing_pairs test n) p
     → test p.exam p.other ≡ true
-passing_only test n p h =
-    let pass : ExamPair → Bool = λ p. test p.exam p.other in
-    All-contains (λ q. pass q ≡ true) (filter pass (exam_pairs n)) p
-    (filter_passes pass (exam_pairs n)) h
+passing_only test n p h = grind (arith, common_steps, All-contains, filter_passes)
 
 -- each pair that passes is in the list
 pub passing_all : (test : ℕ → ℕ → Bool) (n : ℕ) (p : ExamPair) → (p.exam < n) × (p.other < n)

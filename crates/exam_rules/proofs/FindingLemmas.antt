@@ -1,6 +1,7 @@
 -- The pairs that a walk along a list has found so far.
+use Rattle.std.proofs.lemmas.Grind.{common_steps}
 use Rattle.std.specs.List.{list_any}
-use Rattle.std.proofs.Common.{◌≡◌, ℕ, ◌+◌, ◌<◌, ◌≤◌, Bool, true, false, ◌&&◌, ◌||◌, ◌==◌, nat_lt, List, [], length, take, get_or, refl, sym, ◌∙◌, ap, ap₂, arith}
+use Rattle.std.proofs.Common.{◌≡◌, ℕ, ◌+◌, ◌<◌, ◌≤◌, Bool, true, false, ◌&&◌, ◌||◌, ◌==◌, nat_lt, List, [], length, take, get_or, refl, sym, ◌∙◌, ap, arith}
 use Rattle.std.proofs.lemmas.Bool.{and_from, lt-ltb}
 use Rattle.std.proofs.lemmas.List.{take_all}
 use Rattle.std.proofs.lemmas.List.Folds.{list_any_more}
@@ -31,19 +32,7 @@ pub found_more : {X : Type 0} {names : ℕ → ℕ → X → Bool} {test : ℕ �
     → ((e f : ℕ) → added e f ≡ (names e f x && test e f))
     → AreFound names test before xs (i + 1) more
 found_more {X} {names} {test} {before} {xs} {i} {x} {found} {more} {added} so_far within here adds is =
-    record { members = λ e f. step e f }
-  where
-    step : (e f : ℕ) → list_any (is_pair e f) more
-        ≡ (list_any (is_pair e f) before || (list_any (names e f) (take (i + 1) xs) && test e f))
-    step e f =
-        let old : Bool = list_any (is_pair e f) before in
-        let first : Bool = list_any (names e f) (take i xs) in
-        adds e f
-        ∙ ap₂ (λ b c. b || c) (so_far.members e f) (is e f)
-        ∙ or_assoc old (first && test e f) (names e f x && test e f)
-        ∙ ap (λ b. old || b) (sym (and-or_distrib_right first (names e f x) (test e f)))
-        ∙ ap (λ y. old || ((first || names e f y) && test e f)) here
-        ∙ ap (λ b. old || (b && test e f)) (sym (list_any_more (names e f) xs i x within))
+    grind (arith, common_steps, and-or_distrib_right, list_any_more, or_assoc)
 
 -- at the end of the list
 pub found_all : {X : Type 0} {names : ℕ → ℕ → X → Bool} {test : ℕ → ℕ → Bool}
@@ -51,10 +40,7 @@ pub found_all : {X : Type 0} {names : ℕ → ℕ → X → Bool} {test : ℕ �
     {found : List ExamPair} → AreFound names test before xs i found → length xs ≤ i
     → (e f : ℕ) → list_any (is_pair e f) found
     ≡ (list_any (is_pair e f) before || (list_any (names e f) xs && test e f))
-found_all {X} {names} {test} {before} {xs} {i} all past e f =
-    all.members e f
-    ∙ ap (λ ys. list_any (is_pair e f) before || (list_any (names e f) ys && test e f))
-    (take_all i xs past)
+found_all {X} {names} {test} {before} {xs} {i} all past e f = grind (arith, common_steps, take_all)
 
 -- a line on two exams names the smaller of them first
 pub smaller_first : (a b : ℕ) (test : ℕ → ℕ → Bool) (e f : ℕ) → a < b
@@ -66,10 +52,7 @@ pub record AreFoundBelow (test : ℕ → ℕ → Bool) (i : ℕ) (found : List E
   pub members : (e f : ℕ) → list_any (is_pair e f) found ≡ (nat_lt e i && test e f)
 
 pub below_none : {test : ℕ → ℕ → Bool} → AreFoundBelow test 0 []
-below_none {test} = record { members = λ e f. nothing e (test e f) }
-  where
-    nothing : (e : ℕ) (b : Bool) → false ≡ (nat_lt e 0 && b)
-    nothing e b = grind (arith, nat_tests)
+below_none {test} = grind (arith, common_steps)
 
 -- one more exam adds its own pairs
 pub below_more : {test : ℕ → ℕ → Bool} {i : ℕ} {before after : List ExamPair} {added : ℕ → ℕ → Bool}
@@ -77,11 +60,7 @@ pub below_more : {test : ℕ → ℕ → Bool} {i : ℕ} {before after : List Ex
     → ((e f : ℕ) → list_any (is_pair e f) after ≡ (list_any (is_pair e f) before || added e f))
     → ((e f : ℕ) → added e f ≡ ((i == e) && test e f))
     → AreFoundBelow test (i + 1) after
-below_more {test} {i} {before} {after} {added} so_far adds is =
-    record { members = λ e f. adds e f ∙ ap₂ (λ b c. b || c) (so_far.members e f) (is e f) ∙ step e (test e f) }
-  where
-    step : (e : ℕ) (b : Bool) → ((nat_lt e i && b) || ((i == e) && b)) ≡ (nat_lt e (i + 1) && b)
-    step e b = grind (arith, nat_tests)
+below_more {test} {i} {before} {after} {added} so_far adds is = grind (arith, common_steps)
 
 pub below_all : {test : ℕ → ℕ → Bool} {i n : ℕ} {found : List ExamPair}
     → AreFoundBelow test i found → i ≡ n

@@ -1,6 +1,7 @@
 -- The exams of a period's group.
+use Rattle.std.proofs.lemmas.Grind.{common_steps}
 use Rattle.std.specs.Prelude.{All}
-use Rattle.std.proofs.Common.{◌≡◌, ℕ, ◌<◌, Bool, true, false, ◌&&◌, ◌==◌, not, nat_lt, List, [], length, get_or, Option, Some, None, refl, sym, ◌∙◌, ap, subst, arith, ltb-true, eq-eqb, eqb-true}
+use Rattle.std.proofs.Common.{◌≡◌, ℕ, ◌<◌, Bool, true, false, ◌&&◌, ◌==◌, not, nat_lt, List, [], length, get_or, Option, Some, None, refl, sym, ◌∙◌, ap, arith, ltb-true, eq-eqb, eqb-true}
 use Rattle.std.specs.List.{list_any}
 use Rattle.std.proofs.lemmas.Bool.{and_parts, and_from, lt-ltb, true≢false}
 use Rattle.std.proofs.lemmas.List.Folds.{Any-from_list_any, list_any_at}
@@ -10,7 +11,7 @@ use Rattle.exam_lists.proofs.Booleans.{and_swap, same_tests}
 use Rattle.exam_model.specs.Instance.{Session}
 use Rattle.exam_model.specs.Timetable.{Placing, place_of}
 use Rattle.exam_terms.specs.declared.place.Place.{Place}
-use Rattle.exam_rules.specs.Places.{PlaceExists, place_satisfies, both_satisfy, is_one_place, in_one_period, in_one_place}
+use Rattle.exam_rules.specs.Places.{PlaceExists, place_satisfies, both_satisfy, in_one_period, in_one_place}
 use Rattle.exam_model.specs.Enrolments.{has_number}
 use Rattle.exam_rules.specs.Groups.{is_placed_in, AreGroups}
 use Rattle.exam_rules.proofs.PlaceLemmas.{placed_exists, its_place_exists}
@@ -20,14 +21,7 @@ pub in_group : {T : Placing} {periods n : ℕ} {groups : List (List ℕ)}
     → AreGroups T periods n groups → length T ≡ n
     → (p f : ℕ) → p < periods → has_number (get_or groups p []) f ≡ is_placed_in T p f
 in_group {T} {periods} {n} {groups} are same p f within =
-    are.members p f within
-    ∙ exists (is_placed_in T p f) (λ h. placed_exists T (λ q. p == q.period) f h)
-  where
-    exists : (b : Bool) → (b ≡ true → f < length T) → (nat_lt f n && b) ≡ b
-    exists true h =
-        (let lt : f < length T = h refl in
-        and_from (nat_lt f n) true (lt-ltb f n (omega arith)) refl)
-    exists false h = and-false (nat_lt f n)
+    grind (arith, common_steps, and-false, and_from, lt-ltb, placed_exists)
 
 -- the exams of a group exist
 pub group_exists : {T : Placing} {periods n : ℕ} {groups : List (List ℕ)}
@@ -48,48 +42,12 @@ pub one_place_group : {T : Placing} {periods n : ℕ} {groups : List (List ℕ)}
     && ((k == e) && (not (e == f) && in_one_place T e f)))
     ≡ ((k == e) && (not (e == f) && in_one_place T e f))
 one_place_group {T} {periods} {n} {groups} are same k q placed within e f =
-    ap (λ b. b && ((k == e) && (not (e == f) && in_one_place T e f)))
-    (in_group are same q.period f within)
-    ∙ at (k == e) refl
-  where
-    -- the same room and period means the same period
-    place_period : (o : Option Place) → both_satisfy is_one_place (Some q) o
-        ≡ (place_satisfies (λ x. q.period == x.period) o && both_satisfy is_one_place (Some q) o)
-    place_period None = refl
-    place_period (Some x) = doubled (q.period == x.period) (q.room == x.room)
-      where
-        doubled : (a b : Bool) → (a && b) ≡ (a && (a && b))
-        doubled true b = refl
-        doubled false b = refl
-
-    here : in_one_place T k f ≡ (is_placed_in T q.period f && in_one_place T k f)
-    here =
-        ap (λ o. both_satisfy is_one_place o (place_of T f)) placed
-        ∙ place_period (place_of T f)
-        ∙ sym (ap (λ o. is_placed_in T q.period f && both_satisfy is_one_place o
-        (place_of T f)) placed)
-
-    at : (b : Bool) → (k == e) ≡ b
-        → (is_placed_in T q.period f && (b && (not (e == f) && in_one_place T e f)))
-        ≡ (b && (not (e == f) && in_one_place T e f))
-    at true is =
-        and_swap (is_placed_in T q.period f) (not (e == f)) (in_one_place T e f)
-        ∙ ap (λ b. not (e == f) && b)
-        (sym (subst (λ m. in_one_place T m f ≡ (is_placed_in T q.period f && in_one_place T m f))
-        (eqb-true k e is) here))
-    at false is = and-false (is_placed_in T q.period f)
+    grind (arith, common_steps, and-false, and_swap, eqb-true, in_group)
 
 -- an exam without a place is in no room with another
 pub no_place : (T : Placing) (k : ℕ) → place_of T k ≡ None → (e f : ℕ)
     → false ≡ ((k == e) && (not (e == f) && in_one_place T e f))
-no_place T k unplaced e f = at (k == e) refl
-  where
-    at : (b : Bool) → (k == e) ≡ b → false ≡ (b && (not (e == f) && in_one_place T e f))
-    at true is =
-        sym (ap (λ m. not (e == f) && in_one_place T m f) (sym (eqb-true k e is))
-        ∙ ap (λ o. not (e == f) && both_satisfy is_one_place o (place_of T f)) unplaced
-        ∙ and-false (not (e == f)))
-    at false is = refl
+no_place T k unplaced e f = grind (arith, common_steps, and-false, eqb-true)
 
 -- exams that are in period k are in one period
 one_period : (k : ℕ) (p q : Option Place) → place_satisfies (λ x. k == x.period) p ≡ true

@@ -1,5 +1,6 @@
 -- The table of loads, one more exam at a time.
-use Rattle.std.proofs.Common.{◌≡◌, ℕ, ◌+◌, ◌*◌, ◌^◌, ◌<◌, ◌≤◌, ◌⊎◌, inl, inr, true, false, cond, ◌==◌, List, length, get_or, slice_set, Some, sym, ◌∙◌, ap, ap₂, arith, add-one, eqb-true, eq-eqb}
+use Rattle.std.proofs.lemmas.Grind.{common_steps}
+use Rattle.std.proofs.Common.{◌≡◌, ℕ, ◌+◌, ◌*◌, ◌^◌, ◌<◌, ◌≤◌, ◌⊎◌, inl, inr, true, false, cond, ◌==◌, List, length, get_or, slice_set, Some, sym, ◌∙◌, ap, arith, add-one, eqb-true, eq-eqb, rules}
 use Rattle.std.proofs.lemmas.Bool.{and_parts, and_from, cases_eq, false_from_ne_true}
 use Rattle.std.proofs.lemmas.List.{length-set, get_or-set_same, get_or-set_other}
 use Rattle.std.proofs.lemmas.Nat.{same_from_place}
@@ -56,23 +57,9 @@ loads_more {E} {T} {periods} {rooms} {i} {loads} {q} {load} so_far placed hq hr 
         ∙ ap (λ n. n + size_of E i) (so_far.each p pp pr)
         ∙ sym (this_place E T p i (ap (place_satisfies (is_one_place p)) placed ∙ one))
     each p pp pr (inr other) =
-        let apart : is_one_place p q ≡ false = false_from_ne_true (is_one_place p q) (λ one.
-        let parts = and_parts (p.period == q.period) (p.room == q.room) one in
-        other (ap₂ (λ a b. a * rooms + b) (eqb-true p.period q.period parts.0)
-        (eqb-true p.room q.room parts.1)))
-        in
-        get_or-set_other loads (slot_of rooms q) (slot_of rooms p) load 0 other
-        ∙ so_far.each p pp pr
-        ∙ sym (other_place E T p i (ap (place_satisfies (is_one_place p)) placed ∙ apart))
+        search (rules, and_parts, eqb-true, false_from_ne_true, get_or-set_other, other_place)
 
     small : (k : ℕ) → (k ≡ slot_of rooms q) ⊎ (k ≡ slot_of rooms q → ⊥)
         → get_or (slice_set loads (slot_of rooms q) load) k 0 ≤ (i + 1) * 2 ^ 32
-    small k (inl same) =
-        let put : get_or (slice_set loads (slot_of rooms q) load) k 0 ≡ load =
-        ap (λ k. get_or (slice_set loads (slot_of rooms q) load) k 0) same
-        ∙ get_or-set_same loads (slot_of rooms q) load 0 within
-        in
-        omega (arith, so_far.small (slot_of rooms q))
-    small k (inr other) =
-        let kept = get_or-set_other loads (slot_of rooms q) k load 0 other in
-        omega (arith, so_far.small k)
+    small k (inl same) = grind (arith, common_steps, get_or-set_same, slice_set, within)
+    small k (inr other) = grind (arith, common_steps, get_or-set_other)

@@ -1,7 +1,8 @@
 -- Marks: none is lost.
+use Rattle.std.proofs.lemmas.Grind.{common_steps}
 use Rattle.std.specs.Int.{bit_at}
 use Rattle.std.specs.Int.RustNames.{bit_or}
-use Rattle.std.proofs.Common.{◌≡◌, ℕ, ◌+◌, ◌-◌, ◌*◌, ◌%◌, ◌^◌, ◌<◌, ◌⊎◌, inl, inr, Bool, true, false, ◌||◌, ◌==◌, w64, List, length, take, get_or, slice_set, refl, sym, ◌∙◌, ap, arith, eqb-true}
+use Rattle.std.proofs.Common.{◌≡◌, ℕ, ◌+◌, ◌-◌, ◌*◌, ◌%◌, ◌^◌, ◌<◌, ◌⊎◌, inl, inr, Bool, true, ◌||◌, ◌==◌, w64, List, length, take, get_or, slice_set, sym, ◌∙◌, ap, arith, eqb-true, rules}
 use Rattle.std.proofs.lemmas.Bool.{cases_eq}
 use Rattle.std.proofs.lemmas.List.{length-set, get_or-set_same, get_or-set_other}
 use Rattle.std.proofs.lemmas.List.Folds.{list_any_more}
@@ -14,20 +15,7 @@ use Rattle.exam_rules.specs.Marks.{marks_of, slot_of, Has}
 pub before_or_here : (students : List ℕ) (i x s : ℕ) → i < length students → x ≡ get_or students i x
     → has_number (take (i + 1) students) s ≡ true
     → (has_number (take i students) s ≡ true) ⊎ (x ≡ s)
-before_or_here students i x s within here h =
-    go (has_number (take i students) s) (x == s) refl refl
-    (ap (λ y. has_number (take i students) s || (y == s)) here
-    ∙ sym (list_any_more (λ t. t == s) students i x within) ∙ h)
-  where
-    go : (a b : Bool) → has_number (take i students) s ≡ a → (x == s) ≡ b
-        → ((has_number (take i students) s || (x == s)) ≡ true)
-        → (has_number (take i students) s ≡ true) ⊎ (x ≡ s)
-    go true b p q k = inl p
-    go false true p q k = inr (eqb-true x s q)
-    go false false p q k = absurd (no (sym (ap (λ c. c || (x == s)) p ∙ q) ∙ k))
-      where
-        no : false ≡ true → ⊥
-        no e = cc
+before_or_here students i x s within here h = grind (arith, common_steps, eqb-true, list_any_more)
 
 more_left : (a b i : ℕ) → bit_at a i ≡ 1 → bit_at (bit_or a b) i ≡ 1
 more_left a b i h = bit_at_or a b i ∙ omega (arith, h, bit_at-lt b i)
@@ -70,14 +58,8 @@ marked_more {old} {students} {exam} {i} {slots} x so_far within here = record {
 
     grows : (k b : ℕ) → bit_at (get_or slots k 0) b ≡ 1
         → bit_at (get_or (slice_set slots at marks) k 0) b ≡ 1
-    grows k b h = elim (cases_eq k at)
-        as (λ _. bit_at (get_or (slice_set slots at marks) k 0) b ≡ 1) [
-          | inl same ↦ ap (λ j. bit_at (get_or (slice_set slots at marks) j 0) b) same
-              ∙ ap (λ m. bit_at m b) (get_or-set_same slots at marks 0 slot)
-              ∙ more_left (get_or slots at 0) (1 * 2 ^ (exam % 64) % 2 ^ 64) b
-              (ap (λ j. bit_at (get_or slots j 0) b) (sym same) ∙ h)
-          | inr other ↦ ap (λ m. bit_at m b) (get_or-set_other slots at k marks 0 other) ∙ h
-        ]
+    grows k b h =
+        search (rules, cases_eq, get_or-set_other, get_or-set_same, more_left, slice_set, slot)
 
     marked : (s : ℕ) → (has_number (take i students) s ≡ true) ⊎ (x ≡ s)
         → bit_at (get_or (slice_set slots at marks) (slot_of (length slots) s) 0) (exam % 64) ≡ 1
@@ -125,9 +107,7 @@ cleared_more {old} {students} {i} {slots} x so_far within here = record {
     cleared : (s : ℕ) → (has_number (take i students) s ≡ true) ⊎ (x ≡ s)
         → get_or after (slot_of (length slots) s) 0 ≡ 0
     cleared s (inl before) = stays (slot_of (length slots) s) (so_far.cleared s before)
-    cleared s (inr same) =
-        ap (λ t. get_or after (slot_of (length slots) t) 0) (sym same)
-        ∙ get_or-set_same slots at 0 0 slot
+    cleared s (inr same) = grind (arith, common_steps, get_or-set_same, slot)
 
 -- the exams that are marked for one of the first i students
 pub record AreOf (slots students : List ℕ) (i all : ℕ) : Type 0 where
@@ -139,12 +119,4 @@ pub of_more : {slots students : List ℕ} {i all : ℕ} (x : ℕ) → AreOf slot
     → x ≡ get_or students i x
     → AreOf slots students (i + 1) (bit_or all (get_or slots (slot_of (length slots) x) 0))
 of_more {slots} {students} {i} {all} x so_far within here =
-    record { each = λ s e h k. step s e k (before_or_here students i x s within here h) }
-  where
-    step : (s e : ℕ) → Has (marks_of slots s) e → (has_number (take i students) s ≡ true) ⊎ (x ≡ s)
-        → bit_at (bit_or all (get_or slots (slot_of (length slots) x) 0)) (e % 64) ≡ 1
-    step s e k (inl before) =
-        more_left all (get_or slots (slot_of (length slots) x) 0) (e % 64) (so_far.each s e before k)
-    step s e k (inr same) =
-        more_right all (get_or slots (slot_of (length slots) x) 0) (e % 64)
-        (ap (λ t. bit_at (get_or slots (slot_of (length slots) t) 0) (e % 64)) same ∙ k)
+    grind (arith, common_steps, before_or_here, more_left, more_right)

@@ -1,6 +1,7 @@
 -- Whether any element of a list passes a test, for each way to make a list.
+use Rattle.std.proofs.lemmas.Grind.{common_steps}
 use Rattle.std.specs.List.{list_any, flat_map}
-use Rattle.std.proofs.Common.{◌≡◌, ℕ, Bool, true, false, ◌&&◌, ◌==◌, List, [], ◌∷◌, map, Contains, refl, ◌∙◌, ap, subst, eqb-true, eq-eqb}
+use Rattle.std.proofs.Common.{◌≡◌, ℕ, Bool, true, false, ◌&&◌, ◌==◌, List, [], ◌∷◌, map, Contains, refl, ◌∙◌, ap, eqb-true, eq-eqb, arith}
 use Rattle.std.proofs.lemmas.Bool.{and_parts, and_from}
 use Rattle.std.proofs.lemmas.List.Folds.{Any-from_list_any, list_any_at}
 use Rattle.exam_lists.proofs.Tests.{any_map, any_agree, any_at, any_flat_map}
@@ -18,17 +19,11 @@ any_from_contains e f found h =
     list_any_at (is_pair e f) found h.0 (pair e f) h.1 (ap (is_pair e f) h.2 ∙ is_itself e f)
 
 same_as : (e f : ℕ) (p : ExamPair) → is_pair e f p ≡ true → p ≡ pair e f
-same_as e f p h =
-    let parts = and_parts (p.exam == e) (p.other == f) h in
-    let first = eqb-true p.exam e parts.0 in
-    let second = eqb-true p.other f parts.1 in
-    λ i. record { exam = first i; other = second i }
+same_as e f p h = grind (arith, common_steps, and_parts, eqb-true)
 
 pub contains_from_any : (e f : ℕ) (found : List ExamPair) → list_any (is_pair e f) found ≡ true
     → Contains found (pair e f)
-contains_from_any e f found h =
-    let any = Any-from_list_any (is_pair e f) found h in
-    subst (Contains found) (same_as e f any.1 any.4) (any.0, any.2, any.3)
+contains_from_any e f found h = grind (arith, common_steps, Any-from_list_any, same_as)
 
 -- ---- lists of rows: for each exam of a list, its pairs with some others
 

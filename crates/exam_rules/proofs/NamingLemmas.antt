@@ -1,8 +1,9 @@
 -- The breaches that name an exam.
+use Rattle.std.proofs.lemmas.Grind.{common_steps}
 use Rattle.std.specs.List.{list_any, find, flat_map}
 use Rattle.std.specs.Option.{option_or}
 use Rattle.std.specs.Prelude.{option_map, slice_get}
-use Rattle.std.proofs.Common.{◌≡◌, ℕ, ◌+◌, ◌<◌, Bool, true, false, ◌&&◌, ◌||◌, ◌==◌, nat_lt, List, [], ◌∷◌, map, filter, cond, length, get_or, drop, Option, Some, None, refl, sym, ◌∙◌, ap, ap₂, arith}
+use Rattle.std.proofs.Common.{◌≡◌, ℕ, ◌+◌, ◌<◌, Bool, true, false, ◌&&◌, ◌||◌, ◌==◌, nat_lt, List, [], ◌∷◌, map, filter, length, get_or, drop, Option, Some, None, refl, sym, ◌∙◌, ap, arith}
 use Rattle.std.proofs.lemmas.Bool.{lt-ltb}
 use Rattle.std.proofs.lemmas.Bool.Decides.{nat_tests}
 use Rattle.std.proofs.lemmas.List.{at_drop_more}
@@ -104,13 +105,7 @@ with_more {a} {test} {before} {i} {found} {two} one {first} {second} so_far adds
 
     step : (e f : ℕ) → list_any (is_pair e f) two
         ≡ (list_any (is_pair e f) before || (is_with a (i + 1) e f && test e f))
-    step e f =
-        adds_second e f
-        ∙ ap₂ (λ b c. b || c)
-        (adds_first e f
-        ∙ ap₂ (λ b c. b || c) (so_far.members e f) (is_first e f ∙ at_first e f))
-        (is_second e f ∙ at_second e f)
-        ∙ joined e f (list_any (is_pair e f) before) (test e f)
+    step e f = grind (arith, common_steps, at_first, at_second, joined)
 
 -- the pairs with all exams
 pub with_all : {a : ℕ} {test : ℕ → ℕ → Bool} {before : List ExamPair} {i n : ℕ}
@@ -118,24 +113,7 @@ pub with_all : {a : ℕ} {test : ℕ → ℕ → Bool} {before : List ExamPair} 
     → AreFoundWith a test before i found → i ≡ n → ((e f : ℕ) → test e f ≡ true → (e < n) × (f < n))
     → (e f : ℕ) → list_any (is_pair e f) found
     ≡ (list_any (is_pair e f) before || (is_one_of a e f && test e f))
-with_all {a} {test} {before} {i} {n} {found} all end exist e f =
-    all.members e f
-    ∙ ap (λ m. list_any (is_pair e f) before || (is_with a m e f && test e f)) end
-    ∙ ap (λ b. list_any (is_pair e f) before || b) (within (test e f) (λ h. exist e f h))
-  where
-    within : (b : Bool) → (b ≡ true → (e < n) × (f < n))
-        → (is_with a n e f && b) ≡ (is_one_of a e f && b)
-    within false h = grind (arith, nat_tests)
-    within true h =
-        let parts = h refl in
-        ap₂ (λ b c. (((a == e) && b) || ((a == f) && c)) && true) (lt-ltb f n parts.1)
-        (lt-ltb e n parts.0)
-        ∙ plain (a == e) (a == f)
-      where
-        plain : (b c : Bool) → (((b && true) || (c && true)) && true) ≡ ((b || c) && true)
-        plain true c = refl
-        plain false true = refl
-        plain false false = refl
+with_all {a} {test} {before} {i} {n} {found} all end exist e f = grind (arith, common_steps, lt-ltb)
 
 -- ---- rule by rule
 
@@ -145,23 +123,7 @@ pub first_of_rule : (named : Breach → Bool) (test : ExamPair → Bool) (r : Br
     → find named (map (breach r) (filter test ps))
     ≡ option_map (breach r) (slice_get (filter (λ p. named (breach r p) && test p) ps) 0)
 first_of_rule named test r [] = refl
-first_of_rule named test r (p ∷ ps) =
-    go (test p) (named (breach r p)) refl (first_of_rule named test r ps)
-  where
-    go : (b c : Bool) → named (breach r p) ≡ c
-        → find named (map (breach r) (filter test ps))
-        ≡ option_map (breach r) (slice_get (filter (λ p. named (breach r p) && test p) ps) 0)
-        → find named (map (breach r) (cond b (p ∷ filter test ps) (filter test ps)))
-        ≡ option_map (breach r)
-        (slice_get (cond (c && b) (p ∷ filter (λ p. named (breach r p) && test p) ps)
-        (filter (λ p. named (breach r p) && test p) ps)) 0)
-    go true true is more =
-        ap (λ x. cond x (Some (breach r p)) (find named (map (breach r) (filter test ps)))) is
-    go true false is more =
-        ap (λ x. cond x (Some (breach r p)) (find named (map (breach r) (filter test ps)))) is
-        ∙ more
-    go false true is more = more
-    go false false is more = more
+first_of_rule named test r (p ∷ ps) = grind (arith, common_steps, first_of_rule named test r ps)
 
 -- the first breach of some rules that passes
 abbrev pub first_in : (Breach → Bool) → (BreachRule → List ExamPair)
@@ -174,11 +136,7 @@ rule_and_rest : (named : Breach → Bool) (f : BreachRule → List ExamPair) (rs
     → first_in named f (drop i rs)
     ≡ option_or (find named (map (breach (get_or rs i d)) (f (get_or rs i d))))
     (first_in named f (drop (i + 1) rs))
-rule_and_rest named f rs i d within =
-    let r : BreachRule = get_or rs i d in
-    at_drop_more (first_in named f) rs i d within
-    ∙ find-append named (map (breach r) (f r))
-    (flat_map (λ r. map (breach r) (f r)) (drop (i + 1) rs))
+rule_and_rest named f rs i d within = grind (arith, common_steps, at_drop_more, find-append)
 
 -- a rule without such a breach is passed over
 pub rule_passed : (named : Breach → Bool) (f : BreachRule → List ExamPair) (rs : List BreachRule)
@@ -186,8 +144,7 @@ pub rule_passed : (named : Breach → Bool) (f : BreachRule → List ExamPair) (
     → i < length rs → find named (map (breach (get_or rs i d)) (f (get_or rs i d))) ≡ None
     → first_in named f (drop i rs) ≡ first_in named f (drop (i + 1) rs)
 rule_passed named f rs i d within none =
-    rule_and_rest named f rs i d within
-    ∙ ap (λ o. option_or o (first_in named f (drop (i + 1) rs))) none
+    grind (arith, common_steps, rule_and_rest named f rs i d within)
 
 -- the first rule with such a breach ends the search
 pub rule_broken : (named : Breach → Bool) (f : BreachRule → List ExamPair) (rs : List BreachRule)
@@ -195,5 +152,4 @@ pub rule_broken : (named : Breach → Bool) (f : BreachRule → List ExamPair) (
     → i < length rs → find named (map (breach (get_or rs i d)) (f (get_or rs i d))) ≡ Some b
     → first_in named f (drop i rs) ≡ Some b
 rule_broken named f rs i d b within some =
-    rule_and_rest named f rs i d within
-    ∙ ap (λ o. option_or o (first_in named f (drop (i + 1) rs))) some
+    grind (arith, common_steps, rule_and_rest named f rs i d within)

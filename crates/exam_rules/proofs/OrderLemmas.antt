@@ -1,6 +1,7 @@
 -- The order of pairs of exams.
+use Rattle.std.proofs.lemmas.Grind.{common_steps}
 use Rattle.std.specs.Ordering.{eq_by_cmp}
-use Rattle.std.specs.Cmp.{then_total, on_total, nat_cmp_total, IsTotalOrder, IsEquivalence}
+use Rattle.std.specs.Cmp.{IsTotalOrder, IsEquivalence}
 use Rattle.std.proofs.lemmas.Bool.Decides.{nat_tests}
 use Rattle.std.proofs.lemmas.Bool.{and_parts}
 use Rattle.std.proofs.Common.{eqb, ◌&&◌, eqb-true, ◌≡◌, Bool, true, arith}
@@ -8,9 +9,7 @@ use Rattle.exam_rules.specs.Breach.{exam_pair_cmp}
 use Rattle.exam_rules.specs.declared.exam_pair.ExamPair.{ExamPair}
 
 pub exam_pair_cmp_total : IsTotalOrder exam_pair_cmp
-exam_pair_cmp_total =
-    then_total (on_total (λ (b : ExamPair). b.exam) nat_cmp_total)
-    (on_total (λ (b : ExamPair). b.other) nat_cmp_total)
+exam_pair_cmp_total = grind (arith, common_steps)
 
 -- ---- equality of pairs
 

@@ -1,7 +1,7 @@
 -- Only placed exams break a rule, so they exist.
-use Rattle.std.specs.List.{list_any}
+use Rattle.std.proofs.lemmas.Grind.{common_steps}
 use Rattle.std.specs.Prelude.{All}
-use Rattle.std.proofs.Common.{◌≡◌, ℕ, ◌<◌, inl, inr, Bool, true, not, ◌&&◌, ◌==◌, nat_lt, length, Option, Some, None, refl, sym, ◌∙◌, ap, subst, arith, eqb-true}
+use Rattle.std.proofs.Common.{◌≡◌, ℕ, ◌<◌, inl, inr, Bool, true, ◌&&◌, ◌==◌, length, Option, Some, None, refl, sym, ◌∙◌, ap, subst, arith, eqb-true}
 use Rattle.std.proofs.lemmas.Bool.{and_parts, cases_lt, true≢false}
 use Rattle.std.proofs.lemmas.List.{get_or_past}
 use Rattle.exam_model.specs.Instance.{Session}
@@ -10,9 +10,8 @@ use Rattle.exam_model.specs.Timetable.{Placing, place_of}
 use Rattle.exam_terms.specs.declared.place.Place.{Place}
 use Rattle.exam_rules.specs.declared.breach.BreachRule.{BreachRule}
 use Rattle.exam_rules.specs.declared.breach.BreachRule.TheVariants.{Duration, Clash, Capacity, After, Coincidence, Exclusion, RoomExclusive}
-use Rattle.exam_rules.specs.Lines.{is_after, is_coincidence, is_exclusion, is_exclusive}
-use Rattle.exam_rules.specs.Places.{PlaceExists, place_satisfies, both_satisfy, both_placed, in_one_period, in_two_periods, is_not_after, in_one_place, share_student}
-use Rattle.exam_rules.specs.HardRules.{breaks, is_too_long, is_overfull}
+use Rattle.exam_rules.specs.Places.{PlaceExists, place_satisfies, both_satisfy, both_placed}
+use Rattle.exam_rules.specs.HardRules.{breaks}
 
 -- an exam whose place passes a test exists
 pub placed_exists : (T : Placing) (test : Place → Bool) (e : ℕ)
@@ -47,41 +46,14 @@ pub breaking_exist : (I : Session) (E : Enrolled) (T : Placing) (r : BreachRule)
     → length T ≡ n → (e f : ℕ)
     → breaks I E T r e f ≡ true → (e < n) × (f < n)
 breaking_exist I E T Duration n same e f h =
-    let parts = and_parts (e == f) (is_too_long I T e) h in
-    let here : e < length T = placed_exists T _ e parts.1 in
-    let twice : e ≡ f = eqb-true e f parts.0 in
-    (omega arith, omega arith)
-breaking_exist I E T Clash n same e f h =
-    let rest = (and_parts (nat_lt e f) (in_one_period T e f && share_student E e f) h).1 in
-    subst (λ m. (e < m) × (f < m)) same
-    (both_exist T _ e f (and_parts (in_one_period T e f) (share_student E e f) rest).0)
+    grind (arith, common_steps, and_parts, eqb-true, placed_exists)
+breaking_exist I E T Clash n same e f h = grind (arith, common_steps, and_parts, both_exist)
 breaking_exist I E T Capacity n same e f h =
-    let parts = and_parts (e == f) (is_overfull I E T e) h in
-    let here : e < length T = placed_exists T _ e parts.1 in
-    let twice : e ≡ f = eqb-true e f parts.0 in
-    (omega arith, omega arith)
-breaking_exist I E T After n same e f h =
-    let rest = (and_parts (list_any (is_after e f) I.period_rules)
-    (not (e == f) && is_not_after T e f) h).1 in
-    subst (λ m. (e < m) × (f < m)) same
-    (both_exist T _ e f (and_parts (not (e == f)) (is_not_after T e f) rest).1)
-breaking_exist I E T Coincidence n same e f h =
-    let apart : Bool = not (share_student E e f) && in_two_periods T e f in
-    let rest = (and_parts (list_any (is_coincidence e f) I.period_rules)
-    (nat_lt e f && apart) h).1 in
-    let last = (and_parts (nat_lt e f) apart rest).1 in
-    subst (λ m. (e < m) × (f < m)) same
-    (both_exist T _ e f (and_parts (not (share_student E e f)) (in_two_periods T e f) last).1)
-breaking_exist I E T Exclusion n same e f h =
-    let rest = (and_parts (list_any (is_exclusion e f) I.period_rules)
-    (nat_lt e f && in_one_period T e f) h).1 in
-    subst (λ m. (e < m) × (f < m)) same
-    (both_exist T _ e f (and_parts (nat_lt e f) (in_one_period T e f) rest).1)
-breaking_exist I E T RoomExclusive n same e f h =
-    let rest = (and_parts (list_any (is_exclusive e) I.room_rules)
-    (not (e == f) && in_one_place T e f) h).1 in
-    subst (λ m. (e < m) × (f < m)) same
-    (both_exist T _ e f (and_parts (not (e == f)) (in_one_place T e f) rest).1)
+    grind (arith, common_steps, and_parts, eqb-true, placed_exists)
+breaking_exist I E T After n same e f h = grind (arith, common_steps, and_parts, both_exist)
+breaking_exist I E T Coincidence n same e f h = grind (arith, common_steps, and_parts, both_exist)
+breaking_exist I E T Exclusion n same e f h = grind (arith, common_steps, and_parts, both_exist)
+breaking_exist I E T RoomExclusive n same e f h = grind (arith, common_steps, and_parts, both_exist)
 
 -- an exam's place exists
 pub place_exists : (I : Session) (T : Placing) (e : ℕ) (p : Place)
@@ -92,6 +64,4 @@ place_exists I T e p all within here = subst (PlaceExists I) here (all e None wi
 -- an exam with a place exists, and so does its place
 pub its_place_exists : (I : Session) (T : Placing) (e : ℕ) (p : Place) → All (PlaceExists I) T
     → place_of T e ≡ Some p → PlaceExists I (Some p)
-its_place_exists I T e p all here =
-    place_exists I T e p all
-    (placed_exists T (λ x. true) e (ap (place_satisfies (λ x. true)) here)) here
+its_place_exists I T e p all here = grind (arith, common_steps, place_exists, placed_exists)
