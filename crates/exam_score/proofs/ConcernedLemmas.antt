@@ -1,8 +1,9 @@
 -- The enrolments of an edit's students, in order, folded one by one.
+use Rattle.std.proofs.lemmas.Grind.{common_steps}
 use Rattle.std.specs.List.{AllByRecursion}
 use Rattle.std.specs.Ordering.{is_lt, nat_cmp, ordering_then}
-use Rattle.std.specs.Cmp.{then_total, on_total, nat_cmp_total, IsTotalOrder}
-use Rattle.std.proofs.Common.{◌≡◌, ℕ, ◌+◌, ◌<◌, ◌≤◌, inl, inr, Bool, true, false, cond, ◌&&◌, eqb, List, [], ◌∷◌, ◌++◌, length, take, map, get_or, count_by, AllPairs, Option, Some, IsPermutation, IsSorted, Ordering, refl, sym, ◌∙◌, ap, ap₂, subst, arith, eq-eqb, eqb-true, length-take}
+use Rattle.std.specs.Cmp.{IsTotalOrder}
+use Rattle.std.proofs.Common.{◌≡◌, ℕ, ◌+◌, ◌<◌, ◌≤◌, inl, inr, Bool, true, false, cond, ◌&&◌, List, [], ◌∷◌, ◌++◌, length, take, map, get_or, count_by, AllPairs, Option, Some, IsPermutation, IsSorted, Ordering, refl, sym, ◌∙◌, ap, ap₂, subst, arith, eq-eqb, eqb-true, length-take, rules}
 use Rattle.std.proofs.lemmas.Bool.{cases_lt, and_parts}
 use Rattle.std.proofs.lemmas.Bool.Decides.{nat_tests}
 use Rattle.std.proofs.lemmas.List.{get_or-take, get_or_default, length-map, take_more, map_push}
@@ -35,12 +36,7 @@ use Rattle.exam_score.specs.Folds.{CanFollow, ComesEarlier, Folded, IsFoldOf, Re
 
 other_sitter : (s e : ℕ) (x y : Sitter) → ComesBefore (pair_of x) (pair_of y)
     → is_sitter s e x ≡ true → is_sitter s e y ≡ false
-other_sitter s e x y before is =
-    let parts = and_parts (eqb x.exam e) (eqb x.student s) is in
-    let own_student = eqb-true x.student s parts.1 in
-    let own_exam = eqb-true x.exam e parts.0 in
-    elim before as (λ _. is_sitter s e y ≡ false)
-    [ inl less ↦ grind (arith, nat_tests) | inr same ↦ grind (arith, nat_tests) ]
+other_sitter s e x y before is = grind (arith, and_parts, eqb-true)
 
 -- pairs in order have no repeats
 once : (s e : ℕ) (xs : List Sitter) → IsChain (λ x y. ComesBefore (pair_of x) (pair_of y)) xs
@@ -51,15 +47,8 @@ once s e (x ∷ xs) h = go (is_sitter s e x) refl (once s e xs h.1)
     go : (b : Bool) → is_sitter s e x ≡ b → count_by (is_sitter s e) xs ≤ 1
         → count_by (is_sitter s e) (x ∷ xs) ≤ 1
     go true is more =
-        let none = sum_by-none (λ y. cond (is_sitter s e y) 1 0) xs
-        (each_weaker (λ y. ComesBefore (pair_of x) (pair_of y))
-        (λ y. ◌≡◌ {A = ℕ} (cond (is_sitter s e y) 1 0) 0)
-        (λ y before. ap (λ b. cond b 1 0) (other_sitter s e x y before is)) xs h.0) in
-        let one : ◌≡◌ {A = ℕ} (cond (is_sitter s e x) 1 0) 1 = ap (λ b. cond b 1 0) is in
-        omega (arith, sum_by-cons (λ y. cond (is_sitter s e y) 1 0) x xs, none, one)
-    go false is more =
-        let none : ◌≡◌ {A = ℕ} (cond (is_sitter s e x) 1 0) 0 = ap (λ b. cond b 1 0) is in
-        omega (arith, sum_by-cons (λ y. cond (is_sitter s e y) 1 0) x xs, none, more)
+        grind (arith, common_steps, each_weaker, other_sitter, sum_by-cons, sum_by-none)
+    go false is more = grind (arith, sum_by-cons)
 
 each_of_mapped : (P : Pair → Type 0) (xs : List Sitter) → AllByRecursion (λ x. P (pair_of x)) xs
     → AllByRecursion P (map pair_of xs)
@@ -77,9 +66,7 @@ abbrev pub sitter_cmp : Sitter → Sitter → Ordering
 sitter_cmp x y = ordering_then (nat_cmp x.student y.student) (nat_cmp x.exam y.exam)
 
 sitter_cmp_total : IsTotalOrder sitter_cmp
-sitter_cmp_total =
-    then_total (on_total (λ (x : Sitter). x.student) nat_cmp_total)
-    (on_total (λ (x : Sitter). x.exam) nat_cmp_total)
+sitter_cmp_total = search (rules)
 
 sooner : (x y : Sitter) → is_lt (sitter_cmp y x) ≡ false
     → is_sitter x.student x.exam y ≡ false → IsSooner x y
@@ -151,13 +138,7 @@ pub sitters_few : (E : Enrolled) (edited : List ℕ) (sitters sorted : List Sitt
     → map pair_of sitters ≡ pairs_concerned E edited
     → IsPermutation sitters sorted → length sorted ≤ 200000
 sitters_few E edited sitters sorted known are moved =
-    let same = length_permutation sitters sorted moved in
-    let mapped = length-map sitters pair_of in
-    let concerned = ap length are in
-    let few = length_filter-le (λ p. sits_among E edited p.student) (pairs_of E) in
-    let all = (are_pairs E known).count in
-    let most = known.pairs in
-    omega (arith, same, mapped, concerned, few, all, most)
+    search (rules, are_pairs, length-map, length_filter-le, length_permutation)
 
 -- ---- folded one after the other
 
@@ -188,11 +169,7 @@ fold_few fold xs i lt few h =
 pub represents_next : (fold : Folded) (xs : List Sitter) (i : ℕ) (d : Sitter) → i < length xs
     → RepresentsPairs fold (map pair_of (take i xs) ++ pair_of (get_or xs i d) ∷ [])
     → RepresentsPairs fold (map pair_of (take (i + 1) xs))
-represents_next fold xs i d lt h =
-    subst (RepresentsPairs fold)
-    (sym (ap (map pair_of) (take_more xs i d lt)
-    ∙ map_push pair_of (take i xs) (get_or xs i d)))
-    h
+represents_next fold xs i d lt h = grind (arith, common_steps, map_push, take_more)
 
 -- facts about the edit are facts about the fold
 pub edit_is : (fold : Folded) (I : Session) (E : Enrolled) (old new : Placing) (edited : List ℕ)

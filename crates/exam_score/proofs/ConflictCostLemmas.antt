@@ -1,6 +1,7 @@
 -- The cost over conflicts is the cost over pairs of exams.
+use Rattle.std.proofs.lemmas.Grind.{common_steps}
 use Rattle.std.specs.Prelude.{All, option_map, slice_get}
-use Rattle.std.proofs.Common.{◌≡◌, ℕ, ◌+◌, ◌*◌, ◌<◌, ◌≤◌, List, [], ◌∷◌, Option, Some, None, length, map, take, refl, inl, inr, ◌⊎◌, get_or, sym, ◌∙◌, ap, ap₂, subst, arith, mul-zero}
+use Rattle.std.proofs.Common.{◌≡◌, ℕ, ◌+◌, ◌*◌, ◌<◌, ◌≤◌, List, [], ◌∷◌, Option, Some, None, length, map, take, refl, inl, inr, ◌⊎◌, get_or, ◌∙◌, arith, mul-zero, rules}
 use Rattle.std.proofs.Math.Nat.{mul_comm}
 use Rattle.std.proofs.lemmas.Bool.{cases_lt}
 use Rattle.std.proofs.lemmas.Option.{slice_get-get_or}
@@ -10,7 +11,7 @@ use Rattle.exam_model.specs.Conflicts.{conflicts_of}
 use Rattle.exam_model.specs.Enrolments.{Enrolled, AreEnrolments}
 use Rattle.exam_model.specs.Fits.{period_of}
 use Rattle.exam_model.specs.PairCost.{cost_between}
-use Rattle.exam_model.specs.Timetable.{Placing, period_number, place_of}
+use Rattle.exam_model.specs.Timetable.{Placing, period_number}
 use Rattle.exam_terms.specs.declared.place.Place.{Place}
 use Rattle.exam_model.specs.declared.conflicts.Conflict.{Conflict}
 use Rattle.exam_model.proofs.ConflictLemmas.{conflicts_exist, sum_of_conflicts}
@@ -29,7 +30,7 @@ use Rattle.exam_model.specs.declared.parts.Period.{Period}
 use Rattle.exam_model.specs.declared.parts.Weights.{Weights}
 use Rattle.exam_score.specs.Cost.{night_cost}
 use Rattle.exam_score.proofs.NightLemmas.{night_apart}
-use Rattle.exam_score.specs.ConflictCosts.{AreInTimetable, IsReach, IsSmallCost, conflict_cost, conflicts_cost}
+use Rattle.exam_score.specs.ConflictCosts.{AreInTimetable, IsReach, IsSmallCost, conflicts_cost}
 use Rattle.exam_score.specs.Regrouping.{pair_part}
 use Rattle.exam_score.proofs.PairsLemmas.{IsPart, of_parts, part_small}
 
@@ -40,16 +41,11 @@ cost_of_conflicts cost E T =
 
 pub conflicts_small : (cost : ℕ → ℕ → ℕ) (E : Enrolled) (T : Placing) → AreEnrolments E
     → ((p q : ℕ) → cost p q ≤ 100000) → IsSmallCost cost T (conflicts_of E)
-conflicts_small cost E T known small =
-    let same = cost_of_conflicts cost E T in
-    let bound = part_small cost E T known small in
-    omega arith
+conflicts_small cost E T known small = grind (arith, cost_of_conflicts, part_small)
 
 pub in_timetable : (E : Enrolled) (T : Placing) → length T ≡ length E
     → AreInTimetable T (conflicts_of E)
-in_timetable E T long =
-    subst (λ n. All (λ (c : Conflict). (c.exam < n) × (c.other < n)) (conflicts_of E)) (sym long)
-    (conflicts_exist E)
+in_timetable E T long = grind (arith, conflicts_exist)
 
 -- ---- one conflict more
 
@@ -58,10 +54,7 @@ pub cost_more : (cost : ℕ → ℕ → ℕ) (T : Placing) (xs : List Conflict) 
     → i < length xs → x ≡ get_or xs i x → total ≡ conflicts_cost cost T (take i xs)
     → one ≡ cost_between cost (period_of T x.exam) (period_of T x.other)
     → total + one * x.students ≡ conflicts_cost cost T (take (i + 1) xs)
-cost_more cost T xs i x total one lt here was is =
-    ap₂ (λ a b. a + b) was
-    (mul_comm one x.students ∙ ap (λ n. x.students * n) is ∙ ap (conflict_cost cost T) here)
-    ∙ sym (sum_by_more (conflict_cost cost T) xs i x lt)
+cost_more cost T xs i x total one lt here was is = grind (arith, mul_comm, sum_by_more)
 
 -- ---- costs by the numbers of periods
 
@@ -81,8 +74,7 @@ pub cost_by_numbers : (I : Session) (k : TableKind) (T : Placing) (numbers : Lis
     → table_cost I k (get_or numbers e 0) (get_or numbers f 0)
     ≡ cost_between (table_cost I k) (period_of T e) (period_of T f)
 cost_by_numbers I k T numbers e f few are lt other =
-    ap₂ (table_cost I k) (number_at T numbers e are lt) (number_at T numbers f are other)
-    ∙ number_cost I k (place_of T e) (place_of T f) few
+    grind (arith, common_steps, number_at, number_cost)
 
 -- two periods farther apart than the reach, in either order
 pub apart_free : (I : Session) (n p q : ℕ) → IsReach I n → (q + n < p) ⊎ (p + n < q)
@@ -98,9 +90,7 @@ pub night_free : (periods : List Period) (weights : Weights) (a b : Option Place
     (option_map (λ (at : Place). at.period) b) ≡ 0
 night_free periods weights None b apart = refl
 night_free periods weights (Some a) None apart = refl
-night_free periods weights (Some a) (Some b) (inl after) =
-    kind_cost-swap periods weights over_night a.period b.period
-    ∙ night_apart periods weights a.period b.period (omega arith)
+night_free periods weights (Some a) (Some b) (inl after) = grind (arith, night_apart)
 night_free periods weights (Some a) (Some b) (inr before) =
     night_apart periods weights b.period a.period (omega arith)
 
@@ -133,22 +123,14 @@ free_between cost free (Some p) (Some q) = free p q
 
 pub free_conflicts : (cost : ℕ → ℕ → ℕ) (T : Placing) (xs : List Conflict)
     → ((p q : ℕ) → cost p q ≡ 0) → conflicts_cost cost T xs ≡ 0
-free_conflicts cost T xs free =
-    sum_by-same _ _ (λ (c : Conflict).
-    ap (λ n. c.students * n) (free_between cost free (period_of T c.exam) (period_of T c.other))
-    ∙ mul-zero c.students) xs
-    ∙ sum_by-zeros xs
+free_conflicts cost T xs free = search (rules, free_between, mul-zero, sum_by-same, sum_by-zeros)
 
 -- ---- the four parts
 
 is_part : (cost : ℕ → ℕ → ℕ) (E : Enrolled) (T : Placing) (xs : List Conflict) (n : ℕ)
     → AreEnrolments E → ((p q : ℕ) → cost p q ≤ 100000) → xs ≡ conflicts_of E
     → n ≡ conflicts_cost cost T xs → IsPart cost E T n
-is_part cost E T xs n known small listed is =
-    let sum : n ≡ pair_part cost E (period_of T) =
-    is ∙ ap (conflicts_cost cost T) listed ∙ cost_of_conflicts cost E T in
-    let bound = part_small cost E T known small in
-    record { sum = sum; small = omega arith }
+is_part cost E T xs n known small listed is = grind (arith, cost_of_conflicts, part_small)
 
 -- the costs of row, day, spread and night over all conflicts
 pub parts_by_conflicts : (I : Session) (E : Enrolled) (T : Placing) (xs : List Conflict)

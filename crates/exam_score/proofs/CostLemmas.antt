@@ -1,6 +1,6 @@
 -- In an instance the cap of a cost changes nothing, and each date exists.
-use Rattle.std.proofs.Common.{◌≡◌, ℕ, ◌≤◌, Some, subst, arith, Fits, w32}
-use Rattle.std.specs.Prelude.{min, ◌&&◌, ◌==◌, nat_le, slice_get, IsTrue}
+use Rattle.std.proofs.Common.{◌≡◌, ℕ, ◌≤◌, Some, subst, arith, Fits, w32, rules}
+use Rattle.std.specs.Prelude.{min, ◌&&◌, ◌==◌, slice_get, IsTrue}
 use Rattle.std.proofs.lemmas.List.Elements.{All-get_or}
 use Rattle.std.proofs.lemmas.Option.{get_or_from_slice_get, slice_get_within}
 use Rattle.exam_lists.proofs.Booleans.{cond_le}
@@ -8,22 +8,15 @@ use Rattle.exam_calendar.specs.Dates.{is_civil}
 use Rattle.exam_model.specs.Instance.{Session, IsInstance}
 use Rattle.exam_model.specs.Limits.{PeriodInLimits}
 use Rattle.exam_model.specs.declared.parts.Period.{Period}
-use Rattle.exam_model.specs.Distances.{gap, next_day, is_same_day}
 use Rattle.exam_score.specs.CostOrder.{spread_cost-small}
 use Rattle.exam_score.specs.Kinds.{in_row, in_day, in_spread, Kind, in_table, over_night, cost_in}
 
 pub cost_in-small : (I : Session) → IsInstance I → (k : Kind) (p q : ℕ) → cost_in I k p q ≤ 100000
-cost_in-small I known (in_table in_row) p q =
-    cond_le (is_same_day I.periods p q && (gap p q == 1)) I.weights.row 100000
-    known.limits.weights.0
-cost_in-small I known (in_table in_day) p q =
-    cond_le (is_same_day I.periods p q && nat_le 2 (gap p q)) I.weights.day 100000
-    known.limits.weights.1
+cost_in-small I known (in_table in_row) p q = search (rules, cond_le)
+cost_in-small I known (in_table in_day) p q = search (rules, cond_le)
 cost_in-small I known (in_table in_spread) p q =
     omega (arith, spread_cost-small I.periods I.weights p q)
-cost_in-small I known over_night p q =
-    cond_le (next_day I.periods p q && (gap p q == 1)) I.weights.night 100000
-    known.limits.weights.7
+cost_in-small I known over_night p q = search (rules, cond_le)
 
 min-small : (n : ℕ) → n ≤ 100000 → min n 100000 ≡ n
 min-small n h = omega arith

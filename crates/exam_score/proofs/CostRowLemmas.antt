@@ -1,11 +1,10 @@
 -- The table of costs, cost row by cost row, and periods beyond it.
 use Rattle.std.proofs.Common.{◌≡◌, ℕ, ◌<◌, ◌≤◌, List, [], ◌∷◌, ◌++◌, length, Some, sym, ◌∙◌, ap, arith, get_or, inl, inr, le-ltb, length-append, subst}
-use Rattle.std.specs.Prelude.{slice_get, nat_lt, nat_le, ◌&&◌, ◌==◌, if◌then◌else◌}
+use Rattle.std.specs.Prelude.{slice_get, ◌&&◌, ◌==◌}
 use Rattle.std.proofs.lemmas.Bool.{cases_lt}
 use Rattle.std.proofs.lemmas.Option.{slice_get-get_or, slice_get_past, slice_get_within}
 use Rattle.exam_lists.proofs.Searches.{slice_get_kept, slice_get_push}
 use Rattle.exam_model.specs.Instance.{Session}
-use Rattle.exam_model.specs.Distances.{gap, share_date}
 use Rattle.exam_model.specs.declared.parts.Period.{Period}
 use Rattle.exam_model.specs.declared.parts.Weights.{Weights}
 use Rattle.exam_score.specs.CostOrder.{kind_cost-swap}
@@ -50,9 +49,7 @@ table_more P cost_rows new is each p cost_row found = elim (cases_lt p (length c
 -- the cost row that was found at an index
 pub cost_row_found : (cost_rows : List CostRow) (n p : ℕ) (cost_row : CostRow) → n ≡ p → n < length cost_rows
     → cost_row ≡ get_or cost_rows n cost_row → slice_get cost_rows p ≡ Some cost_row
-cost_row_found cost_rows n p cost_row same within is =
-    subst (λ m. slice_get cost_rows m ≡ Some cost_row) same
-    (slice_get-get_or cost_rows n cost_row within ∙ ap Some (sym is))
+cost_row_found cost_rows n p cost_row same within is = grind (arith, slice_get-get_or)
 
 pub cost_at : (I : Session) (p q : ℕ) (a : Amounts ℕ) → a ≡ costs_of I p q → (k : TableKind)
     → table_amount a k ≡ table_cost I k q p
@@ -68,16 +65,9 @@ free_at I p q free in_spread = ap (λ a. a.spread) free
 
 none_beyond : (periods : List Period) (weights : Weights) (k : TableKind) (p q : ℕ)
     → length periods ≤ q → kind_cost periods weights (in_table k) q p ≡ 0
-none_beyond periods weights in_row p q h =
-    ap (λ o. if share_date o (slice_get periods p) && (gap q p == 1) then weights.row else 0)
-    (slice_get_past periods q h)
-none_beyond periods weights in_day p q h =
-    ap (λ o. if share_date o (slice_get periods p) && nat_le 2 (gap q p) then weights.day else 0)
-    (slice_get_past periods q h)
-none_beyond periods weights in_spread p q h =
-    ap (λ b. if (b && nat_lt p (length periods))
-    && (nat_le 1 (gap q p) && nat_le (gap q p) weights.spread) then 1 else 0)
-    (le-ltb q (length periods) h)
+none_beyond periods weights in_row p q h = grind (arith, slice_get_past)
+none_beyond periods weights in_day p q h = grind (arith, slice_get_past)
+none_beyond periods weights in_spread p q h = grind (arith, le-ltb)
 
 -- no period costs anything with one beyond them
 pub table_beyond : (I : Session) (k : TableKind) (p q : ℕ) → length I.periods ≤ p

@@ -1,6 +1,6 @@
 -- The pairs of a student's exams with an edited one, each counted once.
 use Rattle.std.specs.Prelude.{nat_le}
-use Rattle.std.proofs.Common.{◌≡◌, ℕ, ◌+◌, Bool, true, false, cond, ◌&&◌, ◌||◌, List, [], ◌∷◌, sum_by, Option, Some, None, refl, sym, ◌∙◌, ap, arith}
+use Rattle.std.proofs.Common.{◌≡◌, ℕ, ◌+◌, Bool, true, false, cond, ◌&&◌, ◌||◌, List, [], ◌∷◌, sum_by, Option, Some, None, refl, ◌∙◌, arith, rules}
 use Rattle.std.proofs.lemmas.Bool.Decides.{nat_tests}
 use Rattle.std.proofs.lemmas.List.Sums.{sum_by-cons}
 use Rattle.exam_lists.proofs.Sums.{cond-sum_by, sum_by-add, sum_by-same}
@@ -75,10 +75,4 @@ edited_once cost T edited either nothing exams =
         → cond (has_number edited e) (cost_at cost T edited e f) 0
         + cond (has_number edited f) (cost_at cost T edited f e) 0
         ≡ edited_cost cost T edited e f
-    each e f =
-        either_once (has_number edited e) (has_number edited f) e f
-        (cost_between cost (period_of T e) (period_of T f))
-        (cost_between cost (period_of T f) (period_of T e))
-        (between_swap cost either (period_of T e) (period_of T f))
-        (λ same. ap (λ x. cost_between cost (period_of T e) (period_of T x)) (sym same)
-        ∙ between_none cost nothing (period_of T e))
+    each e f = search (rules, between_none, between_swap, either_once)

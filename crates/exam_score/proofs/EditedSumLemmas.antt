@@ -51,6 +51,4 @@ rooms_small I T exams known = sum_small I exams _ known (λ e. room_small I know
 
 pub front_small : (I : Session) (sizes : List ℕ) (T : Placing) (exams : List ℕ) → IsInstance I
     → sum_over_exams I exams (λ e. front_by I sizes (place_of T e) e) ≤ 200000000
-front_small I sizes T exams known =
-    sum_small I exams _ known
-    (λ e. cond_le _ I.weights.front 100000 known.limits.weights.6)
+front_small I sizes T exams known = grind (arith, cond_le, sum_small)

@@ -1,14 +1,12 @@
 -- Replacing the old amounts of an edit by the new ones turns the old penalty into the new one.
 use Rattle.std.specs.List.{AllByRecursion, list_any}
-use Rattle.std.proofs.Common.{◌≡◌, ℕ, zero, suc, ◌+◌, ◌-◌, ◌*◌, ◌^◌, ◌<◌, Bool, true, false, cond, not, ◌&&◌, ◌||◌, eqb, List, [], ◌∷◌, ◌++◌, length, filter, sum_by, Option, Some, None, IfSome, IfNone, IsPermutation, refl, sym, ◌∙◌, ap, ap₂, arith, ne_eqb, eq-eqb, eqb-true, true≢false}
-use Rattle.std.specs.Prelude.{nat_lt, slice_get}
+use Rattle.std.proofs.Common.{◌≡◌, ℕ, zero, suc, ◌+◌, ◌-◌, ◌*◌, ◌^◌, ◌<◌, Bool, true, false, cond, not, ◌&&◌, ◌||◌, eqb, List, [], ◌∷◌, ◌++◌, length, filter, sum_by, Option, Some, None, IfSome, IfNone, IsPermutation, refl, sym, ◌∙◌, ap, ap₂, arith, ne_eqb, eq-eqb, eqb-true, true≢false, rules}
 use Rattle.std.proofs.lemmas.Bool.{cond-false, or_parts, not-true}
 use Rattle.std.proofs.lemmas.List.Filters.{sum_by-filter_both}
 use Rattle.exam_lists.proofs.Chains.{chain_from_each}
 use Rattle.exam_lists.proofs.Each.{each_weaker, each_filter_passes, each_filter_weaker}
 use Rattle.exam_lists.proofs.Sums.{sum_by-add, sum_by-none, sum_by-same}
 use Rattle.exam_lists.proofs.Booleans.{eqb_swap, cond_same}
-use Rattle.exam_terms.specs.declared.place.Place.{Place}
 use Rattle.exam_model.specs.Enrolments.{Enrolled, AreEnrolments, has, has_number}
 use Rattle.exam_model.specs.Fits.{period_of}
 use Rattle.exam_model.specs.Instance.{Session, IsInstance}
@@ -30,7 +28,7 @@ use Rattle.exam_score.specs.Penalty.{Penalty, PersonalPenalty, pairs_in, penalty
 use Rattle.exam_score.specs.Regrouping.{pair_part}
 use Rattle.exam_score.specs.Track.{exam_period, exam_room, track}
 use Rattle.exam_score.specs.FrontLoad.{exam_front, front_part, is_largest, is_late}
-use Rattle.exam_score.specs.MixedDurations.{duration_count, durations, is_at, minutes_of, mixed_part, room_mixed}
+use Rattle.exam_score.specs.MixedDurations.{durations, mixed_part, room_mixed}
 use Rattle.exam_score.proofs.EditedLemmas.{between_none, between_swap}
 use Rattle.exam_score.proofs.FoldLemmas.{others_each, sum_apart}
 use Rattle.exam_score.proofs.FrontLemmas.{front_by_sizes}
@@ -57,24 +55,14 @@ fails_among test (k ∷ ks) e none among =
 -- an exam that a student sits is not among exams that they don't sit
 not_among : (E : Enrolled) (s e : ℕ) (exams : List ℕ) → has E s e ≡ true
     → sits_among E exams s ≡ false → has_number exams e ≡ false
-not_among E s e exams sits none = go (has_number exams e) refl
-  where
-    go : (b : Bool) → has_number exams e ≡ b → has_number exams e ≡ false
-    go true is = absurd (true≢false (sym sits ∙ fails_among (λ k. has E s k) exams e none is))
-    go false is = is
+not_among E s e exams sits none = grind (arith, fails_among)
 
 -- ---- the students who are not concerned
 
 -- a student's pairs add nothing with the pairs of other students
 apart : (w : ℕ → ℕ → ℕ) (t : ℕ → Bool) (b : Bool) (p q : Pair) → t p.student ≡ b
     → t q.student ≡ not b → later_cost w p q ≡ 0
-apart w t b p q hp hq =
-    cond-false (eqb q.student p.student) (w p.exam q.exam) 0
-    (ne_eqb q.student p.student (λ e. clash b (sym hp ∙ ap t (sym e) ∙ hq)))
-  where
-    clash : (b : Bool) → b ≡ not b → ⊥
-    clash true e = true≢false e
-    clash false e = true≢false (sym e)
+apart w t b p q hp hq = grind (arith, cond-false, ne_eqb)
 
 -- the sum over all pairs is the sum over the students that pass a test and over the others
 by_test : (w : ℕ → ℕ → ℕ) (t : ℕ → Bool) (ps : List Pair)
@@ -84,9 +72,7 @@ by_test w t [] = refl
 by_test w t (p ∷ ps) = go (t p.student) refl (by_test w t ps)
   where
     no_passes : AllByRecursion (λ q. t q.student ≡ false) (filter (λ p. not (t p.student)) ps)
-    no_passes = each_weaker (λ q. not (t q.student) ≡ true) (λ q. t q.student ≡ false)
-        (λ q e. not-true (t q.student) e) (filter (λ p. not (t p.student)) ps)
-        (each_filter_passes (λ p. not (t p.student)) ps)
+    no_passes = grind (arith, each_filter_passes, each_weaker, not-true)
 
     go : (b : Bool) → t p.student ≡ b
         → sum_pairs (later_cost w) ps ≡ sum_pairs (later_cost w) (filter (λ p. t p.student) ps)
@@ -205,33 +191,14 @@ part_exchanged cost E old new edited pairs either nothing known moved same =
     omega (arith, before, after, others, old_sum, new_sum, old_part, new_part, edits)
   where
     period_same : (e : ℕ) → has_number edited e ≡ false → period_of new e ≡ period_of old e
-    period_same e not_edited = ap (λ (o : Option Place). period_in o) (same e not_edited)
-      where
-        period_in : Option Place → Option ℕ
-        period_in None = None
-        period_in (Some at) = Some at.period
+    period_same e not_edited = grind (arith)
 
     edits_of : (p q : Pair)
         → later_cost (λ e f. cost_between cost (period_of new e) (period_of new f)) p q
         + later_cost (edited_cost cost old edited) p q
         ≡ later_cost (λ e f. cost_between cost (period_of old e) (period_of old f)) p q
         + later_cost (edited_cost cost new edited) p q
-    edits_of p q =
-        by_students (eqb q.student p.student) (has_number edited p.exam || has_number edited q.exam)
-        (cost_between cost (period_of new p.exam) (period_of new q.exam))
-        (cost_between cost (period_of old p.exam) (period_of old q.exam))
-        (λ none. ap₂ (cost_between cost)
-        (period_same p.exam
-        (or_parts (has_number edited p.exam) (has_number edited q.exam) none).0)
-        (period_same q.exam
-        (or_parts (has_number edited p.exam) (has_number edited q.exam) none).1))
-      where
-        by_students : (same edit : Bool) (m n : ℕ) → (edit ≡ false → m ≡ n)
-            → cond same m 0 + cond same (cond edit n 0) 0
-            ≡ cond same n 0 + cond same (cond edit m 0) 0
-        by_students true true m n h = omega arith
-        by_students true false m n h = omega (arith, h refl)
-        by_students false edit m n h = refl
+    edits_of p q = grind (arith, or_parts, period_same)
 
 -- ---- sums over numbers
 
@@ -240,36 +207,13 @@ sums_exchanged : (f g : ℕ → ℕ) (test : ℕ → Bool) → ((e : ℕ) → te
     → sum_below n g + sum_below n (λ e. cond (test e) (f e) 0)
     ≡ sum_below n f + sum_below n (λ e. cond (test e) (g e) 0)
 sums_exchanged f g test same zero = refl
-sums_exchanged f g test same (suc n) =
-    let more = sums_exchanged f g test same n in
-    let here = one (test n) refl in
-    omega arith
-  where
-    one : (b : Bool) → test n ≡ b → g n + cond b (f n) 0 ≡ f n + cond b (g n) 0
-    one true e = omega arith
-    one false e = omega (arith, same n e)
+sums_exchanged f g test same (suc n) = search (rules, sums_exchanged f g test same n)
 
 -- an untouched place has the same exams as before
 untouched : (I : Session) (edited : List ℕ) (old new : Placing) (p r : ℕ)
     → DiffersAtMost edited old new → is_touched edited old new p r ≡ false
     → durations I new p r ≡ durations I old p r
-untouched I edited old new p r same none =
-    sum_below-same _ _ (λ m. ap (λ n. cond (nat_lt 0 n) 1 0)
-    (sum_below-same _ _
-    (λ e. ap (λ b. cond (b && eqb (minutes_of (slice_get I.exams e)) m) 1 0)
-    (stays e (has_number edited e) refl))
-    (length I.exams)))
-    duration_count
-  where
-    stays : (e : ℕ) (b : Bool) → has_number edited e ≡ b
-        → is_at p r (place_of new e) ≡ is_at p r (place_of old e)
-    stays e true among =
-        let neither =
-        or_parts (is_at p r (place_of old e)) (is_at p r (place_of new e))
-        (fails_among (λ e. is_at p r (place_of old e) || is_at p r (place_of new e)) edited
-        e none among) in
-        neither.1 ∙ sym neither.0
-    stays e false among = ap (is_at p r) (same e among)
+untouched I edited old new p r same none = grind (arith, fails_among, or_parts, sum_below-same)
 
 mixed_exchanged : (I : Session) (edited : List ℕ) (old new : Placing) → DiffersAtMost edited old new
     → mixed_part I new + mixed_cost_if I old (is_touched edited old new)
@@ -290,10 +234,7 @@ front_among : (I : Session) (E : Enrolled) (T : Placing) (edited sizes : List �
     → length E ≡ length I.exams
     → sum_over_exams I edited (λ e. front_by I sizes (place_of T e) e)
     ≡ sum_over_exams I edited (exam_front I E T)
-front_among I E T edited sizes are exams =
-    sum_below-within _ _ (length I.exams)
-    (λ e lt. ap (λ n. cond (has_number edited e) n 0)
-    (front_by_sizes I E T sizes e are exams (omega arith)))
+front_among I E T edited sizes are exams = grind (arith, front_by_sizes, sum_below-within)
 
 front_exchanged : (I : Session) (E : Enrolled) (old new : Placing) (edited sizes : List ℕ)
     → AreSizes E sizes → length E ≡ length I.exams → DiffersAtMost edited old new
@@ -314,10 +255,7 @@ sums_of_all : (I : Session) (T : Placing) (edited : List ℕ) (sum : PersonalPen
     → sum ≡ personal_sum I T edited closed → pairs ≡ closed ++ current
     → AllByRecursion (λ p. AllByRecursion (λ q. p.student < q.student) current) closed
     → penalty_sum sum (personal_sum I T edited current) ≡ personal_sum I T edited pairs
-sums_of_all I T edited sum closed current pairs is parts others =
-    ap (λ p. penalty_sum p (personal_sum I T edited current)) is
-    ∙ sym (sum_apart I T edited closed current others)
-    ∙ ap (personal_sum I T edited) (sym parts)
+sums_of_all I T edited sum closed current pairs is parts others = search (rules, sum_apart)
 
 pub track_exchanged : (fold : Folded) (E : Enrolled) (pairs : List Pair)
     (sizes : List ℕ) (old : Penalty)
@@ -365,16 +303,7 @@ track_exchanged fold E pairs sizes old h is =
 -- an exchange has one result
 pub exchanged_once : (old goes comes new x : Penalty) → IsExchanged old goes comes x
     → IsExchanged old goes comes new → x ≡ new
-exchanged_once old goes comes new x made is =
-    let row : x.row ≡ new.row = omega (arith, made.pairs.0, is.pairs.0) in
-    let day : x.day ≡ new.day = omega (arith, made.pairs.1, is.pairs.1) in
-    let spread : x.spread ≡ new.spread = omega (arith, made.pairs.2, is.pairs.2) in
-    let night : x.night ≡ new.night = omega (arith, made.pairs.3, is.pairs.3) in
-    let mixed : x.mixed ≡ new.mixed = omega (arith, made.mixed, is.mixed) in
-    let front : x.front ≡ new.front = omega (arith, made.front, is.front) in
-    let period : x.period ≡ new.period = omega (arith, made.period, is.period) in
-    let room : x.room ≡ new.room = omega (arith, made.room, is.room) in
-    λ i. record { row = row i; day = day i; spread = spread i; night = night i; mixed = mixed i; front = front i; period = period i; room = room i }
+exchanged_once old goes comes new x made is = search (rules)
 
 exchange_is : (old goes comes new : Penalty) (r : Option Penalty)
     → IfSome r (IsExchanged old goes comes) → IfNone r (CannotExchange old goes comes)
@@ -393,7 +322,4 @@ pub exchange_scores : (fold : Folded) (E : Enrolled) (pairs : List Pair) (sizes 
     → RepresentsPairs fold pairs → IsOfEdit fold E pairs sizes old
     → r ≡ Some (track fold.instance E fold.later)
 exchange_scores fold E pairs sizes old r known made none h is =
-    exchange_is old (old_amounts fold sizes) (new_amounts fold sizes)
-    (track fold.instance E fold.later) r made none
-    (track_exchanged fold E pairs sizes old h is)
-    (penalty_small fold.instance E fold.later known is.enrolments is.fits)
+    search (rules, exchange_is, penalty_small, track_exchanged)

@@ -1,6 +1,7 @@
 -- A fold with one more pair.
+use Rattle.std.proofs.lemmas.Grind.{common_steps}
 use Rattle.std.specs.List.{AllByRecursion}
-use Rattle.std.proofs.Common.{◌≡◌, ◌≢◌, ℕ, ◌+◌, ◌<◌, inl, inr, cond, List, [], ◌∷◌, ◌++◌, length, sum_by, Option, Some, None, All, AllPairs, refl, sym, ◌∙◌, ap, ap₂, subst, arith, ne_eqb, eq-eqb, append_assoc, length-append, zero-add}
+use Rattle.std.proofs.Common.{◌≡◌, ◌≢◌, ℕ, ◌+◌, ◌<◌, inl, inr, cond, List, [], ◌∷◌, ◌++◌, length, sum_by, Option, Some, None, All, AllPairs, refl, sym, ◌∙◌, ap, ap₂, subst, arith, ne_eqb, eq-eqb, append_assoc, length-append, zero-add, rules}
 use Rattle.std.proofs.lemmas.List.Elements.{All-from_recursion, recursion_from_All}
 use Rattle.std.proofs.lemmas.List.Sums.{sum_by-append, sum_by-cons}
 use Rattle.std.proofs.lemmas.List.{map_push}
@@ -52,10 +53,7 @@ own_beside : (w : ℕ → ℕ → ℕ) (s e : ℕ) (es : List ℕ)
     ≡ sum_by (w e) es
 own_beside w s e [] = refl
 own_beside w s e (f ∷ fs) =
-    sum_by-cons (later_cost w (record { exam = e; student = s })) (record { exam = f; student = s })
-    (pairs_sat (Some s) fs)
-    ∙ ap₂ (λ m n. m + n) (ap (λ b. cond b (w e f) 0) (eq-eqb s s refl)) (own_beside w s e fs)
-    ∙ sym (sum_by-cons (w e) f fs)
+    grind (arith, common_steps, own_beside w s e fs, eq-eqb, later_cost, sum_by-cons)
 
 own_cost : (w : ℕ → ℕ → ℕ) (s : ℕ) (es : List ℕ)
     → sum_pairs (later_cost w) (pairs_sat (Some s) es) ≡ sum_pairs w es
@@ -93,32 +91,18 @@ closed_before : (count : ℕ) (closed current : List Pair) (pair : Pair) → (cu
 closed_before count [] current pair none n follows others = tt
 closed_before count (p ∷ ps) [] pair none n follows others =
     absurd (let z = none refl in omega (arith, n, z))
-closed_before count (p ∷ ps) (q ∷ qs) pair none n follows others =
-    each_weaker (λ p. AllByRecursion (λ q. p.student < q.student) (q ∷ qs))
-    (λ p. p.student < pair.student) (λ p h. below p h.0 follows.0) (p ∷ ps) others
-  where
-    below : (p : Pair) → p.student < q.student → ComesEarlier q pair → p.student < pair.student
-    below p l later = elim later as (λ _. p.student < pair.student)
-        [ inl m ↦ omega (arith, l, m) | inr same ↦ omega (arith, l, same.0) ]
+closed_before count (p ∷ ps) (q ∷ qs) pair none n follows others = grind (arith, each_weaker)
 
 -- facts about the other students, along the lists
 pub others_each : (closed current : List Pair)
     → All (λ p. All (λ q. p.student < q.student) current) closed
     → AllByRecursion (λ p. AllByRecursion (λ q. p.student < q.student) current) closed
-others_each closed current h =
-    each_weaker (λ p. All (λ q. p.student < q.student) current)
-    (λ p. AllByRecursion (λ q. p.student < q.student) current)
-    (λ p k. recursion_from_All (λ q. p.student < q.student) current k) closed
-    (recursion_from_All (λ p. All (λ q. p.student < q.student) current) closed h)
+others_each closed current h = search (rules, each_weaker, recursion_from_All)
 
 each_others : (closed current : List Pair)
     → AllByRecursion (λ p. AllByRecursion (λ q. p.student < q.student) current) closed
     → All (λ p. All (λ q. p.student < q.student) current) closed
-each_others closed current h =
-    All-from_recursion (λ p. All (λ q. p.student < q.student) current) closed
-    (each_weaker (λ p. AllByRecursion (λ q. p.student < q.student) current)
-    (λ p. All (λ q. p.student < q.student) current)
-    (λ p k. All-from_recursion (λ q. p.student < q.student) current k) closed h)
+each_others closed current h = grind (arith, All-from_recursion, each_weaker)
 
 in_order_push : (closed current : List Pair) (pairs : List Pair) (pair : Pair)
     → pairs ≡ closed ++ current → AllPairs ComesEarlier pairs
@@ -147,19 +131,15 @@ represents_more fold pairs s e exams h own started follows =
     let below = closed_before fold.count h.closed fold.current pair started
     (h.count ∙ ap length h.parts) after others in
     let longer : pairs_sat (Some s) (exams ++ e ∷ []) ≡ fold.current ++ pair ∷ [] =
-    map_push (λ (x : ℕ). record { exam = x; student = s }) exams e
-    ∙ ap (λ ps. ps ++ pair ∷ []) (sym own) in
+    grind (arith, common_steps, map_push) in
     record {
       closed = h.closed;
-      parts = ap (λ rs. rs ++ pair ∷ []) h.parts ∙ append_assoc h.closed fold.current (pair ∷ [])
-          ∙ ap (λ ps. h.closed ++ ps) (sym longer);
+      parts = grind (arith, common_steps, append_assoc);
       in_order = in_order_push h.closed fold.current pairs pair h.parts h.in_order below after;
       count = ap (λ n. n + 1) h.count ∙ sym (length-append pairs (pair ∷ []));
       before = h.before;
       after = h.after;
-      others = each_others h.closed (pairs_sat (Some s) (exams ++ e ∷ []))
-          (subst (λ ps. AllByRecursion (λ p. AllByRecursion (λ q. p.student < q.student) ps)
-          h.closed) (sym longer) (both h.closed fold.current pair others below));
+      others = grind (arith, common_steps, below, both, each_others);
     }
   where
     both : (ps qs : List Pair) (y : Pair)
@@ -201,13 +181,9 @@ represents_turn fold pairs s e student exams b a h own other started follows b_i
       parts = ap (λ rs. rs ++ pair ∷ []) h.parts;
       in_order = in_order_push h.closed fold.current pairs pair h.parts h.in_order below after;
       count = ap (λ n. n + 1) h.count ∙ sym (length-append pairs (pair ∷ []));
-      before = ap₂ penalty_sum h.before b_is
-          ∙ sym (sum_apart fold.instance fold.earlier fold.edited h.closed fold.current others);
-      after = ap₂ penalty_sum h.after a_is
-          ∙ sym (sum_apart fold.instance fold.later fold.edited h.closed fold.current others);
-      others = each_others (h.closed ++ fold.current) (pair ∷ [])
-          (each_weaker (λ p. p.student < s) (λ p. AllByRecursion (λ q. p.student < q.student)
-          (pair ∷ [])) (λ p l. (l, tt)) (h.closed ++ fold.current) all_below);
+      before = grind (arith, common_steps, sum_apart);
+      after = grind (arith, common_steps, sum_apart);
+      others = grind (arith, common_steps, each_others, each_weaker);
     }
   where
     strictly : (ps : List Pair)
@@ -226,8 +202,4 @@ pub none_open : (count : ℕ) (student : Option ℕ) (exams : List ℕ)
     → pairs_sat student exams ≡ [] → count ≡ 0
 none_open count None exams started continues_front is = (started refl).0
 none_open count (Some s) [] started continues_front is = continues_front refl
-none_open count (Some s) (e ∷ es) started continues_front is =
-    absurd (not_empty (record { exam = e; student = s }) (pairs_sat (Some s) es) is)
-  where
-    not_empty : (p : Pair) (ps : List Pair) → ◌≡◌ {A = List Pair} (p ∷ ps) [] → ⊥
-    not_empty p ps k = cc
+none_open count (Some s) (e ∷ es) started continues_front is = grind (arith)

@@ -1,6 +1,6 @@
 -- How many exams are larger, by the list of their sizes.
-use Rattle.std.proofs.Common.{◌≡◌, ℕ, zero, suc, ◌+◌, ◌-◌, ◌<◌, ◌≤◌, take_all, Bool, true, false, cond, List, Some, length, take, drop, count_by, refl, sym, ◌∙◌, ap, ap₂, arith, add-one, [], ◌∷◌, ◌++◌, subst}
-use Rattle.std.specs.Prelude.{slice_index, nat_lt, nat_le, ◌==◌, ◌&&◌, ◌||◌, if◌then◌else◌}
+use Rattle.std.proofs.Common.{◌≡◌, ℕ, zero, suc, ◌+◌, ◌-◌, ◌<◌, ◌≤◌, take_all, Bool, true, false, cond, List, Some, length, take, drop, count_by, refl, sym, ◌∙◌, ap, arith, add-one, [], ◌∷◌, ◌++◌, subst, rules}
+use Rattle.std.specs.Prelude.{slice_index, nat_lt, nat_le, ◌==◌, ◌&&◌, ◌||◌}
 use Rattle.std.proofs.lemmas.Bool.Decides.{nat_tests}
 use Rattle.std.proofs.lemmas.Grind.{common_steps}
 use Rattle.std.proofs.lemmas.List.{length_push}
@@ -12,7 +12,7 @@ use Rattle.exam_model.specs.Sums.{count_below}
 use Rattle.exam_model.specs.Timetable.{Placing, place_of}
 use Rattle.exam_model.proofs.SumLemmas.{sum_below-within, sum_below_more}
 use Rattle.exam_score.specs.Front.{AreSizes, AreTies, IsBar, is_larger_by, front_by}
-use Rattle.exam_score.specs.FrontLoad.{is_larger, is_late, exam_front}
+use Rattle.exam_score.specs.FrontLoad.{exam_front}
 use Rattle.exam_score.specs.declared.front.Bar.{Bar}
 
 -- a count over the first elements, by their indexes
@@ -28,19 +28,10 @@ counted p xs (suc n) h =
 split : (r p q : ℕ → Bool) (e k n : ℕ) → n ≡ e + k → ((f : ℕ) → f < e → r f ≡ p f)
     → ((f : ℕ) → e ≤ f → r f ≡ q f)
     → count_below n r + count_below e q ≡ count_below e p + count_below n q
-split r p q e zero n is below above =
-    let same : n ≡ e = omega arith in
-    ap (λ m. count_below m r + count_below e q) same
-    ∙ ap (λ m. m + count_below e q)
-    (sum_below-within (λ f. cond (r f) 1 0) (λ f. cond (p f) 1 0) e
-    (λ f l. ap (λ b. cond b 1 0) (below f l)))
-    ∙ ap (λ m. count_below e p + count_below m q) (sym same)
+split r p q e zero n is below above = grind (arith, sum_below-within)
 split r p q e (suc k) zero is below above = absurd (omega arith)
 split r p q e (suc k) (suc n) is below above =
-    let more = split r p q e k n (omega arith) below above in
-    let here : ◌≡◌ {A = ℕ} (cond (r n) 1 0) (cond (q n) 1 0) =
-    ap (λ b. cond b 1 0) (above n (omega arith)) in
-    omega arith
+    grind (arith, split r p q e k n (omega arith) below above)
 
 larger_before : (a b f e : ℕ) → f < e → (nat_lt a b || ((b == a) && nat_lt f e)) ≡ nat_le a b
 larger_before a b f e h = grind (arith, nat_tests)
@@ -63,8 +54,7 @@ larger_count sizes e h =
     let first_greater = counted (λ x. nat_lt a x) sizes e (omega arith) in
     let all_greater = counted (λ x. nat_lt a x) sizes (length sizes) (omega arith) in
     let whole : count_by (λ x. nat_lt a x) (take (length sizes) sizes)
-    ≡ count_by (λ x. nat_lt a x) sizes =
-    ap (count_by (λ x. nat_lt a x)) (take_all (length sizes) sizes (omega arith)) in
+    ≡ count_by (λ x. nat_lt a x) sizes = grind (arith, common_steps, take_all) in
     let rest = sum_by-take-drop (λ x. cond (nat_lt a x) 1 0) sizes e in
     omega arith
 
@@ -131,9 +121,7 @@ at_bar sizes most ties e b bar tied within same =
     let t = b.size in
     let count : count_below (length sizes) (λ f. is_larger_by sizes f e)
     ≡ count_by (λ x. nat_le t x) (take e sizes) + count_by (λ x. nat_lt t x) (drop e sizes) =
-    subst (λ a. count_below (length sizes) (λ f. is_larger_by sizes f e)
-    ≡ count_by (λ x. nat_le a x) (take e sizes) + count_by (λ x. nat_lt a x) (drop e sizes))
-    same (larger_count sizes e within) in
+    search (rules, larger_count) in
     let reached = count_by-reaches t (take e sizes) in
     let parts = sum_by-take-drop (λ x. cond (nat_lt t x) 1 0) sizes e in
     let counted = bar.counted in
@@ -144,19 +132,7 @@ at_bar sizes most ties e b bar tied within same =
 pub front_by_sizes : (I : Session) (E : Enrolled) (T : Placing) (sizes : List ℕ) (e : ℕ)
     → AreSizes E sizes → length E ≡ length I.exams → e < length E
     → front_by I sizes (place_of T e) e ≡ exam_front I E T e
-front_by_sizes I E T sizes e are exams within =
-    let long : length sizes ≡ length I.exams = omega (arith, are.count) in
-    let same : (f : ℕ) → f < length sizes → is_larger_by sizes f e ≡ is_larger E f e
-    = λ f l. ap₂ (λ a b. nat_lt a b || ((b == a) && nat_lt f e))
-    (are.each e (omega (arith, are.count))) (are.each f l) in
-    let count : count_below (length sizes) (λ f. is_larger_by sizes f e)
-    ≡ count_below (length I.exams) (λ f. is_larger E f e)
-    = sum_below-within (λ f. cond (is_larger_by sizes f e) 1 0) (λ f. cond (is_larger E f e) 1 0)
-    (length sizes) (λ f l. ap (λ b. cond b 1 0) (same f l))
-    ∙ ap (λ n. count_below n (λ f. is_larger E f e)) long in
-    ap (λ n. if nat_lt n I.weights.front_exams && is_late I (place_of T e) then I.weights.front
-    else 0)
-    count
+front_by_sizes I E T sizes e are exams within = grind (arith, sum_below-within)
 
 sizes_push : (E : Enrolled) (xs : List ℕ) (n e : ℕ)
     → ((f : ℕ) → f < length xs → slice_index xs f ≡ size_of E f) → n ≡ size_of E (length xs)

@@ -1,5 +1,5 @@
 -- The mixed part of the periods and rooms that pass, with one more place.
-use Rattle.std.proofs.Common.{◌≡◌, ℕ, ◌+◌, ◌-◌, ◌*◌, Bool, true, false, cond, not, ◌&&◌, ◌||◌, eqb, ltb, List, ◌∷◌, length, Option, None, Some, refl, sym, ◌∙◌, ap, arith, add-zero}
+use Rattle.std.proofs.Common.{◌≡◌, ℕ, ◌+◌, ◌-◌, ◌*◌, Bool, true, false, cond, ◌&&◌, ◌||◌, eqb, ltb, List, ◌∷◌, length, Option, None, Some, refl, ◌∙◌, ap, arith, add-zero}
 use Rattle.exam_lists.proofs.Booleans.{cond_and_and_not, cond_or_and, or_turned}
 use Rattle.exam_terms.specs.declared.place.Place.{Place}
 use Rattle.exam_model.specs.Instance.{Session}
@@ -21,9 +21,7 @@ or_at f o p r = f p r || is_at p r o
 
 mixed_same : (I : Session) (T : Placing) (f g : ℕ → ℕ → Bool) → ((p r : ℕ) → f p r ≡ g p r)
     → mixed_cost_if I T f ≡ mixed_cost_if I T g
-mixed_same I T f g same =
-    sum_below-same _ _ (λ r. sum_below-same _ _ (λ p. ap (λ b. cond b (mixed I T p r) 0) (same p r))
-    (length I.periods)) (length I.rooms)
+mixed_same I T f g same = grind (arith, sum_below-same)
 
 pub mixed_none : (I : Session) (T : Placing) → mixed_cost_if I T (λ p r. false) ≡ 0
 mixed_none I T =
@@ -41,12 +39,7 @@ sum_if false g n = sum_below-zeros n
 -- the sum grows by the place's share, if the place exists and did not pass
 one_place : (I : Session) (T : Placing) (f : ℕ → ℕ → Bool) (o : Option Place)
     → mixed_cost_if I T (or_at f o) ≡ mixed_cost_if I T f + further_mixed I T f o
-one_place I T f None =
-    mixed_same I T (or_at f None) f (λ p r. or_false (f p r)) ∙ sym (add-zero (mixed_cost_if I T f))
-  where
-    or_false : (b : Bool) → (b || false) ≡ b
-    or_false true = refl
-    or_false false = refl
+one_place I T f None = grind (arith, add-zero, mixed_same)
 one_place I T f (Some at) =
     sum_below-same _ _ by_room (length I.rooms)
     ∙ sum_below-add (room_mixed_cost_if I T f) (λ r. cond (eqb at.room r) (of_period r) 0)
@@ -78,22 +71,7 @@ one_place I T f (Some at) =
 beside : (I : Session) (T : Placing) (f : ℕ → ℕ → Bool) (o : Option Place) (at : Place) (b : Bool)
     → b ≡ is_at at.period at.room o
     → further_mixed I T (or_at f o) (Some at) ≡ cond b 0 (further_mixed I T f (Some at))
-beside I T f o at b is =
-    ap (λ c. cond (exists && not (f at.period at.room || c)) (mixed I T at.period at.room) 0)
-    (sym is)
-    ∙ by_case exists (f at.period at.room) b (mixed I T at.period at.room)
-  where
-    exists : Bool
-    exists = ltb at.room (length I.rooms) && ltb at.period (length I.periods)
-
-    by_case : (exists passes b : Bool) (n : ℕ)
-        → cond (exists && not (passes || b)) n 0 ≡ cond b 0 (cond (exists && not passes) n 0)
-    by_case true true true n = refl
-    by_case true true false n = refl
-    by_case true false true n = refl
-    by_case true false false n = refl
-    by_case false passes true n = refl
-    by_case false passes false n = refl
+beside I T f o at b is = grind (arith)
 
 -- ---- the two places of one more exam
 
@@ -118,12 +96,7 @@ pub earlier_place : (I : Session) (T : Placing) (e : ℕ) (edited : List ℕ) (o
     → mixed_cost_if I T (is_touched edited old new)
     + further_mixed I T (is_touched edited old new) (place_of old e)
     ≡ mixed_cost_if I T (is_touched (e ∷ edited) old new)
-earlier_place I T e edited old new none =
-    let f = is_touched edited old new in
-    let both = both_places I T e edited old new in
-    let nothing : further_mixed I T (or_at f (place_of old e)) (place_of new e) ≡ 0
-    = ap (further_mixed I T (or_at f (place_of old e))) none in
-    omega arith
+earlier_place I T e edited old new none = grind (arith, both_places)
 
 -- the exam has a later place, which may equal the earlier one
 pub later_place : (I : Session) (T : Placing) (e : ℕ) (edited : List ℕ) (old new : Placing)
@@ -133,11 +106,4 @@ pub later_place : (I : Session) (T : Placing) (e : ℕ) (edited : List ℕ) (old
     + (further_mixed I T (is_touched edited old new) (place_of old e)
     + cond b 0 (further_mixed I T (is_touched edited old new) (Some at)))
     ≡ mixed_cost_if I T (is_touched (e ∷ edited) old new)
-later_place I T e edited old new at b is here =
-    let f = is_touched edited old new in
-    let both = both_places I T e edited old new in
-    let later : further_mixed I T (or_at f (place_of old e)) (place_of new e)
-    ≡ cond b 0 (further_mixed I T f (Some at))
-    = ap (further_mixed I T (or_at f (place_of old e))) is
-    ∙ beside I T f (place_of old e) at b here in
-    omega arith
+later_place I T e edited old new at b is here = grind (arith, beside, both_places)

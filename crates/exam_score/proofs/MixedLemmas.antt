@@ -1,9 +1,10 @@
 -- The durations of a room and period, counted along stays in order.
+use Rattle.std.proofs.lemmas.Grind.{common_steps}
 use Rattle.std.specs.List.{AllByRecursion}
 use Rattle.std.specs.Ordering.{is_lt, nat_cmp, ordering_then}
 use Rattle.std.specs.Cmp.{then_total, on_total, nat_cmp_total, IsTotalOrder}
 use Rattle.std.specs.Prelude.{◌==◌, ◌&&◌, nat_lt, slice_get}
-use Rattle.std.proofs.Common.{◌≡◌, ◌≢◌, ℕ, zero, suc, ◌+◌, ◌-◌, ◌*◌, ◌<◌, ◌≤◌, inl, inr, Bool, true, false, cond, not, eqb, ltb, List, [], ◌∷◌, ◌++◌, length, get_or, Some, None, count_by, AllPairs, IsPermutation, IsSorted, Ordering, refl, sym, ◌∙◌, ap, ap₂, arith, add-zero, zero-add, lt-ltb}
+use Rattle.std.proofs.Common.{◌≡◌, ◌≢◌, ℕ, zero, suc, ◌+◌, ◌-◌, ◌*◌, ◌<◌, ◌≤◌, inl, inr, Bool, true, false, cond, eqb, ltb, List, [], ◌∷◌, ◌++◌, length, get_or, Some, None, count_by, AllPairs, IsPermutation, IsSorted, Ordering, refl, sym, ◌∙◌, ap, ap₂, arith, add-zero, zero-add, lt-ltb, rules}
 use Rattle.std.proofs.lemmas.Bool.{cond-true, cases_eq, cases_lt, eq-eqb, ne_eqb}
 use Rattle.std.proofs.lemmas.Bool.Decides.{nat_tests}
 use Rattle.std.proofs.lemmas.List.Elements.{recursion_from_All}
@@ -16,12 +17,12 @@ use Rattle.exam_lists.proofs.Each.{each_weaker}
 use Rattle.exam_lists.proofs.Sums.{sum_by-none}
 use Rattle.exam_model.specs.Instance.{Session, IsInstance}
 use Rattle.exam_model.specs.Timetable.{Placing, place_of}
-use Rattle.exam_model.specs.Fits.{PlaceExists, Suits}
+use Rattle.exam_model.specs.Fits.{Suits}
 use Rattle.exam_model.specs.Sums.{sum_below, count_below}
 use Rattle.exam_model.specs.declared.parts.Exam.{Exam}
 use Rattle.exam_terms.specs.declared.place.Place.{Place}
 use Rattle.exam_model.proofs.SumLemmas.{sum_below-same, sum_below-zeros, sum_below-add, sum_below-times, sum_below-at, sum_below_more}
-use Rattle.exam_score.specs.MixedDurations.{duration_count, minutes_of, is_at, has_duration, exams_with_duration, mixed_part}
+use Rattle.exam_score.specs.MixedDurations.{duration_count, has_duration, exams_with_duration, mixed_part}
 use Rattle.exam_score.specs.Stays.{is_stay, StayExists, AreStays, NotAfter, next_differs, further_durations}
 use Rattle.exam_score.specs.declared.mixed.PlacedDuration.{PlacedDuration}
 
@@ -35,22 +36,13 @@ pub counts_more_some : (I : Session) (T : Placing) (e : ℕ) (stays : List Place
     → count_by (is_stay p r m)
     (stays ++ record { period = at.period; room = at.room; minutes = x.minutes } ∷ [])
     ≡ count_below (e + 1) (has_duration I T p r m)
-counts_more_some I T e stays at x placed is known p r m =
-    sum_by_push (λ z. cond (is_stay p r m z) 1 0) stays
-    (record { period = at.period; room = at.room; minutes = x.minutes })
-    ∙ ap₂ (λ a b. a + b) (known p r m)
-    (λ i. cond (is_at p r (sym placed i) && (minutes_of (sym is i) == m)) 1 0)
-    ∙ sym (sum_below_more (λ e. cond (has_duration I T p r m e) 1 0) e)
+counts_more_some I T e stays at x placed is known p r m = grind (arith, sum_below_more, sum_by_push)
 
 pub counts_more_none : (I : Session) (T : Placing) (e : ℕ) (stays : List PlacedDuration)
     → place_of T e ≡ None
     → ((p r m : ℕ) → count_by (is_stay p r m) stays ≡ count_below e (has_duration I T p r m))
     → (p r m : ℕ) → count_by (is_stay p r m) stays ≡ count_below (e + 1) (has_duration I T p r m)
-counts_more_none I T e stays unplaced known p r m =
-    known p r m ∙ sym (add-zero (count_below e (has_duration I T p r m)))
-    ∙ (λ i. count_below e (has_duration I T p r m)
-    + cond (is_at p r (sym unplaced i) && (minutes_of (slice_get I.exams e) == m)) 1 0)
-    ∙ sym (sum_below_more (λ e. cond (has_duration I T p r m e) 1 0) e)
+counts_more_none I T e stays unplaced known p r m = grind (arith, add-zero, sum_below_more)
 
 -- ---- durations by the stays
 
@@ -104,11 +96,7 @@ place_more x xs b p r n lt is =
     both true = ap (λ k. k - 1) (one_more (λ m. count_by (is_stay p r m) xs) x.minutes n lt)
         ∙ less_one (count_below n (λ m. nat_lt 0 (count_by (is_stay p r m) xs)))
         (count_by (is_stay p r x.minutes) xs)
-    both false =
-        ap (λ k. k - 1)
-        (sum_below-same _ _
-        (λ m. ap (λ k. cond (nat_lt 0 k) 1 0) (zero-add (count_by (is_stay p r m) xs))) n)
-        ∙ sym (add-zero _)
+    both false = grind (arith, add-zero, sum_below-same, zero-add)
 
 -- a sum over all places whose terms differ from 0 only at one place
 one_place : (u : ℕ → ℕ → ℕ) (a b periods rooms : ℕ) → a < periods → b < rooms
@@ -177,10 +165,7 @@ right_there p r m z a b c =
 
 none_of : (p r m : ℕ) (xs : List PlacedDuration) → AllByRecursion (λ z. is_stay p r m z ≡ false) xs
     → count_by (is_stay p r m) xs ≡ 0
-none_of p r m xs h =
-    sum_by-none (λ z. cond (is_stay p r m z) 1 0) xs
-    (each_weaker (λ z. is_stay p r m z ≡ false) (λ z. ◌≡◌ {A = ℕ} (cond (is_stay p r m z) 1 0) 0)
-    (λ z e. ap (λ b. cond b 1 0) e) xs h)
+none_of p r m xs h = grind (arith, each_weaker, sum_by-none)
 
 nothing_there : (p r : ℕ) (xs : List PlacedDuration) → ((m : ℕ) → count_by (is_stay p r m) xs ≡ 0)
     → stay_durations xs p r ≡ 0
@@ -198,22 +183,11 @@ at_least f k (suc n) lt = elim (cases_lt k n) as (λ _. f k ≤ sum_below n f + 
 -- three stays in order: if the first and the third have the same place, so has the second
 back_place : (x y z : PlacedDuration) → NotAfter x y → NotAfter y z → z.period ≡ x.period → z.room ≡ x.room
     → (y.period ≡ x.period) × (y.room ≡ x.room)
-back_place x y z xy yz zp zr =
-    let a = xy.periods in
-    let b = yz.periods in
-    let yp : y.period ≡ x.period = omega arith in
-    let c = xy.rooms (sym yp) in
-    let d = yz.rooms (yp ∙ sym zp) in
-    let yr : y.room ≡ x.room = omega arith in
-    (yp, yr)
+back_place x y z xy yz zp zr = grind (arith)
 
 back_minutes : (x y z : PlacedDuration) → NotAfter x y → NotAfter y z → z.period ≡ x.period → z.room ≡ x.room
     → z.minutes ≡ x.minutes → y.minutes ≡ x.minutes
-back_minutes x y z xy yz zp zr zm =
-    let place = back_place x y z xy yz zp zr in
-    let a = xy.minutes (sym place.0) (sym place.1) in
-    let b = yz.minutes (place.0 ∙ sym zp) (place.1 ∙ sym zr) in
-    omega arith
+back_minutes x y z xy yz zp zr zm = grind (arith, back_place)
 
 -- the next stay has another place: then so have all later ones
 next_elsewhere : (x y : PlacedDuration) (ys : List PlacedDuration) → NotAfter x y → AllByRecursion (NotAfter y) ys
@@ -235,14 +209,7 @@ next_same : (x y : PlacedDuration) (ys : List PlacedDuration) → y.period ≡ x
     → y.minutes ≡ x.minutes
     → cond (nat_lt 0 (stay_durations (y ∷ ys) x.period x.room))
     (fresh (count_by (is_stay x.period x.room x.minutes) (y ∷ ys))) 0 ≡ 0
-next_same x y ys a b c =
-    let counted = sum_by-cons (λ z. cond (is_stay x.period x.room x.minutes z) 1 0) y ys in
-    let here : ◌≡◌ {A = ℕ} (cond (is_stay x.period x.room x.minutes y) 1 0) 1 =
-    ap (λ b. cond b 1 0) (right_there x.period x.room x.minutes y a b c) in
-    let some : 0 < count_by (is_stay x.period x.room x.minutes) (y ∷ ys) = omega arith in
-    ap (λ b. cond (nat_lt 0 (stay_durations (y ∷ ys) x.period x.room)) (cond b 0 1) 0)
-    (lt-ltb 0 _ some)
-    ∙ cond_same (nat_lt 0 (stay_durations (y ∷ ys) x.period x.room)) 0
+next_same x y ys a b c = grind (arith, common_steps, cond_same, lt-ltb, right_there, sum_by-cons)
 
 -- the next stay has the same place and another duration: then it is a further one
 next_further : (x y : PlacedDuration) (ys : List PlacedDuration) → NotAfter x y → AllByRecursion (NotAfter y) ys
@@ -277,37 +244,7 @@ next_is : (x : PlacedDuration) (xs : List PlacedDuration) → AllByRecursion (No
     ≡ next_differs x xs
 next_is x [] after chain short = ap (λ k. cond (nat_lt 0 k) 1 0) (sum_below-zeros duration_count)
 next_is x (y ∷ ys) after chain short =
-    elim (cases_eq y.period x.period)
-    as (λ _. cond (nat_lt 0 (stay_durations (y ∷ ys) x.period x.room))
-    (fresh (count_by (is_stay x.period x.room x.minutes) (y ∷ ys))) 0
-    ≡ next_differs x (y ∷ ys)) [
-      | inl a ↦ elim (cases_eq y.room x.room)
-          as (λ _. cond (nat_lt 0 (stay_durations (y ∷ ys) x.period x.room))
-          (fresh (count_by (is_stay x.period x.room x.minutes) (y ∷ ys))) 0
-          ≡ next_differs x (y ∷ ys)) [
-            | inl b ↦ elim (cases_eq y.minutes x.minutes)
-                as (λ _. cond (nat_lt 0 (stay_durations (y ∷ ys) x.period x.room))
-                (fresh (count_by (is_stay x.period x.room x.minutes) (y ∷ ys))) 0
-                ≡ next_differs x (y ∷ ys)) [
-                  | inl c ↦ next_same x y ys a b c
-                      ∙ sym (λ i. cond
-                      ((eq-eqb y.period x.period a i && eq-eqb y.room x.room b i)
-                      && not (eq-eqb y.minutes x.minutes c i)) 1 0)
-                  | inr c ↦ next_further x y ys after.0 chain.0 short.0 a b c
-                      ∙ sym (λ i. cond
-                      ((eq-eqb y.period x.period a i && eq-eqb y.room x.room b i)
-                      && not (ne_eqb y.minutes x.minutes c i)) 1 0)
-                ]
-            | inr b ↦ next_elsewhere x y ys after.0 chain.0 (λ _ r. b r)
-                ∙ sym (λ i. cond
-                ((eq-eqb y.period x.period a i && ne_eqb y.room x.room b i)
-                && not (y.minutes == x.minutes)) 1 0)
-          ]
-      | inr a ↦ next_elsewhere x y ys after.0 chain.0 (λ p _. a p)
-          ∙ sym (λ i. cond
-          ((ne_eqb y.period x.period a i && (y.room == x.room)) && not (y.minutes == x.minutes)) 1
-          0)
-    ]
+    grind (arith, cases_eq, eq-eqb, ne_eqb, next_elsewhere, next_further, next_same)
 
 -- ---- along the whole list
 
@@ -318,13 +255,7 @@ short I z e = let h = e.minutes in omega arith
 pub further_is : (I : Session) (xs : List PlacedDuration) → IsChain NotAfter xs
     → AllByRecursion (StayExists I) xs
     → all_but_one xs (length I.periods) (length I.rooms) ≡ further_durations xs
-further_is I [] chain exist =
-    sum_below-same _ _
-    (λ r. sum_below-same _ _ (λ p. ap (λ k. k - 1) (sum_below-zeros duration_count))
-    (length I.periods)
-    ∙ sum_below-zeros (length I.periods))
-    (length I.rooms)
-    ∙ sum_below-zeros (length I.rooms)
+further_is I [] chain exist = search (rules, sum_below-same, sum_below-zeros)
 further_is I (x ∷ xs) chain exist =
     let here = exist.0 in
     let more = more_stays x xs (length I.periods) (length I.rooms) here.period here.room
@@ -383,8 +314,7 @@ mixed_is I T stays sorted are moved order =
     (recursion_from_All (StayExists I) sorted
     (All-permutation (StayExists I) stays sorted moved are.exist)) in
     let counts : (p r m : ℕ) → count_by (is_stay p r m) sorted ≡ exams_with_duration I T p r m =
-    λ p r m. sum_by-IsPermutation (λ z. cond (is_stay p r m z) 1 0) stays sorted moved
-    ∙ are.counts p r m in
+    grind (arith, common_steps, sum_by-IsPermutation) in
     ap (λ n. n * w) (sym whole)
     ∙ sym (sum_below-times (λ r. sum_below (length I.periods) (λ p. stay_durations sorted p r - 1))
     w (length I.rooms))
@@ -399,12 +329,4 @@ mixed_is I T stays sorted are moved order =
 pub stay_exists : (I : Session) (T : Placing) (e : ℕ) (at : Place) (x : Exam) → IsInstance I
     → Suits I T → e < length T → place_of T e ≡ Some at → slice_get I.exams e ≡ Some x
     → StayExists I (record { period = at.period; room = at.room; minutes = x.minutes })
-stay_exists I T e at x known fits within placed is =
-    let there : PlaceExists I (Some at) = rw placed at (fits.places e None within) in
-    let long : (get_or I.exams e x).minutes ≤ 1440 =
-    known.limits.exams e x (let h = fits.exams in omega arith) in
-    record {
-      period = there.0;
-      room = there.1;
-      minutes = rw (get_or_from_slice_get I.exams e x x is) at long;
-    }
+stay_exists I T e at x known fits within placed is = grind (arith, get_or_from_slice_get)

@@ -1,6 +1,7 @@
 -- The sum over pairs of exams is the sum over rows of placed exams, and over their tallies.
+use Rattle.std.proofs.lemmas.Grind.{common_steps}
 use Rattle.std.specs.List.{cons_option}
-use Rattle.std.proofs.Common.{◌≡◌, ℕ, ◌+◌, ◌*◌, ◌≤◌, cond, eqb, List, [], ◌∷◌, length, Some, None, option_map, sum_by, filter_map, refl, sym, ◌∙◌, ap, ap₂, arith, zero-add, mul-zero, zero-mul}
+use Rattle.std.proofs.Common.{◌≡◌, ℕ, ◌+◌, ◌*◌, ◌≤◌, cond, eqb, List, [], ◌∷◌, length, Some, None, option_map, sum_by, filter_map, refl, sym, ◌∙◌, ap, ap₂, arith, zero-add, mul-zero, zero-mul, rules}
 use Rattle.std.proofs.Math.Nat.{mul_comm, mul_assoc}
 use Rattle.std.proofs.lemmas.List.Sums.{sum_by-cons}
 use Rattle.exam_lists.proofs.Sums.{sum_by-same, sum_by-times, sum_by-zeros, sum_by-ones}
@@ -50,8 +51,7 @@ beside_placed cost T s x (q ∷ ps) =
     + sum_by (row_pair cost (row_at x s)) rows
     ≡ sum_by (row_pair cost (row_at x s))
     (cons_option (option_map (λ period. row_at period q.student) o) rows)) [
-      | None ↦ ap (λ n. n + sum_by (row_pair cost (row_at x s)) rows) (cond_same (eqb q.student s) 0)
-          ∙ zero-add _
+      | None ↦ grind (arith, common_steps, cond_same, zero-add)
       | Some y ↦ sym (sum_by-cons (row_pair cost (row_at x s)) (row_at y q.student) rows)
     ])
 
@@ -69,9 +69,7 @@ by_placed cost T (p ∷ ps) =
     (λ q. cond (eqb q.student p.student) (cost_between cost o (period_of T q.exam)) 0) ps
     + cost_with cost rows
     ≡ cost_with cost (cons_option (option_map (λ period. row_at period p.student) o) rows)) [
-      | None ↦ ap (λ n. n + cost_with cost rows)
-          (sum_by-same _ _ (λ q. cond_same (eqb q.student p.student) 0) ps ∙ sum_by-zeros ps)
-          ∙ zero-add _
+      | None ↦ search (rules, cond_same, sum_by-same, sum_by-zeros, zero-add)
       | Some x ↦ ap (λ n. n + cost_with cost rows) (beside_placed cost T p.student x ps)
     ])
 
@@ -109,9 +107,7 @@ tallied_cost cost rows tallies either nothing counted =
     let by_tallies = sum_pairs-twice (tally_pair cost) none turned tallies in
     let same : sum_by (λ x. sum_by (row_pair cost x) rows) rows
     ≡ sum_by (λ x. sum_by (tally_pair cost x) tallies) tallies
-    = sum_by-same _ _ (λ x. counted (row_pair cost x)) rows
-    ∙ counted (λ r. sum_by (tally_sum (row_pair cost r)) tallies)
-    ∙ sum_by-same _ _ each tallies in
+    = grind (arith, common_steps, each, sum_by-same) in
     omega arith
   where
     none : (x : Tally) → tally_pair cost x x ≡ 0
@@ -120,11 +116,7 @@ tallied_cost cost rows tallies either nothing counted =
         ∙ ap (λ n. n * x.exams) (mul-zero x.exams) ∙ zero-mul x.exams
 
     turned : (x y : Tally) → tally_pair cost x y ≡ tally_pair cost y x
-    turned x y =
-        ap (λ n. x.exams * n * y.exams)
-        (row_pair-turned cost either (row_at x.period x.student) (row_at y.period y.student))
-        ∙ turned_product x.exams
-        (row_pair cost (row_at y.period y.student) (row_at x.period x.student)) y.exams
+    turned x y = grind (arith, row_pair-turned, turned_product)
 
     each : (x : Tally) → tally_sum (λ r. sum_by (tally_sum (row_pair cost r)) tallies) x
         ≡ sum_by (tally_pair cost x) tallies
@@ -155,11 +147,7 @@ tallied_rows E T sittings tallies long all counted f =
 
 few_rows : (E : Enrolled) (T : Placing) → AreEnrolments E
     → length (filter_map (row_of T) (pairs_of E)) ≤ 200000
-few_rows E T known =
-    let few = rows_few T (pairs_of E) in
-    let is = (are_pairs E known).count in
-    let most = known.pairs in
-    omega arith
+few_rows E T known = grind (arith, are_pairs, rows_few)
 
 -- the sittings have at most as many students as there are pairs
 pub few_seats : (E : Enrolled) (T : Placing) (sittings : List PlacedExam) → AreEnrolments E
@@ -212,8 +200,7 @@ is_part : (cost : ℕ → ℕ → ℕ) (E : Enrolled) (T : Placing) (n : ℕ) (t
     → n ≡ tally_cost cost tallies → IsPart cost E T n
 is_part cost E T n tallies known either nothing small counted is =
     let rows : List Row = filter_map (row_of T) (pairs_of E) in
-    let total : n ≡ cost_with cost rows =
-    is ∙ tallied_cost cost rows tallies either nothing counted in
+    let total : n ≡ cost_with cost rows = grind (arith, common_steps, tallied_cost) in
     let bound = cost_with-small cost rows small (few_rows E T known) in
     record { sum = total ∙ part_of_rows cost E T known; small = omega arith }
 

@@ -1,11 +1,11 @@
 -- The penalty by pairs of exams is the penalty by students.
+use Rattle.std.proofs.lemmas.Grind.{common_steps}
 use Rattle.std.specs.List.{list_any, cons_option, AllByRecursion}
 use Rattle.std.specs.Prelude.{◌==◌}
-use Rattle.std.proofs.Common.{◌≡◌, ◌≢◌, ℕ, ◌+◌, ◌*◌, ◌<◌, ◌≤◌, true, false, cond, ◌&&◌, inl, inr, eqb, ltb, List, [], ◌∷◌, Option, Some, None, map, sum_by, filter, filter_map, count_by, length, refl, sym, ◌∙◌, ap, arith, zero-add, eqb-true, lt-ltb, le-ltb}
+use Rattle.std.proofs.Common.{◌≡◌, ◌≢◌, ℕ, ◌+◌, ◌*◌, ◌<◌, ◌≤◌, true, false, cond, ◌&&◌, eqb, ltb, List, [], ◌∷◌, Option, Some, None, sum_by, filter_map, count_by, length, refl, sym, ◌∙◌, ap, arith, zero-add, eqb-true, lt-ltb, le-ltb}
 use Rattle.std.proofs.lemmas.List.Sums.{sum_by-cons}
 use Rattle.std.proofs.lemmas.List.Elements.{recursion_from_All}
 use Rattle.std.proofs.lemmas.Bool.{cond-true, cond-false, and_parts}
-use Rattle.std.proofs.lemmas.Bool.Decides.{nat_tests}
 use Rattle.exam_lists.proofs.Booleans.{cond_and_times, cond_and_turned}
 use Rattle.exam_lists.proofs.Chains.{IsChain, chain_from_index, chain_weaker}
 use Rattle.exam_lists.proofs.Each.{each_weaker}
@@ -45,13 +45,7 @@ later_cost w p q = cond (eqb q.student p.student) (w p.exam q.exam) 0
 -- ---- the sums
 
 other_pair : (s e : ℕ) (p q : Pair) → ComesBefore p q → is_pair s e p ≡ true → is_pair s e q ≡ false
-other_pair s e p q before is =
-    let parts = and_parts (eqb p.student s) (eqb p.exam e) is in
-    let own_student = eqb-true p.student s parts.0 in
-    let own_exam = eqb-true p.exam e parts.1 in
-    let P : Type 0 = is_pair s e q ≡ false in
-    elim before as (λ _. is_pair s e q ≡ false)
-    [ inl less ↦ grind (arith, nat_tests) | inr same ↦ grind (arith, nat_tests) ]
+other_pair s e p q before is = grind (arith, and_parts, eqb-true)
 
 -- one pair of exams: their shared students, as pairs of pairs
 shared_as_pairs : (w : ℕ) (pairs : List Pair) (e f : ℕ) → IsChain ComesBefore pairs
@@ -102,16 +96,11 @@ pub no_self : (w : ℕ → ℕ → ℕ) (p : Pair) → pair_cost w p p ≡ 0
 no_self w p = cond-false (ltb p.exam p.exam) _ 0 (le-ltb p.exam p.exam (omega arith))
 
 pub no_back : (w : ℕ → ℕ → ℕ) (p q : Pair) → ComesBefore p q → pair_cost w q p ≡ 0
-no_back w p q before =
-    cond-false (ltb q.exam p.exam) _ 0
-    (le-ltb q.exam p.exam (elim before as (λ _. p.exam ≤ q.exam)
-    [ inl less ↦ omega arith | inr same ↦ omega (arith, same.0) ]))
+no_back w p q before = grind (arith, cond-false, le-ltb)
 
 pub in_order_cost : (w : ℕ → ℕ → ℕ) (p q : Pair) → ComesBefore p q
     → pair_cost w p q ≡ later_cost w p q
-in_order_cost w p q before =
-    elim before as (λ _. pair_cost w p q ≡ later_cost w p q)
-    [ inl less ↦ cond-true (ltb p.exam q.exam) _ 0 (lt-ltb p.exam q.exam less) | inr same ↦ grind (arith, nat_tests) ]
+in_order_cost w p q before = grind (arith, cond-true, lt-ltb)
 
 -- the sum over all pairs of exams is the sum over the pairs in order
 pub by_rows : (w : ℕ → ℕ → ℕ) (n : ℕ) (pairs : List Pair) → AreOrdered n pairs
@@ -129,25 +118,12 @@ pub sum_by-exams_of : (k : ℕ → ℕ) (pairs : List Pair) (s : ℕ)
     → sum_by k (exams_of pairs s) ≡ sum_by (λ q. cond (eqb q.student s) (k q.exam) 0) pairs
 sum_by-exams_of k [] s = refl
 sum_by-exams_of k (p ∷ ps) s =
-    (elim (eqb p.student s)
-    as (λ b. sum_by k
-    (map (λ (p : Pair). p.exam)
-    (cond b (p ∷ filter (λ p. eqb p.student s) ps) (filter (λ p. eqb p.student s) ps)))
-    ≡ cond b (k p.exam) 0 + sum_by k (exams_of ps s))
-    [ true ↦ sum_by-cons k p.exam (exams_of ps s) | false ↦ sym (zero-add _) ])
-    ∙ ap (λ n. cond (eqb p.student s) (k p.exam) 0 + n) (sum_by-exams_of k ps s)
-    ∙ sym (sum_by-cons (λ (q : Pair). cond (eqb q.student s) (k q.exam) 0) p ps)
+    grind (arith, common_steps, sum_by-exams_of k ps s, sum_by-cons, zero-add)
 
 sum_pairs-exams_of : (w : ℕ → ℕ → ℕ) (p : Pair) (ps : List Pair) (s : ℕ)
     → sum_pairs w (exams_of (p ∷ ps) s)
     ≡ cond (eqb p.student s) (sum_by (w p.exam) (exams_of ps s)) 0 + sum_pairs w (exams_of ps s)
-sum_pairs-exams_of w p ps s =
-    elim (eqb p.student s)
-    as (λ b. sum_pairs w
-    (map (λ (p : Pair). p.exam)
-    (cond b (p ∷ filter (λ p. eqb p.student s) ps) (filter (λ p. eqb p.student s) ps)))
-    ≡ cond b (sum_by (w p.exam) (exams_of ps s)) 0 + sum_pairs w (exams_of ps s))
-    [ true ↦ refl | false ↦ sym (zero-add _) ]
+sum_pairs-exams_of w p ps s = grind (arith, zero-add)
 
 -- the sum over the pairs of a list is the sum over the students
 pub by_students : (w : ℕ → ℕ → ℕ) (pairs : List Pair) (students : List ℕ)

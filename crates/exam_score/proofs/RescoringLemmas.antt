@@ -1,7 +1,8 @@
 -- A change of some students' exams changes their costs and the front load, and nothing else.
+use Rattle.std.proofs.lemmas.Grind.{common_steps}
 use Rattle.std.specs.List.{cons_option, AllByRecursion}
 use Rattle.std.specs.Prelude.{slice_index}
-use Rattle.std.proofs.Common.{◌≡◌, ◌≢◌, ℕ, suc, ◌+◌, ◌<◌, ◌≤◌, Bool, true, false, cond, ◌||◌, eqb, List, [], ◌∷◌, ◌++◌, length, take, map, filter, filter_map, sum_by, None, refl, sym, ◌∙◌, ap, ap₂, arith, eq-eqb, eqb-true, ne_eqb, add-zero, true≢false, subst}
+use Rattle.std.proofs.Common.{◌≡◌, ◌≢◌, ℕ, suc, ◌+◌, ◌<◌, ◌≤◌, Bool, true, false, cond, ◌||◌, eqb, List, [], ◌∷◌, ◌++◌, length, take, map, filter_map, sum_by, None, refl, sym, ◌∙◌, ap, ap₂, arith, eq-eqb, eqb-true, ne_eqb, add-zero, true≢false, rules}
 use Rattle.std.proofs.lemmas.Bool.{or_parts, or_right}
 use Rattle.std.proofs.lemmas.List.{map-append}
 use Rattle.std.proofs.lemmas.List.Elements.{filter-append, filter_map-append}
@@ -34,10 +35,7 @@ use Rattle.exam_model.proofs.PairLemmas.{pairs_more}
 
 exams_of-append : (ps qs : List Pair) (s : ℕ)
     → exams_of (ps ++ qs) s ≡ exams_of ps s ++ exams_of qs s
-exams_of-append ps qs s =
-    ap (map (λ (p : Pair). p.exam)) (filter-append (λ (p : Pair). eqb p.student s) ps qs)
-    ∙ map-append (λ (p : Pair). p.exam) (filter (λ p. eqb p.student s) ps)
-    (filter (λ p. eqb p.student s) qs)
+exams_of-append ps qs s = grind (arith, filter-append, map-append)
 
 first_once : (x : ℕ) (xs : List ℕ) → IsAscending (x ∷ xs) → has_number xs x ≡ false
 first_once x xs up = below x xs (λ i lt. up 0 (suc i) (omega arith) (omega arith))
@@ -56,20 +54,8 @@ others_ascend x xs up i j lt within = up (suc i) (suc j) (omega arith) (omega ar
 exams_at : (e : ℕ) (xs : List ℕ) (s : ℕ) → IsAscending xs
     → exams_of (pairs_at e xs) s ≡ cond (has_number xs s) (e ∷ []) []
 exams_at e [] s up = refl
-exams_at e (x ∷ xs) s up = go (eqb x s) refl (exams_at e xs s (others_ascend x xs up))
-  where
-    none : eqb x s ≡ true → has_number xs s ≡ false
-    none is = ap (has_number xs) (sym (eqb-true x s is)) ∙ first_once x xs up
-
-    go : (b : Bool) → eqb x s ≡ b
-        → exams_of (pairs_at e xs) s ≡ cond (has_number xs s) (e ∷ []) []
-        → map (λ (p : Pair). p.exam)
-        (cond b (record { exam = e; student = x } ∷ filter (λ p. eqb p.student s) (pairs_at e xs))
-        (filter (λ p. eqb p.student s) (pairs_at e xs)))
-        ≡ cond (b || has_number xs s) (e ∷ []) []
-    go true is more =
-        ap (λ es. e ∷ es) (more ∙ ap (λ b. cond b (e ∷ []) []) (none is))
-    go false is more = more
+exams_at e (x ∷ xs) s up =
+    grind (arith, exams_at e xs s (others_ascend x xs up), eqb-true, first_once, others_ascend)
 
 -- a student who sits the same exams has the same list of them
 same_exams : (k : ℕ) (E F : Enrolled) (s : ℕ) → length E ≡ length F
@@ -93,33 +79,13 @@ pub periods_more : (E : Enrolled) (T : Placing) (s e : ℕ) → AreEnrolments E 
     → periods_of (pairs_of (take (e + 1) E)) (period_of T) s
     ≡ periods_of (pairs_of (take e E)) (period_of T) s ++ cons_option (sat_period E T s e) []
 periods_more E T s e known lt =
-    ap (λ ps. periods_of ps (period_of T) s) (pairs_more E e lt)
-    ∙ ap (filter_map (period_of T)) (exams_of-append (pairs_of (take e E)) (pairs_at e (students E e)) s)
-    ∙ filter_map-append (period_of T) (exams_of (pairs_of (take e E)) s)
-    (exams_of (pairs_at e (students E e)) s)
-    ∙ ap (λ ps. periods_of (pairs_of (take e E)) (period_of T) s ++ ps)
-    (ap (filter_map (period_of T)) (exams_at e (students E e) s (known.ascending e lt))
-    ∙ one (has E s e))
-  where
-    one : (b : Bool) → filter_map (period_of T) (cond b (e ∷ []) [])
-        ≡ cons_option (cond b (period_of T e) None) []
-    one true = refl
-    one false = refl
+    grind (arith, exams_at, exams_of-append, filter_map-append, pairs_more)
 
 -- ---- lists without repeats
 
 once_has : (xs : List ℕ) (s : ℕ) → has_number (each_once xs) s ≡ has_number xs s
 once_has [] s = refl
-once_has (x ∷ xs) s = go (has_number xs x) refl (once_has xs s)
-  where
-    there : (b : Bool) → has_number xs x ≡ true → eqb x s ≡ b → has_number xs s ≡ (b || has_number xs s)
-    there true e is = ap (has_number xs) (sym (eqb-true x s is)) ∙ e
-    there false e is = refl
-
-    go : (b : Bool) → has_number xs x ≡ b → has_number (each_once xs) s ≡ has_number xs s
-        → has_number (cond b (each_once xs) (x ∷ each_once xs)) s ≡ (eqb x s || has_number xs s)
-    go true e more = more ∙ there (eqb x s) e refl
-    go false e more = ap (λ b. eqb x s || b) more
+once_has (x ∷ xs) s = grind (arith, once_has xs s, eqb-true)
 
 none_equal : (x : ℕ) (ys : List ℕ) → has_number ys x ≡ false → AllByRecursion (λ y. x ≢ y) ys
 none_equal x [] h = tt
@@ -129,12 +95,7 @@ none_equal x (y ∷ ys) h =
 
 once_differ : (xs : List ℕ) → IsChain (λ s t. s ≢ t) (each_once xs)
 once_differ [] = tt
-once_differ (x ∷ xs) = go (has_number xs x) refl (once_differ xs)
-  where
-    go : (b : Bool) → has_number xs x ≡ b → IsChain (λ s t. s ≢ t) (each_once xs)
-        → IsChain (λ s t. s ≢ t) (cond b (each_once xs) (x ∷ each_once xs))
-    go true e more = more
-    go false e more = (none_equal x (each_once xs) (once_has xs x ∙ e), more)
+once_differ (x ∷ xs) = grind (arith, once_differ xs, IsChain, none_equal, once_has)
 
 -- the students of pairs, and others
 abbrev with_students : List Pair → List ℕ → List ℕ
@@ -169,32 +130,13 @@ sums_exchanged : (f g : ℕ → ℕ) (some more : List ℕ) → ((s : ℕ) → h
     ≡ sum_by f (each_once (more ++ some)) + sum_by g (each_once some)
 sums_exchanged f g some [] same = omega arith
 sums_exchanged f g some (x ∷ xs) same =
-    go (has_number (xs ++ some) x) refl (sums_exchanged f g some xs same)
-  where
-    go : (b : Bool) → has_number (xs ++ some) x ≡ b
-        → sum_by g (each_once (xs ++ some)) + sum_by f (each_once some)
-        ≡ sum_by f (each_once (xs ++ some)) + sum_by g (each_once some)
-        → sum_by g (cond b (each_once (xs ++ some)) (x ∷ each_once (xs ++ some)))
-        + sum_by f (each_once some)
-        ≡ sum_by f (cond b (each_once (xs ++ some)) (x ∷ each_once (xs ++ some)))
-        + sum_by g (each_once some)
-    go true e more = more
-    go false e more =
-        let other = or_parts (has_number xs x) (has_number some x)
-        (sym (list_any-append (λ k. eqb k x) xs some) ∙ e) in
-        omega (arith, more, same x other.1, sum_by-cons f x (each_once (xs ++ some)), sum_by-cons g x (each_once (xs ++ some)))
+    search (rules, sums_exchanged f g some xs same, list_any-append, or_parts, sum_by-cons)
 
 -- a sum over some students is at most that over them and others
 sum_within : (f : ℕ → ℕ) (some more : List ℕ)
     → sum_by f (each_once some) ≤ sum_by f (each_once (more ++ some))
 sum_within f some [] = omega arith
-sum_within f some (x ∷ xs) = go (has_number (xs ++ some) x) (sum_within f some xs)
-  where
-    go : (b : Bool) → sum_by f (each_once some) ≤ sum_by f (each_once (xs ++ some))
-        → sum_by f (each_once some)
-        ≤ sum_by f (cond b (each_once (xs ++ some)) (x ∷ each_once (xs ++ some)))
-    go true more = more
-    go false more = omega (arith, more, sum_by-cons f x (each_once (xs ++ some)))
+sum_within f some (x ∷ xs) = grind (arith, sum_within f some xs, sum_by-cons)
 
 -- a part is the cost of all students
 part_of_students : (cost : ℕ → ℕ → ℕ) (E : Enrolled) (T : Placing) (xs : List ℕ) → AreEnrolments E
@@ -240,19 +182,13 @@ cost_small cost E T changed known small =
 -- the personal penalties of the students are small
 pub students_small : (I : Session) (E : Enrolled) (T : Placing) (changed : List ℕ) → IsInstance I
     → AreEnrolments E → personal_total (students_penalty I E T changed) ≤ 16000000000000000
-students_small I E T changed known enrolled =
-    let small : (k : Kind) → students_cost (cost_in I k) E T changed ≤ 4000000000000000
-    = λ k. cost_small (cost_in I k) E T changed enrolled (cost_in-small I known k) in
-    omega (arith, each_kind small)
+students_small I E T changed known enrolled = grind (arith, cost_in-small, cost_small, each_kind)
 
 -- a part of their sum and one more student's penalty are small
 pub sums_small : (sum more others rest all : PersonalPenalty) → penalty_sum sum rest ≡ all
     → penalty_sum more others ≡ rest → personal_total all ≤ 16000000000000000
     → personal_total sum + personal_total more ≤ 16000000000000000
-sums_small sum more others rest all whole part small =
-    let total : (a b : PersonalPenalty) → personal_total (penalty_sum a b)
-    ≡ personal_total a + personal_total b = λ a b. omega arith in
-    omega (arith, total sum rest, total more others, ap personal_total whole, ap personal_total part, small)
+sums_small sum more others rest all whole part small = grind (arith)
 
 -- after all students the sum is the whole
 pub sum_whole : (I : Session) (E : Enrolled) (T : Placing) (rest : List ℕ)
@@ -267,10 +203,7 @@ cost_more : (cost : ℕ → ℕ → ℕ) (E : Enrolled) (T : Placing) (s : ℕ) 
     → has_number others s ≡ false
     → candidate_cost cost (periods_of (pairs_of E) (period_of T) s) + students_cost cost E T others
     ≡ students_cost cost E T (s ∷ others)
-cost_more cost E T s others new =
-    let f : ℕ → ℕ = λ s. candidate_cost cost (periods_of (pairs_of E) (period_of T) s) in
-    sym (sum_by-cons f s (each_once others))
-    ∙ ap (λ b. sum_by f (cond b (each_once others) (s ∷ each_once others))) (sym new)
+cost_more cost E T s others new = grind (arith, common_steps, sum_by-cons)
 
 pub penalty_more : (I : Session) (E : Enrolled) (T : Placing) (s : ℕ) (others : List ℕ)
     → has_number others s ≡ false
@@ -303,9 +236,4 @@ pub rescored : (I : Session) (E F : Enrolled) (T : Placing) (changed : List ℕ)
     → goes ≡ students_share I E T changed → comes ≡ students_share I F T changed
     → IsExchanged old goes comes new → old ≡ track I E T → new ≡ track I F T
 rescored I E F T changed old goes comes new known known' fits fits' same goes_is comes_is made is =
-    let len : length E ≡ length F = omega (arith, fits.enrolments, fits'.enrolments) in
-    exchanged_once old goes comes (track I F T) new made
-    (subst (λ o. IsExchanged o goes comes (track I F T)) (sym is)
-    (subst (λ g. IsExchanged (track I E T) g comes (track I F T)) (sym goes_is)
-    (subst (λ c. IsExchanged (track I E T) (students_share I E T changed) c (track I F T))
-    (sym comes_is) (track_exchanged I E F T changed known known' len same))))
+    grind (arith, exchanged_once, track_exchanged)

@@ -1,10 +1,10 @@
 -- The rows of sittings, and those of a set's pairs: each sum over the ones equals that over the
 -- others.
+use Rattle.std.proofs.lemmas.Grind.{common_steps}
 use Rattle.std.specs.Ordering.{is_lt, nat_cmp, ordering_then}
-use Rattle.std.specs.Cmp.{then_total, on_total, nat_cmp_total, IsTotalOrder}
-use Rattle.std.proofs.Common.{◌≡◌, ℕ, zero, suc, ◌+◌, ◌<◌, ◌≤◌, inl, inr, false, List, [], ◌∷◌, ◌++◌, length, take, take_all, get_or, map, filter_map, Option, Some, None, sum_by, AllPairs, IsSorted, Ordering, refl, sym, ◌∙◌, ap, ap₂, arith, add-one, add-zero}
+use Rattle.std.specs.Cmp.{IsTotalOrder}
+use Rattle.std.proofs.Common.{◌≡◌, ℕ, zero, suc, ◌+◌, ◌<◌, ◌≤◌, false, List, [], ◌∷◌, ◌++◌, length, take, take_all, get_or, map, filter_map, Option, Some, None, sum_by, AllPairs, IsSorted, Ordering, refl, sym, ◌∙◌, ap, ap₂, arith, add-one, add-zero}
 use Rattle.std.proofs.lemmas.Bool.{cases_lt}
-use Rattle.std.proofs.lemmas.Bool.Decides.{nat_tests}
 use Rattle.std.proofs.lemmas.List.Sums.{sum_by-cons, sum_by_push, sum_by-append}
 use Rattle.std.proofs.lemmas.List.Sorted.{sorted_far, ranks_by}
 use Rattle.exam_model.specs.Enrolments.{Enrolled, students}
@@ -26,20 +26,13 @@ pub sittings_more_some : (g : ℕ → ℕ → ℕ) (T : Placing) (e p : ℕ) (xs
     → sum_by (λ x. g x.exam x.period) xs ≡ sum_below e (λ e. if_placed (g e) (period_of T e))
     → sum_by (λ x. g x.exam x.period) (xs ++ record { period = p; exam = e } ∷ [])
     ≡ sum_below (e + 1) (λ e. if_placed (g e) (period_of T e))
-sittings_more_some g T e p xs is known =
-    sum_by_push (λ x. g x.exam x.period) xs (record { period = p; exam = e })
-    ∙ ap₂ (λ a b. a + b) known (ap (if_placed (g e)) (sym is))
-    ∙ sym (sum_below_more (λ e. if_placed (g e) (period_of T e)) e)
+sittings_more_some g T e p xs is known = grind (arith, sum_below_more, sum_by_push)
 
 pub sittings_more_none : (g : ℕ → ℕ → ℕ) (T : Placing) (e : ℕ) (xs : List PlacedExam)
     → period_of T e ≡ None
     → sum_by (λ x. g x.exam x.period) xs ≡ sum_below e (λ e. if_placed (g e) (period_of T e))
     → sum_by (λ x. g x.exam x.period) xs ≡ sum_below (e + 1) (λ e. if_placed (g e) (period_of T e))
-sittings_more_none g T e xs is known =
-    known ∙ sym (add-zero _)
-    ∙ ap (λ n. sum_below e (λ e. if_placed (g e) (period_of T e)) + n)
-    (ap (if_placed (g e)) (sym is))
-    ∙ sym (sum_below_more (λ e. if_placed (g e) (period_of T e)) e)
+sittings_more_none g T e xs is known = grind (arith, add-zero, sum_below_more)
 
 -- ---- the order
 
@@ -47,16 +40,10 @@ abbrev pub sitting_cmp : PlacedExam → PlacedExam → Ordering
 sitting_cmp x y = ordering_then (nat_cmp x.period y.period) (nat_cmp x.exam y.exam)
 
 sitting_cmp_total : IsTotalOrder sitting_cmp
-sitting_cmp_total =
-    then_total (on_total (λ (x : PlacedExam). x.period) nat_cmp_total)
-    (on_total (λ (x : PlacedExam). x.exam) nat_cmp_total)
+sitting_cmp_total = grind (arith, common_steps)
 
 not_less : (x y : PlacedExam) → is_lt (sitting_cmp y x) ≡ false → x.period ≤ y.period
-not_less x y h = elim (cases_lt y.period x.period) as (λ _. x.period ≤ y.period)
-    [ inl less ↦ absurd (first x y h less) | inr more ↦ more ]
-  where
-    first : (x y : PlacedExam) → is_lt (sitting_cmp y x) ≡ false → y.period < x.period → ⊥
-    first x y h less = grind (arith, nat_tests)
+not_less x y h = grind (arith, cases_lt)
 
 pub sorted_sittings : (xs : List PlacedExam) → IsSorted sitting_cmp xs
     → AllPairs (λ x y. x.period ≤ y.period) xs
@@ -91,10 +78,7 @@ rows_below f E T (suc n) le =
         → sum_by f (filter_map (row_of T) (pairs_of (take (n + 1) E)))
         ≡ sum_below n (λ e. if_placed (exam_sum f E e) (period_of T e))
         + if_placed (exam_sum f E n) (period_of T n)
-    step None is known =
-        ap (sum_by f) (rows_more_none E T n (omega arith) is) ∙ known ∙ sym (add-zero _)
-        ∙ ap (λ m. sum_below n (λ e. if_placed (exam_sum f E e) (period_of T e)) + m)
-        (ap (if_placed (exam_sum f E n)) (sym is))
+    step None is known = grind (arith, add-zero, rows_more_none)
     step (Some p) is known =
         ap (sum_by f) (rows_more_some E T n p (omega arith) is)
         ∙ sum_by-append f (filter_map (row_of T) (pairs_of (take n E)))

@@ -1,6 +1,6 @@
 -- No penalty is near the limit of its total.
-use Rattle.std.proofs.Common.{◌≡◌, ℕ, zero, suc, ◌-◌, ◌*◌, ◌^◌, ◌<◌, ◌≤◌, Bool, true, false, cond, List, [], ◌∷◌, length, Option, None, Some, refl, subst, arith}
-use Rattle.std.specs.Prelude.{slice_get, nat_lt, ◌&&◌}
+use Rattle.std.proofs.Common.{◌≡◌, ℕ, zero, suc, ◌-◌, ◌*◌, ◌^◌, ◌<◌, ◌≤◌, Bool, true, false, cond, List, [], ◌∷◌, length, Option, None, Some, refl, arith, rules}
+use Rattle.std.specs.Prelude.{slice_get, ◌&&◌}
 use Rattle.std.specs.List.{AllByRecursion}
 use Rattle.std.proofs.Math.Nat.{mul-le-mul}
 use Rattle.std.proofs.lemmas.List.Elements.{recursion_from_All}
@@ -21,7 +21,7 @@ use Rattle.exam_score.specs.Touched.{mixed_cost_if, room_mixed_cost_if}
 use Rattle.exam_score.specs.Penalty.{total_of}
 use Rattle.exam_score.specs.Track.{period_penalty, room_penalty, exam_period, exam_room, track}
 use Rattle.exam_score.specs.FrontLoad.{is_largest, is_late, exam_front}
-use Rattle.exam_score.specs.MixedDurations.{duration_count, exams_with_duration, durations}
+use Rattle.exam_score.specs.MixedDurations.{duration_count, durations}
 use Rattle.exam_score.proofs.CostLemmas.{cost_in-small}
 use Rattle.exam_score.proofs.KindLemmas.{each_kind}
 use Rattle.exam_score.proofs.PairsLemmas.{part_small}
@@ -58,9 +58,7 @@ counted_few n test =
     omega arith
 
 durations_small : (I : Session) (T : Placing) (p r : ℕ) → durations I T p r ≤ 1441
-durations_small I T p r =
-    subst (λ n. durations I T p r ≤ n) most_durations
-    (counted_few duration_count (λ m. nat_lt 0 (exams_with_duration I T p r m)))
+durations_small I T p r = search (rules, counted_few, most_durations)
 
 -- the mixed part of the periods and rooms that pass
 pub mixed_where_small : (I : Session) (T : Placing) (touched : ℕ → ℕ → Bool) → IsInstance I

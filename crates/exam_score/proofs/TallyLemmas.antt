@@ -112,22 +112,7 @@ pub counted_set : (f : Row → ℕ) (xs : List Tally) (i : ℕ) (x : Tally) → 
     → sum_by (tally_sum f)
     (set xs i (record { student = x.student; period = x.period; exams = x.exams + 1; before = x.before }))
     ≡ sum_by (tally_sum f) xs + f (row_at x.period x.student)
-counted_set f xs i x within is =
-    let y : Tally =
-    record { student = x.student; period = x.period; exams = x.exams + 1; before = x.before } in
-    let whole = sum_by-set (tally_sum f) xs i y x within in
-    let old : tally_sum f (get_or xs i x) ≡ x.exams * f (row_at x.period x.student) =
-    ap (tally_sum f) (sym is) in
-    let new : (x.exams + 1) * f (row_at x.period x.student)
-    ≡ x.exams * f (row_at x.period x.student) + f (row_at x.period x.student)
-    = one_more x.exams (f (row_at x.period x.student)) in
-    omega arith
-  where
-    one_more : (n w : ℕ) → (n + 1) * w ≡ n * w + w
-    one_more n w = mul_comm (n + 1) w ∙ times w n ∙ ap (λ m. m + w) (mul_comm w n)
-      where
-        times : (w n : ℕ) → w * (n + 1) ≡ w * n + w
-        times w n = omega arith
+counted_set f xs i x within is = grind (arith, mul_comm, sum_by-set)
 
 -- ---- a new tally
 
@@ -242,12 +227,7 @@ grown_no_later xs ys p q n h old le k d lt = elim (cases_lt k (length xs)) [
 -- the last tally of a bucket exists
 pub index_within : (m : ℕ) (xs : List Tally) (last : List ℕ) (bucket n s p : ℕ) → AreFiled xs last m
     → bucket < m → n ≡ get_or last bucket n → Extends xs n s p → n - 1 < length xs
-index_within m xs last bucket n s p filed lt is found =
-    let within : bucket < length last = omega (arith, filed.count) in
-    let here : n ≡ get_or last bucket 0 = get_or_read last bucket n within is 0 in
-    let le = (filed.lasts bucket within).within in
-    let some = found.some in
-    omega arith
+index_within m xs last bucket n s p filed lt is found = grind (arith, get_or_read)
 
 pub grown_none : (xs : List Tally) (p : ℕ) → Grows xs xs p 0
 grown_none xs p = record {
@@ -286,22 +266,4 @@ pub crowd_more : (sizes : List ℕ) (steps buckets n bucket : ℕ) → bucket < 
     → AreCrowded (set sizes bucket (get_or sizes bucket 0 + 1))
     (steps + get_or sizes bucket 0) buckets (n + 1)
 crowd_more sizes steps buckets n bucket exists few h =
-    let within : bucket < length sizes = omega (arith, h.count) in
-    let own = h.each bucket within in
-    record {
-      count = length-set sizes bucket (get_or sizes bucket 0 + 1) ∙ h.count;
-      each = λ k lt. elim (cases_eq k bucket) [
-        | inl same ↦
-            (let here : get_or (set sizes bucket (get_or sizes bucket 0 + 1)) k 0
-            ≡ get_or sizes bucket 0 + 1
-            = ap (λ j. get_or (set sizes bucket (get_or sizes bucket 0 + 1)) j 0) same
-            ∙ get_or-set_same sizes bucket (get_or sizes bucket 0 + 1) 0 within in
-            omega arith)
-        | inr other ↦
-            (let here = get_or-set_other sizes bucket k (get_or sizes bucket 0 + 1) 0
-            (λ e. omega arith) in
-            let old = h.each k (omega (arith, length-set sizes bucket (get_or sizes bucket 0 + 1))) in
-            omega arith)
-      ];
-      all = let before = h.all in omega arith;
-    }
+    grind (arith, cases_eq, get_or-set_other, get_or-set_same, length-set)

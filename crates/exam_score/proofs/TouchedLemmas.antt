@@ -1,5 +1,5 @@
 -- The number of durations at a place, with one more exam.
-use Rattle.std.proofs.Common.{◌≡◌, ◌≢◌, ℕ, zero, suc, ◌+◌, ◌<◌, ◌≤◌, Bool, true, false, cond, not, ◌&&◌, eqb, List, [], ◌∷◌, length, get_or, set, refl, sym, ◌∙◌, ap, arith, add-zero}
+use Rattle.std.proofs.Common.{◌≡◌, ◌≢◌, ℕ, zero, suc, ◌+◌, ◌<◌, ◌≤◌, Bool, true, false, cond, not, ◌&&◌, eqb, List, [], ◌∷◌, length, get_or, set, refl, ◌∙◌, ap, arith, add-zero}
 use Rattle.std.specs.Prelude.{slice_get, nat_lt}
 use Rattle.std.specs.List.{AllByRecursion}
 use Rattle.std.proofs.lemmas.List.Elements.{recursion_from_All}
@@ -21,44 +21,20 @@ flipped (suc n) f g k lt off on same = go (eqb k n) refl (λ less. flipped n f g
   where
     go : (b : Bool) → eqb k n ≡ b → (k < n → count_below n g ≡ count_below n f + 1)
         → count_below (suc n) g ≡ count_below (suc n) f + 1
-    go true e below_it =
-        let is : k ≡ n = grind (arith, nat_tests) in
-        let below = sum_below-within (λ m. cond (g m) 1 0) (λ m. cond (f m) 1 0) n
-        (λ m l. ap (λ b. cond b 1 0) (same m (λ k. omega arith))) in
-        let old : ◌≡◌ {A = ℕ} (cond (f n) 1 0) 0 = ap (λ b. cond b 1 0) (ap f (sym is) ∙ off) in
-        let new : ◌≡◌ {A = ℕ} (cond (g n) 1 0) 1 = ap (λ b. cond b 1 0) (ap g (sym is) ∙ on) in
-        omega arith
-    go false e below_it =
-        let other : n ≢ k = grind (arith, nat_tests) in
-        let less : k < n = grind (arith, nat_tests) in
-        let more = below_it less in
-        let here : ◌≡◌ {A = ℕ} (cond (g n) 1 0) (cond (f n) 1 0) =
-        ap (λ b. cond b 1 0) (same n other) in
-        omega arith
+    go true e below_it = grind (arith, sum_below-within)
+    go false e below_it = grind (arith)
 
 -- one more of them at x, if the exam is here
 one_more : (here : Bool) (x n : ℕ) (counts : ℕ → ℕ) → x < n
     → count_below n (λ m. nat_lt 0 (counts m + cond (here && eqb x m) 1 0))
     ≡ count_below n (λ m. nat_lt 0 (counts m)) + cond (here && not (nat_lt 0 (counts x))) 1 0
-one_more false x n counts lt =
-    sum_below-same _ _ (λ m. ap (λ k. cond (nat_lt 0 k) 1 0) (add-zero (counts m))) n
-    ∙ sym (add-zero _)
+one_more false x n counts lt = grind (arith, add-zero, sum_below-same)
 one_more true x n counts lt = go (nat_lt 0 (counts x)) refl
   where
     go : (b : Bool) → nat_lt 0 (counts x) ≡ b
         → count_below n (λ m. nat_lt 0 (counts m + cond (eqb x m) 1 0))
         ≡ count_below n (λ m. nat_lt 0 (counts m)) + cond (not b) 1 0
-    go true e = sum_below-same _ _ (λ m. ap (λ b. cond b 1 0) (there m)) n ∙ sym (add-zero _)
-      where
-        there : (m : ℕ) → nat_lt 0 (counts m + cond (eqb x m) 1 0) ≡ nat_lt 0 (counts m)
-        there m = at (eqb x m) refl
-          where
-            at : (b : Bool) → eqb x m ≡ b → nat_lt 0 (counts m + cond b 1 0) ≡ nat_lt 0 (counts m)
-            at true k = (let is : x ≡ m = grind (arith, nat_tests) in
-                let some : nat_lt 0 (counts m) ≡ true =
-                ap (λ j. nat_lt 0 (counts j)) (sym is) ∙ e in
-                grind (arith, nat_tests))
-            at false k = ap (nat_lt 0) (add-zero (counts m))
+    go true e = grind (arith, add-zero, sum_below-same)
     go false e =
         flipped n (λ m. nat_lt 0 (counts m)) (λ m. nat_lt 0 (counts m + cond (eqb x m) 1 0)) x lt e
         (here_now) (λ m ne. ap (λ b. nat_lt 0 (counts m + cond b 1 0))
@@ -78,9 +54,7 @@ of_exam (x ∷ xs) h (suc i) = of_exam xs h.1 i
 pub minutes_short : (I : Session) (e : ℕ) → IsInstance I
     → minutes_of (slice_get I.exams e) < duration_count
 unfolding duration_count
-minutes_short I e known =
-    let h = of_exam I.exams (recursion_from_All ExamInLimits I.exams known.limits.exams) e in
-    omega arith
+minutes_short I e known = grind (arith, of_exam, recursion_from_All)
 
 -- one more exam
 pub durations_more : (I : Session) (T : Placing) (p r e : ℕ)
@@ -114,24 +88,11 @@ pub marked_here : (I : Session) (T : Placing) (p r e m : ℕ) (before : List Boo
     → get_or before m false ≡ nat_lt 0 (count_below e (has_duration I T p r m))
     → get_or (set before (minutes_of (slice_get I.exams e)) true) m false
     ≡ nat_lt 0 (count_below (e + 1) (has_duration I T p r m))
-marked_here I T p r e m before lt here known =
-    get_or_set_true before (minutes_of (slice_get I.exams e)) m
-    (count_below e (has_duration I T p r m)) lt known
-    ∙ ap (λ b. nat_lt 0
-    (count_below e (has_duration I T p r m)
-    + cond (b && eqb (minutes_of (slice_get I.exams e)) m) 1 0))
-    (sym here)
-    ∙ ap (nat_lt 0) (sym (sum_below_more (λ e. cond (has_duration I T p r m e) 1 0) e))
+marked_here I T p r e m before lt here known = grind (arith, get_or_set_true, sum_below_more)
 
 -- an exam that is placed elsewhere marks none
 pub marked_elsewhere : (I : Session) (T : Placing) (p r e m : ℕ) (before : List Bool)
     → is_at p r (place_of T e) ≡ false
     → get_or before m false ≡ nat_lt 0 (count_below e (has_duration I T p r m))
     → get_or before m false ≡ nat_lt 0 (count_below (e + 1) (has_duration I T p r m))
-marked_elsewhere I T p r e m before here known =
-    known ∙ ap (nat_lt 0) (sym (add-zero (count_below e (has_duration I T p r m))))
-    ∙ ap (λ b. nat_lt 0
-    (count_below e (has_duration I T p r m)
-    + cond (b && eqb (minutes_of (slice_get I.exams e)) m) 1 0))
-    (sym here)
-    ∙ ap (nat_lt 0) (sym (sum_below_more (λ e. cond (has_duration I T p r m e) 1 0) e))
+marked_elsewhere I T p r e m before here known = grind (arith, add-zero, sum_below_more)

@@ -1,5 +1,6 @@
 -- A walk along the tallies of a bucket.
-use Rattle.std.proofs.Common.{◌≡◌, ◌≢◌, ℕ, ◌+◌, ◌-◌, ◌*◌, ◌<◌, ◌≤◌, cond, eqb, List, length, take, drop, get_or, sum_by, All, mul-zero, eq-eqb, inl, inr, refl, sym, subst, ◌∙◌, ap, arith, length-take, length-drop}
+use Rattle.std.proofs.lemmas.Grind.{common_steps}
+use Rattle.std.proofs.Common.{◌≡◌, ◌≢◌, ℕ, ◌+◌, ◌-◌, ◌*◌, ◌<◌, ◌≤◌, cond, eqb, List, length, take, drop, get_or, sum_by, All, mul-zero, eq-eqb, inl, inr, refl, sym, subst, ◌∙◌, ap, arith, length-take, length-drop, rules}
 use Rattle.std.proofs.lemmas.Bool.{cases_eq, cond-false, ne_eqb}
 use Rattle.std.proofs.lemmas.List.{get_or_default, take-take, get_or-take, get_or-drop}
 use Rattle.std.proofs.lemmas.List.Elements.{recursion_from_All}
@@ -20,11 +21,7 @@ use Rattle.exam_score.specs.declared.tallies.Tally.{Tally}
 -- a tally of another student
 other_student : (cost : ℕ → ℕ → ℕ) (y x : Tally) → y.student ≢ x.student → cost_with_tally cost y x
     ≡ 0
-other_student cost y x differ =
-    ap (λ n. x.exams * n)
-    (cond-false (eqb y.student x.student) (cost x.period y.period) 0
-    (ne_eqb y.student x.student differ))
-    ∙ mul-zero x.exams
+other_student cost y x differ = grind (arith, cond-false, mul-zero, ne_eqb)
 
 -- a tally of a period that costs nothing
 pub free_period : (cost : ℕ → ℕ → ℕ) (y x : Tally) → cost x.period y.period ≡ 0
@@ -93,8 +90,7 @@ walk_on m cost xs y x n linked some le here bucket =
     let more : sum_by f (take (n - 1 + 1) xs) ≡ sum_by f (take (n - 1) xs) + f x =
     sum_by_more f xs (n - 1) x (omega arith)
     ∙ ap (λ z. sum_by f (take (n - 1) xs) + f z) (here x) in
-    let same : sum_by f (take n xs) ≡ sum_by f (take (n - 1 + 1) xs) =
-    ap (λ m. sum_by f (take m xs)) (let e : n ≡ n - 1 + 1 = omega arith in e) in
+    let same : sum_by f (take n xs) ≡ sum_by f (take (n - 1 + 1) xs) = search (rules) in
     omega arith
 
 link_below : (m : ℕ) (xs : List Tally) (x : Tally) (n : ℕ) → AreLinkedIn xs m → 0 < n
@@ -153,16 +149,7 @@ pub record IsOwnTally (m : ℕ) (xs : List Tally) (y x : Tally) (n : ℕ) : Type
 pub own_tally : (m : ℕ) (xs : List Tally) (y x : Tally) (n : ℕ) → AreLinkedIn xs m → 0 < n
     → n ≤ length xs → x ≡ get_or xs (n - 1) x
     → ((d : Tally) → 0 < n → (get_or xs (n - 1) d).student ≡ y.student) → IsOwnTally m xs y x n
-own_tally m xs y x n linked some within is own =
-    let here : (d : Tally) → get_or xs (n - 1) d ≡ x =
-    λ d. get_or_default xs (n - 1) d x (omega arith) ∙ sym is in
-    record {
-      linked = linked;
-      some = some;
-      within = within;
-      here = here;
-      own = ap (λ z. z.student) (sym (here x)) ∙ own x some;
-    }
+own_tally m xs y x n linked some within is own = grind (arith, get_or_default)
 
 pub below_own : (m : ℕ) (xs : List Tally) (y x : Tally) (n : ℕ) → IsOwnTally m xs y x n
     → x.before < n
@@ -189,9 +176,7 @@ own_on m cost xs y x n one at is =
     let step = walk_on m cost xs y x n at.linked at.some at.within at.here
     (ap (λ s. bucket_of_student m s) at.own) in
     let own : cost_with_tally cost y x ≡ one * x.exams =
-    ap (λ b. x.exams * cond b (cost x.period y.period) 0)
-    (eq-eqb y.student x.student (sym at.own))
-    ∙ ap (λ n. x.exams * n) (sym is) ∙ mul_comm x.exams one in
+    grind (arith, common_steps, eq-eqb, mul_comm, one) in
     omega arith
 
 -- an earlier tally is of no later period
@@ -295,8 +280,7 @@ pairs_more : (cost : ℕ → ℕ → ℕ) (xs : List Tally) (k total more : ℕ)
 pairs_more cost xs k total more y within here was is =
     let step = sum_pairs-more (tally_pair cost) xs k y within in
     let at : sum_by (λ x. tally_pair cost x (get_or xs k y)) (take k xs)
-    ≡ sum_by (λ x. tally_pair cost x y) (take k xs) =
-    ap (λ z. sum_by (λ x. tally_pair cost x z) (take k xs)) (sym here) in
+    ≡ sum_by (λ x. tally_pair cost x y) (take k xs) = grind (arith, common_steps) in
     let times = sum_by-times (cost_with_tally cost y) y.exams (take k xs) in
     let own : more * y.exams ≡ sum_by (cost_with_tally cost y) (take k xs) * y.exams =
     ap (λ n. n * y.exams) is in
@@ -306,12 +290,7 @@ small_more : (xs : List Tally) (k total more : ℕ) (y : Tally) → k < length x
     → y ≡ get_or xs k y
     → total ≤ row_count (take k xs) * 20000000000 → more ≤ 20000000000
     → total + more * y.exams ≤ row_count (take (k + 1) xs) * 20000000000
-small_more xs k total more y within here was small =
-    let step = sum_by_more (tally_sum (λ r. 1)) xs k y within in
-    let at : tally_sum (λ r. 1) (get_or xs k y) ≡ y.exams * 1 =
-    ap (tally_sum (λ r. 1)) (sym here) in
-    let product = mul-le more y.exams 20000000000 y.exams small (omega arith) in
-    omega arith
+small_more xs k total more y within here was small = grind (arith, mul-le, sum_by_more)
 
 -- n is the cost over all pairs of the first k tallies, and is small
 pub record IsCostTo (cost : ℕ → ℕ → ℕ) (xs : List Tally) (k n : ℕ) : Type 0 where
@@ -355,6 +334,4 @@ cost_with-small cost rows small few =
     omega arith
   where
     pair_small : (x y : Row) → row_pair cost x y ≤ 100000
-    pair_small x y =
-        cond_le (eqb y.student x.student) (cost x.period y.period) 100000
-        (small x.period y.period)
+    pair_small x y = grind (arith, cond_le)
