@@ -1,13 +1,10 @@
 -- The shares add up to the penalty, part by part.
 use Rattle.std.proofs.lemmas.Grind.{common_steps}
 use Rattle.std.specs.List.{range_with_len}
-use Rattle.std.specs.Prelude.{slice_get}
-use Rattle.std.proofs.Common.{◌≡◌, ℕ, zero, suc, ◌+◌, ◌*◌, ◌≤◌, Bool, true, false, cond, ltb, List, [], ◌∷◌, length, take, map, sum, sum_by, count_by, Option, Some, None, refl, sym, ◌∙◌, ap, arith, add-one, mul_comm, one-mul, zero-mul, lt-ltb, le-ltb}
-use Rattle.std.proofs.lemmas.Bool.{cases_lt, cond-true, cond-false}
-use Rattle.std.proofs.lemmas.List.{map-id, take_all}
+use Rattle.std.proofs.Common.{◌≡◌, ℕ, zero, suc, ◌+◌, ◌*◌, ◌≤◌, Bool, cond, List, [], ◌∷◌, length, take, map, sum, sum_by, count_by, Option, Some, None, refl, sym, ◌∙◌, ap, arith, add-one, mul_comm, slice_get, map-id, take_all}
 use Rattle.std.proofs.lemmas.List.Elements.{recursion_from_All}
 use Rattle.std.proofs.lemmas.List.FromFn.{sum_by-map-range_with_len_more}
-use Rattle.std.proofs.lemmas.List.Sums.{sum_by-cons, sum_by_more, sum-map}
+use Rattle.std.proofs.lemmas.List.Sums.{sum_by_more, sum-map}
 use Rattle.std.proofs.lemmas.Option.{slice_get_past}
 use Rattle.exam_lists.proofs.Chains.{chain_from_index}
 use Rattle.exam_lists.proofs.Sums.{sum_by-add, sum_by-same, sum_by-times, sum_by-map}
@@ -31,7 +28,7 @@ use Rattle.exam_publish.specs.declared.share_lists.RoomShare.{RoomShare}
 use Rattle.exam_publish.specs.AddUp.{AddUpTo}
 use Rattle.exam_publish.specs.Changed.{rows_of, students_of}
 use Rattle.exam_publish.specs.Rows.{AreNumbered, ArePublishedRows, RowBefore, IsAtExam, enrolled_in}
-use Rattle.exam_publish.specs.Shares.{share_of, student_shares, exam_shares, period_share, period_shares, is_in_period, is_in_room, room_share, room_shares, shares_of}
+use Rattle.exam_publish.specs.Shares.{student_shares, exam_shares, period_share, period_shares, is_in_period, is_in_room, room_share, room_shares, shares_of}
 use Rattle.exam_publish.proofs.RowLemmas.{pairs_in, are_enrolments, are_students, candidate_periods}
 use Rattle.exam_publish.proofs.PlaceLemmas.{rows_exist}
 
@@ -46,9 +43,7 @@ range_sum g f (suc n) =
     ∙ ap (λ k. k + g (f n)) (range_sum g f n)
 
 plain_sum : (f : ℕ → ℕ) (n : ℕ) → sum (map f (range_with_len 0 n)) ≡ sum_below n f
-plain_sum f n =
-    sum-map f (range_with_len 0 n) ∙ ap (sum_by f) (sym (map-id (range_with_len 0 n)))
-    ∙ range_sum f (λ k. k) n
+plain_sum f n = grind (arith, map-id, range_sum, sum-map)
 
 -- ---- periods and rooms
 
@@ -148,24 +143,16 @@ adds_up I rows T known are numbered =
     let students = students_of rows in
     let row : sum_by (λ share. share.1.row) (student_shares I rows)
     ≡ pair_part (row_cost I.periods I.weights) E (period_of T)
-    = sum_by-map (λ (share : ℕ × PersonalPenalty). share.1.row)
-    (λ s. (s, share_of I.periods I.weights (rows_of s rows))) students
-    ∙ student_sum (row_cost I.periods I.weights) I rows T known are numbered in
+    = grind (arith, common_steps, student_sum, sum_by-map) in
     let day : sum_by (λ share. share.1.day) (student_shares I rows)
     ≡ pair_part (day_cost I.periods I.weights) E (period_of T)
-    = sum_by-map (λ (share : ℕ × PersonalPenalty). share.1.day)
-    (λ s. (s, share_of I.periods I.weights (rows_of s rows))) students
-    ∙ student_sum (day_cost I.periods I.weights) I rows T known are numbered in
+    = grind (arith, common_steps, student_sum, sum_by-map) in
     let spread : sum_by (λ share. share.1.spread) (student_shares I rows)
     ≡ pair_part (spread_cost I.periods I.weights) E (period_of T)
-    = sum_by-map (λ (share : ℕ × PersonalPenalty). share.1.spread)
-    (λ s. (s, share_of I.periods I.weights (rows_of s rows))) students
-    ∙ student_sum (spread_cost I.periods I.weights) I rows T known are numbered in
+    = grind (arith, common_steps, student_sum, sum_by-map) in
     let night : sum_by (λ share. share.1.night) (student_shares I rows)
     ≡ pair_part (night_cost I.periods I.weights) E (period_of T)
-    = sum_by-map (λ (share : ℕ × PersonalPenalty). share.1.night)
-    (λ s. (s, share_of I.periods I.weights (rows_of s rows))) students
-    ∙ student_sum (night_cost I.periods I.weights) I rows T known are numbered in
+    = grind (arith, common_steps, student_sum, sum_by-map) in
     let mixed : sum_by (λ share. share.mixed) (room_shares I T)
     ≡ sum_below (length I.rooms) (room_mixed I T)
     = range_sum (λ (share : RoomShare). share.mixed) (room_share I T) (length I.rooms) in

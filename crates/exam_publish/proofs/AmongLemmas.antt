@@ -1,8 +1,7 @@
 -- The rows of some of the students, and the shares of these students.
 use Rattle.std.proofs.lemmas.Grind.{common_steps}
-use Rattle.std.proofs.Common.{◌≡◌, ℕ, ◌<◌, ◌≤◌, ◌^◌, inl, inr, Bool, true, ◌&&◌, eqb, Result, Ok, Err, List, [], ◌∷◌, length, get_or, nat_cmp, map, filter, refl, sym, ◌∙◌, ap, arith}
+use Rattle.std.proofs.Common.{◌≡◌, ℕ, ◌<◌, ◌≤◌, ◌^◌, inl, inr, Bool, true, ◌&&◌, eqb, Result, Ok, Err, List, [], ◌∷◌, length, get_or, nat_cmp, map, filter, refl, sym, ◌∙◌, ap, arith, rules, is_ok}
 use Rattle.std.specs.List.Sorted.{IsBinarySearchResult}
-use Rattle.std.specs.Prelude.{is_ok}
 use Rattle.std.proofs.lemmas.Bool.{cases_lt, eq-eqb, ne_eqb, true≢false}
 use Rattle.std.proofs.lemmas.List.{get_or_default}
 use Rattle.std.proofs.lemmas.List.Elements.{All-from_recursion, recursion_from_All}
@@ -20,8 +19,8 @@ use Rattle.exam_score.specs.Penalty.{PersonalPenalty, personal_total}
 use Rattle.exam_publish.specs.declared.seat_row.SeatRow.{SeatRow}
 use Rattle.exam_publish.specs.AddUp.{AreSmall, share_total}
 use Rattle.exam_publish.specs.Changed.{sorted_numbers, rows_among, rows_of, students_of}
-use Rattle.exam_publish.specs.Rows.{ArePublishedRows, IsAtExam, RowBefore}
-use Rattle.exam_publish.specs.Shares.{share_of, shares_among, shares_of, student_shares}
+use Rattle.exam_publish.specs.Rows.{ArePublishedRows}
+use Rattle.exam_publish.specs.Shares.{shares_among, shares_of, student_shares}
 use Rattle.exam_publish.proofs.ListLemmas.{ascending_from_chain, ascends, chain_ascending, has_ascending, has_filter}
 use Rattle.exam_publish.proofs.ShareLemmas.{small_shares}
 
@@ -53,17 +52,16 @@ has_searched xs x (Err at) up is =
 pub among_published : (I : Session) (rows : List SeatRow) (T : Placing) (students : List ℕ)
     → ArePublishedRows I rows T → ArePublishedRows I (rows_among students rows) T
 among_published I rows T students are =
-    let t : SeatRow → Bool = λ row. has_number students row.student in
-    record {
-      exams = are.exams;
-      places = are.places;
-      complete = are.complete;
-      few = let shorter = length_filter-le t rows in omega (arith, shorter, are.few);
-      in_order = index_from_chain RowBefore (filter t rows)
-          (chain_filter RowBefore t rows (chain_from_index RowBefore rows are.in_order));
-      at_exams = All-from_recursion (IsAtExam T) (filter t rows)
-          (each_filter (IsAtExam T) t rows (recursion_from_All (IsAtExam T) rows are.at_exams));
-    }
+    search (
+      rules,
+      All-from_recursion,
+      chain_filter,
+      chain_from_index,
+      each_filter,
+      index_from_chain,
+      length_filter-le,
+      recursion_from_All,
+    )
 
 students_among : (rows : List SeatRow) (students : List ℕ)
     → students_of (rows_among students rows) ≡ filter (has_number students) (students_of rows)
@@ -89,14 +87,7 @@ pub among_shares : (I : Session) (rows : List SeatRow) (students : List ℕ)
     → student_shares I (rows_among students rows)
     ≡ filter (λ share. has_number students share.0) (student_shares I rows)
 among_shares I rows students =
-    let own : ℕ → ℕ × PersonalPenalty
-    = λ s. (s, share_of I.periods I.weights (rows_of s (rows_among students rows))) in
-    let all : ℕ → ℕ × PersonalPenalty = λ s. (s, share_of I.periods I.weights (rows_of s rows)) in
-    ap (map own) (students_among rows students)
-    ∙ map_filter_agree own all (has_number students)
-    (λ s h. ap (λ rs. (s, share_of I.periods I.weights rs)) (own_among students s h rows))
-    (students_of rows)
-    ∙ sym (filter-map (λ share. has_number students share.0) all (students_of rows))
+    grind (arith, filter-map, map_filter_agree, own_among, students_among)
 
 -- some of the shares are small if all are
 pub among_small : (I : Session) (rows : List SeatRow) (T : Placing) (students : List ℕ) (n : ℕ)

@@ -1,7 +1,7 @@
 -- A walk along two lists of rows in order finds the candidates whose rows differ.
 use Rattle.std.proofs.lemmas.Grind.{common_steps}
 use Rattle.std.specs.List.{AllByRecursion}
-use Rattle.std.proofs.Common.{◌≡◌, ℕ, inl, inr, Bool, true, false, ◌&&◌, ◌||◌, eqb, List, [], ◌∷◌, ◌++◌, refl, sym, ◌∙◌, ap, subst, arith, rules}
+use Rattle.std.proofs.Common.{◌≡◌, ℕ, inl, inr, Bool, true, false, ◌&&◌, ◌||◌, eqb, List, [], ◌∷◌, ◌++◌, refl, ◌∙◌, ap, arith, rules}
 use Rattle.std.proofs.lemmas.Bool.Decides.{nat_tests}
 use Rattle.std.proofs.lemmas.List.Folds.{list_any-append}
 use Rattle.std.proofs.Math.Bool.{or-false, or_assoc}
@@ -92,20 +92,7 @@ pub step_left : {old new left right : List SeatRow} {found more : List ℕ} (r q
     → more ≡ found ++ r.student ∷ []
     → IsCompared old new rs right more
 step_left {old} {new} {left} {right} {found} {more} r q rs qs was l m lt is =
-    let ls = subst (IsChain RowBefore) l was.left_order in
-    let ms = subst (IsChain RowBefore) m was.right_order in
-    let above : AllByRecursion (RowBefore r) right =
-    subst (AllByRecursion (RowBefore r)) (sym m)
-    (before_all r q qs (before_from_test (row_pair r) (row_pair q) lt) ms.0) in
-    record {
-      members = λ s. ap (λ xs. has_number xs s || is_changed rs right s) is
-          ∙ ap (λ b. b || is_changed rs right s) (has_push found r.student s)
-          ∙ or_assoc (has_number found s) (eqb r.student s) (is_changed rs right s)
-          ∙ ap (λ b. has_number found s || b) (left_step r rs right above s)
-          ∙ ap (λ xs. has_number found s || is_changed xs right s) (sym l) ∙ was.members s;
-      left_order = ls.1;
-      right_order = was.right_order;
-    }
+    grind (arith, IsChain, before_all, before_from_test, has_push, left_step, or_assoc)
 
 pub step_right : {old new left right : List SeatRow} {found more : List ℕ} (r q : SeatRow)
     (rs qs : List SeatRow)
@@ -114,37 +101,20 @@ pub step_right : {old new left right : List SeatRow} {found more : List ℕ} (r 
     → more ≡ found ++ q.student ∷ []
     → IsCompared old new left qs more
 step_right {old} {new} {left} {right} {found} {more} r q rs qs was l m lt is =
-    let ls = subst (IsChain RowBefore) l was.left_order in
-    let ms = subst (IsChain RowBefore) m was.right_order in
-    let above : AllByRecursion (RowBefore q) left =
-    subst (AllByRecursion (RowBefore q)) (sym l)
-    (before_all q r rs (before_from_test (row_pair q) (row_pair r) lt) ls.0) in
-    record {
-      members = λ s. ap (λ xs. has_number xs s || is_changed left qs s) is
-          ∙ ap (λ b. b || is_changed left qs s) (has_push found q.student s)
-          ∙ or_assoc (has_number found s) (eqb q.student s) (is_changed left qs s)
-          ∙ ap (λ b. has_number found s || b) (right_step q left qs above s)
-          ∙ ap (λ xs. has_number found s || is_changed left xs s) (sym m) ∙ was.members s;
-      left_order = was.left_order;
-      right_order = ms.1;
-    }
+    grind (arith, IsChain, before_all, before_from_test, has_push, or_assoc, right_step)
 
 -- one list is used up
 pub end_left : {old new left right : List SeatRow} {found : List ℕ} (more : List ℕ)
     → IsCompared old new left right found → right ≡ []
     → ((s : ℕ) → has_number more s ≡ (has_number found s || has_row left s)) → (s : ℕ)
     → has_number more s ≡ is_changed old new s
-end_left {old} {new} {left} {right} {found} more was none is s =
-    is s ∙ ap (λ b. has_number found s || b) (sym (left_only left s))
-    ∙ ap (λ xs. has_number found s || is_changed left xs s) (sym none) ∙ was.members s
+end_left {old} {new} {left} {right} {found} more was none is s = grind (arith, left_only)
 
 pub end_right : {old new left right : List SeatRow} {found : List ℕ} (more : List ℕ)
     → IsCompared old new left right found → left ≡ []
     → ((s : ℕ) → has_number more s ≡ (has_number found s || has_row right s)) → (s : ℕ)
     → has_number more s ≡ is_changed old new s
-end_right {old} {new} {left} {right} {found} more was none is s =
-    is s ∙ ap (λ b. has_number found s || b) (sym (right_only right s))
-    ∙ ap (λ xs. has_number found s || is_changed xs right s) (sym none) ∙ was.members s
+end_right {old} {new} {left} {right} {found} more was none is s = grind (arith, right_only)
 
 -- ---- the list of all who changed
 
@@ -155,19 +125,7 @@ nothing_of (r ∷ rs) s h = grind (arith, common_steps, nothing_of rs s)
 
 pub changed_has_row : (old new : List SeatRow) (s : ℕ)
     → (is_changed old new s && has_row (old ++ new) s) ≡ is_changed old new s
-changed_has_row old new s =
-    ap (λ b. is_changed old new s && b) (list_any-append (λ row. eqb row.student s) old new)
-    ∙ go (has_row old s) refl (has_row new s) refl
-  where
-    and_true : (a : Bool) → (a && true) ≡ a
-    and_true true = refl
-    and_true false = refl
-
-    go : (a : Bool) → has_row old s ≡ a → (b : Bool) → has_row new s ≡ b
-        → (is_changed old new s && (a || b)) ≡ is_changed old new s
-    go true h b k = and_true (is_changed old new s)
-    go false h true k = and_true (is_changed old new s)
-    go false h false k = grind (arith, common_steps, nothing_of)
+changed_has_row old new s = grind (arith, list_any-append, nothing_of)
 
 pub listed : (old new : List SeatRow) (found : List ℕ) → IsAscending found
     → ((s : ℕ) → has_number found s ≡ is_changed old new s) → found ≡ changed_students old new

@@ -1,8 +1,7 @@
 -- The entrants of one more exam, and the invariant of all entrants.
 use Rattle.std.proofs.lemmas.Grind.{common_steps}
-use Rattle.std.specs.Prelude.{slice_get}
 use Rattle.std.specs.List.{AllByRecursion, cons_option}
-use Rattle.std.proofs.Common.{◌≡◌, ℕ, zero, suc, ◌+◌, ◌<◌, ◌≤◌, List, [], ◌∷◌, ◌++◌, length, map, take, Some, None, option_map, All, refl, sym, ◌∙◌, ap₂, subst, arith, append-nil}
+use Rattle.std.proofs.Common.{◌≡◌, ℕ, zero, suc, ◌+◌, ◌<◌, ◌≤◌, List, [], ◌∷◌, ◌++◌, length, map, take, Some, None, option_map, All, refl, ◌∙◌, ap₂, subst, arith, append-nil, slice_get}
 use Rattle.std.proofs.lemmas.List.Elements.{filter_map-append, All-from_recursion, recursion_from_All}
 use Rattle.exam_lists.proofs.Each.{each_weaker}
 use Rattle.exam_lists.proofs.Filters.{length_filter_map-le}
@@ -34,9 +33,7 @@ entrants_at T old e at here (x ∷ xs) =
 entrants_nowhere : (T : Placing) (old : List SeatRow) (e : ℕ) → place_of T e ≡ None → (xs : List ℕ)
     → entrants (pairs_at e xs) T old ≡ []
 entrants_nowhere T old e none [] = refl
-entrants_nowhere T old e none (x ∷ xs) =
-    ap₂ (λ o ys. cons_option (option_map (entrant old (record { exam = e; student = x })) o) ys)
-    none (entrants_nowhere T old e none xs)
+entrants_nowhere T old e none (x ∷ xs) = grind (arith, entrants_nowhere T old e none xs)
 
 split : (E : Enrolled) (T : Placing) (old : List SeatRow) (e : ℕ) → e < length E
     → entrants (pairs_of (take (e + 1) E)) T old
@@ -49,9 +46,7 @@ pub exam_more : (E : Enrolled) (T : Placing) (old : List SeatRow) (e : ℕ) (at 
     → xs ≡ entrants (pairs_of (take e E)) T old → more
     ≡ xs ++ map (λ (s : ℕ). entrant old (record { exam = e; student = s }) at) (students E e)
     → more ≡ entrants (pairs_of (take (e + 1) E)) T old
-exam_more E T old e at xs more lt here was added =
-    added ∙ ap₂ (λ a b. a ++ b) was (sym (entrants_at T old e at here (students E e)))
-    ∙ sym (split E T old e lt)
+exam_more E T old e at xs more lt here was added = grind (arith, entrants_at, split)
 
 pub exam_nowhere : (E : Enrolled) (T : Placing) (old : List SeatRow) (e : ℕ) (xs : List Entrant)
     → e < length E → place_of T e ≡ None

@@ -1,8 +1,7 @@
 -- The least number that is not taken, and the numbers that rows take in a room and period.
 use Rattle.std.proofs.lemmas.Grind.{common_steps}
 use Rattle.std.specs.List.{list_any, position_or_len, range_with_len}
-use Rattle.std.specs.Prelude.{not}
-use Rattle.std.proofs.Common.{◌≡◌, ℕ, ◌+◌, ◌-◌, ◌<◌, ◌≤◌, inl, inr, Bool, true, false, cond, ◌&&◌, ◌||◌, eqb, List, [], ◌∷◌, length, get_or, refl, sym, ◌∙◌, ap, ap₂, arith}
+use Rattle.std.proofs.Common.{◌≡◌, ℕ, ◌+◌, ◌-◌, ◌<◌, ◌≤◌, inl, inr, Bool, true, false, cond, ◌&&◌, ◌||◌, eqb, List, [], ◌∷◌, length, get_or, refl, sym, ◌∙◌, ap, ap₂, arith, rules, not}
 use Rattle.std.proofs.lemmas.Bool.{cases_eq, cases_lt, eq-eqb, ne_eqb, not-false, false_from_ne_true, or_right, not-true}
 use Rattle.std.proofs.lemmas.List.FromFn.{length-range_with_len}
 use Rattle.std.proofs.lemmas.List.Sums.{position_or_len_is, fails_before_first, passes_at_first}
@@ -65,8 +64,7 @@ least_below taken k low lt =
     let few = least_small taken in
     let n = length taken in
     let fails = fails_before_first (is_free taken) (range_with_len 1 n) (k - 1) 0 (omega arith) in
-    let here : get_or (range_with_len 1 n) (k - 1) 0 ≡ k =
-    get_or_range_one n (k - 1) (omega arith) ∙ omega arith in
+    let here : get_or (range_with_len 1 n) (k - 1) 0 ≡ k = search (rules, get_or_range_one) in
     not-false (has_number taken k) (ap (is_free taken) (sym here) ∙ fails)
 
 least_free_is : (taken : List ℕ) → has_number taken (least_free taken) ≡ false
@@ -113,9 +111,7 @@ has_seats at r rs n = grind (arith, common_steps)
 
 pub still_taken : (at : Place) (r : SeatRow) (rs : List SeatRow) (n : ℕ)
     → has_number (seats_at at rs) n ≡ true → has_number (seats_at at (r ∷ rs)) n ≡ true
-still_taken at r rs n h =
-    has_seats at r rs n
-    ∙ or_right (is_one_place at (row_place r) && eqb r.seat n) (has_number (seats_at at rs) n) h
+still_taken at r rs n h = grind (arith, has_seats, or_right)
 
 -- ---- the last assigned seat
 

@@ -1,7 +1,6 @@
 -- Seats assigned to the entrants one by one: the rows so far, and those still to come.
 use Rattle.std.proofs.lemmas.Grind.{common_steps}
-use Rattle.std.specs.Prelude.{slice_set, slice_index, replicate, unwrap_or, is_some}
-use Rattle.std.proofs.Common.{◌≡◌, ℕ, ◌+◌, ◌*◌, ◌<◌, ◌≤◌, ◌⊎◌, inl, inr, cond, List, [], ◌∷◌, ◌++◌, length, drop, get_or, None, sym, ◌∙◌, ap, subst, arith, append_assoc, eqb-true}
+use Rattle.std.proofs.Common.{◌≡◌, ℕ, ◌+◌, ◌*◌, ◌<◌, ◌≤◌, ◌⊎◌, inl, inr, cond, List, [], ◌∷◌, ◌++◌, length, drop, get_or, None, sym, ◌∙◌, ap, subst, arith, append_assoc, eqb-true, slice_set, slice_index, replicate, unwrap_or, is_some}
 use Rattle.std.proofs.lemmas.Bool.{cases_eq, and_parts, false_from_ne_true}
 use Rattle.std.proofs.lemmas.List.{at_drop_more, length-replicate, length-set, get_or-set_same, get_or-set_other}
 use Rattle.std.proofs.lemmas.Nat.{same_from_place}

@@ -27,9 +27,7 @@ row_seat row = record { period = row.period; room = row.room; seat = row.seat }
 
 one_more : (xs : List Entrant) (i : ℕ) (x : Entrant) → i < length xs → x ≡ get_or xs i x
     → old_rows (take (i + 1) xs) ≡ old_rows (take i xs) ++ cons_option x.kept []
-one_more xs i x lt is =
-    ap old_rows (take_more xs i x lt ∙ ap (λ y. take i xs ++ y ∷ []) (sym is))
-    ∙ filter_map-append (λ (y : Entrant). y.kept) (take i xs) (x ∷ [])
+one_more xs i x lt is = grind (arith, common_steps, filter_map-append, take_more)
 
 map-push : (rows : List SeatRow) (row : SeatRow)
     → map row_seat (rows ++ row ∷ []) ≡ map row_seat rows ++ row_seat row ∷ []

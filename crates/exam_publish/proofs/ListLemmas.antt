@@ -1,8 +1,7 @@
 -- Ascending lists of numbers, chains, and lists in order.
 use Rattle.std.proofs.lemmas.Grind.{common_steps}
-use Rattle.std.specs.List.{list_any, AllByRecursion, dedup}
-use Rattle.std.proofs.Common.{◌≡◌, ℕ, suc, ◌<◌, Bool, true, false, cond, ◌&&◌, ◌||◌, eqb, List, [], ◌∷◌, length, map, filter, get_or, AllPairs, All, Contains, refl, sym, ◌∙◌, ap, arith, eqb-true}
-use Rattle.std.specs.Prelude.{nat_eq}
+use Rattle.std.specs.List.{AllByRecursion, dedup}
+use Rattle.std.proofs.Common.{◌≡◌, ℕ, suc, ◌<◌, Bool, true, false, cond, ◌&&◌, ◌||◌, eqb, List, [], ◌∷◌, length, filter, get_or, AllPairs, All, Contains, refl, sym, ◌∙◌, ap, arith, eqb-true, nat_eq}
 use Rattle.std.proofs.lemmas.List.Elements.{All-from_recursion, recursion_from_All}
 use Rattle.std.proofs.lemmas.List.Folds.{Any-from_list_any, list_any_at}
 use Rattle.std.proofs.lemmas.List.Kept.{AllPairs-cons, Contains-dedup_nat, Contains-from_dedup}
@@ -26,23 +25,7 @@ any_cond false t x xs = refl
 pub has_filter : (p : ℕ → Bool) (xs : List ℕ) (t : ℕ)
     → has_number (filter p xs) t ≡ (p t && has_number xs t)
 has_filter p [] t = grind (arith, common_steps)
-has_filter p (x ∷ xs) t =
-    any_cond (p x) t x (filter p xs) ∙ ap (λ b. (p x && eqb x t) || b) (has_filter p xs t)
-    ∙ here (eqb x t) refl
-  where
-    both : (a b : Bool) → ((a && true) || (a && b)) ≡ (a && true)
-    both true b = refl
-    both false b = refl
-
-    none : (a c : Bool) → ((a && false) || c) ≡ c
-    none true c = refl
-    none false c = refl
-
-    here : (b : Bool) → eqb x t ≡ b → ((p x && b) || (p t && has_number xs t))
-        ≡ (p t && (b || has_number xs t))
-    here true e = ap (λ n. (p n && true) || (p t && has_number xs t)) (eqb-true x t e)
-        ∙ both (p t) (has_number xs t)
-    here false e = none (p x) (p t && has_number xs t)
+has_filter p (x ∷ xs) t = grind (arith, has_filter p xs t, any_cond, eqb-true)
 
 -- ---- ascending lists
 

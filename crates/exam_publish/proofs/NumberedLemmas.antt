@@ -31,9 +31,7 @@ counted : (T : Placing) (q : Place) (seen : List Pair) (p : Pair) (o : Option Pl
     → place_of T p.exam ≡ o
     → count_by (sits_at T q) (seen ++ p ∷ [])
     ≡ count_by (sits_at T q) seen + cond (place_satisfies (is_one_place q) o) 1 0
-counted T q seen p o is =
-    sum_by_push (λ z. cond (sits_at T q z) 1 0) seen p
-    ∙ ap (λ z. count_by (sits_at T q) seen + cond (place_satisfies (is_one_place q) z) 1 0) is
+counted T q seen p o is = grind (arith, sum_by_push)
 
 one_more : (T : Placing) (seen : List Pair) (p : Pair) (at : Place)
     (current : List SeatRow) (row : SeatRow)

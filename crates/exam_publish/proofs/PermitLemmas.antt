@@ -1,7 +1,6 @@
 -- The first exam without a place, and the meaning of a refusal.
 use Rattle.std.proofs.lemmas.Grind.{common_steps}
-use Rattle.std.proofs.Common.{◌≡◌, ℕ, ◌<◌, ◌≤◌, not, Option, Some, None, length, refl, sym, ap, arith, lt-ltb, le-ltb, rules}
-use Rattle.std.specs.Prelude.{IsSome, is_none}
+use Rattle.std.proofs.Common.{◌≡◌, ℕ, ◌<◌, ◌≤◌, not, Option, Some, None, length, refl, sym, ap, arith, lt-ltb, le-ltb, rules, IsSome, is_none}
 use Rattle.std.specs.List.{position_or_len}
 use Rattle.std.proofs.lemmas.Bool.{cases_lt, not-false}
 use Rattle.std.proofs.lemmas.Option.{none-some}

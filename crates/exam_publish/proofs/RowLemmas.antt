@@ -1,7 +1,7 @@
 -- The enrolments that rows are: their pairs are those of the rows.
 use Rattle.std.proofs.lemmas.Grind.{common_steps}
-use Rattle.std.specs.List.{cons_option, list_any, AllByRecursion, range_with_len}
-use Rattle.std.proofs.Common.{◌≡◌, ◌≢◌, ℕ, zero, suc, ◌+◌, ◌<◌, ◌≤◌, ◌⊎◌, inl, inr, Bool, true, false, cond, eqb, List, [], ◌∷◌, ◌++◌, length, map, filter, filter_map, Some, option_map, All, refl, sym, ◌∙◌, ap, ap₂, subst, arith, eqb-true, rules}
+use Rattle.std.specs.List.{list_any, AllByRecursion, range_with_len}
+use Rattle.std.proofs.Common.{◌≡◌, ◌≢◌, ℕ, zero, suc, ◌+◌, ◌<◌, ◌≤◌, ◌⊎◌, inl, inr, Bool, true, eqb, List, [], ◌∷◌, ◌++◌, length, map, Some, All, refl, sym, ◌∙◌, ap, ap₂, subst, arith, eqb-true, rules}
 use mathlib.Core.Bool.{true≢false}
 use Rattle.std.proofs.lemmas.Bool.{and_from, cases_eq, cases_lt, eq-eqb, ne_eqb, or_right, or_left}
 use Rattle.std.proofs.lemmas.List.{get_or_past, length-map}
@@ -12,7 +12,7 @@ use Rattle.exam_lists.proofs.Each.{each_weaker, each_map}
 use Rattle.exam_lists.proofs.Tests.{any_map}
 use Rattle.exam_model.specs.Enrolments.{Enrolled, AreEnrolments, AreNumbers, has_number, students}
 use Rattle.exam_model.specs.Fits.{period_of}
-use Rattle.exam_model.specs.Pairs.{Pair, is_pair, pairs_at, pairs_from, pairs_of}
+use Rattle.exam_model.specs.Pairs.{is_pair, pairs_at, pairs_from, pairs_of}
 use Rattle.exam_model.specs.Timetable.{Placing}
 use Rattle.exam_model.proofs.PairLemmas.{are_pairs}
 use Rattle.exam_score.specs.Regrouping.{periods_of, AreStudentsOf}
@@ -102,9 +102,7 @@ numbers_in [] e h = λ s is. absurd (true≢false (sym is))
 numbers_in (r ∷ rs) e h = grind (arith, common_steps, cases_eq, ne_eqb, numbers_in rs e h.1)
 
 none_past : (n : ℕ) (rows : List SeatRow) (e : ℕ) → n ≤ e → students (enrolled_in n rows) e ≡ []
-none_past n rows e past =
-    get_or_past (enrolled_in n rows) e []
-    (omega (arith, length-map-range_with_len (students_in rows) 0 n))
+none_past n rows e past = grind (arith, get_or_past, length-map-range_with_len)
 
 numbered_enrolments : (n : ℕ) (rows : List SeatRow) (e : ℕ)
     → AllByRecursion (λ row. row.student ≤ 999999999) rows
@@ -177,18 +175,4 @@ pub candidate_periods : (T : Placing) (rows : List SeatRow) (s : ℕ)
     → AllByRecursion (IsAtExam T) rows
     → periods_of (map row_pair rows) (period_of T) s ≡ map (λ row. row.period) (rows_of s rows)
 candidate_periods T [] s h = refl
-candidate_periods T (r ∷ rs) s h = go (eqb r.student s) (candidate_periods T rs s h.1)
-  where
-    at_period : period_of T r.exam ≡ Some r.period
-    at_period = ap (option_map (λ at. at.period)) h.0
-
-    go : (b : Bool) → periods_of (map row_pair rs) (period_of T) s
-        ≡ map (λ row. row.period) (rows_of s rs)
-        → filter_map (period_of T)
-        (map (λ (p : Pair). p.exam)
-        (cond b (row_pair r ∷ filter (λ p. eqb p.student s) (map row_pair rs))
-        (filter (λ p. eqb p.student s) (map row_pair rs))))
-        ≡ map (λ row. row.period) (cond b (r ∷ rows_of s rs) (rows_of s rs))
-    go true more = ap (λ o. cons_option o (periods_of (map row_pair rs) (period_of T) s)) at_period
-        ∙ ap (λ ps. r.period ∷ ps) more
-    go false more = more
+candidate_periods T (r ∷ rs) s h = grind (arith, candidate_periods T rs s h.1)

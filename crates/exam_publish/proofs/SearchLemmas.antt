@@ -4,8 +4,7 @@ use Rattle.std.specs.List.{list_any, find}
 use Rattle.std.specs.List.Sorted.{IsBinarySearchResult, IsSearchInRange, IsSortedBy}
 use Rattle.std.specs.Ordering.{nat_cmp, ordering_then, is_eq, is_lt}
 use Rattle.std.specs.Cmp.{then_total, on_total, nat_cmp_total, IsTotalOrder}
-use Rattle.std.specs.Prelude.{is_ok, ◌&&◌}
-use Rattle.std.proofs.Common.{◌≡◌, ℕ, ◌+◌, ◌<◌, ◌≤◌, ◌⊎◌, inl, inr, Bool, true, false, cond, eqb, List, [], length, get_or, Some, None, Result, Ok, Err, All, IsSorted, Equal, refl, sym, ◌∙◌, ap, subst, arith, eqb-true, rules}
+use Rattle.std.proofs.Common.{◌≡◌, ℕ, ◌+◌, ◌<◌, ◌≤◌, ◌⊎◌, inl, inr, Bool, true, false, cond, List, [], length, get_or, Some, None, Result, Ok, Err, All, IsSorted, Equal, refl, sym, ◌∙◌, ap, subst, arith, eqb-true, rules, is_ok, ◌&&◌}
 use Rattle.std.proofs.lemmas.Bool.{cases_lt, cases_eq, and_parts, and_from, false_from_ne_true, true≢false, and_right}
 use Rattle.std.proofs.lemmas.Bool.Decides.{nat_tests}
 use Rattle.std.proofs.lemmas.List.{get_or_default}
@@ -46,14 +45,7 @@ held_found xs x r sorted bound is =
 -- a held seat has a number of at most 100,000
 pub held_small : (xs : List Held) (at : Place) (n : ℕ) → All (λ (h : Held). h.seat ≤ 100000) xs
     → list_any (is_held at n) xs ≡ true → n ≤ 100000
-held_small xs at n small any =
-    let there = Any-from_list_any (is_held at n) xs any in
-    let x : Held = there.1 in
-    let low : x.seat ≤ 100000 =
-    subst (λ (h : Held). h.seat ≤ 100000) there.3 (small there.0 x there.2) in
-    let parts = and_parts (eqb x.period at.period) (eqb x.room at.room && eqb x.seat n) there.4 in
-    let seat = eqb-true x.seat n (and_parts (eqb x.room at.room) (eqb x.seat n) parts.1).1 in
-    omega arith
+held_small xs at n small any = grind (arith, Any-from_list_any, and_parts, eqb-true)
 
 -- ---- rows in order
 
@@ -84,18 +76,7 @@ pair_of row p h = grind (arith, nat_tests, h)
 
 other_pair : (p : Pair) (at : Place) (q row : SeatRow) → is_pair row.student row.exam p ≡ true
     → RowBefore q row ⊎ RowBefore row q → is_row_at p at q ≡ false
-other_pair p at q row mine apart =
-    let of = and_parts (eqb p.student row.student) (eqb p.exam row.exam) mine in
-    let s = eqb-true p.student row.student of.0 in
-    let e = eqb-true p.exam row.exam of.1 in
-    false_from_ne_true (is_row_at p at q) (λ it.
-    let pair = and_parts (eqb p.student q.student) (eqb p.exam q.exam)
-    (and_parts (is_pair q.student q.exam p) (is_one_place at (row_place q)) it).0 in
-    clash s e (eqb-true p.student q.student pair.0) (eqb-true p.exam q.exam pair.1) apart)
-  where
-    clash : p.student ≡ row.student → p.exam ≡ row.exam → p.student ≡ q.student → p.exam ≡ q.exam
-        → RowBefore q row ⊎ RowBefore row q → ⊥
-    clash a b c d h = grind (arith, common_steps)
+other_pair p at q row mine apart = grind (arith, and_parts, eqb-true, false_from_ne_true)
 
 -- the row found by a search for a pair
 pub row_found : (xs : List SeatRow) (p : Pair) (at : Place) (i : ℕ) (row : SeatRow) → RowsInOrder xs
@@ -122,18 +103,8 @@ row_found xs p at i row order lt is equal = go (is_one_place at (row_place row))
 
     go : (b : Bool) → is_one_place at (row_place row) ≡ b
         → find (is_row_at p at) xs ≡ cond b (Some row) None
-    go true here =
-        find_one (is_row_at p at) xs i row lt is
-        (and_from (is_pair row.student row.exam p) (is_one_place at (row_place row)) mine here)
-        (λ k d below. others k d (omega arith) (λ e. omega arith))
-    go false away =
-        find_none (is_row_at p at) xs
-        (λ k d within. elim (cases_eq k i) as (λ _. is_row_at p at (get_or xs k d) ≡ false) [
-          | inl same ↦ ap (λ n. is_row_at p at (get_or xs n d)) same
-              ∙ ap (is_row_at p at) (sym (is ∙ get_or_default xs i row d lt))
-              ∙ and_right (is_pair row.student row.exam p) (is_one_place at (row_place row)) away
-          | inr other ↦ others k d within other
-        ])
+    go true here = grind (arith, and_from, find_one, mine, others)
+    go false away = grind (arith, and_right, cases_eq, find_none, get_or_default, others)
 
 pub no_row : (xs : List SeatRow) (p : Pair) (at : Place) (i : ℕ) → RowsInOrder xs
     → IsBinarySearchResult

@@ -1,8 +1,7 @@
 -- Facts about all seats: each exists in its room, no seat is assigned twice, and rows are in order.
 use Rattle.std.proofs.lemmas.Grind.{common_steps}
 use Rattle.std.specs.List.{AllByRecursion, cons_option, find}
-use Rattle.std.specs.Prelude.{IfSome, IsSome, is_none, slice_get}
-use Rattle.std.proofs.Common.{◌≡◌, ℕ, zero, suc, ◌+◌, ◌<◌, ◌≤◌, inl, inr, Bool, true, false, cond, ◌&&◌, eqb, ltb, List, [], ◌∷◌, ◌++◌, length, map, get_or, Option, None, Some, option_map, count_by, AllPairs, Contains, refl, sym, ◌∙◌, ap, subst, arith, lt-ltb, eqb-true, rules}
+use Rattle.std.proofs.Common.{◌≡◌, ℕ, zero, suc, ◌+◌, ◌<◌, ◌≤◌, inl, inr, Bool, true, false, cond, ◌&&◌, eqb, ltb, List, [], ◌∷◌, ◌++◌, length, map, get_or, Option, None, Some, option_map, count_by, AllPairs, Contains, refl, sym, ◌∙◌, ap, subst, arith, lt-ltb, eqb-true, rules, IfSome, IsSome, is_none, slice_get}
 use Rattle.std.proofs.lemmas.Bool.{and_parts, and_from, eq-eqb, cond-true, false_from_ne_true, false≢true, true≢false, cases_lt, cases_eq, or_left, ltb-false}
 use Rattle.std.proofs.lemmas.List.{length-map, get_or_default}
 use Rattle.std.proofs.lemmas.List.Elements.{All-from_recursion, recursion_from_All, All-contains_itself, All-contains}
@@ -69,10 +68,8 @@ fair T old p at here =
     = λ row h. and_parts (is_pair row.student row.exam p) (is_one_place at (row_place row)) h in
     record {
       at_exam = here;
-      pair = IfSome_then (find (is_row_at p at) old) found
-          (λ row k. one_pair row p (parts row k.1).0);
-      place = IfSome_then (find (is_row_at p at) old) found
-          (λ row k. one_place at (row_place row) (parts row k.1).1);
+      pair = grind (arith, common_steps, IfSome_then, one_pair);
+      place = grind (arith, common_steps, IfSome_then, one_place);
       from_old = IfSome_then (find (is_row_at p at) old) found (λ row k. k.0);
     }
 
@@ -117,9 +114,7 @@ abbrev pub is_new_at : Place → Entrant → Bool
 is_new_at at x = is_none x.kept && is_one_place at x.place
 
 pub same_place : (at : Place) → is_one_place at at ≡ true
-same_place at =
-    and_from (eqb at.period at.period) (eqb at.room at.room) (eq-eqb at.period at.period refl)
-    (eq-eqb at.room at.room refl)
+same_place at = grind (arith, and_from, eq-eqb)
 
 -- each row's seat exists in its room
 abbrev Has : Session → List SeatRow → Type 0
@@ -308,9 +303,7 @@ at_within n f (x ∷ xs) later lt h = (lt, at_within n f xs later lt h)
 pub from_within : (n f : ℕ) (E : Enrolled) → f + length E ≤ n
     → AllByRecursion (λ p. p.exam < n) (pairs_from f E)
 from_within n f [] h = tt
-from_within n f (xs ∷ rest) h =
-    at_within n f xs (pairs_from (f + 1) rest) (omega arith)
-    (from_within n (f + 1) rest (omega arith))
+from_within n f (xs ∷ rest) h = grind (arith, from_within n (f + 1) rest (omega arith), at_within)
 
 loaded : (E : Enrolled) (T : Placing) (at : Place) → ArePairsOf E (pairs_of E)
     → count_by (sits_at T at) (pairs_of E) ≡ load_at E T at

@@ -1,22 +1,20 @@
 -- Shares are small, belong to the students of the rows, and don't change if the rows don't.
 use Rattle.std.proofs.lemmas.Grind.{common_steps}
 use Rattle.std.specs.List.{AllByRecursion}
-use Rattle.std.proofs.Common.{◌≡◌, ℕ, ◌+◌, ◌<◌, ◌≤◌, ◌^◌, true, false, ◌&&◌, eqb, List, [], ◌∷◌, length, map, sum_by, All, refl, sym, ap, ap₂, subst, arith, eqb-true}
+use Rattle.std.proofs.Common.{◌≡◌, ℕ, ◌+◌, ◌<◌, ◌≤◌, ◌^◌, true, false, ◌&&◌, List, [], ◌∷◌, length, map, All, refl, sym, ap, ap₂, subst, arith, eqb-true}
 use Rattle.std.proofs.lemmas.Bool.{and_parts, not-false}
 use Rattle.std.proofs.lemmas.List.Elements.{All-from_recursion, recursion_from_All}
 use Rattle.std.proofs.lemmas.List.FromFn.{length-map-range_with_len}
-use Rattle.std.proofs.lemmas.List.Sums.{sum_by-cons}
 use Rattle.exam_lists.proofs.Chains.{chain_from_index}
 use Rattle.exam_lists.proofs.Sums.{each_below_sum}
 use Rattle.exam_lists.proofs.Tests.{any_map}
 use Rattle.exam_model.specs.Enrolments.{Enrolled, IsAscending, has_number}
 use Rattle.exam_model.specs.Instance.{Session, IsInstance}
 use Rattle.exam_model.specs.Timetable.{Placing}
-use Rattle.exam_score.specs.Penalty.{PersonalPenalty, personal_total}
+use Rattle.exam_score.specs.Penalty.{PersonalPenalty}
 use Rattle.exam_score.specs.Track.{track}
 use Rattle.exam_score.proofs.SmallLemmas.{penalty_small}
 use Rattle.exam_publish.specs.declared.seat_row.SeatRow.{SeatRow}
-use Rattle.exam_publish.specs.declared.share_lists.RoomShare.{RoomShare}
 use Rattle.exam_publish.specs.AddUp.{AddUpTo, AreSmall, share_total}
 use Rattle.exam_publish.specs.Changed.{rows_of, has_row, same_row, same_rows, is_changed, students_of}
 use Rattle.exam_publish.specs.Rows.{RowBefore, AreNumbered, ArePublishedRows, students_in, enrolled_in}
@@ -28,21 +26,7 @@ use Rattle.exam_publish.proofs.RowLemmas.{are_enrolments}
 -- ---- rows that stay
 
 equal_row : (r q : SeatRow) → same_row r q ≡ true → r ≡ q
-equal_row r q h =
-    let a = and_parts (eqb r.student q.student)
-    (eqb r.exam q.exam && (eqb r.period q.period && (eqb r.room q.room && eqb r.seat q.seat)))
-    h in
-    let b = and_parts (eqb r.exam q.exam)
-    (eqb r.period q.period && (eqb r.room q.room && eqb r.seat q.seat)) a.1 in
-    let c = and_parts (eqb r.period q.period) (eqb r.room q.room && eqb r.seat q.seat) b.1 in
-    let d = and_parts (eqb r.room q.room) (eqb r.seat q.seat) c.1 in
-    fields (eqb-true r.student q.student a.0) (eqb-true r.exam q.exam b.0)
-    (eqb-true r.period q.period c.0) (eqb-true r.room q.room d.0) (eqb-true r.seat q.seat d.1)
-  where
-    fields : r.student ≡ q.student → r.exam ≡ q.exam → r.period ≡ q.period → r.room ≡ q.room
-        → r.seat ≡ q.seat → r ≡ q
-    fields a b c d e =
-        λ i. record { student = a i; exam = b i; period = c i; room = d i; seat = e i }
+equal_row r q h = grind (arith, and_parts, eqb-true)
 
 equal_rows : (rs qs : List SeatRow) → same_rows rs qs ≡ true → rs ≡ qs
 equal_rows [] [] h = refl
@@ -84,28 +68,7 @@ shares_seated I rows s = grind (arith, common_steps, sharing, has_ascending, any
 
 pub small_shares : (n : ℕ) → n ≡ 2 ^ 62 → (shares : Sharing) → share_total shares < n
     → AreSmall shares
-small_shares n is shares h =
-    let a = each_below_sum (λ (share : ℕ × PersonalPenalty). personal_total share.1) n shares.students
-    (omega arith) in
-    let b = each_below_sum (λ (share : ℕ). share) n shares.exams (omega arith) in
-    let c = each_below_sum (λ (share : ℕ). share) n shares.periods (omega arith) in
-    let d = each_below_sum (λ (share : RoomShare). share.penalty + share.mixed) n shares.rooms
-    (omega arith) in
-    record {
-      students = subst
-          (λ m. All (λ (share : ℕ × PersonalPenalty). personal_total share.1 < m) shares.students)
-          is
-          (All-from_recursion (λ (share : ℕ × PersonalPenalty). personal_total share.1 < n)
-          shares.students a);
-      exams = subst (λ m. All (λ (share : ℕ). share < m) shares.exams) is
-          (All-from_recursion (λ (share : ℕ). share < n) shares.exams b);
-      periods = subst (λ m. All (λ (share : ℕ). share < m) shares.periods) is
-          (All-from_recursion (λ (share : ℕ). share < n) shares.periods c);
-      rooms = subst (λ m. All (λ (share : RoomShare). share.penalty + share.mixed < m) shares.rooms)
-          is (All-from_recursion
-          (λ (share : RoomShare). share.penalty + share.mixed < n) shares.rooms d);
-      total = subst (λ m. share_total shares < m) is h;
-    }
+small_shares n is shares h = grind (arith, common_steps, All-from_recursion, each_below_sum)
 
 pub published_small : (I : Session) (rows : List SeatRow) (T : Placing) (shares : Sharing)
     → IsInstance I → ArePublishedRows I rows T → AreNumbered rows

@@ -1,7 +1,6 @@
 -- The sizes of exams by their rows, and the order of exams by size.
 use Rattle.std.proofs.lemmas.Grind.{common_steps}
-use Rattle.std.proofs.Common.{◌≡◌, ℕ, ◌<◌, cond, List, length, ◌∙◌, ap, ap₂, one-mul, arith}
-use Rattle.std.specs.Prelude.{slice_index, nat_lt, ◌==◌, ◌&&◌, ◌||◌, if◌then◌else◌}
+use Rattle.std.proofs.Common.{◌≡◌, ℕ, ◌<◌, List, length, ◌∙◌, ap, ap₂, one-mul, arith, slice_index, nat_lt, ◌==◌, ◌&&◌, ◌||◌, if◌then◌else◌}
 use Rattle.std.proofs.lemmas.List.{length-map}
 use Rattle.std.proofs.lemmas.List.Sums.{length-filter}
 use Rattle.exam_model.specs.Enrolments.{size_of}
@@ -33,9 +32,7 @@ front_is I rows T sizes e are within =
     = λ f l. ap₂ (λ a b. nat_lt a b || ((b == a) && nat_lt f e)) (size e within) (size f l) in
     let count : count_below (length sizes) (λ f. is_larger_by sizes f e)
     ≡ count_below (length I.exams) (λ f. is_larger E f e)
-    = ap (λ n. count_below n (λ f. is_larger_by sizes f e)) are.count
-    ∙ sum_below-within (λ f. cond (is_larger_by sizes f e) 1 0) (λ f. cond (is_larger E f e) 1 0)
-    (length I.exams) (λ f l. ap (λ b. cond b 1 0) (same f l)) in
+    = grind (arith, common_steps, sum_below-within) in
     ap (λ n. if nat_lt n I.weights.front_exams && is_late I (place_of T e) then I.weights.front
     else 0)
     count

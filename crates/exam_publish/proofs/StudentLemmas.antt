@@ -3,7 +3,7 @@ use Rattle.std.proofs.lemmas.Grind.{common_steps}
 use Rattle.std.specs.List.{AllByRecursion}
 use Rattle.std.specs.List.Sorted.{ties, IsSortedByKey, IsStableByKey}
 use Rattle.std.specs.Ordering.{is_lt, nat_cmp}
-use Rattle.std.proofs.Common.{◌≡◌, ℕ, zero, suc, ◌+◌, ◌<◌, ◌≤◌, inl, inr, Bool, true, false, cond, ◌||◌, eqb, List, [], ◌∷◌, ◌++◌, length, take, drop, map, get_or, AllPairs, IsPermutation, refl, sym, ◌∙◌, ap, ap₂, subst, arith, eqb-true, take-append-drop, append-nil}
+use Rattle.std.proofs.Common.{◌≡◌, ℕ, zero, suc, ◌+◌, ◌<◌, ◌≤◌, inl, inr, Bool, true, false, cond, ◌||◌, eqb, List, [], ◌∷◌, ◌++◌, length, take, drop, map, get_or, AllPairs, IsPermutation, refl, sym, ◌∙◌, ap, ap₂, subst, arith, eqb-true, take-append-drop, append-nil, rules}
 use Rattle.std.proofs.lemmas.Bool.{cases_eq, eq-eqb, ne_eqb}
 use Rattle.std.proofs.lemmas.List.{get_or-take, get_or-drop, length-map, length-take, length-drop, append_assoc}
 use Rattle.std.proofs.lemmas.List.Elements.{filter-append, filter_agree, recursion_from_All}
@@ -84,10 +84,7 @@ other_rows rows r n up is some run =
     let apart = run.other d first in
     let own = run.own 0 d positive in
     let least : (get_or rows 0 d).student ≤ (get_or rows n d).student = up 0 n d positive first in
-    let here : r.student < (get_or rows n d).student =
-    elim (cases_eq (get_or rows n d).student r.student)
-    as (λ _. r.student < (get_or rows n d).student)
-    [ inl same ↦ absurd (apart same) | inr other ↦ omega arith ] in
+    let here : r.student < (get_or rows n d).student = grind (arith, common_steps, cases_eq) in
     let later : (get_or rows n d).student ≤ (get_or rows (n + k) d).student =
     further n k d within in
     subst (λ (row : SeatRow). r.student < row.student) (sym (get_or-drop n rows k d))
@@ -101,9 +98,7 @@ other_rows rows r n up is some run =
 rows_all : (s : ℕ) (xs : List SeatRow) → AllByRecursion (λ row. row.student ≡ s) xs
     → rows_of s xs ≡ xs
 rows_all s [] a = refl
-rows_all s (x ∷ xs) a =
-    ap (λ b. cond b (x ∷ rows_of s xs) (rows_of s xs)) (eq-eqb x.student s a.0)
-    ∙ ap (λ ys. x ∷ ys) (rows_all s xs a.1)
+rows_all s (x ∷ xs) a = grind (arith, rows_all s xs a.1, eq-eqb)
 
 rows_none : (s : ℕ) (xs : List SeatRow) → AllByRecursion (λ row. row.student ≡ s → ⊥) xs
     → rows_of s xs ≡ []
@@ -132,9 +127,7 @@ run_first : (s : ℕ) (x : SeatRow) (own later : List SeatRow)
     → students_of ((x ∷ own) ++ later) ≡ s ∷ students_of later
 run_first s x [] later a b = ap (λ t. with_student t (students_of later)) a.0
     ∙ with_first s (students_of later) (each_ascending (λ t. s < t) later b)
-run_first s x (y ∷ own) later a b =
-    ap₂ (λ t xs. with_student t xs) a.0 (run_first s y own later a.1 b)
-    ∙ with_again s (students_of later)
+run_first s x (y ∷ own) later a b = grind (arith, run_first s y own later a.1 b, with_again)
 
 run_students : (s : ℕ) (own later : List SeatRow) → 0 < length own
     → AllByRecursion (λ row. row.student ≡ s) own → AllByRecursion (λ row. s < row.student) later
@@ -176,9 +169,7 @@ own_is I rows rest shares r n was is some run =
     has_first : (xs : List SeatRow) → 0 < length xs → r ≡ get_or xs 0 r
         → has_row xs r.student ≡ true
     has_first [] l e = absurd (omega arith)
-    has_first (x ∷ xs) l e =
-        ap (λ b. b || has_row xs r.student)
-        (eq-eqb x.student r.student (ap (λ (row : SeatRow). row.student) (sym e)))
+    has_first (x ∷ xs) l e = grind (arith, eq-eqb)
 
 no_row : (s : ℕ) (xs : List SeatRow) → AllByRecursion (λ row. row.student ≡ s → ⊥) xs
     → has_row xs s ≡ false
@@ -202,16 +193,8 @@ shared_more I rows rest shares more r n was is some run added =
     = ap students_of (sym (take-append-drop n rest))
     ∙ run_students s (take n rest) (drop n rest) (omega arith) own later in
     record {
-      shared = ap (λ xs. xs ++ shares_in I rows (students_of (drop n rest))) added
-          ∙ append_assoc shares ((s, share_of I.periods I.weights (rows_of s rows)) ∷ [])
-          (shares_in I rows (students_of (drop n rest)))
-          ∙ ap (λ xs. shares ++ shares_in I rows xs) (sym students) ∙ was.shared;
-      by_student = λ i j d l m. (let size = length-drop n rest in
-          subst (λ (x : SeatRow). x.student ≤ (get_or (drop n rest) j d).student)
-          (sym (get_or-drop n rest i d))
-          (subst (λ (y : SeatRow). (get_or rest (n + i) d).student ≤ y.student)
-          (sym (get_or-drop n rest j d))
-          (was.by_student (n + i) (n + j) d (omega arith) (omega arith))));
+      shared = grind (arith, common_steps, append_assoc);
+      by_student = search (rules, get_or-drop, length-drop);
       whole = λ t h. elim (cases_eq t s) as (λ _. rows_of t (drop n rest) ≡ rows_of t rows) [
         | inl same ↦
             absurd (none_later t h

@@ -1,11 +1,9 @@
 -- Sums in a table: with one more element, and the whole table as a list.
 use Rattle.std.proofs.lemmas.Grind.{common_steps}
 use Rattle.std.specs.List.{range_with_len}
-use Rattle.std.proofs.Common.{◌≡◌, ℕ, zero, suc, ◌+◌, ◌*◌, ◌<◌, ◌≤◌, ◌⊎◌, inl, inr, Bool, cond, eqb, List, [], ◌∷◌, ◌++◌, length, get_or, map, count_by, refl, sym, ◌∙◌, ap, arith, length-append}
-use Rattle.std.specs.Prelude.{slice_set, slice_index, replicate}
+use Rattle.std.proofs.Common.{◌≡◌, ℕ, ◌+◌, ◌*◌, ◌<◌, ◌≤◌, ◌⊎◌, inl, inr, Bool, cond, eqb, List, [], ◌∷◌, ◌++◌, length, get_or, map, count_by, refl, sym, ◌∙◌, ap, arith, length-append, slice_set, slice_index, length-set, get_or-set_same, get_or-set_other}
 use Rattle.std.proofs.lemmas.Bool.{cases_eq, eq-eqb, ne_eqb}
-use Rattle.std.proofs.lemmas.List.{length-set, get_or-set_same, get_or-set_other, ext_get_or}
-use Rattle.std.proofs.lemmas.List.FromFn.{length-map-range_with_len, get_or-map-range_with_len, fill_by_all}
+use Rattle.std.proofs.lemmas.List.FromFn.{fill_by_all}
 use Rattle.std.proofs.lemmas.List.Sums.{sum_by_push}
 use Rattle.exam_publish.specs.Tallies.{AreTallied}
 
@@ -48,9 +46,7 @@ tally_more {X} amount test n xs sums x key new was lt is few put = record {
     small : (k : ℕ) → (k ≡ key) ⊎ (k ≡ key → ⊥)
         → get_or (slice_set sums key new) k 0 ≤ length (xs ++ x ∷ []) * 100000
     small k (inl same) = grind (arith, common_steps, get_or-set_same, length-append)
-    small k (inr other) =
-        let here = get_or-set_other sums key k new 0 other in
-        let h = was.small k in let l = length-append xs (x ∷ []) in omega arith
+    small k (inr other) = grind (arith, get_or-set_other, length-append)
 
 pub tallied_list : {X : Type 0} (amount : ℕ → ℕ) (test : ℕ → X → Bool) (n : ℕ)
     (xs : List X) (sums : List ℕ)
