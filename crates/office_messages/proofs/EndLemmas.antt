@@ -1,5 +1,6 @@
 -- A head waits for nothing more after its end.
-use Rattle.std.proofs.Common.{◌≡◌, ◌≢◌, ℕ, ◌+◌, ◌-◌, ◌<◌, ◌≤◌, Bool, true, false, cond}
+use Rattle.std.proofs.lemmas.Grind.{common_steps}
+use Rattle.std.proofs.Common.{◌≡◌, ◌≢◌, ℕ, ◌-◌, ◌<◌, ◌≤◌, Bool, true, false, cond, rules}
 use Rattle.std.proofs.Common.{List, [], ◌∷◌, ◌++◌, length, take, drop, Option, Some, None, flat_map}
 use Rattle.std.proofs.Common.{refl, sym, ap, ◌∙◌, append_assoc, append-nil, arith}
 use Rattle.std.proofs.Common.{length-append, take-append-drop, inl, inr, ◌⊎◌}
@@ -90,10 +91,7 @@ line_off : (content : List ℕ) (e : LineEnd) (t q : List ℕ) (c : ℕ) (a b : 
 line_off [] e t q c a b r all not_lf not_cr is = no_content e t q c a b r not_lf not_cr is
 line_off (y ∷ ys) e t [] c a b r all not_lf not_cr is = at_last y ys e t c a b r all cc
 line_off (y ∷ ys) e t (x ∷ q) c a b r all not_lf not_cr is =
-    elim (line_off ys e t q c a b r (All-tail IsPlain y ys all) not_lf not_cr cc) [
-      | inl h ↦ inl (omega arith, h.1)
-      | inr h ↦ inr h
-    ]
+    search (rules, line_off ys e t q c a b r (All-tail IsPlain y ys all) not_lf not_cr, All-tail)
 
 -- ---- the lines of a head
 
@@ -101,8 +99,7 @@ name_starts : (name rest : List ℕ) (b : LineEnd) (r : List ℕ) → IsToken na
     → name ++ rest ≡ print_end b ++ r → ⊥
 name_starts [] rest b r token is = omega (arith, token.0)
 name_starts (x ∷ name) rest b r token is =
-    not_plain b x (name ++ rest) r
-    (token_is_plain x (All-head (λ b. IsTrue (is_token_byte b)) x name token.1)) is
+    grind (arith, common_steps, All-head, not_plain, token_is_plain)
 
 -- an empty line ends the fields
 no_empty_field : (fields : List Field) (last b : LineEnd) (r : List ℕ) → All IsField fields
@@ -110,16 +107,11 @@ no_empty_field : (fields : List Field) (last b : LineEnd) (r : List ℕ) → All
 no_empty_field [] last b r all is =
     sym (one_line_end last b [] r (append-nil (print_end last) ∙ is))
 no_empty_field (f ∷ fields) last b r all is =
-    absurd (name_starts f.name _ b r (All-head IsField f fields all).name
-    (sym (append_under_first f.name (58 ∷ f.raw) (print_end f.end) (flat_map print_field fields)
-    (print_end last)) ∙ is))
+    grind (arith, common_steps, All-head, append_under_first, name_starts)
 
 field_is_plain : (f : Field) → IsField f → All IsPlain (f.name ++ 58 ∷ f.raw)
 field_is_plain f is =
-    All-append IsPlain f.name (58 ∷ f.raw)
-    (All-weaker (λ b. IsTrue (is_token_byte b)) IsPlain token_is_plain f.name is.name.1)
-    (All-cons IsPlain 58 f.raw (omega arith, omega arith)
-    (All-weaker (λ b. IsTrue (is_value_byte b)) IsPlain value_is_plain f.raw is.raw))
+    grind (arith, common_steps, All-append, All-cons, All-weaker, token_is_plain, value_is_plain)
 
 -- the end of the fields is the one end
 fields_end_once : (fields : List Field) (last : LineEnd) (q : List ℕ) (c : ℕ) (a b : LineEnd)
@@ -157,30 +149,7 @@ after_blank (e ∷ blank) t q c a b r not_lf not_cr is =
     ]
 
 version_is_plain : (minor : ℕ) → minor ≤ 1 → All IsPlain (print_version minor)
-version_is_plain minor small =
-    let byte : (b : ℕ) → 45 < b → IsPlain b = λ b h. (omega arith, omega arith) in
-    All-from_recursion IsPlain (print_version minor) (
-      byte 72 (omega arith),
-      (
-        byte 84 (omega arith),
-        (
-          byte 84 (omega arith),
-          (
-            byte 80 (omega arith),
-            (
-              byte 47 (omega arith),
-              (
-                byte 49 (omega arith),
-                (
-                  byte 46 (omega arith),
-                  (byte (48 + minor) (omega arith), tt),
-                ),
-              ),
-            ),
-          ),
-        ),
-      ),
-    )
+version_is_plain minor small = grind (arith, common_steps, All-from_recursion)
 
 start_is_plain : (h : RequestHead) → IsRequestHead h
     → All IsPlain (h.method ++ 32 ∷ (h.target ++ 32 ∷ print_version h.minor))
@@ -250,20 +219,8 @@ by_tests : (xs line : List ℕ) (both one : Bool) → ends_with nat_eq xs crlf_b
     → ends_with nat_eq xs (10 ∷ []) ≡ one
     → cond both (Some (take (length xs - 2) xs))
     (cond one (Some (take (length xs - 1) xs)) None) ≡ Some line → LineBefore xs line
-by_tests xs line true one e f g =
-    let is : take (length xs - 2) xs ≡ line = cc in
-    record {
-      end = crlf;
-      whole = ends_with_take xs crlf_bytes e ∙ ap (λ (l : List ℕ). l ++ crlf_bytes) is;
-      crlf_not = λ no. absurd (let h : ⊥ = cc in h);
-    }
-by_tests xs line false true e f g =
-    let is : take (length xs - 1) xs ≡ line = cc in
-    record {
-      end = lf;
-      whole = ends_with_take xs (10 ∷ []) f ∙ ap (λ (l : List ℕ). l ++ 10 ∷ []) is;
-      crlf_not = λ _. e;
-    }
+by_tests xs line true one e f g = grind (arith, common_steps, ends_with_take)
+by_tests xs line false true e f g = grind (arith, common_steps, ends_with_take)
 by_tests xs line false false e f g = absurd (let h : ⊥ = cc in h)
 
 line_before : (xs line : List ℕ) → before_end xs ≡ Some line → LineBefore xs line
@@ -273,16 +230,7 @@ line_before xs line e =
 in_line : (line : List ℕ) → ends_in_line line ≡ true
     → (front : List ℕ) × (last : ℕ) × (line ≡ front ++ last ∷ []) × (last ≢ 10)
 in_line [] e = absurd (let h : ⊥ = cc in h)
-in_line (x ∷ xs) e =
-    let parts = last_of x xs in (
-      parts.0,
-      parts.1,
-      parts.2,
-      λ is. both_ways (ends_with nat_eq (x ∷ xs) (10 ∷ []))
-          (grind (arith, nat_tests))
-          (ap (λ (l : List ℕ). ends_with nat_eq l (10 ∷ []))
-          (parts.2 ∙ ap (λ (b : ℕ). parts.0 ++ b ∷ []) is) ∙ ends_with_append parts.0 (10 ∷ [])),
-    )
+in_line (x ∷ xs) e = grind (arith, common_steps, both_ways, ends_with_append, last_of x xs)
 
 one_line : (lines : List ℕ) (o : Option (List ℕ)) → before_end lines ≡ o
     → option_map_or ends_in_line o false ≡ true

@@ -1,9 +1,10 @@
 -- A head ends with a line that isn't empty, and an empty one.
-use Rattle.std.proofs.Common.{◌≡◌, ◌≢◌, ℕ, ◌+◌, ◌-◌, ◌<◌, ◌≤◌, Bool, true, false, not, ◌&&◌, cond}
+use Rattle.std.proofs.lemmas.Grind.{common_steps}
+use Rattle.std.proofs.Common.{◌≡◌, ◌≢◌, ℕ, ◌+◌, ◌-◌, ◌<◌, ◌≤◌, Bool, true, false, cond}
 use Rattle.std.proofs.Common.{List, [], ◌∷◌, ◌++◌, length, take, Option, Some, None, flat_map}
 use Rattle.std.proofs.Common.{codes, refl, sym, ap, subst, ◌∙◌, append_assoc, append-nil, arith}
 use Rattle.std.proofs.Common.{length-append, length-take, inl, inr}
-use Rattle.std.specs.Prelude.{nat_eq, nat_lt, All, IsTrue, option_and_then}
+use Rattle.std.specs.Prelude.{nat_eq, All, IsTrue, option_and_then}
 use Rattle.std.specs.List.{ends_with}
 use Rattle.std.specs.Option.{option_map_or}
 use Rattle.std.proofs.lemmas.Bool.{both_ways, cases_lt, ne_eqb, lt-ltb}
@@ -93,39 +94,16 @@ by_tests : (xs line : List ℕ) (both one : Bool) → ends_with nat_eq xs crlf_b
     → ends_with nat_eq xs (10 ∷ []) ≡ one
     → cond both (Some (take (length xs - 2) xs))
     (cond one (Some (take (length xs - 1) xs)) None) ≡ Some line → before_end xs ≡ Some line
-by_tests xs line both one e f g =
-    ap (λ (b : Bool). cond b (Some (take (length xs - 2) xs))
-    (cond (ends_with nat_eq xs (10 ∷ [])) (Some (take (length xs - 1) xs)) None)) e
-    ∙ ap (λ (b : Bool). cond both (Some (take (length xs - 2) xs))
-    (cond b (Some (take (length xs - 1) xs)) None)) f ∙ g
+by_tests xs line both one e f g = grind (arith, common_steps)
 
 line_of : (text : List ℕ) (last : ℕ) (end : LineEnd) → last ≢ 13
     → before_end ((text ++ last ∷ []) ++ print_end end) ≡ Some (text ++ last ∷ [])
-line_of text last crlf no_cr =
-    let line : List ℕ = text ++ last ∷ [] in
-    let xs : List ℕ = line ++ 13 ∷ 10 ∷ [] in
-    by_tests xs line true (ends_with nat_eq xs (10 ∷ []))
-    (ends_with_same line crlf_bytes (13 ∷ 10 ∷ []) refl) refl
-    (ap Some (take_front line (13 ∷ 10 ∷ []) 2 refl))
+line_of text last crlf no_cr = grind (arith, common_steps, by_tests, ends_with_same, take_front)
 line_of text last lf no_cr =
-    let line : List ℕ = text ++ last ∷ [] in
-    let xs : List ℕ = line ++ 10 ∷ [] in
-    let differs : ends_with nat_eq xs crlf_bytes ≡ false =
-    ap (λ (l : List ℕ). ends_with nat_eq l crlf_bytes) (append_assoc text (last ∷ []) (10 ∷ []))
-    ∙ ends_with_same text crlf_bytes (last ∷ 10 ∷ []) refl
-    ∙ ap (λ (b : Bool). b && true) (ne_eqb 13 last (λ e. no_cr (sym e))) in
-    by_tests xs line false true differs (ends_with_same line (10 ∷ []) (10 ∷ []) refl)
-    (ap Some (take_front line (10 ∷ []) 1 refl))
+    grind (arith, common_steps, append_assoc, by_tests, ends_with_same, ne_eqb, take_front)
 
 in_line : (text : List ℕ) (last : ℕ) → last ≢ 10 → ends_in_line (text ++ last ∷ []) ≡ true
-in_line text last no_lf =
-    let some : nat_lt 0 (length (text ++ last ∷ [])) ≡ true =
-    lt-ltb 0 (length (text ++ last ∷ [])) (omega (arith, length-append text (last ∷ []))) in
-    let other : ends_with nat_eq (text ++ last ∷ []) (10 ∷ []) ≡ false =
-    ends_with_same text (10 ∷ []) (last ∷ []) refl
-    ∙ ap (λ (b : Bool). b && true) (ne_eqb 10 last (λ e. no_lf (sym e))) in
-    ap (λ (b : Bool). b && not (ends_with nat_eq (text ++ last ∷ []) (10 ∷ []))) some
-    ∙ ap (λ (b : Bool). not b) other
+in_line text last no_lf = grind (arith, common_steps, ends_with_same, length-append, lt-ltb, ne_eqb)
 
 -- bytes with a line end at their end end with LF
 line_end_last : (line : List ℕ) (end : LineEnd) → (text : List ℕ)
@@ -207,18 +185,13 @@ searched_none bytes n fits none ends x =
 pub found_end : (bytes : List ℕ) (n : ℕ) → n ≤ length (take 16384 bytes)
     → ends_as_head (take n (take 16384 bytes)) ≡ true → HasEnd bytes
 found_end bytes n within ends =
-    let small : n ≤ 16384 = omega (arith, length-take 16384 bytes) in
-    record {
-      size = n;
-      within = omega (arith, length-take 16384 bytes);
-      fits = small;
-      ends = sym (ap ends_as_head (take-take n 16384 bytes small)) ∙ ends;
-    }
+    grind (
+      arith,
+      common_steps,
+      length-take 16384 bytes,
+      take-take n 16384 bytes (omega (arith, length-take 16384 bytes)),
+    )
 
 pub no_end : ¬ (HasEnd [])
 unfolding ends_as_head
-no_end x =
-    both_ways (ends_as_head []) refl
-    (sym (ap (λ (n : ℕ). ends_as_head (take n []))
-    (let e : x.size ≡ 0 = omega (arith, x.within) in e))
-    ∙ x.ends)
+no_end x = grind (arith, common_steps, both_ways)

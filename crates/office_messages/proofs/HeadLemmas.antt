@@ -1,5 +1,6 @@
 -- From the parser's result for the first bytes of a stream to the whole stream.
-use Rattle.std.proofs.Common.{◌≡◌, ℕ, ◌+◌, ◌-◌, ◌<◌, ◌≤◌, List, [], ◌++◌, length, take, drop}
+use Rattle.std.proofs.lemmas.Grind.{common_steps}
+use Rattle.std.proofs.Common.{◌≡◌, ℕ, ◌-◌, ◌<◌, ◌≤◌, List, [], ◌++◌, length, take, drop}
 use Rattle.std.proofs.Common.{sym, ap, subst, ◌∙◌, append_assoc, arith, length-append}
 use Rattle.std.proofs.Common.{take-append-drop, length-take, length-drop, Option, Some}
 use Rattle.std.proofs.Common.{None}
@@ -7,7 +8,7 @@ use Rattle.std.proofs.lemmas.List.{length-map, take-append-le, drop-append-le}
 use Rattle.std.proofs.Math.Seq.{drop-append_seam}
 use Rattle.httparse.specs.Grammar.{RequestHead, ReadsRequest, print_request}
 use Rattle.httparse.specs.Grammar.{is_token_byte, IsToken}
-use Rattle.httparse.specs.Spans.{IsRequestAt, RequestOverflows, name_and_value, header_bytes}
+use Rattle.httparse.specs.Spans.{IsRequestAt, RequestOverflows}
 use Rattle.httparse.specs.declared.spans.HeaderSpan.{HeaderSpan}
 use Rattle.httparse.specs.declared.spans.RequestSpans.{RequestSpans}
 use Rattle.httparse.specs.declared.spans.Span.{Span}
@@ -38,23 +39,15 @@ pub head_of_front : (bytes : List ℕ) (n : ℕ) (h : RequestHead) (len : ℕ)
     → len ≡ length (print_request h) → length h.fields ≤ 32 → n ≤ 16384
     → ReadsRequest (take n bytes) h (drop len (take n bytes)) → HasHead bytes h (drop len bytes)
 head_of_front bytes n h len is room small r =
-    let whole : bytes ≡ print_request h ++ (drop len (take n bytes) ++ drop n bytes) =
-    sym (take-append-drop n bytes) ∙ ap (λ l. l ++ drop n bytes) r.1
-    ∙ append_assoc (print_request h) (drop len (take n bytes)) (drop n bytes) in
-    let rest =
-    rest_of bytes h (drop len (take n bytes) ++ drop n bytes) (r.0, whole)
-    ∙ ap (λ k. drop k bytes) (sym is) in
-    record {
-      reads = (r.0, whole ∙ ap (λ l. print_request h ++ l) rest);
-      room = room;
-      fits = omega (
-        arith,
-        ap length r.1,
-        length-append (print_request h)
-            (drop len (take n bytes)),
-        length-take n bytes,
-      );
-    }
+    grind (
+      arith,
+      common_steps,
+      append_assoc (print_request h) (drop len (take n bytes)) (drop n bytes),
+      length-append (print_request h) (drop len (take n bytes)),
+      length-take n bytes,
+      rest_of,
+      take-append-drop n bytes,
+    )
 
 -- too many headers in the first bytes are too many in all
 pub overflows_of_front : (bytes : List ℕ) (n : ℕ) (room : ℕ) → RequestOverflows room (take n bytes)
@@ -69,15 +62,7 @@ overflows_of_front bytes n room over more h rest r =
 -- as many headers as fields
 pub count_fields : (buf : List ℕ) (headers : List HeaderSpan) (spans : RequestSpans)
     (h : RequestHead) → IsRequestAt buf headers spans h → length h.fields ≤ length headers
-count_fields buf headers spans h x =
-    omega (
-      arith,
-      ap length x.fields,
-      length-map (take spans.headers headers)
-          (header_bytes buf),
-      length-map h.fields name_and_value,
-      length-take spans.headers headers,
-    )
+count_fields buf headers spans h x = grind (arith, common_steps, length-map, length-take)
 
 -- a head has at least one byte
 pub print_some : (h : RequestHead) → 0 < length (print_request h)
@@ -125,25 +110,7 @@ parts_more bytes more x h p = record {
 -- more bytes don't move the parsed head
 pub head_at_more : (bytes more : List ℕ) (x : Head) → HeadAt bytes x → HeadAt (bytes ++ more) x
 head_at_more bytes more x at =
-    let fits : x.body.start ≤ length bytes =
-    omega (
-      arith,
-      at.parts.start,
-      ap length at.has_head.reads.1,
-      length-append
-          (print_request at.head) (drop x.body.start bytes),
-    ) in
-    record {
-      head = at.head;
-      has_head = record {
-        reads = subst (λ (l : List ℕ). ReadsRequest (bytes ++ more) at.head l)
-            (sym (drop-append-le x.body.start bytes more fits))
-            (reads_more bytes at.head (drop x.body.start bytes) more at.has_head.reads);
-        room = at.has_head.room;
-        fits = at.has_head.fits;
-      };
-      parts = parts_more bytes more x at.head at.parts;
-    }
+    grind (arith, common_steps, drop-append-le, length-append, parts_more, reads_more)
 
 -- a head parsed in the first bytes is one of all
 pub head_at_front : (bytes front : List ℕ) (x : Head) (h : RequestHead) (len : ℕ)
@@ -151,16 +118,13 @@ pub head_at_front : (bytes front : List ℕ) (x : Head) (h : RequestHead) (len :
     → length h.fields ≤ 32 → ReadsRequest front h (drop len front) → IsHeadOf front x h
     → HeadAt bytes x
 head_at_front bytes front x h len e is room reads parts =
-    let P : List ℕ → Type 0 = λ l. ReadsRequest l h (drop len l) in
-    let same : len ≡ x.body.start = is ∙ sym parts.start in
-    record {
-      head = h;
-      has_head = subst (λ (n : ℕ). HasHead bytes h (drop n bytes)) same
-          (head_of_front bytes 16384 h len is room (omega arith) (subst P e reads));
-      parts = subst (λ (l : List ℕ). IsHeadOf l x h)
-          (ap (λ (l : List ℕ). l ++ drop 16384 bytes) e ∙ take-append-drop 16384 bytes)
-          (parts_more front (drop 16384 bytes) x h parts);
-    }
+    grind (
+      arith,
+      common_steps,
+      head_of_front bytes 16384 h len is room (omega arith) (subst (λ l. ReadsRequest l h (drop len l)) e reads),
+      parts_more front (drop 16384 bytes) x h parts,
+      take-append-drop 16384 bytes,
+    )
 
 -- a byte of a name is ASCII
 token_is_ascii : (b : ℕ) → IsTrue (is_token_byte b) → b < 128
@@ -169,5 +133,4 @@ token_is_ascii b token = grind (arith, nat_tests)
 
 pub token_text : (bytes : List ℕ) → IsToken bytes → IsUtf8 bytes
 token_text bytes token =
-    IsUtf8-from_ascii bytes (IsAscii-from_all bytes
-    (All-weaker (λ b. IsTrue (is_token_byte b)) (λ b. b < 128) token_is_ascii bytes token.1))
+    grind (arith, common_steps, All-weaker, IsAscii-from_all, IsUtf8-from_ascii, token_is_ascii)

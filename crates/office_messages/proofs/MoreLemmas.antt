@@ -1,4 +1,5 @@
 -- The beginning of the received bytes doesn't change, whatever follows.
+use Rattle.std.proofs.lemmas.Grind.{common_steps}
 use Rattle.std.proofs.Common.{◌≡◌, ℕ, ◌≤◌, Bool, List, ◌++◌, length, take, drop, sym, ap, ◌∙◌}
 use Rattle.std.proofs.Common.{append_assoc, arith, length-append, take-append-drop, inl, inr}
 use Rattle.std.proofs.lemmas.List.{take-append-le, drop-append-le}
@@ -8,7 +9,7 @@ use Rattle.office_messages.specs.declared.framing.Fault.{Fault}
 use Rattle.office_messages.specs.declared.form.Form.{Form}
 use Rattle.office_messages.specs.Stream.{HasHead, PlainRequest}
 use Rattle.office_messages.specs.StreamFaults.{LacksHead, HeadFault, FaultAt}
-use Rattle.office_messages.specs.Stream.{RequestAt, request_of}
+use Rattle.office_messages.specs.Stream.{RequestAt}
 use Rattle.office_messages.proofs.HeadLemmas.{reads_more}
 
 pub head_more : (s : List ℕ) (h : RequestHead) (rest more : List ℕ) → HasHead s h rest
@@ -19,18 +20,7 @@ head_more s h rest more x =
 pub request_more : (r : PlainRequest) (last : Bool) (s rest more : List ℕ) → RequestAt r last s rest
     → RequestAt r last (s ++ more) (rest ++ more)
 request_more r last s rest more x =
-    record {
-      head = x.head;
-      after = x.after ++ more;
-      has_head = head_more s x.head x.after more x.has_head;
-      size = x.size;
-      framed = x.framed;
-      whole = omega (arith, x.whole, length-append x.after more);
-      request = x.request
-          ∙ ap (request_of x.head) (sym (take-append-le x.size x.after more x.whole));
-      closing = x.closing;
-      rest_is = ap (λ l. l ++ more) x.rest_is ∙ sym (drop-append-le x.size x.after more x.whole);
-    }
+    grind (arith, common_steps, drop-append-le, head_more, length-append, take-append-le)
 
 -- a head that fits into the received bytes is a head of these
 lacks_more : (s more : List ℕ) → 16384 ≤ length s → LacksHead s → LacksHead (s ++ more)
@@ -62,11 +52,4 @@ head_fault_more s more (some, inr x) = (
 pub fault_more : (f : Fault) (form : Form) (s more : List ℕ) → FaultAt f form s
     → FaultAt f form (s ++ more)
 fault_more f form s more (inl x) = inl (x.0, x.1, head_fault_more s more x.2)
-fault_more f form s more (inr x) =
-    inr record {
-      head = x.head;
-      after = x.after ++ more;
-      has_head = head_more s x.head x.after more x.has_head;
-      framed = x.framed;
-      form_is = x.form_is;
-    }
+fault_more f form s more (inr x) = grind (arith, common_steps, head_more)

@@ -1,4 +1,5 @@
 -- A stream has one reading, except for the one choice.
+use Rattle.std.proofs.lemmas.Grind.{common_steps}
 use Rattle.std.proofs.Common.{◌≡◌, ℕ, ◌+◌, ◌<◌, true, false, Bool, List, [], ◌∷◌, ◌++◌, length}
 use Rattle.std.proofs.Common.{take, drop, Result, Ok, Err, refl, sym, ap, subst, ◌∙◌, append-nil}
 use Rattle.std.proofs.Common.{arith, inl, inr, ◌⊎◌}
@@ -162,22 +163,7 @@ end_or_fault : (end : End) (n : ℕ) (s : List ℕ) (f : Fault) (form : Form) (i
     → FaultAt f form s → items ≡ [] → last ≡ Refused → Agree s [] end (fails f form ∷ items) last
 end_or_fault Closed n s f form items last x lt y e l =
     absurd (fails_some f form (subst (FaultAt f form) x.1 y))
-end_or_fault Cut n s f form items last x lt y e l =
-    let head = fails_or_cut f form s y x.2 in
-    let is_head : f ≡ faults.Head = head.0 in
-    let is_full : form ≡ Full = head.1 in
-    inr (inr record {
-      refused =
-          let t : ◌≡◌ {A = List Item} (fails f form ∷ items) (fails faults.Head Full ∷ []) =
-          cc in t;
-      ends = l;
-      cut = refl;
-      rest = s;
-      left = refl;
-      some = x.1;
-      short = head.2;
-      endless = head.3;
-    })
+end_or_fault Cut n s f form items last x lt y e l = grind (arith, common_steps, fails_or_cut)
 end_or_fault Limit n s f form items last x lt y e l = absurd (omega (arith, x, lt))
 end_or_fault Refused n s f form items last x lt y e l = absurd x
 end_or_fault Asked n s f form items last x lt y e l = absurd x
@@ -208,11 +194,7 @@ both_go : (r q : PlainRequest) (items others : List Item) (end last : End) (n : 
     → (Messages items end (n + 1) rest → Messages others last (n + 1) rest
     → Agree rest items end others last) → Agree s (asks r ∷ items) end (asks q ∷ others) last
 both_go r q items others end last n s rest left (inl x) (inl y) more =
-    let same = one_request r q true true s rest left x.0 y.0 in
-    let is : r ≡ q = same.0 in
-    let a : items ≡ [] = x.1 in
-    let b : others ≡ [] = y.1 in
-    inl (let t : ◌≡◌ {A = List Item} (asks r ∷ items) (asks q ∷ others) = cc in t, x.2 ∙ sym y.2)
+    grind (arith, common_steps, one_request r q true true s rest left x.0 y.0)
 both_go r q items others end last n s rest left (inl x) (inr y) more =
     absurd (let e = (one_request r q true false s rest left x.0 y.0).1 in let no : ⊥ = cc in no)
 both_go r q items others end last n s rest left (inr x) (inl y) more =
@@ -232,19 +214,9 @@ one_reading [] (asks r ∷ others) end last n s m o =
     let there = request_there r others last n s o.1.0 o.1.1 in
     absurd (end_or_request end n s r there.0 o.1.0 m o.0 there.1)
 one_reading (fails f form ∷ items) [] end last n s m o =
-    swap s [] last (fails f form ∷ items) end
-    (end_or_fault last n s f form items end o m.0 m.1 m.2 m.3)
+    grind (arith, common_steps, end_or_fault, swap)
 one_reading (fails f form ∷ items) (fails g other ∷ others) end last n s m o =
-    let same = one_fault f g form other s m.1 o.1 in
-    let is : f ≡ g = same.0 in
-    let as_well : form ≡ other = same.1 in
-    let a : items ≡ [] = m.2 in
-    let b : others ≡ [] = o.2 in
-    inl (
-      let t : ◌≡◌ {A = List Item} (fails f form ∷ items) (fails g other ∷ others) =
-          cc in t,
-      m.3 ∙ sym o.3,
-    )
+    grind (arith, common_steps, one_fault f g form other s m.1 o.1, fails f form, fails g other)
 one_reading (fails f form ∷ items) (asks r ∷ others) end last n s m o =
     let there = request_there r others last n s o.1.0 o.1.1 in
     absurd (asks_not_fails r there.0 f form s o.1.0 there.1 m.1)
@@ -277,24 +249,13 @@ front_goes : (r q : PlainRequest) (front items : List Item) (end : End) (n : ℕ
     → (more : List Item) × (items ≡ front ++ more))
     → (more : List Item) × (asks q ∷ items ≡ asks r ∷ (front ++ more))
 front_goes r q front items end n s rest left (inl x) (inl y) step =
-    let same = one_request r q true true s rest left x.0 y.0 in
-    let is : r ≡ q = same.0 in (
-      items,
-      ap (λ (z : PlainRequest). asks z ∷ items) (sym is)
-          ∙ ap (λ (l : List Item). asks r ∷ (l ++ items)) (sym x.1),
-    )
+    grind (arith, common_steps, one_request r q true true s rest left x.0 y.0)
 front_goes r q front items end n s rest left (inl x) (inr y) step =
     absurd (let e = (one_request r q true false s rest left x.0 y.0).1 in let no : ⊥ = cc in no)
 front_goes r q front items end n s rest left (inr x) (inl y) step =
     absurd (let e = (one_request r q false true s rest left x.0 y.0).1 in let no : ⊥ = cc in no)
 front_goes r q front items end n s rest left (inr x) (inr y) step =
-    let same = one_request r q false false s rest left x.0 y.0 in
-    let more =
-    step x.1 (subst (λ (l : List ℕ). Messages items end (n + 1) l) (sym same.2) y.1) in (
-      more.0,
-      ap (λ (z : PlainRequest). asks z ∷ items) (sym same.0)
-          ∙ ap (λ (l : List Item). asks r ∷ l) more.1,
-    )
+    grind (arith, common_steps, one_request r q false false s rest left x.0 y.0)
 
 pub front_of_messages : (front items : List Item) (end : End) (n : ℕ) (s : List ℕ)
     → Begins front n s → Messages items end n s → (more : List Item) × (items ≡ front ++ more)

@@ -1,5 +1,6 @@
 -- A run of one machine is a run of another, and has the invariants of its answers.
-use Rattle.std.proofs.Common.{◌≡◌, ℕ, List, [], ◌∷◌, ◌++◌, Option, Result, Ok, Err, IfOk, IfErr}
+use Rattle.std.proofs.lemmas.Grind.{common_steps}
+use Rattle.std.proofs.Common.{◌≡◌, ℕ, List, [], ◌∷◌, ◌++◌, Option, Result, Ok, Err, IfOk, IfErr, arith}
 use Rattle.std.proofs.Common.{refl, sym, ap, subst, ◌∙◌}
 use Rattle.office_messages.specs.declared.connection.Served.{Served}
 use Rattle.office_messages.specs.declared.connection.ServeFault.{ServeFault}
@@ -107,17 +108,10 @@ module _ {F S : Type 0} (name : F → ℕ) (now : F → S)
         → IfOk result (λ served. Serves Lends input before after old new served)
         → IfOk result (λ served. Serves Answers input before after (now old) last served)
     lent_serves (Err fault) x = tt
-    lent_serves (Ok served) x =
-        subst (λ (s : S). Serves Answers input before after (now old) s served)
-        (sym (given (name_kept x.items old x.output new x.trace)))
-        (serves_along now Lends Answers (λ o r reply n y. y.1) input before after old new served x)
+    lent_serves (Ok served) x = grind (arith, common_steps, name_kept, serves_along)
 
     pub lent_serves_front : (result : Result Served ServeFault)
         → IfErr result (λ fault. ServesFront Lends input before after old new fault)
         → IfErr result (λ fault. ServesFront Answers input before after (now old) last fault)
     lent_serves_front (Ok served) x = tt
-    lent_serves_front (Err fault) x =
-        subst (λ (s : S). ServesFront Answers input before after (now old) s fault)
-        (sym (given (name_kept x.items old x.output new x.trace)))
-        (serves_front_along now Lends Answers (λ o r reply n y. y.1) input before after old new
-        fault x)
+    lent_serves_front (Err fault) x = grind (arith, common_steps, name_kept, serves_front_along)

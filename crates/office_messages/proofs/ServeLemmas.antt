@@ -1,4 +1,5 @@
 -- The progress of a connection.
+use Rattle.std.proofs.lemmas.Grind.{common_steps}
 use Rattle.std.proofs.Common.{◌≡◌, ◌≢◌, ℕ, ◌+◌, ◌<◌, ◌≤◌, Bool, true, false, List, [], ◌∷◌, ◌++◌}
 use Rattle.std.proofs.Common.{length, Option, Some, None, IfSome, refl, sym, ap, subst, ◌∙◌}
 use Rattle.std.proofs.Common.{append_assoc, append-nil, arith, length-append, inl, inr, ◌⊎◌}
@@ -220,43 +221,23 @@ module _ {S : Type 0} (Answers : S → PlainRequest → PlainReply → S → Typ
     -- the last message allowed was answered
     pub limit : (served : Served) → n ≡ 100 → served.answered ≡ n → served.end ≡ Limit
         → Serves Answers input before after old new served
-    limit served full count end =
-        let P : End → Type 0 = λ e. IfSome input (Messages (p.items ++ []) e 0) in
-        finished served
-        (subst P (sym end)
-        (with_input (Messages (p.items ++ []) Limit 0) input now p.taken p.consumed
-        (λ more. p.messages [] Limit more full)))
-        count
+    limit served full count end = grind (arith, common_steps, finished, with_input)
 
     -- the input is at its end
     pub closed : (served : Served) → n < 100 → IsAtEnd now → buffer ≡ [] → served.answered ≡ n
         → served.end ≡ Closed → Serves Answers input before after old new served
     closed served lt done empty count end =
-        let P : End → Type 0 = λ e. IfSome input (Messages (p.items ++ []) e 0) in
-        finished served
-        (subst P (sym end)
-        (with_end (Messages (p.items ++ []) Closed 0) input now p.taken p.consumed done
-        (p.messages [] Closed [] (lt, append-nil buffer ∙ empty))))
-        count
+        grind (arith, common_steps, append-nil, finished, with_end)
 
     pub cut : (served : Served) → n < 100 → IsAtEnd now → 0 < length buffer → Unfinished buffer
         → served.answered ≡ n → served.end ≡ Cut → Serves Answers input before after old new served
     cut served lt done some short count end =
-        let P : End → Type 0 = λ e. IfSome input (Messages (p.items ++ []) e 0) in
-        let whole = sym (append-nil buffer) in
-        let Q : List ℕ → Type 0 = λ l. (n < 100) × (0 < length l) × Unfinished l in
-        finished served
-        (subst P (sym end)
-        (with_end (Messages (p.items ++ []) Cut 0) input now p.taken p.consumed done
-        (p.messages [] Cut [] (subst Q whole (lt, some, short)))))
-        count
+        grind (arith, common_steps, append-nil, finished, with_end)
 
     -- the bytes written, and a front of one more reply
     gone_out : (then : Option (List ℕ)) (text : List ℕ) → (part : SendsFront after then text)
         → Appends before then ((p.output ++ []) ++ part.sent)
-    gone_out then text part =
-        subst (λ (l : List ℕ). Appends before then (l ++ part.sent)) (sym (append-nil p.output))
-        (Appends-trans before after then p.output part.sent p.written part.written)
+    gone_out then text part = grind (arith, common_steps, Appends-trans, append-nil)
 
     -- a fault of the connection doesn't change the answers before it
     pub front : (fault : ServeFault) → fault ≢ serve_faults.Write

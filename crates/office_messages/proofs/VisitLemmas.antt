@@ -1,6 +1,7 @@
 -- Connections one after another: one more, along a map of states, and of a borrowed machine.
-use Rattle.std.proofs.Common.{◌≡◌, ℕ, List, [], ◌∷◌, ◌++◌, Option, Result, Ok, Err, IfOk, IfErr}
-use Rattle.std.proofs.Common.{refl, sym, ap, subst, ◌∙◌}
+use Rattle.std.proofs.lemmas.Grind.{common_steps}
+use Rattle.std.proofs.Common.{◌≡◌, ℕ, List, [], ◌∷◌, ◌++◌, Option, Result, Ok, Err, IfOk, IfErr, arith}
+use Rattle.std.proofs.Common.{refl, sym, ap, ◌∙◌}
 use Rattle.office_messages.specs.declared.connection.Served.{Served}
 use Rattle.office_messages.specs.declared.connection.ServeFault.{ServeFault}
 use Rattle.office_messages.specs.Reply.{PlainReply}
@@ -76,6 +77,4 @@ module _ {F S : Type 0} (name : F → ℕ) (now : F → S)
       → (vs : List Visit) → ServesVisits (Lends name now Answers) vs old new
       → ServesVisits Answers vs (now old) last
   lent_visits old new last given vs run =
-      subst (λ (s : S). ServesVisits Answers vs (now old) s)
-      (sym (given (name_kept old vs old new run refl)))
-      (visits_along now (Lends name now Answers) Answers (λ o r reply n y. y.1) vs old new run)
+      grind (arith, common_steps, Lends, name_kept, visits_along)
