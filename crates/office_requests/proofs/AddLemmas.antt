@@ -1,6 +1,6 @@
 -- The results of inserts.
-use Rattle.std.proofs.Common.{◌≡◌, ◌+◌, ◌<◌, List, ℕ, length, get_or, take, map, Result, Ok, Err}
-use Rattle.std.proofs.Common.{is_ok, true, Bor, sym, ap, ◌∙◌}
+use Rattle.std.proofs.Common.{◌≡◌, ◌+◌, ◌<◌, List, ℕ, length, get_or, take, map, Result, Ok, Err, arith}
+use Rattle.std.proofs.Common.{is_ok, true, Bor, ◌∙◌}
 use Rattle.std.proofs.lemmas.List.Folds.{fold-map}
 use Rattle.std.proofs.lemmas.List.Sums.{fold_more}
 use Rattle.matchit.specs.Route.{Scan, parse_route}
@@ -28,14 +28,4 @@ pub adds_more : (routes : List (Bor (List ℕ) × Page)) (i : ℕ) (d : Bor (Lis
     → adds_all (map (λ route. (route.0.now, route.1)) (take (i + 1) routes)) rows
     ≡ adds (get_or routes i d).0.now (get_or routes i d).1 now
 unfolding adds_all
-adds_more routes i d rows now inside is =
-    fold-map adds_one plain rows (take (i + 1) routes)
-    ∙ fold_more (λ rows route. adds_one rows (plain route)) rows routes i d inside
-    ∙ ap (λ (x : Rows). adds_one x (plain (get_or routes i d)))
-    (sym (is ∙ fold-map adds_one plain rows (take i routes)))
-  where
-    plain : Bor (List ℕ) × Page → List ℕ × Page
-    plain route = (route.0.now, route.1)
-
-    adds_one : Rows → List ℕ × Page → Rows
-    adds_one rows route = adds route.0 route.1 rows
+adds_more routes i d rows now inside is = grind (arith, fold-map, fold_more)

@@ -1,7 +1,6 @@
 -- The entries of a map as an object, and bytes that are no JSON.
-use Rattle.std.proofs.Common.{◌≡◌, ℕ, Bool, true, false, List, [], ◌∷◌, length, String}
+use Rattle.std.proofs.Common.{◌≡◌, ℕ, Bool, List, [], ◌∷◌, length, String}
 use Rattle.std.proofs.Common.{Some, None, refl, arith, IsUtf8}
-use Rattle.std.specs.Str.{is_utf8}
 use Rattle.std.specs.declared.alloc.Global.{Global}
 use Rattle.std.proofs.lemmas.Str.{IsUtf8-from_is_utf8, is_utf8-from_IsUtf8}
 use Rattle.serde_json.specs.Data.{Data}
@@ -22,8 +21,4 @@ json_of_text bytes d text reads = rw (is_utf8-from_IsUtf8 bytes text) reads
 
 -- bytes are no JSON if they have no reading as a text
 pub json_of_none : (bytes : List ℕ) → (IsUtf8 bytes → read bytes ≡ None) → json_in bytes ≡ None
-json_of_none bytes none = go (is_utf8 bytes) refl
-  where
-    go : (v : Bool) → is_utf8 bytes ≡ v → json_in bytes ≡ None
-    go true e = rw e (none (IsUtf8-from_is_utf8 bytes e))
-    go false e = rw e refl
+json_of_none bytes none = grind (arith, IsUtf8-from_is_utf8)

@@ -6,7 +6,7 @@ use Rattle.std.proofs.lemmas.Bool.{eqb-true, eq-eqb, not-true, and_parts}
 use Rattle.std.proofs.lemmas.Bool.Decides.{nat_tests}
 use Rattle.matchit.specs.Rows.{RowsOf, param_token}
 use Rattle.matchit.specs.Level.{IsText}
-use Rattle.matchit.specs.Seek.{slash, segment, has_slash, same_text, own, step, or_else}
+use Rattle.matchit.specs.Seek.{slash, has_slash, own, step, or_else}
 use Rattle.matchit.specs.Seek.{with_suffix, seek, first}
 use Rattle.office_requests.specs.Patterns.{rest_of_segment, is_match}
 use Rattle.office_requests.specs.Pages.{IsIn, Finds}
@@ -19,80 +19,35 @@ module _ {K : Type 0} where
       IsIn (b ∷ t) k rows
   in_step b [] t k h = absurd h
   in_step b (([], j) ∷ rows) t k h = inr (in_step b rows t k h)
-  in_step b ((x ∷ s, j) ∷ rows) t k h = go (x == b) refl (in_step b rows t k)
-    where
-      split : IsIn t k ((s, j) ∷ step b rows) → x ≡ b →
-          (IsIn t k (step b rows) → IsIn (b ∷ t) k rows) → IsIn (b ∷ t) k ((x ∷ s, j) ∷ rows)
-      split (inl here) e more = inl (let head = e in let tail = here.0 in cc, here.1)
-      split (inr there) e more = inr (more there)
-
-      go : (v : Bool) → (x == b) ≡ v → (IsIn t k (step b rows) → IsIn (b ∷ t) k rows) →
-          IsIn (b ∷ t) k ((x ∷ s, j) ∷ rows)
-      go true e more = split (rw e at h) (eqb-true x b e) more
-      go false e more = inr (more (rw e at h))
+  in_step b ((x ∷ s, j) ∷ rows) t k h = grind (arith, in_step b rows t k, eqb-true)
 
   step_in : (b : ℕ) (rows : RowsOf K) (t : List ℕ) (k : K) → IsIn (b ∷ t) k rows →
       IsIn t k (step b rows)
   step_in b [] t k h = absurd h
   step_in b (([], j) ∷ rows) t k (inl h) = absurd (let e = h.0 in cc)
   step_in b (([], j) ∷ rows) t k (inr h) = step_in b rows t k h
-  step_in b ((x ∷ s, j) ∷ rows) t k (inl h) =
-      let head : x ≡ b = let e = h.0 in cc in
-      let tail : s ≡ t = let e = h.0 in cc in
-      rw (eq-eqb x b head) (inl (tail, h.1))
-  step_in b ((x ∷ s, j) ∷ rows) t k (inr h) = go (x == b) refl (step_in b rows t k h)
-    where
-      go : (v : Bool) → (x == b) ≡ v → IsIn t k (step b rows) →
-          IsIn t k (step b ((x ∷ s, j) ∷ rows))
-      go true e more = rw e (inr more)
-      go false e more = rw e more
+  step_in b ((x ∷ s, j) ∷ rows) t k (inl h) = grind (arith, eq-eqb)
+  step_in b ((x ∷ s, j) ∷ rows) t k (inr h) = grind (arith, step_in b rows t k h)
 
   plain_step : (b : ℕ) (rows : RowsOf K) → ArePlain rows → ArePlain (step b rows)
   plain_step b [] good = tt
   plain_step b (([], j) ∷ rows) good = plain_step b rows good.1
-  plain_step b ((x ∷ s, j) ∷ rows) good = go (x == b) refl (plain_step b rows good.1)
-    where
-      go : (v : Bool) → (x == b) ≡ v → ArePlain (step b rows) →
-          ArePlain (step b ((x ∷ s, j) ∷ rows))
-      go true e more = rw e (good.0.1, more)
-      go false e more = rw e more
+  plain_step b ((x ∷ s, j) ∷ rows) good = grind (arith, plain_step b rows good.1, ArePlain)
 
   tails_step : (rows : RowsOf K) → ArePlain rows → AreTails (step param_token rows)
   tails_step [] good = tt
   tails_step (([], j) ∷ rows) good = tails_step rows good.1
-  tails_step ((x ∷ s, j) ∷ rows) good = go (x == 256) refl (tails_step rows good.1) good.0.0
-    where
-      go : (v : Bool) → (x == 256) ≡ v → AreTails (step param_token rows) →
-          ((x < 256) ⊎ ((x ≡ 256) × EndsSegment s)) →
-          AreTails (step param_token ((x ∷ s, j) ∷ rows))
-      go true e more (inl small) = absurd (omega (arith, eqb-true x 256 e))
-      go true e more (inr is) = rw e (is.1, more)
-      go false e more good = rw e more
+  tails_step ((x ∷ s, j) ∷ rows) good =
+      grind (arith, tails_step rows good.1, AreTails, EndsSegment, eqb-true)
 
   in_suffix : (w : List ℕ) (rows : RowsOf K) (t : List ℕ) (k : K) → IsIn t k (with_suffix w rows) →
       IsIn t k rows
   in_suffix w [] t k h = absurd h
-  in_suffix w ((s, j) ∷ rows) t k h = go (same_text (segment s) w) refl (in_suffix w rows t k)
-    where
-      split : IsIn t k ((s, j) ∷ with_suffix w rows) →
-          (IsIn t k (with_suffix w rows) → IsIn t k rows) → IsIn t k ((s, j) ∷ rows)
-      split (inl here) more = inl here
-      split (inr there) more = inr (more there)
-
-      go : (v : Bool) → same_text (segment s) w ≡ v →
-          (IsIn t k (with_suffix w rows) → IsIn t k rows) → IsIn t k ((s, j) ∷ rows)
-      go true e more = split (rw e at h) more
-      go false e more = inr (more (rw e at h))
+  in_suffix w ((s, j) ∷ rows) t k h = grind (arith, in_suffix w rows t k)
 
   plain_suffix : (w : List ℕ) (rows : RowsOf K) → ArePlain rows → ArePlain (with_suffix w rows)
   plain_suffix w [] good = tt
-  plain_suffix w ((s, j) ∷ rows) good = go (same_text (segment s) w) refl
-      (plain_suffix w rows good.1)
-    where
-      go : (v : Bool) → same_text (segment s) w ≡ v → ArePlain (with_suffix w rows) →
-          ArePlain (with_suffix w ((s, j) ∷ rows))
-      go true e more = rw e (good.0, more)
-      go false e more = rw e more
+  plain_suffix w ((s, j) ∷ rows) good = grind (arith, plain_suffix w rows good.1, ArePlain)
 
   more_in : (rows : RowsOf K) (x : ℕ) (t : List ℕ) (k : K) → IsIn (x ∷ t) k rows →
       has_more rows ≡ true
@@ -123,30 +78,15 @@ module _ {K : Type 0} where
 
 rest_text : (path : List ℕ) → IsText path → IsText (rest_of_segment path)
 rest_text [] h = tt
-rest_text (b ∷ path) h = go (b == 47) refl (rest_text path h.1)
-  where
-    go : (v : Bool) → (b == 47) ≡ v → IsText (rest_of_segment path) →
-        IsText (rest_of_segment (b ∷ path))
-    go true e more = rw e h
-    go false e more = rw e more
+rest_text (b ∷ path) h = grind (arith, rest_text path h.1)
 
 rest_shorter : (path : List ℕ) → length (rest_of_segment path) ≤ length path
 rest_shorter [] = omega arith
-rest_shorter (b ∷ path) = go (b == 47) refl (rest_shorter path)
-  where
-    go : (v : Bool) → (b == 47) ≡ v → length (rest_of_segment path) ≤ length path →
-        length (rest_of_segment (b ∷ path)) ≤ suc (length path)
-    go true e more = rw e (omega arith)
-    go false e more = rw e (omega arith)
+rest_shorter (b ∷ path) = grind (arith, rest_shorter path)
 
 rest_some : (path : List ℕ) → has_slash path ≡ true → 0 < length (rest_of_segment path)
 rest_some [] h = cc
-rest_some (b ∷ path) h = go (b == 47) refl (rest_some path)
-  where
-    go : (v : Bool) → (b == 47) ≡ v → (has_slash path ≡ true → 0 < length (rest_of_segment path)) →
-        0 < length (rest_of_segment (b ∷ path))
-    go true e more = rw e (omega arith)
-    go false e more = rw e (more (rw e at h))
+rest_some (b ∷ path) h = grind (arith, rest_some path)
 
 module _ (K : Type 0) where
   abbrev Sound : ℕ → Type 0
@@ -216,15 +156,8 @@ module _ (K : Type 0) where
   sound : (n : ℕ) → Sound n
   sound n rows [] k short text good h = sound_end rows k h
   sound zero rows (b ∷ path) k short text good h = absurd (omega arith)
-  sound (suc n) rows (b ∷ path) k short text good h = go (seek 0 (step b rows) path) refl (sound n)
-    where
-      go : (o : Option K) → seek 0 (step b rows) path ≡ o → Sound n → Finds rows (b ∷ path) k
-      go None e more = sound_param n more rows b path k (omega arith) text good
-          (let is = seek_is rows b path good in let is2 : or_else (seek 0 (step b rows) path)
-          (param_at (step param_token rows) b path) ≡ Some k = sym is ∙ h in rw e at is2)
-      go (Some j) e more = sound_literal n more rows b path k (omega arith) text good
-          (let is2 : or_else (seek 0 (step b rows) path) (param_at (step param_token rows) b path)
-          ≡ Some k = sym (seek_is rows b path good) ∙ h in e ∙ (rw e at is2))
+  sound (suc n) rows (b ∷ path) k short text good h =
+      grind (arith, sound n, param_at, seek_is, sound_literal, sound_param)
 
   abbrev Complete : ℕ → Type 0
   Complete n = (rows : RowsOf K) (path : List ℕ) → length path ≤ n → ArePlain rows →
@@ -266,11 +199,7 @@ module _ (K : Type 0) where
           (sym (param_found (step param_token rows) b path good_tails e slashed
           (more_in (step param_token rows) x s k i)) ∙ h)
           (x ∷ s) k (suffix_in (step param_token rows) x s k good_tails i) t
-      go false slashed s i t =
-          let none = sym (param_last (step param_token rows) b path good_tails e slashed) ∙ h in
-          own_none (step param_token rows) k none
-          (subst (λ (z : List ℕ). IsIn z k (step param_token rows))
-          (ends s (rest_of_segment path) (no_rest path slashed) t) i)
+      go false slashed s i t = grind (arith, ends, good_tails, no_rest, own_none, param_last)
 
   complete : (n : ℕ) → Complete n
   complete n rows [] short good h s k i t = complete_end rows h s k i t
@@ -290,11 +219,7 @@ module _ (K : Type 0) where
           let i2 = subst (λ (z : ℕ). IsIn (z ∷ s) k rows) (eqb-true x 256 e) i in
           complete_param n more rows b path (omega arith) good none.1 s k
           (step_in param_token rows s k i2) open_byte parts.1
-      go false e more =
-          let parts = and_parts _ _ (let t2 : ((x == b) && is_match s path) ≡ true = rw e at t in t2) in
-          let i2 = subst (λ (z : ℕ). IsIn (z ∷ s) k rows) (eqb-true x b parts.0) i in
-          more (step b rows) path (omega arith) (plain_step b rows good) none.0 s k
-          (step_in b rows s k i2) parts.1
+      go false e more = grind (arith, and_parts, eqb-true, none, plain_step, step_in)
 
   -- the row that `first` finds takes the path
   pub first_found : (rows : RowsOf K) (path : List ℕ) (k : K) → IsText path → ArePlain rows →

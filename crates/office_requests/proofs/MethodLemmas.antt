@@ -1,7 +1,7 @@
 -- The methods that a page lists are those with a command there.
-use Rattle.std.proofs.Common.{◌≡◌, ◌≢◌, ℕ, Bool, true, false, List, Option, Some, None}
-use Rattle.std.proofs.Common.{Result, Err, refl, sym, subst, ◌∙◌, arith}
-use Rattle.std.specs.Prelude.{codes, bytes_eq, is_some, is_ok, if◌then◌else◌}
+use Rattle.std.proofs.Common.{◌≡◌, ◌≢◌, ℕ, Bool, false, List, Option, Some, None, rules}
+use Rattle.std.proofs.Common.{Result, Err, refl, ◌∙◌, arith}
+use Rattle.std.specs.Prelude.{codes, bytes_eq, is_some, is_ok}
 use Rattle.std.proofs.lemmas.Slice.Eq.{bytes_eq-Decides}
 use Rattle.exam_terms.specs.Refusing.{◌>>=◌, else_err}
 use Rattle.office_policy.specs.Commands.{PlainCommand}
@@ -30,21 +30,7 @@ record IsOther (m : List ℕ) : Type 0 where
 by_method : (P : List ℕ → Verb → Type 0) → P (codes "GET") Get → P (codes "PUT") Put
     → P (codes "POST") Post → P (codes "DELETE") Delete → ((m : List ℕ) → IsOther m → P m Other)
     → (m : List ℕ) → P m (verb_of m)
-by_method P get put post delete other m =
-    named (codes "GET") Get get _ (λ g.
-    named (codes "PUT") Put put _ (λ u.
-    named (codes "POST") Post post _ (λ o.
-    named (codes "DELETE") Delete delete Other (λ d.
-    other m record { get = g; put = u; post = o; delete = d }))))
-  where
-    named : (name : List ℕ) (verb : Verb) → P name verb → (rest : Verb)
-        → (bytes_eq m name ≡ false → P m rest) → P m (if bytes_eq m name then verb else rest)
-    named name verb is rest more = go (bytes_eq m name) refl
-      where
-        go : (b : Bool) → bytes_eq m name ≡ b → P m (if bytes_eq m name then verb else rest)
-        go true e =
-            rw e (subst (λ (n : List ℕ). P n verb) (sym ((bytes_eq-Decides m name).0 e)) is)
-        go false e = rw e (more e)
+by_method P get put post delete other m = grind (arith, bytes_eq-Decides)
 
 -- ---- the methods of each page
 
@@ -75,8 +61,7 @@ other_listed _ m is n body = grind (arith, is.get, is.put, is.post, is.delete)
 
 page_lists : (p : Page) (m : List ℕ) → Lists p m (verb_of m)
 page_lists p =
-    by_method (Lists p) (get_listed p) (put_listed p) (post_listed p) (delete_listed p)
-    (other_listed p)
+    search (rules, by_method, delete_listed, get_listed, other_listed, post_listed, put_listed)
 
 -- ---- the answers on a page
 

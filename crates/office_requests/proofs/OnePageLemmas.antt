@@ -1,11 +1,9 @@
 -- No two pages take one path.
-use Rattle.std.proofs.Common.{◌≡◌, ◌<◌, ◌&&◌, ◌==◌, not, nat_lt, Bool, true, false, List, ℕ}
-use Rattle.std.proofs.Common.{◌∷◌, [], refl, sym, ap, subst, ◌∙◌, inl, inr, arith}
+use Rattle.std.proofs.Common.{◌≡◌, ◌<◌, ◌&&◌, ◌==◌, nat_lt, Bool, true, false, List, ℕ}
+use Rattle.std.proofs.Common.{◌∷◌, [], refl, sym, subst, ◌∙◌, inl, inr, arith}
 use Rattle.std.specs.Prelude.{if◌then◌else◌}
 use Rattle.std.proofs.lemmas.Bool.{eqb-true, and_parts}
-use Rattle.std.proofs.lemmas.Bool.Decides.{nat_tests}
 use Rattle.matchit.specs.Rows.{param_token}
-use Rattle.matchit.specs.Seek.{slash}
 use Rattle.office_requests.specs.declared.routes.Page.{Page}
 use Rattle.office_requests.specs.Patterns.{is_match, rest_of_segment}
 use Rattle.office_requests.specs.Pages.{IsIn}
@@ -30,10 +28,7 @@ all_apart (row ∷ rows) = apart_from row.0 rows && all_apart rows
 -- a byte of a pattern takes that byte
 literal : (x : ℕ) (s : List ℕ) (b : ℕ) (path : List ℕ) → x < 256 → is_match (x ∷ s) (b ∷ path) ≡ true →
     x ≡ b
-literal x s b path small h =
-    let byte : x == 256 ≡ false = grind (arith, nat_tests) in
-    let h2 : ((x == b) && is_match s path) ≡ true = rw byte at h in
-    eqb-true x b (and_parts _ _ h2).0
+literal x s b path small h = grind (arith, and_parts, eqb-true)
 
 apart_takes : (s t path : List ℕ) → apart s t ≡ true → is_match s path ≡ true → is_match t path ≡ true → ⊥
 apart_takes [] [] path a h k = cc
@@ -43,44 +38,19 @@ apart_takes (x ∷ s) [] [] a h k = cc
 apart_takes (x ∷ s) [] (b ∷ path) a h k = cc
 apart_takes (x ∷ s) (y ∷ t) [] a h k = cc
 apart_takes (x ∷ s) (y ∷ t) (b ∷ path) a h k =
-    go (x == y) refl (apart_takes s t (rest_of_segment path)) (apart_takes s t path)
-  where
-    kind : (v : Bool) → (x == 256) ≡ v → x ≡ y → apart s t ≡ true
-        → (apart s t ≡ true → is_match s (rest_of_segment path) ≡ true →
-        is_match t (rest_of_segment path) ≡ true → ⊥)
-        → (apart s t ≡ true → is_match s path ≡ true → is_match t path ≡ true → ⊥) → ⊥
-    kind true e same a2 later next =
-        let h2 : (not (b == slash) && is_match s (rest_of_segment path)) ≡ true = rw e at h in
-        let e2 : y == 256 ≡ true = ap (λ (z : ℕ). z == 256) (sym same) ∙ e in
-        let k2 : (not (b == slash) && is_match t (rest_of_segment path)) ≡ true = rw e2 at k in
-        later a2 (and_parts _ _ h2).1 (and_parts _ _ k2).1
-    kind false e same a2 later next =
-        let h2 : ((x == b) && is_match s path) ≡ true = rw e at h in
-        let e2 : y == 256 ≡ false = ap (λ (z : ℕ). z == 256) (sym same) ∙ e in
-        let k2 : ((y == b) && is_match t path) ≡ true = rw e2 at k in
-        next a2 (and_parts _ _ h2).1 (and_parts _ _ k2).1
-
-    go : (v : Bool) → (x == y) ≡ v
-        → (apart s t ≡ true → is_match s (rest_of_segment path) ≡ true →
-        is_match t (rest_of_segment path) ≡ true → ⊥)
-        → (apart s t ≡ true → is_match s path ≡ true → is_match t path ≡ true → ⊥) → ⊥
-    go true e later next = kind (x == 256) refl (eqb-true x y e) (rw e at a) later next
-    go false e later next =
-        let small : (nat_lt x 256 && nat_lt y 256) ≡ true = rw e at a in
-        let parts = and_parts (nat_lt x 256) (nat_lt y 256) small in
-        let lx : x < 256 = grind (arith, nat_tests, parts.0) in
-        let ly : y < 256 = grind (arith, nat_tests, parts.1) in
-        let xb = literal x s b path lx h in
-        let yb = literal y t b path ly k in
-        let f : x == y ≡ true = grind (arith, nat_tests, xb, yb) in
-        let g : true ≡ false = sym f ∙ e in cc
+    grind (
+      arith,
+      apart_takes s t (rest_of_segment path),
+      apart_takes s t path,
+      and_parts,
+      eqb-true,
+      literal,
+    )
 
 apart_in : (rows : List (List ℕ × Page)) (s t path : List ℕ) (q : Page) → apart_from s rows ≡ true →
     IsIn t q rows → is_match s path ≡ true → is_match t path ≡ true → ⊥
 apart_in [] s t path q a i h k = i
-apart_in (row ∷ rows) s t path q a (inl i) h k =
-    apart_takes s row.0 path (and_parts _ _ a).0 h
-    (subst (λ (z : List ℕ). is_match z path ≡ true) (sym i.0) k)
+apart_in (row ∷ rows) s t path q a (inl i) h k = grind (arith, and_parts, apart_takes)
 apart_in (row ∷ rows) s t path q a (inr i) h k =
     apart_in rows s t path q (and_parts (apart s row.0) _ a).1 i h k
 

@@ -1,5 +1,5 @@
 -- The table holds the office's pages.
-use Rattle.std.proofs.Common.{◌≡◌, ◌<◌, ◌⊎◌, ◌&&◌, ◌||◌, ◌==◌, ltb, Bool, true, false, List, ℕ, ◌∷◌}
+use Rattle.std.proofs.Common.{◌≡◌, ◌<◌, ◌⊎◌, ◌&&◌, ◌||◌, ◌==◌, ltb, Bool, true, List, ℕ, ◌∷◌, arith}
 use Rattle.std.proofs.Common.{[], suc, get_or, Option, Some, None, IfSome, IsNone, option_map}
 use Rattle.std.proofs.Common.{map, refl, sym, ap, subst, ◌∙◌, inl, inr}
 use Rattle.std.proofs.lemmas.Bool.{eqb-true, ltb-true, or_cases, and_parts}
@@ -127,35 +127,13 @@ none_clause path (Some q) e n p = cc
 found_in : (rows : List (List ℕ × Page)) (path : List ℕ) (row : List ℕ × Page) →
     find (λ r. is_match r.0 path) rows ≡ Some row → IsIn row.0 row.1 rows × (is_match row.0 path ≡ true)
 found_in [] path row e = cc
-found_in (r ∷ rows) path row e = go (is_match r.0 path) refl (found_in rows path row)
-  where
-    go : (v : Bool) → is_match r.0 path ≡ v →
-        (find (λ r. is_match r.0 path) rows ≡ Some row →
-        IsIn row.0 row.1 rows × (is_match row.0 path ≡ true)) →
-        IsIn row.0 row.1 (r ∷ rows) × (is_match row.0 path ≡ true)
-    go true t more =
-        let some : ◌≡◌ {A = Option (List ℕ × Page)} (Some r) (Some row) = rw t at e in
-        let same : r ≡ row = cc in
-        let text = ap (λ (x : List ℕ × Page). x.0) same in (
-          inl (text, ap (λ (x : List ℕ × Page). x.1) same),
-          ap (λ (x : List ℕ). is_match x path) (sym text) ∙ t,
-        )
-    go false t more = let found = more (rw t at e) in (inr found.0, found.1)
+found_in (r ∷ rows) path row e = grind (arith, found_in rows path row)
 
 -- if it finds nothing, no row takes the path
 none_in : (rows : List (List ℕ × Page)) (path t : List ℕ) (p : Page) →
     find (λ r. is_match r.0 path) rows ≡ None → IsIn t p rows → is_match t path ≡ true → ⊥
 none_in [] path t p e i k = i
-none_in (r ∷ rows) path t p e i k = go (is_match r.0 path) refl i (none_in rows path t p)
-  where
-    go : (v : Bool) → is_match r.0 path ≡ v → IsIn t p (r ∷ rows) →
-        (find (λ r. is_match r.0 path) rows ≡ None → IsIn t p rows → is_match t path ≡ true → ⊥) → ⊥
-    go true u i more =
-        let none : ◌≡◌ {A = Option (List ℕ × Page)} (Some r) None = rw u at e in cc
-    go false u (inl here) more =
-        let same = ap (λ (x : List ℕ). is_match x path) here.0 in
-        let and_parts : true ≡ false = sym k ∙ sym same ∙ u in cc
-    go false u (inr there) more = more (rw u at e) there k
+none_in (r ∷ rows) path t p e i k = grind (arith, none_in rows path t p)
 
 -- the page of a path, if it has one
 pub page_some : (path : List ℕ) (p : Page) → IsRouteTo p path → Some p ≡ page_of path

@@ -41,8 +41,6 @@ rest_at (b ∷ path) (suc i) lt is other =
 pub segment_later : (place : ℕ) (path : List ℕ) → place ≢ 0 →
     segment place path ≡ segment (place - 1) (rest_after_slash path)
 segment_later zero path some = absurd (some refl)
-segment_later (suc place) path some =
-    let same : place ≡ suc place - 1 = omega arith in
-    ap (λ n. segment n (rest_after_slash path)) same
+segment_later (suc place) path some = grind (arith)
 
 pub ruleset slash_facts = (first_none, rest_none, first_at, rest_at)

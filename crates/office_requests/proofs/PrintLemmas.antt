@@ -1,11 +1,10 @@
 -- A number printed in decimal is read back, also in a path.
-use Rattle.std.proofs.Common.{◌≡◌, ℕ, ◌^◌, ◌<◌, ◌≤◌, true, false, List, [], ◌∷◌, ◌++◌, length}
+use Rattle.std.proofs.Common.{◌≡◌, ℕ, ◌^◌, ◌<◌, ◌≤◌, false, List, [], ◌∷◌, ◌++◌, length}
 use Rattle.std.proofs.Common.{Some, refl, ap, ◌∙◌, arith}
-use Rattle.std.specs.Prelude.{decimal, nat_le, ◌==◌}
+use Rattle.std.specs.Prelude.{decimal, ◌==◌}
 use Rattle.std.specs.List.{AllByRecursion}
 use Rattle.std.specs.Str.Parse.{AllDigits, digits_value}
 use Rattle.std.proofs.lemmas.Bool.{ne_eqb}
-use Rattle.std.proofs.lemmas.Bool.Decides.{nat_tests}
 use Rattle.std.proofs.lemmas.Fmt.{decimal_is_IsNumeral, length-decimal-le}
 use Rattle.std.proofs.lemmas.Str.Parse.{digit_from_value}
 use Rattle.exam_lists.proofs.Digits.{test-from_AllDigits}
@@ -38,9 +37,7 @@ writes n small =
 
 number_is : (n : ℕ) (ds : List ℕ) → Writes n ds → number_of ds ≡ Some n
 number_is n [] is = absurd (omega (arith, is.some))
-number_is n (b ∷ bs) is =
-    let few : nat_le (length (b ∷ bs)) 9 ≡ true = grind (arith, nat_tests, is.few) in
-    rw (few, test-from_AllDigits (b ∷ bs) is.digits) (ap (λ (m : ℕ). Some m) is.value)
+number_is n (b ∷ bs) is = grind (arith, test-from_AllDigits)
 
 -- none of the bytes is a slash
 abbrev pub NoSlash : List ℕ → Type 0
@@ -48,9 +45,7 @@ NoSlash ds = AllByRecursion (λ b. (b == 47) ≡ false) ds
 
 without_slash : (ds : List ℕ) → AllDigits 10 ds → NoSlash ds
 without_slash [] all = tt
-without_slash (b ∷ bs) all =
-    let range = digit_from_value b all.0 in
-    (ne_eqb b 47 (λ same. omega (arith, range.0, same)), without_slash bs all.1)
+without_slash (b ∷ bs) all = grind (arith, without_slash bs all.1, digit_from_value, ne_eqb)
 
 -- ---- a number in a path
 
@@ -82,9 +77,7 @@ rest_of_digits (b ∷ bs) rest bare = rw bare.0 (rest_of_digits bs rest bare.1)
 -- a number in a pattern takes one in a path
 pub takes_number : (n : ℕ) (pattern rest : List ℕ) → IsSmall n → EndsSegment rest
     → is_match (param_token ∷ pattern) (decimal n ++ rest) ≡ is_match pattern rest
-takes_number n pattern rest small ends =
-    let is = writes n small in
-    takes_text (decimal n) pattern rest is.some (without_slash (decimal n) is.digits) ends
+takes_number n pattern rest small ends = grind (arith, takes_text, without_slash, writes)
 
 -- the number that a path begins with is read
 pub number_here : (n : ℕ) (rest : List ℕ) → IsSmall n → EndsSegment rest

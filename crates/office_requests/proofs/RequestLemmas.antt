@@ -1,7 +1,7 @@
 -- A refusal of a caller's command is one of the request.
-use Rattle.std.proofs.Common.{◌≡◌, ℕ, List, Option, Some, Result, Ok, Err, refl, subst}
+use Rattle.std.proofs.Common.{◌≡◌, ℕ, List, Option, Some, Result, Ok, Err, refl, arith}
 use Rattle.std.specs.Prelude.{IsOkAnd}
-use Rattle.exam_terms.specs.Refusing.{◌>>=◌, else_err}
+use Rattle.exam_terms.specs.Refusing.{◌>>=◌}
 use Rattle.office_policy.specs.declared.callers.Caller.{Caller}
 use Rattle.office_policy.specs.Commands.{PlainCommand}
 use Rattle.office_requests.specs.Commands.{HasJson}
@@ -33,7 +33,4 @@ pub refused : (value : Option (List ℕ)) (who : Caller) (method path body : Lis
     → Some who ≡ caller_in value → ReturnsCommand (command_by who (verb_of method) path body)
     (Err e)
     → ReturnsCallerCommand (command_or_refusal method path value body) (Err e)
-refused value who method path body e is gives =
-    subst (λ (o : Option Caller). ReturnsCallerCommand (else_err refusal.Caller o >>=
-    (λ who. with_caller who (command_by who (verb_of method) path body))) (Err e)) is
-    (refused_so who (command_by who (verb_of method) path body) e gives)
+refused value who method path body e is gives = grind (arith, refused_so)

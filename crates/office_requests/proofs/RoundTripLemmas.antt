@@ -1,5 +1,5 @@
 -- A command's method and path, printed, are read back as the command.
-use Rattle.std.proofs.Common.{◌≡◌, ℕ, Bool, true, false, ◌&&◌, ◌==◌, not, List, [], ◌∷◌, ◌++◌}
+use Rattle.std.proofs.Common.{◌≡◌, ℕ, Bool, true, false, ◌&&◌, ◌==◌, not, List, [], ◌∷◌, ◌++◌, arith, rules}
 use Rattle.std.proofs.Common.{Option, Some, Ok}
 use Rattle.std.proofs.Common.{refl, sym, ap, ◌∙◌, inl, inr}
 use Rattle.std.specs.Prelude.{decimal, option_map}
@@ -85,8 +85,7 @@ takes_path (word w ∷ parts) ns words fills =
     takes_word w (pattern_of parts) (path_with parts ns) is.0 ∙ takes_path parts ns is.1 fills
 takes_path (number ∷ parts) [] words fills = absurd fills
 takes_path (number ∷ parts) (n ∷ ns) words fills =
-    takes_number n (pattern_of parts) (path_with parts ns) fills.0 (ends parts ns)
-    ∙ takes_path parts ns words fills.1
+    grind (arith, takes_path parts ns words fills.1, ends, takes_number)
 
 -- the numbers are read back, after bytes without a slash
 numbers_back : (parts : List Part) (ns front : List ℕ) → are_words parts ≡ true → Fills parts ns
@@ -119,9 +118,7 @@ same_row t p = (refl, refl)
 -- each page is among the pages
 in_pages : (p : Page) → IsIn (pattern_of (parts_of p)) p pages
 in_pages page.Me = search (inl, inr, same_row) depth 60 fits 4000
-in_pages page.Publication =
-    inr (inr (inr (inr (inr (inr (inr (inr (inr (inr (inr (inr (inr (inr (inr (inr (inr (inr (inl (refl, refl)
-    ))))))))))))))))))
+in_pages page.Publication = grind (arith)
 in_pages _ = search (inl, inr, same_row) depth 60 fits 4000
 
 -- a path that the pattern of the page takes is the page's
@@ -155,9 +152,7 @@ filled (batch n text) small = (small, tt)
 filled _ small = tt
 
 page_there : (c : PlainCommand) → HasSmallNumbers c → page_of (path_of c) ≡ Some (row_of c).1
-page_there c small =
-    page_is (row_of c).1 (path_of c)
-    (takes_path (parts_of (row_of c).1) (row_of c).2 (words_of (row_of c).1) (filled c small))
+page_there c small = search (rules, filled, page_is, takes_path, words_of)
 
 numbers_there : (c : PlainCommand) → HasSmallNumbers c
     → numbers_of (row_of c).1 (path_of c) ≡ Some (three (row_of c).2)
@@ -187,9 +182,7 @@ by path body p n verb c there numbers e = rw (there, numbers, e) refl
 -- the office and the departments ask for it
 staff_asks : (c : PlainCommand) (body : List ℕ) → HasSmallNumbers c → BodyHasValue body c
     → staff_command (verb_of (method_of c)) (path_of c) body ≡ Ok c
-staff_asks c body small has_value =
-    by (path_of c) body (row_of c).1 (three (row_of c).2) (verb_of (method_of c)) c
-    (page_there c small) (numbers_there c small) (in_table c body has_value)
+staff_asks c body small has_value = grind (arith, by, in_table, numbers_there, page_there)
 
 -- a candidate asks for their own three pages
 candidate_asks : (n : ℕ) (c : PlainCommand) → HasSmallNumbers c → MaySendCommand (Cand n) c

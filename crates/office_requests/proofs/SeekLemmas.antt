@@ -1,10 +1,9 @@
 -- The search finds a row that takes the path, if there is one.
 use Rattle.std.proofs.Common.{◌≡◌, ◌<◌, ◌-◌, ◌⊎◌, ℕ, zero, suc, Bool, true, false}
 use Rattle.std.proofs.Common.{cond, ltb, ◌&&◌, ◌||◌, ◌==◌, nat_eq, List, [], ◌∷◌, length, drop}
-use Rattle.std.proofs.Common.{Option, Some, None, refl, sym, ap, ◌∙◌, inl, inr, arith}
+use Rattle.std.proofs.Common.{Option, Some, None, refl, sym, ap, ◌∙◌, arith}
 use Rattle.std.proofs.lemmas.Bool.{eqb-true, and_from, and_right, lt-ltb}
 use Rattle.std.proofs.Math.Seq.{drop-length}
-use Rattle.std.proofs.lemmas.Bool.Decides.{nat_tests}
 use Rattle.std.specs.Cmp.Lexicographic.{pointwise}
 use Rattle.matchit.specs.Rows.{RowsOf, param_token, catch_all_token}
 use Rattle.matchit.specs.Seek.{segment, has_slash, cuts, own, step}
@@ -15,12 +14,7 @@ use Rattle.office_requests.proofs.Plain.{EndsSegment, ArePlain}
 module _ {K : Type 0} where
   param_nil : (path : List ℕ) → (param_step {K = K} [] path).1 ≡ []
   unfolding param_step
-  param_nil path = go (has_slash path) refl
-    where
-      go : (v : Bool) → has_slash path ≡ v →
-          (cond {A = ℕ × RowsOf K} (has_slash path) (0, []) (length path, [])).1 ≡ []
-      go true e = rw e
-      go false e = rw e
+  param_nil path = grind (arith)
 
   pub seek_none : (skip : ℕ) (path : List ℕ) → seek {K = K} skip [] path ≡ None
   unfolding seek
@@ -47,29 +41,13 @@ module _ {K : Type 0} where
 
 segment_some : (path : List ℕ) → has_slash path ≡ true → 0 < length (segment path)
 segment_some [] h = cc
-segment_some (b ∷ path) h = go (b == 47) refl
-  where
-    go : (v : Bool) → (b == 47) ≡ v → 0 < length (segment (b ∷ path))
-    go true e = rw e (omega arith)
-    go false e = rw e (omega arith)
+segment_some (b ∷ path) h = grind (arith)
 
 -- the last byte of a segment is a slash exactly if the path has one
 last_slash : (b : ℕ) (path : List ℕ) → (b == 47) ≡ false →
     pointwise nat_eq (47 ∷ []) (drop (length (segment path)) (b ∷ segment path)) ≡ has_slash path
-last_slash b [] h = go (nat_eq 47 b) refl
-  where
-    go : (v : Bool) → nat_eq 47 b ≡ v → (nat_eq 47 b && true) ≡ false
-    go true e = grind (arith, nat_tests)
-    go false e = rw e refl
-last_slash b (c ∷ path) h = go (c == 47) refl (last_slash c path)
-  where
-    go : (v : Bool) → (c == 47) ≡ v → ((c == 47) ≡ false →
-        pointwise nat_eq (47 ∷ []) (drop (length (segment path)) (c ∷ segment path))
-        ≡ has_slash path)
-        → pointwise nat_eq (47 ∷ []) (drop (length (segment (c ∷ path))) (b ∷ segment (c ∷ path)))
-        ≡ has_slash (c ∷ path)
-    go true e more = let is : c ≡ 47 = eqb-true c 47 e in rw is refl
-    go false e more = rw e (more e)
+last_slash b [] h = grind (arith, nat_eq)
+last_slash b (c ∷ path) h = grind (arith, last_slash c path, eqb-true, nat_eq)
 
 after_segment : (path : List ℕ) → has_slash path ≡ true →
     drop (length (segment path) - 1) path ≡ rest_of_segment path
@@ -88,12 +66,7 @@ after_segment (b ∷ path) h = go (b == 47) refl (after_segment path)
 
 pub no_rest : (path : List ℕ) → has_slash path ≡ false → rest_of_segment path ≡ []
 no_rest [] h = refl
-no_rest (b ∷ path) h = go (b == 47) refl (no_rest path)
-  where
-    go : (v : Bool) → (b == 47) ≡ v → (has_slash path ≡ false → rest_of_segment path ≡ []) →
-        rest_of_segment (b ∷ path) ≡ []
-    go true e more = absurd (let f : true ≡ false = rw e at h in cc)
-    go false e more = rw e (more (rw e at h))
+no_rest (b ∷ path) h = grind (arith, no_rest path)
 
 -- a parameter is followed by nothing, or by a slash and more
 abbrev pub AreTails : {K : Type 0} → RowsOf K → Type 0
@@ -118,22 +91,9 @@ module _ {K : Type 0} where
 
   longest_is : (seg : List ℕ) (rows : RowsOf K) → AreTails rows →
       longest_from seg [] rows ≡ cond (cuts seg (47 ∷ []) && has_more rows) (47 ∷ []) []
-  longest_is seg [] good = go (cuts seg (47 ∷ [])) refl
-    where
-      go : (v : Bool) → cuts seg (47 ∷ []) ≡ v →
-          ◌≡◌ {A = List ℕ} [] (cond (cuts seg (47 ∷ []) && false) (47 ∷ []) [])
-      go true e = rw e refl
-      go false e = rw e refl
+  longest_is seg [] good = grind (arith)
   longest_is seg (([], k) ∷ rows) good = longest_is seg rows good.1
-  longest_is seg ((x ∷ t, k) ∷ rows) good =
-      rw good.0 (go (cuts seg (47 ∷ [])) refl (longest_is seg rows good.1))
-    where
-      go : (v : Bool) → cuts seg (47 ∷ []) ≡ v →
-          longest_from seg [] rows ≡ cond (cuts seg (47 ∷ []) && has_more rows) (47 ∷ []) []
-          → longest_from seg (cond (cuts seg (47 ∷ [])) (47 ∷ []) []) rows
-          ≡ cond (cuts seg (47 ∷ []) && true) (47 ∷ []) []
-      go true e more = rw e (longest_slash seg rows good.1)
-      go false e more = rw e (rw e at more)
+  longest_is seg ((x ∷ t, k) ∷ rows) good = grind (arith, longest_is seg rows good.1, longest_slash)
 
 cuts_is : (b : ℕ) (path : List ℕ) → (b == 47) ≡ false →
     cuts (segment (b ∷ path)) (47 ∷ []) ≡ has_slash path
@@ -162,9 +122,7 @@ module _ {K : Type 0} where
       (length (segment path) - length suffix, with_suffix suffix rows)
       (cond (has_slash path) (0, []) (length path, rows))
   unfolding param_step
-  param_step_is rows path suffix e = ap (λ l. cond {A = ℕ × RowsOf K} (ltb 0 (length l))
-      (length (segment path) - length l, with_suffix l rows)
-      (cond (has_slash path) (0, []) (length path, rows))) e
+  param_step_is rows path suffix e = grind (arith)
 
   -- the search after a parameter at b
   pub param_at : RowsOf K → ℕ → List ℕ → Option K
@@ -224,13 +182,8 @@ module _ {K : Type 0} where
   no_catch_all : (rows : RowsOf K) → ArePlain rows → step catch_all_token rows ≡ []
   no_catch_all [] good = refl
   no_catch_all (([], k) ∷ rows) good = no_catch_all rows good.1
-  no_catch_all ((x ∷ t, k) ∷ rows) good = go (x == 257) refl (no_catch_all rows good.1) good.0.0
-    where
-      go : (v : Bool) → (x == 257) ≡ v → step catch_all_token rows ≡ [] →
-          ((x < 256) ⊎ ((x ≡ 256) × EndsSegment t)) → step catch_all_token ((x ∷ t, k) ∷ rows) ≡ []
-      go true e rest (inl small) = absurd (omega (arith, eqb-true x 257 e))
-      go true e rest (inr is) = absurd (omega (arith, eqb-true x 257 e, is.0))
-      go false e rest good = rw e rest
+  no_catch_all ((x ∷ t, k) ∷ rows) good =
+      grind (arith, no_catch_all rows good.1, EndsSegment, eqb-true)
 
   or_none : (o : Option K) → or_else o None ≡ o
   or_none None = refl

@@ -1,33 +1,26 @@
 -- The numbers of a command that was read are in their limits.
-use Rattle.std.proofs.Common.{◌≡◌, ℕ, zero, suc, ◌≤◌, Bool, true, false, List, [], ◌∷◌, get_or}
-use Rattle.std.proofs.Common.{Option, Some, None, Result, Ok, Err, refl, arith}
-use Rattle.std.specs.Prelude.{nat_le, nat_lt, ◌==◌, length, IfSome, IfOk, if◌then◌else◌, codes}
-use Rattle.std.specs.Prelude.{option_and_then}
+use Rattle.std.proofs.Common.{◌≡◌, ℕ, zero, suc, ◌≤◌, Bool, List, [], ◌∷◌, get_or}
+use Rattle.std.proofs.Common.{Option, Some, None, Result, Ok, Err, arith}
+use Rattle.std.specs.Prelude.{◌==◌, IfSome, IfOk, codes}
 use Rattle.std.specs.List.{AllByRecursion}
-use Rattle.std.proofs.lemmas.Bool.Decides.{nat_tests}
 use Rattle.exam_lists.proofs.Options.{IfSome_and_then, IfSome_any, IfSome_map}
 use Rattle.exam_terms.specs.Refusing.{◌>>=◌, else_err}
 use Rattle.office_policy.specs.CommandBodies.{IfBodyHasValue}
 use Rattle.office_policy.specs.Numbers.{IsSmall, IsSmallPlace}
 use Rattle.office_policy.specs.Commands.{PlainCommand, HasSmallNumbers}
-use Rattle.office_policy.specs.Policy.{kind_of}
-use Rattle.office_policy.specs.declared.policy.Kind.{Kind}
-use Rattle.office_policy.specs.declared.policy.Kind.TheVariants.{Personal}
 use Rattle.office_policy.specs.declared.callers.Caller.{Caller}
 use Rattle.office_policy.specs.declared.callers.Caller.TheVariants.{Cand}
 use Rattle.office_policy.specs.declared.command.Body.{Body}
-use Rattle.office_policy.specs.declared.command.Body.TheVariants.{Long}
 use Rattle.office_policy.proofs.NumberLemmas.{number_small}
 use Rattle.serde_json.specs.Data.{Data}
-use Rattle.serde_json.specs.Find.{get, as_number, as_u64}
-use Rattle.office_requests.specs.Bodies.{at_most, number_at, of_members, members_count, place_in}
+use Rattle.office_requests.specs.Bodies.{at_most, number_at, of_members, place_in}
 use Rattle.office_requests.specs.Bodies.{dept_in, json_in, value_or_bad, unless_long, place_body}
 use Rattle.office_requests.specs.Bodies.{dept_body}
 use Rattle.office_requests.specs.Commands.{command_of}
 use Rattle.office_requests.specs.Pages.{Part, word, number, parts_of, page_of}
 use Rattle.office_requests.specs.Paths.{rest_after_slash, segment, number_in, numbers_in}
 use Rattle.office_requests.specs.Paths.{three, numbers_of}
-use Rattle.office_requests.specs.Requests.{if_personal, personal_in, own_command, staff_command}
+use Rattle.office_requests.specs.Requests.{personal_in, staff_command}
 use Rattle.office_requests.specs.Requests.{command_by}
 use Rattle.office_requests.specs.declared.methods.Verb.{Verb}
 use Rattle.office_requests.specs.declared.methods.Verb.TheVariants.{Get, Put, Post, Delete}
@@ -51,29 +44,15 @@ judged P Q (Err e) f p more = tt
 -- ---- numbers in bodies
 
 at_most_small : (most n : ℕ) → IfSome (at_most most n) (λ m. m ≤ most)
-at_most_small most n = go (nat_le n most) refl
-  where
-    go : (b : Bool) → nat_le n most ≡ b
-        → IfSome (if b then Some n else None) (λ m. m ≤ most)
-    go true e = grind (arith, nat_tests)
-    go false e = tt
+at_most_small most n = grind (arith)
 
 number_at_small : (key : List ℕ) (most : ℕ) (d : Data)
     → IfSome (number_at key most d) (λ m. m ≤ most)
-number_at_small key most d =
-    IfSome_and_then (λ n. Unit {0}) (λ m. m ≤ most) (at_most most)
-    (option_and_then as_u64 (option_and_then as_number (get key d))) (IfSome_any _)
-    (λ n any. at_most_small most n)
+number_at_small key most d = grind (arith, IfSome_and_then, IfSome_any, at_most_small)
 
 of_members_small : {A : Type 0} (P : A → Type 0) (size : ℕ) (value : Option A) (d : Data)
     → IfSome value P → IfSome (of_members size value d) P
-of_members_small P size value d small =
-    IfSome_and_then (λ n. Unit {0}) P (λ n. if n == size then value else None) (members_count d)
-    (IfSome_any _) (λ n any. go (n == size))
-  where
-    go : (b : Bool) → IfSome (if b then value else None) P
-    go true = small
-    go false = tt
+of_members_small P size value d small = grind (arith, IfSome_and_then, IfSome_any)
 
 given_small : {A : Type 0} (P : A → Type 0) (o : Option A) → IfSome o P
     → IfBodyHasValue (value_or_bad o) P
@@ -83,11 +62,7 @@ given_small P (Some x) small = small
 unless_small : {A : Type 0} (P : A → Type 0) (bytes : List ℕ) (body : Body A)
     → IfBodyHasValue body P
     → IfBodyHasValue (unless_long bytes body) P
-unless_small {A} P bytes body small = go (nat_lt 1048576 (length bytes))
-  where
-    go : (b : Bool) → IfBodyHasValue (let long : Body A = Long in if b then long else body) P
-    go true = tt
-    go false = small
+unless_small {A} P bytes body small = grind (arith)
 
 place_small : (bytes : List ℕ) → IfBodyHasValue (place_body bytes) IsSmallPlace
 place_small bytes =
@@ -170,16 +145,10 @@ staff_small verb path body =
 own_small : (said : Result PlainCommand Refusal) → IfOk said HasSmallNumbers
     → IfSome (personal_in said) HasSmallNumbers
 own_small (Err e) small = tt
-own_small (Ok c) small = go (kind_of c)
-  where
-    go : (k : Kind) → IfSome (if_personal k c) HasSmallNumbers
-    go Personal = small
-    go _ = tt
+own_small (Ok c) small = grind (arith)
 
 -- the command has small numbers, for each caller
 pub asked_small : (who : Caller) (verb : Verb) (path body : List ℕ)
     → IfOk (command_by who verb path body) HasSmallNumbers
-asked_small (Cand c) verb path body =
-    else_ok HasSmallNumbers refusal.Candidate (own_command verb path)
-    (own_small (staff_command verb path []) (staff_small verb path []))
+asked_small (Cand c) verb path body = grind (arith, else_ok, own_small, staff_small)
 asked_small _ verb path body = staff_small verb path body
