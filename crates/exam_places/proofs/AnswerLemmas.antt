@@ -1,8 +1,6 @@
 -- The answer of an edit, by the rules and by the shares.
-use Rattle.std.specs.Prelude.{nat_lt}
-use Rattle.std.proofs.Common.{◌≡◌, ℕ, zero, suc, ◌+◌, ◌<◌, Bool, true, false, cond, [], ◌∷◌, length, map, set, Option, Some, None, refl, sym, ◌∙◌, ap, arith}
+use Rattle.std.proofs.Common.{◌≡◌, ℕ, zero, suc, ◌+◌, ◌<◌, Bool, true, [], ◌∷◌, length, map, set, Option, Some, None, refl, sym, ◌∙◌, ap, arith, rules, nat_lt, lt-ltb}
 use Rattle.std.specs.List.{flat_map, range_with_len}
-use Rattle.std.proofs.lemmas.Bool.{lt-ltb}
 use Rattle.std.proofs.lemmas.List.{set-get_or}
 use Rattle.exam_lists.proofs.Maps.{map-flat_map, map-map}
 use Rattle.exam_lists.proofs.Ranges.{range_flat_map_same, range_map_same}
@@ -11,13 +9,12 @@ use Rattle.exam_model.specs.Enrolments.{Enrolled}
 use Rattle.exam_model.specs.Instance.{Session, IsInstance}
 use Rattle.exam_model.specs.Timetable.{Placing, place_of}
 use Rattle.exam_rules.specs.declared.breach.Breach.{Breach}
-use Rattle.exam_rules.specs.Breaches.{least_breach_of}
 use Rattle.exam_score.specs.Penalty.{total_of}
 use Rattle.exam_score.specs.Track.{track}
 use Rattle.exam_draft.specs.declared.edit.Edit.TheVariants as edit
-use Rattle.exam_draft.specs.Edits.{edit_result, is_placed, unless_broken}
+use Rattle.exam_draft.specs.Edits.{unless_broken}
 use Rattle.exam_places.specs.declared.place_row.PlaceRow.{PlaceRow}
-use Rattle.exam_places.specs.Answers.{Answered, answer_at, answer_to, answers_of, period_answers, place}
+use Rattle.exam_places.specs.Answers.{answer_at, answer_to, answers_of, place}
 use Rattle.exam_places.specs.Places.{PlaceAnswer, breach_or, edit_answer, period_places, place_answer, place_row, places_of}
 use Rattle.exam_places.specs.Shares.{period_share, place_share}
 use Rattle.exam_places.specs.Unplaced.{IsUnplaced, IsWithout, answer_by, least_breach, row_by, rows_by, share_of, total_without}
@@ -40,23 +37,12 @@ pub answer_is_edit : (I : Session) (E : Enrolled) (T : Placing) (e : ℕ) (a : P
     → nat_lt e (length I.exams) ≡ true → nat_lt a.period (length I.periods) ≡ true
     → nat_lt a.room (length I.rooms) ≡ true
     → answer_at I E T e a ≡ edit_answer (place_answer I E T e a)
-answer_is_edit I E T e a exam period room = go (is_placed T e) refl
-  where
-    U : Placing
-    U = set T e (Some a)
-
-    go : (b : Bool) → is_placed T e ≡ b
-        → answer_to I E (edit_result I E T (cond b (edit.Move e a) (edit.Place e a)))
-        ≡ edit_answer (place_answer I E T e a)
-    go true is = rw (exam, period, room, is) (answered I E (least_breach_of I E U (e ∷ [])) U)
-    go false is = rw (exam, period, room, is) (answered I E (least_breach_of I E U (e ∷ [])) U)
+answer_is_edit I E T e a exam period room = grind (arith, answered)
 
 -- it doesn't matter whether the exam is placed before
 pub place_cleared : (I : Session) (E : Enrolled) (T : Placing) (e : ℕ) (a : Place)
     → place_answer I E (set T e None) e a ≡ place_answer I E T e a
-place_cleared I E T e a =
-    ap (λ (U : Placing). breach_or (least_breach_of I E U (e ∷ [])) (total_of (track I E U)))
-    (set_twice T e None (Some a))
+place_cleared I E T e a = search (rules, set_twice)
 
 -- the penalty with an exam that was not placed
 pub total_unplaced : (I : Session) → IsInstance I → (E : Enrolled) (W : Placing) (x : ℕ) (a : Place)
@@ -131,23 +117,18 @@ total_placed u T at known is without placed period room =
 -- that of a timetable that doesn't
 pub total_missing : (u : UnplacedExam) (T : Placing) → IsWithout u T → place_of T u.exam ≡ None
     → total_of (track u.instance.now u.enrolments.now T) ≡ total_without u
-total_missing u T without missing =
-    ap (λ U. total_of (track u.instance.now u.enrolments.now U))
-    (sym (without.cleared ∙ ap (set T u.exam) (sym missing) ∙ set-get_or T u.exam None))
+total_missing u T without missing = grind (arith, set-get_or)
 
 -- the edits answer what the rows say
 pub places_answer : (I : Session) (E : Enrolled) (T : Placing) (e : ℕ) → e < length I.exams
     → map (λ (row : PlaceRow). edit_answer row.answer) (places_of I E T e) ≡ answers_of I E T e
 places_answer I E T e exam =
-    map-flat_map of_row (period_places I E T e) (range_with_len 0 (length I.periods))
-    ∙ range_flat_map_same (λ p. map of_row (period_places I E T e p)) (period_answers I E T e)
-    0 (length I.periods)
-    (λ p lp. map-map of_row (place_row I E T e p) (range_with_len 0 (length I.rooms))
-    ∙ range_map_same (λ r. of_row (place_row I E T e p r)) (λ r. answer_at I E T e (place p r))
-    0 (length I.rooms)
-    (λ r lr. sym (answer_is_edit I E T e (place p r) (lt-ltb e (length I.exams) exam)
-    (lt-ltb p (length I.periods) (omega (arith, lp)))
-    (lt-ltb r (length I.rooms) (omega (arith, lr))))))
-  where
-    of_row : PlaceRow → Answered
-    of_row row = edit_answer row.answer
+    grind (
+      arith,
+      answer_is_edit,
+      lt-ltb,
+      map-flat_map,
+      map-map,
+      range_flat_map_same,
+      range_map_same,
+    )

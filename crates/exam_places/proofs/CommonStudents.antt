@@ -1,6 +1,6 @@
 -- A walk along two ascending lists that counts their common numbers.
-use Rattle.std.proofs.Common.{◌≡◌, ℕ, zero, suc, ◌+◌, ◌<◌, Bool, true, false, ◌||◌, ◌==◌, if◌then◌else◌, List, [], ◌∷◌, count_by, get_or, length, refl, sym, ◌∙◌, ap, ap₂, subst, arith, eq-eqb}
-use Rattle.std.proofs.lemmas.Bool.{ne_eqb}
+use Rattle.std.proofs.lemmas.Grind.{common_steps}
+use Rattle.std.proofs.Common.{◌≡◌, ℕ, zero, suc, ◌+◌, ◌<◌, Bool, true, false, ◌||◌, ◌==◌, if◌then◌else◌, List, [], ◌∷◌, count_by, get_or, length, refl, sym, ◌∙◌, ap, ap₂, subst, arith, eq-eqb, ne_eqb}
 use Rattle.std.proofs.lemmas.List.Sums.{sum_by-cons}
 use Rattle.exam_model.specs.Enrolments.{IsAscending, has_number}
 
@@ -46,8 +46,7 @@ pub step_left : (left right xs ys : List ℕ) (x y count total : ℕ) → left �
 step_left left right xs ys x y count total l r lt was =
     let up = subst IsAscending l was.left_rises in
     let down = subst IsAscending r was.right_rises in
-    let gone : has_number right x ≡ false =
-    ap (λ zs. has_number zs x) r ∙ absent x y ys lt down in
+    let gone : has_number right x ≡ false = grind (arith, common_steps, absent) in
     let all = ap (λ zs. common zs right) l ∙ one_more right x xs
     ∙ ap (λ (b : Bool). (if b then 1 else 0) + common xs right) gone in
     record {

@@ -1,6 +1,6 @@
 -- The first pair of exams that breaks a rule and names one exam.
-use Rattle.std.specs.Prelude.{nat_lt, option_map, slice_get}
-use Rattle.std.proofs.Common.{◌≡◌, ◌≢◌, ◌⊎◌, ℕ, ◌<◌, ◌≤◌, inl, inr, Bool, true, false, cond, ◌&&◌, ◌||◌, ◌==◌, [], ◌∷◌, Less, length, Option, Some, None, refl, sym, ◌∙◌, ap, ap₂, arith, eqb-true}
+use Rattle.std.proofs.lemmas.Grind.{common_steps}
+use Rattle.std.proofs.Common.{◌≡◌, ◌≢◌, ◌⊎◌, ℕ, ◌<◌, ◌≤◌, inl, inr, Bool, true, false, cond, ◌&&◌, ◌||◌, ◌==◌, [], ◌∷◌, Less, length, Option, Some, None, refl, sym, ◌∙◌, ap, ap₂, arith, eqb-true, nat_lt, option_map, slice_get}
 use Rattle.std.proofs.lemmas.Bool.{and_parts, cases_eq, cases_lt, true≢false}
 use Rattle.std.proofs.lemmas.Bool.Decides.{nat_tests}
 use Rattle.exam_lists.proofs.Sorted.{sorted_head}
@@ -10,7 +10,7 @@ use Rattle.exam_model.specs.Instance.{Session}
 use Rattle.exam_model.specs.Timetable.{Placing}
 use Rattle.exam_rules.specs.declared.breach.BreachRule.{BreachRule}
 use Rattle.exam_rules.specs.declared.breach.BreachRule.TheVariants.{Clash, RoomExclusive}
-use Rattle.exam_rules.specs.Breach.{breach, exam_pair_cmp, exam_pairs, pair, passing_pairs}
+use Rattle.exam_rules.specs.Breach.{breach, exam_pair_cmp, pair, passing_pairs}
 use Rattle.exam_rules.specs.Breaches.{name_one}
 use Rattle.exam_rules.specs.HardRules.{breaks}
 use Rattle.exam_rules.proofs.EnumerationLemmas.{passing_all, passing_only, passing_sorted}
@@ -31,10 +31,7 @@ record IsLeast (test : ℕ → ℕ → Bool) (a b : ℕ) : Type 0 where
 not_before : (a b x y : ℕ) → (a < x) ⊎ ((a ≡ x) × (b ≤ y))
     → exam_pair_cmp (pair x y) (pair a b) ≡ Less → ⊥
 not_before a b x y (inl less) before = grind (arith, nat_tests)
-not_before a b x y (inr equal) before =
-    let same : a ≡ x = equal.0 in
-    let most : b ≤ y = equal.1 in
-    grind (arith, nat_tests)
+not_before a b x y (inr equal) before = grind (arith)
 
 first_pair : (test : ℕ → ℕ → Bool) (n a b : ℕ) → a < n → b < n → IsLeast test a b
     → slice_get (passing_pairs test n) 0 ≡ Some (pair a b)
@@ -59,9 +56,7 @@ naming I E T e r x y = name_one (e ∷ []) x y && breaks I E T r x y
 by_pairs : (I : Session) (E : Enrolled) (T : Placing) (e : ℕ) (r : BreachRule)
     → first_of I E T (e ∷ []) r
     ≡ option_map (breach r) (slice_get (passing_pairs (naming I E T e r) (length I.exams)) 0)
-by_pairs I E T e r =
-    first_of_rule (λ b. name_one (e ∷ []) b.exam b.other) (λ p. breaks I E T r p.exam p.other) r
-    (exam_pairs (length I.exams))
+by_pairs I E T e r = grind (arith, first_of_rule)
 
 -- that pair of a rule is the first
 found : (I : Session) (E : Enrolled) (T : Placing) (e : ℕ) (r : BreachRule) (a b : ℕ)
@@ -99,20 +94,12 @@ pub own_first : (I : Session) (E : Enrolled) (T : Placing) (e : ℕ) (r : Breach
 own_first I E T e r own is within = go (own e) refl
   where
     both : (x y : ℕ) → naming I E T e r x y ≡ true → (x ≡ e) × (y ≡ e) × (own e ≡ true)
-    both x y h =
-        let parts = and_parts (name_one (e ∷ []) x y) (breaks I E T r x y) h in
-        let broken = and_parts (x == y) (own x) (sym (is x y) ∙ parts.1) in
-        let same : x ≡ y = eqb-true x y broken.0 in
-        let first : x ≡ e = elim (one_of e x y parts.0) as (λ _. x ≡ e)
-        [ inl here ↦ here | inr there ↦ same ∙ there ] in
-        (first, sym same ∙ first, ap own (sym first) ∙ broken.1)
+    both x y h = grind (arith, and_parts, eqb-true, one_of)
 
     go : (b : Bool) → own e ≡ b
         → first_of I E T (e ∷ []) r ≡ cond b (Some (own_breach r e)) None
     go true breaks_it = found I E T e r e e within within (record {
-      passes = named_first e e (breaks I E T r e e)
-          (is e e ∙ (let twice : (e == e) ≡ true = grind (arith, nat_tests) in
-          ap₂ (λ c d. c && d) twice breaks_it));
+      passes = grind (arith, common_steps, named_first);
       least = λ x y h. (let parts = both x y h in inr (sym parts.0, omega (arith, parts.1)));
     })
     go false keeps_it = none I E T e r
@@ -162,9 +149,7 @@ clash_first I E T e test fits within own before after =
         ]
       where
         in_order : (x y : ℕ) (b : Bool) → (nat_lt x y && b) ≡ true → x < y
-        in_order x y b h =
-            let first = (and_parts (nat_lt x y) b h).0 in
-            grind (arith, nat_tests)
+        in_order x y b h = grind (arith, and_parts)
 
     go : (o : Option ℕ) → IsFirstOrNone n test o
         → first_of I E T (e ∷ []) Clash ≡ option_map (clash_with e) o

@@ -1,14 +1,12 @@
 -- The mixed part at a place, by what an exam meets there.
-use Rattle.std.specs.Prelude.{slice_get}
-use Rattle.std.proofs.Common.{◌≡◌, ℕ, cond, not, ◌&&◌, length, Option, Some, None, refl, sym, ◌∙◌, ap, ap₂}
+use Rattle.std.proofs.Common.{◌≡◌, ℕ, cond, not, ◌&&◌, length, Option, Some, None, refl, ◌∙◌, ap₂, arith}
 use Rattle.exam_lists.proofs.Booleans.{eqb_swap}
 use Rattle.exam_terms.specs.declared.place.Place.{Place}
-use Rattle.exam_model.specs.Timetable.{place_of}
 use Rattle.exam_rules.specs.Places.{is_one_place, place_satisfies}
-use Rattle.exam_score.specs.MixedDurations.{has_duration, is_at, minutes_of}
+use Rattle.exam_score.specs.MixedDurations.{is_at}
 use Rattle.exam_places.specs.declared.unplaced_exam.UnplacedExam.{UnplacedExam}
 use Rattle.exam_places.specs.Firsts.{is_found}
-use Rattle.exam_places.specs.PlaceTable.{is_here, lasts_as, place_entry}
+use Rattle.exam_places.specs.PlaceTable.{place_entry}
 use Rattle.exam_places.specs.Shares.{mixed_share}
 use Rattle.exam_places.proofs.FirstLemmas.{first_same, found_counts}
 
@@ -24,19 +22,4 @@ pub mixed_by_entry : (u : UnplacedExam) (at : Place)
     && not (is_found ((place_entry u (length u.instance.now.exams) at).as_long)))
     u.instance.now.weights.mixed 0
     ≡ mixed_share u.instance.now u.timetable.now u.exam at
-mixed_by_entry u at =
-    ap₂ (λ a b. cond (a && not b) u.instance.now.weights.mixed 0)
-    (ap is_found (first_same (is_here u.timetable.now at)
-    (λ f. is_at at.period at.room (place_of u.timetable.now f))
-    (λ f. sym (at_here at (place_of u.timetable.now f))) n)
-    ∙ sym (found_counts (λ f. is_at at.period at.room (place_of u.timetable.now f)) n))
-    (ap is_found (first_same (λ f. is_here u.timetable.now at f && lasts_as u.instance.now u.exam f)
-    (has_duration u.instance.now u.timetable.now at.period at.room
-    (minutes_of (slice_get u.instance.now.exams u.exam)))
-    (λ f. ap (λ b. b && lasts_as u.instance.now u.exam f)
-    (sym (at_here at (place_of u.timetable.now f)))) n)
-    ∙ sym (found_counts (has_duration u.instance.now u.timetable.now at.period at.room
-    (minutes_of (slice_get u.instance.now.exams u.exam))) n))
-  where
-    n : ℕ
-    n = length u.instance.now.exams
+mixed_by_entry u at = grind (arith, at_here, first_same, found_counts)

@@ -1,6 +1,6 @@
 -- An exam at two places of one period.
-use Rattle.std.specs.Prelude.{option_map}
-use Rattle.std.proofs.Common.{◌≡◌, ℕ, zero, suc, [], ◌∷◌, get_or, set, Option, Some, None, refl, ap}
+use Rattle.std.proofs.lemmas.Grind.{common_steps}
+use Rattle.std.proofs.Common.{◌≡◌, ℕ, zero, suc, [], ◌∷◌, get_or, set, Option, Some, None, refl, arith}
 use Rattle.exam_terms.specs.declared.place.Place.{Place}
 use Rattle.exam_model.specs.Fits.{period_of}
 use Rattle.exam_model.specs.Timetable.{Placing}
@@ -17,6 +17,4 @@ seen_same see (x ∷ T) (suc e) a b same (suc f) = seen_same see T e a b same f
 -- the periods of all exams, if an exam is at either of two places of one period
 pub periods_same : (T : Placing) (e : ℕ) (a b : Place) → a.period ≡ b.period
     → period_of (set T e (Some a)) ≡ period_of (set T e (Some b))
-periods_same T e a b same =
-    λ i f. seen_same (λ o. option_map (λ (at : Place). at.period) o) T e (Some a) (Some b)
-    (ap Some same) f i
+periods_same T e a b same = grind (arith, common_steps, seen_same)

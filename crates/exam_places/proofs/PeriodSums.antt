@@ -1,6 +1,5 @@
 -- The cost of an exam with all others, period by period.
-use Rattle.std.specs.Prelude.{option_map}
-use Rattle.std.proofs.Common.{◌≡◌, ℕ, zero, suc, ◌+◌, ◌*◌, ◌<◌, ◌≤◌, inl, inr, cond, ◌==◌, List, length, Option, Some, None, refl, ◌∙◌, ap, ap₂, arith, add-mul, zero-mul}
+use Rattle.std.proofs.Common.{◌≡◌, ℕ, zero, suc, ◌+◌, ◌*◌, ◌<◌, ◌≤◌, cond, ◌==◌, List, length, Option, Some, None, refl, ◌∙◌, ap, ap₂, arith, add-mul, zero-mul, option_map}
 use Rattle.std.proofs.lemmas.Bool.{cases_lt, lt-ltb}
 use Rattle.std.proofs.lemmas.List.{get_or_past}
 use Rattle.exam_lists.proofs.Booleans.{cond_mul}
@@ -14,7 +13,7 @@ use Rattle.exam_model.proofs.SumLemmas.{sum_below-add, sum_below-at, sum_below-s
 use Rattle.exam_rules.specs.Places.{place_satisfies}
 use Rattle.exam_places.specs.declared.period_table.PeriodEntry.{PeriodEntry}
 use Rattle.exam_places.specs.declared.unplaced_exam.UnplacedExam.{UnplacedExam}
-use Rattle.exam_places.specs.PeriodTable.{IsPeriodTable, is_in, no_exams_in, period_entry, shared_in, shared_with}
+use Rattle.exam_places.specs.PeriodTable.{IsPeriodTable, is_in, period_entry, shared_in, shared_with}
 use Rattle.exam_places.specs.Shares.{cost_beside}
 use Rattle.exam_places.proofs.SizeLemmas.{entry_shared}
 
@@ -74,13 +73,4 @@ beside_by_table cost u p n table is all within =
 pub table_small : (u : UnplacedExam) (n : ℕ) (table : List PeriodEntry) → IsPeriodTable u n table
     → AreEnrolments u.enrolments.now → n ≡ length u.enrolments.now
     → u.exam < length u.enrolments.now → (q : ℕ) → shared_in table q ≤ 400000000
-table_small u n table is known all within q =
-    elim (cases_lt q (length table)) as (λ _. shared_in table q ≤ 400000000) [
-      | inl lt ↦
-          (let same = ap (λ (x : PeriodEntry). x.shared) (is.each q (omega (arith, lt, is.count))) in
-          let few = entry_shared u known n q (omega (arith, all)) within in
-          omega (arith, same, few, known.exams, all))
-      | inr past ↦
-          (let none = ap (λ (x : PeriodEntry). x.shared) (get_or_past table q no_exams_in past) in
-          omega (arith, none))
-    ]
+table_small u n table is known all within q = grind (arith, cases_lt, entry_shared, get_or_past)

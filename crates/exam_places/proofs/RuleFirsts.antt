@@ -1,14 +1,12 @@
 -- The first breaches of an exam at a place, by what it meets there.
-use Rattle.std.specs.Prelude.{nat_lt, option_map, slice_get}
 use Rattle.std.specs.Option.{option_or}
-use Rattle.std.proofs.Common.{◌≡◌, ◌≢◌, ℕ, ◌+◌, ◌<◌, Bool, true, false, cond, ◌&&◌, ◌==◌, not, [], ◌∷◌, length, set, Option, Some, None, refl, sym, ◌∙◌, ap, ap₂, subst, inl, inr, arith}
+use Rattle.std.proofs.Common.{◌≡◌, ◌≢◌, ℕ, ◌+◌, ◌<◌, Bool, true, false, cond, ◌&&◌, ◌==◌, not, [], ◌∷◌, length, set, Option, Some, None, refl, sym, ◌∙◌, ap, ap₂, arith, nat_lt, option_map, slice_get, length-set}
 use Rattle.std.proofs.lemmas.Bool.{cases_eq}
 use Rattle.std.proofs.lemmas.Bool.Decides.{nat_tests}
-use Rattle.std.proofs.lemmas.List.{length-set}
 use Rattle.exam_lists.proofs.Booleans.{eqb_swap}
 use Rattle.exam_lists.proofs.Options.{option_or_none}
 use Rattle.exam_terms.specs.declared.place.Place.{Place}
-use Rattle.exam_model.specs.Enrolments.{Enrolled, shared_students, size_of}
+use Rattle.exam_model.specs.Enrolments.{Enrolled, size_of}
 use Rattle.exam_model.specs.Instance.{Session}
 use Rattle.exam_model.specs.Timetable.{Placing, place_of}
 use Rattle.exam_rules.specs.declared.breach.BreachRule.{BreachRule}
@@ -91,24 +89,10 @@ clash_there I E W e a unplaced fits within =
         (nowhere W e unplaced placed)
 
     before : (f : ℕ) → f < e → breaks I E T Clash f e ≡ test f
-    before f less =
-        let ordered : nat_lt f e ≡ true = grind (arith, nat_tests) in
-        let other : f ≢ e = omega arith in
-        ap₂ (λ b c. b && (c && nat_lt 0 (shared_students E f e))) ordered
-        (ap₂ (λ o p. both_satisfy (λ p q. p.period == q.period) o p)
-        (others_stay W e a unplaced f other) (own_place W e (Some a) placed)
-        ∙ from_right (λ p q. p.period == q.period) a (place_of W f))
-        ∙ ap (λ n. is_in W a.period f && nat_lt 0 n) (sym (smaller_first E e f less))
+    before f less = grind (arith, from_right, others_stay, own_place, placed, smaller_first)
 
     after : (f : ℕ) → e < f → breaks I E T Clash e f ≡ test f
-    after f more =
-        let ordered : nat_lt e f ≡ true = grind (arith, nat_tests) in
-        let other : f ≢ e = omega arith in
-        ap₂ (λ b c. b && (c && nat_lt 0 (shared_students E e f))) ordered
-        (ap₂ (λ o p. both_satisfy (λ p q. p.period == q.period) o p)
-        (own_place W e (Some a) placed) (others_stay W e a unplaced f other)
-        ∙ (λ i. place_satisfies (λ q. eqb_swap a.period q.period i) (place_of W f)))
-        ∙ ap (λ n. is_in W a.period f && nat_lt 0 n) (sym (greater_last E e f more))
+    after f more = grind (arith, eqb_swap, greater_last, others_stay, own_place, placed)
 
 -- the first breach of the two rules on periods
 pub early_is : (I : Session) (E : Enrolled) (W : Placing) (e : ℕ) (a : Place)
@@ -182,36 +166,23 @@ exclusive_is I E W e a unplaced fits within =
 
     twice : (not (e == e) && both_satisfy is_one_place (place_of T e) (place_of T e))
         ≡ is_here W a e
-    twice = ap (λ b. not b && both_satisfy is_one_place (place_of T e) (place_of T e))
-        (let same : (e == e) ≡ true = grind (arith, nat_tests) in same)
-        ∙ sym own
+    twice = grind (arith, T, own)
 
     before : (f : ℕ) → (not (f == e) && both_satisfy is_one_place (place_of T f) (place_of T e))
         ≡ is_here W a f
-    before f = elim (cases_eq f e) as (λ _. (not (f == e)
-        && both_satisfy is_one_place (place_of T f) (place_of T e)) ≡ is_here W a f) [
-          | inl same ↦ subst (λ k. (not (k == e)
-              && both_satisfy is_one_place (place_of T k) (place_of T e)) ≡ is_here W a k)
-              (sym same) twice
-          | inr other ↦
-              ap₂ (λ b c. not b && c)
-              (let differs : (f == e) ≡ false = grind (arith, nat_tests) in differs)
-              (ap₂ (both_satisfy is_one_place) (others_stay W e a unplaced f other)
-              (own_place W e (Some a) placed)
-              ∙ from_right is_one_place a (place_of W f)
-              ∙ (λ i. place_satisfies (λ p. one_place-swap p a i) (place_of W f)))
-        ]
+    before f =
+        grind (
+          arith,
+          T,
+          cases_eq,
+          from_right,
+          one_place-swap,
+          others_stay,
+          own_place,
+          placed,
+          twice,
+        )
 
     after : (f : ℕ) → (not (e == f) && both_satisfy is_one_place (place_of T e) (place_of T f))
         ≡ is_here W a f
-    after f = elim (cases_eq f e) as (λ _. (not (e == f)
-        && both_satisfy is_one_place (place_of T e) (place_of T f)) ≡ is_here W a f) [
-          | inl same ↦ subst (λ k. (not (e == k)
-              && both_satisfy is_one_place (place_of T e) (place_of T k)) ≡ is_here W a k)
-              (sym same) twice
-          | inr other ↦
-              ap₂ (λ b c. not b && c)
-              (let differs : (e == f) ≡ false = grind (arith, nat_tests) in differs)
-              (ap₂ (both_satisfy is_one_place) (own_place W e (Some a) placed)
-              (others_stay W e a unplaced f other))
-        ]
+    after f = grind (arith, T, cases_eq, others_stay, own_place, placed, twice)

@@ -1,11 +1,9 @@
 -- Tables that are filled one exam at a time.
-use Rattle.std.specs.Prelude.{nat_lt}
-use Rattle.std.proofs.Common.{◌≡◌, ◌⊎◌, inl, inr, ℕ, ◌+◌, ◌*◌, ◌<◌, Bool, true, false, cond, ◌&&◌, ◌||◌, ◌==◌, List, length, get_or, set, take, Some, refl, sym, ◌∙◌, ap, ap₂, subst, arith, add-one, eqb-true, eq-eqb, add-zero}
+use Rattle.std.proofs.lemmas.Grind.{common_steps}
+use Rattle.std.proofs.Common.{◌≡◌, ◌⊎◌, inl, inr, ℕ, ◌+◌, ◌*◌, ◌<◌, Bool, true, false, cond, ◌&&◌, ◌||◌, ◌==◌, List, length, get_or, set, take, Some, refl, sym, ◌∙◌, ap, arith, add-one, eqb-true, eq-eqb, add-zero, nat_lt, length-set, get_or-set_same, get_or-set_other}
 use Rattle.std.specs.List.{list_any}
 use Rattle.std.proofs.lemmas.Bool.{and_parts, and_from, cases_eq, false_from_ne_true, ne_eqb}
 use Rattle.std.proofs.lemmas.List.Folds.{list_any_more}
-use Rattle.std.proofs.lemmas.Bool.Decides.{nat_tests}
-use Rattle.std.proofs.lemmas.List.{length-set, get_or-set_same, get_or-set_other}
 use Rattle.std.proofs.lemmas.Nat.{same_from_place}
 use Rattle.std.proofs.Math.Bool.{or-false, or-true}
 use Rattle.exam_terms.specs.declared.place.Place.{Place}
@@ -47,12 +45,7 @@ in_period u i p is = period_step u i p ∙ ap (period_more u i p) is
 not_in_period : (u : UnplacedExam) (i p : ℕ) → is_in u.timetable.now p i ≡ false
     → period_entry u (i + 1) p ≡ period_entry u i p
 unfolding period_more
-not_in_period u i p isnt =
-    period_step u i p ∙ ap (period_more u i p) isnt
-    ∙ (λ k. record {
-      shared = add-zero ((period_entry u i p).shared) k;
-      first = found_none ((period_entry u i p).first) i k;
-    })
+not_in_period u i p isnt = grind (arith, add-zero, found_none, period_more, period_step)
 
 -- an exam with a place
 pub period_put : {u : UnplacedExam} {i : ℕ} {table : List PeriodEntry} {q : Place}
@@ -71,19 +64,8 @@ period_put {u} {i} {table} {q} {new} was placed within is = record {
 
     each : (p : ℕ) → p < length u.instance.now.periods → (p ≡ q.period) ⊎ (p ≡ q.period → ⊥)
         → get_or (set table q.period new) p no_exams_in ≡ period_entry u (i + 1) p
-    each p lp (inl same) =
-        let here : (q.period == p) ≡ true = eq-eqb q.period p (sym same) in
-        ap (λ k. get_or (set table q.period new) k no_exams_in) same
-        ∙ get_or-set_same table q.period new no_exams_in (omega (arith, was.count, within))
-        ∙ is
-        ∙ ap (λ k. with_shared u i (get_or table k no_exams_in)) (sym same)
-        ∙ ap (with_shared u i) (was.each p lp)
-        ∙ sym (in_period u i p (test p ∙ here))
-    each p lp (inr other) =
-        let elsewhere : (q.period == p) ≡ false = grind (arith, nat_tests) in
-        get_or-set_other table q.period p new no_exams_in other
-        ∙ was.each p lp
-        ∙ sym (not_in_period u i p (test p ∙ elsewhere))
+    each p lp (inl same) = grind (arith, eq-eqb, get_or-set_same, in_period, test, within)
+    each p lp (inr other) = grind (arith, get_or-set_other, not_in_period, test)
 
 -- ---- places
 
@@ -109,14 +91,7 @@ at_place u i at is = place_step u i at ∙ ap (place_more u i at) is
 not_at_place : (u : UnplacedExam) (i : ℕ) (at : Place) → is_here u.timetable.now at i ≡ false
     → place_entry u (i + 1) at ≡ place_entry u i at
 unfolding place_more
-not_at_place u i at isnt =
-    place_step u i at ∙ ap (place_more u i at) isnt
-    ∙ (λ k. record {
-      students = add-zero ((place_entry u i at).students) k;
-      first = found_none ((place_entry u i at).first) i k;
-      as_long = found_none ((place_entry u i at).as_long) i k;
-      keeper = found_none ((place_entry u i at).keeper) i k;
-    })
+not_at_place u i at isnt = grind (arith, add-zero, found_none, place_more, place_step)
 
 -- an exam with a place
 pub place_put : {u : UnplacedExam} {i : ℕ} {table : List PlaceEntry} {q : Place} {new : PlaceEntry}
@@ -148,8 +123,7 @@ place_put {u} {i} {table} {q} {new} was placed exists is = record {
         ≡ place_entry u (i + 1) at
     each at lp lr (inl same) =
         let parts = same_from_place at.period at.room q.period q.room rooms lr exists.1 same in
-        let one : is_one_place at q ≡ true = and_from (at.period == q.period) (at.room == q.room)
-        (eq-eqb at.period q.period parts.0) (eq-eqb at.room q.room parts.1) in
+        let one : is_one_place at q ≡ true = grind (arith, common_steps, and_from, eq-eqb) in
         ap (λ k. get_or (set table (slot_of rooms q) new) k no_exams_at) same
         ∙ get_or-set_same table (slot_of rooms q) new no_exams_at within
         ∙ is
@@ -157,14 +131,7 @@ place_put {u} {i} {table} {q} {new} was placed exists is = record {
         ∙ ap (with_exam u i) (was.each at lp lr)
         ∙ sym (at_place u i at (test at ∙ one))
     each at lp lr (inr other) =
-        let apart : is_one_place at q ≡ false = false_from_ne_true (is_one_place at q) (λ one.
-        let parts = and_parts (at.period == q.period) (at.room == q.room) one in
-        other (ap₂ (λ a b. a * rooms + b) (eqb-true at.period q.period parts.0)
-        (eqb-true at.room q.room parts.1)))
-        in
-        get_or-set_other table (slot_of rooms q) (slot_of rooms at) new no_exams_at other
-        ∙ was.each at lp lr
-        ∙ sym (not_at_place u i at (test at ∙ apart))
+        grind (arith, and_parts, eqb-true, false_from_ne_true, get_or-set_other, not_at_place, test)
 
 -- ---- rooms
 
@@ -177,33 +144,21 @@ pub keepers_more : (exams : ℕ) (lines : List RoomRule) (i x : ℕ) (line : Roo
     → (f : ℕ) → f < exams
     → get_or (set flags x true) f false ≡ list_any (is_exclusive f) (take (i + 1) lines)
 keepers_more exams lines i x line flags count exists within is named each f lf =
-    elim (cases_eq f x) as (λ _. get_or (set flags x true) f false
-    ≡ list_any (is_exclusive f) (take (i + 1) lines)) [
-      | inl same ↦
-          (let hit : (line.0 == f) ≡ true = eq-eqb line.0 f (sym named ∙ sym same) in
-          ap (λ k. get_or (set flags x true) k false) same
-          ∙ get_or-set_same flags x true false (omega (arith, count, exists))
-          ∙ sym (more ∙ ap (λ b. list_any (is_exclusive f) (take i lines) || b) hit
-          ∙ or-true (list_any (is_exclusive f) (take i lines))))
-      | inr other ↦
-          (let missed : (line.0 == f) ≡ false
-          = ne_eqb line.0 f (λ e. other (sym e ∙ sym named)) in
-          get_or-set_other flags x f true false other
-          ∙ each f lf
-          ∙ sym (more ∙ ap (λ b. list_any (is_exclusive f) (take i lines) || b) missed
-          ∙ or-false (list_any (is_exclusive f) (take i lines))))
-    ]
-  where
-    more : list_any (is_exclusive f) (take (i + 1) lines)
-        ≡ (list_any (is_exclusive f) (take i lines) || (line.0 == f))
-    more = list_any_more (is_exclusive f) lines i line within
-        ∙ ap (λ (l : RoomRule). list_any (is_exclusive f) (take i lines) || (l.0 == f)) (sym is)
+    grind (
+      arith,
+      common_steps,
+      cases_eq,
+      eq-eqb,
+      get_or-set_other,
+      get_or-set_same,
+      list_any_more,
+      ne_eqb,
+      or-false,
+      or-true,
+    )
 
 -- the exam of a line exists
 pub line_exists : (I : Session) → IsInstance I → (lines : List RoomRule) (i : ℕ) (line : RoomRule)
     → lines ≡ I.room_rules → i < length lines → line ≡ get_or lines i line
     → line.0 < length I.exams
-line_exists I known lines i line are within is =
-    subst (λ (l : RoomRule). l.0 < length I.exams) (sym is)
-    (subst (λ (ls : List RoomRule). i < length ls → (get_or ls i line).0 < length I.exams) (sym are)
-    (λ lt. known.numbers.room_rules i line lt) within)
+line_exists I known lines i line are within is = grind (arith)
