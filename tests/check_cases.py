@@ -42,8 +42,9 @@ def on_dates(third, fourth):
     return "\n".join([*lines, "OVERNIGHT,6", ""])
 
 
-# The last period is on the day after the others.
+# The last period is on the day after the others; or the third is, and the last two days later.
 NIGHTS = on_dates("15:04:2005", "16:04:2005")
+SATURDAY = on_dates("16:04:2005", "18:04:2005")
 
 # Dates of the last two periods, and what over night costs if one student sits an exam in each.
 DATES = (("31:12:2004", "01:01:2005", 6), ("01:01:2005", "31:12:2004", 6),
@@ -51,7 +52,7 @@ DATES = (("31:12:2004", "01:01:2005", 6), ("01:01:2005", "31:12:2004", 6),
          ("28:02:2004", "29:02:2004", 6), ("29:02:2004", "01:03:2004", 6),
          ("28:02:1900", "01:03:1900", 6), ("28:02:2000", "01:03:2000", 0),
          ("30:04:2005", "01:05:2005", 6), ("15:04:2005", "16:05:2005", 0),
-         ("31:12:9999", "01:01:0001", 0))
+         ("15:04:2005", "17:04:2005", 0), ("31:12:9999", "01:01:0001", 0))
 
 # name: instance, solution, breaches, the eight penalties
 REPORTS = {
@@ -101,6 +102,14 @@ REPORTS = {
     "a weight of nights of 0":
         (NIGHTS.replace("OVERNIGHT,6", "OVERNIGHT,0"), EARLY, ["After 1 0"],
          [0, 0, 3, 0, 0, 4, 20, 7]),
+    # Exams 0 and 3 are in a row, and exam 1 is in a day with exam 0 and with exam 2.
+    "all periods on one date, with a weight of nights":
+        (on_dates("15:04:2005", "15:04:2005"), EARLY, ["After 1 0"],
+         [7, 10, 3, 0, 0, 4, 20, 7]),
+    "a night before the third period": (SATURDAY, PLACED, [], [7, 0, 3, 0, 0, 0, 15, 7]),
+    # Exam 2, after exam 1 of the day before, which candidate 3 sits too.
+    "a night before the third period, with an exam after it":
+        (SATURDAY, PLACED.replace("3, 1", "2, 1"), ["Duration 2 2"], [7, 0, 3, 6, 0, 0, 20, 7]),
     **{f"periods on {third} and {fourth}":
        (on_dates(third, fourth), EARLY, ["After 1 0"], [0, 0, 3, night, 0, 4, 20, 7])
        for third, fourth, night in DATES},
@@ -142,6 +151,8 @@ FAULTS = {
                                           "instance line 23: fault 4"),
     "a weight of nights with two numbers": (SMALL + "OVERNIGHT,6,7\n", PLACED,
                                             "instance line 23: fault 10"),
+    "a word that begins as the weight of nights": (SMALL + "OVERNIGHTS,6\n", PLACED,
+                                                   "instance line 23: fault 7"),
     "a seventh header": (with_line(22, "[FRONTLOAD]"), PLACED, "instance line 22: fault 10"),
     "a student number": (SMALL.replace("120, 1, 2", "120, 1, 1000000000"), PLACED,
                          "instance line 2: fault 8"),

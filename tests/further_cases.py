@@ -1,10 +1,10 @@
 """Further cases of the office over sockets, which run_serve.py sends and no sweep does: streams
 that are no plain requests, edits and owners, and the texts of batches."""
 from serve_cases import (
-    COINCIDING, EMPTY, FROM_SOLUTION, NIGHTLY, NIGHTS, PENALTY, SHOWN, SMALL, SMALLEST,
+    COINCIDING, EMPTY, FROM_SOLUTION, NIGHTLY, NIGHTS, PENALTY, SEAT_HEAD, SHOWN, SMALL, SMALLEST,
     SOLUTION, VIOLATIONS, asked_by, bad_file, batch, broken, case, clear, cost, drafted,
-    enrolled, error, forbidden, me, message, move, place, publish, published, reply, report,
-    swap, text)
+    enrolled, error, forbidden, me, message, move, pending, place, publish, published, reply,
+    report, swap, text)
 
 ASKED = asked_by(99), me(99, 0)
 REQUEST, LENGTH = error(400, "request"), error(413, "length")
@@ -13,6 +13,7 @@ DRAFT = message("GET", "/drafts/1")
 NO_BREACH, OTHERS = ((message("GET", f"/drafts/{draft}/violations"), text("breaches 0\n"))
                      for draft in (1, 2))
 AFTER, CAPACITY = (VIOLATIONS, text("breaches 1\nAfter 1 0\n")), text("breaches 1\nCapacity 0 0\n")
+CANONICAL = SMALL.replace(b"\n", b"\r\n")
 LOADED = reply(201, '{"exams":4,"pairs":6,"periods":4,"rooms":2}')
 
 
@@ -73,6 +74,20 @@ CROWDED = "\n".join([
     "TWOINADAY,5", "PERIODSPREAD,2", ""]).encode()
 
 
+# Three exams that nobody sits, one after another.
+THREE = "\n".join([
+    "[Exams:3]", *["60"] * 3, "[Periods:3]", "15:04:2005, 09:30:00, 60, 0",
+    "15:04:2005, 12:00:00, 60, 0", "15:04:2005, 14:30:00, 60, 0", "[Rooms:1]", "9, 0",
+    "[PeriodHardConstraints]", "[RoomHardConstraints]", "[InstitutionalWeightings]",
+    "PERIODSPREAD,2", ""]).encode()
+# The small session where candidate 1 sits only exam 3.
+ONE_EXAM = SMALL.replace(b"120, 1, 2", b"120, 2")
+# The small session with rules for exam 3: in one period with exam 2, not with exam 1; exam 2 has
+# its room to itself.
+RULED = SMALL.replace(b"1, AFTER, 0\n", b"1, AFTER, 0\n3, EXAM_COINCIDENCE, 2\n3, EXCLUSION, 1\n")
+RULED = RULED.replace(b"[RoomHardConstraints]\n", b"[RoomHardConstraints]\n2, ROOM_EXCLUSIVE\n")
+
+
 def owner(exam, dept):
     return message("PUT", f"/exams/{exam}/owner", b'{"dept":%d}' % dept)
 
@@ -90,6 +105,16 @@ def shown(penalty, *places):
 
 def draft(number, body=b""):
     return message("PUT", f"/drafts/{number}", body)
+
+
+def unplaced(exam):
+    return reply(409, '{"error":"unplaced","exam":%d}' % exam)
+
+
+def from_places(name, places, penalty, *exchanges):
+    """A case of the session with rules for exam 3, which begins with a draft of these places."""
+    return case(f"first_breach_by_rule, {name}", RULED, (draft(1, places), drafted(201, penalty)),
+                *exchanges)
 
 
 def batch_of(number, body):
@@ -111,6 +136,78 @@ EDITS = [
          (FROM_SOLUTION, drafted(201, 37)),
          (swap(1, 2), drafted(200, 30)),
          (DRAFT, shown(30, (0, 0), (3, 1), (1, 0), (2, 0)))),
+    case("edits_name_their_exams", SMALL,
+         (EMPTY, drafted(201, 0)),
+         (place(0, 0, 0), drafted(200, 0)),
+         (place(1, 1, 0), drafted(200, 8)),
+         (swap(0, 1), broken("After", 1, 0)),
+         (move(1, 2, 0), drafted(200, 16)),
+         (clear(1), drafted(200, 0))),
+    # Exam 2 costs its room; so does exam 0 in the place of exam 2, and in the same room in another
+    # period. Exam 1 then costs student 2's row and spread.
+    case("a draft that is edited, and its first exam without a place", SMALL,
+         (EMPTY, drafted(201, 0)),
+         (place(0, 0, 0), drafted(200, 0)),
+         (place(2, 1, 1), drafted(200, 7)),
+         (swap(0, 2), drafted(200, 7)),
+         (move(0, 0, 1), drafted(200, 7)),
+         (clear(2), drafted(200, 7)),
+         (publish(), unplaced(1)),
+         (place(1, 0, 0), broken("Clash", 0, 1)),
+         (place(1, 1, 0), drafted(200, 15)),
+         (publish(), unplaced(2))),
+    case("edit_by_pairs", ONE_EXAM,
+         (FROM_SOLUTION, drafted(201, 31)),
+         (PENALTY, text(report(7, 0, 2, 0, 0, 15, 7, 31))),
+         (move(3, 3, 1), drafted(200, 43)),
+         (PENALTY, text(report(7, 0, 2, 10, 0, 10, 14, 43)))),
+    # By periods: row 7 and spread 1 of student 2, day 5 and spread 1 of student 1, spread 1 of
+    # student 3; periods 15, rooms 7.
+    from_places("a room to itself", SOLUTION, 37,
+                (move(3, 3, 1), broken("RoomExclusive", 2, 3))),
+    # As two_exams_in_one_room. Without exam 0 row 7 and the spread of two pairs are less.
+    from_places("another exam's room to itself", b"0, 0\n1, 0\n3, 1\n3, 1\n", 44,
+                (clear(0), drafted(200, 35)), (place(0, 0, 0), drafted(200, 44)),
+                (VIOLATIONS, text("breaches 1\nRoomExclusive 2 3\n"))),
+    # Student 2's day and spread, student 1's row and spread, student 3's spread; periods 15, rooms
+    # 14.
+    from_places("a clash", b"0, 0\n2, 0\n3, 1\n1, 1\n", 44, (move(1, 0, 0), broken("Clash", 0, 1))),
+    # As in capacity_names_every_exam.
+    from_places("a coincidence beside others' breaches", b"0, 0\n0, 0\n3, 1\n2, 0\n", 39,
+                (move(3, 1, 1), broken("Coincidence", 2, 3))),
+    # The day and spread of students 2 and 3, student 1's spread; periods 15. Exam 3 has one of the
+    # spread and 5 of the periods.
+    from_places("the duration of one of two exams, before the clash of the other",
+                b"0, 0\n2, 0\n0, 0\n3, 0\n", 28,
+                (clear(3), drafted(200, 22)), (swap(1, 2), broken("Duration", 2, 2))),
+    # The rows and spread of students 1 and 2, student 3's spread; mixed 10, periods 5, rooms 7.
+    # Exam 2 has one of the spread, 5 and 7.
+    from_places("an exam that is too late", b"0, 0\n1, 0\n3, 1\n1, 0\n", 39,
+                (clear(2), drafted(200, 26)), (move(0, 3, 0), broken("After", 1, 0))),
+    # Each student's spread; front load 4, periods 20, rooms 7. Exam 2 has as much as before.
+    from_places("an exam that is too early", b"3, 0\n2, 0\n3, 1\n1, 0\n", 34,
+                (clear(2), drafted(200, 21)), (move(1, 1, 0), broken("After", 1, 0))),
+    # As after_is_broken.
+    from_places("an exclusion beside others' breach", b"3, 0\n1, 0\n3, 1\n2, 0\n", 34,
+                (clear(2), drafted(200, 21)), (move(3, 1, 0), broken("Exclusion", 1, 3))),
+    # The small solution, and 7 for exam 1's room. Exam 0 has row 7, day 5 and two of the spread;
+    # exam 2 has one of it, 5 and 7.
+    from_places("a room that is full, before an exclusion", b"0, 0\n1, 1\n3, 1\n2, 0\n", 44,
+                (clear(0), drafted(200, 30)), (clear(2), drafted(200, 17)),
+                (move(3, 1, 1), broken("Capacity", 3, 3))),
+    # Candidate 4 sits exams 0 and 2, two periods apart, until they withdraw from exam 0.
+    case("pairs come and go, and exams share students", THREE,
+         (batch(1, "9,0,add", "4,0,add", "9,0,add", "4,2,add", "1,0,add"), enrolled(1, 4, 0, 1)),
+         (batch(2, "4,3,add"), error(404, "number")),
+         (draft(1, b"0, 0\n1, 0\n2, 0\n"), drafted(201, 1)),
+         (publish(), published(3, 1)),
+         (SHOWN[3], text(f"{SEAT_HEAD}1,0,0,0,1\n4,0,0,0,2\n9,0,0,0,3\n4,2,2,0,1\n")),
+         (batch(3, "4,0,drop", "4,0,drop", "4,1,drop"), enrolled(3, 0, 1, 2)),
+         (PENALTY, text(report(*[0] * 8))),
+         (publish(), published(1, 0)),
+         (SHOWN[3], text(f"{SEAT_HEAD}1,0,0,0,1\n9,0,0,0,3\n4,2,2,0,1\n")),
+         (SHOWN[2], text("per room    used     cap  exams\n  0    0       2       9  0\n"
+                         "  1    0       0       9  1\n  2    0       1       9  2\n"))),
     # As in capacity_names_every_exam: without exam 2 the penalty is 13 less, without exam 3 16.
     case("exams that are not placed break nothing", SMALL,
          (draft(1, b"0, 0\n0, 0\n3, 1\n2, 0\n"), drafted(201, 39)),
@@ -239,6 +336,15 @@ FAULTY = {
     HEADER + b'"1\n",1,add': (4, 2), b"\xef\xbb\xbf": (11, 1),
 }
 BATCHES = [
+    # Before each text 1 isn't enrolled in exam 1, and 9 is enrolled in exam 2.
+    case("texts of one batch of which each line acts", SMALL,
+         *(exchange for number, body in enumerate(ALIKE, 1) for exchange in (
+             (batch(100 + number, "1,1,drop", "9,2,add"),
+              enrolled(100 + number, 1, *((1, 0) if number > 1 else (0, 1)))),
+             (asked_by(1), me(1, 0, pending(0), pending(3))), (asked_by(9), me(9, 0, pending(2))),
+             (batch_of(number, body), enrolled(number, 1, 1, 1)),
+             (asked_by(1), me(1, 0, pending(0), pending(1), pending(3))),
+             (asked_by(9), me(9, 0))))),
     case("texts of one batch", SMALL,
          *((batch_of(number, body), enrolled(number, 0 if number else 1, 0, 3 if number else 2))
            for number, body in enumerate(ALIKE)),
@@ -251,6 +357,17 @@ BATCHES = [
          *((batch_of(1, body), bad_file(*fault)) for body, fault in FAULTY.items())),
 ]
 
+# Further lines of weights, and the lines that the program writes for them.
+WEIGHTS = {
+    b"": b"", b"OVERNIGHT,6\r\n": b"OVERNIGHT,6\r\n", b"overnight , 6": b"OVERNIGHT,6\r\n",
+    b"OVERNIGHT,100000\n": b"OVERNIGHT,100000\r\n", b"OVERNIGHT,0\n": b"",
+}
+# Sessions, and their texts as the program writes them.
+WRITTEN = {
+    **{SMALL + more: CANONICAL + written for more, written in WEIGHTS.items()},
+    SMALL.replace(b"TWOINAROW", b"OVERNIGHT,6\nTWOINAROW"): CANONICAL + b"OVERNIGHT,6\r\n",
+}
+
 FURTHER = [
     *(case(name, SMALL, exchange) for name, exchange in STREAMS.items()),
     *(case(f"Connection: {value}", SMALL,
@@ -258,4 +375,8 @@ FURTHER = [
            (ASKED[0], ASKED[1] if goes_on else b""))
       for value, goes_on in CONNECTIONS.items()),
     *EDITS, *BATCHES,
+    *(case(f"a session as it is written, {number}", None,
+           (message("PUT", "/instance", body), LOADED),
+           (message("GET", "/instance"), text(written)))
+      for number, (body, written) in enumerate(WRITTEN.items())),
 ]

@@ -41,6 +41,14 @@ TOGETHER = [7, 0, 3, 0, 10, 0, 10, 14]
 EARLY = [0, 0, 3, 0, 0, 4, 20, 7]
 CROWDED = [0, 5, 2, 0, 10, 0, 15, 7]
 NIGHTLY = [0, 0, 3, 6, 0, 4, 20, 7]
+# Where students 1 and 2 sit exams 0 and 1, student 2 sits exam 3 too, and student 3 only exam 2:
+# the small solution, and the one in which exams 0 and 1 are in one place. Two students have row 7
+# and one of the spread, student 2 also row 7, day 5 and two of the spread; in one place, student 2
+# has day 10 and two of the spread.
+SHARED, SHARED_CROWDED = [21, 5, 4, 0, 0, 0, 15, 7], [0, 10, 2, 0, 10, 0, 15, 7]
+# Where the third period is on the day after the others: the small solution, and the one in which
+# exam 2 is in that period, after exam 1, and is too long for it.
+SATURDAY, LATE = [7, 0, 3, 0, 0, 0, 15, 7], [7, 0, 3, 6, 0, 0, 20, 7]
 # Solutions of the small instance: the breaches of each, and its penalties.
 JUDGED: dict[str, tuple[list[str], list[int]]] = {
     "small.sol": ([], GOOD), "together.sol": ([], TOGETHER), "crlf.sol": ([], GOOD),
@@ -126,6 +134,9 @@ def files():
         "no_seats.exam": with_line(with_line(exam, 5, b"60"), 13, b"0, 7"),
         "nights.exam": with_line(exam, 10, b"16:04:2005, 09:30:00, 120, 5") + night,
         "weekend.exam": exam + night,
+        "saturday.exam": with_line(exam, 9, b"16:04:2005, 17:00:00, 90, 10") + night,
+        "late.sol": with_line(solution, 3, b"2, 1"),
+        "shared.exam": with_line(with_line(exam, 3, b"90, 1, 2"), 5, b"60, 2"),
         "twice.exam": exam + night * 2,
         "alone.exam": with_rules(exam, apart, alone),
         "alone_twice.exam": with_rules(exam, apart * 2, alone * 2),
@@ -213,6 +224,17 @@ def check_all(name, solutions, status, faults=b""):
     return [Case(f"{name}{form}", ("check-all", *flag, "small.exam", *solutions), status,
                  "".join(f"{line}\n" for line in shown).encode(), faults)
             for form, flag, shown in (("", (), lines), (", as JSON", ("--json",), objects))]
+
+
+def many(session, *solutions):
+    """Each solution, with its breaches and penalties, by itself and among twenty."""
+    lines = "".join(" ".join(map(str, [len(breaches), sum(parts), *parts, path])) + "\n"
+                    for path, breaches, parts in solutions)
+    paths = [path for path, *_ in solutions] * 10
+    return [*(check(f"{path} in {session}", session, path, parts, *breaches)
+              for path, breaches, parts in solutions),
+            Case(f"many solutions in {session}", ("check-all", session, *paths), 3,
+                 lines.encode() * 10)]
 
 
 def places(name, instance, solution, exam, *ends):
@@ -512,6 +534,10 @@ CASES = [
          b'"total":40}\n'),
     Case("many solutions over night", ("check-all", "nights.exam", *["early.sol"] * 20), 3,
          b"1 40 0 0 3 6 0 4 20 7 early.sol\n" * 20),
+    # From 20 solutions on, the pairs of exams that share a student are listed first.
+    *many("shared.exam", ("small.sol", [], SHARED),
+          ("crowded.sol", JUDGED["crowded.sol"][0], SHARED_CROWDED)),
+    *many("saturday.exam", ("small.sol", [], SATURDAY), ("late.sol", ["Duration 2 2"], LATE)),
     Case("solutions of a faulty session", ("check-all", "five.exam", "small.sol", "none.sol"), 1,
          b"", b"examoffice: instance line 1: fault 3\n"),
     Case("solutions of a session that isn't there", ("check-all", "none.exam", "small.sol"), 1,

@@ -28,12 +28,13 @@ import tty
 from collections import namedtuple
 
 from cases import Cases
-from further_cases import ASKED, FURTHER, shown
+from further_cases import ASKED, CANONICAL, FURTHER, shown
 from serve_cases import (
-    CASES, EMPTY, EXAMPLES, FIRST_MOVED, FROM_SOLUTION, INSTANCE, MANY, MOVED_ROOMS, MOVED_SEATS,
-    MOVED_TEXT, NIGHTLY, NIGHTS, PENALTY, PENDING, PUBLISHED, SECOND_PAGE, SHOWN, SMALL, SOLUTION,
-    STORED, THIRD, UNPLACED, asked_by, at, batch, batch_text, clear, cost, drafted, enrolled, error,
-    forbidden, me, message, move, pending, place, publish, published, reply, report, swap, text)
+    CASES, EMPTY, EXAMPLES, FIRST, FIRST_MOVED, FROM_SOLUTION, INSTANCE, MANY, MOVED_ROOMS,
+    MOVED_SEATS, MOVED_TEXT, NIGHTLY, NIGHTS, PENALTY, PENDING, PUBLISHED, ROOMS, SEATS, SEAT_LIST,
+    SECOND, SECOND_PAGE, SHARES, SHOWN, SMALL, SOLUTION, STORED, TEXT, THIRD, UNPLACED, VIOLATIONS,
+    asked_by, at, batch, batch_text, clear, cost, drafted, enrolled, error, forbidden, me, message,
+    move, pending, place, publish, published, reply, report, swap, text)
 
 # A session at the limits, of bench/.
 sys.path.append(str(pathlib.Path(__file__).resolve().parent.parent / "bench"))
@@ -279,6 +280,68 @@ def draft_survives_adopt(run):
                   (PENALTY, text(report(0, 5, 3, 0, 0, 15, 7, 30))),
                   (place(0, 0, 0, "dept:3"), error(409, "already-placed")),
                   (place(1, 0, 0, "dept:3"), forbidden("P3"))])
+
+
+def all_is_kept(run):
+    """An office with an owner, a moved exam, a publication before that and a batch after it shows
+    all of them when the file is served again. The batch costs candidate 3 row 7 and 2 of the spread
+    in the draft."""
+    late, costs = batch(6, "3,0,add"), report(14, 0, 5, 10, 0, 10, 14, 53)
+    session = text(CANONICAL.replace(b"120, 1, 2\r", b"120, 1, 2, 3\r"))
+    office = [(INSTANCE[0], session),
+              (message("GET", "/drafts/1"), shown(53, (0, 0), (1, 0), (3, 1), (3, 1))),
+              (PENALTY, text(costs)), (VIOLATIONS, text("breaches 0\n")),
+              (place(0, 0, 0, "dept:3"), error(409, "already-placed")),
+              (place(1, 0, 0, "dept:3"), forbidden("P3")),
+              (SHOWN[0], text(TEXT)), (SHOWN[1], text(report(7, 5, 3, 0, 0, 15, 7, 37))),
+              (SHOWN[2], text(ROOMS)), (SHOWN[3], text(SEAT_LIST)),
+              (asked_by(1), me(1, 6, *FIRST)), (asked_by(1, "/exam/0"), reply(200, FIRST[0])),
+              (asked_by(1, "/penalty"), cost(0, 5, 1)), (asked_by(2), SECOND_PAGE),
+              (asked_by(2, "/exam/0"), reply(200, SECOND[0])),
+              (asked_by(2, "/penalty"), cost(7, 0, 1)), (asked_by(3), me(3, 1, PENDING, *THIRD)),
+              (asked_by(3, "/exam/0"), reply(200, PENDING)),
+              (asked_by(3, "/penalty"), cost(0, 0, 1)),
+              (batch(6, "3,4,add"), error(409, "batch-differs")), (late, enrolled(6, 1, 0, 0))]
+    served_again(run, "an office with all that it can have",
+                 [(message("PUT", "/exams/0/owner", b'{"dept":3}'),
+                   reply(200, '{"dept":3,"exam":0}')),
+                  *PUBLISHED, (move(3, 3, 1), drafted(200, 44)), (late, enrolled(6, 1, 0, 0)),
+                  *office],
+                 [*office, (message("DELETE", "/drafts/1"), reply(200, '{"draft":1}'))])
+
+
+def rows_that_go(run):
+    """What was taken away is in no table: an owner, a draft, a place of another one, candidate 1's
+    seat of exam 0, and the shares and places of the first publication."""
+    drop, owner = batch(1, "1,0,drop"), "/exams/0/owner"
+    database = run.database(SMALL)
+    exchanged(run, "rows that go", database,
+              [(message("PUT", owner, b'{"dept":3}'), reply(200, '{"dept":3,"exam":0}')),
+               *PUBLISHED,
+               (message("PUT", "/drafts/2", SOLUTION), reply(201, '{"draft":2,"penalty":37}')),
+               (drop, enrolled(1, 0, 1, 0)), (move(3, 3, 1), drafted(200, 43)),
+               (publish(), published(1, 43)),
+               (message("PUT", owner, b'{"dept":0}'), reply(200, '{"dept":0,"exam":0}')),
+               (clear(2), drafted(200, 20)),
+               (message("DELETE", "/drafts/2"), reply(200, '{"draft":2}'))])
+    for select, rows in LEFT.items():
+        found = subprocess.run(["sqlite3", "-newline", " ", str(database), select], check=True,
+                               capture_output=True, timeout=SECONDS).stdout
+        run.judge(f"rows that go: {select}", rows, found)
+
+
+# The rows of each table after that.
+LEFT = {
+    "SELECT * FROM owner": b"",
+    "SELECT * FROM draft NATURAL JOIN night_draft": b"1|7|0|1|0|0|5|7|0 ",
+    "SELECT count(*) FROM night_draft": b"1 ",
+    "SELECT * FROM slot ORDER BY draft, exam": b"1|0|0|0 1|1|1|0 1|3|3|1 ",
+    "SELECT exam, period, room FROM placed ORDER BY exam": b"0|0|0 1|1|0 2|3|1 3|3|1 ",
+    SEATS: b"0|2|0|0|2 1|2|1|0|1 1|3|1|0|2 2|3|3|1|1 3|1|3|1|2 ",
+    SHARES: b"1|0|0|0|0 2|7|0|1|0 3|0|0|1|0 0|0|0|0 0|1|0|0 0|2|0|0 0|3|0|0 1|0|0|0 1|1|0|0 "
+            b"1|2|0|0 1|3|10|0 2|0|0|0 2|1|14|10 ",
+    "SELECT count(*) FROM night_share": b"3 ",
+}
 
 
 def batches_are_kept(run):
@@ -856,7 +919,7 @@ def tests_of(is_plain):
     waiting = [default_patience, patient_client, slow_clients]
     own = [stored_by_hand, adopt_after_republication, nights_are_kept, draft_survives_adopt,
            last_message, long_message, longest_body, cut_messages, hostile_messages,
-           batches_are_kept,
+           batches_are_kept, all_is_kept, rows_that_go,
            publication_is_told, short_log]
     others = [worked_examples, stock_curl, many_connections, failing_reader_and_writer,
               port_is_taken, other_addresses, locked_database, closed_streams, longest_batch,

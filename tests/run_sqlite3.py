@@ -59,6 +59,7 @@ CHANGES = {
     "UPDATE meta SET published = 2": REFUSED,
     "INSERT INTO enrol (student, exam) VALUES (1, 4)": REFUSED,
     "INSERT INTO enrol (student, exam) VALUES (-1, 0)": REFUSED,
+    "INSERT INTO enrol (student, exam) VALUES (1, 4294967296)": REFUSED,
     "INSERT INTO enrol (student, exam) VALUES (9, 3)": FOUND,
     "UPDATE draft SET mixed = mixed + 1": REFUSED,
     "UPDATE draft SET no = 9; UPDATE night_draft SET no = 9": REFUSED,

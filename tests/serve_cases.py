@@ -230,6 +230,13 @@ INSTANCE = message("GET", "/instance"), text(SMALL.replace(b"\n", b"\r\n"))
 SHOWN = [message("GET", f"/publication{page}") for page in ("", "/penalty", "/rooms", "/seats")]
 
 
+# Three students sit each of 33 exams, one in each period.
+THIRTY_THREE = "\n".join([
+    "[Exams:33]", *["60, 1, 2, 3"] * 33, "[Periods:33]", *["01:01:2000, 09:00:00, 60, 0"] * 33,
+    "[Rooms:1]", "3, 0", "[PeriodHardConstraints]", "[RoomHardConstraints]",
+    "[InstitutionalWeightings]", ""]).encode()
+THIRTY_THREE_PLACED = b"".join(b"%d, 0\n" % exam for exam in range(33))
+
 # What publishing stores: the name of the case, session and solution, its penalty, what sqlite3
 # selects.
 SEATS = "SELECT exam, student, period, room, seat FROM seat ORDER BY exam, student"
@@ -251,6 +258,15 @@ STORED = (
     ("shares of a night", NIGHTS, NIGHTLY, 43, SHARES,
      b"1|7|0|1|0 2|0|5|1|0 3|0|0|1|6 0|0|0|0 0|1|0|0 0|2|0|0 0|3|0|0 1|0|0|0 1|1|0|0 1|2|10|0 "
      b"1|3|5|0 2|0|0|0 2|1|7|0 "),
+    # Of each kind more than one statement writes: 32 enrolments, 16 of the others.
+    ("more rows than a statement writes", THIRTY_THREE, THIRTY_THREE_PLACED, 0,
+     "SELECT exam, student FROM enrol ORDER BY exam, student; SELECT * FROM slot ORDER BY exam; "
+     "SELECT * FROM placed ORDER BY exam; " + SEATS,
+     b"".join([*(b"%d|%d " % (exam, student) for exam in range(33) for student in (1, 2, 3)),
+               *(b"1|%d|%d|0 " % (exam, exam) for exam in range(33)),
+               *(b"%d|%d|0 " % (exam, exam) for exam in range(33)),
+               *(b"%d|%d|%d|0|%d " % (exam, student, exam, student)
+                 for exam in range(33) for student in (1, 2, 3))])),
     ("parts with a night", NIGHTS, NIGHTLY, 43, PARTS, b"1|7|5|3|0|0|15|7|6 7|5|3|6 "))
 
 
@@ -447,6 +463,7 @@ CASES = [
          (asked_by(99), me(99, 0)),
          (asked_by(99, "/penalty"), cost(0, 0, 0)),
          (asked_by(99, "/exam/0"), error(404, "exam")),
+         (message("GET", "/drafts/1"), error(409, "not-loaded")),
          (publish(), error(409, "not-loaded")),
          *((question, error(404, "publication")) for question in SHOWN)),
     case("publish_twice", SMALL,
