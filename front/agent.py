@@ -6,7 +6,8 @@ wrong passwords are in its memory (and in a file, so that a restart keeps them):
     gunicorn --workers 1 --threads 16 --bind unix:agent.sock agent:app
 
 FRONT_FOLDER has the files `users` (NAME:HASH, or NAME:{PLAIN}WORD), `callers` and `programs`.
-FRONT_STATE is a folder of its own, with `sessions.map` for HAProxy. FRONT_KEY signs.
+FRONT_STATE is a folder of its own, with `sessions.map` for HAProxy. FRONT_KEY signs. The limits
+(`limits`) are in the environment too.
 """
 import base64
 import collections
@@ -30,11 +31,11 @@ import passlib.exc
 FOLDER, STATE = (pathlib.Path(os.environ[name]) for name in ("FRONT_FOLDER", "FRONT_STATE"))
 KEY = os.environ["FRONT_KEY"]
 SESSION_SECONDS, DEVICE_SECONDS = 8 * 3600, 90 * 86_400
-# Wrong passwords a minute: for a user, from browsers that never signed in as them (half as many
-# from an address that is noisy); from a browser that did; from an address, for all users.
-OF_USER, OF_DEVICE, OF_ADDRESS = 10, 10, 30
-# An address is noisy after so many wrong passwords or refusals in ten minutes.
-NOISY_FAILURES, NOISY_REFUSALS = 2, 11
+# The file `limits` says what these count.
+OF_USER, OF_DEVICE, OF_ADDRESS = (int(os.environ[f"GUESSES_OF_{name}"])
+                                  for name in ("USER", "BROWSER", "ADDRESS"))
+NOISY_FAILURES, NOISY_REFUSALS = (int(os.environ[f"NOISY_{name}"])
+                                  for name in ("FAILURES", "REFUSALS"))
 MINUTE, KEPT_SECONDS = 60, 600
 LONGEST_NAME, LONGEST_PASSWORD, MOST_DEVICE_USERS, MOST_KNOWN = 254, 1_024, 8, 10_000
 # As few hashes at once as there are processors; each takes 19 MB and some 30 ms.

@@ -248,14 +248,17 @@ LOGGED_QUESTIONS = [
 ]
 LOGGED = [
     ("registry", "office", "POST", "/drafts/1/publish", 200, ""),
-    ("registry", "office", "POST", "/drafts/1/publish", 403, ""),
     ("registry", "office", "PUT", "/drafts/2", 201, ""),
-    ("physics", "dept:3", "POST", "/drafts/1/publish", 403, ""),
     ("registry", "office", "PUT", "/exams/3/owner", 200, '{"dept":3}'),
     ("registry", "office", "PUT", "/exams/3/owner", 200, '{"dept":' + " " * 192),
+]
+LOGGED_REFUSALS = [
+    ("registry", "office", "POST", "/drafts/1/publish", 403, ""),
+    ("physics", "dept:3", "POST", "/drafts/1/publish", 403, ""),
     ("-", "", "POST", LONG[:200], 400, ""),
     ("registry", "office", "POST", "/drafts/1/exams/9/move", 400, '{"'),
 ]
+LOGGED_STATUSES = {"changes": {200, 201}, "refusals": {400, 403, 404, 405, 409, 413}}
 # What nobody who isn't signed in may write into a log.
 STRANGERS = [
     *(message(method, path, b"", None, fields) for method, path in (

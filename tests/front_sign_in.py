@@ -17,6 +17,7 @@ import urllib.parse
 import browser
 import debian
 import front_queue
+import limits
 from front_cases import FIRST_VIEW, password, told_error
 from run_serve import Run
 from serve_cases import SOLUTION
@@ -43,8 +44,9 @@ class Agent:
         self.folder, self.socket = folder / "agent", folder / "agent" / "agent.sock"
         self.folder.mkdir()
         self.environment = {
-            **os.environ, "FRONT_FOLDER": str(front_folder), "FRONT_STATE": str(self.folder),
-            "FRONT_KEY": key, "FRONT_AGENT": str(self.socket), "MALLOC_ARENA_MAX": "2",
+            **os.environ, **limits.numbers(), "FRONT_FOLDER": str(front_folder),
+            "FRONT_STATE": str(self.folder), "FRONT_KEY": key, "FRONT_AGENT": str(self.socket),
+            "MALLOC_ARENA_MAX": "2",
             "FRONT_LUA": str(TOP / "front" / "sessions.lua"),
             "FRONT_PAGES": str(TOP / "front" / "page"), "PYTHONDONTWRITEBYTECODE": "1"}
         self.start()
@@ -293,7 +295,7 @@ def guesses(run, stack):
     known = Client(stack.front)
     known.sign_in("registry")
     signed_in = dict(known.cookies)
-    logs = [stack.front.folder / "run" / name for name in ("changes.log", "errors")]
+    logs = [stack.front.folder / "run" / name for name in ("changes.log", "refusals.log", "errors")]
     sizes = [log.stat().st_size for log in logs]
     slow = [stack.front.connect() for _ in range(300)]
     for client in slow:
@@ -518,13 +520,14 @@ def over_tls(run, make_front):
 
 def a_crowd(run, stack):
     """A thousand requests come at once from one address; the office isn't limited, others are."""
-    def question(user, path):
+    def question(user, path, word=None):
         client = Client(stack.front)
-        client.sign_in(user)
+        client.sign_in(user, word)
         return (f"GET {path} HTTP/1.1\r\nHost: {client.host}\r\nConnection: close\r\n"
                 f"Cookie: session={client.cookies['session']}\r\n\r\n").encode()
 
-    came, _ = front_queue.crowd(stack.front.port, [question("cleo", "/me/penalty")] * 300)
+    came, _ = front_queue.crowd(stack.front.port, [
+        question("zoe", "/me/penalty", "her word")] * 300)
     statuses = collections.Counter(status for status, _ in came)
     run.judge("one user's 300 requests", ({200, 429}, True),
               (set(statuses), 195 <= statuses[200] <= 205))
@@ -554,8 +557,12 @@ def first_sign_ins(run, stack):
     ada = Client(stack.front)
     ada.sign_in("ada")
     began = time.monotonic()
-    run.judge("whoever is signed in, when 25,000 users are new", {200},
-              {ada.view("/-/user")[0] for _ in iter(lambda: time.monotonic() < began + 3, False)})
+    came = collections.Counter()
+    while time.monotonic() < began + 3:
+        came[ada.view("/-/user")[0]] += 1
+        # They ask less often than a user may.
+        time.sleep(0.05)
+    run.judge("whoever is signed in, when 25,000 users are new", {200}, set(came))
     before_them = processor_seconds(stack.agent.process)
     with concurrent.futures.ThreadPoolExecutor(count) as pool:
         came = collections.Counter(pool.map(

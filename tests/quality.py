@@ -43,7 +43,8 @@ KINDS = [
     ("python", r".*\.py", ""), ("python", r".*", "#!.*python"), ("shell", r".*", "#!.*sh$"),
     ("page script", r"front/page/.*\.js", ""), ("script", r".*\.m?js", ""),
     ("html", r".*\.html", ""), ("style", r".*\.css", ""), ("nginx", r"front/.*\.conf", ""),
-    ("nginx", r"front/(callers|users)", ""), ("man", r".*\.[18]", ""), ("page", r".*\.md", ""),
+    ("nginx", r"front/(callers|users|limits)", ""), ("man", r".*\.[18]", ""),
+    ("page", r".*\.md", ""),
     ("unit", r"packaging/.*\.(service|timer|socket|target)", ""), ("json", r".*\.json", ""),
     ("c++", r".*\.cpp", ""),
     # What the tests compile, or read as it is; lintian judges units, as a part of the package.

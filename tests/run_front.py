@@ -1,12 +1,12 @@
 #!/usr/bin/env python3
-"""run_front.py PROGRAM [--pictures FOLDER]: the front and its pages before the office.
+"""run_front.py PROGRAM [--pictures FOLDER] [--whole]: the front and its pages before the office.
 
 A copy of front/ runs on free ports, before an office of the small example. What nginx must refuse
-or drop is sent over raw sockets (front_cases.py); crowds, restarts and guesses come beside it
-(front_queue.py, front_sign_in.py); then Chromium reads the pages as users would (front_pages.py).
-Each exchange that reached the office must be in docs/openapi.yaml. What needs a program or a Debian
-package that isn't installed is left out, and a line says so. A failing case is printed with what
-was expected and what came, and the last line counts the cases.
+or drop is sent over raw sockets (front_cases.py); crowds, restarts, guesses and floods come beside
+it (front_queue.py, front_sign_in.py, front_floods.py); then Chromium reads the pages as users would
+(front_pages.py). Each exchange that reached the office must be in docs/openapi.yaml. What needs a
+program or a Debian package that isn't installed is left out, and a line says so. A failing case is
+printed with what was expected and what came, and the last line counts the cases.
 """
 import argparse
 import concurrent.futures
@@ -30,16 +30,18 @@ import threading
 import time
 
 import browser
+import front_floods
 import front_pages
 import front_queue
 import front_registry
 import front_sign_in
+import limits as front_limits
 import openapi
 import sign_on
 from front_cases import (
     CALLER, CALLERS, CANDIDATE, FAULTY_PEOPLE, FAULTY_STUDENTS, FIRST_VIEW, LABELS, LOGGED,
-    LOGGED_QUESTIONS, LOOKED_FOR, MADE, PAGES, SECOND_VIEW, STRANGERS, TARGETS, WIDE, WIDE_LABELS,
-    WIDE_SOLUTION, ask, password, told_error)
+    LOGGED_QUESTIONS, LOGGED_REFUSALS, LOGGED_STATUSES, LOOKED_FOR, MADE, PAGES, SECOND_VIEW,
+    STRANGERS, TARGETS, WIDE, WIDE_LABELS, WIDE_SOLUTION, ask, password, told_error)
 from run_serve import Office, Run, one_reply, rest
 from serve_cases import SMALL, SOLUTION, message, reply
 
@@ -65,7 +67,7 @@ class Front:
         if not self.folder.exists():
             shutil.copytree(TOP / "front", self.folder)
         pathlib.Path(folder).chmod(0o755)
-        texts = {path: path.read_text() for path in self.folder.glob("*.conf")}
+        texts = {path: path.read_text() for path in self.folder.glob("**/*.conf")}
         for old, new in (("127.0.0.1:8000", f"127.0.0.1:{self.port}"),
                          ("127.0.0.1:8080", office_port if isinstance(office_port, str)
                           else f"127.0.0.1:{office_port}"),
@@ -116,10 +118,10 @@ class Front:
             if status not in ("-", "502", "504"):
                 yield method, target.removeprefix("/-"), int(status), kind
 
-    def changes(self):
-        """The lines of the log of changes."""
+    def changes(self, log="changes"):
+        """The lines of the log of changes, or of that of refusals."""
         return [json.loads(line) for line in
-                (self.folder / "run" / "changes.log").read_text().splitlines()]
+                (self.folder / "run" / f"{log}.log").read_text().splitlines()]
 
     def reload(self):
         """Reads the files again; what it has read answers when this returns."""
@@ -161,7 +163,7 @@ def what_passes(run, folder):
     with socket.create_server(("127.0.0.1", 0)) as listener:
         other = Front(folder / "fields", listener.getsockname()[1])
         with other.connect() as client:
-            client.sendall(ask("ada", "PUT", "/drafts/1", b"a body", "X-Caller: office",
+            client.sendall(ask("physics", "PUT", "/drafts/1", b"a body", "X-Caller: office",
                                "Expect: 100-continue", "Cookie: a=b", "Accept: */*",
                                "Keep-Alive: 5", "Upgrade: h2c"))
             listener.settimeout(SECONDS)
@@ -173,7 +175,7 @@ def what_passes(run, folder):
                 behind.sendall(b"HTTP/1.1 200 OK\r\nContent-Length: 0\r\n\r\n")
         other.stop()
     lines = came.split(b"\r\n")
-    fields = [b"Connection: close", b"Content-Length: 6", b"Host: office", b"X-Caller: cand:1"]
+    fields = [b"Connection: close", b"Content-Length: 6", b"Host: office", b"X-Caller: dept:3"]
     run.judge("fields that pass", (b"PUT /drafts/1 HTTP/1.1", fields, b"a body"),
               (lines[0], sorted(lines[1:-2]), lines[-1]))
 
@@ -256,7 +258,7 @@ def no_office(run):
 
 def strangers_leave_no_trace(run, front):
     """Whoever isn't signed in writes no byte into the logs, whatever they send."""
-    logs = [front.folder / "run" / name for name in ("changes.log", "errors")]
+    logs = [front.folder / "run" / name for name in ("changes.log", "refusals.log", "errors")]
     sizes = [log.stat().st_size for log in logs]
     for question in STRANGERS:
         for _ in range(20):
@@ -293,6 +295,12 @@ def limits(run, office):
     run.judge("a wrong password takes a second", True, time.monotonic() - began > 0.95)
     run.judge("files have no limit", {b"200"}, {status for _ in range(3) for status in statuses(
         front, message("HEAD", "/candidate.js", caller=None), 900)})
+    pages = statuses(front, ask("cleo", "HEAD", "/candidate.html"), 200)
+    run.judge("a user who asks for pages too often", (True, {b"200", b"429"}),
+              (pages[:60] == [b"200"] * 60, set(pages)))
+    front.stop()
+    front = Front(run.folder / "address", office.port,
+                  (("rate=20r/s", "rate=9000r/s"), ("burst=60", "burst=9000")))
     asked = [status for _ in range(5) for status in statuses(
         front, ask("cleo", "HEAD", "/candidate.html"), 900)]
     run.judge("an address that asks too often", (True, {b"200", b"429"}),
@@ -351,20 +359,24 @@ def health(run, front, answer):
 
 
 def log_of_changes(run, front):
-    """Who changed what: changes that were passed to the office or forbidden, and nothing else."""
+    """Who changed what, and what was refused to whom, each in a log of its own; nothing else."""
     for question in LOGGED_QUESTIONS:
         front.told(question)
     # A line is written after the reply.
-    browser.until("the last line is there", lambda: front.changes()[-1]["path"].endswith("9/move"))
-    lines = front.changes()
-    found = [tuple(line[name] for name in ("user", "caller", "method", "path", "status", "body"))
-             for line in lines]
-    for line in LOGGED:
-        run.judge(f"the log of changes has {line}", True, line in found)
+    browser.until("the last line is there",
+                  lambda: front.changes("refusals")[-1]["path"].endswith("9/move"))
+    for log, expected in (("changes", LOGGED), ("refusals", LOGGED_REFUSALS)):
+        lines = front.changes(log)
+        found = [tuple(line[name] for name in
+                       ("user", "caller", "method", "path", "status", "body")) for line in lines]
+        for line in expected:
+            run.judge(f"the log of {log} has {line}", True, line in found)
+        run.judge(f"statuses in the log of {log}", set(), {
+            line["status"] for line in lines} - LOGGED_STATUSES[log])
     asked = front.fetch("/drafts/9/publish", "registry", method="POST")[1]["X-Request-Id"]
     browser.until("a request's number is in its reply and in its line",
-                  lambda: front.changes()[-1]["id"] == asked)
-    lines = front.changes()
+                  lambda: front.changes("refusals")[-1]["id"] == asked)
+    lines = front.changes() + front.changes("refusals")
     run.judge("each request has a number of its own", len(lines),
               len({line["id"] for line in lines}))
     fields = ["at", "method", "path", "status", "caller", "user", "session", "id", "body"]
@@ -588,6 +600,7 @@ def before_the_office(run, front, office):
     for question, answer in MADE:
         run.judge("the start", answer, front.told(question))
     words_of_pages(run)
+    front_limits.judge(run)
     who_asks_and_what(run, front)
     styled_pages(run, front)
     health(run, front, (200, b'{"health":"ok"}'))
@@ -678,6 +691,7 @@ def main():
     words.add_argument("program")
     words.add_argument("--pictures", type=pathlib.Path, help="a folder for pictures of the pages")
     words.add_argument("--no-browser", action="store_true", help="leaves the pages out")
+    words.add_argument("--whole", action="store_true", help="floods of 10,000 questions each")
     given = words.parse_args()
     # A crowd of clients needs more files than most people's limit, which they may raise.
     most = resource.getrlimit(resource.RLIMIT_NOFILE)[1]
@@ -696,6 +710,8 @@ def main():
             replies = []
             queued = [threading.Thread(target=module.judge, args=(run, Front))
                       for module in (front_queue, front_sign_in, front_registry)]
+            queued.append(threading.Thread(target=front_floods.judge, args=(
+                run, Front, *(front_floods.WHOLE if given.whole else ()))))
             for thread in queued:
                 thread.start()
             busy = threading.Thread(target=busy_office, args=(run.folder / "busy", replies))
