@@ -86,6 +86,7 @@ class Stack(front_sign_in.Stack):
             self.service = Service(folder / "registry", is_new, {
                 "REGISTRY_FRONT": f"{front}/run/front.sock", "REGISTRY_TOKEN": self.token,
                 "REGISTRY_LOG": f"{front}/run/changes.log", "REGISTRY_PUBLICATIONS": "4",
+                "REGISTRY_COMPARED": "0.5",
                 # A new session is asked for more than once.
                 "REGISTRY_HELD": "0.01", "EXAMOFFICE": str(run.program)})
             begun.callback(self.service.stop)
@@ -159,7 +160,7 @@ def strangers(run, stack):
         office.ask("GET", f"/-/registry/{path}")[::2] for path in ("about", "batches")))
     stack.service.start()
     browser.until("the service answers", lambda: asked(office, "GET", "about") == (
-        200, {"ledger": True}))
+        200, {"ledger": True, "standing": []}))
     run.judge("its socket is new", True, before < stack.service.socket.stat().st_ctime_ns)
     run.judge("another site's page", told_error(403, "forbidden", rule="origin"), office.ask(
         "PUT", "/-/registry/batches/1", b"", Origin="https://elsewhere.example")[::2])
@@ -205,11 +206,13 @@ def batches(run, stack):
     direct = ada.ask("PUT", "/batches/7", batch_text("2,1,add"))
     run.judge("a batch to the office itself", 200, direct[0])
     run.judge("the next one", 200, asked(ada, "PUT", "batches/8", batch_text("3,0,drop"))[0])
-    run.judge("who sent both", [(-1, "registry"), (5, "registry"), (8, "registry")], service.rows(
-        "SELECT number, prepared_by FROM batches ORDER BY number"))
+    run.judge("who sent both", [(5, "page", "registry", None), (None, "other", "registry", 7),
+                                (8, "page", "registry", None)], service.rows(
+        "SELECT iif(source = 'other', NULL, number), source, prepared_by, logged FROM batches"
+        " ORDER BY turn"))
     office = [line for line in stack.front.changes() if line["path"] == "/batches/8"]
-    run.judge("as whom the service asks", [("program:registry", "office", 200)],
-              [(one["user"], one["caller"], one["status"]) for one in office])
+    run.judge("as whom the service asks", {("program:registry", "office")},
+              {(one["user"], one["caller"]) for one in office if one["status"] == 200})
 
 
 def new_students(run, stack):
@@ -246,7 +249,40 @@ def at_once(run, stack):
     run.judge("many at once", [200] * 16, came)
     run.judge("each is in the ledger, with what it did", [(16, 16)], stack.service.rows(
         "SELECT count(*), sum(effects.added + effects.dropped + unchanged) FROM batches"
-        " JOIN effects ON batch = number WHERE number >= 100"))
+        " JOIN effects ON batch = number WHERE number BETWEEN 100 AND 115"))
+
+
+def older_ledger(run, stack):
+    """With an older ledger the page sends nothing, and says why; no number is given again."""
+    ada, ledger = signed_in(stack, "registry"), stack.service.made / "ledger.db"
+    copy, newer = ledger.with_name("copy"), ledger.with_name("newer")
+    shutil.copy(ledger, copy)
+    status, one = asked(ada, "POST", "students", b'[{"student":"w1","name":"W"}]')
+    number = one["numbers"]["w1"]
+    run.judge("a student of whom the copy has nothing", (200, 200), (
+        status, asked(ada, "PUT", "batches/201", batch_text(f"{number},0,add"))[0]))
+    ledger.rename(newer)
+    copy.rename(ledger)
+    fault = (f"the office has the number {number} (MATH101), which the ledger doesn't know: put "
+             "the newer ledger back, or say --adopt")
+    for name, method, path, body in (
+            ("a batch", "PUT", "batches/202", batch_text("3,0,add")),
+            ("the number again", "POST", "students", b'[{"student":"w2","name":"V"}]')):
+        run.judge(f"{name}, with an older ledger", (
+            409, {"error": "ledger-differs", "faults": [fault]}), asked(ada, method, path, body))
+    run.judge("nobody has the number", [], stack.service.rows(
+        f"SELECT id FROM students WHERE number >= {number}"))
+    told = (stack.service.made / "standing").read_text().splitlines()
+    run.judge("what the page and the status say", ([fault], [True, False]), (
+        told[:1], [words in told[1] for words in (
+            "the ledger is older than its office, which took batch 201, by the front's log from "
+            "program:registry", "may be")]))
+    run.judge("the same by a page", told, asked(ada, "GET", "about")[1]["standing"])
+    newer.rename(ledger)
+    browser.until("the newer ledger is noticed", lambda: asked(ada, "GET", "about") == (
+        200, {"ledger": True, "standing": []}))
+    run.judge("a batch with the newer one", 200, asked(
+        ada, "PUT", "batches/202", batch_text("3,0,add"))[0])
 
 
 def published(stack, client, path="history"):
@@ -933,7 +969,7 @@ def judge_stack(run, make_front):
     stack = Stack(run, make_front, "registry")
     try:
         published_first(run, stack)
-        for part in (strangers, history, lists, batches, new_students, at_once):
+        for part in (strangers, history, lists, batches, new_students, at_once, older_ledger):
             part(run, stack)
     finally:
         stack.stop()

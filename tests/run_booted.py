@@ -157,8 +157,8 @@ def registry(judged, machine):
                   " /usr/share/doc/examoffice/examples/small /var/lib/examoffice-registry/term"
                   f"; rm -rf {FRONT}/labels"
                   f"; ln -s /var/lib/examoffice-registry/term/now {FRONT}/labels")
-    judged.judge("the registry's service", '{"ledger":true}',
-                 wait(machine, f"{ask} {front}/-/registry/about", '{"ledger":true}'))
+    judged.judge("the registry's service", '{"ledger":true,"standing":[]}',
+                 wait(machine, f"{ask} {front}/-/registry/about", '{"ledger":true,"standing":[]}'))
     judged.judge("a batch", '{"added":1,"batch":5,"dropped":0,"unchanged":0}', machine.types(
         f"printf '{batch}' | {ask} -X PUT --data-binary @- {front}/-/registry/batches/5"))
     # Exam 2 is alone in a room of 2 seats.

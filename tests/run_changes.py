@@ -118,6 +118,7 @@ def kept(what, who, how, by):
 ADAS = "s1,Ada Archer,PHYS102\n"
 ZOE = "r9,Zoë Zander,MATH101\n"
 CLEOS = "s3,Cleo Carter,MATH101\n"
+OLDER = "warning: the ledger may be older than its office: "
 CLEO_KEPT = kept("MATH101", "Cleo Carter (s3)", "added", WHO)
 MANY = "which is more than a tenth; if that is meant, say --many\n"
 # A list, further words, and what is said; the lists come one after another.
@@ -174,7 +175,9 @@ def lists(run):
         it.by_page(7, "3,0,add", "2,1,drop")
         bens = kept("MATH102", "Ben Baker (s2)", "dropped", WHO)
         both = counts(0, 0, 0, 2) + bens + CLEO_KEPT
-        run.judge("changes of the page stay", (0, both, ""), sorted_kept(it.sent(now)))
+        older = (f"{OLDER}2 enrolments differ: MATH101 of s3 added, MATH102 of s2 dropped, and "
+                 "there is no log\n")
+        run.judge("changes of the page stay", (0, f"{older}{both}", ""), sorted_kept(it.sent(now)))
         run.judge("they still do", (0, both, ""), sorted_kept(it.sent(now)))
         run.judge("the list has one of them", (0, counts(0, 0, 0, 1) + bens + did(0, 0, 1), ""),
                   it.sent(now + CLEOS))
@@ -188,8 +191,10 @@ def lists(run):
 def sorted_kept(answer):
     """An answer with its lines of what is kept in the order of their texts."""
     status, said, faults = answer
-    first, *lines = said.splitlines(keepends=True)
-    return status, first + "".join(sorted(lines, key=lambda line: line.split(" of ")[1])), faults
+    lines = said.splitlines(keepends=True)
+    kept_ones = [line for line in lines if " is kept: " in line]
+    return status, "".join([line for line in lines if line not in kept_ones] + sorted(
+        kept_ones, key=lambda line: line.split(" of ")[1])), faults
 
 
 def lines(run):
@@ -217,7 +222,7 @@ def lines(run):
             for at, path, user in entries))
         answer = it.sent(text, "--log", log)
         run.judge("who changed it on the page", True, "MATH102 of Ada Archer (s1), added, is kept: "
-                  "changed here on 14 May by ada\n" in answer[1])
+                  "changed here on 14 May by ada, batch 8\n" in answer[1])
 
 
 class Cutting(http.server.BaseHTTPRequestHandler):

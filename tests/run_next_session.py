@@ -159,10 +159,12 @@ def seats_and_changes(run):
         it.ask("PUT", "/drafts/1", SOLUTION)
         it.ask("POST", "/drafts/1/publish")
         # Ben keeps seat 2, and Cleo gets 1; a first publication gives them 1 and 2.
-        run.judge("seats that change", (0, f"{sizes()}exams that move: 0\nseats that change where "
-                                        "the exam stays: 2\nBen Baker (s2), MATH101: seat 1, not "
-                                        "2\nCleo Carter (s3), MATH101: seat 2, not 1\nnothing is "
-                                        "made without --make\n", ""), it.followed([]))
+        older = (f"{run_changes.OLDER}2 enrolments differ: MATH101 of s3 added, MATH101 of s1 "
+                 "dropped, and there is no log\n")
+        run.judge("seats that change", (0, (
+            f"{older}{sizes()}exams that move: 0\nseats that change where the exam stays: 2\n"
+            "Ben Baker (s2), MATH101: seat 1, not 2\nCleo Carter (s3), MATH101: seat 2, not 1\n"
+            "nothing is made without --make\n"), ""), it.followed([]))
         run.judge("it is made", 0, it.followed([], "--make")[0])
         it.next_office()
         kept = it.sent(run_changes.SMALL)[1]

@@ -47,7 +47,8 @@ function batchText(batch, names, people) {
   const { added, dropped, unchanged, lines, number, source, points } = batch;
   const counts = added === null ? '' : [`${numeral(added)} added`, `${numeral(dropped)} dropped`,
     ...(unchanged ? [`${numeral(unchanged)} unchanged`] : [])].join(', ');
-  const which = number < 0 ? 'Changes that came another way' : `Batch ${number}, from ${SOURCES[source]}`;
+  const which = source === 'other' || number < 0 ? 'Changes that came another way'
+    : `Batch ${number}, from ${SOURCES[source]}`;
   const named = (lines ?? []).slice(0, 5).map(({ student, exam, action }) => (
     `${names.exam(exam)} of ${people.name(student) || people.id(student)} ${
       action === 'add' ? 'added' : 'dropped'}`)).join(', ');

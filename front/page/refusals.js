@@ -64,6 +64,8 @@ const REFUSALS = {
   'too-many': 'There would be too many enrolments, or too many batches.',
   length: 'This is too long for the office.',
   often: 'There were too many requests in a short time. Please wait a moment, then try again.',
+  'ledger-differs': 'The office has numbers or batches that the ledger on the server does not know. '
+    + 'Please reload this page, and tell the operator what it says at the top.',
   ledger: 'This session has no ledger on the server.',
   'files-differ': 'These files aren\'t those that were checked. Check them again.',
   names: 'An ID or a name can\'t be used: it is empty, or has a mark that nobody sees.',

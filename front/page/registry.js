@@ -17,7 +17,7 @@ import { setUpPublishing } from './publish.js';
 import { readPublished, readSession, rereadDraft, rereadPublished } from './reading.js';
 import { setUpSeats, showSeats } from './seats.js';
 import { showSection, wanted } from './sections.js';
-import { readService } from './service.js';
+import { readService, showStanding } from './service.js';
 import { setUpSetUp, showSetUp } from './setup.js';
 import { office } from './state.js';
 import { reread, setUpPictures, showTimetable } from './timetable.js';
@@ -27,6 +27,7 @@ async function load() {
   await readUser();
   const text = await readSession();
   office.service = await readService();
+  showStanding(office.service);
   office.names = await applyOfficeNames(text && await readLabels(), office.session);
   const published = text ? await readPublished() : null;
   if (!text) office.seats = null;

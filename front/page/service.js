@@ -1,10 +1,11 @@
 // The registry's service, which runs beside the office: it keeps the session's ledger, and has the program
 // judge what the office doesn't.
 import { ask, change, Refusal } from './asking.js';
+import { byId } from './elements.js';
 
 /**
- * The service, and whether it has a ledger of this session.
- * @typedef {{ ledger: boolean }} Service
+ * The service, whether it has a ledger of this session, and what is wrong between that and the office.
+ * @typedef {{ ledger: boolean, standing: string[] }} Service
  *
  * A rule, and the two exams that break it.
  * @typedef {{ rule: string, exam: number, other: number }} Breach
@@ -15,6 +16,16 @@ import { ask, change, Refusal } from './asking.js';
  * @returns {Promise<Service | null>}
  */
 export const readService = () => ask('/-/registry/about');
+
+/**
+ * Shows what is wrong between the ledger and the office.
+ * @param {Service | null} service
+ */
+export function showStanding(service) {
+  const note = byId('ledger-note');
+  note.textContent = (service?.standing ?? []).join('\n');
+  note.hidden = !note.textContent;
+}
 
 /**
  * The breaches that the service replies; null if it doesn't run, or fails.

@@ -5,8 +5,6 @@ import dataclasses
 import datetime
 import difflib
 import json
-import pathlib
-import re
 from collections.abc import Iterable, Iterator, Mapping
 
 from .csv_tables import MOST_LINES_PRINTED, Column, Known, Row
@@ -15,8 +13,9 @@ from .session import CODE, STUDENT, Session
 
 HEADER = b"student,exam,action\n"
 MOST_BATCH, MOST_NUMBER = 1_048_576, 999_999_999
-# Where changes come from: a full list, lines of a registrar, or another way than by these tools.
-FILE, HAND, PAGE = "file", "hand", "page"
+# Where changes come from: a full list, lines of a registrar, the registry's page, or another way
+# than by these tools.
+FILE, HAND, PAGE, OTHER = "file", "hand", "page", "other"
 COLUMNS = (Column("student", STUDENT), Column("exam", ("code", *CODE)),
            Column("name", ("student name", "full name", "candidate name"), False),
            Column("action", ("change", "status", "type"), False))
@@ -25,7 +24,6 @@ ACTIONS = {"add": ("add", "added", "enrol", "enrols", "enroll", "enrolled", "in"
                     "delete", "out", "unenrol", "unenroll", "-"),
            "new": ("new",)}
 Pair = tuple[int, int]
-LOGGED = re.compile(r"/batches/0*([0-9]{1,9})")
 
 
 @dataclasses.dataclass(frozen=True)
@@ -44,10 +42,13 @@ class Made:
     action: str
     at: str
     by: str
+    # The number of the batch in the front's log, if these tools didn't send it.
+    logged: int | None = None
 
     def words(self) -> str:
         day = datetime.datetime.fromisoformat(self.at)
-        return f"changed here on {day.day} {day:%B} by {self.by}"
+        batch = "" if self.logged is None else f", batch {self.logged}"
+        return f"changed here on {day.day} {day:%B} by {self.by}{batch}"
 
 
 @dataclasses.dataclass
@@ -76,64 +77,55 @@ def base_pairs(ledger: Ledger) -> set[Pair]:
     pairs = ledger.loaded_pairs()
     for student, exam, action in ledger.db.execute(
             "SELECT student, exam, action FROM changes JOIN batches ON batch = number"
-            " WHERE source = ? AND sent_at IS NOT NULL ORDER BY sent_at, batch, place", (FILE,)):
+            " WHERE source = ? AND turn IS NOT NULL ORDER BY turn, place", (FILE,)):
         (pairs.add if action == "add" else pairs.discard)((student, exam))
     return pairs
 
 
 def changes_here(ledger: Ledger) -> dict[Pair, Made]:
     """The last change of each enrolment that no full list made."""
-    return {(student, exam): Made(action, at, by) for student, exam, action, at, by in
-            ledger.db.execute(
-                "SELECT student, exam, action, sent_at, prepared_by FROM changes"
-                " JOIN batches ON batch = number WHERE source <> ? AND sent_at IS NOT NULL"
-                " ORDER BY sent_at, batch, place", (FILE,))}
+    return {(student, exam): Made(*made) for student, exam, *made in ledger.db.execute(
+        "SELECT student, exam, action, sent_at, prepared_by, logged FROM changes"
+        " JOIN batches ON batch = number WHERE source <> ? AND turn IS NOT NULL"
+        " ORDER BY turn, place", (FILE,))}
 
 
-def sent_by_others(ledger: Ledger, log: pathlib.Path | None) -> Made | None:
-    """Who sent the last batch that isn't the ledger's, as the front's log of changes says."""
-    known = {number for number, in ledger.db.execute("SELECT number FROM batches")}
-    last = None
-    for line in log.read_text(encoding="utf-8").splitlines() if log else ():
-        try:
-            entry = json.loads(line)
-        except ValueError:
-            continue
-        batch = LOGGED.fullmatch(entry.get("path", ""))
-        if batch and entry.get("status") == 200 and int(batch[1]) not in known:
-            last = Made("", entry["at"], entry["user"])
-    return last
+def differences(expected: set[Pair], found: set[Pair]) -> list[Change]:
+    """Returns what brings some enrolments to others."""
+    return [*(Change(*pair, "add") for pair in sorted(found - expected)),
+            *(Change(*pair, "drop") for pair in sorted(expected - found))]
 
 
-def note_changes_of_others(ledger: Ledger, found: set[Pair], log: pathlib.Path | None) -> int:
-    """Notes what the office has and the ledger doesn't expect, which was sent from a page. Its
-    batch has a number below zero here, because nobody knows its own."""
-    expected = ledger.expected_pairs()
-    changes = [Change(*pair, "add") for pair in sorted(found - expected)]
-    changes += [Change(*pair, "drop") for pair in sorted(expected - found)]
-    if changes:
-        made = sent_by_others(ledger, log) or Made("", now(), "somebody on the registry's page")
-        number = min(0, ledger.db.execute("SELECT min(number) FROM batches").fetchone()[0] or 0) - 1
-        add_batch(ledger, number, b"", PAGE, made.by, changes)
+def note_changes_of_others(ledger: Ledger, found: set[Pair], made: Made) -> list[int]:
+    """Notes what the office has and the ledger doesn't expect; returns the numbers of its batches.
+    The office gets these as well: they change nothing there, but a copy of it from before lacks
+    them."""
+    numbers = prepare(ledger, differences(ledger.expected_pairs(), found), OTHER, made.by)
+    for number in numbers:
         mark_sent(ledger, number, made.at)
-        adds = sum(change.action == "add" for change in changes)
-        note_effect(ledger, number, Effect(adds, len(changes) - adds, 0, {}), range(len(changes)))
-    return len(changes)
+        ledger.db.execute("UPDATE batches SET logged = ? WHERE number = ?", (made.logged, number))
+        taken = changes_of(ledger, number)
+        adds = sum(change.action == "add" for change in taken)
+        note_effect(ledger, number, Effect(adds, len(taken) - adds, 0, {}), range(len(taken)))
+    return numbers
 
 
 # ---- Batches in the ledger
 
 def add_batch(ledger: Ledger, number: int, content: bytes, source: str, by: str,
               changes: Iterable[Change]) -> None:
-    ledger.db.execute("INSERT INTO batches VALUES (?, ?, ?, ?, ?, NULL)",
-                      (number, content, source, now(), by))
+    ledger.db.execute("INSERT INTO batches (number, bytes, source, prepared_at, prepared_by)"
+                      " VALUES (?, ?, ?, ?, ?)", (number, content, source, now(), by))
     ledger.db.executemany("INSERT INTO changes VALUES (?, ?, ?, ?, ?)", (
         (number, place, change.student, change.exam, change.action)
         for place, change in enumerate(changes)))
 
 
 def mark_sent(ledger: Ledger, number: int, at: str) -> None:
-    ledger.db.execute("UPDATE batches SET sent_at = ? WHERE number = ?", (at, number))
+    """Notes when a batch was sent, and that it was sent after all others."""
+    ledger.db.execute(
+        "UPDATE batches SET sent_at = ?, turn = (SELECT ifnull(max(turn), 0) + 1 FROM batches)"
+        " WHERE number = ?", (at, number))
 
 
 def note_effect(ledger: Ledger, number: int, effect: Effect, acted: Iterable[int]) -> None:
@@ -176,7 +168,8 @@ def forget_unsent(ledger: Ledger) -> None:
 def renumber(ledger: Ledger, number: int) -> int:
     """Gives a batch the next number that the ledger has not used."""
     last: int = ledger.db.execute("SELECT max(number) FROM batches").fetchone()[0]
-    for table, column in (("batches", "number"), ("changes", "batch")):
+    for table, column in (("batches", "number"), ("changes", "batch"), ("effects", "batch"),
+                          ("acted", "batch")):
         ledger.db.execute(f"UPDATE {table} SET {column} = ? WHERE {column} = ?", (last + 1, number))
     return last + 1
 
@@ -202,12 +195,12 @@ def in_batches(changes: list[Change]) -> Iterator[tuple[bytes, list[Change]]]:
         yield b"".join(lines), taken
 
 
-def prepare(ledger: Ledger, changes: list[Change], source: str, by: str) -> None:
-    """Writes the batches of changes into the ledger, with numbers in a row."""
-    number = first_number(ledger, datetime.datetime.now())
-    for content, taken in in_batches(changes):
+def prepare(ledger: Ledger, changes: list[Change], source: str, by: str) -> list[int]:
+    """Writes the batches of changes into the ledger; returns their numbers, which are in a row."""
+    first, batches = first_number(ledger, datetime.datetime.now()), [*in_batches(changes)]
+    for number, (content, taken) in enumerate(batches, first):
         add_batch(ledger, number, content, source, by, taken)
-        number += 1
+    return [*range(first, first + len(batches))]
 
 
 # ---- What a file says

@@ -5,11 +5,11 @@ import json
 import os
 import pathlib
 import shutil
-from collections.abc import Iterable
+from collections.abc import Iterable, Iterator
 
 from .ledger import NAME, Ledger
 from .made_files import files_of, is_sealed, sizes_text, state_in, students_text
-from .office import are_of_another_session
+from .office import are_of_another_session, most_lacking
 
 NOW, STATES, STUDENTS, SIZES = "now", "states", "students.json", "sizes.json"
 SEALED = ("labels.json", STUDENTS, "callers")
@@ -88,6 +88,12 @@ class Folder:
         exchange(self.path / NOW / SIZES, sizes_text(ledger, digest))
         exchange(self.path / NOW / STUDENTS, students_text(ledger, digest))
 
+    def is_current(self, ledger: Ledger) -> bool:
+        """Whether the files are those of the ledger as it is now. students.json is written last."""
+        digest, path = ledger.digest(), self.path / NOW / STUDENTS
+        return ledger.last_state() == (self.current(), digest) and path.exists() and (
+            path.read_text(encoding="utf-8") == students_text(ledger, digest))
+
     def switch(self, number: int) -> None:
         """Lets `now` lead to a state."""
         link = self.path / f".{NOW}.part"
@@ -134,11 +140,27 @@ def faults_of(ledger: Ledger, folder: pathlib.Path) -> list[str]:
 
 def faults_of_pairs(ledger: Ledger, path: pathlib.Path, text: str) -> Iterable[str]:
     """Whether the enrolments of students.json are those of another ledger, which may have the same
-    names."""
+    names: they are like those of this one at no time."""
     pairs = {(student["number"], exam) for student in json.loads(text)["students"]
              for exam in student["exams"]}
-    if are_of_another_session(ledger.expected_pairs(), pairs):
+    if are_of_another_session(ledger.expected_pairs(), pairs) and not any(
+            lacking <= most_lacking(expected) for expected, lacking in lacking_by_time(
+                ledger, pairs)):
         yield f"{path} was made of another ledger: it has other enrolments"
+
+
+def lacking_by_time(ledger: Ledger, pairs: set[tuple[int, int]]) -> Iterator[tuple[int, int]]:
+    """Returns how many enrolments a ledger expected after each change, and how many of them are
+    not among these pairs."""
+    expected = ledger.loaded_pairs()
+    lacking = len(expected - pairs)
+    yield len(expected), lacking
+    for student, exam, action in ledger.changes_sent():
+        pair, is_add = (student, exam), action == "add"
+        if (pair in expected) != is_add:
+            (expected.add if is_add else expected.discard)(pair)
+            lacking += (pair not in pairs) * (1 if is_add else -1)
+        yield len(expected), lacking
 
 
 def faults_of_text(ledger: Ledger, path: pathlib.Path, text: str) -> Iterable[str]:

@@ -15,51 +15,20 @@ from collections.abc import Iterable, Iterator
 from contextlib import contextmanager
 
 from .session import TEXTS, Exam, Period, Room, Session
+from .versions import TABLES, VERSION, bring_to_today, version_of
+from .versions import NotALedger as NotALedger
 
-NAME, VERSION = "ledger.db", "1"
+NAME = "ledger.db"
 MOST_STUDENT = 999_999_999
-TABLES = """
-CREATE TABLE about (key TEXT PRIMARY KEY, value TEXT NOT NULL);
-CREATE TABLE departments (number INTEGER PRIMARY KEY, name TEXT NOT NULL UNIQUE);
-CREATE TABLE exams (number INTEGER PRIMARY KEY, code TEXT NOT NULL UNIQUE, title TEXT NOT NULL,
-    minutes INTEGER NOT NULL, department INTEGER REFERENCES departments);
-CREATE TABLE rooms (number INTEGER PRIMARY KEY, name TEXT NOT NULL UNIQUE, building TEXT NOT NULL,
-    capacity INTEGER NOT NULL, penalty INTEGER NOT NULL);
-CREATE TABLE periods (number INTEGER PRIMARY KEY, date TEXT NOT NULL, start TEXT NOT NULL,
-    minutes INTEGER NOT NULL, penalty INTEGER NOT NULL);
-CREATE TABLE rules (place INTEGER PRIMARY KEY, section TEXT NOT NULL, line TEXT NOT NULL);
-CREATE TABLE students (number INTEGER PRIMARY KEY, id TEXT NOT NULL UNIQUE, name TEXT NOT NULL);
-CREATE TABLE enrolments (student INTEGER NOT NULL REFERENCES students,
-    exam INTEGER NOT NULL REFERENCES exams, PRIMARY KEY (exam, student)) WITHOUT ROWID;
-CREATE TABLE users (name TEXT PRIMARY KEY COLLATE NOCASE, caller TEXT NOT NULL);
-CREATE TABLE batches (number INTEGER PRIMARY KEY, bytes BLOB NOT NULL, source TEXT NOT NULL,
-    prepared_at TEXT NOT NULL, prepared_by TEXT NOT NULL, sent_at TEXT);
-CREATE TABLE changes (batch INTEGER NOT NULL REFERENCES batches, place INTEGER NOT NULL,
-    student INTEGER NOT NULL REFERENCES students, exam INTEGER NOT NULL REFERENCES exams,
-    action TEXT NOT NULL, PRIMARY KEY (batch, place)) WITHOUT ROWID;
-CREATE TABLE states (number INTEGER PRIMARY KEY, digest TEXT NOT NULL, made_at TEXT NOT NULL,
-    made_by TEXT NOT NULL);
-"""
-# What batches did. A ledger of an older version gets these tables when it is opened.
-OF_EFFECTS = """
-CREATE TABLE IF NOT EXISTS effects (batch INTEGER PRIMARY KEY REFERENCES batches,
-    added INTEGER NOT NULL, dropped INTEGER NOT NULL, unchanged INTEGER NOT NULL,
-    points TEXT NOT NULL);
-CREATE TABLE IF NOT EXISTS acted (batch INTEGER NOT NULL REFERENCES batches,
-    place INTEGER NOT NULL, PRIMARY KEY (batch, place)) WITHOUT ROWID;
-"""
-# What a state is the digest of: who and what each number is, but not who takes which exam.
-OF_A_STATE = {"about": "key, value", "departments": "number, name",
+# What a state is the digest of: who and what each number is, but not who takes which exam. It stays
+# the same when a ledger is brought to another version.
+OF_A_STATE = {"about": "key, iif(key = 'version', '1', value)", "departments": "number, name",
               "exams": "number, code, title, minutes, department",
               "rooms": "number, name, building, capacity, penalty",
               "periods": "number, date, start, minutes, penalty",
               "rules": "place, section, line", "students": "number, id, name",
               "users": "name, caller"}
 SECTIONS = ("[PeriodHardConstraints]", "[RoomHardConstraints]", "[InstitutionalWeightings]")
-
-
-class NotALedger(Exception):
-    """Why a ledger can't be read, in words."""
 
 
 @contextmanager
@@ -108,26 +77,23 @@ class Ledger:
     def begin(self) -> None:
         """Makes the tables, in a transaction that stays open."""
         self.db.execute("BEGIN IMMEDIATE")
-        for statement in (TABLES + OF_EFFECTS).split(";\n"):
+        for statement in TABLES:
             self.db.execute(statement)
-        self.db.execute("INSERT INTO about VALUES ('version', ?)", (VERSION,))
+        self.db.execute("INSERT INTO about VALUES ('version', ?)", (f"{VERSION}",))
 
     @classmethod
     def opened_at(cls, path: pathlib.Path) -> Ledger:
-        """The ledger of a file, in a transaction."""
+        """The ledger of a file, in a transaction. One of an earlier version is brought to today's
+        first."""
         try:
             if not stat.S_ISREG(path.lstat().st_mode):
                 raise NotALedger(f"{path} is not a plain file")
             ledger = cls(sqlite3.connect(f"{path.absolute().as_uri()}?mode=rw", uri=True,
                                          isolation_level=None))
+            bring_to_today(ledger.db, path)
             ledger.db.execute("BEGIN IMMEDIATE")
-            version = ledger.db.execute("SELECT value FROM about WHERE key = 'version'").fetchone()
         except (OSError, sqlite3.Error) as fault:
             raise NotALedger(f"{path} is not a ledger: {fault}") from fault
-        if version != (VERSION,):
-            raise NotALedger(f"{path} is a ledger of another version than {VERSION}")
-        for statement in OF_EFFECTS.split(";\n"):
-            ledger.db.execute(statement)
         return ledger
 
     @classmethod
@@ -136,12 +102,14 @@ class Ledger:
         try:
             ledger = cls(sqlite3.connect(f"{path.absolute().as_uri()}?mode=ro", uri=True,
                                          isolation_level=None))
+            if version_of(ledger.db, path) < VERSION:
+                ledger.close()
+                with locked(path.parent):
+                    cls.opened_at(path).close()
+                return cls.read_at(path)
             ledger.db.execute("BEGIN")
-            version = ledger.db.execute("SELECT value FROM about WHERE key = 'version'").fetchone()
         except sqlite3.Error as fault:
             raise NotALedger(f"{path} is not a ledger: {fault}") from fault
-        if version != (VERSION,):
-            raise NotALedger(f"{path} is a ledger of another version than {VERSION}")
         return ledger
 
     def keep(self) -> None:
@@ -190,14 +158,19 @@ class Ledger:
         """The pairs of a student and an exam at loading."""
         return set(self.db.execute("SELECT student, exam FROM enrolments"))
 
-    def expected_pairs(self) -> set[tuple[int, int]]:
-        """The pairs that the office should have: those at loading, and the batches sent since."""
+    def expected_pairs(self, before: int | None = None) -> set[tuple[int, int]]:
+        """The pairs that the office should have: those at loading, and the batches sent since, up
+        to one of them."""
         pairs = self.loaded_pairs()
-        for student, exam, action in self.db.execute(
-                "SELECT student, exam, action FROM changes JOIN batches ON batch = number"
-                " WHERE sent_at IS NOT NULL ORDER BY sent_at, batch, place"):
+        for student, exam, action in self.changes_sent(before):
             (pairs.add if action == "add" else pairs.discard)((student, exam))
         return pairs
+
+    def changes_sent(self, before: int | None = None) -> Iterator[tuple[int, int, str]]:
+        """The lines of all batches that were sent, in order, up to one of them."""
+        yield from self.db.execute(
+            "SELECT student, exam, action FROM changes JOIN batches ON batch = number"
+            " WHERE turn < ifnull(?, turn + 1) ORDER BY turn, place", (before,))
 
     def digest(self) -> str:
         """The digest of the ledger's state."""
@@ -251,7 +224,7 @@ class Ledger:
             (number, name) for name, number in departments.items()))
 
     def add_students(self, students: Iterable[Student]) -> None:
-        self.db.executemany("INSERT INTO students VALUES (?, ?, ?)", (
+        self.db.executemany("INSERT INTO students (number, id, name) VALUES (?, ?, ?)", (
             (student.number, student.id, student.name) for student in students))
 
     def free_numbers(self) -> Iterator[int]:
@@ -260,11 +233,15 @@ class Ledger:
         yield from range(max(given, default=-1) + 1, MOST_STUDENT + 1)
         yield from (number for number in range(MOST_STUDENT + 1) if number not in given)
 
-    def add_new_students(self, names: dict[str, str]) -> list[Student]:
-        """Gives each of these IDs the next free number."""
+    def add_new_students(self, names: dict[str, str], is_asked: bool = True) -> list[Student]:
+        """Gives each of these IDs the next free number, and notes if no office was asked which
+        numbers it has."""
         free = self.free_numbers()
         added = [Student(next(free), student, name) for student, name in names.items()]
         self.add_students(added)
+        if not is_asked:
+            self.db.executemany("UPDATE students SET unasked_since = ? WHERE number = ?", (
+                (now(), student.number) for student in added))
         return added
 
     def add_state(self, by: str) -> tuple[int, str]:

@@ -7,8 +7,11 @@ import pathlib
 from .csv_tables import Faults, Wanted
 from .folder import Folder
 from .ledger import Ledger
+from .logged import Log
 from .made_files import MOST_BYTES, session_file, student_numbers
-from .session import read_session, summary_of, warnings_of
+from .meeting import Meeting, faults_of_history, look
+from .office import Office, Refused
+from .session import count, read_session, summary_of, warnings_of
 from .update import bring_up_to_date
 
 
@@ -21,14 +24,16 @@ class Said:
 
 
 def make(folder: Folder, csv: pathlib.Path, wanted: Wanted, by: str, faults: Faults,
-         is_kept: bool = True) -> Said:
-    """Makes a session, or brings it up to date; only looks if it isn't to be kept."""
+         is_kept: bool = True, office: Office | None = None) -> Said:
+    """Makes a session, or brings it up to date; only looks if it isn't to be kept. An office is
+    asked which numbers it has, if it has a session."""
     if folder.is_old():
         faults.lines.append(f"{folder.path} has a session without a ledger: first make one with "
                             f"session_from_csv --take-over {folder.path}")
         return Said()
-    return (add_further if folder.ledger.exists() else add_first)(
-        folder, csv, wanted, by, faults, is_kept)
+    if not folder.ledger.exists():
+        return add_first(folder, csv, wanted, by, faults, is_kept)
+    return add_further(folder, csv, wanted, by, faults, is_kept, office)
 
 
 def add_first(folder: Folder, csv: pathlib.Path, wanted: Wanted, by: str, faults: Faults,
@@ -61,18 +66,43 @@ def finish_new(folder: Folder, ledger: Ledger, by: str) -> None:
 
 
 def add_further(folder: Folder, csv: pathlib.Path, wanted: Wanted, by: str, faults: Faults,
-                is_kept: bool) -> Said:
+                is_kept: bool, office: Office | None) -> Said:
     """Brings a ledger up to date."""
     ledger = Ledger.opened_at(folder.ledger)
     faults.lines += folder.faults(ledger)
+    met = met_before(folder, ledger, office) if not faults.lines else None
+    faults.lines += met.faults if met else faults_of_history(folder, ledger)
     session = read_session(csv, wanted, faults, ledger.numbers())
-    update = bring_up_to_date(ledger, session, faults) if not faults.lines else None
+    update = bring_up_to_date(ledger, session, faults, met is not None) if not faults.lines \
+        else None
     said = Said()
     if update and not faults.lines:
-        said = Said([*summary_of(session), *update.lines()], warnings_of(session))
+        faults.lines += met.faults_of_new(update.students) if met else \
+            faults_unasked(ledger, update.students)
+    if update and not faults.lines:
+        said = Said([*(met.warnings if met else []), *summary_of(session), *update.lines()],
+                    warnings_of(session))
         if is_kept:
             state = ledger.add_state(by)
             ledger.keep()
             folder.make_files(ledger, *state)
     ledger.close()
     return said
+
+
+def met_before(folder: Folder, ledger: Ledger, office: Office | None) -> Meeting | None:
+    """Returns how a ledger and an office stand to each other; None without an office that has a
+    session."""
+    try:
+        return look(folder, ledger, office, Log(None)) if office else None
+    except Refused as refusal:
+        if refusal.error != "not-loaded":
+            raise
+        return None
+
+
+def faults_unasked(ledger: Ledger, new: int) -> list[str]:
+    """Why new students get no numbers, if the office isn't asked."""
+    is_loaded = ledger.db.execute("SELECT 1 FROM batches WHERE turn IS NOT NULL").fetchone()
+    return [f"no number for {count(new, 'new student')} without --office URL: the office may have "
+            "numbers that the ledger doesn't know"] if new and is_loaded else []

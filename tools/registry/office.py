@@ -12,6 +12,7 @@ import urllib.request
 
 from .ledger import Ledger
 from .made_files import frame_of
+from .session import Session
 
 # An office that lacks more of the enrolments that it should have has another session: this share in
 # percent, or this number in a small session.
@@ -20,6 +21,7 @@ MOST_LACKING, MOST_LACKING_PAIRS = 5, 10
 LEAST_COMPARED = 5
 # The variable with a program's token for a front.
 TOKEN = "EXAMOFFICE_TOKEN"
+Pair = tuple[int, int]
 
 
 class Refused(Exception):
@@ -129,22 +131,29 @@ def exchanged(expected: set[tuple[int, int]], found: set[tuple[int, int]], exams
             and 2 * len(wanted[other] & taking[exam]) > len(wanted[other] | taking[exam])]
 
 
+def most_lacking(expected: int) -> float:
+    """How many of so many enrolments may be lacking."""
+    return max(MOST_LACKING_PAIRS, MOST_LACKING * expected / 100)
+
+
 def are_of_another_session(expected: set[tuple[int, int]], found: set[tuple[int, int]]) -> bool:
     """Whether too many of the enrolments that a ledger expects are lacking."""
-    return len(expected - found) > max(MOST_LACKING_PAIRS, MOST_LACKING * len(expected) / 100)
+    return len(expected - found) > most_lacking(len(expected))
 
 
-def faults_of_office(ledger: Ledger, instance: Instance) -> list[str]:
-    """Why an office doesn't have the session of a ledger; nothing if it has."""
-    session = ledger.session()
-    frame = frame_of(session)
-    if frame != instance.frame:
-        return [f"the office has another session: {first_difference(frame, instance.frame)}"]
-    expected = ledger.expected_pairs()
-    if are_of_another_session(expected, instance.pairs):
-        return [f"the office has another session: it lacks {len(expected - instance.pairs):,} of "
+def faults_of_frame(ledger: Ledger, instance: Instance) -> list[str]:
+    """Why an office doesn't have the exams, rooms, periods and rules of a ledger."""
+    frame = frame_of(ledger.session())
+    return [] if frame == instance.frame else [
+        f"the office has another session: {first_difference(frame, instance.frame)}"]
+
+
+def faults_of_enrolments(session: Session, expected: set[Pair], found: set[Pair]) -> list[str]:
+    """Why the enrolments of an office are those of another session."""
+    if are_of_another_session(expected, found):
+        return [f"the office has another session: it lacks {len(expected - found):,} of "
                 f"{len(expected):,} enrolments of the ledger, and at most {MOST_LACKING} % may be "
                 "lacking"]
     return [f"{session.exams[exam].code} has in the office the candidates of "
             f"{session.exams[other].code}"
-            for exam, other in exchanged(expected, instance.pairs, len(session.exams))]
+            for exam, other in exchanged(expected, found, len(session.exams))]

@@ -31,17 +31,20 @@ from typing import Any
 
 import flask
 
-from .changes import PAGE, Change, add_batch, forget_unsent, note_changes_of_others
-from .csv_tables import Faults, Known, Row
-from .folder import Folder
-from .history import History, Unsteady, difference, look, places_of
+from .changes import PAGE, Change, add_batch, forget_unsent
+from .csv_tables import Faults, Known, Row, first_lines
+from .folder import Folder, exchange
+from .history import History, Unsteady, difference, places_of
+from .history import look as look_what_happened
 from .judging import judged
-from .ledger import Ledger, NotALedger, locked
+from .ledger import Ledger, NotALedger, locked, now
 from .list_jobs import Busy, Jobs, wanted_in
+from .logged import Log, Logged, settle
+from .meeting import Meeting, look, meet, send_noted
 from .office import TOKEN as TOKEN_NAME
 from .office import Office, OfficeBySocket, Refused
 from .published import words_of_last
-from .sending import send_all, send_one
+from .sending import send_one
 from .setting_up import FILES, Changed, Loaded, set_up
 
 FOLDER = pathlib.Path(os.environ["REGISTRY_FOLDER"])
@@ -49,6 +52,8 @@ FRONT, TOKEN = os.environ["REGISTRY_FRONT"], os.environ.get("REGISTRY_TOKEN", ""
 LOG = pathlib.Path(os.environ["REGISTRY_LOG"]) if os.environ.get("REGISTRY_LOG") else None
 MOST_PUBLICATIONS = int(os.environ.get("REGISTRY_PUBLICATIONS", "200"))
 MOST_SHOWN = 500
+# How often a ledger is compared with its office, in seconds; what is wrong is in this file.
+COMPARED, STANDING = float(os.environ.get("REGISTRY_COMPARED", "60")), "standing"
 # After a look that failed the next one waits so long, in seconds.
 PATIENCE = 10
 NAME = re.compile(r"[a-z0-9][a-z0-9_-]*")
@@ -101,8 +106,21 @@ def reading() -> Iterator[sqlite3.Connection]:
     path = folder().ledger
     if not path.exists():
         raise NotALedger(f"{path} isn't there")
-    with contextlib.closing(sqlite3.connect(f"{path.absolute().as_uri()}?mode=ro", uri=True)) as db:
-        yield db
+    with contextlib.closing(Ledger.read_at(path)) as ledger:
+        yield ledger.db
+
+
+class Strange(Exception):
+    """Why an office and a ledger don't belong together, or which of them is older, in words."""
+
+    def __init__(self, faults: list[str]) -> None:
+        super().__init__(faults[0])
+        self.faults = faults
+
+
+@app.errorhandler(Strange)
+def strange(fault: Strange) -> tuple[dict[str, Any], int]:
+    return {"error": "ledger-differs", "faults": first_lines(fault.faults, "faults")}, 409
 
 
 @app.errorhandler(NotALedger)
@@ -128,7 +146,8 @@ def broken(_: Exception) -> tuple[dict[str, Any], int]:
 
 @app.get("/-/registry/about")
 def about() -> dict[str, Any]:
-    return {"ledger": folder().ledger.exists()}
+    """Whether the session has a ledger, and what is wrong between it and the office, in words."""
+    return {"ledger": folder().ledger.exists(), "standing": standings.get(session(), [])}
 
 
 # ---- A session of CSV files
@@ -190,28 +209,40 @@ def put_batch(number: int) -> flask.Response:
     body, changes = flask.request.get_data(), lines_in(flask.request.get_data())
     with opened() as (found, ledger):
         office = office_of(session())
-        finish_earlier(ledger, office)
-        note_changes_of_others(ledger, office.instance().pairs, LOG)
+        met = met_with(found, ledger, office)
         is_known = ledger.db.execute("SELECT 1 FROM batches WHERE number = ?", (number,)).fetchone()
         if is_known or changes is None:
             # The office knows it, or refuses it.
             reply = office.ask("PUT", f"/batches/{number}", body)
+            settle(ledger, [Logged(number, now(), user())])
         else:
             add_batch(ledger, number, body, PAGE, user(), changes)
-            ledger.keep()
+        ledger.keep()
+        send_noted(ledger, office, met)
+        if not is_known and changes is not None:
             reply = sent(ledger, office, number, body)
         found.refresh(ledger, user())
     return flask.Response(reply, mimetype="application/json")
 
 
-def finish_earlier(ledger: Ledger, office: Office) -> None:
-    """Sends what a run that was cut off left. What the office refuses of it is forgotten."""
+def log_of(name: str) -> Log:
+    """The front's log of a session."""
+    return Log(LOG if LOG and LOG.exists() else None, name)
+
+
+def met_with(found: Folder, ledger: Ledger, office: Office) -> Meeting:
+    """Sends what the office lacks. What it refuses of what a run left that was cut off is
+    forgotten."""
     try:
-        for _ in send_all(ledger, office):
-            pass
+        met = meet(found, ledger, office, log_of(session()))
     except Refused as refusal:
         if refusal.status not in (400, 403, 404, 409, 413):
             raise
+        met = meet(found, ledger, office, log_of(session()))
+    say_standing(found, met)
+    if met.faults:
+        raise Strange(met.faults)
+    return met
 
 
 def sent(ledger: Ledger, office: Office, number: int, body: bytes) -> str:
@@ -233,7 +264,7 @@ def batches() -> dict[str, Any]:
             "SELECT number, source, sent_at, prepared_by, bytes, added, dropped, unchanged, points,"
             " (SELECT count(*) FROM acted WHERE acted.batch = number)"
             " FROM batches LEFT JOIN effects ON effects.batch = number"
-            " WHERE sent_at IS NOT NULL ORDER BY sent_at DESC, number DESC").fetchall()
+            " WHERE sent_at <> '' ORDER BY turn DESC").fetchall()
     return {"batches": [batch_of(*row) for row in rows]}
 
 
@@ -400,12 +431,60 @@ troubles: dict[str, str] = {}
 def look_at(name: str, is_only: bool) -> None:
     """Looks what happened to a session; what fails is tried again, and stops nothing else."""
     try:
-        look(History(FOLDER / name), office_of(name), LOG, name, is_only, MOST_PUBLICATIONS)
+        look_what_happened(History(FOLDER / name), office_of(name), LOG, name, is_only,
+                           MOST_PUBLICATIONS)
         troubles.pop(name, None)
     except (Refused, Unsteady, OSError, sqlite3.Error, ValueError, KeyError, IndexError) as fault:
         if f"{fault}" != troubles.get(name):
             app.logger.exception("the history of %s", name)
         troubles[name] = f"{fault}" or "the publication changed while it was read"
+
+
+# What is wrong between the ledger and the office of a session, in words.
+standings: dict[str, list[str]] = {}
+# What the log and the ledger were when they were compared with the office last.
+compared: dict[str, list[int]] = {}
+
+
+def say_standing(found: Folder, met: Meeting) -> None:
+    """Notes what is wrong between a ledger and its office; the package's status reads it."""
+    lines = first_lines([*met.faults, *met.warnings], "lines")
+    standings[found.path.name] = lines
+    path = found.path / STANDING
+    if lines:
+        exchange(path, "".join(f"{line}\n" for line in lines))
+    else:
+        path.unlink(missing_ok=True)
+
+
+def marks_of(found: Folder) -> list[int]:
+    """What differs when the log or the ledger has changed, or the ledger was put back."""
+    paths = [found.ledger, *([LOG] if LOG and LOG.exists() else [])]
+    return [number for path in paths for status in [path.stat()]
+            for number in (status.st_ino, status.st_size, status.st_mtime_ns)]
+
+
+def compare(name: str) -> None:
+    """Compares a session's ledger with its office, if either may have changed."""
+    found = Folder(FOLDER / name)
+    if compared.get(name) == marks_of(found):
+        return
+    with locked(found.path), contextlib.closing(Ledger.opened_at(found.ledger)) as ledger:
+        say_standing(found, look(found, ledger, office_of(name), log_of(name)))
+    # The questions themselves are in the log.
+    compared[name] = marks_of(found)
+
+
+def compare_all() -> None:
+    """Compares all sessions again and again."""
+    while True:
+        for path in FOLDER.glob("*/ledger.db"):
+            if NAME.fullmatch(path.parent.name):
+                try:
+                    compare(path.parent.name)
+                except (NotALedger, Refused, OSError, sqlite3.Error, ValueError) as fault:
+                    app.logger.warning("the ledger of %s: %s", path.parent.name, fault)
+        time.sleep(COMPARED)
 
 
 def watch() -> None:
@@ -423,7 +502,8 @@ def watch() -> None:
         time.sleep(1)
 
 
-threading.Thread(target=watch, daemon=True).start()
+for looking in (watch, compare_all):
+    threading.Thread(target=looking, daemon=True).start()
 
 
 # ---- New students
@@ -439,11 +519,15 @@ def students() -> tuple[dict[str, Any], int]:
     if faults.lines:
         return {"error": "names", "faults": faults.lines}, 400
     with opened() as (found, ledger):
+        met = met_with(found, ledger, office_of(session()))
         known = Known(ledger.numbers())
         new = {student: name for student, name in people.items() if known.text(student) is None}
+        if met.faults_of_new(len(new)):
+            raise Strange(met.faults_of_new(len(new)))
         added = {one.id: one.number for one in ledger.add_new_students(new)}
         ledger.keep()
-        if added:
+        send_noted(ledger, office_of(session()), met)
+        if added or met.noted or met.said:
             found.refresh(ledger, user())
         numbers = {student: added.get(student, known.number(student)) for student in people}
     return {"numbers": numbers}, 200

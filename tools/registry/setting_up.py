@@ -13,9 +13,9 @@ from typing import Any
 
 from .csv_tables import MOST_BYTES, Faults, Wanted, first_lines
 from .folder import NOW, Folder
-from .ledger import Ledger, locked
-from .making import Said, make
-from .office import Instance, Office, Refused, faults_of_office
+from .ledger import locked
+from .making import make
+from .office import Office, Refused
 
 FILES = ("exams", "rooms", "periods", "enrolments", "rules")
 PACKED = b"\x1f\x8b"
@@ -29,23 +29,15 @@ class Loaded(Exception):
     """An office that has a session, without a ledger."""
 
 
-def session_of(office: Office) -> Instance | None:
-    """The session of an office, if it has one."""
+def has_session(office: Office) -> bool:
+    """Returns whether an office has a session."""
     try:
-        return office.instance()
+        office.instance()
     except Refused as refusal:
         if refusal.error != "not-loaded":
             raise
-        return None
-
-
-def faults_of(folder: Folder, instance: Instance) -> list[str]:
-    """Why the office doesn't have the session of the ledger."""
-    ledger = Ledger.opened_at(folder.ledger)
-    try:
-        return faults_of_office(ledger, instance)
-    finally:
-        ledger.close()
+        return False
+    return True
 
 
 def digest_of(files: Mapping[str, bytes]) -> str:
@@ -73,20 +65,19 @@ def set_up(path: pathlib.Path, office: Office, files: Mapping[str, bytes], by: s
     digest, faults, folder = digest_of(files), Faults(), Folder(path)
     if checked not in (None, digest):
         raise Changed
-    instance = session_of(office)
-    if instance and not folder.ledger.exists():
+    is_loaded = has_session(office)
+    if is_loaded and not folder.ledger.exists():
         raise Loaded
     path.mkdir(mode=0o750, exist_ok=True)
     with locked(path), tempfile.TemporaryDirectory() as csv:
         write_into(pathlib.Path(csv), files)
-        faults.lines += faults_of(folder, instance) if instance else []
-        said = Said() if faults.lines else make(
-            folder, pathlib.Path(csv), Wanted([]), by, faults, checked is not None)
+        said = make(folder, pathlib.Path(csv), Wanted([]), by, faults, checked is not None,
+                    office if is_loaded else None)
         found = {"summary": said.lines, "warnings": first_lines(said.warnings, "warnings"),
                  "faults": first_lines(faults.lines, "faults"), "digest": digest}
         if not any(path.iterdir()):
             path.rmdir()
-        if checked is None or faults.lines or instance:
+        if checked is None or faults.lines or is_loaded:
             return found
         session = (path / NOW / "session.exam").read_bytes()
         return {**found, "loaded": json.loads(office.ask("PUT", "/instance", session))}

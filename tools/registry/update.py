@@ -133,8 +133,10 @@ def renumbered(line: str, numbers: dict[int, int]) -> str:
                      for part in line.split(", "))
 
 
-def bring_up_to_date(ledger: Ledger, found: Session, faults: Faults) -> Update:
-    """Takes a further export into the ledger. With a fault nothing may be kept of it."""
+def bring_up_to_date(ledger: Ledger, found: Session, faults: Faults, is_asked: bool = False
+                     ) -> Update:
+    """Takes a further export into the ledger. With a fault nothing may be kept of it. New students
+    get numbers whether or not an office was asked which ones it has."""
     known, update = ledger.session(), Update()
     compare_sessions(known, found, faults)
     if faults.lines:
@@ -144,7 +146,7 @@ def bring_up_to_date(ledger: Ledger, found: Session, faults: Faults) -> Update:
         setattr(found, kind, [renumbered(line, exams) for line in getattr(found, kind)])
     compare_rules(known, found, faults)
     update.titles = update_titles(ledger, known, found)
-    update_people(ledger, found, exams, faults, update)
+    update_people(ledger, found, exams, faults, update, is_asked)
     return update
 
 
@@ -167,7 +169,7 @@ def update_titles(ledger: Ledger, known: Session, found: Session) -> int:
 
 
 def update_people(ledger: Ledger, found: Session, exams: dict[int, int], faults: Faults,
-                  update: Update) -> None:
+                  update: Update, is_asked: bool) -> None:
     """Brings names up to date, gives new students their numbers, and compares the enrolments."""
     people = {student.id: student for student in ledger.students()}
     known = Known({student.id: student.number for student in people.values()})
@@ -184,7 +186,7 @@ def update_people(ledger: Ledger, found: Session, exams: dict[int, int], faults:
     renamed = [(name, student) for text, student in ids.items() if student in people
                and (name := found.names.get(text, "")) and name != people[student].name]
     ledger.db.executemany("UPDATE students SET name = ? WHERE id = ?", renamed)
-    ledger.add_new_students(new)
+    ledger.add_new_students(new, is_asked)
     update.names, update.students, update.mended = len(renamed), len(new), len(known.mended)
     numbers = ledger.numbers()
     wanted = {(numbers[ids[text]], exams[exam]) for text, taken in found.enrolments.items()
