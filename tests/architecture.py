@@ -22,7 +22,6 @@ SQLITE_NAMERS = SQL_CRATES | {
     "office_records", "office_store", "office_desk", "office_http", "office_database",
     "office_program",
     "worked_offices",
-    "worked_desks",
     "worked_runs",
 }
 

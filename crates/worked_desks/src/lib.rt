@@ -1,13 +1,9 @@
-//! Serves connections to an office at its desk, over a database in memory.
+//! Clients of a desk in memory, one after another.
 #![tactic(auto)]
 
 #[cfg(test)]
 mod clients;
 #[cfg(test)]
-mod connections;
+mod desk;
 #[cfg(test)]
 mod sides;
-#[cfg(test)]
-mod sockets;
-#[cfg(test)]
-mod two_offices;

@@ -81,17 +81,6 @@ fn a_failed_device_is_named(rt: HostRuntime) {
 }
 
 #[test]
-fn a_writer_that_fails_is_named(rt: HostRuntime) {
-    let mut broken = Device {
-        interrupted: 0,
-        bytes: None,
-    };
-    let (mut exam, mut solution) = (SMALL_EXAM.as_bytes(), SMALL_SOLUTION.as_bytes());
-    let found = task_run(rt.alloc(), &Report, &mut exam, &mut solution, &mut broken);
-    assert_same(&rt, found, Err(CheckFault::Write), "writer");
-}
-
-#[test]
 fn an_interrupted_read_is_tried_again(rt: HostRuntime) -> Result<(), Fail> {
     for text in [SMALL_EXAM.as_bytes(), SMALL_SOLUTION.as_bytes()] {
         let once = || Device {

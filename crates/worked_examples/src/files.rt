@@ -1,107 +1,20 @@
-// Files read and written, and the fields of a text.
-use crate::given::{ONE_ROOM, assert_same, timetable_of};
+// A timetable that isn't written, and the fields of a text.
+use crate::given::assert_same;
+use exam_model::Timetable;
 use exam_terms::{are_digits, trim_end, trim_start, trimmed_text};
-use office_files::{
-    FaultKind, FileFault, Tokens, number, read_instance, read_solution, same_word, write_instance,
-    write_solution,
-};
+use office_files::{FaultKind, FileFault, Tokens, number, same_word, write_solution};
 use std::alloc::{AllocError, Global};
 use std::test::Fail;
 
-// The small instance, as written.
-const SMALL: &str = "[Exams:4]\r\n120, 1, 2\r\n90, 2, 3\r\n120, 3\r\n60, 1\r\n\
-    [Periods:4]\r\n15:04:2005, 09:30:00, 120, 0\r\n15:04:2005, 14:00:00, 120, 0\r\n\
-    15:04:2005, 17:00:00, 90, 10\r\n18:04:2005, 09:30:00, 120, 5\r\n[Rooms:2]\r\n3, 0\r\n\
-    2, 7\r\n[PeriodHardConstraints]\r\n1, AFTER, 0\r\n[RoomHardConstraints]\r\n\
-    [InstitutionalWeightings]\r\nTWOINAROW,7\r\nTWOINADAY,5\r\nPERIODSPREAD,3\r\n\
-    NONMIXEDDURATIONS,10\r\nFRONTLOAD,1,2,4\r\n";
-
-#[test]
-fn crlf_and_canonical_text(rt: HostRuntime) -> Result<(), Fail> {
-    let alloc = rt.alloc();
-    let plain = SMALL.replace(alloc, "\r\n", "\n")?;
-    let (instance, enrolments) = read_instance(alloc, plain.as_bytes())?;
-    let text = write_instance(alloc, &instance, &enrolments)?;
-    assert_same(&rt, text.as_slice(), SMALL.as_bytes(), "instance");
-    let timetable = read_solution(alloc, b"0, 0\n1, 0\n3, 1\n3, 1", &instance)?;
-    let text = write_solution(alloc, &timetable)?;
-    let wanted = b"0, 0\r\n1, 0\r\n3, 1\r\n3, 1\r\n";
-    assert_same(&rt, text.as_slice(), wanted.as_slice(), "solution");
-    Ok(())
-}
-
-// The small instance with more lines at its end.
-fn longer(alloc: Global, more: &str) -> Result<String, AllocError> {
-    let mut text = String::new(alloc);
-    text.push_str(SMALL)?;
-    text.push_str(more)?;
-    Ok(text)
-}
-
-// Returns a text with more lines of weights, read and written.
-fn rewritten_text(alloc: Global, text: &str) -> Result<Vec<u8>, FileFault> {
-    let (instance, enrolments) = read_instance(alloc, text.as_bytes())?;
-    write_instance(alloc, &instance, &enrolments)
-}
-
-#[test]
-fn a_sixth_weighting_is_of_nights(rt: HostRuntime) -> Result<(), Fail> {
-    // more lines of weights, and the lines written for them
-    let cases = [
-        ("OVERNIGHT,6\r\n", "OVERNIGHT,6\r\n"),
-        ("overnight , 6", "OVERNIGHT,6\r\n"),
-        ("OVERNIGHT,100000\n", "OVERNIGHT,100000\r\n"),
-        ("OVERNIGHT,0\n", ""),
-        ("", ""),
-    ];
-    for (lines, wanted) in cases {
-        let found = rewritten_text(rt.alloc(), longer(rt.alloc(), lines)?.as_str());
-        let wanted = longer(rt.alloc(), wanted)?;
-        assert_same(
-            &rt,
-            found.as_ref().map(Vec::as_slice),
-            Ok(wanted.as_bytes()),
-            lines,
-        );
-    }
-    // the first of the weightings
-    let first = SMALL.replace(rt.alloc(), "TWOINAROW", "OVERNIGHT,6\nTWOINAROW")?;
-    let found = rewritten_text(rt.alloc(), first.as_str());
-    let wanted = longer(rt.alloc(), "OVERNIGHT,6\r\n")?;
-    assert_same(
-        &rt,
-        found.as_ref().map(Vec::as_slice),
-        Ok(wanted.as_bytes()),
-        "first",
-    );
-    Ok(())
-}
-
-#[test]
-fn a_faulty_weighting_of_nights_is_refused(rt: HostRuntime) -> Result<(), Fail> {
-    let cases = [
-        ("OVERNIGHT,6\r\nOVERNIGHT,6\r\n", 24, FaultKind::Repeated),
-        ("OVERNIGHT,100001\r\n", 23, FaultKind::OutOfRange),
-        ("OVERNIGHT\r\n", 23, FaultKind::BadNumber),
-        ("OVERNIGHT,6,7\r\n", 23, FaultKind::StrayText),
-        ("OVERNIGHTS,6\r\n", 23, FaultKind::BadWord),
-    ];
-    for (lines, line, what) in cases {
-        let found = rewritten_text(rt.alloc(), longer(rt.alloc(), lines)?.as_str()).err();
-        assert_same(&rt, found, Some(FileFault { line, what }), lines);
-    }
-    Ok(())
-}
-
 #[test]
 fn a_partial_timetable_is_not_written(rt: HostRuntime) -> Result<(), Fail> {
-    let partial = timetable_of(rt.alloc(), &[ONE_ROOM[0], None, ONE_ROOM[2], ONE_ROOM[3]])?;
+    let unplaced = Timetable::new(rt.alloc(), 4)?;
     let missing = FileFault {
-        line: 2,
+        line: 1,
         what: FaultKind::Incomplete,
     };
-    let refused = write_solution(rt.alloc(), &partial).err();
-    assert_same(&rt, refused, Some(missing), "partial");
+    let refused = write_solution(rt.alloc(), &unplaced).err();
+    assert_same(&rt, refused, Some(missing), "no exam placed");
     Ok(())
 }
 

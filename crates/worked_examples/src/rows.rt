@@ -1,5 +1,5 @@
 // Rows and students in order, and shares made from lists.
-use crate::given::{assert_same, numbers, student};
+use crate::given::{assert_same, student};
 use exam_model::{ExamNo, PeriodNo, RoomNo};
 use exam_publish::{SeatRow, Shares, in_order, is_before, numbers_identify};
 use std::alloc::{AllocError, Global};
@@ -59,14 +59,14 @@ fn shares_of(alloc: Global, front: u64, period: u64) -> Result<Shares, AllocErro
 fn shares_make_a_penalty_below_two_to_the_62(rt: HostRuntime) -> Result<(), Fail> {
     let most = (1u64 << 62) - 1;
     let cases = [
-        (4, 15, Some([0, 0, 0, 0, 0, 4, 15, 0])),
-        (most, 0, Some([0, 0, 0, 0, 0, most, 0, 0])),
+        (4, 15, Some((4, 15))),
+        (most, 0, Some((most, 0))),
         (most, 1, None),
         (u64::MAX, 0, None),
     ];
     for (front, period, wanted) in cases {
         let shares = shares_of(rt.alloc(), front, period)?;
-        let found = shares.parts().map(|parts| numbers(&parts));
+        let found = shares.parts().map(|parts| (parts.front(), parts.period()));
         assert_same(&rt, found, wanted, (front, period));
     }
     Ok(())

@@ -69,7 +69,7 @@ fn connection_after<S: Alter + Drop>(
 }
 
 /// Makes the tables of an office those of version 1.
-pub(crate) fn to_version_1<S: Alter + Drop>(conn: &mut Connection<S>) -> Result<(), Fail> {
+fn to_version_1<S: Alter + Drop>(conn: &mut Connection<S>) -> Result<(), Fail> {
     for sql in [
         "DROP TABLE night_share",
         "DROP TABLE night_draft",

@@ -1,8 +1,6 @@
-//! Worked examples of the office and its tables, over databases in memory.
+//! Offices over files that stop, and two offices that a candidate asks.
 #![tactic(auto)]
 
-#[cfg(test)]
-mod adopting;
 #[cfg(test)]
 mod files;
 #[cfg(test)]
@@ -12,4 +10,4 @@ mod showing;
 #[cfg(test)]
 mod stopping;
 #[cfg(test)]
-mod tables;
+mod two_offices;

@@ -1,16 +1,8 @@
 // Two offices in memory, to which a candidate sends the same request.
+use crate::given::{SMALL, SOLUTION};
 use office_http::{ReplyAndShares, Request, ask_two_offices};
 use std::process::Abort;
 use std::test::Fail;
-
-// Four exams, three periods of one day and one of another, and two rooms.
-const SMALL: &[u8] = b"[Exams:4]\n120, 1, 2\n90, 2, 3\n120, 3\n60, 1\n[Periods:4]\n\
-    15:04:2005, 09:30:00, 120, 0\n15:04:2005, 14:00:00, 120, 0\n15:04:2005, 17:00:00, 90, 10\n\
-    18:04:2005, 09:30:00, 120, 5\n[Rooms:2]\n3, 0\n2, 7\n[PeriodHardConstraints]\n1, AFTER, 0\n\
-    [RoomHardConstraints]\n[InstitutionalWeightings]\nTWOINAROW,7\nTWOINADAY,5\nPERIODSPREAD,3\n\
-    NONMIXEDDURATIONS,10\nFRONTLOAD,1,2,4\n";
-
-const SOLUTION: &[u8] = b"0, 0\n1, 0\n3, 1\n2, 0\n";
 
 // Candidate 2 has exams 0 and 1, two in a row on one day: penalties 7 and 1.
 const PAGE: &[u8] = b"{\"candidate\":2,\"exams\":[\
