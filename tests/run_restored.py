@@ -127,12 +127,13 @@ def older_ledger(run):
             lambda status, said, _: (status, "".join(line for line in said.splitlines(True)
                                                      if " is kept: " not in line)))(
             *it.sent(tonight, "--many")))
-        run.judge("who has which number", {"s1": 1, "s2": 2, "s3": 3, "unknown-4": 4, "y1": 5,
-                                           "x1": 6}, it.numbers())
-        run.judge("whom the office has", [[1, 2, 4, 6], [2, 3], [3], [1, 5]], it.candidates())
+        run.judge("who has which number", {"s1": 1, "s2": 2, "s3": 3, "unknown-4": 4,
+                                           "y1": 10_006, "x1": 10_007}, it.numbers())
+        run.judge("whom the office has", [[1, 2, 4, 10_007], [2, 3], [3], [1, 10_006]],
+                  it.candidates())
         it.agrees("older ledger")
         it.put_ledger_back(copy)
-        run.judge("the second time, adopted by a list", (0, {4, 5, 6}), (
+        run.judge("the second time, adopted by a list", (0, {4, 10_006, 10_007}), (
             it.sent(tonight, "--many", "--adopt")[0],
             {number for one, number in it.numbers().items() if one.startswith("unknown-")}))
         it.agrees("older ledger, the second time")
@@ -190,7 +191,7 @@ def unasked(run):
         run.judge("after batches were sent", (1, "", (
             "no number for 1 new student without --office URL: the office may have numbers that "
             "the ledger doesn't know\n")), it.tool("session_from_csv", csv, it.made))
-        run.judge("with the office", (0, 6), (it.tool(
+        run.judge("with the office", (0, 10_007), (it.tool(
             "session_from_csv", csv, it.made, "--office", it.address)[0], it.numbers()["x1"]))
 
 

@@ -14,8 +14,8 @@ from .session import CODE, STUDENT, Session
 HEADER = b"student,exam,action\n"
 MOST_BATCH, MOST_NUMBER = 1_048_576, 999_999_999
 # Where changes come from: a full list, lines of a registrar, the registry's page, or another way
-# than by these tools.
-FILE, HAND, PAGE, OTHER = "file", "hand", "page", "other"
+# than by these tools. What marks numbers that were given changes nothing.
+FILE, HAND, PAGE, OTHER, MARK = "file", "hand", "page", "other", "mark"
 COLUMNS = (Column("student", STUDENT), Column("exam", ("code", *CODE)),
            Column("name", ("student name", "full name", "candidate name"), False),
            Column("action", ("change", "status", "type"), False))
@@ -86,8 +86,8 @@ def changes_here(ledger: Ledger) -> dict[Pair, Made]:
     """The last change of each enrolment that no full list made."""
     return {(student, exam): Made(*made) for student, exam, *made in ledger.db.execute(
         "SELECT student, exam, action, sent_at, prepared_by, logged FROM changes"
-        " JOIN batches ON batch = number WHERE source <> ? AND turn IS NOT NULL"
-        " ORDER BY turn, place", (FILE,))}
+        " JOIN batches ON batch = number WHERE source NOT IN (?, ?) AND turn IS NOT NULL"
+        " ORDER BY turn, place", (FILE, MARK))}
 
 
 def differences(expected: set[Pair], found: set[Pair]) -> list[Change]:
@@ -108,6 +108,15 @@ def note_changes_of_others(ledger: Ledger, found: set[Pair], made: Made) -> list
         adds = sum(change.action == "add" for change in taken)
         note_effect(ledger, number, Effect(adds, len(taken) - adds, 0, {}), range(len(taken)))
     return numbers
+
+
+def mark_numbers(ledger: Ledger, numbers: Iterable[int], by: str) -> list[int]:
+    """Notes numbers of students without an exam as batches that change nothing; returns these
+    batches' numbers. In the office and the front's log they show that the numbers were given."""
+    batches = prepare(ledger, [Change(number, 0, "drop") for number in numbers], MARK, by)
+    for number in batches:
+        mark_sent(ledger, number, now())
+    return batches
 
 
 # ---- Batches in the ledger
@@ -295,10 +304,13 @@ def changes_in(rows: list[Row], reader: Reader) -> list[tuple[str, int | None, s
         exam = reader.exam(row) if row.get("exam") or action != "new" else None
         if action is None:
             continue
-        if action == "new":
-            if student is not None:
-                row.fault("student", f"{student} is {reader.names[student]} already")
+        if action == "new" and student is None:
             changes.append((reader.add_new(row), exam, "add"))
+        elif action == "new" and student:
+            # A run that was cut off may have entered them already.
+            if reader.names[student] != row.one_line("name"):
+                row.fault("student", f"{student} is {reader.names[student]} already")
+            changes.append((student, exam, "add"))
         elif student is None and row.get("student") not in reader.new:
             reader.fault(row, "student", "student", reader.names)
         else:

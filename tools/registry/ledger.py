@@ -20,6 +20,8 @@ from .versions import NotALedger as NotALedger
 
 NAME = "ledger.db"
 MOST_STUDENT = 999_999_999
+# How many numbers a ledger that is lost may have given since its copy.
+LOST = 10_000
 # What a state is the digest of: who and what each number is, but not who takes which exam. It stays
 # the same when a ledger is brought to another version.
 OF_A_STATE = {"about": "key, iif(key = 'version', '1', value)", "departments": "number, name",
@@ -230,8 +232,15 @@ class Ledger:
     def free_numbers(self) -> Iterator[int]:
         """Numbers that no student was ever given: those above all others, then the gaps."""
         given = {number for number, in self.db.execute("SELECT number FROM students")}
-        yield from range(max(given, default=-1) + 1, MOST_STUDENT + 1)
+        reserved = {number for number, in self.db.execute("SELECT number FROM reserved")}
+        yield from range(max(given | reserved, default=-1) + 1, MOST_STUDENT + 1)
         yield from (number for number in range(MOST_STUDENT + 1) if number not in given)
+
+    def reserve_numbers(self) -> None:
+        """Leaves out the next numbers, which a ledger that is lost may have given."""
+        first = next(self.free_numbers())
+        self.db.execute("INSERT OR IGNORE INTO reserved VALUES (?, ?)",
+                        (min(first + LOST, MOST_STUDENT), now()))
 
     def add_new_students(self, names: dict[str, str], is_asked: bool = True) -> list[Student]:
         """Gives each of these IDs the next free number, and notes if no office was asked which

@@ -9,7 +9,7 @@ from .folder import Folder
 from .ledger import Ledger
 from .logged import Log
 from .made_files import MOST_BYTES, session_file, student_numbers
-from .meeting import Meeting, faults_of_history, look
+from .meeting import Meeting, faults_of_history, look, send_noted
 from .office import Office, Refused
 from .session import count, read_session, summary_of, warnings_of
 from .update import bring_up_to_date
@@ -24,7 +24,7 @@ class Said:
 
 
 def make(folder: Folder, csv: pathlib.Path, wanted: Wanted, by: str, faults: Faults,
-         is_kept: bool = True, office: Office | None = None) -> Said:
+         is_kept: bool = True, office: Office | None = None, log: Log = Log(None)) -> Said:
     """Makes a session, or brings it up to date; only looks if it isn't to be kept. An office is
     asked which numbers it has, if it has a session."""
     if folder.is_old():
@@ -33,7 +33,17 @@ def make(folder: Folder, csv: pathlib.Path, wanted: Wanted, by: str, faults: Fau
         return Said()
     if not folder.ledger.exists():
         return add_first(folder, csv, wanted, by, faults, is_kept)
-    return add_further(folder, csv, wanted, by, faults, is_kept, office)
+    ledger = Ledger.opened_at(folder.ledger)
+    try:
+        faults.lines += folder.faults(ledger)
+        met = met_before(folder, ledger, office, log) if not faults.lines else None
+        faults.lines += met.faults if met else faults_of_history(folder, ledger)
+        said = add_further(csv, wanted, by, faults, ledger, met)
+        if is_kept and not faults.lines:
+            keep_further(folder, ledger, by, met, office)
+    finally:
+        ledger.close()
+    return said
 
 
 def add_first(folder: Folder, csv: pathlib.Path, wanted: Wanted, by: str, faults: Faults,
@@ -65,36 +75,41 @@ def finish_new(folder: Folder, ledger: Ledger, by: str) -> None:
     ledger.close()
 
 
-def add_further(folder: Folder, csv: pathlib.Path, wanted: Wanted, by: str, faults: Faults,
-                is_kept: bool, office: Office | None) -> Said:
-    """Brings a ledger up to date."""
-    ledger = Ledger.opened_at(folder.ledger)
-    faults.lines += folder.faults(ledger)
-    met = met_before(folder, ledger, office) if not faults.lines else None
-    faults.lines += met.faults if met else faults_of_history(folder, ledger)
+def add_further(csv: pathlib.Path, wanted: Wanted, by: str, faults: Faults, ledger: Ledger,
+                met: Meeting | None) -> Said:
+    """Brings a ledger up to date, after it met an office or alone. Nothing is kept yet."""
+    known = {*ledger.numbers().values()}
     session = read_session(csv, wanted, faults, ledger.numbers())
-    update = bring_up_to_date(ledger, session, faults, met is not None) if not faults.lines \
-        else None
-    said = Said()
-    if update and not faults.lines:
+    if faults.lines:
+        return Said()
+    update = bring_up_to_date(ledger, session, faults, met is not None)
+    if not faults.lines:
         faults.lines += met.faults_of_new(update.students) if met else \
             faults_unasked(ledger, update.students)
-    if update and not faults.lines:
-        said = Said([*(met.warnings if met else []), *summary_of(session), *update.lines()],
-                    warnings_of(session))
-        if is_kept:
-            state = ledger.add_state(by)
-            ledger.keep()
-            folder.make_files(ledger, *state)
-    ledger.close()
-    return said
+    if faults.lines:
+        return Said()
+    if met:
+        met.mark(ledger, {*ledger.numbers().values()} - known, by)
+    return Said([*(met.warnings if met else []), *summary_of(session), *update.lines()],
+                warnings_of(session))
 
 
-def met_before(folder: Folder, ledger: Ledger, office: Office | None) -> Meeting | None:
+def keep_further(folder: Folder, ledger: Ledger, by: str, met: Meeting | None,
+                 office: Office | None) -> None:
+    """Keeps a ledger that was brought up to date, and makes its files."""
+    state = ledger.add_state(by)
+    ledger.keep()
+    if met and office:
+        send_noted(ledger, office, met)
+    folder.make_files(ledger, *state)
+
+
+def met_before(folder: Folder, ledger: Ledger, office: Office | None, log: Log
+               ) -> Meeting | None:
     """Returns how a ledger and an office stand to each other; None without an office that has a
     session."""
     try:
-        return look(folder, ledger, office, Log(None)) if office else None
+        return look(folder, ledger, office, log) if office else None
     except Refused as refusal:
         if refusal.error != "not-loaded":
             raise

@@ -8,12 +8,12 @@ import json
 from collections.abc import Iterable
 
 from .changes import (
-    OTHER, Change, Made, changes_of, counts_in, differences, mark_sent, note_changes_of_others,
-    unsent,
+    OTHER, Change, Made, changes_of, counts_in, differences, mark_numbers, mark_sent,
+    note_changes_of_others, unsent,
 )
 from .folder import Folder
 from .history import History
-from .ledger import Ledger, Student, now
+from .ledger import Ledger, Student, now, user
 from .logged import Log, Logged, settle, unknown_batches
 from .office import Office, Pair, Refused, faults_of_enrolments, faults_of_frame
 from .sending import lacking_batches, send_again, send_all
@@ -43,6 +43,11 @@ class Meeting:
     def of_programs(self) -> list[Logged]:
         """Returns the batches that only a newer ledger has."""
         return [one for one in self.unknown if one.is_of_a_program()]
+
+    def mark(self, ledger: Ledger, students: Iterable[int], by: str) -> None:
+        """Notes that these students have their numbers, if the office has no exam of them."""
+        seen = {student for student, _ in self.pairs}
+        self.noted += mark_numbers(ledger, sorted(set(students) - seen), by)
 
     def faults_of_new(self, new: int) -> list[str]:
         """Returns why new students get no numbers."""
@@ -134,11 +139,15 @@ def adopt_numbers(ledger: Ledger, unknown: dict[int, str]) -> list[str]:
             said.append(f"{people[number].id} has the number {other}, not {number}")
         ledger.add_students([Student(number, f"{UNKNOWN}{number}", "")])
         said.append(f"the number {number} is taken over as {UNKNOWN}{number}")
+    ledger.reserve_numbers()
     return said
 
 
-def forget_unasked(ledger: Ledger) -> None:
+def mark_unasked(ledger: Ledger, met: Meeting) -> None:
     """Notes that the office was asked for all numbers."""
+    unasked = {number for number, in ledger.db.execute(
+        "SELECT number FROM students WHERE unasked_since IS NOT NULL")}
+    met.mark(ledger, unasked, user())
     ledger.db.execute("UPDATE students SET unasked_since = NULL WHERE unasked_since IS NOT NULL")
 
 
@@ -242,7 +251,7 @@ def note_differences(ledger: Ledger, met: Meeting, log: Log, is_adopted: bool = 
     settled = [one for one in met.unknown if is_adopted or not one.is_of_a_program()]
     settle(ledger, settled)
     met.unknown = [one for one in met.unknown if one not in settled]
-    forget_unasked(ledger)
+    mark_unasked(ledger, met)
 
 
 def show(folder: Folder, ledger: Ledger, office: Office, log: Log) -> Meeting:

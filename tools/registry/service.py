@@ -31,7 +31,7 @@ from typing import Any
 
 import flask
 
-from .changes import PAGE, Change, add_batch, forget_unsent
+from .changes import MARK, PAGE, Change, add_batch, forget_unsent
 from .csv_tables import Faults, Known, Row, first_lines
 from .folder import Folder, exchange
 from .history import History, Unsteady, difference, places_of
@@ -168,7 +168,8 @@ def new_session() -> tuple[dict[str, Any], int]:
     files = {name: flask.request.files[name].read() for name in FILES
              if name in flask.request.files}
     number = next(question)
-    asked_for[number] = worker.submit(set_up, folder().path, office_of(session()), files, user(),
+    asked_for[number] = worker.submit(set_up, folder().path, office_of(session()),
+                                      log_of(session()), files, user(),
                                       flask.request.form.get("checked"))
     asked_for.pop(number - MOST_ASKED, None)
     return came_of(number)
@@ -264,7 +265,7 @@ def batches() -> dict[str, Any]:
             "SELECT number, source, sent_at, prepared_by, bytes, added, dropped, unchanged, points,"
             " (SELECT count(*) FROM acted WHERE acted.batch = number)"
             " FROM batches LEFT JOIN effects ON effects.batch = number"
-            " WHERE sent_at <> '' ORDER BY turn DESC").fetchall()
+            " WHERE sent_at <> '' AND source <> ? ORDER BY turn DESC", (MARK,)).fetchall()
     return {"batches": [batch_of(*row) for row in rows]}
 
 
@@ -525,6 +526,7 @@ def students() -> tuple[dict[str, Any], int]:
         if met.faults_of_new(len(new)):
             raise Strange(met.faults_of_new(len(new)))
         added = {one.id: one.number for one in ledger.add_new_students(new)}
+        met.mark(ledger, added.values(), user())
         ledger.keep()
         send_noted(ledger, office_of(session()), met)
         if added or met.noted or met.said:

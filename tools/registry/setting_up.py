@@ -14,6 +14,7 @@ from typing import Any
 from .csv_tables import MOST_BYTES, Faults, Wanted, first_lines
 from .folder import NOW, Folder
 from .ledger import locked
+from .logged import Log
 from .making import make
 from .office import Office, Refused
 
@@ -57,7 +58,7 @@ def write_into(folder: pathlib.Path, files: Mapping[str, bytes]) -> None:
         (folder / f"{name}.csv{end}").write_bytes(content)
 
 
-def set_up(path: pathlib.Path, office: Office, files: Mapping[str, bytes], by: str,
+def set_up(path: pathlib.Path, office: Office, log: Log, files: Mapping[str, bytes], by: str,
            checked: str | None) -> dict[str, Any]:
     """What is in the files and what is wrong with them. If they were checked, the ledger is made,
     with its files, and the session is loaded; what a run that was cut off made is taken up. The
@@ -72,7 +73,7 @@ def set_up(path: pathlib.Path, office: Office, files: Mapping[str, bytes], by: s
     with locked(path), tempfile.TemporaryDirectory() as csv:
         write_into(pathlib.Path(csv), files)
         said = make(folder, pathlib.Path(csv), Wanted([]), by, faults, checked is not None,
-                    office if is_loaded else None)
+                    office if is_loaded else None, log)
         found = {"summary": said.lines, "warnings": first_lines(said.warnings, "warnings"),
                  "faults": first_lines(faults.lines, "faults"), "digest": digest}
         if not any(path.iterdir()):

@@ -34,10 +34,11 @@ TABLES = (
     "CREATE TABLE IF NOT EXISTS acted (batch INTEGER NOT NULL REFERENCES batches,"
     " place INTEGER NOT NULL, PRIMARY KEY (batch, place)) WITHOUT ROWID",
     "CREATE TABLE settled (number INTEGER PRIMARY KEY, at TEXT NOT NULL, by TEXT NOT NULL)",
+    "CREATE TABLE reserved (number INTEGER PRIMARY KEY, at TEXT NOT NULL)",
 )
 # What brings a ledger of a version to the next one. The first ledgers had no effects.
 STEPS = {1: (
-    *TABLES[-3:],
+    *TABLES[-4:],
     "ALTER TABLE students ADD COLUMN unasked_since TEXT",
     "ALTER TABLE batches ADD COLUMN turn INTEGER",
     "ALTER TABLE batches ADD COLUMN logged INTEGER",
