@@ -275,8 +275,8 @@ def older_ledger(run, stack):
     told = (stack.service.made / "standing").read_text().splitlines()
     run.judge("what the page and the status say", ([fault], [True, False]), (
         told[:1], [words in told[1] for words in (
-            "the ledger is older than its office, which took batch 201, by the front's log from "
-            "program:registry", "may be")]))
+            "the ledger is older than its office, which took batch 201 and 1 more, by the front's "
+            "log from program:registry", "may be")]))
     run.judge("the same by a page", told, asked(ada, "GET", "about")[1]["standing"])
     newer.rename(ledger)
     browser.until("the newer ledger is noticed", lambda: asked(ada, "GET", "about") == (

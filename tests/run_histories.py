@@ -182,14 +182,17 @@ class World:
 
     def learn(self):
         """Notes who has a number now; returns what is wrong."""
-        for student, number in self.numbers().items():
+        now = self.numbers()
+        if not self.has_log:
+            # What only a lost ledger knew, and no log shows, may be given again.
+            for number, student in [*self.owners.items()]:
+                if number not in self.known_before and now.get(student) != number:
+                    del self.owners[number]
+        for student, number in now.items():
             if student.startswith("unknown-"):
                 continue
             owner = self.owners.setdefault(number, student)
-            if owner != student and not self.has_log and number not in self.known():
-                # Nobody else knows it, and no log says that something is lost.
-                self.owners[number] = student
-            elif owner != student:
+            if owner != student:
                 return f"the number {number} of {owner} is given to {student}"
         known = {}
         for number, student in self.owners.items():
@@ -273,6 +276,7 @@ class World:
         shutil.rmtree(self.made / "states", ignore_errors=True)
 
     newer = None
+    known_before: frozenset[int] = frozenset()
 
     def some_list(self):
         self.change_list()
@@ -381,6 +385,7 @@ def history_fault(seed, program, folder):
             act = world.chance.choice((
                 world.some_list, world.some_list, world.some_batch, world.some_batch,
                 world.some_student, world.publish, world.keep, world.restore, world.restore))
+            world.known_before = frozenset(world.known())
             fault = act() or fault_of_numbers(world)
             if fault:
                 return fault, world.what
@@ -397,6 +402,7 @@ def fault_of_numbers(world):
 def fault_at_the_end(world):
     """After two whole lists the office has exactly the list, and all belongs together."""
     for _ in range(20):
+        world.known_before = frozenset(world.known())
         status, said, faults = world.send_list("--take-all")
         if status == 0:
             break

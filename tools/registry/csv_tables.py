@@ -11,6 +11,8 @@ import unicodedata
 import zlib
 from collections.abc import Iterable, Mapping, Sequence
 
+from .rights import as_caller
+
 MOST_BYTES = 64 * 1024 * 1024
 MOST_NUMBER = 100_000
 MOST_LINES_PRINTED = 50
@@ -169,7 +171,9 @@ def folded(content: bytes) -> tuple[str, str] | int:
 
 def bytes_of(path: pathlib.Path) -> bytes:
     """The content of a file, which may be compressed; an OSError if it has too many bytes."""
-    with path.open("rb") as file:
+    with as_caller():
+        opened = path.open("rb")
+    with opened as file:
         packed = gzip.GzipFile(fileobj=file) if path.suffix == ".gz" else file
         content = packed.read(MOST_BYTES + 1)
     if len(content) > MOST_BYTES:

@@ -8,6 +8,7 @@ from collections.abc import Collection, Iterable, Mapping
 
 from .csv_tables import Column, Faults, Known, Row, Table, Wanted, table_in, without_zeros
 from .dates import dates_of, starts_of
+from .rights import as_caller
 
 STUDENT = ("student id", "student number", "student no", "id", "candidate", "candidate id",
            "candidate number", "candidate no", "matriculation number", "matriculation no")
@@ -97,8 +98,9 @@ def tables_in(folder: pathlib.Path, wanted: Wanted, faults: Faults) -> dict[str,
     for name, columns in COLUMNS.items():
         path = folder / f"{name}.csv"
         packed = path.with_name(f"{path.name}.gz")
-        table = table_in(path if path.exists() or not packed.exists() else packed, path.name,
-                         columns, wanted, faults)
+        with as_caller():
+            is_packed = not path.exists() and packed.exists()
+        table = table_in(packed if is_packed else path, path.name, columns, wanted, faults)
         if name in MOST and not faults.are_of(path.name) and not 1 <= len(table.rows) <= MOST[name]:
             faults.add(path.name, None, None, f"1 to {MOST[name]} lines are expected, not "
                                               f"{len(table.rows)}")
