@@ -46,6 +46,8 @@ HASHES = passlib.context.CryptContext(
     argon2__type="ID", argon2__time_cost=2, argon2__memory_cost=19_456, argon2__parallelism=1)
 # A name that nobody has takes as long as one that somebody has.
 NOBODY = HASHES.hash(secrets.token_hex())
+# A line of `callers`: of a session, of all ("*"), or of the only one.
+CALLER = re.compile(r'^[ \t]*"?(?:(\S+) )?([^\s"#]+)"?[ \t]+([^;\s]+)[ \t]*;', re.M)
 PAGES = {
     None: (200, ""),
     "out": (200, "You have signed out."),
@@ -194,10 +196,13 @@ def text_of(name):
 
 
 def callers():
-    """Each name of `callers` in small letters, with the rest of its line."""
-    lines = (line.split(";")[0].split(None, 1) for line in text_of("callers").splitlines()
-             if line.lstrip()[:1] != "#")
-    return {pair[0].strip('"').lower(): pair[1] for pair in lines if len(pair) == 2}
+    """Each name of `callers` in small letters, with who it is, and in which sessions."""
+    found = collections.defaultdict(list)
+    for session, name, caller in CALLER.findall(text_of("callers")):
+        found[name.lower()].append((session, caller))
+    # A user of one session keeps theirs when its line gets the session's name.
+    return {name: lines[0][1] if len(lines) == 1 else " ".join(sorted(map(" ".join, lines)))
+            for name, lines in found.items()}
 
 
 def programs():

@@ -1,8 +1,8 @@
 #!/usr/bin/env python3
 """limits.py [--write]: the limits of the front, and their table in docs/OPERATING.md.
 
-Compares the table with front/limits, and front/made with what front/spell makes of it; with --write
-writes both.
+Compares the table with front/limits, and front/made with what front/make_limits makes of it; with
+--write writes both.
 """
 import pathlib
 import re
@@ -34,11 +34,11 @@ def table():
 
 
 def made():
-    """What front/spell makes of the limits, by the names of the files."""
+    """What front/make_limits makes of the limits, by the names of the files."""
     with tempfile.TemporaryDirectory() as folder:
         front = pathlib.Path(folder) / "front"
         shutil.copytree(TOP / "front", front)
-        subprocess.run([front / "spell"], check=True)
+        subprocess.run([front / "make_limits"], check=True)
         return {path.name: path.read_text() for path in (front / "made").iterdir()}
 
 

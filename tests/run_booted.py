@@ -214,6 +214,33 @@ def logs(judged, machine):
         begin + "truncate -s 60000000 $log; look systemctl start examoffice-logs"))
 
 
+def refusals(judged, machine):
+    """What is refused is in a journal of its own, whose size is limited; limits are the operator's;
+    bodies under way have a disk of their own."""
+    refused = ("curl -s -u registry:own-word -X POST -H 'Origin: https://elsewhere.example'"
+               " http://127.0.0.1:8123/drafts/1/publish")
+    lines = ("journalctl --namespace=examoffice -o cat"
+             " | grep -c '/drafts/1/publish\",\"status\":403'")
+    judged.judge("a refusal in its journal, and not in the other one", "1\n0", wait(
+        machine, f"{lines} | grep -q 1 || {refused} > /dev/null; {lines}\n"
+        "journalctl -o cat | grep -c elsewhere", "1\n0"))
+    judged.judge("how large it gets", "SystemMaxUse=200M", machine.types(
+        "systemd-analyze cat-config systemd/journald@examoffice.conf | grep SystemMaxUse"))
+    front = "nsenter -m -t $(systemctl show --property=MainPID --value examoffice-front)"
+    judged.judge("the disks of bodies and replies under way", "tmpfs 256M\ntmpfs 512M",
+                 machine.types(f"for it in body proxy; do {front} df --output=fstype,size -h"
+                               " /var/lib/examoffice-front/$it | tail -n 1 | tr -s ' '; done"))
+    made = "grep requests_of_address /var/lib/examoffice-front/made/limits.conf | grep -o 30.r/s"
+    judged.judge("a rate of before, and another one", "301r/s\n302r/s", machine.types(
+        f"{made}\necho ADDRESS_A_SECOND=302 > {FRONT}/limits.local\n"
+        f"systemctl reload examoffice-front; {made}"))
+    words = "make_limits: limits.local: there is no limit REQUEST"
+    judged.judge("a limit that there isn't", words, (
+        machine.types(f"echo REQUEST=1 > {FRONT}/limits.local\n"
+                      "/usr/share/examoffice/front/make_limits 2>&1").strip()))
+    machine.types(f"rm {FRONT}/limits.local; systemctl reload examoffice-front")
+
+
 def removal(judged, machine):
     machine.types("dpkg -r examoffice")
     judged.judge("removed", ["inactive"] * 4, machine.types(
@@ -257,7 +284,8 @@ def main():
         os.chmod(folder, 0o755)
         machine = Machine(made)
         try:
-            for part in (set_up_old, upgrade, registry, backups, logs, removal, anew):
+            for part in (set_up_old, upgrade, refusals, registry, backups, logs, removal,
+                         anew):
                 part(judged, machine)
         finally:
             machine.stop()

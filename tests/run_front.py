@@ -2,11 +2,12 @@
 """run_front.py PROGRAM [--pictures FOLDER] [--whole]: the front and its pages before the office.
 
 A copy of front/ runs on free ports, before an office of the small example. What nginx must refuse
-or drop is sent over raw sockets (front_cases.py); crowds, restarts, guesses and floods come beside
-it (front_queue.py, front_sign_in.py, front_floods.py); then Chromium reads the pages as users would
-(front_pages.py). Each exchange that reached the office must be in docs/openapi.yaml. What needs a
-program or a Debian package that isn't installed is left out, and a line says so. A failing case is
-printed with what was expected and what came, and the last line counts the cases.
+or drop is sent over raw sockets (front_cases.py). Crowds, restarts, guesses, floods and sessions
+that share it come beside (front_queue.py, front_sign_in.py, front_floods.py, front_sessions.py);
+then Chromium reads the pages as users would (front_pages.py). Each exchange that reached the office
+must be in docs/openapi.yaml. What needs a program or a Debian package that isn't installed is left
+out, and a line says so. A failing case is printed with what was expected and what came, and the
+last line counts the cases.
 """
 import argparse
 import concurrent.futures
@@ -34,6 +35,7 @@ import front_floods
 import front_pages
 import front_queue
 import front_registry
+import front_sessions
 import front_sign_in
 import limits as front_limits
 import openapi
@@ -78,6 +80,7 @@ class Front:
             texts = {path: text.replace(old, new) for path, text in texts.items()}
         for path, text in texts.items():
             path.write_text(text)
+        self.spell()
         with (self.folder / "run" / "errors").open("wb") as errors:
             self.process = subprocess.Popen([NGINX, "-p", str(self.folder), "-c", "nginx.conf"],
                                             stdin=subprocess.DEVNULL, stderr=errors)
@@ -123,8 +126,13 @@ class Front:
         return [json.loads(line) for line in
                 (self.folder / "run" / f"{log}.log").read_text().splitlines()]
 
+    def spell(self):
+        """Makes what is made of `callers`, as the package does before a start and a reload."""
+        subprocess.run([self.folder / "spell"], check=True, timeout=SECONDS)
+
     def reload(self):
         """Reads the files again; what it has read answers when this returns."""
+        self.spell()
         self.process.send_signal(signal.SIGHUP)
         old = pathlib.Path(f"/proc/{self.process.pid}/task/{self.process.pid}/children")
         workers = set(old.read_text().split())
@@ -507,7 +515,6 @@ def single_sign_on(run, front):
     run.judge("single sign-on: what nginx asks the agent", 404, told("/-/who", ada)[0])
     with (front.folder / "callers").open("a") as callers:
         callers.write("Eva cand:1;\n~^s(?<number_of>[0-9]+)$ cand:$number_of;\n")
-    subprocess.run([front.folder / "spell"], check=True)
     front.reload()
     for name, user, answer in (
             ("as it is spelled", "Eva", FIRST_VIEW), ("in small letters", "eva", CALLER),
@@ -533,7 +540,13 @@ def single_sign_on(run, front):
 @contextlib.contextmanager
 def several(run, offices):
     """One front before these offices by host name, and a host that lists them."""
-    hosts = "".join(f"{host}.localhost 127.0.0.1:{port};\n" for host, port in offices.items())
+    hosts = "".join(f"{host}.localhost {host}@127.0.0.1:{port};\n"
+                    for host, port in offices.items())
+    folder = run.folder / "several" / "front"
+    shutil.copytree(TOP / "front", folder)
+    callers = (folder / "callers").read_text()
+    (folder / "callers").write_text(callers + "".join(
+        callers.replace('"term ', f'"{host} ') for host in offices))
     front = Front(run.folder / "several", next(iter(offices.values())), (
         *QUICK, ("default 127.0.0.1:", f"exams.localhost list;\n{hosts}default 127.0.0.1:")))
     for host in offices:
@@ -553,7 +566,7 @@ def several_sessions(run, front):
     """Each host has its own office and its own names."""
     for host, path, answer in (
             ("small", "/me", FIRST_VIEW[1]), ("other", "/me", FIRST_VIEW[1]),
-            ("exams", "/me", b'{"error":"unavailable"}'),
+            ("exams", "/me", b'{"error":"caller"}'),
             ("wide", "/me/exam/4", b'{"date":"2005-06-10","exam":4,"period":8,"room":4,"seat":1,'
              b'"start":"09:00:00","state":"seated"}')):
         run.judge(f"{path} of {host}", answer, front.fetch(
@@ -691,7 +704,7 @@ def main():
     words.add_argument("program")
     words.add_argument("--pictures", type=pathlib.Path, help="a folder for pictures of the pages")
     words.add_argument("--no-browser", action="store_true", help="leaves the pages out")
-    words.add_argument("--whole", action="store_true", help="floods of 10,000 questions each")
+    words.add_argument("--whole", action="store_true", help="whole floods and sessions")
     given = words.parse_args()
     # A crowd of clients needs more files than most people's limit, which they may raise.
     most = resource.getrlimit(resource.RLIMIT_NOFILE)[1]
@@ -710,8 +723,9 @@ def main():
             replies = []
             queued = [threading.Thread(target=module.judge, args=(run, Front))
                       for module in (front_queue, front_sign_in, front_registry)]
-            queued.append(threading.Thread(target=front_floods.judge, args=(
-                run, Front, *(front_floods.WHOLE if given.whole else ()))))
+            queued += [threading.Thread(target=module.judge, args=(
+                run, Front, *(module.WHOLE if given.whole else ())))
+                       for module in (front_floods, front_sessions)]
             for thread in queued:
                 thread.start()
             busy = threading.Thread(target=busy_office, args=(run.folder / "busy", replies))

@@ -375,6 +375,10 @@ def older_version(run, folder):
               (made / "now" / "session.exam").read_text())
 
 
+def without_session(lines):
+    return [re.sub('"term (.*)"', r"\1", line) for line in lines]
+
+
 def users(run, folder):
     """The users of a front are made of the ledger; nobody becomes somebody else, passwords stay."""
     made, front, people = folder / "made", folder / "front", folder / "people.csv"
@@ -401,14 +405,14 @@ def users(run, folder):
             ("user,caller\nben,cand:9\n", "ben: the ledger has no student of the number 9\n")):
         run.judge(f"users: {text}", (1, words), took(text))
     run.judge("a new user", (0, ""), took("user,student,password\nben,S2,secret\nada,s1,\n"))
-    run.judge("callers of the ledger", ["ada cand:1;", "ben cand:2;", "registry office;"],
-              lines("callers"))
+    run.judge("callers of the ledger", ['"term ada" cand:1;', '"term ben" cand:2;',
+                                        '"term registry" office;'], lines("callers"))
     hashed = dict(line.split(":", 1) for line in lines("users"))
     run.judge("passwords stay", ("{PLAIN}try-ada", "$5$kept", "$argon2id$", False), (
         hashed["ada"], hashed["registry"], hashed["ben"][:10], (front / "passwords.csv").exists()))
-    run.judge("the ledger's own file", lines("callers"), [
+    run.judge("the ledger's own file", without_session(lines("callers")), [
         line for line in (made / "now" / "callers").read_text().splitlines() if line[0] != "#"])
-    run.judge("a user who is meant to be another", ((0, ""), "ada cand:3;"), (
+    run.judge("a user who is meant to be another", ((0, ""), '"term ada" cand:3;'), (
         took("user,student\nada,s3\n", "--change"), lines("callers")[0]))
     callers = made / "now" / "callers"
     callers.write_text(callers.read_text().replace("cand:2", "cand:1"))
@@ -416,8 +420,9 @@ def users(run, folder):
         tool("--check", made)[0], "callers was changed by hand" in tool("--check", made)[2]))
     callers.unlink()
     (made / "now" / "students.json").unlink()
-    run.judge("a further export keeps them", (0, lines("callers")), (tool(SMALL, made)[0], [
-        line for line in (made / "now" / "callers").read_text().splitlines() if line[0] != "#"]))
+    run.judge("a further export keeps them", (0, without_session(lines("callers"))), (
+        tool(SMALL, made)[0], [line for line in (made / "now" / "callers").read_text().splitlines()
+                               if line[0] != "#"]))
 
 
 # ---- Names of somebody else

@@ -163,9 +163,11 @@ def of_the_package(judged, folder):
 
 def of_the_front(judged, root):
     front = root / "usr/share/examoffice/front"
-    names = "callers", "labels", "local.conf", "programs", "sessions.conf", "users"
+    names = ("callers", "labels", "limits.local", "local.conf", "programs", "sessions.conf",
+             "users")
     judged.judge("what an operator changes", {
         "run": "/var/lib/examoffice-front", "sessions": "/var/lib/examoffice-registry",
+        "made": "run/made",
         **{name: f"/etc/examoffice/front/{name}" for name in names}},
         {it.name: os.readlink(it) for it in front.iterdir() if it.is_symlink()})
     judged.judge("all pages", sorted(it.name for it in (TOP / "front" / "page").iterdir()),

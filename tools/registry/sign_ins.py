@@ -2,28 +2,10 @@
 from __future__ import annotations
 
 import pathlib
-import re
 from collections.abc import Iterable, Mapping
 
 from .csv_tables import Faults
 from .ledger import Ledger
-
-LINE = re.compile(r"([A-Za-z0-9][A-Za-z0-9._@+-]*)\s+(office|dept:[0-9]{1,3}|cand:[0-9]{1,9});")
-
-
-def callers_in(path: pathlib.Path, faults: Faults) -> list[tuple[str, str]]:
-    """The users of a front's file `callers`, each with who that is to the office."""
-    found = []
-    lines = path.read_text(encoding="utf-8").splitlines() if path.exists() else []
-    for number, line in enumerate(lines, 1):
-        line = line.partition("#")[0].strip()
-        match = LINE.fullmatch(line)
-        if match:
-            found.append((match[1], match[2]))
-        elif line:
-            faults.add(path.name, number, None,
-                       f"{line!r} is no line with one user; a ledger has no patterns")
-    return found
 
 
 def add_users(ledger: Ledger, people: Iterable[tuple[str, str]], may_change: bool, faults: Faults
