@@ -17,7 +17,7 @@ TOP = pathlib.Path(__file__).resolve().parent.parent
 # How often each question is asked, and what a flood may write in ten seconds: a megabyte a minute.
 COUNT, MOST_BYTES = 600, 1_000_000 // 6
 # The same once as a whole, and how many slow bodies then.
-WHOLE = 10_000, 10_000
+WHOLE = 3_000, 10_000
 MOST_PIPELINED, BODIES, SECONDS = 300, 300, 60
 # What slow bodies may hold, how long those are that are long, and how much of each is sent.
 MOST_HELD, LARGE, SENT = 50_000_000, 4_000_000, 400_000
@@ -36,13 +36,16 @@ ROWS = [
     (("GET", "/sign-in.html"), "= /sign-in.html", ({404}, {404}, {404}, {404})),
     (("GET", "/signed-out.html"), "= /signed-out.html", ({200}, {200}, {200}, {200})),
     (("GET", "/labels/labels.json"),
-     r"~ ^/labels/(?<file>labels|sessions)\.json$ | @labels | @no_labels",
+     r"~ ^/labels/(?<file>labels|sessions)\.json$ | @labels | @labels_without | @labels_of_front"
+     " | @no_labels | @unreadable",
      ({401}, {200, 429}, {200, 429}, {200, 429})),
-    (("GET", "/labels/students.json"), "= /labels/students.json | @students | @no_students",
+    (("GET", "/labels/students.json"), "= /labels/students.json | @students | @students_without"
+     " | @students_of_front",
      ({401}, {403, 429}, {403, 429}, {403, 429})),
-    (("GET", "/labels/name.json"), "= /labels/name.json | @name",
+    (("GET", "/labels/name.json"), "= /labels/name.json | @name | @name_without | @name_of_front",
      ({401}, {200, 429}, {200, 429}, {200, 429})),
-    (("GET", "/labels/sizes.json"), r"~ ^/labels/(?<file>sizes|published)\.json$ | @sizes",
+    (("GET", "/labels/sizes.json"), r"~ ^/labels/(?<file>sizes|published)\.json$ | @sizes"
+     " | @sizes_without | @sizes_of_front",
      ({401}, {200, 429}, {200, 429}, {200, 429})),
     (("GET", "/-/user"), "= /-/user | @user | @user_is",
      ({401}, {200, 429}, {200, 429}, {200, 429})),

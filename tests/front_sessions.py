@@ -155,6 +155,39 @@ def old_lines(run, both):
     run.judge("users of both sessions, and the registry", 2 * both.count + 1, len(users))
 
 
+def unreadable_names(run, both):
+    """A session with a ledger has its names, or an error that says which file can't be read; never
+    those of labels/, which has the small example's."""
+    if os.geteuid():
+        print("front: names that can't be read are left out without root")
+        return
+    session, user, now = SESSIONS[0], f"{SESSIONS[0]}1", both.ledgers / SESSIONS[0] / "now"
+    paths = {"labels": ("labels.json", user), "students": ("students.json", "registry"),
+             "name": ("names/1.json", user), "sizes": ("sizes.json", "registry")}
+    for name, path in (("a file", None), ("the folder of files", now.resolve()),
+                       ("the session's folder", both.ledgers / session)):
+        for kind, (file, asks) in paths.items():
+            closed = path or now / file
+            before = closed.stat().st_mode
+            closed.chmod(0o600 if closed.is_file() else 0o700)
+            shutil.chown(closed, group="root")
+            run.judge(f"{kind}, if nginx can't read {name}", (503, (
+                b'{"error":"unreadable","file":"sessions/%s/now/%s.json"}'
+                % (session.encode(), kind.encode()))),
+                both.ask(asks, session, f"/labels/{kind}.json"))
+            shutil.chown(closed, group="www-data")
+            closed.chmod(before)
+            run.judge(f"{kind}, if it can again", 200,
+                      both.ask(asks, session, f"/labels/{kind}.json")[0])
+    run.judge("a file that wasn't made yet", (200, b"null"),
+              both.ask("registry", session, "/labels/published.json"))
+    run.judge("a list of sessions, which no ledger has", (200, b"null"),
+              both.ask(user, session, "/labels/sessions.json"))
+    (now / "names" / "1.json").unlink()
+    run.judge("who has no name in the ledger", (200, b"null"),
+              both.ask(user, session, "/labels/name.json"))
+
+
 def judge(of_front, make_front, count=PEOPLE):
     """All of it; `make_front` makes a front in a folder before an office at an address."""
     if front_sign_in.missing():
@@ -164,6 +197,7 @@ def judge(of_front, make_front, count=PEOPLE):
     try:
         isolation(run, both)
         old_lines(run, both)
+        unreadable_names(run, both)
     finally:
         both.begun.close()
     of_front.count, of_front.failed = of_front.count + run.count, of_front.failed + run.failed

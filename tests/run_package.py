@@ -96,6 +96,7 @@ def says_status(judged, folder, program):
                          (came, "warning: only 9 % of" in said, "nothing is published" in said))
         office.shutdown()
     says_age_of_copies(judged, folder, program)
+    says_unreadable_names(judged, folder, program)
     judged.judge("no office on a port", 1, ran(program, port)[0])
     judged.judge("no port", 2, ran(program, "--port")[0])
 
@@ -124,6 +125,25 @@ def says_age_of_copies(judged, folder, program):
         judged.judge(case, (age is not None, warns),
                      (f"newest copy: term-20270514T133000Z.db, {age}\n" in said,
                       "changed 20 minutes ago, and there is no copy since" in said))
+
+
+def says_unreadable_names(judged, folder, program):
+    """What examoffice-status says if nginx's user can't read the names of a ledger."""
+    if os.geteuid():
+        print("package: names that can't be read are left out without root")
+        return
+    now = folder / "ledgers" / "term" / "now"
+    (now / "names").mkdir(parents=True)
+    folder.chmod(0o755)
+    for name in ("labels.json", "students.json", "sizes.json"):
+        (now / name).write_text("{}")
+    environment = {**os.environ, "EXAMOFFICE_LEDGERS": str(folder / "ledgers")}
+    for case, mode, expected in (("readable", 0o755, []), ("closed", 0o700, [
+            "labels.json", "students.json", "sizes.json", "names/."])):
+        now.chmod(mode)
+        said = ran(program, "term", env=environment)[1]
+        judged.judge(f"names that are {case}", expected, re.findall(
+            rf"warning: the front can't read {now}/(\S+), so", said))
 
 
 def of_the_package(judged, folder):

@@ -28,6 +28,9 @@ export async function isSealed(text) {
   return [...bytes].map((byte) => byte.toString(16).padStart(2, '0')).join('') === wanted;
 }
 
+// Files of the session's ledger that the server can't read, by their paths here.
+const unreadable = new Map();
+
 /**
  * Reads a file of names: its content, and whether its lines have their digest. Null if there is none,
  * or if it can't be read.
@@ -35,6 +38,8 @@ export async function isSealed(text) {
 export async function readSealed(path) {
   try {
     const reply = await fetch(path, { cache: 'no-cache' });
+    unreadable.delete(path);
+    if (reply.status === 503) noteUnreadable(path, await reply.json());
     if (!reply.ok) return null;
     const text = await reply.text();
     const content = JSON.parse(text);
@@ -42,6 +47,10 @@ export async function readSealed(path) {
   } catch {
     return null;
   }
+}
+
+function noteUnreadable(path, { error, file }) {
+  if (error === 'unreadable') unreadable.set(path, file);
 }
 
 /** Returns the labels, or null if there are none. */
@@ -174,8 +183,11 @@ export function differencesForDepartment(labels, draft) {
 }
 
 function showNote(words) {
-  byId('labels-note').textContent = words;
-  byId('labels-note').hidden = !words;
+  const files = [...unreadable.values()].join(' and ');
+  const missing = files && `The server can't read ${files}, so this page shows numbers. `
+    + 'Ask the person who runs it.';
+  byId('labels-note').textContent = missing || words;
+  byId('labels-note').hidden = !missing && !words;
 }
 
 /** The page uses these names from now on, and shows their texts; returns them. */

@@ -69,6 +69,7 @@ const REFUSALS = {
   ledger: 'This session has no ledger on the server.',
   'files-differ': 'These files aren\'t those that were checked. Check them again.',
   names: 'An ID or a name can\'t be used: it is empty, or has a mark that nobody sees.',
+  unreadable: 'The server cannot read the names of this session. Please tell the person who runs it.',
   unavailable: 'The office cannot answer at the moment. Please try again in a minute.',
 };
 
