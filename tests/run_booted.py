@@ -133,14 +133,23 @@ def who_reaches_it(judged, machine):
     agent = f"{ask} --unix-socket /run/examoffice-agent/agent.sock http://office/-/sign-in"
     registry = (f"{ask} -H 'X-Session: term' --unix-socket /run/examoffice-registry/registry.sock"
                 " http://office/-/registry/about")
-    for user, codes in (("www-data", "200\n000\n200"), ("nobody", "000\n000\n000"),
-                        ("examoffice-agent", "000\n200\n000"),
-                        ("examoffice-registry", "000\n000\n200")):
+    let_in = {"examoffice-front": "200\n000\n200", "examoffice-queue": "200\n200\n000",
+              "examoffice-agent": "000\n200\n000", "examoffice-registry": "000\n000\n200"}
+    accounts = machine.types("cut -d : -f 1 /etc/passwd").split()
+    judged.judge("accounts", ({"www-data", "nobody", *let_in}, True),
+                 ({"www-data", "nobody", *let_in} & {*accounts}, len(accounts) > 15))
+    for user in accounts:
+        if user == "root":
+            continue
+        codes = let_in.get(user, "000\n000\n000")
         become = f"setpriv --reuid={user} --regid=$(id -g {user}) --init-groups"
         judged.judge(f"the queue, the agent and the registry's service, as {user}", codes,
                      machine.types(f"{become} {queue}; echo; {become} {agent}; echo; "
                                    f"{become} {registry}"))
-    for user, file in (("www-data", "front/users"), ("www-data", "front.key"),
+    for user, file in (("examoffice-front", "front/users"), ("examoffice-front", "front.key"),
+                       ("www-data", "front/users"), ("www-data", "front.key"),
+                       ("www-data", "front/labels/students.json"),
+                       ("examoffice-queue", "front/labels/students.json"),
                        ("examoffice-queue", "front/users"), ("examoffice-queue", "front.key"),
                        ("examoffice-registry", "front/users"), ("examoffice-registry", "front.key"),
                        ("examoffice-agent", "front/labels/students.json")):
