@@ -508,6 +508,10 @@ def over_tls(run, make_front):
                    all("; Secure" in text and "; HttpOnly" in text for text in cookies)))
         run.judge("a session over https", '{"caller":"cand:1","sign_out":"/-/sign-out"}',
                   asks(f"https://127.0.0.1:{port}/-/user"))
+        run.judge("versions of TLS", {"1.1": "000", "1.2": "200", "1.3": "200"}, {
+            version: asks("-o", folder / "style", "-w", "%{http_code}", f"--tlsv{version}",
+                          "--tls-max", version, f"https://127.0.0.1:{port}/style.css")
+            for version in ("1.1", "1.2", "1.3")})
         mixed = Client(stack.front)
         mixed.sign_in("ada")
         run.judge("a session of http over https", '{"error":"signed-out"}', asks(

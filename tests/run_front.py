@@ -403,6 +403,18 @@ def styled_pages(run, front):
                   (came, words in page, front.fetch(styles)[0]))
 
 
+def headers(run, front):
+    """What a browser may do with a page, a reply and a refusal."""
+    expected = {
+        "X-Content-Type-Options": "nosniff", "Referrer-Policy": "no-referrer",
+        "Cross-Origin-Opener-Policy": "same-origin", "Cross-Origin-Resource-Policy": "same-origin",
+        "Permissions-Policy": "camera=(), geolocation=(), microphone=(), payment=(), usb=()"}
+    for path, user in (("/", "ada"), ("/me", "ada"), ("/me", None), ("/nothing", "ada"),
+                       ("/style.css", None), ("/labels/labels.json", "ada")):
+        came = front.fetch(path, user)[1]
+        run.judge(f"headers of {path}", expected, {name: came[name] for name in expected})
+
+
 def described_exchanges(run, front, least):
     """Each exchange that reached the office is in docs/openapi.yaml."""
     if openapi.missing():
@@ -616,6 +628,7 @@ def before_the_office(run, front, office):
     front_limits.judge(run)
     who_asks_and_what(run, front)
     styled_pages(run, front)
+    headers(run, front)
     health(run, front, (200, b'{"health":"ok"}'))
     what_passes(run, run.folder)
     waits_for_no_body(run, front)
