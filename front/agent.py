@@ -207,7 +207,8 @@ def callers():
 
 def programs():
     """Each program, and since when its tokens count (tools/token)."""
-    return re.findall(r"^(program:\S+) .*; # \S+ ([0-9]+)$", text_of("programs"), re.M)
+    return re.findall(r'^(?:"\S+ )?(program:[^\s"]+)"? .*; # \S+ ([0-9]+)$', text_of("programs"),
+                      re.M)
 
 
 def note_sessions(lines):

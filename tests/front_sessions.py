@@ -131,7 +131,7 @@ def isolation(run, both):
         ("own view", "own name", "nobody", "no name"), 2 * both.count), dict(came))
     status, page = both.ask(f"{SESSIONS[0]}1", SESSIONS[1], "/", "text/html")
     run.judge("the page for somebody of another session", (400, True),
-              (status, b"another session" in page))
+              (status, b"is not linked to" in page))
     run.judge("who they are there", (200, b'{"caller":"","sign_out":"/-/sign-out"}'),
               both.ask(f"{SESSIONS[0]}1", SESSIONS[1], "/-/user"))
 
@@ -153,6 +153,32 @@ def old_lines(run, both):
               sorted(line for line in lines if line[0] != "#"))
     users = (both.front_folder / "users").read_text().splitlines()
     run.judge("users of both sessions, and the registry", 2 * both.count + 1, len(users))
+
+
+def programs(run, both):
+    """A program's token is of its session; one that is the office is of all."""
+    key = both.front_folder.parent / "front.key"
+    key.write_text(f"FRONT_KEY={both.key}\n")
+    tokens = {}
+    for name, words in (("halls", ["dept:3", "--session", SESSIONS[0]]), ("nightly", ["office"])):
+        tokens[name] = subprocess.run(
+            ["/usr/bin/python3", TOP / "tools" / "token", "--front", both.front_folder, "--key",
+             key, "add", name, *words], check=True, capture_output=True, text=True).stdout.strip()
+    both.front.reload()
+
+    def asks(name, session):
+        question = message(f"{session}.localhost:{both.front.port}", ("GET", "/drafts/1"),
+                           f"Authorization: Bearer {tokens[name]}", None)
+        return both.front.told(question)[0]
+
+    browser.until("the tokens count", lambda: asks("nightly", SESSIONS[0]) == 404
+                  and asks("halls", SESSIONS[0]) == 404)
+    run.judge("tokens of one session, and of all", [(404, 400), (404, 404)], [
+        tuple(asks(name, session) for session in SESSIONS) for name in tokens])
+    made = (both.front_folder / "programs").read_text().splitlines()
+    run.judge("the lines of programs", ['"spring program:halls" dept:3',
+                                        "program:nightly office"],
+              [line.partition(";")[0] for line in made])
 
 
 def unreadable_names(run, both):
@@ -197,6 +223,7 @@ def judge(of_front, make_front, count=PEOPLE):
     try:
         isolation(run, both)
         old_lines(run, both)
+        programs(run, both)
         unreadable_names(run, both)
     finally:
         both.begun.close()

@@ -219,8 +219,7 @@ def other_labels(run, chromium, wide):
 # ---- Errors
 
 REFUSED = [("ada", "registry.html", "This is for the examination office."),
-           ("registry", "candidate.html", "This page is for candidates."),
-           ("nobody", "candidate.html", "Your account is not linked to")]
+           ("registry", "candidate.html", "This page is for candidates.")]
 
 
 def pages_in_error(run, chromium, front, office):
@@ -229,6 +228,11 @@ def pages_in_error(run, chromium, front, office):
     for user, page, words in REFUSED:
         with reading(chromium, front, user, page) as reader:
             run.judge(f"{user} reads {page}", words, reader.text("#error")[:len(words)])
+    host = chromium.new_host()
+    for page in ("not-found.html", "candidate.html"):
+        chromium.go(f"http://nobody:try-nobody@{host}:{front.port}/{page}")
+        run.judge(f"nobody reads {page}", "Your account is not linked to",
+                  chromium.text("main p")[:len("Your account is not linked to")])
     office.killed()
     with reading(chromium, front, "ada") as reader:
         run.judge("no office, on the page", True,

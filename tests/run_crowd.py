@@ -307,7 +307,7 @@ async def attack(university, minutes):
 
 # In place of how users sign in: everybody is this candidate.
 NOBODY_ASKED = """set $user s%d;
-    set $is_exact ""; set $often ""; set $limit_key ""; set $limit_address "";
+    set $is_exact ""; set $often ""; set $counts "";
     set $signed_out /-/signed-out; set $sign_out \"\""""
 
 
