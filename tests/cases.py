@@ -5,6 +5,8 @@ import io
 import os
 import threading
 
+import waiting
+
 LONGEST = 1_200
 # A service of systemd has this, and the program then says more of a fault.
 os.environ.pop("JOURNAL_STREAM", None)
@@ -26,11 +28,16 @@ class Cases:
     """The cases of one test. A failing case is printed with what was expected and what came."""
 
     def __init__(self, about):
-        self.about, self.count, self.failed = about, 0, 0
+        self.about, self.count, self.failed, self.unjudged = about, 0, 0, 0
 
-    def judge(self, name, expected, got):
+    def judge(self, name, expected, got, is_disturbed=False):
+        """Judges a case. If what ran had to wait so long for a processor that its own limits were
+        passed, `is_disturbed`, another outcome isn't judged."""
         self.count += 1
-        if expected != got:
+        if expected != got and is_disturbed:
+            self.unjudged += 1
+            print(f"{self.about}: {name}: not judged, the machine is too busy", flush=True)
+        elif expected != got:
             self.failed += 1
             print(f"{self.about}: {name}", f"  expected {shown(expected)}",
                   f"  got      {shown(got)}",
@@ -53,6 +60,7 @@ class Cases:
                 print(said, end="", flush=True)
                 self.count += cases.count
                 self.failed += cases.failed
+                self.unjudged += cases.unjudged
                 made.append(cases)
         return made
 
@@ -61,7 +69,8 @@ class Cases:
         was run."""
         if broken_threads:
             self.add(1, [f"{len(broken_threads)} threads ended by an exception"])
-        print(f"{self.about}: {self.count} {what}, {self.failed} failed")
+        unjudged = f", {self.unjudged} not judged" if self.unjudged else ""
+        print(f"{self.about}: {self.count} {what}, {self.failed} failed{unjudged}")
         return int(self.failed > 0 or self.count == 0)
 
 
@@ -69,7 +78,10 @@ def run_apart(name, test, begin):
     """Runs one test. Returns what it printed, and its cases."""
     with contextlib.redirect_stdout(io.StringIO()) as said:
         cases = begin(name)
-        test(cases)
+        try:
+            test(cases)
+        finally:
+            waiting.end_all()
     return said.getvalue(), cases
 
 

@@ -2,6 +2,7 @@
 import itertools
 import subprocess
 
+import waiting
 from refusing import (
     COMMANDS, MEMORY, NO_MEMORY, SECONDS, STORE_FAULT, UNAVAILABLE, Office, connection_fault,
     copy_database, filled_log, is_change, read_rows)
@@ -163,7 +164,7 @@ def start(run, state, path, first, step):
             line = process.stdout.readline()
             refused = run.stop_refusing(MEMORY)
             process.kill()
-            _, errors = process.communicate(timeout=SECONDS)
+            _, errors = waiting.communicate(process, SECONDS)
         ending = process.returncode, line, errors
         is_served = line.startswith(b"listening 127.0.0.1:") and ending == (-9, line, b"")
         outcome = "answered" if is_served else REFUSALS.get(ending)

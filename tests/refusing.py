@@ -12,6 +12,7 @@ import subprocess
 from collections import Counter
 
 import run_serve
+import waiting
 from serve_cases import (
     CASES, PENALTY, SHOWN, SMALL, SOLUTION, VIOLATIONS, asked_by, batch, clear, error, message,
     move, place, publish, swap)
@@ -188,8 +189,8 @@ class Run(run_serve.Run):
 
     def ending(self, *words):
         """Runs the program on these words; returns status, standard output and standard error."""
-        done = subprocess.run([self.program, *map(str, words)], stdin=subprocess.DEVNULL,
-                              env=self.env, capture_output=True, timeout=SECONDS, check=False)
+        done = waiting.run([self.program, *map(str, words)], stdin=subprocess.DEVNULL,
+                           env=self.env, capture_output=True, timeout=SECONDS)
         return done.returncode, done.stdout, done.stderr
 
     def record(self, outcome, name, expected, got):
@@ -253,7 +254,7 @@ class Office:
         """Kills the server, or waits for its end if it is over; returns its status, and all that
         standard error got."""
         if is_over:
-            self.server.process.wait(SECONDS)
+            waiting.ended(self.server.process, SECONDS)
         self.server.killed()
         self.errors.seek(0)
         with self.errors:

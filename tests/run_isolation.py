@@ -21,6 +21,7 @@ import time
 from collections import namedtuple
 
 import run_serve
+import waiting
 from serve_cases import (
     asked_by, at, cost, error, forbidden, me, message, publish, reply, shown_exam)
 
@@ -201,14 +202,19 @@ class Client:
             and self.asks(publish()).startswith(b"HTTP/1.1 200 "))
 
     def asks(self, question):
-        """The whole reply. The office leaves a client that says nothing for 5 seconds."""
-        if not self.left or time.monotonic() - self.last > 1:
-            self.ends()
-            self.connection, self.left = self.office.connect(), 90
-        self.left -= 1
-        self.connection.sendall(question)
-        answer, self.last = whole_reply(self.connection), time.monotonic()
-        return answer
+        """The whole reply. The office leaves a client that says nothing for 5 seconds; if this test
+        had to wait that long for a processor, it asks on another connection."""
+        while True:
+            if not self.left or time.monotonic() - self.last > 1:
+                self.ends()
+                self.connection, self.left = self.office.connect(), 90
+                self.last = time.monotonic()
+            self.left -= 1
+            answer = reply_on(self.connection, question)
+            is_late, self.last = time.monotonic() - self.last > 4, time.monotonic()
+            if answer or not is_late:
+                return answer
+            self.left = 0
 
     def hears_others(self, rng):
         for _ in range(rng.randint(0, 4)):
@@ -233,6 +239,15 @@ class Client:
         self.office.killed()
 
 
+def reply_on(connection, question):
+    """The whole reply; nothing if the office has left."""
+    try:
+        connection.sendall(question)
+        return whole_reply(connection)
+    except ConnectionError:
+        return b""
+
+
 def whole_reply(connection):
     head = b""
     while not head.endswith(b"\r\n\r\n"):
@@ -252,8 +267,8 @@ class Run(run_serve.Run):
     def command(self, *words):
         """Returns what it prints; status 3 says that a timetable has a breach. Any other ends the
         test."""
-        ended = subprocess.run([*map(str, words)], stdin=subprocess.DEVNULL, capture_output=True,
-                               timeout=SECONDS, check=False)
+        ended = waiting.run([*map(str, words)], stdin=subprocess.DEVNULL, capture_output=True,
+                            timeout=SECONDS)
         if ended.returncode not in (0, 3):
             raise OSError(f"{words}: status {ended.returncode}, {ended.stderr!r}")
         return ended.stdout

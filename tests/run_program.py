@@ -18,6 +18,7 @@ import tty
 from collections import namedtuple
 
 import debian
+import waiting
 from cases import Cases
 from serve_cases import MANY
 
@@ -33,6 +34,7 @@ VERSION = (TOP / "VERSION").read_text(encoding="utf-8").strip()
 # What the launcher says of a release that wasn't built from these sources.
 OLDER = b"examoffice: the release is older than the sources; --build builds these\n"
 INSTANCE_LIMIT, SOLUTION_LIMIT = 4_194_304, 1_048_576
+# For each case, in calm seconds (waiting.py).
 SECONDS = 60
 PENALTIES = ["two in a row", "two in a day", "period spread", "over night", "mixed durations",
              "front load", "period penalty", "room penalty"]
@@ -777,10 +779,9 @@ def run(program, case, folder):
     if screen:
         tty.setraw(screen[1])
     try:
-        done = subprocess.run([program, *case.words], cwd=folder, stdin=source, stdout=output,
-                              stderr=screen[1] if screen else subprocess.PIPE,
-                              env={**os.environ, **journal},
-                              timeout=SECONDS, check=False)
+        done = waiting.run([program, *case.words], cwd=folder, stdin=source, stdout=output,
+                           stderr=screen[1] if screen else subprocess.PIPE,
+                           env={**os.environ, **journal}, timeout=SECONDS)
         shown = all_shown(screen) if screen else done.stderr
     except subprocess.TimeoutExpired:
         return f"no end after {SECONDS} seconds", b"", b""
@@ -808,8 +809,8 @@ def logs_of_exports(program, folder):
     for name, text in (("note.txt", b"no database\n"), ("long.txt", b"text " * 9000),
                        ("nothing.db", b"")):
         pathlib.Path(folder, name).write_bytes(text)
-        subprocess.run([program, "export", "--db", name], cwd=folder, check=False,
-                       capture_output=True, timeout=SECONDS)
+        waiting.run([program, "export", "--db", name], cwd=folder, capture_output=True,
+                    timeout=SECONDS)
     return sorted(path.name for path in pathlib.Path(folder).glob("[nl]o*-wal"))
 
 

@@ -20,6 +20,7 @@ from collections import Counter, namedtuple
 
 import refused_devices
 import refused_memory
+import waiting
 from openapi import Described, routes
 from refusing import (
     COMMANDS, MEMORY, NO_MEMORY, Office, Run, build, executable, is_change, make_states)
@@ -126,7 +127,10 @@ def run_sweep(program, shared_object, folder, sweep):
     """Runs a sweep in a folder of its own; returns its cases, its failures, and the outcomes."""
     with tempfile.TemporaryDirectory(dir=folder) as own:
         run = Run(program, shared_object, own)
-        sweep.function(run, *sweep.given)
+        try:
+            sweep.function(run, *sweep.given)
+        finally:
+            waiting.end_all()
         return run.count, run.failed, run.outcomes
 
 

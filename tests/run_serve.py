@@ -27,6 +27,7 @@ import time
 import tty
 from collections import namedtuple
 
+import waiting
 from cases import Cases
 from further_cases import ASKED, CANONICAL, FURTHER, shown
 from serve_cases import (
@@ -40,7 +41,7 @@ from serve_cases import (
 sys.path.append(str(pathlib.Path(__file__).resolve().parent.parent / "bench"))
 sessions = importlib.import_module("sessions")
 
-# Beyond this nothing is waited for. Long, because other tests run beside.
+# Beyond this nothing is waited for, in calm seconds (waiting.py).
 SECONDS = 180
 
 
@@ -50,7 +51,7 @@ class Office:
     def __init__(self, program, database, connections=1_000_000, patience=None,
                  stderr=subprocess.PIPE, env=None, port=0):
         more = ["--patience", str(patience)] if patience else []
-        self.process = subprocess.Popen(
+        self.process = waiting.server(
             [program, "serve", "--db", str(database), "--port", str(port),
              "--connections", str(connections), *more],
             stdin=subprocess.DEVNULL, stdout=subprocess.PIPE, stderr=stderr, env=env)
@@ -60,14 +61,14 @@ class Office:
             raise OSError(f"it did not listen: {line!r}, {self.process.communicate()[1]!r}")
         self.port = int(line.rpartition(b":")[2])
 
-    def connect(self, **more):
-        client = socket.create_connection(("127.0.0.1", self.port), SECONDS, **more)
+    def connect(self):
+        client = waiting.Connection(("127.0.0.1", self.port), SECONDS)
         client.setsockopt(socket.IPPROTO_TCP, socket.TCP_NODELAY, 1)
         return client
 
     def ended(self):
         """The status, and what standard error got."""
-        _, stderr = self.process.communicate(timeout=SECONDS)
+        _, stderr = waiting.communicate(self.process, SECONDS)
         return self.process.returncode, stderr
 
     def killed(self):
@@ -142,8 +143,8 @@ class Run(Cases):
         if start and start not in self.loaded:
             source, made = self.folder / "source.exam", self.folder / f"loaded{len(self.loaded)}"
             source.write_bytes(start)
-            subprocess.run([self.program, "load", "--db", str(made), str(source)], check=True,
-                           stdout=subprocess.DEVNULL, timeout=SECONDS)
+            waiting.run([self.program, "load", "--db", str(made), str(source)], check=True,
+                        stdout=subprocess.DEVNULL, timeout=SECONDS)
             self.loaded[start] = made
         path = self.folder / "term.db"
         for file in self.folder.glob("term.db*"):
@@ -178,9 +179,8 @@ def stored_by_hand(run):
         with office.connect() as client:
             came = [asked(client, *pair) for pair in said]
         came.append(office.ended())
-        rows = subprocess.run(["sqlite3", "-newline", " ", str(database), select],
-                              capture_output=True, stdin=subprocess.DEVNULL, timeout=SECONDS,
-                              check=False).stdout
+        rows = waiting.run(["sqlite3", "-newline", " ", str(database), select],
+                           capture_output=True, stdin=subprocess.DEVNULL, timeout=SECONDS).stdout
         run.judge(name, ([answer for _, answer in said], (0, b""), expected),
                   (came[:2], came[2], rows))
 
@@ -201,8 +201,8 @@ def served_again(run, name, first, again, start=SMALL):
 def exported(run, database, **more):
     """Returns how `export` of a file ended: its status, standard output and standard error."""
     streams = {"stdout": subprocess.PIPE, "stderr": subprocess.PIPE, **more}
-    done = subprocess.run([run.program, "export", "--db", str(database)], **streams,
-                          stdin=subprocess.DEVNULL, timeout=SECONDS, check=False)
+    done = waiting.run([run.program, "export", "--db", str(database)], **streams,
+                       stdin=subprocess.DEVNULL, timeout=SECONDS)
     return done.returncode, done.stdout, done.stderr
 
 
@@ -232,18 +232,17 @@ def adopt_after_republication(run):
                   "UPDATE share_part SET mixed = mixed - 1 WHERE kind = 2 AND no = 1"):
         altered = run.folder / "altered.db"
         shutil.copy(database, altered)
-        subprocess.run(["sqlite3", str(altered), share], check=True, timeout=SECONDS)
+        waiting.run(["sqlite3", str(altered), share], check=True, timeout=SECONDS)
         run.judge(f"adopt_after_republication, {share}", no_office, exported(run, altered))
     unloaded = message("GET", "/instance"), error(409, "not-loaded")
     served_again(run, "an office before a load", [unloaded], [unloaded], start=None)
     bare, other = run.folder / "bare.db", run.folder / "note.db"
     bare.write_bytes(b"")
     run.judge("adopt_after_republication, no tables", no_office, exported(run, bare))
-    subprocess.run(["sqlite3", str(other), "CREATE TABLE note (text TEXT)"], check=True,
-                   timeout=SECONDS)
-    done = subprocess.run([run.program, "load", "--db", str(other), str(EXAMPLES / "small.exam")],
-                          capture_output=True, stdin=subprocess.DEVNULL, timeout=SECONDS,
-                          check=False)
+    waiting.run(["sqlite3", str(other), "CREATE TABLE note (text TEXT)"], check=True,
+                timeout=SECONDS)
+    done = waiting.run([run.program, "load", "--db", str(other), str(EXAMPLES / "small.exam")],
+                       capture_output=True, stdin=subprocess.DEVNULL, timeout=SECONDS)
     run.judge("adopt_after_republication, other tables", no_office,
               (done.returncode, done.stdout, done.stderr))
 
@@ -264,7 +263,7 @@ def nights_are_kept(run):
                    "UPDATE night_share SET night = 3 WHERE student > 1"):
         altered = run.folder / "altered.db"
         shutil.copy(database, altered)
-        subprocess.run(["sqlite3", str(altered), change], check=True, timeout=SECONDS)
+        waiting.run(["sqlite3", str(altered), change], check=True, timeout=SECONDS)
         run.judge(f"nights that are kept, {change}", (1, b"", b"examoffice: store fault 9\n"),
                   exported(run, altered))
 
@@ -325,8 +324,8 @@ def rows_that_go(run):
                (clear(2), drafted(200, 20)),
                (message("DELETE", "/drafts/2"), reply(200, '{"draft":2}'))])
     for select, rows in LEFT.items():
-        found = subprocess.run(["sqlite3", "-newline", " ", str(database), select], check=True,
-                               capture_output=True, timeout=SECONDS).stdout
+        found = waiting.run(["sqlite3", "-newline", " ", str(database), select], check=True,
+                            capture_output=True, timeout=SECONDS).stdout
         run.judge(f"rows that go: {select}", rows, found)
 
 
@@ -376,7 +375,7 @@ def most_batches(run):
     database = run.database(SMALL)
     rows = ("WITH RECURSIVE n(no) AS (VALUES (1) UNION ALL SELECT no + 1 FROM n LIMIT 9998)"
             " INSERT INTO batch SELECT no, CAST('student,exam,action' AS BLOB), 0, 0, 0 FROM n")
-    subprocess.run(["sqlite3", str(database), rows], check=True, timeout=SECONDS)
+    waiting.run(["sqlite3", str(database), rows], check=True, timeout=SECONDS)
     exchanged(run, "ten thousand batches", database,
               [(batch(9_999, "1,1,add"), enrolled(9_999, 1, 0, 0)),
                (batch(9_999, "1,1,add"), enrolled(9_999, 1, 0, 0)),
@@ -426,8 +425,8 @@ def most_pairs(run):
     database, newcomer = run.database(PAIRED), "100000,0,add"
 
     def by_sqlite3(words):
-        return subprocess.run(["sqlite3", str(database), words], capture_output=True, check=True,
-                              timeout=SECONDS).stdout
+        return waiting.run(["sqlite3", str(database), words], capture_output=True, check=True,
+                           timeout=SECONDS).stdout
 
     by_sqlite3(PAIRED_DRAFT)
     before = by_sqlite3(".dump")
@@ -459,8 +458,8 @@ def stock_curl(run):
                 ["-d", '{"period":3,"room":1}', f"{drafts}/exams/2/move"]]
     printed = [b'{"draft":1,"penalty":37}', report(7, 5, 3, 0, 0, 15, 7, 37).encode(),
                b'{"draft":1,"penalty":37}']
-    got = [subprocess.run(["curl", "-s", *caller, *words], capture_output=True, timeout=SECONDS,
-                          check=False).stdout for words in commands]
+    got = [waiting.run(["curl", "-s", *caller, *words], capture_output=True, timeout=SECONDS).stdout
+           for words in commands]
     run.judge("curl", (printed, (0, b"")), (got, office.ended()))
 
 
@@ -563,8 +562,7 @@ def port_is_taken(run):
     office = run.office(connections=1)
     words = [run.program, "serve", "--db", str(run.folder / "other.db"), "--port",
              str(office.port), "--connections", "1"]
-    done = subprocess.run(words, stdin=subprocess.DEVNULL, capture_output=True, timeout=SECONDS,
-                          check=False)
+    done = waiting.run(words, stdin=subprocess.DEVNULL, capture_output=True, timeout=SECONDS)
     with office.connect() as client:
         got = asked(client, message("GET", "/drafts/1"), error(404, "draft"))
     run.judge("a port that is taken",
@@ -608,8 +606,8 @@ def locked_database(run):
                 % database.encode())
     for words in (["export", "--db", database],
                   ["load", "--db", database, str(EXAMPLES / "small.exam")]):
-        done = subprocess.run([run.program, *words], stdin=subprocess.DEVNULL, env=journal,
-                              capture_output=True, timeout=SECONDS, check=False)
+        done = waiting.run([run.program, *words], stdin=subprocess.DEVNULL, env=journal,
+                           capture_output=True, timeout=SECONDS)
         run.judge(f"a locked database: {words[0]}", expected,
                   (done.returncode, done.stdout, done.stderr))
     office.killed()
@@ -673,10 +671,10 @@ def waited(run, name, start, slow, patience, fault):
     first.connect(("127.0.0.1", office.port))
     thread = threading.Thread(target=slow, args=(first,), daemon=True)
     thread.start()
-    began = time.monotonic()
+    began = waiting.calm()
     with office.connect() as client:
         got = asked(client, message("GET", "/drafts/1"), error(404, "draft"))
-    is_soon = time.monotonic() - began < 2 * patience + 1
+    is_soon = waiting.calm() - began < 2 * patience + 1
     first.close()
     run.judge(name, (error(404, "draft"), True, (0, b"examoffice: connection fault %d\n" % fault)),
               (got, is_soon, office.ended()))
@@ -711,10 +709,17 @@ def slow_clients(run):
     waited(run, "a client that reads slowly", wide_instance(), read_slowly, 3, 2)
 
 
-def patient_client(run):
-    """Within its limits a client is served for longer than the patience: it waits before it asks,
-    and halfway through its message, and sends its next message after the first half of one."""
-    office, patience = run.office(connections=1, patience=3), 3
+def outcome(act, *given):
+    """What an action returns, or the error if the office has left."""
+    try:
+        return act(*given)
+    except OSError as fault:
+        return fault
+
+
+def asked_slowly(office, patience):
+    """Asks four times, with pauses; the replies, and whether all took longer than three times the
+    patience."""
     question, answer = message("GET", "/drafts/1"), error(404, "draft")
     middle, got, began = len(question) // 2, b"", time.monotonic()
     with office.connect() as client:
@@ -725,8 +730,18 @@ def patient_client(run):
             got += asked(client, question[middle:] + question[:middle], answer)
             time.sleep(0.6 * patience)
             got += asked(client, question[middle:], answer)
-    is_long = time.monotonic() - began > 3 * patience
-    run.judge("a patient client", (answer * 4, True, (0, b"")), (got, is_long, office.ended()))
+    return got, time.monotonic() - began > 3 * patience
+
+
+def patient_client(run):
+    """Within its limits a client is served for longer than the patience: it waits before it asks,
+    and halfway through its message, and sends its next message after the first half of one."""
+    office, patience = run.office(connections=1, patience=3), 3
+    number, before = office.process.pid, waiting.delay()
+    got = outcome(asked_slowly, office, patience)
+    is_late = waiting.delay(number) - before > 0.3 * patience
+    run.judge("a patient client", ((error(404, "draft") * 4, True), (0, b"")),
+              (got, office.ended()), is_late)
 
 
 def kept_alive(office):
@@ -760,13 +775,16 @@ def default_patience(run):
         database = run.folder / f"{name}.db"
         shutil.copy(run.database(SMALL), database)
         offices.append(Office(run.program, database, connections=connections))
+    numbers, before = [office.process.pid for office in offices], waiting.delay()
     with concurrent.futures.ThreadPoolExecutor() as pool:
-        got = [*pool.map(lambda client, office: client(office), (kept_alive, silent), offices)]
+        got = [*pool.map(functools.partial(outcome, lambda client, office: client(office)),
+                         (kept_alive, silent), offices)]
+    is_late = waiting.delay(*numbers) - before > 3
     run.judge("a client that is kept alive past the default patience",
-              ((answer * 3, True), (0, b"")), (got[0], offices[0].ended()))
+              ((answer * 3, True), (0, b"")), (got[0], offices[0].ended()), is_late)
     run.judge("a silent client at the default patience",
               ((b"", True, answer), (0, b"examoffice: connection fault 1\n")),
-              (got[1], offices[1].ended()))
+              (got[1], offices[1].ended()), is_late)
 
 
 # ---- kills
@@ -878,8 +896,8 @@ def killed_amid_batch(run, count):
                enrolled(2, 0, 1, 9_999)]
     for number in range(count):
         database, _ = long_batch(run, kill_after=rng.uniform(0.0, 1.5 * took))
-        counted = subprocess.run(["sqlite3", str(database), "SELECT count(*) FROM enrol"],
-                                 capture_output=True, timeout=SECONDS, check=True).stdout
+        counted = waiting.run(["sqlite3", str(database), "SELECT count(*) FROM enrol"],
+                              capture_output=True, timeout=SECONDS, check=True).stdout
         made += counted == b"10000\n"
         office = Office(run.program, database, connections=1)
         questions = [batch(1, *LONG_BATCH), PENALTY, batch(2, *LONG_BATCH[1:], "0,0,drop")]

@@ -14,6 +14,7 @@ import sys
 import tempfile
 
 import run_serve
+import waiting
 from cases import Cases
 from serve_cases import SHOWN, report
 from serve_cases import text as reply_with
@@ -170,8 +171,7 @@ EMPTY = ("owner", "draft", "slot", "placed", "seat", "share_student", "share_par
 
 def ended(*words):
     """Returns how it ended: its status, standard output and standard error."""
-    done = subprocess.run(words, stdin=subprocess.DEVNULL, capture_output=True, timeout=SECONDS,
-                          check=False)
+    done = waiting.run(words, stdin=subprocess.DEVNULL, capture_output=True, timeout=SECONDS)
     return done.returncode, done.stdout, done.stderr
 
 
