@@ -13,6 +13,7 @@ import tempfile
 import threading
 import time
 
+import waiting
 from cases import Cases
 from run_serve import Office, one_reply
 from serve_cases import EXAMPLES, PENALTY, SOLUTION, message
@@ -36,7 +37,7 @@ def backup(program, *words, path=None):
 
 
 def ended(process):
-    said, faults = process.communicate(timeout=SECONDS)
+    said, faults = waiting.communicate(process, SECONDS)
     return process.returncode, said, faults
 
 
@@ -47,13 +48,13 @@ def asked(office, question):
 
 
 def edits(office, is_over):
-    """Edits a draft all the time; the longest wait for a reply, in seconds."""
+    """Edits a draft all the time; the longest wait for a reply, in calm seconds."""
     longest, period = 0, 0
     while not is_over.is_set():
-        began, period = time.monotonic(), 3 - period
+        began, period = waiting.calm(), 3 - period
         asked(office, message("POST", "/drafts/1/exams/3/move",
                               b'{"period":%d,"room":1}' % period))
-        longest = max(longest, time.monotonic() - began)
+        longest = max(longest, waiting.calm() - began)
     return longest
 
 
@@ -105,7 +106,7 @@ def kills(judged, program, office, database, copies):
             running = backup(program, database, copies, "--wait", "0")
             time.sleep(0.04 + delay * 0.02)
             running.send_signal((*SIGNALS, signal.SIGKILL)[delay % 4])
-            running.communicate(timeout=SECONDS)
+            waiting.communicate(running, SECONDS)
     judged.judge("after signals the office goes on", True, longest.result() < 5)
     judged.judge("after signals a copy is made", 0, ended(backup(program, database, copies))[0])
     judged.judge("what they left is deleted", [], list(copies.glob(".copying.*")))
@@ -155,8 +156,8 @@ def main():
     with tempfile.TemporaryDirectory(prefix="a blank ") as folder:
         folder = pathlib.Path(folder)
         database = folder / "term.db"
-        subprocess.run([program, "load", "--db", database, EXAMPLES / "small.exam"], check=True,
-                       stdout=subprocess.DEVNULL, timeout=SECONDS)
+        waiting.run([program, "load", "--db", database, EXAMPLES / "small.exam"], check=True,
+                    stdout=subprocess.DEVNULL, timeout=SECONDS)
         with reader_of(database) as reader:
             office = Office(program, database)
             try:

@@ -16,6 +16,7 @@ import sys
 import tempfile
 
 import run_changes
+import waiting
 from run_serve import Office, Run
 from tools_path import TOP
 from registry.history import History, keep, publication_of
@@ -43,8 +44,8 @@ class Session(run_changes.Session):
             return
         self.run, self.folder = run, csv.parent
         self.made = self.folder / "made"
-        subprocess.run([TOP / "tools" / "session_from_csv", csv, self.made], check=True,
-                       stdout=subprocess.DEVNULL, stderr=subprocess.DEVNULL, timeout=SECONDS)
+        waiting.run([TOP / "tools" / "session_from_csv", csv, self.made], check=True,
+                    stdout=subprocess.DEVNULL, stderr=subprocess.DEVNULL, timeout=SECONDS)
         subprocess.run([run.program, "load", "--db", self.folder / "office.db",
                         self.made / "now" / "session.exam"], check=True, stdout=subprocess.DEVNULL)
         self.office = Office(run.program, self.folder / "office.db")
@@ -62,14 +63,14 @@ class Session(run_changes.Session):
 
     def lists(self, *more, made=None, **environment):
         """The status, what was said, and the faults."""
-        ended = subprocess.run(
+        ended = waiting.run(
             [PYTHON, TOOL, made or self.made, self.folder / "out", "--office", self.address, *more],
             capture_output=True, text=True, timeout=SECONDS, env={**os.environ, **environment})
         return ended.returncode, ended.stdout, ended.stderr
 
     def text(self, kind, option):
         """The text of a list, without marks of direction."""
-        return MARKS.sub("", subprocess.run(
+        return MARKS.sub("", waiting.run(
             ["pdftotext", option, self.folder / "out" / FILES[kind], "-"], check=True,
             capture_output=True, timeout=SECONDS).stdout.decode())
 
@@ -322,8 +323,8 @@ def words_on_labels(it, kind, grids):
 def letters_without_font(run, it):
     (it.folder / "csv" / "enrolments.csv").write_text(
         'student,name,exam\nb1,"Zoë \U0010fffd",ONE\n')
-    subprocess.run([TOP / "tools" / "session_from_csv", it.folder / "csv", it.made], check=True,
-                   capture_output=True, timeout=SECONDS)
+    waiting.run([TOP / "tools" / "session_from_csv", it.folder / "csv", it.made], check=True,
+                capture_output=True, timeout=SECONDS)
     run.judge("a letter that no font has", (
         0, "warning: no font of this machine has all letters of 'Zoë \\U0010fffd'\n"),
         it.lists("--kind", "door")[::2])

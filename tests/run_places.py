@@ -16,6 +16,7 @@ import subprocess
 import sys
 import tempfile
 
+import waiting
 from cases import Cases
 from run_serve import SECONDS, Office
 from tools_path import TOP
@@ -76,7 +77,7 @@ class Drafts:
 def listed(program, folder, solution, exam):
     """The text of an exam's places, as the command prints it."""
     (folder / "listed.sol").write_text(solution)
-    ended = subprocess.run(
+    ended = waiting.run(
         [program, "places", EXAMPLES / "small.exam", folder / "listed.sol", str(exam)],
         capture_output=True, text=True, check=True, timeout=SECONDS)
     return ended.stdout

@@ -13,11 +13,11 @@ import json
 import pathlib
 import re
 import shutil
-import subprocess
 import sys
 import tempfile
 
 import plain_session
+import waiting
 from cases import Cases
 
 TOP = pathlib.Path(__file__).resolve().parent.parent
@@ -129,7 +129,7 @@ class Run(Cases):
         which says when it was made, only the sizes."""
         out = self.folder / "out"
         shutil.rmtree(out, ignore_errors=True)
-        ended = subprocess.run([TOOL, source, out, *more], capture_output=True, timeout=180)
+        ended = waiting.run([TOOL, source, out, *more], capture_output=True, timeout=180)
         files = {path.name: path.read_bytes() for path in out.glob("now/*.*")}
         if ended.returncode:
             files = {path.name: path.read_bytes() for path in out.rglob("*") if path.is_file()}
@@ -198,7 +198,7 @@ def examples(run, program):
             folder, lambda student: int(student.lstrip("s"))))
     run.judge("the university's session", True,
               (UNIVERSITY / "session.exam").read_bytes() == files["session.exam"])
-    ended = subprocess.run(
+    ended = waiting.run(
         [program, "check", UNIVERSITY / "session.exam", UNIVERSITY / "timetable.sol"],
         capture_output=True, timeout=180)
     run.judge("its timetable", (0, b"breaches 0"), (ended.returncode, ended.stdout.splitlines()[0]))
