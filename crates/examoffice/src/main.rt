@@ -2,7 +2,7 @@
 //! of the International Timetabling Competition 2007, and loads, serves and exports an office.
 #![tactic(auto)]
 
-use office_program::{refuse_arguments, run_program, words_of};
+use office_program::{refuse_arguments, run_words, system_machine, words_of};
 use std::fs::File;
 use std::os::fd::AsRawFd;
 use std::process::ExitCode;
@@ -10,14 +10,13 @@ use std::{env, fs};
 
 fn main(rt: HostRuntime) -> ExitCode {
     let _standard = (fill(&rt), fill(&rt), fill(&rt));
-    let mut err = rt.stderr();
     let words = match env::args(&rt) {
         Ok(args) => words_of(rt.alloc(), args),
         Err(fault) => Err(fault),
     };
     let ending = match words {
-        Ok(words) => run_program(&rt, &words, &mut rt.stdout(), &mut err),
-        Err(fault) => refuse_arguments(&fault, &mut err),
+        Ok(words) => run_words(&mut system_machine(&rt), &words),
+        Err(fault) => refuse_arguments(&fault, &mut rt.stderr()),
     };
     ExitCode::from(ending.status)
 }

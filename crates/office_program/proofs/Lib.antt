@@ -1,10 +1,11 @@
 pub mod LoadFacts
 pub mod NumberLemmas
 mod ServeFacts
-mod EndingFacts
+mod ShelfFacts
 pub mod WordFacts
 mod SourceFacts
 mod CompareSources
 mod CheckAllFacts
 mod DatabaseFacts
+mod ForeignFacts
 pub mod NoticeFacts

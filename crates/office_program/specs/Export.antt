@@ -7,6 +7,7 @@ use Rattle.exam_model.specs.Timetable.{Placing, place_of}
 use Rattle.office_files.specs.CanonicalSolution.{canonical_solution}
 use Rattle.office_model.specs.Office.{OfficeState, Publication}
 use Rattle.office_model.specs.Step.{publication_in}
+use Rattle.office_model.specs.declared.fault.StoreFault.{StoreFault}
 use Rattle.office_model.specs.declared.fault.StoreFault.TheVariants as store
 use Rattle.office_store.specs.Running.{Represents}
 use Rattle.office_program.specs.declared.exporting.ExportFault.{ExportFault}
@@ -32,6 +33,11 @@ RefusesExport office (fault.Store f) = f ≡ store.Store
 RefusesExport office fault.NoPublication = published_solution office ≡ None
 RefusesExport office fault.NoMemory = Unit {0}
 RefusesExport office fault.Write = (text : List ℕ) × (published_solution office ≡ Some text)
+
+-- a fact about the fault of the office's file, unless the office was read
+abbrev pub IfRead : ExportFault → (StoreFault → Type 0) → Type 0
+IfRead (fault.Store f) P = P f
+IfRead of P = Unit {0}
 
 -- a part of an export ended so: done, or refused; the database still represents the office
 pub record ExportRan {A : Type 0} (Done : A → Type 0) (office : OfficeState) (after : State)

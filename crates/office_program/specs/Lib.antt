@@ -13,7 +13,8 @@ pub mod LongWork
 pub mod Surroundings
 pub mod Causes
 pub mod Tasks
-pub mod Endings
+pub mod World
+pub mod Runs
 pub mod CheckAllLine
 pub mod CheckAll
 pub mod PlacesLine
@@ -22,4 +23,5 @@ pub mod Sources
 pub mod Folders
 pub mod Mistakes
 pub mod Databases
+pub mod Foreign
 pub mod Shelves

@@ -13,6 +13,7 @@ use Rattle.office_tables.specs.Alterations.{found_in}
 use Rattle.office_tables.specs.Schema.{no_schema}
 use Rattle.office_model.specs.Office.{OfficeState}
 use Rattle.office_model.specs.Loading.{NamesFirstFault, SpellsSession, load_session, new_records}
+use Rattle.office_model.specs.declared.fault.StoreFault.{StoreFault}
 use Rattle.office_model.specs.declared.fault.StoreFault.TheVariants as store
 use Rattle.office_records.specs.Representation.{RepresentsOffice}
 use Rattle.office_store.specs.Opening.{DatabaseUpgraded}
@@ -56,6 +57,11 @@ RefusesLoad text office after Write = (counts : Loaded) × IsLoaded text office 
 abbrev pub IfRefused : Type 0 → LoadFault → Type 0
 IfRefused Then (Store fault) = Then
 IfRefused Then Write = Unit {0}
+
+-- a fact about the office's fault, unless the load is done and only its line isn't written
+abbrev pub IfStored : LoadFault → (StoreFault → Type 0) → Type 0
+IfStored (Store fault) P = P fault
+IfStored Write P = Unit {0}
 
 -- a load into an office ended so: the text is loaded and the line printed, or it was refused, and
 -- the database still represents the office

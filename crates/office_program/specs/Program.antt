@@ -1,6 +1,6 @@
 -- The program with its commands, the task of its words, and the answer to them.
-use Rattle.std.specs.Prelude.{◌≡◌, ◌≢◌, ◌⊎◌, [], List, Option, Some, codes, true}
-use Rattle.clap.specs.Words.{AddsSubcommand, App, IsAmong, Kinds, Row, Shape, Text, app_of}
+use Rattle.std.specs.Prelude.{◌≡◌, ◌≢◌, List, Option, Some, codes, true}
+use Rattle.clap.specs.Words.{AddsSubcommand, App, Kinds, Row, Shape, Text, app_of}
 use Rattle.clap.specs.Words.{new_app, subcommand_of, with_subcommand}
 use Rattle.clap.specs.Faults.{fault_of}
 use Rattle.clap.specs.Kinds.{or_else}
@@ -81,9 +81,3 @@ fault_of_words words =
 -- an error of clap is a mistake in the words, neither a call for help nor out of memory
 abbrev pub IsMistake : ErrorKind → Type 0
 IsMistake k = (k ≢ kind.OutOfMemory) × (k ≢ kind.DisplayHelp) × (k ≢ kind.DisplayVersion)
-
--- the words are a command, or ask for help
-abbrev pub AreAnswered : List Text → Type 0
-AreAnswered words = (fault_of_words words ≡ [])
-    ⊎ (IsAmong kind.DisplayHelp (fault_of_words words)
-    ⊎ IsAmong kind.DisplayVersion (fault_of_words words))

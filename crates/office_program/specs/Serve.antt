@@ -23,7 +23,7 @@ use Rattle.office_program.specs.declared.ending.Ending.{Ending}
 use Rattle.office_program.specs.declared.words.Terms.{Terms}
 use Rattle.office_store.specs.Opening.{IsOfficeOf}
 use Rattle.office_store.specs.Leaving.{LeavesAsItWas}
-use Rattle.office_store.specs.Running.{IsCommitted}
+use Rattle.office_store.specs.Running.{IsCommitted, Represents}
 use Rattle.office_store.specs.Shut.{IsShut}
 
 -- ---- whether a store is closed
@@ -63,15 +63,16 @@ pub record OfficeServes {S : Type 0} (store : Ghosts S) (old new : Held S) (visi
   pub answered : ServesVisits (Answered store) visits old new
   pub leads : LeadsOffice store (ServesAllByView visits) old new
 
--- assuming the disk returns what was written, and the database had nothing uncommitted: the office
--- found in it served these connections, each candidate got the text of their view, and the database
--- represents the office that they led to, while it is open
+-- assuming the disk returns what was written: the office found in the database served these
+-- connections, each candidate got the text of their view, and the database represents the office
+-- that they led to, in version 2, while it is open; or nobody was served, and the database is as it
+-- was, if nothing in it was uncommitted
 abbrev pub FileServes : {S : Type 0} → Ghosts S → Held S → Held S → List Visit → Type 0
 FileServes store old new visits = HasCleanDisk (state store new)
-    → ((state store old).now ≡ (state store old).committed)
     → (there : OfficeState) → IsOfficeOf (state store old).now there
-    → (next : OfficeState) × ServesAllByView visits there next
-    × (IsTrue (state store new).is_open → IsOfficeOf (state store new).now next)
+    → ((next : OfficeState) × ServesAllByView visits there next × Represents (state store new) next)
+    ⊎ ((visits ≡ []) × ((state store old).now ≡ (state store old).committed
+    → IsTrue (state store new).is_open → (state store new).now ≡ (state store old).now))
 
 module _ {N I R W : Type 0} (opens : N → Option I → N → Type 0) (closes : N → I → N → Type 0)
     (accepts : I → Option (R × W) → I → Type 0) (takes_back : I → W → I → Type 0)
@@ -91,6 +92,14 @@ module _ {N I R W : Type 0} (opens : N → Option I → N → Type 0) (closes : 
   abbrev pub AreOfPort : Bool → List Visit → Type 0
   AreOfPort false visits = ((visits ≡ []) × (new ≡ old)) ⊎ CameTo false visits
   AreOfPort true visits = (opens old None new × (visits ≡ [])) ⊎ CameTo true visits
+
+-- the connections are those of the clients of this port of the machine
+abbrev pub AreOfPorts : {N I R W : Type 0} → (opens : N → ℕ → Option I → N → Type 0)
+    → (closes : N → I → N → Type 0) → (accepts : I → Option (R × W) → I → Type 0)
+    → (takes_back : I → W → I → Type 0) → (remaining : R → Option (List ℕ))
+    → (contents : W → Option (List ℕ)) → (old new : N) → ℕ → Bool → List Visit → Type 0
+AreOfPorts opens closes accepts takes_back remaining contents old new port =
+    AreOfPort (λ before. opens before port) closes accepts takes_back remaining contents old new
 
 -- as many clients were served as the terms say; or no client was, because of another fault than of
 -- listening; or fewer were, because listening or an accept failed; or the store is closed after the

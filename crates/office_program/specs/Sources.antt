@@ -1,5 +1,5 @@
 -- What the paths in the words name, and what is known of it.
-use Rattle.std.specs.Prelude.{◌≡◌, Bool, List, None, Option, Some, codes, count_by, if◌then◌else◌, nat_lt, option_map, ℕ}
+use Rattle.std.specs.Prelude.{◌≡◌, Bool, List, None, Option, Some, codes, count_by, false, if◌then◌else◌, nat_lt, option_map, ℕ}
 use Rattle.std.specs.Str.{bytes_eq}
 use Rattle.exam_model.specs.Enrolments.{Enrolled}
 use Rattle.exam_model.specs.Instance.{Session}
@@ -9,6 +9,10 @@ use Rattle.office_check.specs.Check.{OfTexts}
 -- the path means standard input
 abbrev pub is_stdin : List ℕ → Bool
 is_stdin path = bytes_eq path (codes "-")
+
+-- the path doesn't mean standard input
+abbrev pub IsFile : List ℕ → Type 0
+IsFile path = is_stdin path ≡ false
 
 -- what is known of the file of a path: nothing; that it can't be opened; or its bytes
 abbrev pub Known : Type 0

@@ -2,10 +2,9 @@
 ghost use Rattle.std.specs.Prelude.{◌≡◌, ◌≢◌, ◌⊎◌, IfErr, IfOk};
 ghost use Rattle.std.specs.Io.KnownBytes.{Keeps};
 ghost use Rattle.office_program.specs.CheckForms.{AreStatuses, PrintsForm};
-ghost use Rattle.office_program.specs.Sources.{OfFiles, source_at};
+ghost use Rattle.office_program.specs.Sources.{IsFile, OfFiles, source_at};
 ghost use Rattle.office_program.specs.TaskFaults.{IsOfCheck};
 
-use crate::ending::Ending;
 use crate::faults::{ProgramFault, fault_on};
 use crate::readers::TextReader;
 use crate::sources::run_by_paths;
@@ -26,7 +25,7 @@ pub enum CheckForm {
     Json,
 }
 
-// Runs `check` in another form.
+// Runs `check` in another form. Returns the exit status.
 pub(crate) fn check_as<'a, T: Texts, I: TextReader, W: Write>(
     alloc: Global,
     files: &T,
@@ -35,19 +34,21 @@ pub(crate) fn check_as<'a, T: Texts, I: TextReader, W: Write>(
     solution: &'a str,
     form: CheckForm,
     out: &mut W,
-) -> Result<Ending, ProgramFault<'a>>
-    ensures status { IfOk result (λ ending. (ending.status ≡ 0) ⊎ (ending.status ≡ 3)) }
-    ensures printed { IfOk result (λ ending.
+) -> Result<u8, ProgramFault<'a>>
+    ensures status { IfOk result (λ status. (status ≡ 0) ⊎ (status ≡ 3)) }
+    ensures printed { IfOk result (λ status.
         OfFiles (source_at (I.remaining stdin.old) (T.known files.now) instance.now)
         (source_at (I.remaining stdin.old) (T.known files.now) solution.now)
         (λ session enrolled placing. PrintsForm form session enrolled placing solution.now
-        (W.contents out.old) (W.contents out.new) ending.status)) }
+        (W.contents out.old) (W.contents out.new) status)) }
 
     // A line that names a file names one of the two.
     ensures fault { IfErr result (IsOfCheck instance.now solution.now
         (source_at (I.remaining stdin.old) (T.known files.now))) }
     ensures unwritten { IfErr result (λ fault. fault ≢ ProgramFault.CannotWrite
         → Keeps (W.contents out.old) (W.contents out.new)) }
+    ensures unread { IsFile instance.now × IsFile solution.now
+        → I.remaining stdin.new ≡ I.remaining stdin.old }
 {
     match form {
         CheckForm::Why => check(alloc, files, stdin, &Why, instance, solution, out),
@@ -76,23 +77,25 @@ pub(crate) fn check<'a, K: SolutionTask<Answer = u8>, T: Texts, I: TextReader, W
     instance: &'a str,
     solution: &'a str,
     out: &mut W,
-) -> Result<Ending, ProgramFault<'a>>
+) -> Result<u8, ProgramFault<'a>>
     requires statuses { AreStatuses (K.writes task.now) }
-    ensures status { IfOk result (λ ending. (ending.status ≡ 0) ⊎ (ending.status ≡ 3)) }
-    ensures done { IfOk result (λ ending.
+    ensures status { IfOk result (λ status. (status ≡ 0) ⊎ (status ≡ 3)) }
+    ensures done { IfOk result (λ status.
         OfFiles (source_at (I.remaining stdin.old) (T.known files.now) instance.now)
         (source_at (I.remaining stdin.old) (T.known files.now) solution.now)
         (λ session enrolled placing. K.writes task.now session enrolled placing
-        (W.contents out.old) (W.contents out.new) ending.status)) }
+        (W.contents out.old) (W.contents out.new) status)) }
 
     // A line that names a file names one of the two.
     ensures fault { IfErr result (IsOfCheck instance.now solution.now
         (source_at (I.remaining stdin.old) (T.known files.now))) }
     ensures unwritten { IfErr result (λ fault. fault ≢ ProgramFault.CannotWrite
         → Keeps (W.contents out.old) (W.contents out.new)) }
+    ensures unread { IsFile instance.now × IsFile solution.now
+        → I.remaining stdin.new ≡ I.remaining stdin.old }
 {
     match run_by_paths(alloc, files, stdin, task, instance, solution, out) {
-        Ok(status) => Ok(Ending::quiet(status)),
+        Ok(status) => Ok(status),
         Err(fault) => Err(fault_on(fault, instance, solution)),
     }
 }

@@ -3,11 +3,10 @@ ghost use Rattle.std.specs.Prelude.{◌≡◌, ◌≢◌, ◌∷◌, ◌⊎◌, 
 ghost use Rattle.std.specs.Io.KnownBytes.{Keeps};
 ghost use Rattle.office_check.specs.Compare.{Compares};
 ghost use Rattle.office_program.specs.FaultLines.{fault_line};
-ghost use Rattle.office_program.specs.Sources.{IsReaderOf, MayNotOpen, OfThreeFiles, is_stdin};
+ghost use Rattle.office_program.specs.Sources.{IsFile, IsReaderOf, MayNotOpen, OfThreeFiles, is_stdin};
 ghost use Rattle.office_program.specs.Sources.{is_stdin_shared, source_at};
 ghost use Rattle.office_program.specs.TaskFaults.{IsCompareCause, IsOfCompare, compare_line};
 
-use crate::ending::Ending;
 use crate::faults::{ProgramFault, fault_on};
 use crate::inputs::compare_readers;
 use crate::readers::TextReader;
@@ -26,8 +25,7 @@ pub(crate) fn compare<'a, T: Texts, I: TextReader, W: Write>(
     before: &'a str,
     after: &'a str,
     out: &mut W,
-) -> Result<Ending, ProgramFault<'a>>
-    ensures status { IfOk result (λ ending. ending.status ≡ 0) }
+) -> Result<(), ProgramFault<'a>>
     ensures compared { IfOk result (λ _. OfThreeFiles
         (source_at (I.remaining stdin.old) (T.known files.now) session.now)
         (source_at (I.remaining stdin.old) (T.known files.now) before.now)
@@ -38,9 +36,11 @@ pub(crate) fn compare<'a, T: Texts, I: TextReader, W: Write>(
         (source_at (I.remaining stdin.old) (T.known files.now))) }
     ensures unwritten { IfErr result (λ fault. fault ≢ ProgramFault.CannotWrite
         → Keeps (W.contents out.old) (W.contents out.new)) }
+    ensures unread { IsFile session.now × IsFile before.now × IsFile after.now
+        → I.remaining stdin.new ≡ I.remaining stdin.old }
 {
     match compare_sources(alloc, files, stdin, session, before, after, out) {
-        Ok(()) => Ok(Ending::quiet(0)),
+        Ok(()) => Ok(()),
         Err(fault) => Err(fault_of_compare(fault, session, before, after)),
     }
 }
@@ -88,6 +88,8 @@ fn compare_sources<T: Texts, I: TextReader, W: Write>(
         (source_at (I.remaining stdin.old) (T.known files.now) after.now) fault) }
     ensures unwritten { IfErr result (λ fault. fault ≢ CompareFault.Check CheckFault.Write
         → Keeps (W.contents out.old) (W.contents out.new)) }
+    ensures unread { IsFile session.now × IsFile before.now × IsFile after.now
+        → I.remaining stdin.new ≡ I.remaining stdin.old }
 {
     if is_stdin(session) {
         let mut before_file = opened(files, before, CompareFault::Check(CheckFault::ReadSolution))?;

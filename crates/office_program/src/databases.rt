@@ -1,7 +1,7 @@
 // Databases by their paths.
-ghost use Rattle.std.specs.Prelude.{◌≡◌, ◌≢◌, ℕ, IfErr, IfOk, List, Option, false, ⊤};
-ghost use Rattle.office_program.specs.Databases.{FailsToOpen, IsAt, IsOfOpening, IsUnopened};
-ghost use Rattle.office_program.specs.Databases.{MayFailToOpen};
+ghost use Rattle.std.specs.Prelude.{◌≡◌, ◌≢◌, ◌⊎◌, ℕ, IfErr, IfOk, List, None, false, ⊤};
+ghost use Rattle.office_program.specs.Databases.{FailsToOpen, FailsToOpenBy, IsAt, IsEmpty};
+ghost use Rattle.office_program.specs.Databases.{KeepsOthers, KnownBase};
 ghost use Rattle.office_program.specs.LongWork.{opening_line};
 ghost use Rattle.office_program.specs.Surroundings.{MayNoteLarge};
 
@@ -18,28 +18,32 @@ pub trait Databases {
     /// The connection to a database.
     type Opened;
 
-    // What is known of the database at a path: nothing; that it can't be opened; or its connection.
-    ghost known: { Self → List ℕ → Option (Option Self.Opened) };
+    // What is known of the database at a path: nothing; the error with which it can't be opened; or
+    // its connection.
+    ghost known: { Self → List ℕ → KnownBase Self.Opened };
 
     // The connection to the database at a path may be given back.
     ghost has_place: { Self → List ℕ → Type 0 };
 
     /// Returns whether a database is at a path. `false`: the file is empty.
     fn has_database(&self, path: &str) -> Result<bool, Error>
-        ensures empty { IfOk result (λ has. has ≡ false → MayFailToOpen (known self.now path.now)) }
-        ensures failed { IfErr result (λ _. MayFailToOpen (known self.now path.now)) };
+        ensures empty { IfOk result (λ has. has ≡ false → known self.now path.now ≡ None) }
+        ensures failed { IfErr result (FailsToOpenBy (known self.now path.now)) };
 
     /// Opens the database at a path, or makes one.
     fn open_database(&mut self, path: &str) -> Result<Self::Opened, Error>
         ensures opened { IfOk result (λ conn. IsAt (known self.old path.now) conn) }
         ensures place { IfOk result (λ _. has_place self.new path.now) }
-        ensures failed { IfErr result (λ _. MayFailToOpen (known self.old path.now)) }
+        ensures others { IfOk result (λ _.
+            KeepsOthers path.now (known self.old) (known self.new)) }
+        ensures failed { IfErr result (FailsToOpenBy (known self.old path.now)) }
         ensures kept { IfErr result (λ _. known self.new ≡ known self.old) };
 
     /// Takes back the connection to the database at a path.
     fn take_back(&mut self, path: &str, conn: Self::Opened)
         requires place { has_place self.old path.now }
-        ensures back { IsAt (known self.new path.now) conn };
+        ensures back { IsAt (known self.new path.now) conn }
+        ensures others { KeepsOthers path.now (known self.old) (known self.new) };
 }
 
 /// The databases in the files of the system.
@@ -84,6 +88,8 @@ pub(crate) fn open_at<'a, H: Surroundings, S: Alter, D: Databases<Opened = Conne
         database.now (opening_line database.now) }
     ensures opened { IfOk result (λ conn. IsAt (D.known databases.old database.now) conn) }
     ensures place { IfOk result (λ _. D.has_place databases.new database.now) }
+    ensures others { IfOk result (λ _.
+        KeepsOthers database.now (D.known databases.old) (D.known databases.new)) }
     ensures failed { IfErr result
         (FailsToOpen (D.known databases.old) (D.known databases.new) database.now) }
     ensures other { IfErr result (λ shown. shown ≢ ProgramFault.CannotListen) }
@@ -105,8 +111,11 @@ pub(crate) fn open_found<'a, H: Surroundings, S: Alter, D: Databases<Opened = Co
         database.now (opening_line database.now) }
     ensures opened { IfOk result (λ conn. IsAt (D.known databases.old database.now) conn) }
     ensures place { IfOk result (λ _. D.has_place databases.new database.now) }
-    ensures failed { IfErr result (λ shown. IsUnopened (D.known databases.old)
-        (D.known databases.new) database.now (IsOfOpening shown)) }
+    ensures others { IfOk result (λ _.
+        KeepsOthers database.now (D.known databases.old) (D.known databases.new)) }
+    ensures failed { IfErr result (λ shown.
+        FailsToOpen (D.known databases.old) (D.known databases.new) database.now shown
+        ⊎ IsEmpty (D.known databases.old) (D.known databases.new) database.now shown) }
 {
     match databases.has_database(database) {
         Ok(true) => open_at(host, databases, database),

@@ -1,5 +1,5 @@
 // How the program, or a task of it, ended.
-ghost use Rattle.std.specs.Prelude.{◌≡◌, IsTrue};
+ghost use Rattle.std.specs.Prelude.{◌≡◌, true};
 
 /// How the program ended.
 #[derive(Clone, Copy)]
@@ -16,8 +16,7 @@ pub struct Ending {
 impl Ending {
     // Returns an ending without anything for the writer of faults.
     pub(crate) fn quiet(status: u8) -> Ending
-        ensures status { result.status ≡ status }
-        ensures err_line { IsTrue result.is_err_written }
+        ensures { result ≡ record { status = status; is_err_written = true } }
     {
         Ending {
             status,

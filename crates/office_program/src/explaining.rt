@@ -3,7 +3,6 @@ ghost use Rattle.std.specs.Prelude.{◌≡◌, ◌++◌, ◌∷◌, [], IfErr, I
 ghost use Rattle.std.specs.Io.KnownBytes.{Appends};
 ghost use Rattle.office_program.specs.Explaining.{fault_words, numbered_text};
 
-use crate::ending::Ending;
 use crate::faults::ProgramFault;
 use std::io::{self, Write};
 
@@ -75,14 +74,13 @@ fn numbered_text(texts: &[&'static str], number: u32) -> Option<&'static str>
 }
 
 // Runs `explain`, which prints the words of a fault.
-pub(crate) fn explain<'a, W: Write>(words: &str, out: &mut W) -> Result<Ending, ProgramFault<'a>>
-    ensures status { IfOk result (λ ending. ending.status ≡ 0) }
+pub(crate) fn explain<'a, W: Write>(words: &str, out: &mut W) -> Result<(), ProgramFault<'a>>
     ensures printed { IfOk result (λ _.
         Appends (W.contents out.old) (W.contents out.new) (words.now ++ 10 ∷ [])) }
     ensures fault { IfErr result (λ fault. fault ≡ ProgramFault.CannotWrite) }
 {
     match print_words(words, out) {
-        Ok(()) => Ok(Ending::quiet(0)),
+        Ok(()) => Ok(()),
         Err(_) => Err(ProgramFault::CannotWrite),
     }
 }

@@ -9,14 +9,15 @@ ghost use Rattle.office_model.specs.Office.{OfficeState};
 ghost use Rattle.office_store.specs.Opening.{HoldsOffice};
 ghost use Rattle.office_store.specs.Running.{CallRan};
 ghost use Rattle.office_program.specs.Databases.{ExportsIn, LeavesUnexported, UsesDatabase};
-ghost use Rattle.office_program.specs.Export.{ExportRan, Exports, IsWhole, PrintsSolution, RefusesExport};
+ghost use Rattle.office_program.specs.Export.{ExportRan, Exports, IfRead, IsWhole};
+ghost use Rattle.office_program.specs.Export.{PrintsSolution, RefusesExport};
 ghost use Rattle.office_program.specs.Export.{published_solution};
+ghost use Rattle.office_program.specs.Foreign.{LeavesIfForeign, OfOffice};
 ghost use Rattle.office_program.specs.Load.{MayUpgrade, connection_after};
 ghost use Rattle.office_program.specs.Surroundings.{MayNoteOpening};
 ghost use Rattle.office_program.specs.TaskFaults.{IsOfExport};
 
 use crate::databases::{Databases, open_found};
-use crate::ending::Ending;
 use crate::faults::{ProgramFault, fault_of_export};
 use crate::notices::announce_upgrade;
 use crate::surroundings::Surroundings;
@@ -44,13 +45,11 @@ pub(crate) fn export<'a, H: Surroundings, S: Alter, D: Databases<Opened = Connec
     databases: &mut D,
     database: &str,
     out: &mut W,
-) -> Result<Ending, ProgramFault<'a>>
+) -> Result<(), ProgramFault<'a>>
     requires opens { MayNoteOpening (H.finds host.now) (H.shows host.now) (H.allows host.now)
         database.now }
-    ensures status { IfOk result (λ ending. ending.status ≡ 0) }
     ensures printed { IfOk result (λ _. PrintsSolution (W.contents out.old) (W.contents out.new)) }
-    ensures uses { IfOk result (λ _. UsesDatabase (D.known databases.old database.now)
-        (D.known databases.new database.now)
+    ensures uses { IfOk result (λ _. UsesDatabase (D.known databases.old) (D.known databases.new) database.now
         (ExportsIn S.Store (W.contents out.old) (W.contents out.new))) }
     ensures leaves { IfErr result (LeavesUnexported S.Store (D.known databases.old)
         (D.known databases.new) database.now) }
@@ -66,7 +65,7 @@ pub(crate) fn export<'a, H: Surroundings, S: Alter, D: Databases<Opened = Connec
     match export_run(host.allocator(), conn, out) {
         Ok(conn) => {
             databases.take_back(database, conn);
-            Ok(Ending::quiet(0))
+            Ok(())
         }
         Err((fault, conn)) => {
             databases.take_back(database, conn);
@@ -81,10 +80,11 @@ pub fn export_run<S: Alter, W: Write>(
     conn: Connection<S>,
     writer: &mut W,
 ) -> Result<Connection<S>, (ExportFault, Connection<S>)>
-    // Assuming the disk returns what was written, the text is the publication of the office.
+    // Assuming the disk returns what was written, the database held an office, and the text is its
+    // publication.
     ensures done { IfOk result (λ after. HasCleanDisk (state S.Store after)
-        → (there : OfficeState) → HoldsOffice (state S.Store conn).now there
-        → Exports there (state S.Store after) (W.contents writer.old) (W.contents writer.new)) }
+        → OfOffice (HoldsOffice (state S.Store conn).now) (λ there. Exports there
+        (state S.Store after) (W.contents writer.old) (W.contents writer.new))) }
     // A fault is a failed statement, `NoPublication`, out of memory or the writer's; `BadSchema` if
     // the tables don't represent an office.
     ensures refused { IfErr result (λ e. HasCleanDisk (state S.Store e.1)
@@ -95,6 +95,8 @@ pub fn export_run<S: Alter, W: Write>(
         → ((state S.Store conn).now ≡ (state S.Store conn).committed)
         → (there : OfficeState) → HoldsOffice (state S.Store conn).now there
         → IsTrue (state S.Store e.1).is_open → HoldsOffice (state S.Store e.1).now there) }
+    // If the database holds no office, its tables are as they were.
+    ensures foreign { IfErr result (λ e. IfRead e.0 (LeavesIfForeign S.Store HoldsOffice conn e.1)) }
 
     // On any disk, a whole solution is written, or nothing.
     ensures printed { IfOk result (λ _.

@@ -52,13 +52,13 @@ pub(crate) fn check_all<'a, T: Texts, I: TextReader, W: Write, E: Lines>(
         (file_at (T.known files.now)) form (map string_bytes solutions.now)
         (W.contents out.old) (W.contents out.new) err.old err.new
         ending.is_err_written ending.status) }
-    ensures quiet { IfOk result (λ ending. ending.status ≢ 1 → err.new ≡ err.old) }
 
     // A line that names a file names the session's.
     ensures fault { IfErr result (IsOfCheckAll session.now
         (source_at (I.remaining stdin.old) (T.known files.now))) }
     ensures unwritten { IfErr result (λ fault. fault ≢ ProgramFault.CannotWrite
         → Keeps (W.contents out.old) (W.contents out.new)) }
+    ensures untold { IfErr result (λ fault. fault ≢ ProgramFault.CannotWrite → err.new ≡ err.old) }
 {
     let judge = match judge_at(alloc, files, stdin, session, solutions.len()) {
         Ok(judge) => judge,
@@ -123,7 +123,6 @@ fn judge_each<T: Texts, I: TextReader, W: Write, E: Lines>(
     ensures ok { IfOk result (HasOutcomes E.tells judge.now.0 judge.now.1
         (file_at (T.known files.now)) form (map string_bytes solutions.now)
         (W.contents out.old) (W.contents out.new) err.old err.new) }
-    ensures quiet { IfOk result (λ found. found.has_fault ≡ false → err.new ≡ err.old) }
 {
     let mut found = Found {
         has_fault: false,
@@ -151,8 +150,6 @@ fn judge_one<T: Texts, I: TextReader, W: Write, E: Lines>(
     ensures ok { IfOk result (AddsOutcome E.tells judge.now.0 judge.now.1
         (file_at (T.known files.now)) form path.now found
         (W.contents out.old) (W.contents out.new) err.old err.new) }
-    ensures quiet { IfOk result (λ now. now.has_fault ≡ false
-        → (found.has_fault ≡ false) × (err.new ≡ err.old)) }
 {
     match line_at(alloc, files, stdin, judge, path, form) {
         Ok(line) => {

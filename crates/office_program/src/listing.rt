@@ -2,10 +2,9 @@
 ghost use Rattle.std.specs.Prelude.{◌≡◌, ◌≢◌, IfErr, IfOk};
 ghost use Rattle.std.specs.Io.KnownBytes.{Keeps};
 ghost use Rattle.office_check.specs.Listing.{WritesPlaces};
-ghost use Rattle.office_program.specs.Sources.{OfFiles, source_at};
+ghost use Rattle.office_program.specs.Sources.{IsFile, OfFiles, source_at};
 ghost use Rattle.office_program.specs.TaskFaults.{IsOfPlaces};
 
-use crate::ending::Ending;
 use crate::faults::{ProgramFault, fault_on};
 use crate::readers::TextReader;
 use crate::sources::run_by_paths;
@@ -24,8 +23,7 @@ pub(crate) fn list_places<'a, T: Texts, I: TextReader, W: Write>(
     solution: &'a str,
     exam: ExamNo,
     out: &mut W,
-) -> Result<Ending, ProgramFault<'a>>
-    ensures status { IfOk result (λ ending. ending.status ≡ 0) }
+) -> Result<(), ProgramFault<'a>>
     ensures listed { IfOk result (λ _.
         OfFiles (source_at (I.remaining stdin.old) (T.known files.now) instance.now)
         (source_at (I.remaining stdin.old) (T.known files.now) solution.now)
@@ -37,9 +35,11 @@ pub(crate) fn list_places<'a, T: Texts, I: TextReader, W: Write>(
         (source_at (I.remaining stdin.old) (T.known files.now))) }
     ensures unwritten { IfErr result (λ fault. fault ≢ ProgramFault.CannotWrite
         → Keeps (W.contents out.old) (W.contents out.new)) }
+    ensures unread { IsFile instance.now × IsFile solution.now
+        → I.remaining stdin.new ≡ I.remaining stdin.old }
 {
     match run_by_paths(alloc, files, stdin, &Places(exam), instance, solution, out) {
-        Ok(PlacesAnswer::Listed) => Ok(Ending::quiet(0)),
+        Ok(PlacesAnswer::Listed) => Ok(()),
         Ok(PlacesAnswer::NoExam) => Err(ProgramFault::NoExam(exam)),
         Err(fault) => Err(fault_on(fault, instance, solution)),
     }

@@ -1,14 +1,28 @@
 // Loads a session into the office of a database.
-ghost use Rattle.std.specs.Prelude.{◌≡◌, ◌≢◌, ◌⊎◌, IfErr, IfOk, IsTrue, OnOk};
+ghost use Rattle.std.specs.Prelude.{◌≡◌, ◌≢◌, ◌≤◌, ◌⊎◌, ℕ, IfErr, IfOk, IsTrue, List, OnOk, length};
 ghost use Rattle.std.specs.Io.KnownBytes.{Appends, Keeps};
 ghost use Rattle.sqlite.specs.Held.{state};
 ghost use Rattle.sqlite.specs.State.{HasCleanDisk, Survives};
 ghost use Rattle.office_model.specs.Office.{OfficeState};
 ghost use Rattle.office_store.specs.Running.{CallRan};
 ghost use Rattle.office_store.specs.Opening.{IsOfficeOf};
-ghost use Rattle.office_program.specs.Load.{IfRefused, LoadRan, Loads, MayBringUp, MayLoad, NamesTextFault};
+ghost use Rattle.exam_terms.specs.declared.limits.TheConstants.{INSTANCE_BYTES};
+ghost use Rattle.office_program.specs.Databases.{IsUnread, LeavesUnloaded, LoadsIn, UsesDatabase};
+ghost use Rattle.office_program.specs.Foreign.{LeavesIfForeign, OfOffice};
+ghost use Rattle.office_program.specs.LongWork.{loading_line};
+ghost use Rattle.office_program.specs.Sources.{IsTextOf};
+ghost use Rattle.office_program.specs.Surroundings.{MayNoteLarge, MayNoteOpening};
+ghost use Rattle.office_program.specs.TaskFaults.{IsOfLoad, IsOfOffice, IsTextCause};
+ghost use Rattle.office_program.specs.Load.{IfRefused, IfStored, LoadRan, Loads, MayBringUp, MayLoad, NamesTextFault};
 ghost use Rattle.office_program.specs.Load.{PrintsCounts, RefusesLoad, connection_after, fault_of, loaded_text};
 
+use crate::databases::{Databases, open_at};
+use crate::faults::{ProgramFault, fault_of_input, fault_of_load};
+use crate::inputs::text_of;
+use crate::notices::{LongWork, announce, announce_upgrade};
+use crate::surroundings::Surroundings;
+use crate::texts::Texts;
+use office_files::InputFault;
 use office_http::{Alter, Connection, Loaded, Office, StoreFault};
 use std::alloc::Global;
 use std::fmt;
@@ -49,6 +63,99 @@ impl fmt::Display for LoadedLine {
     }
 }
 
+// Runs `load`. The instance's file is read before the database is opened.
+pub(crate) fn load<
+    'a,
+    H: Surroundings,
+    S: Alter,
+    T: Texts,
+    D: Databases<Opened = Connection<S>>,
+    W: Write,
+>(
+    host: &H,
+    files: &T,
+    databases: &mut D,
+    database: &str,
+    instance: &'a str,
+    out: &mut W,
+) -> Result<(), ProgramFault<'a>>
+    requires loads { MayNoteLarge (H.finds host.now) (H.shows host.now) (H.allows host.now)
+        instance.now (loading_line instance.now) }
+    requires opens { MayNoteOpening (H.finds host.now) (H.shows host.now) (H.allows host.now)
+        database.now }
+    ensures loaded { IfOk result (λ _. (text : List ℕ)
+        × IsTextOf (T.known files.now instance.now) text
+        × PrintsCounts text (W.contents out.old) (W.contents out.new)
+        × UsesDatabase (D.known databases.old) (D.known databases.new) database.now
+        (LoadsIn S.Store text (W.contents out.old) (W.contents out.new))) }
+    ensures leaves { IfErr result (λ shown.
+        IsUnread (D.known databases.old) (D.known databases.new) instance.now
+        (T.known files.now instance.now) shown
+        ⊎ ((text : List ℕ) × IsTextOf (T.known files.now instance.now) text
+        × LeavesUnloaded S.Store (D.known databases.old) (D.known databases.new) database.now
+        text shown)) }
+
+    // A line that names a file names the instance's.
+    ensures fault { IfErr result (IsOfLoad instance.now (T.known files.now)) }
+    ensures unwritten { IfErr result (λ fault. fault ≢ ProgramFault.CannotWrite
+        → Keeps (W.contents out.old) (W.contents out.new)) }
+{
+    announce(host, LongWork::Loading(instance));
+    match text_at(host.allocator(), files, instance) {
+        Ok(text) => load_text(host, databases, database, &text, out),
+        Err(fault) => Err(fault_of_input(fault, instance)),
+    }
+}
+
+// Returns the whole text of an instance's file.
+fn text_at<T: Texts>(alloc: Global, files: &T, path: &str) -> Result<Vec<u8>, InputFault>
+    ensures short { IfOk result (λ text. length text.items ≤ INSTANCE_BYTES) }
+    ensures of { IfOk result (λ text. IsTextOf (T.known files.now path.now) text.items) }
+    ensures refused { IfErr result (IsTextCause (T.known files.now path.now)) }
+{
+    let Ok(mut file) = files.open_text(path) else {
+        return Err(InputFault::Read);
+    };
+    text_of(alloc, &mut file)
+}
+
+// Loads an instance's text into the office of the database at a path.
+fn load_text<'a, H: Surroundings, S: Alter, D: Databases<Opened = Connection<S>>, W: Write>(
+    host: &H,
+    databases: &mut D,
+    database: &str,
+    text: &[u8],
+    out: &mut W,
+) -> Result<(), ProgramFault<'a>>
+    requires opens { MayNoteOpening (H.finds host.now) (H.shows host.now) (H.allows host.now)
+        database.now }
+    ensures loaded { IfOk result (λ _.
+        PrintsCounts text.now (W.contents out.old) (W.contents out.new)
+        × UsesDatabase (D.known databases.old) (D.known databases.new) database.now
+        (LoadsIn S.Store text.now (W.contents out.old) (W.contents out.new))) }
+    ensures leaves { IfErr result (LeavesUnloaded S.Store (D.known databases.old)
+        (D.known databases.new) database.now text.now) }
+    ensures fault { IfErr result (IsOfOffice text.now) }
+    ensures unwritten { IfErr result (λ fault. fault ≢ ProgramFault.CannotWrite
+        → Keeps (W.contents out.old) (W.contents out.new)) }
+{
+    let conn = match open_at(host, databases, database) {
+        Ok(conn) => conn,
+        Err(fault) => return Err(fault),
+    };
+    announce_upgrade(host, database, &conn);
+    match load_run(host.allocator(), conn, text, out) {
+        Ok(conn) => {
+            databases.take_back(database, conn);
+            Ok(())
+        }
+        Err((fault, conn)) => {
+            databases.take_back(database, conn);
+            Err(fault_of_load(fault))
+        }
+    }
+}
+
 /// Loads the session of an instance's text into the office of a database, and creates the office if
 /// the database has no table, index or view; then writes the counts. Returns the connection.
 pub fn load_run<S: Alter, W: Write>(
@@ -57,11 +164,11 @@ pub fn load_run<S: Alter, W: Write>(
     text: &[u8],
     writer: &mut W,
 ) -> Result<Connection<S>, (LoadFault, Connection<S>)>
-    // Assuming the disk returns what was written, the line has the counts that the office returns.
+    // Assuming the disk returns what was written, the database held an office, and the line has
+    // the counts that it returns.
     ensures done { IfOk result (λ after. HasCleanDisk (state S.Store after)
-        → (there : OfficeState) → IsOfficeOf (state S.Store conn).now there
-        → Loads text.now there (state S.Store after)
-        (W.contents writer.old) (W.contents writer.new)) }
+        → OfOffice (IsOfficeOf (state S.Store conn).now) (λ there. Loads text.now there
+        (state S.Store after) (W.contents writer.old) (W.contents writer.new))) }
     // A fault is the office's own refusal; or the load is done, but the line isn't written.
     ensures refused { IfErr result (λ e. HasCleanDisk (state S.Store e.1)
         → (there : OfficeState) → IsOfficeOf (state S.Store conn).now there
@@ -72,6 +179,9 @@ pub fn load_run<S: Alter, W: Write>(
         → (there : OfficeState) → IsOfficeOf (state S.Store conn).now there
         → IfRefused (IsTrue (state S.Store e.1).is_open
         → IsOfficeOf (state S.Store e.1).now there) e.0) }
+    // If the database holds no office, its tables are as they were.
+    ensures foreign { IfErr result (λ e.
+        IfStored e.0 (LeavesIfForeign S.Store IsOfficeOf conn e.1)) }
 
     // On any disk, the line has the counts of the session in the text, or nothing is written.
     ensures printed { IfOk result (λ _.

@@ -4,9 +4,9 @@ ghost use Rattle.std.specs.Duration.{as_nanos};
 ghost use Rattle.std.specs.Io.KnownBytes.{Appends, Keeps};
 ghost use Rattle.office_connections.specs.Clients.{AreOfClients};
 ghost use Rattle.office_connections.specs.Lines.{listening_line};
-ghost use Rattle.office_program.specs.Databases.{ServesNamed};
+ghost use Rattle.office_program.specs.Databases.{ServesIn, ServesNamed};
 ghost use Rattle.office_program.specs.LongWork.{making_line, publishing_line};
-ghost use Rattle.office_program.specs.Serve.{AreOfPort, FileServes, IsStoreShut, LeavesPort};
+ghost use Rattle.office_program.specs.Serve.{AreOfPort, AreOfPorts, IsStoreShut, LeavesPort};
 ghost use Rattle.office_program.specs.Serve.{OfficeServes, PrintsServed, ServesTerms};
 ghost use Rattle.office_program.specs.Surroundings.{MayNoteLarge, MayNoteOpening};
 ghost use Rattle.office_program.specs.TaskFaults.{IsOfServe};
@@ -56,12 +56,12 @@ pub(crate) fn open_and_serve<
     // represents the office that they led to.
     ensures serves { IfOk result (λ ending.
         ServesNamed S.Store (D.known databases.old) (D.known databases.new)
-        (λ port. AreOfPort (λ old. N.opens old port) N.closes I.accepts I.takes_back
+        (AreOfPorts N.opens N.closes I.accepts I.takes_back
         R.remaining W.contents net.old net.new)
         (E.contents err.old) (E.contents err.new) (Ok ending) database.now terms) }
     ensures unserved { IfErr result (λ shown.
         ServesNamed S.Store (D.known databases.old) (D.known databases.new)
-        (λ port. AreOfPort (λ old. N.opens old port) N.closes I.accepts I.takes_back
+        (AreOfPorts N.opens N.closes I.accepts I.takes_back
         R.remaining W.contents net.old net.new)
         (E.contents err.old) (E.contents err.new) (Err shown) database.now terms) }
     ensures served { IfOk result (PrintsServed terms (O.contents out.old) (O.contents out.new)
@@ -108,15 +108,15 @@ pub fn serve_office<
     // A line about a publication may be written on a terminal, if the database is large.
     requires publishes { MayNoteLarge (H.finds host.now) (H.shows host.now) (H.allows host.now)
         database.now (publishing_line database.now) }
-    // Assuming the disk returns what was written, and the database had nothing uncommitted: however
-    // the call ends, the database represents an office that serving the clients of the port leads
-    // to from the one found. As for `serve_clients`, each of them is sent the office's replies to
-    // its own messages, and as many are served as the terms say, or the fault says why not.
-    ensures reached { ServesTerms
+    // Assuming the disk returns what was written: however the call ends, the database represents an
+    // office that serving the clients of the port leads to from the one found, or nobody was served
+    // and it is as it was. As for `serve_clients`, each client is sent the office's replies to its
+    // own messages, and as many are served as the terms say, or the fault says why not. If the
+    // database held no office, nobody is served, and its tables stay.
+    ensures reached { ServesIn S.Store
         (AreOfPort (λ old. N.opens old terms.port) N.closes I.accepts I.takes_back
-        R.remaining W.contents net.old net.new)
-        (FileServes S.Store conn result.0) (IsStoreShut S.Store result.0) terms result.1
-        (E.contents err.old) (E.contents err.new) }
+        R.remaining W.contents net.old net.new) terms
+        (E.contents err.old) (E.contents err.new) result.1 conn result.0 }
     // The same as for `listen_and_serve`.
     ensures served { IfOk result.1 (PrintsServed terms (O.contents out.old) (O.contents out.new)
         (E.contents err.old) (E.contents err.new)) }

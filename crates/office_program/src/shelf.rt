@@ -1,7 +1,7 @@
 // A database in memory.
 ghost use Rattle.std.specs.Prelude.{IsTrue, Some};
 ghost use Rattle.std.specs.Str.{bytes_eq};
-ghost use Rattle.office_program.specs.Databases.{IsAt};
+ghost use Rattle.office_program.specs.Databases.{IsAt, KeepsOthers};
 ghost use Rattle.office_program.specs.Shelves.{held_at};
 
 use crate::databases::Databases;
@@ -46,6 +46,9 @@ impl Databases for Shelf<'_> {
     fn take_back(&mut self, path: &str, conn: Connection<MemStore>)
         requires place { IsTrue (bytes_eq self.old.path.now path.now) }
         ensures back { IsAt (Some (held_at self.new.path.now self.new.conn path.now)) conn }
+        ensures others { KeepsOthers path.now
+            (λ other. Some (held_at self.old.path.now self.old.conn other))
+            (λ other. Some (held_at self.new.path.now self.new.conn other)) }
     {
         self.conn = Some(conn);
     }

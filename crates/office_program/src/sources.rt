@@ -4,7 +4,7 @@ ghost use Rattle.std.specs.Prelude.{true};
 ghost use Rattle.std.specs.Io.KnownBytes.{Keeps};
 ghost use Rattle.clap.specs.Words.{kind_of};
 ghost use Rattle.clap.specs.declared.error.kind.ErrorKind.TheVariants.{InvalidValue};
-ghost use Rattle.office_program.specs.Sources.{IsReaderOf, MayNotOpen, OfFiles, is_stdin};
+ghost use Rattle.office_program.specs.Sources.{IsFile, IsReaderOf, MayNotOpen, OfFiles, is_stdin};
 ghost use Rattle.office_program.specs.Sources.{is_stdin_shared, source_at};
 ghost use Rattle.office_program.specs.TaskFaults.{IsCheckCause};
 
@@ -71,6 +71,8 @@ pub(crate) fn run_by_paths<K: SolutionTask, T: Texts, I: TextReader, W: Write>(
         (source_at (I.remaining stdin.old) (T.known files.now) solution.now) fault) }
     ensures unwritten { IfErr result (λ fault. fault ≢ CheckFault.Write
         → Keeps (W.contents out.old) (W.contents out.new)) }
+    ensures unread { IsFile instance.now × IsFile solution.now
+        → I.remaining stdin.new ≡ I.remaining stdin.old }
 {
     if is_stdin(instance) {
         let mut solution_file = file_at(files, solution, CheckFault::ReadSolution)?;

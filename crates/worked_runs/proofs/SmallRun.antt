@@ -1,8 +1,14 @@
--- What the clauses of a run say of `check` on the small session, whose files are known.
-use Rattle.std.proofs.Common.{[], ◌≡◌, ◌≢◌, ap, Bool, ◌≤◌, ◌⊎◌, ◌++◌, ◌∷◌, ◌∙◌, ℕ, List, Option, Some, None, arith, inl, inr, refl, suc, subst, sym, zero}
+-- What the clause of a run says of `check` on the small session, whose files are known.
+use Rattle.std.proofs.Common.{[], ◌≡◌, ap, Bool, ◌⊎◌, ◌++◌, ◌∷◌, ◌∙◌, ℕ, List, Option, Some, None, inl, inr, refl, subst, sym}
 use Rattle.std.specs.Prelude.{codes, string_bytes}
 use Rattle.std.specs.Io.KnownBytes.{Appends}
-use Rattle.clap.specs.Words.{Text}
+use Rattle.clap.specs.Kinds.{HasKind}
+use Rattle.clap.specs.Words.{Text, kind_of}
+use Rattle.clap.specs.declared.error.Error.{Error}
+use Rattle.clap.specs.declared.error.kind.ErrorKind.{ErrorKind}
+use Rattle.clap.specs.declared.error.kind.ErrorKind.TheVariants as kind
+use Rattle.sqlite.specs.Held.{Held}
+use Rattle.sqlite.specs.Store.{Ghosts}
 use Rattle.exam_model.specs.Enrolments.{Enrolled}
 use Rattle.exam_model.specs.Instance.{Session}
 use Rattle.exam_model.specs.Timetable.{Placing}
@@ -11,15 +17,17 @@ use Rattle.office_files.specs.SolutionText.{SolutionText}
 use Rattle.office_check.specs.Check.{IsReported}
 use Rattle.office_check.specs.declared.checking.CheckFault.{CheckFault}
 use Rattle.office_check.specs.declared.checking.CheckFault.TheVariants as check
-use Rattle.office_program.specs.Endings.{WritesFault, WritesSolutionFaults, WritesTaskFault}
+use Rattle.office_messages.specs.Visits.{Visit}
 use Rattle.office_program.specs.FaultLines.{fault_line}
 use Rattle.office_program.specs.Program.{IsTask, fault_of_words}
+use Rattle.office_program.specs.Runs.{IsHelp, Refuses, Runs, RunsTask, corrects, does, fails, fails_to_help, helps, refuses, runs_command, runs_out}
 use Rattle.office_program.specs.Sources.{IsTextOf, Known, OfFiles, source_at}
 use Rattle.office_program.specs.TaskFaults.{IsCheckCause, check_line}
-use Rattle.office_program.specs.Tasks.{Prints, PrintsBroken}
+use Rattle.office_program.specs.World.{World}
+use Rattle.office_program.specs.declared.ending.Ending.{Ending}
 use Rattle.office_program.specs.declared.faults.ProgramFault.{ProgramFault}
 use Rattle.office_program.specs.declared.faults.ProgramFault.TheVariants.{CannotWrite, NoMemory}
-use Rattle.office_program.specs.declared.words.Task.{Task}
+use Rattle.office_program.specs.declared.lines.Lines as lines
 use Rattle.office_program.specs.declared.words.Task.TheVariants.{Check}
 use Rattle.worked_runs.specs.SmallSession.{check_words, session_text, solution_text, ten_lines}
 use Rattle.worked_runs.proofs.SmallReport.{no_fault, no_solution_fault, small_report, small_status}
@@ -40,18 +48,14 @@ module _ (first second : Known) (session : first ≡ Some (Some session_text))
       (subst (λ t. SolutionText t read.first.session read.placing) (sym two) read.spells)
       of.texts.holds
 
-  -- the report has ten lines
-  printed : (old new : Option (List ℕ)) → OfFiles first second (λ I E T. IsReported I E T old new 0)
-      → Appends old new ten_lines
-  printed old new of = of_texts _ _ of (λ I E T one two report.
-      subst (Appends old new) (small_report I E T one two) report.written)
-
-  -- and no breach
-  unbroken : (old new : Option (List ℕ)) → OfFiles first second (λ I E T. IsReported I E T old new 3)
-      → ⊥
-  unbroken old new of = of_texts _ _ of (λ I E T one two report.
-      let never : 3 ≡ 0 = report.status ∙ small_status I E T one two in
-      absurd (omega (arith, never)))
+  -- the report has ten lines, and no breach
+  printed : (old new : Option (List ℕ)) (status : ℕ)
+      → OfFiles first second (λ I E T. IsReported I E T old new status)
+      → Appends old new ten_lines × (status ≡ 0)
+  printed old new status of = of_texts _ _ of (λ I E T one two report. (
+    subst (Appends old new) (small_report I E T one two) report.written,
+    report.status ∙ small_status I E T one two,
+  ))
 
   -- the only faults are those of memory
   of_memory : (shown : ProgramFault) (instance solution : List ℕ) (of : CheckFault)
@@ -72,86 +76,81 @@ module _ (first second : Known) (session : first ≡ Some (Some session_text))
   of_memory shown instance solution check.Write line cause = inr line
   of_memory shown instance solution check.NoMemory line cause = inl line
 
-zero_or_one : (n : ℕ) → n ≤ 3 → n ≢ 2 → n ≢ 3 → (n ≡ 0) ⊎ (n ≡ 1)
-zero_or_one zero within two three = inl refl
-zero_or_one (suc zero) within two three = inr refl
-zero_or_one (suc (suc n)) within two three = absurd (omega (arith, within, two, three))
+-- the only error of words without a mistake is that of memory
+pub only_memory : (error : Error) → HasKind [] error → kind_of error ≡ kind.OutOfMemory
+only_memory error (inl is) = is
+only_memory error (inr never) = absurd never
+
+pub no_help : (k : ErrorKind) → k ≡ kind.OutOfMemory → IsHelp k → ⊥
+no_help k memory (inl help) =
+    let never : kind.OutOfMemory ≡ kind.DisplayHelp = sym memory ∙ help in absurd cc
+no_help k memory (inr version) =
+    let never : kind.OutOfMemory ≡ kind.DisplayVersion = sym memory ∙ version in absurd cc
 
 -- ---- of a run with these words and files
 
-module _ (words : List Text) (is : words ≡ check_words) (stdin : Option (List ℕ))
-    (files : List ℕ → Known)
-    (session : files (codes "small.exam") ≡ Some (Some session_text))
-    (timetable : files (codes "small.sol") ≡ Some (Some solution_text)) where
+module _ {S N E : Type 0} (store : Ghosts S)
+    (AreOfPort : (old new : N) → ℕ → Bool → List Visit → Type 0) (told : lines.Ghosts E)
+    (contents : E → Option (List ℕ)) (old new : World (Held S) N E) (end : Ending)
+    (words : List Text) (is : words ≡ check_words)
+    (session : old.files (codes "small.exam") ≡ Some (Some session_text))
+    (timetable : old.files (codes "small.sol") ≡ Some (Some solution_text)) where
+  -- the ten lines are printed and the status is 0; or it is 1, and the line of want of memory, or
+  -- of a failed write, was tried to be written
+  abbrev pub EndsSmall : Type 0
+  EndsSmall = ((end.status ≡ 0) × Appends old.printed new.printed ten_lines)
+      ⊎ ((end.status ≡ 1)
+      × (told.tells old.errors (fault_line NoMemory ++ 10 ∷ []) end.is_err_written new.errors
+      ⊎ told.tells old.errors (fault_line CannotWrite ++ 10 ∷ []) end.is_err_written new.errors))
+
   -- a fact of the files of the two paths is one of these files
   at_paths : (P : Known → Known → Type 0) (instance solution : List ℕ)
       → instance ≡ codes "small.exam" → solution ≡ codes "small.sol"
-      → P (source_at stdin files instance) (source_at stdin files solution)
-      → P (files (codes "small.exam")) (files (codes "small.sol"))
+      → P (source_at old.stdin old.files instance) (source_at old.stdin old.files solution)
+      → P (old.files (codes "small.exam")) (old.files (codes "small.sol"))
   at_paths P instance solution one two of =
-      subst (λ path. P (files (codes "small.exam")) (source_at stdin files path)) two
-      (subst (λ path. P (source_at stdin files path) (source_at stdin files solution)) one of)
+      subst (λ path. P (old.files (codes "small.exam")) (source_at old.stdin old.files path)) two
+      (subst (λ path. P (source_at old.stdin old.files path)
+      (source_at old.stdin old.files solution)) one of)
 
-  -- the output of the run is the ten lines
-  pub lines_of_run : (old new : Option (List ℕ))
-      → (task : Task) × IsTask words task × Prints stdin files task old new
-      → Appends old new ten_lines
-  lines_of_run old new run =
-      task_of_check (λ task. Prints stdin files task old new → Appends old new ten_lines)
-      (λ instance solution one two prints. printed _ _ session timetable old new
-      (at_paths (λ f s. OfFiles f s (λ I E T. IsReported I E T old new 0)) _ _ one two prints))
-      run.0 (subst (λ w. IsTask w run.0) is run.1) run.2
+  of_task : (instance solution : _) → string_bytes instance ≡ codes "small.exam"
+      → string_bytes solution ≡ codes "small.sol"
+      → RunsTask store AreOfPort told contents old new (Check instance solution) end → EndsSmall
+  of_task instance solution one two (does (done, judges)) =
+      let both = printed _ _ session timetable old.printed new.printed end.status
+      (at_paths (λ f s. OfFiles f s (λ I E T. IsReported I E T old.printed new.printed end.status))
+      _ _ one two judges.printed) in
+      inl (both.1, both.0)
+  of_task instance solution one two (fails run) =
+      let cause = at_paths (λ f s. IsCheckCause f s run.fails.of.of) _ _ one two
+      (run.fails.of.cause (rw (one, two) refl)) in
+      let same : run.before.errors ≡ old.errors =
+      ap (λ (w : World (Held S) N E). w.errors) run.fails.leaves.1.rest in
+      let line : told.tells old.errors (fault_line run.shown ++ 10 ∷ []) end.is_err_written new.errors =
+      subst (λ w. told.tells w (fault_line run.shown ++ 10 ∷ []) end.is_err_written new.errors) same
+      run.complains.line in
+      inr (
+        run.complains.status,
+        elim (of_memory _ _ session timetable run.shown (string_bytes instance)
+            (string_bytes solution) run.fails.of.of run.fails.of.line cause) [
+              | inl e ↦ inl (subst (λ l. told.tells old.errors (l ++ 10 ∷ []) end.is_err_written
+                  new.errors) e line)
+              | inr e ↦ inr (subst (λ l. told.tells old.errors (l ++ 10 ∷ []) end.is_err_written
+                  new.errors) e line)
+            ],
+      )
 
-  -- the run finds no breach
-  unbroken_run : (old new : Option (List ℕ))
-      → (task : Task) × IsTask words task × PrintsBroken stdin files task old new → ⊥
-  unbroken_run old new run =
-      task_of_check (λ task. PrintsBroken stdin files task old new → ⊥)
-      (λ instance solution one two prints. unbroken _ _ session timetable old new
-      (at_paths (λ f s. OfFiles f s (λ I E T. IsReported I E T old new 3)) _ _ one two prints))
-      run.0 (subst (λ w. IsTask w run.0) is run.1) run.2
+  of_refusal : (error : Error) → kind_of error ≡ kind.OutOfMemory
+      → Refuses store AreOfPort told contents old new error end → EndsSmall
+  of_refusal error memory (runs_out of complains) = inr (complains.status, inl complains.line)
+  of_refusal error memory (corrects mistake told_so) = absurd (mistake.0 memory)
+  of_refusal error memory (helps help done) = absurd (no_help _ memory help)
+  of_refusal error memory (fails_to_help help failed) = absurd (no_help _ memory help)
 
-  -- so it ends with status 0 or 1
-  pub status_of_run : (old new : Option (List ℕ)) (status : ℕ) → status ≤ 3
-      → (status ≡ 2 → fault_of_words words ≢ [])
-      → (status ≡ 3 → (task : Task) × IsTask words task × PrintsBroken stdin files task old new)
-      → (status ≡ 0) ⊎ (status ≡ 1)
-  status_of_run old new status within mistake broken =
-      let two : status ≢ 2 = λ e. mistake e (ap fault_of_words is ∙ no_mistake_to_check) in
-      let three : status ≢ 3 = λ e. unbroken_run old new (broken e) in
-      zero_or_one status within two three
-
-  module _ {W : Type 0} (tells : W → List ℕ → Bool → W → Type 0) (old new : W)
-      (printed_old printed_new : Option (List ℕ)) (is_written : Bool) where
-    abbrev TellsOfMemory : Type 0
-    TellsOfMemory = tells old (fault_line NoMemory ++ 10 ∷ []) is_written new
-        ⊎ tells old (fault_line CannotWrite ++ 10 ∷ []) is_written new
-
-    of_check : (instance solution : _) → string_bytes instance ≡ codes "small.exam"
-        → string_bytes solution ≡ codes "small.sol"
-        → WritesTaskFault tells stdin files (Check instance solution) old new printed_old
-        printed_new is_written → TellsOfMemory
-    of_check instance solution one two fault =
-        let cause = at_paths (λ f s. IsCheckCause f s fault.fault.of) _ _ one two
-        (fault.fault.cause (rw (one, two) refl)) in
-        let line : tells old (fault_line fault.shown ++ 10 ∷ []) is_written new =
-        subst (λ w. tells w (fault_line fault.shown ++ 10 ∷ []) is_written new) fault.silent
-        fault.line in
-        elim (of_memory _ _ session timetable fault.shown (string_bytes instance)
-        (string_bytes solution) fault.fault.of fault.fault.line cause) [
-          | inl e ↦ inl (subst (λ l. tells old (l ++ 10 ∷ []) is_written new) e line)
-          | inr e ↦ inr (subst (λ l. tells old (l ++ 10 ∷ []) is_written new) e line)
-        ]
-
-    -- a fault of the run is one of memory
-    pub fault_of_run : WritesFault tells stdin files words old new printed_old printed_new is_written
-        → TellsOfMemory
-    fault_of_run (inl (task, named, fault)) =
-        task_of_check (λ task. WritesTaskFault tells stdin files task old new printed_old printed_new
-        is_written → TellsOfMemory) of_check task (subst (λ w. IsTask w task) is named) fault
-    fault_of_run (inr (inl (inl memory))) = inl memory.0
-    fault_of_run (inr (inl (inr help))) = inr help.1
-    fault_of_run (inr (inr (task, named, fault))) =
-        task_of_check (λ task. WritesSolutionFaults tells stdin files task old new printed_old
-        printed_new is_written → TellsOfMemory) (λ instance solution one two never. absurd never)
-        task (subst (λ w. IsTask w task) is named) fault
+  pub ends_small : Runs store AreOfPort told contents old new words end → EndsSmall
+  ends_small (refuses error kinds refused) =
+      let none : fault_of_words words ≡ [] = ap fault_of_words is ∙ no_mistake_to_check in
+      of_refusal error (only_memory error (subst (λ k. HasKind k error) none kinds)) refused
+  ends_small (runs_command task right named runs) =
+      task_of_check (λ task. RunsTask store AreOfPort told contents old new task end → EndsSmall)
+      of_task task (subst (λ w. IsTask w task) is named) runs

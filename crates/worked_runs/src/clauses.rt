@@ -1,5 +1,5 @@
-// What the clauses of a run say by themselves, if the words and the files are known.
-ghost use Rattle.std.specs.Prelude.{◌≡◌, ◌⊎◌, ◌++◌, IfOk, IsSomeAnd, IsTrue, None, Some, codes};
+// What the clause of a run says by itself, if the words and the files are known.
+ghost use Rattle.std.specs.Prelude.{◌≡◌, ◌⊎◌, IfOk, IsSomeAnd, IsTrue, None, Some, [], codes};
 ghost use Rattle.sqlite.specs.Held.{state};
 ghost use Rattle.sqlite.specs.Steps.{over_memory};
 ghost use Rattle.office_program.specs.Folders.{bytes_at};
@@ -7,10 +7,11 @@ ghost use Rattle.office_program.specs.Load.{Loads};
 ghost use Rattle.worked_runs.specs.SmallSession.{session_text, solution_text, ten_lines};
 
 use crate::desktop::Desktop;
+use crate::memory::Memory;
 use crate::runs::{FILES, REPORTS};
 use crate::screen::Screen;
 use crate::visitors::OnePort;
-use office_program::{Ending, Folder, Shelf, run_words};
+use office_program::{Ending, Folder, Machine, Shelf, run_words};
 use sqlite::{Connection, MemStore};
 use std::alloc::AllocError;
 use std::cell::Cell;
@@ -28,12 +29,12 @@ fn clauses_say_what_a_check_and_a_load_of_the_small_session_do(
         has_terminal: false,
         lines: &lines,
     };
-    let (mut out, mut err) = (Vec::new(rt.alloc()), Screen::new(rt.alloc()));
-    let ending = check_small(&desktop, &Folder { files: FILES }, &mut out, &mut err)?;
+    let files = Folder { files: FILES };
+    let (ending, out, err) = check_small(&desktop, &files)?;
     assert_eq!(rt; ending.status, 0);
     assert_eq!(rt; out.as_slice(), REPORTS.as_bytes());
-    let mut out = Vec::new(rt.alloc());
-    let (ending, conn) = load_small(&desktop, &Folder { files: FILES }, &mut out, &mut err)?;
+    assert!(rt; err.bytes.is_empty());
+    let (ending, out, conn) = load_small(&desktop, &files)?;
     assert_eq!(rt; ending.status, 0);
     assert!(rt; conn.is_some());
     assert_eq!(rt;
@@ -43,26 +44,24 @@ fn clauses_say_what_a_check_and_a_load_of_the_small_session_do(
     Ok(())
 }
 
-// Runs `check` on the small session and its solution, which are in these files.
+// Runs `check` on the small session and its solution, which are in these files. Returns the ending,
+// and what was printed and told.
 fn check_small(
     desktop: &Desktop<'_>,
     files: &Folder<'_>,
-    out: &mut Vec<u8>,
-    err: &mut Screen,
-) -> Result<Ending, AllocError>
+) -> Result<(Ending, Vec<u8>, Screen), AllocError>
     requires session { bytes_at (codes "small.exam") files.now.files.now ≡ Some session_text }
     requires solution { bytes_at (codes "small.sol") files.now.files.now ≡ Some solution_text }
 
     // The ten lines are written and the status is 0, or it is 1.
-    ensures status { IfOk result (λ ending. (ending.status ≡ 0) ⊎ (ending.status ≡ 1)) }
-    ensures lines { IfOk result (λ ending. ending.status ≡ 0
-        → out.new.items ≡ out.old.items ++ ten_lines) }
+    ensures status { IfOk result (λ run. (run.0.status ≡ 0) ⊎ (run.0.status ≡ 1)) }
+    ensures lines { IfOk result (λ run. run.0.status ≡ 0 → run.1.items ≡ ten_lines) }
 
     // Then memory ran out for the run or for `out`, and the line that was tried to be written says
     // so.
-    ensures fault { IfOk result (λ ending. ending.status ≡ 1 → IsTrue ending.is_err_written
-        → (err.new.bytes.items ≡ err.old.bytes.items ++ codes "examoffice: no memory\n")
-        ⊎ (err.new.bytes.items ≡ err.old.bytes.items ++ codes "examoffice: cannot write\n")) }
+    ensures fault { IfOk result (λ run. run.0.status ≡ 1 → IsTrue run.0.is_err_written
+        → (run.2.bytes.items ≡ codes "examoffice: no memory\n")
+        ⊎ (run.2.bytes.items ≡ codes "examoffice: cannot write\n")) }
 {
     let alloc = desktop.alloc;
     let words = [
@@ -71,31 +70,35 @@ fn check_small(
         String::from_str(alloc, "small.exam")?,
         String::from_str(alloc, "small.sol")?,
     ];
-    let mut shelf = Shelf {
-        path: "term.db",
-        conn: None,
+    let mut machine: Machine<'_, Memory<'_, '_>> = Machine {
+        host: desktop,
+        files,
+        databases: Shelf {
+            path: "term.db",
+            conn: None,
+        },
+        ports: OnePort::closed(),
+        stdin: b"".as_slice(),
+        out: Vec::new(alloc),
+        err: Screen::new(alloc),
     };
-    let (mut net, mut stdin) = (OnePort::closed(), b"".as_slice());
-    let ending = run_words(
-        desktop, files, &mut shelf, &mut net, &mut stdin, &words, out, err,
-    );
-    Ok(ending)
+    let ending = run_words(&mut machine, &words);
+    Ok((ending, machine.out, machine.err))
 }
 
-// Loads the small session into a new database in memory, and returns that too.
+// Loads the small session into a new database in memory. Returns the ending, what was printed, and
+// that database.
 fn load_small(
     desktop: &Desktop<'_>,
     files: &Folder<'_>,
-    out: &mut Vec<u8>,
-    err: &mut Screen,
-) -> Result<(Ending, Option<Connection<MemStore>>), AllocError>
+) -> Result<(Ending, Vec<u8>, Option<Connection<MemStore>>), AllocError>
     requires session { bytes_at (codes "small.exam") files.now.files.now ≡ Some session_text }
 
     // Nothing is assumed of the disk: the office, which had no session, has that of the text, all
     // is committed, and the counts are printed.
-    ensures loaded { IfOk result (λ done. done.0.status ≡ 0
-        → IsSomeAnd done.1 (λ conn. Loads session_text None (state over_memory conn)
-        (Some out.old.items) (Some out.new.items))) }
+    ensures loaded { IfOk result (λ run. run.0.status ≡ 0
+        → IsSomeAnd run.2 (λ conn. Loads session_text None (state over_memory conn)
+        (Some []) (Some run.1.items))) }
 {
     let alloc = desktop.alloc;
     let words = [
@@ -105,14 +108,18 @@ fn load_small(
         String::from_str(alloc, "term.db")?,
         String::from_str(alloc, "small.exam")?,
     ];
-    let mut shelf = Shelf {
-        path: "term.db",
-        conn: Some(Connection::open_in_memory(alloc)?),
+    let mut machine: Machine<'_, Memory<'_, '_>> = Machine {
+        host: desktop,
+        files,
+        databases: Shelf {
+            path: "term.db",
+            conn: Some(Connection::open_in_memory(alloc)?),
+        },
+        ports: OnePort::closed(),
+        stdin: b"".as_slice(),
+        out: Vec::new(alloc),
+        err: Screen::new(alloc),
     };
-    let (mut net, mut stdin) = (OnePort::closed(), b"".as_slice());
-    let ending = run_words(
-        desktop, files, &mut shelf, &mut net, &mut stdin, &words, out, err,
-    );
-    let Shelf { path: _, conn } = shelf;
-    Ok((ending, conn))
+    let ending = run_words(&mut machine, &words);
+    Ok((ending, machine.out, machine.databases.conn))
 }

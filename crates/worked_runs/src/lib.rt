@@ -6,6 +6,8 @@ mod clauses;
 #[cfg(test)]
 mod desktop;
 #[cfg(test)]
+mod memory;
+#[cfg(test)]
 mod runs;
 #[cfg(test)]
 mod screen;

@@ -1,8 +1,9 @@
 // An office in a database in memory, from the load of its session to the export of its timetable.
 use crate::desktop::Desktop;
+use crate::memory::Memory;
 use crate::screen::Screen;
 use crate::visitors::{OnePort, Visitor, Waiting};
-use office_program::{Folder, FolderFile, Shelf, run_words};
+use office_program::{Folder, FolderFile, Machine, Shelf, run_words};
 use sqlite::Connection;
 use std::alloc::{AllocError, Global};
 use std::cell::Cell;
@@ -169,15 +170,13 @@ fn an_office_in_memory_is_loaded_served_and_exported(rt: HostRuntime) -> Result<
         path: "term.db",
         conn: Some(conn),
     };
-    let mut net = port_of(rt.alloc(), &[PUBLISHING, ASKING])?;
+    let mut port = port_of(rt.alloc(), &[PUBLISHING, ASKING])?;
     for run in RUNS {
-        assert_outcome(
-            &rt,
-            &outcome_of(rt.alloc(), &mut shelf, &mut net, run.0)?,
-            run,
-        );
+        let outcome = outcome_of(rt.alloc(), shelf, port, run.0)?;
+        assert_outcome(&rt, &outcome, run);
+        (shelf, port) = (outcome.shelf, outcome.port);
     }
-    assert_received(&rt, &net, &[PUBLISHED, PAGE]);
+    assert_received(&rt, &port, &[PUBLISHED, PAGE]);
     Ok(())
 }
 
@@ -200,24 +199,25 @@ fn port_of<'a>(alloc: Global, sent: &[&'a [u8]]) -> Result<OnePort<'a>, AllocErr
     })
 }
 
-// What a run did: the status, and the bytes of the two writers and of the terminal.
+// What a run did: the status, the bytes of the two writers and of the terminal, and what it left.
 #[derive(Drop)]
-struct Outcome {
+struct Outcome<'a> {
     status: u8,
     out: Vec<u8>,
     err: Vec<u8>,
     lines: Vec<u8>,
+    shelf: Shelf<'a>,
+    port: OnePort<'a>,
 }
 
 // Runs the program on a machine with a terminal, with the files, this database and this port.
-fn outcome_of(
+fn outcome_of<'a>(
     alloc: Global,
-    shelf: &mut Shelf<'_>,
-    net: &mut OnePort<'_>,
+    shelf: Shelf<'a>,
+    port: OnePort<'a>,
     words: &[&str],
-) -> Result<Outcome, AllocError> {
+) -> Result<Outcome<'a>, AllocError> {
     let words = program_words(alloc, words)?;
-    let (mut out, mut err) = (Vec::new(alloc), Screen::new(alloc));
     let files = Folder { files: FILES };
     let lines = Cell::new(None);
     let desktop = Desktop {
@@ -227,20 +227,28 @@ fn outcome_of(
         has_terminal: true,
         lines: &lines,
     };
-    let mut stdin = b"".as_slice();
-    let ending = run_words(
-        &desktop, &files, shelf, net, &mut stdin, &words, &mut out, &mut err,
-    );
+    let mut machine: Machine<'_, Memory<'_, '_>> = Machine {
+        host: &desktop,
+        files: &files,
+        databases: shelf,
+        ports: port,
+        stdin: b"".as_slice(),
+        out: Vec::new(alloc),
+        err: Screen::new(alloc),
+    };
+    let ending = run_words(&mut machine, &words);
     Ok(Outcome {
         status: ending.status,
-        out,
-        err: err.bytes,
+        out: machine.out,
+        err: machine.err.bytes,
         lines: lines.take().unwrap_or(Vec::new(alloc)),
+        shelf: machine.databases,
+        port: machine.ports,
     })
 }
 
 // Ends the test if a run did something else than expected.
-fn assert_outcome(rt: &impl Abort, found: &Outcome, run: &Run<'_>) {
+fn assert_outcome(rt: &impl Abort, found: &Outcome<'_>, run: &Run<'_>) {
     let (words, status, out, err, lines) = *run;
     assert_eq!(rt; found.status, status, "{words:?}");
     assert_eq!(rt; found.out.as_slice(), out.as_bytes(), "{words:?}");
@@ -249,9 +257,9 @@ fn assert_outcome(rt: &impl Abort, found: &Outcome, run: &Run<'_>) {
 }
 
 // Ends the test if the clients of the port were sent other bytes than these.
-fn assert_received(rt: &impl Abort, net: &OnePort<'_>, expected: &[&[u8]]) {
-    assert!(rt; net.waiting.is_some());
-    if let Some(waiting) = &net.waiting {
+fn assert_received(rt: &impl Abort, port: &OnePort<'_>, expected: &[&[u8]]) {
+    assert!(rt; port.waiting.is_some());
+    if let Some(waiting) = &port.waiting {
         assert_eq!(rt; waiting.visitors.len(), expected.len());
         for (visitor, bytes) in waiting.visitors.iter().zip(expected) {
             assert!(rt; visitor.received.is_some());

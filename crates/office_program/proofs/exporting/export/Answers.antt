@@ -1,6 +1,7 @@
-use Rattle.std.proofs.Common.{inl, inr, rules}
+use Rattle.std.proofs.Common.{inl, inr}
 use Rattle.office_model.specs.declared.fault.StoreFault.TheVariants.{BadSchema}
 use Rattle.office_program.specs.declared.exporting.ExportFault.TheVariants.{Store}
+use Rattle.office_program.proofs.DatabaseFacts.{others_kept}
 use Rattle.office_program.proofs.exporting.export.Goals as goal
 
 -- the database that was opened is given back
@@ -10,6 +11,7 @@ returns-in-Ok-export_run-clause-uses g c = record {
   after = c.in-Ok-export_run.conn;
   opened = c.in-Ok.ensures.opened;
   given_back = c.take_back.ensures.back;
+  others = others_kept _ _ _ _ c.in-Ok.ensures.others c.take_back.ensures.others;
   holds = c.in-Ok-export_run.ensures.done;
 }
 
@@ -21,26 +23,31 @@ returns-in-Err-export_run-clause-unwritten g c = λ other.
 
 -- and so it is if nothing is exported
 pub returns-in-Err-export_run-clause-leaves : goal.returns-in-Err-export_run-clause-leaves
-returns-in-Err-export_run-clause-leaves g c = inr (record {
+returns-in-Err-export_run-clause-leaves g c = inr (inr (record {
   before = c.in-Ok.conn;
   after = c.in-Err-export_run.conn;
   opened = c.in-Ok.ensures.opened;
   given_back = c.take_back-in-Err-export_run.ensures.back;
+  others = others_kept _ _ _ _ c.in-Ok.ensures.others c.take_back-in-Err-export_run.ensures.others;
   holds = record {
     of = c.in-Err-export_run.fault;
     line = c.fault_of_export.ensures.line;
     refused = c.in-Err-export_run.ensures.refused;
+    foreign = c.in-Err-export_run.ensures.foreign;
     stays = c.in-Err-export_run.ensures.stays;
     survives = c.in-Err-export_run.ensures.survives;
   };
-})
+}))
 
 -- a database that can't be opened, or an empty file
 pub returns-in-Err-clause-fault : goal.returns-in-Err-clause-fault
-returns-in-Err-clause-fault g c = elim c.in-Err.ensures.failed.line [
-  | inl unopened ↦ inl unopened
-  | inr schema ↦ inr (Store BadSchema, schema)
+returns-in-Err-clause-fault g c = elim c.in-Err.ensures.failed [
+  | inl unopened ↦ inl (unopened.of, unopened.line)
+  | inr empty ↦ inr (Store BadSchema, empty.line)
 ]
 
 pub returns-in-Err-clause-leaves : goal.returns-in-Err-clause-leaves
-returns-in-Err-clause-leaves g c = inl c.in-Err.ensures.failed
+returns-in-Err-clause-leaves g c = elim c.in-Err.ensures.failed [
+  | inl unopened ↦ inl unopened
+  | inr empty ↦ inr (inl empty)
+]

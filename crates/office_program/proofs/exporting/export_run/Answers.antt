@@ -6,6 +6,7 @@ use Rattle.office_program.specs.Export.{Exports}
 use Rattle.office_store.specs.Opening.{HoldsOffice}
 use Rattle.office_store.specs.Running.{Represents}
 use Rattle.office_store.proofs.OpenLemmas.{kept_holds}
+use Rattle.office_program.proofs.ForeignFacts.{if_read, unadopted_foreign}
 use Rattle.office_program.proofs.LoadFacts.{export_survives}
 use Rattle.office_program.proofs.exporting.export_run.Goals as goal
 
@@ -18,14 +19,31 @@ returns-in-Err-clause-refused g c = λ clean there holds. elim c.in-Err.ensures.
 
 -- the publication of the office that was found is written
 pub returns-in-Ok-export_from-clause-done : goal.returns-in-Ok-export_from-clause-done
-returns-in-Ok-export_from-clause-done g c = λ clean there holds.
+returns-in-Ok-export_from-clause-done g c = λ clean.
     let now = subst (λ held. HasCleanDisk (state g.S.Store held)) c.release.ensures clean in
     let found = c.in-Ok.ensures.adopted (c.export_from.ensures.ran.clean now) in
-    subst (λ held. Exports there (state g.S.Store held)
-    (g.W.Write.contents c.args.writer.now) (g.W.Write.contents c.export_from.new.writer))
-    (sym c.release.ensures)
-    (c.in-Ok-export_from.ensures.ran.runs now there
-    (λ opened. found.represents there holds)).done
+    record {
+      there = found.office;
+      stood = found.stood;
+      of = λ there holds. subst (λ held. Exports there (state g.S.Store held)
+          (g.W.Write.contents c.args.writer.now) (g.W.Write.contents c.export_from.new.writer))
+          (sym c.release.ensures)
+          (c.in-Ok-export_from.ensures.ran.runs now there
+          (λ opened. found.represents there holds)).done;
+    }
+
+-- tables of others
+pub returns-in-Err-clause-foreign : goal.returns-in-Err-clause-foreign
+returns-in-Err-clause-foreign g c = unadopted_foreign g.S.Store c.args.conn
+    (c.in-Err.fault, c.in-Err.conn) c.in-Err.ensures.fault c.in-Err.ensures.leaves
+
+pub returns-in-Err-export_from-clause-foreign : goal.returns-in-Err-export_from-clause-foreign
+returns-in-Err-export_from-clause-foreign g c =
+    if_read c.in-Err-export_from.fault _ (λ of clean none.
+    let now = subst (λ held. HasCleanDisk (state g.S.Store held))
+    c.release-in-Err-export_from.ensures clean in
+    let found = c.in-Ok.ensures.adopted (c.export_from.ensures.ran.clean now) in
+    absurd (none found.office found.stood))
 
 -- the office that was found refuses
 pub returns-in-Err-export_from-clause-refused : goal.returns-in-Err-export_from-clause-refused

@@ -1,4 +1,4 @@
-use Rattle.std.proofs.Common.{◌∙◌, ◌++◌, ◌∷◌, [], ap, map, refl, string_bytes, subst, sym, take}
+use Rattle.std.proofs.Common.{◌∙◌, ◌++◌, ◌∷◌, [], ap, map, string_bytes, subst, sym, take}
 use Rattle.std.proofs.lemmas.List.{map_more}
 use Rattle.office_program.specs.CheckAll.{HasOutcomes}
 use Rattle.office_program.specs.Sources.{file_at}
@@ -6,7 +6,7 @@ use Rattle.office_program.proofs.CheckAllFacts.{no_outcome, outcome_more}
 use Rattle.office_program.proofs.judging.judge_each.Goals as goal
 
 pub loop-path-init : goal.loop-path-init
-loop-path-init g c = record { outcomes = no_outcome _ _ _ _ _ _ _; quiet = λ sound. refl }
+loop-path-init g c = record { outcomes = no_outcome _ _ _ _ _ _ _ }
 
 -- one more solution
 pub loop-path-preserved : goal.loop-path-preserved
@@ -22,7 +22,4 @@ loop-path-preserved g c = record {
       ++ path ∷ []) (ap string_bytes (sym c.path-item.is) ∙ sym c.deref.ensures)))
       (outcome_more _ _ _ _ _ _ _ _ _ _ _ _ _ _ _ c.loop-path.invariant.outcomes
       c.in_ok-found.ensures.ok);
-  quiet = λ sound.
-      let so_far = c.in_ok-found.ensures.quiet sound in
-      so_far.1 ∙ c.loop-path.invariant.quiet so_far.0;
 }

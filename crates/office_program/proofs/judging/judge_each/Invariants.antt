@@ -1,4 +1,4 @@
-use Rattle.std.proofs.Common.{◌≡◌, false, map, string_bytes, take}
+use Rattle.std.proofs.Common.{map, string_bytes, take}
 use Rattle.office_program.specs.CheckAll.{HasOutcomes}
 use Rattle.office_program.specs.Sources.{file_at}
 use Rattle.office_program.proofs.judging.judge_each.Given as goal
@@ -10,5 +10,4 @@ invariant-loop-path g l = record {
       l.form (map string_bytes (take l.path-index l.solutions))
       (g.W.Write.contents l.fn.out) (g.W.Write.contents l.out)
       l.fn.err l.err l.found;
-  quiet : l.found.has_fault ≡ false → l.err ≡ l.fn.err;
 }

@@ -1,11 +1,11 @@
 use Rattle.std.proofs.Common.{inl, refl}
-use Rattle.office_program.specs.Serve.{AreOfPort}
-use Rattle.office_program.proofs.DatabaseFacts.{served_err, served_ok}
+use Rattle.office_program.specs.Serve.{AreOfPorts}
+use Rattle.office_program.proofs.DatabaseFacts.{others_kept, served_err, served_ok}
 use Rattle.office_program.proofs.serving.open_and_serve.Goals as goal
 
 -- no database was opened
 pub returns-in-Err-clause-fault : goal.returns-in-Err-clause-fault
-returns-in-Err-clause-fault g c = inl c.in-Err.ensures.failed.line
+returns-in-Err-clause-fault g c = inl (c.in-Err.ensures.failed.of, c.in-Err.ensures.failed.line)
 
 pub returns-in-Err-clause-unserved : goal.returns-in-Err-clause-unserved
 returns-in-Err-clause-unserved g c =
@@ -15,17 +15,19 @@ returns-in-Err-clause-unserved g c =
 pub returns-clause-serves : goal.returns-clause-serves
 returns-clause-serves g c = served_ok g.S.Store (g.D.Databases.known c.args.databases.now)
     (g.D.Databases.known c.take_back.new.self)
-    (λ port. AreOfPort (λ old. g.N.Ports.opens old port) g.N.Ports.closes g.I.Clients.accepts
+    (AreOfPorts g.N.Ports.opens g.N.Ports.closes g.I.Clients.accepts
     g.I.Clients.takes_back g.R.Read.remaining g.W.Write.contents c.args.net.now
     c.serve_office-conn.new.net)
     _ _ _ c.args.database.now c.args.terms c.in-Ok.conn c.serve_office-conn.result.0
-    c.in-Ok.ensures.opened c.take_back.ensures.back c.serve_office-conn.ensures.reached
+    c.in-Ok.ensures.opened c.take_back.ensures.back
+    (others_kept _ _ _ _ c.in-Ok.ensures.others c.take_back.ensures.others) c.serve_office-conn.ensures.reached
 
 pub returns-clause-unserved : goal.returns-clause-unserved
 returns-clause-unserved g c = served_err g.S.Store (g.D.Databases.known c.args.databases.now)
     (g.D.Databases.known c.take_back.new.self)
-    (λ port. AreOfPort (λ old. g.N.Ports.opens old port) g.N.Ports.closes g.I.Clients.accepts
+    (AreOfPorts g.N.Ports.opens g.N.Ports.closes g.I.Clients.accepts
     g.I.Clients.takes_back g.R.Read.remaining g.W.Write.contents c.args.net.now
     c.serve_office-conn.new.net)
     _ _ _ c.args.database.now c.args.terms c.in-Ok.conn c.serve_office-conn.result.0
-    c.in-Ok.ensures.opened c.take_back.ensures.back c.serve_office-conn.ensures.reached
+    c.in-Ok.ensures.opened c.take_back.ensures.back
+    (others_kept _ _ _ _ c.in-Ok.ensures.others c.take_back.ensures.others) c.serve_office-conn.ensures.reached

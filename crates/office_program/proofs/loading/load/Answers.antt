@@ -1,7 +1,7 @@
 use Rattle.std.proofs.Common.{inl, inr, refl, rules}
 use Rattle.std.proofs.lemmas.Result.{IfOk-weaker}
 use Rattle.exam_lists.proofs.Results.{IfErr_both}
-use Rattle.office_program.proofs.program.load.Goals as goal
+use Rattle.office_program.proofs.loading.load.Goals as goal
 
 -- the fault of an office is one of `load`
 pub returns-in-Ok-clause-fault : goal.returns-in-Ok-clause-fault
@@ -11,10 +11,11 @@ returns-in-Ok-clause-fault g c =
     inr (c.deref.result.now, search rules, of)) of of
 
 -- the text of the file is loaded
-pub returns-in-Ok-clause-uses : goal.returns-in-Ok-clause-uses
-returns-in-Ok-clause-uses g c =
-    IfOk-weaker c.load_text.result _ _ (λ ending used. (c.deref.result.now, search rules, used))
-    c.load_text.ensures.uses
+pub returns-in-Ok-clause-loaded : goal.returns-in-Ok-clause-loaded
+returns-in-Ok-clause-loaded g c =
+    IfOk-weaker c.load_text.result _ _ (λ done loaded.
+    (c.deref.result.now, search rules, loaded.0, loaded.1))
+    c.load_text.ensures.loaded
 
 -- a fault leaves of the database what it leaves if its text is loaded
 pub returns-in-Ok-clause-leaves : goal.returns-in-Ok-clause-leaves
