@@ -615,7 +615,7 @@ def words_of_pages(run):
     run.judge("rules in words", set(re.findall(r"`(\w+)`", rules)), keys("RULES"))
     run.judge("faults in words", set(), keys("FAULTS") - set(
         re.findall(r"^\| (\d+) [A-Z]\w+ \|", numbered, re.M)))
-    of_the_front = {"often", "ledger", "names", "files-differ", "unreadable"}
+    of_the_front = {"often", "ledger", "ledger-differs", "names", "files-differ", "unreadable"}
     run.judge("errors in words", {error for _, error in openapi.formats()[0]} | of_the_front,
               keys("REFUSALS") | {"forbidden", "broken", "unplaced", "file"})
 
