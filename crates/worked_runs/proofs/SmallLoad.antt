@@ -40,7 +40,8 @@ no_doubt : (conn : Held MemStore) → HasCleanDisk (state over_memory conn)
 unfolding doubt
 no_doubt conn = refl
 
-one_is_not_0 : (n : ℕ) → n ≡ 1 → n ≡ 0 → ⊥
+-- a status is one number
+pub one_is_not_0 : (n : ℕ) → n ≡ 1 → n ≡ 0 → ⊥
 one_is_not_0 n one zero = let never : 1 ≡ 0 = sym one ∙ zero in absurd (omega (arith, never))
 
 module _ {N E : Type 0} (AreOfPort : (old new : N) → ℕ → Bool → List Visit → Type 0)

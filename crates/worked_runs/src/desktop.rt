@@ -20,8 +20,8 @@ pub(crate) struct Desktop<'a> {
 }
 
 impl Desktop<'_> {
-    // Takes the lines that were written.
-    fn taken(&self) -> Vec<u8> {
+    /// Takes the lines that were written.
+    pub(crate) fn taken(&self) -> Vec<u8> {
         self.lines.take().unwrap_or(Vec::new(self.alloc))
     }
 }

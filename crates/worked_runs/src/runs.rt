@@ -1,4 +1,6 @@
 // An office in a database in memory, from the load of its session to the export of its timetable.
+ghost use Rattle.std.specs.Prelude.{IsTrue};
+
 use crate::desktop::Desktop;
 use crate::memory::Memory;
 use crate::screen::Screen;
@@ -171,8 +173,17 @@ fn an_office_in_memory_is_loaded_served_and_exported(rt: HostRuntime) -> Result<
         conn: Some(conn),
     };
     let mut port = port_of(rt.alloc(), &[PUBLISHING, ASKING])?;
+    let lines = Cell::new(None);
+    let desktop = Desktop {
+        alloc: rt.alloc(),
+        large: "small.exam",
+        small: "term.db",
+        has_terminal: true,
+        lines: &lines,
+    };
+    let files = Folder { files: FILES };
     for run in RUNS {
-        let outcome = outcome_of(rt.alloc(), shelf, port, run.0)?;
+        let outcome = outcome_of(&desktop, &files, shelf, port, run.0)?;
         assert_outcome(&rt, &outcome, run);
         (shelf, port) = (outcome.shelf, outcome.port);
     }
@@ -210,26 +221,21 @@ struct Outcome<'a> {
     port: OnePort<'a>,
 }
 
-// Runs the program on a machine with a terminal, with the files, this database and this port.
+// Runs the program on a machine with a terminal, with these files, this database and this port.
 fn outcome_of<'a>(
-    alloc: Global,
+    desktop: &Desktop<'_>,
+    files: &Folder<'a>,
     shelf: Shelf<'a>,
     port: OnePort<'a>,
     words: &[&str],
-) -> Result<Outcome<'a>, AllocError> {
+) -> Result<Outcome<'a>, AllocError>
+    requires { IsTrue desktop.now.has_terminal }
+{
+    let alloc = desktop.alloc;
     let words = program_words(alloc, words)?;
-    let files = Folder { files: FILES };
-    let lines = Cell::new(None);
-    let desktop = Desktop {
-        alloc,
-        large: "small.exam",
-        small: "term.db",
-        has_terminal: true,
-        lines: &lines,
-    };
     let mut machine: Machine<'_, Memory<'_, '_>> = Machine {
-        host: &desktop,
-        files: &files,
+        host: desktop,
+        files,
         databases: shelf,
         ports: port,
         stdin: b"".as_slice(),
@@ -241,7 +247,7 @@ fn outcome_of<'a>(
         status: ending.status,
         out: machine.out,
         err: machine.err.bytes,
-        lines: lines.take().unwrap_or(Vec::new(alloc)),
+        lines: desktop.taken(),
         shelf: machine.databases,
         port: machine.ports,
     })

@@ -1,5 +1,5 @@
 // Lines in memory.
-ghost use Rattle.std.specs.Prelude.{◌++◌, ◌∷◌, [], IsTrue, Some, codes};
+ghost use Rattle.std.specs.Prelude.{◌≡◌, ◌++◌, ◌∷◌, [], IsTrue, Some, codes};
 ghost use Rattle.std.specs.Io.KnownBytes.{Appends};
 
 use clap::Error;
@@ -15,7 +15,9 @@ pub(crate) struct Screen {
 }
 
 impl Screen {
-    pub(crate) fn new(alloc: Global) -> Screen {
+    pub(crate) fn new(alloc: Global) -> Screen
+        ensures { result.bytes.items ≡ [] }
+    {
         Screen {
             bytes: Vec::new(alloc),
         }

@@ -1,13 +1,10 @@
-use Rattle.std.proofs.Common.{[], ◌∷◌, ◌≡◌, ◌∙◌, Bool, List, Option, Some, ap, inl, inr, refl, ℕ}
-use Rattle.std.specs.Io.KnownBytes.{Appends}
+use Rattle.std.proofs.Common.{[], ◌∷◌, ◌≡◌, ◌∙◌, ◌++◌, List, Option, Some, ap, inl, inr, refl, ℕ}
+use Rattle.std.specs.Prelude.{codes}
 use Rattle.office_program.specs.Folders.{bytes_at}
-use Rattle.office_program.specs.Program.{fault_of_words}
 use Rattle.office_program.specs.Sources.{Known}
-use Rattle.std.specs.Prelude.{IsTrue, codes}
-use Rattle.worked_runs.specs.SmallSession.{check_words, session_text, solution_text}
-use Rattle.worked_runs.proofs.SmallRun.{fault_of_run, lines_of_run, status_of_run}
-use Rattle.worked_runs.specs.declared.screen.Screen.{Screen}
-use Rattle.worked_runs.proofs.SmallWords.{no_mistake_to_check}
+use Rattle.worked_runs.specs.SmallSession.{check_words, session_text, solution_text, ten_lines}
+use Rattle.worked_runs.proofs.SmallLoad.{one_is_not_0}
+use Rattle.worked_runs.proofs.SmallRun.{ends_small}
 use Rattle.worked_runs.proofs.clauses.check_small.Goals as goal
 
 pub returns : goal.returns
@@ -22,24 +19,22 @@ returns c =
       c.in_ok-from_str-4.ensures.ok,
     ) refl in
     let files : List ℕ → Known = λ path. Some (bytes_at path c.args.files.now.files.now) in
-    let stdin : Option (List ℕ) = Some c.as_slice-stdin.result.now in
-    let old : Option (List ℕ) = Some c.args.out.now.items in
-    let new : Option (List ℕ) = Some c.run_words-ending.new.out.items in
     let session : files (codes "small.exam") ≡ Some (Some session_text) = ap Some c.requires.session in
     let solution : files (codes "small.sol") ≡ Some (Some solution_text) = ap Some c.requires.solution in
-    let no_mistake : fault_of_words words ≡ [] = ap fault_of_words are ∙ no_mistake_to_check in
-    let tells : Screen → List ℕ → Bool → Screen → Type 0 = λ before line is_written after. IsTrue is_written
-    → Appends (Some before.bytes.items) (Some after.bytes.items) line in
+    let ends = ends_small _ _ _ _ _ _ _ words are session solution c.run_words-ending.ensures in
     record {
-      status = status_of_run words are stdin files session solution old new
-          c.run_words-ending.result.status c.run_words-ending.ensures.within
-          c.run_words-ending.ensures.mistake c.run_words-ending.ensures.reported;
-      lines = λ zero. lines_of_run words are stdin files session solution old new
-          (c.run_words-ending.ensures.done zero no_mistake);
-      fault = λ one is_written. elim (fault_of_run words are stdin files session solution tells
-          c.args.err.now c.run_words-ending.new.err old new c.run_words-ending.result.is_err_written
-          (c.run_words-ending.ensures.err_line one)) [
-            | inl told ↦ inl (told is_written)
-            | inr told ↦ inr (told is_written)
-          ];
+      status = elim ends [ inl done ↦ inl done.0 | inr failed ↦ inr failed.0 ];
+      lines = λ zero. elim ends [
+        | inl done ↦ done.1 ∙ ap (λ (a : List ℕ). a ++ ten_lines) c.new.ensures.items
+        | inr failed ↦ absurd (one_is_not_0 _ failed.0 zero)
+      ];
+      fault = λ one is_written. elim ends [
+        | inl done ↦ absurd (one_is_not_0 _ one done.0)
+        | inr failed ↦ elim failed.1 [
+          | inl told ↦ inl (told is_written
+              ∙ ap (λ (a : List ℕ). a ++ codes "examoffice: no memory\n") c.new-2.ensures)
+          | inr told ↦ inr (told is_written
+              ∙ ap (λ (a : List ℕ). a ++ codes "examoffice: cannot write\n") c.new-2.ensures)
+        ]
+      ];
     }

@@ -1,14 +1,16 @@
-use Rattle.std.proofs.Common.{[], ◌∷◌, ◌≡◌, ◌∙◌, ◌≤◌, Bool, List, Option, Some, ap, refl, sym, ℕ}
+use Rattle.std.proofs.Common.{[], ◌∷◌, ◌≡◌, ◌≤◌, Bool, List, None, Option, Some, ap, refl, subst, sym, ℕ}
 use Rattle.std.specs.Prelude.{IfSome, IsTrue, codes}
+use Rattle.std.specs.Option.{IsSomeAnd}
 use Rattle.std.specs.Str.{bytes_eq}
+use Rattle.sqlite.specs.Held.{state}
+use Rattle.sqlite.specs.Steps.{over_memory}
 use Rattle.office_program.specs.Folders.{bytes_at}
-use Rattle.office_program.specs.Program.{fault_of_words}
+use Rattle.office_program.specs.Load.{Loads}
 use Rattle.office_program.specs.Sources.{Known}
 use Rattle.office_program.specs.declared.surroundings.Found.{Found}
 use Rattle.office_program.proofs.NoticeFacts.{may_note_work}
 use Rattle.worked_runs.specs.SmallSession.{load_words, session_text}
 use Rattle.worked_runs.proofs.SmallLoad.{loaded_small}
-use Rattle.worked_runs.proofs.SmallWords.{no_mistake_to_load}
 use Rattle.worked_runs.proofs.clauses.load_small.Goals as goal
 
 pub run_words-ending-requires-clause-works : goal.run_words-ending-requires-clause-works
@@ -33,11 +35,13 @@ returns c =
     ) refl in
     let files : List ℕ → Known = λ path. Some (bytes_at path c.args.files.now.files.now) in
     let session : files (codes "small.exam") ≡ Some (Some session_text) = ap Some c.requires.session in
-    let no_mistake : fault_of_words words ≡ [] = ap fault_of_words are ∙ no_mistake_to_load in
     record {
-      loaded = λ zero. loaded_small words are files session (codes "term.db")
-          c.run_words-ending.new.databases.path.now c.in_ok-open_in_memory.field-0
-          c.in_ok-open_in_memory.ensures.empty.2 c.run_words-ending.new.databases.conn
-          (Some c.args.out.now.items) (Some c.run_words-ending.new.out.items) _
-          (c.run_words-ending.ensures.uses zero no_mistake) (λ database instance used. used);
+      loaded = λ zero. subst (λ (a : List ℕ). IsSomeAnd c.run_words-ending.new.machine.databases.conn
+          (λ after. Loads session_text None (state over_memory after) (Some a)
+          (Some c.run_words-ending.new.machine.out.items)))
+          c.new.ensures.items
+          (loaded_small _ _ _ _ _ _ words are session (codes "term.db")
+          c.run_words-ending.new.machine.databases.path.now c.in_ok-open_in_memory.field-0
+          c.in_ok-open_in_memory.ensures.empty.2 c.run_words-ending.new.machine.databases.conn refl refl
+          c.run_words-ending.ensures zero);
     }
