@@ -4,8 +4,8 @@
 What was loaded is read by sqlite3, and compared with docs/generated/TABLES.md and the small
 example; what sqlite3 wrote as drafted and published is found and exported; what a program before
 this one left becomes version 2 of the same office; a database that sqlite3 made, or changed so
-that it represents no office, is refused, and its dump by sqlite3 is then as it was. A failing case
-is printed with what was expected and what came, and the last line counts the cases.
+that it represents no office, is refused by each command, and its dump by sqlite3 is then as it was.
+A failing case is printed with what was expected and what came, and the last line counts the cases.
 """
 import pathlib
 import re
@@ -38,6 +38,7 @@ DRAFTED = ("INSERT INTO owner VALUES (2, 999)",
            "INSERT INTO slot VALUES (3, 0, 0, 0), (3, 1, 1, 0), (3, 2, 3, 1), (3, 3, 2, 0)")
 # An office is found, and has a session already; or what is found is no office's.
 FOUND, REFUSED = ((1, b"", b"examoffice: store fault %d\n" % fault) for fault in (1, 9))
+UNOPENED = 1, b"", b"examoffice: cannot open database\n"
 BATCHES = ("WITH RECURSIVE n(no) AS (VALUES (0) UNION ALL SELECT no + 1 FROM n LIMIT %d)"
            " INSERT INTO batch SELECT no, x'', 0, 0, 0 FROM n")
 # The stored session with a weight of nights at its end, which costs nothing: no two of its dates
@@ -165,6 +166,60 @@ FOR_NOTHING = (
     "INSERT INTO enrol (student, exam) VALUES (1000000000, 0)",
     "UPDATE draft SET in_day = 6 WHERE no = 3",
 )
+# Databases of others, each made by sqlite3 in a file of its own: none holds an office.
+PEOPLE = "CREATE TABLE people (name TEXT); INSERT INTO people VALUES ('Ada'), ('Ben')"
+FOREIGN = (
+    PEOPLE,
+    "CREATE TABLE people (name TEXT)",
+    "CREATE TABLE people (name TEXT PRIMARY KEY) WITHOUT ROWID; INSERT INTO people VALUES ('Ada')",
+    "CREATE TABLE people (no INTEGER PRIMARY KEY AUTOINCREMENT, name TEXT);"
+    " INSERT INTO people (name) VALUES ('Ada')",
+    "CREATE TABLE people (name TEXT UNIQUE, born INTEGER DEFAULT 0); INSERT INTO people"
+    " VALUES ('Ada', 1815)",
+    "CREATE TABLE people (name TEXT) STRICT; INSERT INTO people VALUES ('Ada')",
+    "CREATE TABLE people (name TEXT, long INTEGER AS (length(name))); INSERT INTO people"
+    " VALUES ('Ada')",
+    f"{PEOPLE}; CREATE INDEX by_name ON people (name)",
+    f"{PEOPLE}; CREATE VIEW names AS SELECT name FROM people",
+    f"{PEOPLE}; CREATE TRIGGER forgets AFTER INSERT ON people BEGIN DELETE FROM people; END",
+    f"{PEOPLE}; ANALYZE",
+    f"{PEOPLE}; CREATE TABLE sessions (exam TEXT); CREATE TABLE rooms (name TEXT)",
+    f"{PEOPLE}; PRAGMA user_version = 2",
+    f"{PEOPLE}; PRAGMA application_id = 1",
+    *(f"PRAGMA page_size = {size}; {PEOPLE}" for size in (512, 1024, 2048, 8192, 16384, 65536)),
+    f"{PEOPLE}; CREATE UNIQUE INDEX by_name ON people (name COLLATE NOCASE)",
+    f"{PEOPLE}; CREATE INDEX some ON people (name) WHERE name > 'B'",
+    f"{PEOPLE}; CREATE INDEX by_length ON people (length(name))",
+    f"{PEOPLE}; DELETE FROM people; VACUUM",
+    f"{PEOPLE}; CREATE TABLE marks (of TEXT REFERENCES people (name), mark INTEGER"
+    " CHECK (mark > 0)); INSERT INTO marks VALUES ('Ada', 1)",
+    ";".join(f"CREATE TABLE t{number} (x INTEGER)" for number in range(200)),
+    "CREATE TABLE wide (" + ", ".join(f"c{number} INTEGER" for number in range(300)) + ")",
+    "CREATE TABLE people (name BLOB); INSERT INTO people VALUES (zeroblob(100000))",
+    "CREATE TABLE people (name TEXT); WITH RECURSIVE n(no) AS (VALUES (0) UNION ALL"
+    " SELECT no + 1 FROM n LIMIT 5000) INSERT INTO people SELECT no FROM n",
+    "CREATE VIEW one AS SELECT 1",
+    "CREATE TABLE meta (id INTEGER, version INTEGER); INSERT INTO meta VALUES (0, 2)",
+    "CREATE TABLE owner (exam INTEGER NOT NULL PRIMARY KEY, dept INTEGER NOT NULL) STRICT",
+    "CREATE TABLE draft (no INTEGER); CREATE TABLE slot (draft INTEGER); INSERT INTO draft"
+    " VALUES (1)",
+)
+# Databases of others in forms that the program's library doesn't read.
+UNREAD = (
+    *(f"PRAGMA auto_vacuum = {kind}; {PEOPLE}" for kind in ("FULL", "INCREMENTAL")),
+    *(f"PRAGMA encoding = 'UTF-16{order}'; {PEOPLE}" for order in ("le", "be")),
+    "CREATE VIRTUAL TABLE notes USING fts5(text); INSERT INTO notes VALUES ('seen')",
+)
+# What makes of an office something that is none; and what mends one of them.
+NO_MORE = (
+    "ANALYZE",
+    "CREATE VIEW one AS SELECT 1",
+    "CREATE INDEX by_dept ON owner (dept)",
+    "CREATE TRIGGER forgets AFTER INSERT ON owner BEGIN DELETE FROM owner; END",
+    "ALTER TABLE owner ADD COLUMN since INTEGER",
+    "ALTER TABLE owner RENAME TO owners",
+)
+MENDED = "ANALYZE; DROP TABLE sqlite_stat1"
 EMPTY = ("owner", "draft", "slot", "placed", "seat", "share_student", "share_part", "batch",
          "night_draft", "night_share")
 
@@ -280,6 +335,51 @@ def tables_that_stand_for_nothing(program, folder):
         yield from found_or_refused(office, text, REFUSED, load)
 
 
+def commands_on(program, office):
+    """The three commands on a database, each with its words."""
+    return {"load": (program, "load", "--db", str(office), str(SMALL)),
+            "serve": (program, "serve", "--db", str(office), "--port", "0", "--connections", "1"),
+            "export": (program, "export", "--db", str(office))}
+
+
+def left_alone(program, office, name, expected=REFUSED):
+    """Each command, twice, on a database that holds no office, and that its rows stay."""
+    before = dumped(office)
+    for command, words in commands_on(program, office).items():
+        for time in "first", "second":
+            yield f"{name}: {command}, {time}", expected, ended(*words)
+            yield f"{name}: after {command}, {time}", before, dumped(office)
+
+
+def foreign(program, folder):
+    """Databases of others, and offices that are none any more, by each command; an empty file."""
+    for number, text in enumerate((*FOREIGN, *UNREAD)):
+        office = folder / f"foreign{number}.db"
+        yield f"made: {text}", lines(), ended("sqlite3", str(office), text)
+        yield from left_alone(program, office, text, UNOPENED if text in UNREAD else REFUSED)
+    office = folder / "no_more.db"
+    ended(*commands_on(program, office)["load"])
+    stored = office.read_bytes()
+    for text in NO_MORE:
+        office.write_bytes(stored)
+        yield f"changed: {text}", lines(), ended("sqlite3", str(office), text)
+        yield from left_alone(program, office, text)
+    office.write_bytes(stored)
+    yield f"changed: {MENDED}", lines(), ended("sqlite3", str(office), MENDED)
+    yield MENDED, FOUND, ended(*commands_on(program, office)["load"])
+    empty = folder / "empty.db"
+    for command, expected in (("export", REFUSED), ("load", (0, LOADED, b""))):
+        empty.write_bytes(b"")
+        yield f"an empty file: {command}", expected, ended(*commands_on(program, empty)[command])
+    damaged = folder / "damaged.db"
+    ended("sqlite3", str(damaged), PEOPLE)
+    bytes_of_others = damaged.read_bytes()[:4096] + bytes(4096)
+    damaged.write_bytes(bytes_of_others)
+    for command, words in commands_on(program, damaged).items():
+        yield f"a damaged page: {command}", UNOPENED, ended(*words)
+        yield f"a damaged page: after {command}", bytes_of_others, damaged.read_bytes()
+
+
 def made_before(program, folder):
     """A file of an earlier release becomes version 2 of the same office, and is then left as it
     is."""
@@ -315,7 +415,8 @@ def main():
     with tempfile.TemporaryDirectory() as folder:
         folder = pathlib.Path(folder)
         made = (*cases(program, folder), *changed(program, folder), *published(program, folder),
-                *tables_that_stand_for_nothing(program, folder), *made_before(program, folder))
+                *tables_that_stand_for_nothing(program, folder), *foreign(program, folder),
+                *made_before(program, folder))
         for case in made:
             judged.judge(*case)
     sys.exit(judged.end())
