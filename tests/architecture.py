@@ -174,12 +174,30 @@ def a_table_has_four_files(crates, knows):
                 yield f"{row} is named in {len(pages)} pages of specs/Tables/"
 
 
+# What a machine is made of if it is the system's.
+SYSTEM = re.compile(r"^impl (\w+) for (?:&?HostRuntime|Stderr|Stdin|File|Sockets|TcpStream"
+                    r"|SystemDatabases<'_>) \{$(.*?)^\}$", re.M | re.S)
+
+
+def what_is_taken_at_its_word_is_listed(crates, knows):
+    """docs/PROMISES.md names each method of the system's parts."""
+    page = (TOP / "docs" / "PROMISES.md").read_text()
+    listed_there = page.split("## What no contract says\n")[1].split("\n## ")[0]
+    for crate in ("office_connections", "office_program"):
+        for path in sorted(TOP.glob(f"crates/{crate}/src/**/*.rt")):
+            for trait, body in SYSTEM.findall(path.read_text()):
+                for name in re.findall(r"^    fn (\w+)", body, re.M):
+                    if f"`{name}`" not in listed_there:
+                        yield f"docs/PROMISES.md says nothing of {name} of {trait}"
+
+
 INVARIANTS = [
     session_knows_no_file_and_no_database,
     only_the_calendar_loads_jiff,
     sql_is_known_below,
     messages_know_no_route,
     main_knows_the_program_alone,
+    what_is_taken_at_its_word_is_listed,
     no_arithmetic_wraps,
     lemmas_of_lists_have_one_home,
     a_table_has_four_files,
