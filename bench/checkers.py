@@ -17,6 +17,10 @@ RUST = HERE / "build" / "rust" / "release" / "check"
 CPP = HERE / "build" / "cpp" / "check"
 ORACLE = [sys.executable, str(HERE / "oracle.py")]
 
+# glibc zeroes large blocks by one instruction of the processor, which callgrind counts once for
+# each byte. So every program that is counted zeroes them by its loop.
+COUNTED = {"GLIBC_TUNABLES": "glibc.cpu.x86_rep_stosb_threshold=100000000"}
+
 Answer = namedtuple("Answer", "status stdout stderr")
 
 # For modules that the benches and the tests share.
@@ -87,8 +91,8 @@ def instructions(command, folder, text=subprocess.DEVNULL):
     if not shutil.which("valgrind"):
         return None
     words = ["valgrind", "--tool=callgrind", f"--callgrind-out-file={folder}/callgrind", *command]
-    said = subprocess.run(words, stdin=text, capture_output=True,
-                          check=False).stderr.decode(errors="replace")
+    said = subprocess.run(words, stdin=text, capture_output=True, check=False,
+                          env=os.environ | COUNTED).stderr.decode(errors="replace")
     found = re.search(r"Collected : (\d+)", said)
     if not found:
         sys.exit(f"callgrind counted nothing for {' '.join(command)}:\n{said[-2000:]}")

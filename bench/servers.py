@@ -1,5 +1,6 @@
 """The servers that are compared: how each is started, what it is asked, and what that costs."""
 import argparse
+import os
 import pathlib
 import re
 import shutil
@@ -11,7 +12,7 @@ import sys
 import tempfile
 import time
 
-from checkers import HERE, caption, program
+from checkers import COUNTED, HERE, TOP, caption, program
 
 SOURCE, BUILT = HERE / "office", HERE / "build" / "servers"
 MESSAGES = 100
@@ -33,12 +34,21 @@ def message(method, path, body=b"", closes=False, caller="office"):
     return "".join(f"{line}\r\n" for line in [*lines, ""]).encode() + body
 
 
+def service():
+    """The environment that the package's service gives the program."""
+    name = "Environment="
+    lines = (TOP / "packaging" / "examoffice@.service").read_text().splitlines()
+    fields = [line.removeprefix(name) for line in lines if line.startswith(name)]
+    return dict(field.split("=", 1) for field in fields)
+
+
 class Server:
     """A server of an instance with its own database. `ask` collects its replies and its figures,
     by name and unit. A cost is in milliseconds."""
 
     unit, most_times, patience = "ms", 1_000, 600
     prefix: list[str] = []
+    environment: dict[str, str] = {}
 
     def __init__(self, name, command, folder, instance):
         self.name, self.command, self.database = name, command, str(folder / f"{name}.db")
@@ -53,7 +63,8 @@ class Server:
         self.began = time.perf_counter()
         self.process = subprocess.Popen(
             [*self.prefix, self.command, "serve", "--db", self.database, "--port", "0",
-             "--connections", "1000000"], stdout=subprocess.PIPE)
+             "--connections", "1000000"], stdout=subprocess.PIPE,
+            env=os.environ | self.environment | (service() if self.name == OURS else {}))
         line = self.process.stdout.readline()
         if not line.startswith(b"listening 127.0.0.1:"):
             sys.exit(f"{self.name} does not listen: {line!r}")
@@ -68,32 +79,32 @@ class Server:
         """The cost since `began`."""
         return 1e3 * (time.perf_counter() - self.began)
 
-    def asked(self, questions, times=1):
-        """Asks all questions n times, each after the reply to the last. Returns each reply and its
-        cost."""
+    def asked(self, questions, times=1, messages=MESSAGES):
+        """Asks all questions n times, each after the reply to the last, so many on a connection.
+        Returns each reply and its cost."""
         questions, replies, costs = questions * min(times, self.most_times), [], []
         self.cost()  # Work from before the first question is not counted.
-        for start in range(0, len(questions), MESSAGES):
+        for start in range(0, len(questions), messages):
             with self.connect() as client:
-                for question in questions[start:start + MESSAGES]:
+                for question in questions[start:start + messages]:
                     self.began = time.perf_counter()
                     client.sendall(question)
                     replies.append(one_reply(client)[0])
                     costs.append(self.cost())
         return replies, costs
 
-    def accepted(self, questions, times=1, status=b"2"):
+    def accepted(self, questions, times=1, status=b"2", messages=MESSAGES):
         """Asks questions, which have to get this status. Returns the cost of each."""
-        replies, costs = self.asked(questions, times)
+        replies, costs = self.asked(questions, times, messages)
         for reply in replies:
             if not reply.startswith(b"HTTP/1.1 " + status):
                 sys.exit(f"{self.name}: {reply!r}")
         self.replies += replies
         return costs
 
-    def ask(self, name, questions, times=1, status=b"2"):
+    def ask(self, name, questions, times=1, status=b"2", messages=MESSAGES):
         """Asks questions, which have to get this status. The row is the median cost of one."""
-        costs = self.accepted(questions, times, status)
+        costs = self.accepted(questions, times, status, messages)
         self.figures[name, self.unit] = statistics.median(costs)
         if len(costs) >= 100:
             cuts = statistics.quantiles(costs, n=100)
@@ -121,6 +132,11 @@ class Server:
         """The row is the peak memory so far."""
         status = pathlib.Path(f"/proc/{self.process.pid}/status").read_text()
         self.figures[name, "MB"] = int(status.partition("VmHWM:")[2].split()[0]) / 1e3
+
+    def show_rest(self, name):
+        """The row is the memory that is held now."""
+        status = pathlib.Path(f"/proc/{self.process.pid}/status").read_text()
+        self.figures[name, "MB"] = int(status.partition("VmRSS:")[2].split()[0]) / 1e3
 
     def forget_peak(self):
         """Resets the peak to the memory held now."""
@@ -164,6 +180,7 @@ class CountedServer(IdleServer):
     """The same under callgrind. A cost is in millions of instructions since the last cost."""
 
     unit, most_times, patience = "M instr", 4, 3_600
+    environment = COUNTED
 
     def __init__(self, name, command, folder, instance):
         self.counts = folder / "counts"
@@ -183,6 +200,8 @@ class CountedServer(IdleServer):
 
     def show_peak(self, name):
         """No row: callgrind takes memory of its own."""
+
+    show_rest = show_peak
 
 
 def one_reply(client, came=b""):

@@ -1,2 +1,4 @@
 pub mod SumLemmas
 pub mod StudentLemmas
+pub mod PairLemmas
+pub mod MixedLemmas

@@ -1,36 +1,12 @@
 // What rooms and periods cost.
-ghost use Rattle.std.specs.Prelude.{◌≡◌, ◌<◌, ◌≤◌, ◌-◌, ◌*◌, length};
+ghost use Rattle.std.specs.Prelude.{◌≡◌, ◌<◌, ◌≤◌, ◌*◌, length};
 ghost use Rattle.exam_terms.specs.declared.limits.TheConstants.{MAX_EXAMS};
 ghost use Rattle.exam_model.specs.Fits.{Suits};
 ghost use Rattle.exam_reasons.specs.Reasons.{exams_in_period, exams_in_room, is_in_period, is_in_room};
-ghost use Rattle.exam_reasons.specs.Reasons.{mixed_reason, period_reason, place_reason, room_reason};
+ghost use Rattle.exam_reasons.specs.Reasons.{period_reason, place_reason, room_reason};
 
-use crate::durations::durations_at;
-use crate::reasons::{MixedReason, PlaceReason};
+use crate::reasons::PlaceReason;
 use exam_model::{ExamNo, Instance, PeriodNo, Place, RoomNo, Timetable};
-
-/// Returns what the durations in a room and period cost, if that is not nothing.
-pub fn mixed_reason(
-    instance: &Instance,
-    timetable: &Timetable,
-    room: RoomNo,
-    period: PeriodNo,
-) -> Option<MixedReason>
-    requires fits { Suits instance.now timetable.now }
-    ensures { result ≡ mixed_reason instance.now timetable.now room period }
-{
-    let durations = durations_at(instance, timetable, &Place { period, room });
-    let points = durations.saturating_sub(1) * u64::from(instance.weights().mixed);
-    if points == 0 {
-        return None;
-    }
-    Some(MixedReason {
-        room,
-        period,
-        durations,
-        points,
-    })
-}
 
 /// Returns what the exams of a period add to its penalty, if that is not nothing.
 pub fn period_reason(

@@ -1,11 +1,15 @@
 -- Lines that are added to what was written and to the buffer.
-use Rattle.std.proofs.Common.{◌≡◌, ◌∙◌, ◌+◌, ◌++◌, [], ℕ, List, None, Option, Some, add-one, ap, append-nil, append_assoc, subst, sym}
+use Rattle.std.proofs.Common.{◌≡◌, ◌<◌, ◌∙◌, ◌+◌, ◌++◌, ◌∷◌, [], ℕ, List, None, Option, Some, add-one, ap, append-nil, append_assoc, get_or, length, refl, subst, sym, take}
 use Rattle.std.specs.Io.KnownBytes.{Appends}
 use Rattle.std.specs.List.{flat_map}
 use Rattle.std.proofs.KnownBytes.{Appends-nil, Appends-trans}
 use Rattle.std.proofs.lemmas.Grind.{flat_map-append}
+use Rattle.std.proofs.lemmas.List.{take_more}
+use Rattle.exam_model.specs.declared.conflicts.Conflict.{Conflict}
 use Rattle.exam_reasons.specs.Lists.{all_below, listed}
-use Rattle.office_check.specs.Why.{Adds}
+use Rattle.exam_reasons.specs.declared.reasons.PairKind.{PairKind}
+use Rattle.exam_reasons.specs.declared.reasons.PairReason.{PairReason}
+use Rattle.office_check.specs.Why.{Adds, pair_line}
 
 -- nothing is added
 pub adds_none : (c : Option (List ℕ)) (x : List ℕ) → Adds c c x x []
@@ -29,6 +33,28 @@ adds_line c x y line is = record { written = []; appends = Appends-nil c; same =
 -- another form of the text
 pub adds_text : (a b : Option (List ℕ)) (x y s t : List ℕ) → s ≡ t → Adds a b x y s → Adds a b x y t
 adds_text a b x y s t same adds = subst (λ text. Adds a b x y text) same adds
+
+-- the text of one more element is added
+pub adds_next : {X : Type 0} (text : X → List ℕ) (xs : List X) (k : ℕ) (x : X)
+    (a b c : Option (List ℕ)) (before so_far after : List ℕ) → k < length xs → x ≡ get_or xs k x
+    → Adds a b before so_far (flat_map text (take k xs)) → Adds b c so_far after (text x)
+    → Adds a c before after (flat_map text (take (k + 1) xs))
+adds_next text xs k x a b c before so_far after lt is first next =
+    adds_text a c before after _ _
+    (ap (λ t. flat_map text (take k xs) ++ t) (sym (append-nil (text x)))
+    ∙ sym (flat_map-append text (take k xs) (x ∷ []))
+    ∙ ap (λ y. flat_map text (take k xs ++ y ∷ [])) is
+    ∙ ap (flat_map text) (sym (take_more xs k x lt)))
+    (adds_then a b c before so_far after _ _ first next)
+
+-- the lines of pairs, one pair after another
+pub lines_of_pairs : (kind : PairKind) (f : Conflict → List PairReason) (pairs : List Conflict)
+    → flat_map (λ c. flat_map (pair_line kind) (f c)) pairs
+    ≡ flat_map (pair_line kind) (flat_map f pairs)
+lines_of_pairs kind f [] = refl
+lines_of_pairs kind f (c ∷ pairs) =
+    ap (λ t. flat_map (pair_line kind) (f c) ++ t) (lines_of_pairs kind f pairs)
+    ∙ sym (flat_map-append (pair_line kind) (f c) (flat_map f pairs))
 
 -- the lines of one more number
 pub lines_more : {X : Type 0} (line : X → List ℕ) (f : ℕ → List X) (n : ℕ)

@@ -8,6 +8,7 @@ use Rattle.exam_model.specs.Instance.{Session}
 use Rattle.exam_model.specs.Timetable.{Placing}
 use Rattle.exam_score.specs.Front.{AreSizes}
 use Rattle.exam_reasons.specs.AddUp.{ReasonsAddUp}
+use Rattle.exam_reasons.specs.Pairs.{HoldsPairs}
 use Rattle.exam_reasons.specs.Reasons.{front_reasons, mixed_reasons, pair_reasons, period_reasons, room_reasons}
 use Rattle.exam_reasons.specs.declared.reasons.ExamReason.{ExamReason}
 use Rattle.exam_reasons.specs.declared.reasons.MixedReason.{MixedReason}
@@ -79,6 +80,7 @@ pub record IsExplained (I : Session) (E : Enrolled) (T : Placing) (old new : Opt
 pub record IsSubject (s : Subject) : Type 0 where
   pub fits : Fits s.instance.now s.enrolments.now s.timetable.now
   pub sizes : AreSizes s.enrolments.now s.sizes.now
+  pub pairs : HoldsPairs s.instance.now s.enrolments.now s.timetable.now s.pairs.now
 
 -- a text is added: what was written and what is in the buffer are together as before, and the text
 pub record Adds (old new : Option (List ℕ)) (before after added : List ℕ) : Type 0 where

@@ -2,18 +2,19 @@
 ghost use Rattle.std.specs.Prelude.{◌≡◌, ◌<◌, ◌++◌, [], OnOk, codes, length, string_bytes};
 ghost use Rattle.std.specs.Io.KnownBytes.{Appends};
 ghost use Rattle.std.specs.List.{flat_map};
-ghost use Rattle.exam_reasons.specs.Lists.{all_below, listed};
-ghost use Rattle.exam_reasons.specs.Reasons.{front_reason, front_reasons, mixed_reason, mixed_reasons};
+ghost use Rattle.exam_reasons.specs.Lists.{listed};
+ghost use Rattle.exam_reasons.specs.Pairs.{IsCounted};
+ghost use Rattle.exam_reasons.specs.Reasons.{front_reason, front_reasons, mixed_reasons};
 ghost use Rattle.exam_reasons.specs.Reasons.{pair_reason, period_reason, period_reasons, room_reason, room_reasons};
 ghost use Rattle.office_check.specs.Why.{Adds, IsSubject, all_pairs_text, front_line, kind_name};
 ghost use Rattle.office_check.specs.Why.{mixed_line, pair_line, pairs_text, place_line, why_text};
 
 use crate::checking::{CheckFault, SolutionTask};
 use crate::reporting::judge;
-use exam_model::{Enrolments, ExamNo, Instance, PeriodNo, RoomNo, Timetable};
+use exam_model::{Conflict, Enrolments, ExamNo, Instance, PeriodNo, RoomNo, Timetable};
 use exam_reasons::{
-    ExamReason, MixedReason, PairKind, PairReason, PlaceReason, front_reason, mixed_reason,
-    pair_reason, period_reason, reasons_add_up, room_reason,
+    ExamReason, MixedReason, PairKind, PairReason, PlaceReason, costly_pairs, front_reason,
+    mixed_reasons, pair_reason, period_reason, reasons_add_up, room_reason,
 };
 use exam_score::sizes_of;
 use std::alloc::{AllocError, Global};
@@ -56,26 +57,35 @@ impl SolutionTask for Why {
         let Ok(mut lines) = String::with_capacity(alloc, ROOM) else {
             return Err(CheckFault::NoMemory);
         };
+        let Ok(pairs) = costly_pairs(alloc, instance, enrolments, timetable) else {
+            return Err(CheckFault::NoMemory);
+        };
+        let Ok(mixed) = mixed_reasons(alloc, instance, timetable) else {
+            return Err(CheckFault::NoMemory);
+        };
         let subject = Subject {
             instance,
             enrolments,
             timetable,
             sizes: &sizes,
+            pairs: &pairs,
         };
-        match write_all(writer, &mut lines, judged.text.as_str(), &subject) {
+        match write_all(writer, &mut lines, judged.text.as_str(), &subject, &mixed) {
             Ok(()) => Ok(judged.status),
             Err(_) => Err(CheckFault::Write),
         }
     }
 }
 
-// A timetable with all by which it is judged, and the number of each exam's students.
+// A timetable with all by which it is judged, the number of each exam's students, and the pairs of
+// exams that cost something.
 #[derive(Clone, Copy)]
 pub(crate) struct Subject<'a> {
     pub instance: &'a Instance,
     pub enrolments: &'a Enrolments,
     pub timetable: &'a Timetable,
     pub sizes: &'a [u32],
+    pub pairs: &'a [Conflict],
 }
 
 // Writes a report and the summands.
@@ -84,29 +94,39 @@ fn write_all<W: Write>(
     lines: &mut String,
     report: &str,
     subject: &Subject,
+    mixed: &[MixedReason],
 ) -> io::Result<()>
     requires subject { IsSubject subject.now }
+    requires mixed { mixed.now
+        ≡ mixed_reasons subject.now.instance.now subject.now.timetable.now }
     requires empty { string_bytes lines.old ≡ [] }
     ensures { OnOk result (Appends (W.contents writer.old) (W.contents writer.new) (report.now
         ++ why_text subject.now.instance.now subject.now.enrolments.now
         subject.now.timetable.now)) }
 {
     writer.write_all(report.as_bytes())?;
-    add_all(writer, lines, subject)?;
+    add_all(writer, lines, subject, mixed)?;
     writer.write_all(lines.as_bytes())?;
     Ok(())
 }
 
 // Adds the lines of all summands.
-fn add_all<W: Write>(writer: &mut W, lines: &mut String, subject: &Subject) -> io::Result<()>
-    requires { IsSubject subject.now }
+fn add_all<W: Write>(
+    writer: &mut W,
+    lines: &mut String,
+    subject: &Subject,
+    mixed: &[MixedReason],
+) -> io::Result<()>
+    requires subject { IsSubject subject.now }
+    requires mixed { mixed.now
+        ≡ mixed_reasons subject.now.instance.now subject.now.timetable.now }
     ensures { OnOk result (Adds (W.contents writer.old) (W.contents writer.new)
         (string_bytes lines.old) (string_bytes lines.new)
         (why_text subject.now.instance.now subject.now.enrolments.now
         subject.now.timetable.now)) }
 {
     add_all_pairs(writer, lines, subject)?;
-    add_mixed(writer, lines, subject)?;
+    add_mixed(writer, lines, mixed)?;
     add_front(writer, lines, subject)?;
     add_periods(writer, lines, subject)?;
     add_rooms(writer, lines, subject)?;
@@ -145,30 +165,8 @@ fn add_pairs<W: Write>(
         (pairs_text subject.now.instance.now subject.now.enrolments.now
         subject.now.timetable.now kind)) }
 {
-    for other in 0..subject.enrolments.exams() {
-        add_pairs_with(writer, lines, subject, kind, ExamNo::new(other))?;
-    }
-    Ok(())
-}
-
-// Adds the lines of an exam with each smaller one.
-fn add_pairs_with<W: Write>(
-    writer: &mut W,
-    lines: &mut String,
-    subject: &Subject,
-    kind: PairKind,
-    other: ExamNo,
-) -> io::Result<()>
-    requires subject { IsSubject subject.now }
-    requires exists { other < length subject.now.enrolments.now }
-    ensures { OnOk result (Adds (W.contents writer.old) (W.contents writer.new)
-        (string_bytes lines.old) (string_bytes lines.new)
-        (flat_map (pair_line kind) (all_below other (λ exam.
-        listed (pair_reason subject.now.instance.now subject.now.enrolments.now
-        subject.now.timetable.now kind exam other))))) }
-{
-    for exam in 0..other.get() {
-        add_pair(writer, lines, subject, kind, ExamNo::new(exam), other)?;
+    for pair in subject.pairs {
+        add_pair(writer, lines, subject, kind, pair)?;
     }
     Ok(())
 }
@@ -179,25 +177,17 @@ fn add_pair<W: Write>(
     lines: &mut String,
     subject: &Subject,
     kind: PairKind,
-    exam: ExamNo,
-    other: ExamNo,
+    pair: &Conflict,
 ) -> io::Result<()>
     requires subject { IsSubject subject.now }
-    requires exists { exam < length subject.now.enrolments.now }
-    requires other_exists { other < length subject.now.enrolments.now }
+    requires counted { IsCounted subject.now.enrolments.now pair.now }
     ensures { OnOk result (Adds (W.contents writer.old) (W.contents writer.new)
         (string_bytes lines.old) (string_bytes lines.new)
         (flat_map (pair_line kind) (listed (pair_reason subject.now.instance.now
-        subject.now.enrolments.now subject.now.timetable.now kind exam other)))) }
+        subject.now.enrolments.now subject.now.timetable.now kind pair.now.exam
+        pair.now.other)))) }
 {
-    let reason = pair_reason(
-        subject.instance,
-        subject.enrolments,
-        subject.timetable,
-        kind,
-        exam,
-        other,
-    );
+    let reason = pair_reason(subject.instance, subject.timetable, kind, pair);
     match reason {
         Some(reason) => {
             make_room(writer, lines)?;
@@ -207,61 +197,16 @@ fn add_pair<W: Write>(
     }
 }
 
-// Adds the lines of all rooms and periods with mixed durations, by room and then by period.
-fn add_mixed<W: Write>(writer: &mut W, lines: &mut String, subject: &Subject) -> io::Result<()>
-    requires { IsSubject subject.now }
+// Adds the lines of rooms and periods with mixed durations.
+fn add_mixed<W: Write>(writer: &mut W, lines: &mut String, mixed: &[MixedReason]) -> io::Result<()>
     ensures { OnOk result (Adds (W.contents writer.old) (W.contents writer.new)
-        (string_bytes lines.old) (string_bytes lines.new)
-        (flat_map mixed_line
-        (mixed_reasons subject.now.instance.now subject.now.timetable.now))) }
+        (string_bytes lines.old) (string_bytes lines.new) (flat_map mixed_line mixed.now)) }
 {
-    for room in 0..subject.instance.rooms() {
-        add_mixed_in(writer, lines, subject, RoomNo::new(room))?;
+    for reason in mixed {
+        make_room(writer, lines)?;
+        add_mixed_line(lines, reason)?;
     }
     Ok(())
-}
-
-// Adds the lines of a room with mixed durations.
-fn add_mixed_in<W: Write>(
-    writer: &mut W,
-    lines: &mut String,
-    subject: &Subject,
-    room: RoomNo,
-) -> io::Result<()>
-    requires { IsSubject subject.now }
-    ensures { OnOk result (Adds (W.contents writer.old) (W.contents writer.new)
-        (string_bytes lines.old) (string_bytes lines.new)
-        (flat_map mixed_line (all_below (length subject.now.instance.now.periods) (λ period.
-        listed (mixed_reason subject.now.instance.now subject.now.timetable.now room
-        period))))) }
-{
-    for period in 0..subject.instance.periods() {
-        add_mixed_at(writer, lines, subject, room, PeriodNo::new(period))?;
-    }
-    Ok(())
-}
-
-// Adds the line of a room and period, if it has mixed durations.
-fn add_mixed_at<W: Write>(
-    writer: &mut W,
-    lines: &mut String,
-    subject: &Subject,
-    room: RoomNo,
-    period: PeriodNo,
-) -> io::Result<()>
-    requires { IsSubject subject.now }
-    ensures { OnOk result (Adds (W.contents writer.old) (W.contents writer.new)
-        (string_bytes lines.old) (string_bytes lines.new)
-        (flat_map mixed_line (listed (mixed_reason subject.now.instance.now
-        subject.now.timetable.now room period)))) }
-{
-    match mixed_reason(subject.instance, subject.timetable, room, period) {
-        Some(reason) => {
-            make_room(writer, lines)?;
-            Ok(add_mixed_line(lines, &reason)?)
-        }
-        None => Ok(()),
-    }
 }
 
 // Adds the lines of all exams of the front load.

@@ -9,7 +9,7 @@ use crate::checking::{CheckFault, SolutionTask};
 use crate::explaining::{ROOM, Subject, add_all_pairs};
 use crate::reporting::judge;
 use exam_model::{Enrolments, Instance, StudentNo, Timetable};
-use exam_reasons::{own_enrolments, own_reasons_add_up};
+use exam_reasons::{costly_pairs, own_enrolments, own_reasons_add_up};
 use exam_score::{Parts, score, sizes_of};
 use std::alloc::{AllocError, Global};
 use std::io::{self, Write};
@@ -53,11 +53,15 @@ impl SolutionTask for WhyFor {
         let Ok(mut lines) = String::with_capacity(alloc, ROOM) else {
             return Err(CheckFault::NoMemory);
         };
+        let Ok(pairs) = costly_pairs(alloc, instance, &own, timetable) else {
+            return Err(CheckFault::NoMemory);
+        };
         let subject = Subject {
             instance,
             enrolments: &own,
             timetable,
             sizes: &sizes,
+            pairs: &pairs,
         };
         let sum = OwnSum {
             student,

@@ -1,15 +1,22 @@
-use Rattle.std.proofs.Common.{length}
-use Rattle.exam_reasons.specs.Lists.{all_below, listed}
-use Rattle.exam_reasons.specs.Reasons.{mixed_reason}
+use Rattle.std.proofs.Common.{ap}
+use Rattle.std.proofs.lemmas.List.{take_all}
+use Rattle.std.specs.List.{flat_map}
 use Rattle.office_check.specs.Why.{mixed_line}
-use Rattle.office_check.proofs.WhyFacts.{adds_more}
+use Rattle.office_check.proofs.WhyFacts.{adds_line, adds_next, adds_text, adds_then}
 use Rattle.office_check.proofs.explaining.add_mixed.Goals as goal
 
--- one more room
-pub loop-room-preserved : goal.loop-room-preserved
-loop-room-preserved g c =
-    adds_more mixed_line
-    (λ r. all_below (length c.args.subject.now.instance.now.periods) (λ p. listed (mixed_reason
-    c.args.subject.now.instance.now c.args.subject.now.timetable.now r p)))
-    c.loop-room.room c.new.result _ _ _ _ _ _ c.new.ensures c.loop-room.invariant
-    c.in_ok-add_mixed_in.ensures
+-- one more line
+pub loop-reason-preserved : goal.loop-reason-preserved
+loop-reason-preserved g c =
+    adds_next mixed_line c.args.mixed.now c.loop-reason.reason-index c.reason-item.result _ _ _ _ _ _
+    c.loop-reason-test.true c.reason-item.is c.loop-reason.invariant
+    (adds_then _ _ _ _ _ _ _ _ c.in_ok-make_room.ensures
+    (adds_line _ _ _ _ c.in_ok-add_mixed_line.ensures))
+
+-- all lines
+pub returns : goal.returns
+returns g c =
+    adds_text _ _ _ _ _ _
+    (ap (flat_map mixed_line)
+    (take_all c.loop-reason.reason-index c.args.mixed.now c.loop-reason-test.false))
+    c.loop-reason.invariant

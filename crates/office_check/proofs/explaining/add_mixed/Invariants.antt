@@ -1,14 +1,11 @@
-use Rattle.std.proofs.Common.{length, string_bytes}
+use Rattle.std.proofs.Common.{string_bytes, take}
 use Rattle.std.specs.List.{flat_map}
-use Rattle.exam_reasons.specs.Lists.{all_below, listed}
-use Rattle.exam_reasons.specs.Reasons.{mixed_reason}
 use Rattle.office_check.specs.Why.{Adds, mixed_line}
 use Rattle.office_check.proofs.explaining.add_mixed.Given as goal
 
 -- the lines so far
-abbrev pub invariant-loop-room : goal.invariant-loop-room
-invariant-loop-room g l =
+abbrev pub invariant-loop-reason : goal.invariant-loop-reason
+invariant-loop-reason g l =
     Adds (g.W.Write.contents l.fn.writer) (g.W.Write.contents l.writer)
     (string_bytes l.fn.lines) (string_bytes l.lines)
-    (flat_map mixed_line (all_below l.room (λ r. all_below (length l.subject.instance.now.periods)
-    (λ p. listed (mixed_reason l.subject.instance.now l.subject.timetable.now r p)))))
+    (flat_map mixed_line (take l.reason-index l.mixed))
